@@ -1,0 +1,3 @@
+//! From a source text to the items of an input.
+
+#![tactic(auto)]

@@ -1,0 +1,48 @@
+-- The layers compose by their public clauses alone.
+use Rattle.std.proofs.Common.{◌≡◌, ◌↔◌, ℕ, Bool, List, map}
+use Rattle.logos_graph.specs.Munch.{Use, Rule, Found, ended, matched, failed, Finds}
+use Rattle.logos_generator.specs.Code.{CodeValue}
+use Rattle.logos_generator.specs.Runs.{CodeFinds, Runs}
+use Rattle.logos_generator.specs.Items.{Callback, Search, Item, Items, Lexes, over, match, fault}
+use Rattle.logos_graph.specs.Graph.{GraphState}
+use Rattle.logos_graph.specs.Found.{FindsTheLongest, IsInput}
+use Rattle.logos_generator.specs.Headline.{RunsAs, IsLexer}
+
+-- from the graph's and the generator's contracts to the headline
+pub is_lexer : (rules : List Rule) (utf8 : Bool) (graph : List GraphState) (code : CodeValue) →
+    FindsTheLongest rules utf8 graph → RunsAs graph utf8 code → code.utf8 ≡ utf8 → code.leaves ≡ map (λ rule. rule.use_of) rules →
+    IsLexer rules utf8 code
+is_lexer rules utf8 graph code longest runs mode uses = record {
+  mode = mode;
+  uses = uses;
+  finds = λ bytes from found input. (
+    λ f. (longest bytes from found input).0 ((runs.same bytes from found input.0).0 f),
+    λ f. (runs.same bytes from found input.0).1 ((longest bytes from found input).1 f),
+  );
+  steps = runs.steps;
+}
+
+-- the same items, where a search finds no more
+pub lexes_by : (uses : List Use) (callback : Callback) (bytes : List ℕ) (search other : Search) →
+    ((from : ℕ) (found : Found) → search from found → other from found) →
+    {from : ℕ} {items : List Item} → Lexes uses callback bytes search from items → Lexes uses callback bytes other from items
+lexes_by uses callback bytes search other h (over from s) = over from (h from ended s)
+lexes_by uses callback bytes search other h (match from to leaf answer rest s a l) =
+    match from to leaf answer rest (h from (matched leaf to) s) a (lexes_by uses callback bytes search other h l)
+lexes_by uses callback bytes search other h (fault from to rest s l) =
+    fault from to rest (h from (failed to) s) (lexes_by uses callback bytes search other h l)
+
+-- each run of such a code gives the items of maximal munch, and each such list of items is a run of it
+pub runs_iff : (rules : List Rule) (utf8 : Bool) (code : CodeValue) (callback : Callback) (bytes : List ℕ) (from : ℕ) (items : List Item) →
+    IsLexer rules utf8 code → IsInput utf8 bytes →
+    Runs code callback bytes from items ↔ Items rules callback utf8 bytes from items
+runs_iff rules utf8 code callback bytes from items lexer input = (there, back)
+  where
+    uses : code.leaves ≡ map (λ rule. rule.use_of) rules
+    uses = lexer.uses
+
+    there : Runs code callback bytes from items → Items rules callback utf8 bytes from items
+    there r = rw (← uses) (lexes_by code.leaves callback bytes (CodeFinds code bytes) (Finds rules utf8 bytes) (λ at found f. (lexer.finds bytes at found input).0 f) r)
+
+    back : Items rules callback utf8 bytes from items → Runs code callback bytes from items
+    back r = lexes_by code.leaves callback bytes (Finds rules utf8 bytes) (CodeFinds code bytes) (λ at found f. (lexer.finds bytes at found input).1 f) (rw uses r)

@@ -1,0 +1,2 @@
+pub mod Compose
+pub mod Examples

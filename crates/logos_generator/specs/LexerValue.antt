@@ -1,0 +1,53 @@
+-- What contracts see of a lexer.
+use Rattle.std.specs.Prelude.{◌≡◌, ℕ, List, [], ◌∷◌, length, option_map}
+use Rattle.std.specs.Fn.{FnReturns}
+use denote.Param.Members.{Shared}
+use denote.Ref.{Bor}
+use Rattle.logos_generator.specs.Code.{CodeValue}
+use Rattle.logos_graph.specs.Munch.{Found}
+use Rattle.logos_generator.specs.Items.{Callback, Item, token, error}
+use Rattle.logos_generator.specs.Runs.{Runs, Tries}
+use Rattle.logos_generator.specs.declared.machine.Action.{Action}
+use Rattle.logos_pattern.specs.declared.leaf.LeafId.{LeafId}
+use Rattle.logos_generator.specs.declared.machine.Item.{Item as TheItem}
+use Rattle.logos_generator.specs.declared.machine.Item.TheVariants.{Token, Error}
+
+pub record LexerValue (C : Type 0) : Type 0 where
+  pub code : CodeValue
+  pub input : List ℕ
+  pub callback : C
+  pub from : ℕ
+  pub to : ℕ
+  pub steps : ℕ
+
+-- what the closure may answer to a leaf and a slice
+abbrev pub answers_of : {C : Type 0} → Shared C (LeafId × (Bor (List ℕ) × Unit {0})) Action → C → Callback
+answers_of g f leaf slice answer = (shown : Bor (List ℕ)) × (shown.now ≡ slice) × FnReturns g f (record { 0 = leaf }, (shown, tt)) answer
+
+-- A span of the input.
+abbrev pub HasSpan : {C : Type 0} → LexerValue C → Item → Type 0
+HasSpan lexer (token leaf from to slice) = (lexer.from ≡ from) × (lexer.to ≡ to)
+HasSpan lexer (error leaf from to slice) = (lexer.from ≡ from) × (lexer.to ≡ to)
+
+-- An item as definitions see it.
+abbrev pub item_of : TheItem → Item
+item_of (Token leaf span slice) = token leaf.0 span.from span.to slice.now
+item_of (Error leaf span slice) = error (option_map (λ l. l.0) leaf) span.from span.to slice.now
+
+-- What a call of `next` does: it gives the next item of the run, and stands behind it.
+pub record Gives {C : Type 0} (callback : Callback) (old new : LexerValue C) (item : Item) : Type 0 where
+  pub span : HasSpan new item
+  pub next : (rest : List Item) → Runs new.code callback new.input new.to rest → Runs old.code callback old.input old.to (item ∷ rest)
+
+-- or it is over, and stands at the end of the input
+pub record Ends {C : Type 0} (callback : Callback) (old new : LexerValue C) : Type 0 where
+  pub from : new.from ≡ length new.input
+  pub to : new.to ≡ length new.input
+  pub over : Runs old.code callback old.input old.to []
+
+-- Code, input and callback stay, and the last try entered as many states as are counted.
+pub record Keeps {C : Type 0} (old new : LexerValue C) : Type 0 where
+  pub code : new.code ≡ old.code
+  pub input : new.input ≡ old.input
+  pub callback : new.callback ≡ old.callback
+  pub steps : (found : Found) × Tries new.code new.input new.from found new.steps

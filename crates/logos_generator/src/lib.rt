@@ -1,0 +1,5 @@
+//! Code values, and the machine that runs them.
+
+#![tactic(auto)]
+
+pub mod machine;

@@ -1,0 +1,3 @@
+pub mod Unique
+pub mod Window
+pub mod Examples

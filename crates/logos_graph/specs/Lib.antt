@@ -1,0 +1,10 @@
+pub mod Munch
+pub mod Ambiguity
+pub mod Places
+pub mod Size
+pub mod Graph
+pub mod Found
+pub mod Faults
+pub mod Reduced
+pub mod Least
+pub mod View

@@ -1,0 +1,3 @@
+//! The automaton of a lexer, and its graph.
+
+#![tactic(auto)]

@@ -1,0 +1,3 @@
+//! The enum of a lexer, as its tokens say it.
+
+#![tactic(auto)]

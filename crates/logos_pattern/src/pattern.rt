@@ -1,0 +1,13 @@
+//! Patterns.
+
+pub mod hir;
+
+pub use hir::{Class, Hir, Look, Range};
+
+/// A pattern: its tree, and the text that it was read from.
+#[derive(Drop)]
+pub struct Pattern<'s> {
+    is_literal: bool,
+    hir: Hir,
+    source: &'s str,
+}

@@ -1,0 +1,5 @@
+//! The program `logos`.
+
+#![tactic(auto)]
+
+fn main() {}

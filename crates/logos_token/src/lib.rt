@@ -1,0 +1,5 @@
+//! Source texts: tokens with their spans, and the faults found in them.
+
+#![tactic(auto)]
+
+pub mod token;

@@ -1,0 +1,45 @@
+//! Tokens of a source text.
+
+/// The bytes of the source from `from` up to `to`, which it leaves out.
+#[derive(Clone, Copy, Debug, PartialEq, Eq)]
+pub struct Span {
+    pub from: usize,
+    pub to: usize,
+}
+
+/// Whether another punctuation follows directly.
+#[derive(Clone, Copy, Debug, PartialEq, Eq)]
+pub enum Spacing {
+    Alone,
+    Joint,
+}
+
+/// What encloses a group.
+#[derive(Clone, Copy, Debug, PartialEq, Eq)]
+pub enum Delimiter {
+    Parenthesis,
+    Bracket,
+    Brace,
+}
+
+/// An identifier.
+#[derive(Clone, Copy, Debug)]
+pub struct Ident<'s> {
+    pub text: &'s str,
+    pub span: Span,
+}
+
+/// A character of punctuation.
+#[derive(Clone, Copy, Debug, PartialEq, Eq)]
+pub struct Punct {
+    pub character: char,
+    pub spacing: Spacing,
+    pub span: Span,
+}
+
+/// A literal.
+#[derive(Clone, Copy, Debug)]
+pub struct Literal<'s> {
+    pub text: &'s str,
+    pub span: Span,
+}
