@@ -43,3 +43,10 @@ pub struct Literal<'s> {
     pub text: &'s str,
     pub span: Span,
 }
+
+/// A documentation comment, as it stands in the source. A line comment is without its end.
+#[derive(Clone, Copy, Debug)]
+pub struct Doc<'s> {
+    pub text: &'s str,
+    pub span: Span,
+}
