@@ -2,4 +2,5 @@
 
 #![tactic(auto)]
 
+pub mod generator;
 pub mod machine;

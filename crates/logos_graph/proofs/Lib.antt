@@ -1,3 +1,4 @@
+pub mod NoFaults
 pub mod Unique
 pub mod Window
 pub mod Examples
