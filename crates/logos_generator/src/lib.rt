@@ -3,4 +3,5 @@
 #![tactic(auto)]
 
 pub mod generator;
+pub mod laws;
 pub mod machine;
