@@ -1,1 +1,4 @@
-pub mod Probe
+pub mod Literals
+pub mod Longest
+pub mod Steps
+pub mod Sets
