@@ -2,3 +2,4 @@ pub mod Literals
 pub mod Longest
 pub mod Steps
 pub mod Sets
+pub mod Texts

@@ -3,8 +3,8 @@ use Rattle.std.specs.Prelude.{ℕ, List, [], ◌∷◌, ◌++◌, codes, map, fl
 use Rattle.std.specs.Option.{option_map_or}
 use Rattle.std.specs.Fmt.{decimal}
 use Rattle.logos_token.specs.declared.token.Span.{Span}
-use Rattle.logos_token.specs.declared.error.FaultCode.{FaultCode}
-use Rattle.logos_token.specs.declared.error.FaultCode.TheVariants.{EmptyMatch, Disambiguation, NoUniversalStart}
+use Rattle.logos_token.specs.declared.error.fault_code.FaultCode.{FaultCode}
+use Rattle.logos_token.specs.declared.error.fault_code.FaultCode.TheVariants.{EmptyMatch, Disambiguation, NoUniversalStart}
 use Rattle.logos_token.specs.Faults.{Fault as ListedFault}
 use Rattle.logos_pattern.specs.Leaf.{leaf_text}
 use Rattle.logos_pattern.specs.declared.leaf.Leaf.{Leaf}
@@ -25,6 +25,9 @@ fault_at code message span = record { code = code; message = message; span = spa
 abbrev pub empty_match_text : NamedLeaf → List ℕ
 empty_match_text leaf = codes "The pattern " ++ leaf.text ++ codes " can match the empty string, which is unsupported by logos."
 
+abbrev pub empty_match_faults : NamedLeaf → List ListedFault
+empty_match_faults leaf = fault_at EmptyMatch (empty_match_text leaf) leaf.span ∷ []
+
 -- the leaf on a line of its own, behind two spaces
 abbrev pub line_of : NamedLeaf → List ℕ
 line_of leaf = codes "\n  " ++ leaf.text
@@ -41,9 +44,6 @@ module _ (leaves : List NamedLeaf) where
   disambiguation_text set number leaf =
       codes "The pattern " ++ leaf.text ++ codes " can match simultaneously with the following variants:"
       ++ other_lines number set ++ (codes "\n\n(all at the priority " ++ decimal leaf.priority ++ codes ")")
-
-  abbrev pub empty_match_faults : NamedLeaf → List ListedFault
-  empty_match_faults leaf = fault_at EmptyMatch (empty_match_text leaf) leaf.span ∷ []
 
   abbrev pub disambiguation_faults : List ℕ → ℕ → List ListedFault
   disambiguation_faults set number =

@@ -1,15 +1,22 @@
 //! The faults of a graph, as they are listed.
 
-ghost use Rattle.std.specs.Prelude.{◌≡◌, ◌++◌, ◌==◌, ◌∷◌, [], map, flat_map, slice_get, if◌then◌else◌, IfOk, OnOk, string_bytes};
+ghost use Rattle.std.specs.Prelude.{◌≡◌, ◌++◌, ◌==◌, ◌∷◌, [], map, flat_map, slice_get, option_map, if◌then◌else◌, IfOk, OnOk, string_bytes};
 ghost use Rattle.std.specs.Option.{option_map_or};
 ghost use Rattle.logos_graph.specs.Errors.{fault_of, numbers};
-ghost use Rattle.logos_codegen.specs.Texts.{named_leaf, line_of, other_lines, empty_match_text, disambiguation_text, disambiguation_faults, listed_of};
+ghost use Rattle.logos_codegen.specs.Texts.{named_leaf, fault_at, line_of, other_lines, empty_match_faults, disambiguation_text, disambiguation_faults, listed_of};
 
 use logos_graph::graph::GraphError;
 use logos_pattern::leaf::{Leaf, LeafId};
 use logos_token::error::{Errors, FaultCode, Memory};
 use logos_token::token::Span;
 use std::alloc::{AllocError, Global};
+
+// The leaf with this number, if there is one.
+fn leaf_at<'l, 's>(leaves: &'l [Leaf<'s>], number: LeafId) -> Option<&'l Leaf<'s>>
+    ensures { option_map (λ leaf. named_leaf leaf.now) result ≡ slice_get (map named_leaf leaves.now) number.0 }
+{
+    leaves.get(number.0)
+}
 
 // Adds the line of another leaf of an ambiguous set.
 fn push_line(
@@ -69,15 +76,29 @@ fn list_ambiguous(
     leaves: &[Leaf<'_>],
     set: &[LeafId],
     number: LeafId,
+    leaf: &Leaf<'_>,
+    errors: &mut Errors,
+) -> Result<(), Memory>
+    ensures { OnOk result (errors.new ≡ errors.old ++ fault_at FaultCode.Disambiguation (disambiguation_text (map named_leaf leaves.now) (numbers set.now) number.0 (named_leaf leaf.now)) leaf.now.span ∷ []) }
+{
+    let text = disambiguation_text(alloc, leaves, set, number, leaf)?;
+    errors.err(FaultCode::Disambiguation, text.as_str(), leaf.span)
+}
+
+// Lists the fault of the leaf with this number, if there is one.
+fn list_numbered(
+    alloc: Global,
+    leaves: &[Leaf<'_>],
+    set: &[LeafId],
+    number: LeafId,
     errors: &mut Errors,
 ) -> Result<(), Memory>
     ensures { OnOk result (errors.new ≡ errors.old ++ disambiguation_faults (map named_leaf leaves.now) (numbers set.now) number.0) }
 {
-    let Some(leaf) = leaves.get(number.0) else {
-        return Ok(());
-    };
-    let text = disambiguation_text(alloc, leaves, set, number, leaf)?;
-    errors.err(FaultCode::Disambiguation, text.as_str(), leaf.span)
+    match leaf_at(leaves, number) {
+        Some(leaf) => list_ambiguous(alloc, leaves, set, number, leaf, errors),
+        None => Ok(()),
+    }
 }
 
 // Lists the faults of all leaves of an ambiguous set.
@@ -90,27 +111,34 @@ fn list_set(
     ensures { OnOk result (errors.new ≡ errors.old ++ flat_map (disambiguation_faults (map named_leaf leaves.now) (numbers set.now)) (numbers set.now)) }
 {
     for number in set {
-        list_ambiguous(alloc, leaves, set, *number, errors)?;
+        list_numbered(alloc, leaves, set, *number, errors)?;
     }
     Ok(())
 }
 
 // Lists the fault of a leaf that can match nothing.
-fn list_empty_match(
-    alloc: Global,
-    leaves: &[Leaf<'_>],
-    leaf: LeafId,
-    errors: &mut Errors,
-) -> Result<(), Memory>
-    ensures { OnOk result (errors.new ≡ errors.old ++ listed_of (map named_leaf leaves.now) (record { from = 0; to = 0 }) (empty_match leaf.0)) }
+fn list_empty(alloc: Global, leaf: &Leaf<'_>, errors: &mut Errors) -> Result<(), Memory>
+    ensures { OnOk result (errors.new ≡ errors.old ++ empty_match_faults (named_leaf leaf.now)) }
 {
-    let Some(leaf) = leaves.get(leaf.0) else {
-        return Ok(());
-    };
     let text = format!(
         in alloc; "The pattern {leaf} can match the empty string, which is unsupported by logos."
     )?;
     errors.err(FaultCode::EmptyMatch, text.as_str(), leaf.span)
+}
+
+// Lists the fault of the leaf with this number, if there is one.
+fn list_empty_match(
+    alloc: Global,
+    leaves: &[Leaf<'_>],
+    number: LeafId,
+    errors: &mut Errors,
+) -> Result<(), Memory>
+    ensures { OnOk result (errors.new ≡ errors.old ++ option_map_or empty_match_faults (slice_get (map named_leaf leaves.now) number.0) []) }
+{
+    match leaf_at(leaves, number) {
+        Some(leaf) => list_empty(alloc, leaf, errors),
+        None => Ok(()),
+    }
 }
 
 /// Lists a fault of the leaves' graph. `item` is the span of the whole enum.
