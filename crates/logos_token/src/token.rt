@@ -1,5 +1,10 @@
 //! Tokens of a source text.
 
+mod entry;
+mod views;
+
+pub use views::{Group, TokenIter, TokenStream, TokenTree, Tokens};
+
 /// The bytes of the source from `from` up to `to`, which it leaves out.
 #[derive(Clone, Copy, Debug, PartialEq, Eq)]
 pub struct Span {
