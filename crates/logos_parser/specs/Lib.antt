@@ -1,0 +1,3 @@
+pub mod Enum
+pub mod Expected
+pub mod Values
