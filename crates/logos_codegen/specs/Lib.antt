@@ -3,3 +3,4 @@ pub mod Longest
 pub mod Steps
 pub mod Sets
 pub mod Texts
+pub mod Rules

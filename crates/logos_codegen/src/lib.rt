@@ -3,4 +3,5 @@
 #![tactic(auto)]
 
 pub mod plain;
+mod leaves;
 mod texts;
