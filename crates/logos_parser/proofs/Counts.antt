@@ -1,8 +1,6 @@
 -- What is behind has fewer tokens.
-use Rattle.std.proofs.Common.{◌≡◌, ℕ, ◌+◌, ◌<◌, ◌≤◌, List, arith, refl, ap, sym, ◌∙◌}
-use Rattle.logos_token.specs.declared.token.Span.{Span}
-use Rattle.logos_token.specs.declared.token.Spacing.{Spacing}
-use Rattle.logos_token.specs.Tokens.{Token, TokenList, identifier, punctuation, literal, doc, group, none, also, token_count, count_of}
+use Rattle.std.proofs.Common.{◌≡◌, ◌<◌, ◌≤◌, List, arith}
+use Rattle.logos_token.specs.Tokens.{Token, TokenList, also, token_count, count_of}
 use Rattle.logos_parser.specs.Enum.{IsAttribute, AreAttributes, IsVariant}
 use Rattle.logos_parser.specs.Enum.AreAttributes.{begun, further}
 use Rattle.logos_parser.specs.Values.{Slice, DefinitionValue}

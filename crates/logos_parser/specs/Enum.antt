@@ -2,9 +2,8 @@
 use Rattle.std.specs.Prelude.{◌≡◌, ℕ, List, [], ◌∷◌, ◌++◌, map, codes, ◌⊎◌}
 use Rattle.logos_token.specs.declared.token.Span.{Span}
 use Rattle.logos_token.specs.declared.token.Spacing.{Spacing}
-use Rattle.logos_token.specs.declared.token.Delimiter.{Delimiter}
 use Rattle.logos_token.specs.declared.token.Delimiter.TheVariants.{Parenthesis, Bracket, Brace}
-use Rattle.logos_token.specs.Tokens.{Token, TokenList, identifier, punctuation, literal, doc, group, none, also, span_of}
+use Rattle.logos_token.specs.Tokens.{Token, TokenList, identifier, punctuation, literal, group, none, also}
 use Rattle.logos_parser.specs.Expected.{IsWord, IsName, IsMark, IsLiteral, IsGroup, Lacks, GoesOn}
 use Rattle.logos_parser.specs.Values.{Slice, DefinitionValue, EnumValue}
 

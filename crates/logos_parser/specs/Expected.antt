@@ -1,8 +1,8 @@
 -- What a grammar asks of the next token of a run.
-use Rattle.std.specs.Prelude.{◌≡◌, ℕ, List, codes}
+use Rattle.std.specs.Prelude.{◌≡◌, ℕ, List}
 use Rattle.logos_token.specs.declared.token.Span.{Span}
 use Rattle.logos_token.specs.declared.token.Delimiter.{Delimiter}
-use Rattle.logos_token.specs.Tokens.{Token, TokenList, identifier, punctuation, literal, doc, group, none, also, span_of}
+use Rattle.logos_token.specs.Tokens.{Token, TokenList, identifier, punctuation, literal, group, none, also, span_of}
 
 -- an identifier with this text
 abbrev pub IsWord : List ℕ → Token → Type 0

@@ -1,8 +1,8 @@
 //! Reads the enum of a lexer.
-ghost use Rattle.std.specs.Prelude.{◌≡◌, ◌++◌, List, map, IfOk, IfErr, MatchOption, MatchResult};
+ghost use Rattle.std.specs.Prelude.{◌≡◌, ◌⊎◌, ◌++◌, List, map, IfOk, IfErr, MatchOption, MatchResult};
 ghost use Rattle.logos_token.specs.declared.token.Span.{Span};
 ghost use Rattle.logos_token.specs.declared.token.Spacing.{Spacing};
-ghost use Rattle.logos_token.specs.Tokens.{none, also, identifier, punctuation, literal, group, run_span};
+ghost use Rattle.logos_token.specs.Tokens.{TokenList, none, also, identifier, punctuation, literal, group, run_span};
 ghost use Rattle.logos_token.specs.Views.{tokens_of, tree_of};
 ghost use Rattle.logos_parser.specs.declared.parser.ReadError.TheVariants.{Memory};
 ghost use Rattle.logos_parser.specs.Expected.{first_span, Lacks, GoesOn, BeginsWith, IsWord, IsName, IsMark, IsLiteral, IsGroup};
@@ -69,11 +69,7 @@ impl Misfit {
         ensures { result.span ≡ first_span (tokens_of tokens.entry) }
     {
         let span = match tokens.first() {
-            Some(TokenTree::Ident(ident)) => ident.span,
-            Some(TokenTree::Punct(punct)) => punct.span,
-            Some(TokenTree::Literal(literal)) => literal.span,
-            Some(TokenTree::Doc(doc)) => doc.span,
-            Some(TokenTree::Group(group)) => group.span,
+            Some(tree) => tree.span(),
             None => Span { from: 0, to: 0 },
         };
         Misfit { span }
@@ -129,11 +125,17 @@ fn read_literal<'t, 's>(tokens: Tokens<'t, 's>) -> Result<(Literal<'s>, Tokens<'
 }
 
 /// What is inside a group with this delimiter, which comes first, and what is behind it.
-fn read_group<'t, 's>(tokens: Tokens<'t, 's>, delimiter: Delimiter) -> Result<(Tokens<'t, 's>, Tokens<'t, 's>), Misfit>
+fn read_group<'t, 's>(
+    tokens: Tokens<'t, 's>,
+    delimiter: Delimiter,
+) -> Result<(Tokens<'t, 's>, Tokens<'t, 's>), Misfit>
     ensures { MatchResult result (λ read. (span : Span) × (tokens_of tokens.entry ≡ also (group delimiter span (tokens_of read.0)) (tokens_of read.1))) (λ misfit. Lacks (IsGroup delimiter) (tokens_of tokens.entry) misfit.span) }
 {
     match split(tokens) {
-        Some((TokenTree::Group(group), rest)) if group.delimiter == delimiter => Ok((group.run(), rest)),
+        Some((TokenTree::Group(group), rest)) if group.delimiter == delimiter => Ok((
+            group.run(),
+            rest,
+        )),
         _ => Err(Misfit::at(tokens)),
     }
 }
@@ -180,7 +182,10 @@ fn read_token<'s>(tokens: Tokens<'_, 's>) -> Result<Literal<'s>, Misfit>
 }
 
 /// The literals of all `#[token(..)]` that come first, and what is behind them.
-fn read_attributes<'t, 's>(alloc: Global, tokens: Tokens<'t, 's>) -> Result<(Vec<Literal<'s>>, Tokens<'t, 's>), ReadError>
+fn read_attributes<'t, 's>(
+    alloc: Global,
+    tokens: Tokens<'t, 's>,
+) -> Result<(Vec<Literal<'s>>, Tokens<'t, 's>), ReadError>
     ensures ok { IfOk result (λ read. AreAttributes (tokens_of tokens.entry) (map literal_slice read.0.items) (tokens_of read.1)) }
     ensures all { IfOk result (λ read. BeginsWith (IsMark hash) (tokens_of read.1) → ⊥) }
     ensures err { IfErr result (IsRefusal (IsVariantMisfit (tokens_of tokens.entry))) }
@@ -197,18 +202,29 @@ fn read_attributes<'t, 's>(alloc: Global, tokens: Tokens<'t, 's>) -> Result<(Vec
 }
 
 /// Adds the definitions of one variant.
-fn add_definitions<'s>(literals: &[Literal<'s>], variant: Ident<'s>, definitions: &mut Vec<Definition<'s>>) -> Result<(), ReadError>
+fn add_definitions<'s>(
+    literals: &[Literal<'s>],
+    variant: Ident<'s>,
+    definitions: &mut Vec<Definition<'s>>,
+) -> Result<(), ReadError>
     ensures ok { IfOk result (λ _. map definition_value definitions.new.items ≡ map definition_value definitions.old.items ++ variant_definitions (map literal_slice literals.now) (ident_slice variant.entry)) }
     ensures err { IfErr result (λ error. error ≡ Memory) }
 {
     for literal in literals {
-        definitions.push(Definition { literal: *literal, variant })?;
+        definitions.push(Definition {
+            literal: *literal,
+            variant,
+        })?;
     }
     Ok(())
 }
 
 /// What is behind a variant, which comes first. Its definitions are added; after an error, some of them may be.
-fn read_variant<'t, 's>(alloc: Global, tokens: Tokens<'t, 's>, definitions: &mut Vec<Definition<'s>>) -> Result<Tokens<'t, 's>, ReadError>
+fn read_variant<'t, 's>(
+    alloc: Global,
+    tokens: Tokens<'t, 's>,
+    definitions: &mut Vec<Definition<'s>>,
+) -> Result<Tokens<'t, 's>, ReadError>
     ensures ok { IfOk result (λ rest. (more : List DefinitionValue) × IsVariant (tokens_of tokens.entry) more (tokens_of rest) × (map definition_value definitions.new.items ≡ map definition_value definitions.old.items ++ more)) }
     ensures err { IfErr result (IsRefusal (IsVariantMisfit (tokens_of tokens.entry))) }
 {
@@ -219,7 +235,10 @@ fn read_variant<'t, 's>(alloc: Global, tokens: Tokens<'t, 's>, definitions: &mut
 }
 
 /// The definitions of the variants, which are all that the braces hold.
-fn read_variants<'s>(alloc: Global, tokens: Tokens<'_, 's>) -> Result<Vec<Definition<'s>>, ReadError>
+fn read_variants<'s>(
+    alloc: Global,
+    tokens: Tokens<'_, 's>,
+) -> Result<Vec<Definition<'s>>, ReadError>
     ensures ok { IfOk result (λ definitions. IsBody (tokens_of tokens.entry) (map definition_value definitions.items)) }
     ensures err { IfErr result (IsRefusal (IsBodyMisfit (tokens_of tokens.entry))) }
 {
@@ -250,7 +269,9 @@ pub fn read_enum<'s>(alloc: Global, tokens: Tokens<'_, 's>) -> Result<ItemEnum<'
     ensures complete { (value : EnumValue) → IsEnum (tokens_of tokens.entry) value → IfErr result (λ error. error ≡ Memory) }
 {
     let Ok(rest) = read_word(tokens, "enum") else {
-        return Err(ReadError::NotAnEnum { span: tokens.span() });
+        return Err(ReadError::NotAnEnum {
+            span: tokens.span(),
+        });
     };
     let (name, rest) = read_name(rest)?;
     let (inside, rest) = read_group(rest, Delimiter::Brace)?;
@@ -258,3 +279,21 @@ pub fn read_enum<'s>(alloc: Global, tokens: Tokens<'_, 's>) -> Result<ItemEnum<'
     read_end(rest)?;
     Ok(ItemEnum { name, definitions })
 }
+
+/// A run is at most one enum.
+pub fn at_most_one_enum()
+    ensures { (run : TokenList) (value other : EnumValue) → IsEnum run value → IsEnum run other → value ≡ other }
+{}
+
+/// A run has at most one misfit, and a run with a misfit is no enum.
+pub fn at_most_one_misfit()
+    ensures one { (run : TokenList) (span other : Span) → IsMisfit run span → IsMisfit run other → span ≡ other }
+    ensures excludes { (run : TokenList) (value : EnumValue) (span : Span) → IsMisfit run span → IsEnum run value → ⊥ }
+{}
+
+/// An enum or a misfit is only where `enum` comes first, and there is always one of them.
+pub fn enum_or_misfit()
+    ensures begins { (run : TokenList) (value : EnumValue) → IsEnum run value → BeginsWith (IsWord enum_word) run }
+    ensures misfit_begins { (run : TokenList) (span : Span) → IsMisfit run span → BeginsWith (IsWord enum_word) run }
+    ensures either { (run : TokenList) → BeginsWith (IsWord enum_word) run → ((value : EnumValue) × IsEnum run value) ⊎ ((span : Span) × IsMisfit run span) }
+{}

@@ -1,4 +1,3 @@
-use Rattle.std.proofs.Common.{rules}
 use Rattle.std.proofs.lemmas.Result.{err_from_is_err_and}
 use Rattle.logos_parser.specs.Enum.IsArgumentMisfit.{behind}
 use Rattle.logos_parser.proofs.parser.read_argument.Goals as goal
