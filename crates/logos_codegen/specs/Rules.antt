@@ -14,14 +14,16 @@ abbrev pub definition_leaf : DefinitionValue → NamedLeaf
 definition_leaf d = record {
   text = codes "#[token(" ++ d.literal.text ++ codes ")]" ++ codes " " ++ (codes "::" ++ d.variant.text);
   span = d.literal.span;
-  priority = token_value d.literal.text }
+  priority = token_value d.literal.text;
+}
 
 -- The rule of a `#[token(..)]`: the bytes of its literal, with twice their number as priority.
 abbrev pub definition_rule : DefinitionValue → Rule
 definition_rule d = record {
   tree = literal_tree (inner_text d.literal.text);
   priority = token_value d.literal.text;
-  use_of = record { skips = false; asks = false } }
+  use_of = record { skips = false; asks = false };
+}
 
 abbrev pub rules_in : EnumValue → List Rule
 rules_in value = map definition_rule value.definitions

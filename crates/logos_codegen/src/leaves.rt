@@ -2,6 +2,7 @@
 
 ghost use Rattle.std.specs.Prelude.{◌≡◌, map, IfOk};
 ghost use Rattle.logos_parser.specs.Values.{definition_value, enum_value};
+ghost use Rattle.logos_pattern.specs.Leaf.{pattern_tree};
 ghost use Rattle.logos_graph.specs.View.{rule_of, rules_of};
 ghost use Rattle.logos_codegen.specs.Literals.{IsLiteral, AreLiterals};
 ghost use Rattle.logos_codegen.specs.Texts.{named_leaf};
@@ -16,13 +17,16 @@ use std::alloc::{AllocError, Global};
 fn leaf_of<'s>(alloc: Global, definition: &Definition<'s>) -> Result<Leaf<'s>, AllocError>
     ensures named { IfOk result (λ leaf. named_leaf leaf ≡ definition_leaf (definition_value definition.now)) }
     ensures rule { IfOk result (λ leaf. rule_of leaf ≡ definition_rule (definition_value definition.now)) }
+    ensures literal { IfOk result (λ leaf. IsLiteral (pattern_tree leaf.pattern)) }
 {
     let pattern = Pattern::compile_lit(alloc, &definition.literal)?;
     let priority = token_priority(&definition.literal);
     let kind = VariantKind::Unit(definition.variant);
-    Ok(Leaf::new(definition.literal.span, pattern)
-        .priority(priority)
-        .variant_kind(kind))
+    Ok(
+        Leaf::new(definition.literal.span, pattern)
+            .priority(priority)
+            .variant_kind(kind),
+    )
 }
 
 // The leaves of an enum, in order.

@@ -2,6 +2,6 @@
 
 #![tactic(auto)]
 
-pub mod plain;
 mod leaves;
+pub mod plain;
 mod texts;

@@ -61,8 +61,8 @@ fn disambiguation_text(
 ) -> Result<String, AllocError>
     ensures { IfOk result (λ text. string_bytes text ≡ disambiguation_text (map named_leaf leaves.now) (numbers set.now) number.0 (named_leaf leaf.now)) }
 {
-    let mut text = format!(
-        in alloc; "The pattern {leaf} can match simultaneously with the following variants:"
+    let mut text = format!(in alloc;
+        "The pattern {leaf} can match simultaneously with the following variants:"
     )?;
     push_lines(&mut text, leaves, number, set)?;
     let priority = leaf.priority;
@@ -120,8 +120,8 @@ fn list_set(
 fn list_empty(alloc: Global, leaf: &Leaf<'_>, errors: &mut Errors) -> Result<(), Memory>
     ensures { OnOk result (errors.new ≡ errors.old ++ empty_match_faults (named_leaf leaf.now)) }
 {
-    let text = format!(
-        in alloc; "The pattern {leaf} can match the empty string, which is unsupported by logos."
+    let text = format!(in alloc;
+        "The pattern {leaf} can match the empty string, which is unsupported by logos."
     )?;
     errors.err(FaultCode::EmptyMatch, text.as_str(), leaf.span)
 }
@@ -158,4 +158,5 @@ pub(crate) fn list_fault(
     }
 }
 
-const START: &str = "The state machine implementing this lexer is missing a universal start state,which is unsupported by logos. This is most likely do to a lookbehind assertion at the start of the regex.";
+const START: &str =
+    "The state machine implementing this lexer is missing a universal start state,which is unsupported by logos. This is most likely do to a lookbehind assertion at the start of the regex.";
