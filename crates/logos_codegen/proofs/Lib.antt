@@ -1,0 +1,4 @@
+pub mod LiteralLemmas
+pub mod LongestLemmas
+pub mod PickLemmas
+pub mod ApartLemmas

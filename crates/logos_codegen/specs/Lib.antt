@@ -1,0 +1,4 @@
+pub mod Literals
+pub mod Longest
+pub mod Steps
+pub mod Sets
