@@ -2,3 +2,4 @@ pub mod LiteralLemmas
 pub mod LongestLemmas
 pub mod PickLemmas
 pub mod ApartLemmas
+pub mod StopLemmas

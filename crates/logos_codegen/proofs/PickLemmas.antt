@@ -40,7 +40,7 @@ module _ (P : ℕ → Type 0) where
   pub none_picked : (n : ℕ) → ((k : ℕ) → n ≤ k → P k → ⊥) → ArePickedFrom n []
   none_picked n none = record {
     ascending = λ k h. omega (arith, h);
-    exactly = λ k. (λ c. let l = c.1 in omega (arith, l), λ h. absurd (none k h.0 h.1));
+    exactly = λ k. (λ c. absurd (let l = c.1 in omega (arith, l)), λ h. absurd (none k h.0 h.1));
   }
 
   pub picked : (n : ℕ) (xs : List ℕ) → P n → ArePickedFrom (n + 1) xs → ArePickedFrom n (n ∷ xs)
