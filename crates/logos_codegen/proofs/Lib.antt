@@ -3,3 +3,4 @@ pub mod LongestLemmas
 pub mod PickLemmas
 pub mod ApartLemmas
 pub mod StopLemmas
+pub mod RunLemmas
