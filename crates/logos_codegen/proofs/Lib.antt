@@ -1,2 +1,8 @@
+pub mod ApartLemmas
 pub mod LeafLemmas
 pub mod Listing
+pub mod LiteralLemmas
+pub mod LongestLemmas
+pub mod PickLemmas
+pub mod RunLemmas
+pub mod StopLemmas

@@ -20,9 +20,17 @@ pub fn literal_bytes<'l>(leaf: &'l Leaf<'_>) -> &'l [u8]
     ensures bytes { IsBytes result.now }
 {
     match leaf.pattern.hir() {
-        Hir::Literal(bytes) => bytes,
+        Hir::Literal(bytes) => bounded(bytes),
         _ => &[],
     }
+}
+
+// The slice as it is, with what its type says of it.
+fn bounded(bytes: &[u8]) -> &[u8]
+    ensures same { result.now ≡ bytes.now }
+    ensures bytes { IsBytes result.now }
+{
+    bytes
 }
 
 // Whether the leaf's pattern is a literal, or empty.
