@@ -6,3 +6,4 @@ pub mod LongestLemmas
 pub mod PickLemmas
 pub mod RunLemmas
 pub mod StopLemmas
+pub mod RefusalLemmas

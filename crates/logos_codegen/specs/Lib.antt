@@ -4,3 +4,5 @@ pub mod Steps
 pub mod Sets
 pub mod Texts
 pub mod Rules
+pub mod Source
+pub mod Refusals

@@ -4,4 +4,5 @@
 
 mod leaves;
 pub mod plain;
+mod source;
 mod texts;
