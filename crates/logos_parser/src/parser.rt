@@ -302,3 +302,6 @@ pub fn enum_or_misfit()
     ensures misfit_begins { (run : TokenList) (span : Span) → IsMisfit run span → BeginsWith (IsWord enum_word) run }
     ensures either { (run : TokenList) → BeginsWith (IsWord enum_word) run → ((value : EnumValue) × IsEnum run value) ⊎ ((span : Span) × IsMisfit run span) }
 {}
+
+#[cfg(test)]
+mod tests;
