@@ -1,6 +1,7 @@
 //! Tokens of a source text.
 
 mod entry;
+pub mod lexeme;
 mod views;
 
 pub use views::{Group, TokenIter, TokenStream, TokenTree, Tokens};
