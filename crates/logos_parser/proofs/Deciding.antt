@@ -72,7 +72,7 @@ token-decided run = elim (found-word token_word run) [ inr l ↦ inr (first_span
         | inr m ↦ inr (m.0, argument (rw g.3 at e) m.1)
         | inl a ↦ elim (found-end g.2) [
           | inr h ↦ inr (first_span g.2, behind_token (rw g.3 at e) a.1 h)
-          | inl h ↦ inl (a.0, record { word = span; parenthesis = g.0; argument = g.1; spelled = rw (g.3, h) at e; literal = a.1 })
+          | inl h ↦ inl (a.0, record { word = span; around = g.0; inside = g.1; spelled = rw (g.3, h) at e; literal = a.1 })
         ]
       ]
     ]
@@ -112,7 +112,7 @@ module _ (run : TokenList) where
     | inr e ↦ misfit-at before middle literals _ _ s v a (no_name a (⊎_elim e.1 (λ h. h), refl))
     | inl e ↦ elim (token-decided inside) [
       | inr m ↦ misfit-at before middle literals _ _ m.0 v a (token (rw e.1 at a) m.1)
-      | inl t ↦ body-decided before middle (literals ++ t.0 ∷ []) rest v (next_attribute a (record { spacing = spacing; mark = s; bracket = s'; inside = inside; spelled = rw e.1 refl; token = t.1 }))
+      | inl t ↦ body-decided before middle (literals ++ t.0 ∷ []) rest v (next_attribute a (record { spacing = spacing; mark = s; around = s'; inside = inside; spelled = rw e.1 refl; token = t.1 }))
     ]
   ]
   body-decided before middle literals (also (punctuation c spacing s) (also (group Parenthesis s' inside) rest)) v a = unbracketed before middle literals c spacing s _ v a (λ h. cc)
@@ -132,7 +132,7 @@ enum-decided run b = elim (found-word enum_word run) [ inr l ↦ absurd (l.0 b) 
           | inr m ↦ inr (m.0, body (rw (f.2, g.3) at e) m.1)
           | inl d ↦ elim (found-end g.2) [
             | inr h ↦ inr (first_span g.2, behind (rw (f.2, g.3) at e) d.1 h)
-            | inl h ↦ inl (record { name = f.0; definitions = d.0 }, record { keyword = span; braces = g.0; inside = g.1; spelled = rw (f.2, g.3, h) at e; body = d.1 })
+            | inl h ↦ inl (record { name = f.0; definitions = d.0 }, record { keyword = span; around = g.0; inside = g.1; spelled = rw (f.2, g.3, h) at e; body = d.1 })
           ]
         ]
       ]

@@ -8,7 +8,8 @@ use Rattle.logos_parser.specs.Expected.{BeginsWith, Lacks, IsMark, IsWord}
 use Rattle.logos_parser.specs.Enum.{enum_word, AreVariants, IsVariant, IsVariantMisfit, IsBodyMisfit, IsMisfit}
 use Rattle.logos_parser.specs.Enum.IsMisfit.{name, braces, body, behind}
 use Rattle.logos_parser.specs.Enum.IsBodyMisfit.{variant, after_variant}
-use Rattle.logos_parser.specs.Values.{DefinitionValue, IsRefusal, IfGrammar}
+use Rattle.logos_parser.specs.Values.{DefinitionValue}
+use Rattle.logos_parser.specs.ReadErrors.{IsRefusal, IfGrammar}
 
 -- neither of two kinds of tokens
 pub neither : (Fits Fits' : Token → Type 0) (run : TokenList) (span : Span) → (BeginsWith Fits run → ⊥) → Lacks Fits' run span → Lacks (λ token. Fits token ⊎ Fits' token) run span

@@ -149,7 +149,7 @@ stops state token rest span e = rw (e, body_read) refl
 
 attribute-read : (before : List DefinitionValue) (literals : List Slice) (run : TokenList) (value : Slice) (rest : TokenList) → IsAttribute run value rest → body_read (ready before literals) run ≡ body_read (ready before (literals ++ value ∷ [])) rest
 attribute-read before literals run value rest a =
-    rw a.spelled (steps (marked before literals) _ (group Bracket a.bracket a.inside) rest (ap (bracketed before literals) (token-ok _ _ a.token)))
+    rw a.spelled (steps (marked before literals) _ (group Bracket a.around a.inside) rest (ap (bracketed before literals) (token-ok _ _ a.token)))
 
 attributes-read : (before : List DefinitionValue) (run : TokenList) (literals : List Slice) (rest : TokenList) → AreAttributes run literals rest → body_read (ready before []) run ≡ body_read (ready before literals) rest
 attributes-read before run literals rest attributes-begun = refl
@@ -160,11 +160,11 @@ variant-read before run definitions rest v = rw v.values (attributes-read before
 
 variants-read : (run : TokenList) (definitions : List DefinitionValue) (rest : TokenList) → AreVariants run definitions rest → body_read begin run ≡ body_read (ready definitions []) rest
 variants-read run definitions rest variants-begun = refl
-variants-read run definitions rest (variants-further {before} {middle} {definitions = new} h v) = variants-read run before middle h ∙ variant-read before middle new _ v
+variants-read run definitions rest (variants-further {before} {definitions = new} {middle} h v) = variants-read run before middle h ∙ variant-read before middle new _ v
 
 body-ok : (run : TokenList) (definitions : List DefinitionValue) → IsBody run definitions → body_read begin run ≡ Ok definitions
 body-ok run definitions (closed v) = variants-read run definitions none v
-body-ok run definitions (open_ended {before} {middle} {definitions = new} h v) = variants-read run before middle h ∙ variant-read before middle new none v
+body-ok run definitions (open_ended {before} {definitions = new} {middle} h v) = variants-read run before middle h ∙ variant-read before middle new none v
 
 bracket-lacks : (before : List DefinitionValue) (literals : List Slice) (run : TokenList) (span : Span) → Lacks (IsGroup Bracket) run span → body_read (marked before literals) run ≡ Err span
 bracket-lacks before literals none span l = ap Err (sym l.1)

@@ -1,22 +1,22 @@
--- The values of an enum, as its tokens say them.
+-- An enum and its definitions as values.
 use Rattle.std.specs.Prelude.{ℕ, List, map}
 use Rattle.logos_token.specs.declared.token.Span.{Span}
 use Rattle.logos_token.specs.declared.token.Ident.{Ident}
 use Rattle.logos_token.specs.declared.token.Literal.{Literal}
 use Rattle.logos_parser.specs.declared.parser.Definition.{Definition}
 use Rattle.logos_parser.specs.declared.parser.ItemEnum.{ItemEnum}
-use Rattle.logos_parser.specs.declared.parser.ReadError.{ReadError}
-use Rattle.logos_parser.specs.declared.parser.ReadError.TheVariants.{NotAnEnum, Grammar, Memory}
 
 -- a text of the source, and where it stands
 pub record Slice : Type 0 where
   pub text : List ℕ
   pub span : Span
 
+-- a literal, and the name of the variant that it is for
 pub record DefinitionValue : Type 0 where
   pub literal : Slice
   pub variant : Slice
 
+-- a name, and the definitions in the order of the source
 pub record EnumValue : Type 0 where
   pub name : Slice
   pub definitions : List DefinitionValue
@@ -32,20 +32,3 @@ definition_value definition = record { literal = literal_slice definition.litera
 
 abbrev pub enum_value : ItemEnum → EnumValue
 enum_value item = record { name = ident_slice item.name; definitions = map definition_value item.definitions.items }
-
--- what holds of the span, where the error is this one
-abbrev pub IfNotAnEnum : (Span → Type 0) → ReadError → Type 0
-IfNotAnEnum Holds (NotAnEnum span) = Holds span
-IfNotAnEnum Holds (Grammar span) = Unit {0}
-IfNotAnEnum Holds Memory = Unit {0}
-
-abbrev pub IfGrammar : (Span → Type 0) → ReadError → Type 0
-IfGrammar Holds (NotAnEnum span) = Unit {0}
-IfGrammar Holds (Grammar span) = Holds span
-IfGrammar Holds Memory = Unit {0}
-
--- a misfit at the span, or memory ran out
-abbrev pub IsRefusal : (Span → Type 0) → ReadError → Type 0
-IsRefusal IsMisfitAt (NotAnEnum span) = ⊥
-IsRefusal IsMisfitAt (Grammar span) = IsMisfitAt span
-IsRefusal IsMisfitAt Memory = Unit {0}

@@ -6,7 +6,8 @@ ghost use Rattle.logos_token.specs.Tokens.{TokenList, none, also, identifier, pu
 ghost use Rattle.logos_token.specs.Views.{tokens_of, tree_of};
 ghost use Rattle.logos_parser.specs.declared.parser.ReadError.TheVariants.{Memory};
 ghost use Rattle.logos_parser.specs.Expected.{first_span, Lacks, GoesOn, BeginsWith, IsWord, IsName, IsMark, IsLiteral, IsGroup};
-ghost use Rattle.logos_parser.specs.Values.{DefinitionValue, EnumValue, literal_slice, ident_slice, definition_value, enum_value, IsRefusal, IfNotAnEnum, IfGrammar};
+ghost use Rattle.logos_parser.specs.Values.{DefinitionValue, EnumValue, literal_slice, ident_slice, definition_value, enum_value};
+ghost use Rattle.logos_parser.specs.ReadErrors.{IsRefusal, IfNotAnEnum, IfGrammar};
 ghost use Rattle.logos_parser.specs.Enum.{IsArgument, IsToken, AreAttributes, variant_definitions, IsVariant, IsBody, IsEnum, enum_word, hash, IsArgumentMisfit, IsTokenMisfit, IsVariantMisfit, IsBodyMisfit, IsMisfit};
 
 use logos_token::token::{Delimiter, Ident, Literal, Span, TokenTree, Tokens};
@@ -15,7 +16,9 @@ use std::alloc::{AllocError, AllocFailed, Global};
 /// One `#[token(..)]` of a variant.
 #[derive(Clone, Copy, Debug)]
 pub struct Definition<'s> {
+    /// What stands between the parentheses.
     pub literal: Literal<'s>,
+    /// The name of the variant.
     pub variant: Ident<'s>,
 }
 
@@ -31,7 +34,8 @@ pub struct ItemEnum<'s> {
 pub enum ReadError {
     /// The run does not begin with `enum`. The span is that of the whole run.
     NotAnEnum { span: Span },
-    /// The span is that of the first token that does not fit, or 0..0 where the tokens run out.
+    /// A token behind `enum` does not fit. The span is that of the first such token, the whole group's for a group; `0..0` where the
+    /// tokens run out, also where they do so inside a group.
     Grammar { span: Span },
     /// Memory ran out.
     Memory,
@@ -249,19 +253,20 @@ fn read_variants<'s>(
         if behind.is_empty() {
             return Ok(definitions);
         }
-        let Some(after) = split_mark(behind, ',') else {
+        let Some(next) = split_mark(behind, ',') else {
             return Err(Misfit::at(behind).into());
         };
-        rest = after;
+        rest = next;
     }
     Ok(definitions)
 }
 
-/// The enum that the tokens are.
+/// The enum that these tokens are: `enum`, a name, and braces with variants between commas, where the last may have a comma too, and
+/// nothing behind the braces. A variant is any number of `#[token(..)]`, each with one literal between the parentheses, and a name. Every
+/// identifier serves as a name.
 ///
-/// It is `enum`, a name and braces with variants between commas; the last may have a comma too. A variant is a name behind any number of
-/// `#[token(..)]`, each with one literal. `NotAnEnum` comes where the run does not begin with `enum`, `Grammar` where it does and a
-/// later token does not fit.
+/// Fails with `NotAnEnum` where the identifier `enum` does not come first, with `Grammar` where it does and a later token does not fit, and
+/// with `Memory`. An enum is always read unless memory runs out. After an error nothing is kept.
 pub fn read_enum<'s>(alloc: Global, tokens: Tokens<'_, 's>) -> Result<ItemEnum<'s>, ReadError>
     ensures ok { IfOk result (λ item. IsEnum (tokens_of tokens.entry) (enum_value item)) }
     ensures not_an_enum { IfErr result (IfNotAnEnum (λ span. (BeginsWith (IsWord enum_word) (tokens_of tokens.entry) → ⊥) × (span ≡ run_span (tokens_of tokens.entry)))) }
@@ -274,9 +279,9 @@ pub fn read_enum<'s>(alloc: Global, tokens: Tokens<'_, 's>) -> Result<ItemEnum<'
         });
     };
     let (name, rest) = read_name(rest)?;
-    let (inside, rest) = read_group(rest, Delimiter::Brace)?;
+    let (inside, behind) = read_group(rest, Delimiter::Brace)?;
     let definitions = read_variants(alloc, inside)?;
-    read_end(rest)?;
+    read_end(behind)?;
     Ok(ItemEnum { name, definitions })
 }
 
@@ -297,3 +302,6 @@ pub fn enum_or_misfit()
     ensures misfit_begins { (run : TokenList) (span : Span) → IsMisfit run span → BeginsWith (IsWord enum_word) run }
     ensures either { (run : TokenList) → BeginsWith (IsWord enum_word) run → ((value : EnumValue) × IsEnum run value) ⊎ ((span : Span) × IsMisfit run span) }
 {}
+
+#[cfg(test)]
+mod tests;

@@ -25,7 +25,7 @@ loop-behind-preserved c =
     rw e (further c.loop-behind.invariant (record {
       spacing = c.in-Some.ensures.0;
       mark = c.in-Some.ensures.1;
-      bracket = c.in_ok-inside.ensures.0;
+      around = c.in_ok-inside.ensures.0;
       inside = _;
       spelled = rw c.in_ok-inside.ensures.1 at c.in-Some.ensures.2;
       token = c.in_ok-literal.ensures;

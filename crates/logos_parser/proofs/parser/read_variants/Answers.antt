@@ -30,7 +30,7 @@ pub loop-rest-smaller : goal.loop-rest-smaller
 loop-rest-smaller c =
     let read = c.in_ok-behind.ensures.ok in
     let h : count_of (tokens_of c.in_ok-behind.behind) < count_of (tokens_of c.loop-rest.rest) = variant-count _ _ _ read.1 in
-    let k : count_of (tokens_of c.in-Some.after) < count_of (tokens_of c.in_ok-behind.behind) = count-rest _ _ _ (omega arith) c.in-Some.ensures.2 in
+    let k : count_of (tokens_of c.in-Some.next) < count_of (tokens_of c.in_ok-behind.behind) = count-rest _ _ _ (omega arith) c.in-Some.ensures.2 in
     omega arith
 
 pub loop-rest-preserved : goal.loop-rest-preserved
