@@ -7,3 +7,4 @@ pub mod PickLemmas
 pub mod RunLemmas
 pub mod StopLemmas
 pub mod RefusalLemmas
+pub mod AcceptLemmas

@@ -1,5 +1,5 @@
 -- What an error of `lex_source` says.
-use Rattle.std.specs.Prelude.{◌≡◌, ℕ, ◌≤◌, List, [], length, Result, Ok, Err}
+use Rattle.std.specs.Prelude.{◌≡◌, ℕ, ◌≤◌, List, [], length}
 use Rattle.std.specs.Str.{IsUtf8, IsValidUpTo}
 use Rattle.logos_token.specs.Tokens.{TokenList, depth_of}
 use Rattle.logos_token.specs.Spelling.{Spells}
@@ -37,8 +37,7 @@ pub record IsWithinLimits (source : List ℕ) : Type 0 where
   pub shallow : (tokens : TokenList) → Spells source tokens → depth_of tokens ≤ 128
 
 -- the source is not refused
-abbrev pub IsNotRefused : {T : Type 0} → Result T LexSourceError → Type 0
-IsNotRefused (Ok items) = Unit {0}
-IsNotRefused (Err (Refused errors)) = ⊥
-IsNotRefused (Err (NotUtf8 valid_up_to)) = Unit {0}
-IsNotRefused (Err Memory) = Unit {0}
+abbrev pub IsNoRefusal : LexSourceError → Type 0
+IsNoRefusal (Refused errors) = ⊥
+IsNoRefusal (NotUtf8 valid_up_to) = Unit {0}
+IsNoRefusal Memory = Unit {0}

@@ -19,7 +19,7 @@ ghost use Rattle.logos_codegen.specs.Literals.{AreLiterals};
 ghost use Rattle.logos_codegen.specs.Texts.{fault_at, named_leaf, listed_of};
 ghost use Rattle.logos_codegen.specs.Rules.{definition_leaf, rules_in, AreListed};
 ghost use Rattle.logos_codegen.specs.Source.{Says, lexical_text, IsMisread, EndsReading, IsAccepted, IsRefused};
-ghost use Rattle.logos_codegen.specs.Refusals.{Refuses, IsJust, MatchReadError, IsWithinLimits, IsNotRefused};
+ghost use Rattle.logos_codegen.specs.Refusals.{Refuses, IsJust, MatchReadError, IsWithinLimits, IsNoRefusal};
 
 use crate::leaves::leaves_of;
 use crate::plain::faults::faults;
@@ -247,7 +247,7 @@ pub fn lex_source<'i, C: Fn(LeafId, &[u8]) -> Action + Drop>(
     ensures in_order { IfOk result (λ items. AreInOrder (length input.now) 0 (map item_of items.items)) }
     ensures err { IfErr result (IsJust src.now input.now) }
     // A source without faults, within the limits, is not refused.
-    ensures accepted { (rules : List Rule) → IsAccepted src.now rules → IsWithinLimits src.now → IsNotRefused result }
+    ensures accepted { (rules : List Rule) → IsAccepted src.now rules → IsWithinLimits src.now → IfErr result IsNoRefusal }
 {
     let _ = config;
     let leaves = accept(alloc, src)?;
