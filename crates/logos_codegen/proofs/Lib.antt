@@ -4,3 +4,5 @@ pub mod PickLemmas
 pub mod ApartLemmas
 pub mod StopLemmas
 pub mod RunLemmas
+pub mod FaultLemmas
+pub mod SetLemmas
