@@ -8,3 +8,5 @@ pub mod RunLemmas
 pub mod StopLemmas
 pub mod RefusalLemmas
 pub mod AcceptLemmas
+pub mod FaultLemmas
+pub mod SetLemmas

@@ -103,8 +103,8 @@ reach_turn leaves bytes from k to n leaf text l inside is same b fits e longest 
     let q : text ≡ text_at (rules_of leaves) k = same ∙ sym (text-read leaves k leaf inside is) in
     let size = length-rules leaves in
     turned (rules_of leaves) bytes from (rules_are_texts leaves l) k to n (omega (arith, size, inside)) (subst IsBytes q b) fits
-        (subst (λ (text : List ℕ). take n text ≡ take n (drop from bytes)) q e)
-        (subst (λ (text : List ℕ). (m : ℕ) → m ≤ length text → m ≤ length (drop from bytes) → take m text ≡ take m (drop from bytes) → m ≤ n) q longest) r
+    (subst (λ (text : List ℕ). take n text ≡ take n (drop from bytes)) q e)
+    (subst (λ (text : List ℕ). (m : ℕ) → m ≤ length text → m ≤ length (drop from bytes) → take m text ≡ take m (drop from bytes) → m ≤ n) q longest) r
 
 pub reach_end : (leaves : List Leaf) (bytes : List ℕ) (from k to : ℕ) → AreLiterals leaves → length leaves ≤ k → IsReached (rules_of leaves) bytes from k to → IsStop (rules_of leaves) false bytes from to
 reach_end leaves bytes from k to l all r = let size = length-rules leaves in all_reached (rules_of leaves) bytes from (rules_are_texts leaves l) k to (omega (arith, size, all)) r

@@ -1,10 +1,10 @@
 //! The faults of a list of leaves.
 
-ghost use Rattle.std.specs.Prelude.{◌≡◌, ℕ, ◌<◌, List, map, length, IfOk, IsTrue, ◌↔◌, MatchOption};
+ghost use Rattle.std.specs.Prelude.{◌≡◌, ℕ, ◌<◌, ◌≤◌, List, map, length, slice_get, Some, IfOk, IsTrue, ◌↔◌, MatchOption};
 ghost use Rattle.logos_graph.specs.Errors.{fault_of, numbers};
 ghost use Rattle.logos_graph.specs.Faults.{AreFaults, ArePassable, AreAmbiguous, empty_match, disambiguation};
 ghost use Rattle.logos_graph.specs.View.{rules_of};
-ghost use Rattle.logos_codegen.specs.Literals.{AreLiterals};
+ghost use Rattle.logos_codegen.specs.Literals.{AreLiterals, literal_text};
 ghost use Rattle.logos_codegen.specs.Sets.{IsTop, IsEqual, ArePicked, IsSetFrom};
 
 use super::literal_bytes;
@@ -26,12 +26,26 @@ fn empty_matches(alloc: Global, leaves: &[Leaf<'_>]) -> Result<Vec<GraphError>, 
     Ok(faults)
 }
 
+// Whether the leaf has this text and a higher priority.
+fn is_above(leaf: &Leaf<'_>, text: &[u8], priority: usize) -> bool
+    ensures { IsTrue result ↔ ((literal_text leaf.now ≡ text.now) × (priority < leaf.now.priority)) }
+{
+    literal_bytes(leaf) == text && priority < leaf.priority
+}
+
+// Whether the leaf has this text and this priority.
+fn is_equal(leaf: &Leaf<'_>, text: &[u8], priority: usize) -> bool
+    ensures { IsTrue result ↔ ((literal_text leaf.now ≡ text.now) × (leaf.now.priority ≡ priority)) }
+{
+    literal_bytes(leaf) == text && leaf.priority == priority
+}
+
 // Whether no leaf with this text has a higher priority.
 fn is_highest(leaves: &[Leaf<'_>], text: &[u8], priority: usize) -> bool
     ensures { IsTrue result ↔ IsTop leaves.now text.now priority }
 {
     for leaf in leaves {
-        if literal_bytes(leaf) == text && priority < leaf.priority {
+        if is_above(leaf, text, priority) {
             return false;
         }
     }
@@ -49,11 +63,18 @@ fn with_text(
 {
     let mut set = Vec::new(alloc);
     for (number, leaf) in leaves.iter().enumerate() {
-        if literal_bytes(leaf) == text && leaf.priority == priority {
+        if is_equal(leaf, text, priority) {
             set.push(LeafId(number))?;
         }
     }
     Ok(set)
+}
+
+// Whether these are two leaves or more, of which this one is the first.
+fn begins_with(set: &[LeafId], number: usize) -> bool
+    ensures { IsTrue result ↔ ((2 ≤ length (numbers set.now)) × (slice_get (numbers set.now) 0 ≡ Some number)) }
+{
+    set.len() >= 2 && set[0].0 == number
 }
 
 // The ambiguous set that begins with this leaf, if there is one.
@@ -72,7 +93,7 @@ fn set_from(
         return Ok(None);
     }
     let set = with_text(alloc, leaves, text, leaf.priority)?;
-    if set.len() < 2 || set[0].0 != number {
+    if !begins_with(&set, number) {
         return Ok(None);
     }
     Ok(Some(set))

@@ -11,7 +11,7 @@ pub returns-clause-best : goal.returns-clause-best
 returns-clause-best c =
     let are_bytes : IsBytes c.args.input.now = All-from_get_or (λ b. b < 256) c.args.input.now 0 (λ i l. let f = c.type_inv.input i in omega (arith, f)) in
     best_from_longest (rules_of c.args.leaves.now) (rules_are_texts c.args.leaves.now c.requires.literals) c.requires.faultless c.args.input.now are_bytes
-        c.args.from c.in_ok-found.found.to c.in_ok-found.found.number c.in_ok-found.ensures
+    c.args.from c.in_ok-found.found.to c.in_ok-found.found.number c.in_ok-found.ensures
 
 pub returns-clause-within : goal.returns-clause-within
 returns-clause-within c =
