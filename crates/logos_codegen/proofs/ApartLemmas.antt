@@ -1,5 +1,5 @@
 -- Rules without faults are told apart by length and priority.
-use Rattle.std.proofs.Common.{◌≡◌, ◌≢◌, ℕ, zero, suc, ◌+◌, ◌<◌, ◌≤◌, ◌⊎◌, inl, inr, Bool, true, false, ◌||◌, List, [], ◌∷◌, map, length, slice_get, Contains, IsSomeAnd, IsTrue, MatchBool, refl, sym, ◌∙◌, ap, subst, arith}
+use Rattle.std.proofs.Common.{◌≡◌, ◌≢◌, ℕ, suc, ◌<◌, ◌⊎◌, inl, inr, Bool, true, false, List, [], ◌∷◌, map, length, slice_get, Contains, IsSomeAnd, IsTrue, MatchBool, refl, sym, ◌∙◌, subst, arith}
 use Rattle.std.specs.List.{list_any}
 use Rattle.logos_pattern.specs.Text.{StandsAt, IsBytes}
 use Rattle.logos_pattern.specs.Priority.{passable}

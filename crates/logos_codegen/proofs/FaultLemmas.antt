@@ -1,12 +1,11 @@
 -- The faults of rules whose trees are literals.
-use Rattle.std.proofs.Common.{◌≡◌, ◌≢◌, ℕ, zero, suc, ◌+◌, ◌<◌, ◌≤◌, ◌↔◌, ◌⊎◌, inl, inr, Bool, true, false, List, [], ◌∷◌, ◌++◌, map, length, get_or, slice_get, Contains, Option, Some, None, IsSomeAnd, IsTrue, MatchBool, Result, Ok, Err, IfOk, Vec, Global, ◌==◌, ◌||◌, refl, sym, ◌∙◌, ap, subst, arith, append_assoc, append-nil}
+use Rattle.std.proofs.Common.{◌≡◌, ℕ, zero, suc, ◌+◌, ◌<◌, ◌≤◌, ◌↔◌, ◌⊎◌, inl, inr, Bool, true, false, List, [], ◌∷◌, ◌++◌, map, length, get_or, slice_get, Contains, Some, IsSomeAnd, IsTrue, MatchBool, Result, Ok, Err, IfOk, Vec, Global, ◌==◌, ◌||◌, refl, sym, ◌∙◌, ap, subst, arith, append_assoc, append-nil}
 use Rattle.std.proofs.lemmas.Bool.Decides.{nat_tests}
 use Rattle.std.proofs.lemmas.List.{map_push, length-map}
 use Rattle.std.proofs.lemmas.List.Folds.{list_any_none}
 use Rattle.std.proofs.lemmas.List.Elements.{All-weaker}
 use Rattle.logos_codegen.proofs.ApartLemmas.{some_rule}
 use Rattle.std.specs.List.Sorted.{IsStrictlyIncreasing}
-use Rattle.std.specs.List.{list_any}
 use Rattle.logos_pattern.specs.Text.{StandsAt, IsBytes}
 use Rattle.logos_pattern.specs.Tree.{Tree, empty, literal, byte_class, char_class, look, repetition, capture, concat, alternation}
 use Rattle.logos_pattern.specs.Leaf.{pattern_tree}

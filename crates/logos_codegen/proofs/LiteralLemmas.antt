@@ -1,12 +1,10 @@
 -- Rules whose trees are literals, by number: what matches, and what can grow.
-use Rattle.std.proofs.Common.{◌≡◌, ℕ, zero, suc, ◌+◌, ◌-◌, ◌<◌, ◌≤◌, List, [], ◌∷◌, ◌++◌, map, length, get_or, take, drop, slice_get, slice_range, All, Option, Some, None, IsSomeAnd, refl, sym, ◌∙◌, ap, subst, arith, min}
+use Rattle.std.proofs.Common.{◌≡◌, ℕ, zero, suc, ◌-◌, ◌<◌, List, [], ◌∷◌, ◌++◌, length, get_or, take, drop, slice_get, All, refl, sym, ◌∙◌, ap, subst, arith}
 use Rattle.std.specs.Option.{option_map_or}
-use Rattle.std.proofs.lemmas.Grind.{common_steps}
-use Rattle.std.proofs.lemmas.List.{length-map, length-append, length-take, length-drop, take_all, take-append-drop, append-nil, append_assoc, take_at}
+use Rattle.std.proofs.lemmas.List.{length-map, take_all, append-nil, take_at}
 use Rattle.std.proofs.lemmas.List.Elements.{All-head, All-tail, All-map}
 use Rattle.logos_pattern.specs.Text.{StandsAt, IsBytes}
 use Rattle.logos_pattern.specs.Tree.{Tree, empty, literal, byte_class, char_class, look, repetition, capture, concat, alternation}
-use Rattle.logos_pattern.specs.Leaf.{pattern_tree}
 use Rattle.logos_pattern.specs.Matches.{Matches}
 use Rattle.logos_pattern.specs.declared.leaf.Leaf.{Leaf}
 use Rattle.logos_graph.specs.Munch.{Rule, RuleMatches, priority_of, Grows}

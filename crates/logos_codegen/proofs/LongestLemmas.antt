@@ -1,7 +1,7 @@
 -- The longest match among the first rules, and one rule more.
 use Rattle.std.proofs.Common.{◌≡◌, ℕ, ◌+◌, ◌<◌, ◌≤◌, List, length, get_or, Option, Some, None, MatchOption, refl, subst, sym, ◌∙◌, ap, inl, inr, arith, below_more}
 use Rattle.logos_pattern.specs.Text.{StandsAt}
-use Rattle.logos_graph.specs.Munch.{Rule, RuleMatches, priority_of, NoMatch}
+use Rattle.logos_graph.specs.Munch.{Rule, priority_of, NoMatch}
 use Rattle.logos_graph.specs.View.{rules_of}
 use Rattle.logos_pattern.specs.declared.leaf.Leaf.{Leaf}
 use Rattle.logos_codegen.specs.Longest.{IsLongest, IsBetter}

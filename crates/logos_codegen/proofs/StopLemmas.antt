@@ -1,5 +1,5 @@
 -- Where an error ends, as far as the first rules say.
-use Rattle.std.proofs.Common.{◌≡◌, ℕ, ◌+◌, ◌-◌, ◌<◌, ◌≤◌, ◌⊎◌, inl, inr, Bool, true, false, List, ◌++◌, length, get_or, take, drop, max, IsTrue, IsCharBoundary, refl, sym, ◌∙◌, ap, subst, arith, below_more}
+use Rattle.std.proofs.Common.{◌≡◌, ℕ, ◌+◌, ◌-◌, ◌<◌, ◌≤◌, ◌⊎◌, inl, inr, true, false, List, ◌++◌, length, get_or, take, drop, max, IsTrue, IsCharBoundary, refl, sym, ◌∙◌, ap, subst, arith, below_more}
 use Rattle.std.proofs.lemmas.List.{length-take-le, length-drop, length-append, take-append-drop, take_at}
 use Rattle.logos_pattern.specs.Text.{IsBytes}
 use Rattle.logos_pattern.specs.declared.leaf.Leaf.{Leaf}

@@ -1,5 +1,5 @@
 -- One step of a run.
-use Rattle.std.specs.Prelude.{◌≡◌, ℕ, ◌<◌, ◌≤◌, Bool, true, List, [], ◌∷◌, ◌++◌, length, Option, Some, option_map, if◌then◌else◌}
+use Rattle.std.specs.Prelude.{ℕ, ◌<◌, ◌≤◌, Bool, true, List, [], ◌∷◌, ◌++◌, length, Option, Some, option_map, if◌then◌else◌}
 use Rattle.std.specs.Option.{option_to_list}
 use Rattle.logos_graph.specs.Munch.{Rule}
 use Rattle.logos_generator.specs.Items.{Callback, Item, token, error, Items}

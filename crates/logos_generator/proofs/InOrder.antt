@@ -1,5 +1,5 @@
 -- Items are in order.
-use Rattle.std.proofs.Common.{◌≡◌, ℕ, ◌+◌, ◌<◌, ◌≤◌, Bool, true, false, List, [], ◌∷◌, ◌++◌, length, drop, map, Some, None, slice_range, if◌then◌else◌, IsTrue, IsCharBoundary, arith}
+use Rattle.std.proofs.Common.{ℕ, ◌<◌, ◌≤◌, Bool, true, false, List, [], ◌∷◌, ◌++◌, length, map, slice_range, if◌then◌else◌, arith}
 use Rattle.std.proofs.lemmas.List.{length-drop}
 use Rattle.std.proofs.lemmas.Str.{IsCharBoundary-end}
 use Rattle.logos_graph.specs.Munch.{Use, Rule, IsBest, IsStop}

@@ -1,5 +1,5 @@
 -- A list of rules has one list of faults.
-use Rattle.std.proofs.Common.{◌≡◌, ℕ, Bool, true, false, List, [], ◌∷◌, map, MatchBool, refl, sym, ◌∙◌, ap}
+use Rattle.std.proofs.Common.{◌≡◌, ℕ, Bool, true, false, List, [], ◌∷◌, map, MatchBool, sym, ◌∙◌, ap}
 use Rattle.logos_graph.specs.Munch.{Rule}
 use Rattle.logos_graph.specs.Faults.{Fault, no_universal_start, empty_match, disambiguation, some_leads, some_passable, ArePassable, AreAmbiguous, AreFaults}
 use Rattle.logos_graph.proofs.SameMembers.{increasing_same, ascending_same}

@@ -113,7 +113,7 @@ fn ambiguous_sets(alloc: Global, leaves: &[Leaf<'_>]) -> Result<Vec<GraphError>,
     Ok(faults)
 }
 
-/// The faults of the leaves: those that match nothing, or, where there are none, all sets of two or
+/// The faults of the leaves: those that match the empty text, or, where none does, all sets of two or
 /// more leaves that have the highest priority among those with their text. Each set comes once, and
 /// they come in ascending order. A literal never has a look, so that `NoUniversalStart` never comes.
 /// The error says that memory ran out.

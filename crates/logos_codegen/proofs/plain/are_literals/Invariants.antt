@@ -1,5 +1,4 @@
-use Rattle.std.proofs.Common.{All, take}
-use Rattle.logos_pattern.specs.Leaf.{pattern_tree}
+use Rattle.std.proofs.Common.{take}
 use Rattle.logos_codegen.specs.Literals.{AreLiterals}
 use Rattle.logos_codegen.proofs.plain.are_literals.Given as goal
 

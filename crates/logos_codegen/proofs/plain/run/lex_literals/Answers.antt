@@ -1,7 +1,7 @@
-use Rattle.std.proofs.Common.{◌≡◌, ℕ, ◌≤◌, [], List, length, map, ◌++◌, append-nil, subst, arith}
+use Rattle.std.proofs.Common.{[], append-nil, arith}
 use Rattle.logos_graph.specs.View.{rules_of}
-use Rattle.logos_generator.specs.Items.{Items, over}
-use Rattle.logos_generator.specs.LexerValue.{answers_of, item_of}
+use Rattle.logos_generator.specs.Items.{over}
+use Rattle.logos_generator.specs.LexerValue.{answers_of}
 use Rattle.logos_generator.proofs.InOrder.{in_order}
 use Rattle.logos_codegen.proofs.plain.run.lex_literals.Goals as goal
 

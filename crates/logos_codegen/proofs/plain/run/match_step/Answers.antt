@@ -1,4 +1,4 @@
-use Rattle.std.proofs.Common.{◌≡◌, ◌∙◌, ap, Bool, slice_range}
+use Rattle.std.proofs.Common.{◌∙◌, ap, Bool, slice_range}
 use Rattle.logos_generator.specs.LexerValue.{answers_of}
 use Rattle.logos_codegen.specs.Steps.{items_by}
 use Rattle.logos_codegen.proofs.RunLemmas.{match_step}
