@@ -6,3 +6,6 @@ pub mod LexemeLaws
 pub mod PieceLemmas
 pub mod NestingLemmas
 pub mod SpellingLaws
+pub mod ReadingLemmas
+pub mod ClosingLemmas
+pub mod RefusalLemmas

@@ -3,6 +3,8 @@ pub mod Lexemes
 pub mod Flat
 pub mod Views
 pub mod Spelling
+pub mod Reading
+pub mod Refusals
 pub mod FaultNames
 pub mod Faults
 pub mod FaultView

@@ -47,7 +47,16 @@ pub struct TokenIter<'t, 's> {
 
 impl<'s> TokenStream<'s> {
     ghost use Rattle.std.specs.Prelude.{◌≡◌};
+    ghost use Rattle.logos_token.specs.Flat.{IsFlat, tokens_in};
     ghost use Rattle.logos_token.specs.Views.{stream_tokens, tokens_of};
+
+    /// The tokens of these entries.
+    pub(super) fn from_entries(entries: Vec<Entry<'s>>) -> TokenStream<'s>
+        requires { IsFlat entries.items }
+        ensures { stream_tokens result ≡ tokens_in entries.entry.items }
+    {
+        TokenStream { entries }
+    }
 
     /// All trees.
     pub fn run(&self) -> Tokens<'_, 's>
