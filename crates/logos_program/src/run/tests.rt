@@ -1,4 +1,5 @@
 use super::*;
+use std::process::Abort;
 use std::test::Fail;
 
 /// Files in memory.
@@ -52,7 +53,7 @@ fn words(alloc: Global, all: &[&str]) -> Result<Vec<String>, AllocError> {
     Ok(words)
 }
 
-fn shelf(alloc: Global, source: &[u8], input: &[u8]) -> Result<Shelf, AllocError> {
+fn make_shelf(alloc: Global, source: &[u8], input: &[u8]) -> Result<Shelf, AllocError> {
     let mut files = Shelf {
         alloc,
         held: Vec::new(alloc),
@@ -65,6 +66,7 @@ fn shelf(alloc: Global, source: &[u8], input: &[u8]) -> Result<Shelf, AllocError
 const LEX: [&str; 3] = ["lex", "t.rs", "input"];
 
 /// One run, with what it must write and its status.
+#[derive(Clone, Copy)]
 struct Case {
     words: &'static [&'static str],
     source: &'static [u8],
@@ -74,10 +76,9 @@ struct Case {
     err: &'static str,
 }
 
-fn check(rt: &HostRuntime, case: &Case) -> Result<(), Fail> {
-    let alloc = rt.alloc();
+fn check(rt: &impl Abort, alloc: Global, case: &Case) -> Result<(), Fail> {
     let words = words(alloc, case.words)?;
-    let mut files = shelf(alloc, case.source, case.input)?;
+    let mut files = make_shelf(alloc, case.source, case.input)?;
     let mut out: Vec<u8> = Vec::new(alloc);
     let mut err: Vec<u8> = Vec::new(alloc);
     let status = run(alloc, words.as_slice(), &mut files, &mut out, &mut err);
@@ -106,7 +107,7 @@ fn lexes(rt: HostRuntime) -> Result<(), Fail> {
             out,
             err: "",
         };
-        check(&rt, &case)?;
+        check(&rt, rt.alloc(), &case)?;
     }
     Ok(())
 }
@@ -140,7 +141,7 @@ fn refuses(rt: HostRuntime) -> Result<(), Fail> {
             out: "",
             err,
         };
-        check(&rt, &case)?;
+        check(&rt, rt.alloc(), &case)?;
     }
     Ok(())
 }
@@ -164,7 +165,7 @@ fn tells_usage(rt: HostRuntime) -> Result<(), Fail> {
             out: "",
             err: "usage: logos gen|lex|strip|mermaid|export FILE ..\n",
         };
-        check(&rt, &case)?;
+        check(&rt, rt.alloc(), &case)?;
     }
     Ok(())
 }
@@ -180,7 +181,7 @@ fn tells_files(rt: HostRuntime) -> Result<(), Fail> {
     ] {
         let alloc = rt.alloc();
         let words = self::words(alloc, words.as_slice())?;
-        let mut files = shelf(alloc, source, b"")?;
+        let mut files = make_shelf(alloc, source, b"")?;
         let mut out: Vec<u8> = Vec::new(alloc);
         let mut told: Vec<u8> = Vec::new(alloc);
         let status = run(alloc, words.as_slice(), &mut files, &mut out, &mut told);
@@ -195,7 +196,7 @@ fn tells_files(rt: HostRuntime) -> Result<(), Fail> {
 fn tells_that_output_is_shut(rt: HostRuntime) -> Result<(), Fail> {
     let alloc = rt.alloc();
     let words = words(alloc, LEX.as_slice())?;
-    let mut files = shelf(alloc, b"enum T { }", b"a")?;
+    let mut files = make_shelf(alloc, b"enum T { }", b"a")?;
     let mut err: Vec<u8> = Vec::new(alloc);
     let status = run(alloc, words.as_slice(), &mut files, &mut Shut, &mut err);
     assert_eq!(rt; status, 3);
