@@ -1,13 +1,11 @@
 -- Sources that are refused, and those that are not.
-use Rattle.std.proofs.Common.{◌≡◌, ◌≢◌, ℕ, ◌<◌, ◌≤◌, List, [], ◌∷◌, map, flat_map, length, refl, sym, ◌∙◌, ap, subst, arith, Result, Ok, Err, IfErr}
+use Rattle.std.proofs.Common.{◌≡◌, ◌≢◌, ℕ, List, [], map, flat_map, sym, ◌∙◌, ap, arith, Result, Ok, Err, IfErr}
 use Rattle.logos_token.specs.declared.token.Span.{Span}
 use Rattle.logos_token.specs.Faults.{Fault as ListedFault}
-use Rattle.logos_token.specs.Tokens.{TokenList, run_span, depth_of}
-use Rattle.logos_token.specs.Spelling.{Spells, IsUnreadable, IsTooDeep}
+use Rattle.logos_token.specs.Tokens.{TokenList, run_span}
 use Rattle.logos_token.proofs.SpellingLaws.{spells-one, unreadable-excludes, deep-excludes}
 use Rattle.logos_parser.specs.Values.{EnumValue}
-use Rattle.logos_parser.specs.Expected.{BeginsWith, IsWord}
-use Rattle.logos_parser.specs.Enum.{enum_word, IsEnum, IsMisfit}
+use Rattle.logos_parser.specs.Enum.{IsEnum}
 use Rattle.logos_parser.proofs.Reading.{one_enum, misfit_excludes}
 use Rattle.logos_parser.proofs.Misfits.{begins-by}
 use Rattle.logos_pattern.specs.declared.leaf.Leaf.{Leaf}

@@ -1,5 +1,5 @@
 -- Leaves of literals.
-use Rattle.std.proofs.Common.{◌≡◌, ℕ, ◌+◌, ◌<◌, List, [], ◌∷◌, ◌++◌, length, map, drop, get_or, append_assoc, arith}
+use Rattle.std.proofs.Common.{◌≡◌, ℕ, ◌+◌, ◌<◌, List, [], ◌∷◌, ◌++◌, length, map, drop, get_or, append_assoc}
 use Rattle.std.proofs.lemmas.List.{map-append, drop_more}
 use Rattle.logos_pattern.specs.Tree.{Tree}
 use Rattle.logos_pattern.specs.Hir.{literal_tree}

@@ -1,6 +1,5 @@
 -- Each fault of the rules is listed.
-use Rattle.std.proofs.Common.{◌≡◌, ℕ, zero, suc, ◌≤◌, Bool, true, false, List, [], ◌∷◌, ◌++◌, map, flat_map, length, Option, Some, None, slice_get, IsSomeAnd, MatchBool, Contains, option_map, refl, sym, ◌∙◌, ap, arith}
-use Rattle.std.specs.Option.{option_map_or}
+use Rattle.std.proofs.Common.{◌≡◌, ℕ, zero, suc, Bool, true, false, List, [], ◌∷◌, ◌++◌, map, flat_map, Some, slice_get, IsSomeAnd, MatchBool, option_map, refl, ◌∙◌, ap, arith}
 use Rattle.std.proofs.lemmas.Option.{slice_get-map}
 use Rattle.logos_token.specs.declared.token.Span.{Span}
 use Rattle.logos_token.specs.Faults.{Fault as ListedFault}
@@ -8,7 +7,7 @@ use Rattle.logos_parser.specs.Values.{DefinitionValue, EnumValue}
 use Rattle.logos_graph.specs.Munch.{Rule}
 use Rattle.logos_graph.specs.Ambiguity.{IsAmbiguous}
 use Rattle.logos_graph.specs.Faults.{Fault, no_universal_start, empty_match, disambiguation, some_leads, some_passable, ArePassable, AreAmbiguous, AreFaults}
-use Rattle.logos_codegen.specs.Texts.{NamedLeaf, listed_of, disambiguation_faults, empty_match_faults}
+use Rattle.logos_codegen.specs.Texts.{NamedLeaf, listed_of}
 use Rattle.logos_codegen.specs.Rules.{definition_leaf, definition_rule, rules_in}
 
 -- a definition with a rule is there

@@ -31,9 +31,9 @@ pub misread_refuses : (tokens : TokenList) (error : ReadError) (out : LexSourceE
     IfNotAnEnum (λ span. (BeginsWith (IsWord enum_word) tokens → ⊥) × (span ≡ run_span tokens)) error →
     IfGrammar (λ span. BeginsWith (IsWord enum_word) tokens × IsMisfit tokens span) error →
     MatchReadError error
-        (λ span. Refuses (λ faults. faults ≡ fault_at NotAnEnumCode (codes "Logos can be only be derived for enums") span ∷ []) out)
-        (λ span. Refuses (λ faults. faults ≡ fault_at GrammarCode (codes "the enum is not well formed") span ∷ []) out)
-        (out ≡ Memory) →
+    (λ span. Refuses (λ faults. faults ≡ fault_at NotAnEnumCode (codes "Logos can be only be derived for enums") span ∷ []) out)
+    (λ span. Refuses (λ faults. faults ≡ fault_at GrammarCode (codes "the enum is not well formed") span ∷ []) out)
+    (out ≡ Memory) →
     Refuses (OneMisread tokens) out
 misread_refuses tokens (NotAnEnum span) out n g m =
     refuses_by _ (OneMisread tokens) (λ faults e. (fault_at NotAnEnumCode (codes "Logos can be only be derived for enums") span, no_enum n.0 (ap (fault_at NotAnEnumCode (codes "Logos can be only be derived for enums")) n.1), e)) out m

@@ -1,5 +1,5 @@
 -- What an error of `lex_source` says.
-use Rattle.std.specs.Prelude.{◌≡◌, ℕ, ◌≤◌, List, [], length}
+use Rattle.std.specs.Prelude.{ℕ, ◌≤◌, List, length}
 use Rattle.std.specs.Str.{IsUtf8, IsValidUpTo}
 use Rattle.logos_token.specs.Tokens.{TokenList, depth_of}
 use Rattle.logos_token.specs.Spelling.{Spells}

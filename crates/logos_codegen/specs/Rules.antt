@@ -1,5 +1,5 @@
 -- The rules of an enum's leaves, and their faults.
-use Rattle.std.specs.Prelude.{◌≡◌, ℕ, false, List, [], ◌++◌, map, flat_map, codes}
+use Rattle.std.specs.Prelude.{◌≡◌, false, List, ◌++◌, map, flat_map, codes}
 use Rattle.logos_token.specs.declared.token.Span.{Span}
 use Rattle.logos_token.specs.Faults.{Fault as ListedFault}
 use Rattle.logos_pattern.specs.Hir.{literal_tree}

@@ -30,8 +30,8 @@ use logos_generator::machine::{Action, Item};
 use logos_graph::graph::GraphError;
 use logos_parser::parser::{ItemEnum, ReadError, read_enum};
 use logos_pattern::leaf::{Leaf, LeafId};
-use logos_token::token::lexeme::LexicalKind;
 use logos_token::error::{Errors, FaultCode, Memory};
+use logos_token::token::lexeme::LexicalKind;
 use logos_token::token::{Span, TokenError, TokenStream, tokenize};
 use std::alloc::{AllocError, AllocFailed, Global};
 
@@ -90,7 +90,6 @@ fn refused(alloc: Global, code: FaultCode, message: &str, span: Span) -> LexSour
     }
 }
 
-
 // The text of a lexical fault.
 fn lexical_text(kind: LexicalKind) -> &'static str
     ensures { result.now ≡ lexical_text kind }
@@ -118,7 +117,12 @@ fn misread(alloc: Global, error: ReadError) -> LexSourceError
             span,
         ),
         ReadError::Grammar { span } => {
-            refused(alloc, FaultCode::Grammar, "the enum is not well formed", span)
+            refused(
+                alloc,
+                FaultCode::Grammar,
+                "the enum is not well formed",
+                span,
+            )
         }
         ReadError::Memory => LexSourceError::Memory,
     }
@@ -169,10 +173,7 @@ fn unreadable(alloc: Global, src: &str, error: TokenError) -> LexSourceError
 }
 
 // The enum that the source says, and the span of all its tokens.
-fn read_source<'s>(
-    alloc: Global,
-    src: &'s str,
-) -> Result<(ItemEnum<'s>, Span), LexSourceError>
+fn read_source<'s>(alloc: Global, src: &'s str) -> Result<(ItemEnum<'s>, Span), LexSourceError>
     ensures ok { IfOk result (λ read. Says src.now (enum_value read.0) read.1) }
     ensures err { IfErr result (Refuses (λ faults. (fault : ListedFault) × EndsReading src.now fault × (faults ≡ fault ∷ []))) }
 {

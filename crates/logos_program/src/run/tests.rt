@@ -125,11 +125,31 @@ fn refuses(rt: HostRuntime) -> Result<(), Fail> {
             "a".as_bytes(),
             "17..19 EmptyMatch: The pattern #[token(\"\")] ::A can match the empty string, which is unsupported by logos.\n",
         ),
-        ("", "a".as_bytes(), "0..0 NotAnEnum: Logos can be only be derived for enums\n"),
-        ("struct A", "a".as_bytes(), "0..8 NotAnEnum: Logos can be only be derived for enums\n"),
-        ("enum T", "a".as_bytes(), "0..0 Grammar: the enum is not well formed\n"),
-        ("enum T { A B }", "a".as_bytes(), "11..12 Grammar: the enum is not well formed\n"),
-        ("enum E {", "a".as_bytes(), "7..8 Lexical: unreadable source: Unbalanced\n"),
+        (
+            "",
+            "a".as_bytes(),
+            "0..0 NotAnEnum: Logos can be only be derived for enums\n",
+        ),
+        (
+            "struct A",
+            "a".as_bytes(),
+            "0..8 NotAnEnum: Logos can be only be derived for enums\n",
+        ),
+        (
+            "enum T",
+            "a".as_bytes(),
+            "0..0 Grammar: the enum is not well formed\n",
+        ),
+        (
+            "enum T { A B }",
+            "a".as_bytes(),
+            "11..12 Grammar: the enum is not well formed\n",
+        ),
+        (
+            "enum E {",
+            "a".as_bytes(),
+            "7..8 Lexical: unreadable source: Unbalanced\n",
+        ),
         ("enum T { #[token(\"a\")] A }", b"a\xff", "NotUtf8 1\n"),
         ("enum T { #[token(\"a\")] A }", b"\xff", "NotUtf8 0\n"),
     ] {
@@ -176,7 +196,11 @@ fn tells_files(rt: HostRuntime) -> Result<(), Fail> {
     for (words, source, err) in [
         (["lex", "none", "input"], source, "cannot read none\n"),
         (["lex", "t.rs", "none"], source, "cannot read none\n"),
-        (["lex", "t.rs", "input"], b"enum \xff".as_slice(), "cannot read t.rs\n"),
+        (
+            ["lex", "t.rs", "input"],
+            b"enum \xff".as_slice(),
+            "cannot read t.rs\n",
+        ),
         (["lex", "none", "gone"], source, "cannot read none\n"),
     ] {
         let alloc = rt.alloc();
@@ -200,7 +224,10 @@ fn tells_that_output_is_shut(rt: HostRuntime) -> Result<(), Fail> {
     let mut err: Vec<u8> = Vec::new(alloc);
     let status = run(alloc, words.as_slice(), &mut files, &mut Shut, &mut err);
     assert_eq!(rt; status, 3);
-    assert_eq!(rt; err.as_slice(), b"cannot write standard output\n".as_slice());
+    assert_eq!(rt;
+        err.as_slice(),
+        b"cannot write standard output\n".as_slice()
+    );
     let mut out: Vec<u8> = Vec::new(alloc);
     let status = run(alloc, &[], &mut files, &mut out, &mut Shut);
     assert_eq!(rt; status, 2);

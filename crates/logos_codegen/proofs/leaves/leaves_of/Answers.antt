@@ -1,7 +1,5 @@
-use Rattle.std.proofs.Common.{sym, ◌∙◌}
 use Rattle.std.proofs.lemmas.List.Elements.{All-push}
 use Rattle.logos_pattern.specs.Leaf.{pattern_tree}
-use Rattle.logos_pattern.specs.declared.leaf.Leaf.{Leaf}
 use Rattle.logos_parser.specs.Values.{definition_value}
 use Rattle.logos_graph.specs.View.{rule_of}
 use Rattle.logos_codegen.specs.Literals.{IsLiteral}

@@ -1,6 +1,6 @@
 use Rattle.std.proofs.Common.{◌≡◌, ◌++◌, map, drop}
 use Rattle.logos_parser.specs.Values.{definition_value}
-use Rattle.logos_graph.specs.View.{rule_of, rules_of}
+use Rattle.logos_graph.specs.View.{rule_of}
 use Rattle.logos_codegen.specs.Literals.{AreLiterals}
 use Rattle.logos_codegen.specs.Texts.{named_leaf}
 use Rattle.logos_codegen.specs.Rules.{definition_leaf, definition_rule}

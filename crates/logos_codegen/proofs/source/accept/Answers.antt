@@ -13,4 +13,4 @@ pub returns-in_err-refuse_faults-clause-err : goal.returns-in_err-refuse_faults-
 returns-in_err-refuse_faults-clause-err c =
     let p = err_from_is_err_and c.from_residual-in_err-refuse_faults.result c.from_residual-in_err-refuse_faults.ensures.1 in
     rw (p.1, p.2) (faults_refuse c.args.src.now (enum_value c.in_ok-item.item) c.in_ok-item.span c.in_ok-leaves.leaves.items c.in_ok-item.ensures.ok
-        c.in_ok-leaves.ensures.named c.in_ok-leaves.ensures.rules _ (rw c.deref.ensures.value at c.in_err-refuse_faults.ensures.err))
+    c.in_ok-leaves.ensures.named c.in_ok-leaves.ensures.rules _ (rw c.deref.ensures.value at c.in_err-refuse_faults.ensures.err))

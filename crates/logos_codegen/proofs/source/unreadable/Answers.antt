@@ -1,4 +1,3 @@
-use Rattle.std.proofs.Common.{codes}
 use Rattle.logos_codegen.proofs.RefusalLemmas.{lexical_ends, nesting_ends}
 use Rattle.logos_codegen.proofs.source.unreadable.Goals as goal
 
