@@ -162,3 +162,18 @@ fn nesting(rt: HostRuntime) -> Result<(), Fail> {
     assert_eq!(rt; refusal(rt.alloc(), text.as_str()), Some(limit));
     Ok(())
 }
+
+#[test]
+fn length_of_sources(rt: HostRuntime) -> Result<(), Fail> {
+    let mut text = String::new(rt.alloc());
+    for _ in 0..16_777_216 {
+        text.push(' ')?;
+    }
+    assert!(rt; tokenize(rt.alloc(), text.as_str()).is_ok());
+    text.push(' ')?;
+    assert_eq!(rt;
+        refusal(rt.alloc(), text.as_str()),
+        Some(TokenError::LimitSource)
+    );
+    Ok(())
+}
