@@ -1,1 +1,7 @@
+pub mod LexemeCharacters
+pub mod LexemeEnds
+pub mod LexemeOpenings
+pub mod LexemeRuns
+pub mod Lexemes
+pub mod LiteralBodies
 pub mod Tokens

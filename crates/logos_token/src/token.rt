@@ -1,5 +1,7 @@
 //! Tokens of a source text.
 
+pub mod lexeme;
+
 /// The bytes of the source from `from` up to `to`, which it leaves out.
 #[derive(Clone, Copy, Debug, PartialEq, Eq)]
 pub struct Span {
