@@ -1,0 +1,4 @@
+pub mod CharacterLaws
+pub mod RunLaws
+pub mod EndLaws
+pub mod LexemeLaws

@@ -4,9 +4,9 @@ use Rattle.std.specs.Char.{is_ascii_digit}
 use Rattle.logos_token.specs.LexemeCharacters.{past, is_space, is_continuing}
 use Rattle.logos_token.specs.LexemeRuns.{Steps, Until, Run, IsFirst, Passes}
 use Rattle.logos_token.specs.LexemeOpenings.{name_at, prefix_of}
-use Rattle.logos_token.specs.declared.token.lexeme.opening.Content.{Content}
-use Rattle.logos_token.specs.declared.token.lexeme.opening.Opening.{Opening}
-use Rattle.logos_token.specs.declared.token.lexeme.opening.Opening.TheVariants.{Space, Line, Block, Word, Number, Quotes, Raw, Apostrophes, Character, Single, Nothing}
+use Rattle.logos_token.specs.declared.token.lexeme.openings.Content.{Content}
+use Rattle.logos_token.specs.declared.token.lexeme.openings.Opening.{Opening}
+use Rattle.logos_token.specs.declared.token.lexeme.openings.Opening.TheVariants.{Space, Line, Block, Word, Number, Quotes, Raw, Apostrophes, Character, Single, Nothing}
 
 -- carriage returns, and behind them a line feed or the source's end
 pub record IsLineEnd (bytes : List ℕ) (at : ℕ) : Type 0 where
@@ -21,10 +21,10 @@ IsPair bytes at first second = (slice_index bytes at ≡ first) × (slice_index 
 
 -- so many comments are open at `at`, and the outermost one ends at `to`
 pub data Closes (bytes : List ℕ) : (depth at to : ℕ) → Type 0 where
-  closed : {at : ℕ} → Closes 0 at at
-  opens : {depth at to : ℕ} → 0 < depth → IsPair bytes at 47 42 → Closes (depth + 1) (at + 2) to → Closes depth at to
-  closes : {depth at to : ℕ} → 0 < depth → IsPair bytes at 42 47 → Closes (depth - 1) (at + 2) to → Closes depth at to
-  inside : {depth at to : ℕ} → 0 < depth → at < length bytes → (IsPair bytes at 47 42 → ⊥) → (IsPair bytes at 42 47 → ⊥) → Closes depth (at + 1) to → Closes depth at to
+  closed : {at : ℕ} → Closes bytes 0 at at
+  opens : {depth at to : ℕ} → 0 < depth → IsPair bytes at 47 42 → Closes bytes (depth + 1) (at + 2) to → Closes bytes depth at to
+  closes : {depth at to : ℕ} → 0 < depth → IsPair bytes at 42 47 → Closes bytes (depth - 1) (at + 2) to → Closes bytes depth at to
+  inside : {depth at to : ℕ} → 0 < depth → at < length bytes → (IsPair bytes at 47 42 → ⊥) → (IsPair bytes at 42 47 → ⊥) → Closes bytes depth (at + 1) to → Closes bytes depth at to
 
 -- an identifier stands here
 abbrev pub IsName : List ℕ → ℕ → ℕ → Type 0

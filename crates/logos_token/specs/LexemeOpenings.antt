@@ -1,5 +1,5 @@
 -- What opens at a place of a source text.
-use Rattle.std.specs.Prelude.{ℕ, ◌+◌, ◌==◌, ◌&&◌, ◌||◌, not, nat_le, Bool, List, drop, slice_index, Option, Some, None, is_some, unwrap_or, if◌then◌else◌}
+use Rattle.std.specs.Prelude.{ℕ, ◌+◌, ◌==◌, ◌&&◌, ◌||◌, not, nat_le, Bool, List, drop, slice_index, Option, Some, None, is_some, unwrap_or, option_map, if◌then◌else◌}
 use Rattle.std.specs.Char.{is_ascii_digit}
 use Rattle.std.specs.List.{prefix_len}
 use Rattle.logos_token.specs.LexemeCharacters.{character, past, is_space, is_start, is_mark}
@@ -8,10 +8,10 @@ use Rattle.logos_token.specs.declared.token.Spacing.TheVariants.{Alone, Joint}
 use Rattle.logos_token.specs.declared.token.Delimiter.TheVariants.{Parenthesis, Bracket, Brace}
 use Rattle.logos_token.specs.declared.token.lexeme.Kind.{Kind}
 use Rattle.logos_token.specs.declared.token.lexeme.Kind.TheVariants.{Gap, Identifier, Literal, Doc, Punctuation, Opening as OpeningKind, Closing}
-use Rattle.logos_token.specs.declared.token.lexeme.opening.Content.{Content}
-use Rattle.logos_token.specs.declared.token.lexeme.opening.Content.TheVariants.{Text, Bytes, C}
-use Rattle.logos_token.specs.declared.token.lexeme.opening.Opening.{Opening}
-use Rattle.logos_token.specs.declared.token.lexeme.opening.Opening.TheVariants.{Space, Line, Block, Word, Number, Quotes, Raw, Apostrophes, Character, Single, Nothing}
+use Rattle.logos_token.specs.declared.token.lexeme.openings.Content.{Content}
+use Rattle.logos_token.specs.declared.token.lexeme.openings.Content.TheVariants.{Text, Bytes, C}
+use Rattle.logos_token.specs.declared.token.lexeme.openings.Opening.{Opening}
+use Rattle.logos_token.specs.declared.token.lexeme.openings.Opening.TheVariants.{Space, Line, Block, Word, Number, Quotes, Raw, Apostrophes, Character, Single, Nothing}
 
 -- how many `#` stand in a row
 unfoldable pub hashes : List ℕ → ℕ → ℕ

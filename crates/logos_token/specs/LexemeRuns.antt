@@ -4,8 +4,8 @@ use Rattle.logos_token.specs.LexemeCharacters.{character, past}
 
 -- steps lead from one place to another
 pub data Steps (Step : ℕ → ℕ → Type 0) : ℕ → ℕ → Type 0 where
-  here : {at : ℕ} → Steps at at
-  step : {at mid to : ℕ} → Step at mid → Steps mid to → Steps at to
+  here : {at : ℕ} → Steps Step at at
+  step : {at mid to : ℕ} → Step at mid → Steps Step mid to → Steps Step at to
 
 -- steps lead to a place where it stops
 pub record Until (Step : ℕ → ℕ → Type 0) (Stop : ℕ → Type 0) (from to : ℕ) : Type 0 where

@@ -9,7 +9,7 @@ use Rattle.logos_token.specs.declared.token.lexeme.Kind.{Kind}
 use Rattle.logos_token.specs.declared.token.lexeme.Kind.TheVariants.{Gap, Identifier, Literal, Doc, Punctuation, Opening as OpeningKind, Closing}
 use Rattle.logos_token.specs.declared.token.lexeme.LexicalKind.{LexicalKind}
 use Rattle.logos_token.specs.declared.token.lexeme.LexicalKind.TheVariants.{BadCharacter, BadLiteral, Unterminated, Unbalanced}
-use Rattle.logos_token.specs.declared.token.lexeme.opening.Opening.TheVariants.{Nothing}
+use Rattle.logos_token.specs.declared.token.lexeme.openings.Opening.TheVariants.{Nothing}
 
 -- a literal goes on to the end of its suffix, and anything else has none
 abbrev pub IsSuffixed : List ℕ → Kind → ℕ → ℕ → Type 0

@@ -4,10 +4,10 @@ use Rattle.std.specs.Char.{is_digit, digit_value, IsScalar}
 use Rattle.std.specs.List.{list_any}
 use Rattle.logos_token.specs.LexemeRuns.{Steps, IsFirst}
 use Rattle.logos_token.specs.LexemeEnds.{body_of}
-use Rattle.logos_token.specs.declared.token.lexeme.opening.Content.{Content}
-use Rattle.logos_token.specs.declared.token.lexeme.opening.Content.TheVariants.{Text, Bytes, C}
-use Rattle.logos_token.specs.declared.token.lexeme.opening.Opening.{Opening}
-use Rattle.logos_token.specs.declared.token.lexeme.opening.Opening.TheVariants.{Quotes, Raw, Apostrophes, Character}
+use Rattle.logos_token.specs.declared.token.lexeme.openings.Content.{Content}
+use Rattle.logos_token.specs.declared.token.lexeme.openings.Content.TheVariants.{Text, Bytes, C}
+use Rattle.logos_token.specs.declared.token.lexeme.openings.Opening.{Opening}
+use Rattle.logos_token.specs.declared.token.lexeme.openings.Opening.TheVariants.{Quotes, Raw, Apostrophes, Character}
 
 -- n r t \ 0 ' " behind a backslash
 unfoldable pub is_simple : ℕ → Bool

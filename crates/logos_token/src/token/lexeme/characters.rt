@@ -34,11 +34,11 @@ pub(super) fn past(source: &str, at: usize) -> usize
 pub(super) fn is_space(c: char) -> bool
     ensures { result ≡ is_space c }
 {
-    matches!(c, '\t'..='\r')
+    (('\t' <= c) & (c <= '\r'))
         | (c == ' ')
         | (c == '\u{85}')
-        | matches!(c, '\u{200E}'..='\u{200F}')
-        | matches!(c, '\u{2028}'..='\u{2029}')
+        | (('\u{200E}' <= c) & (c <= '\u{200F}'))
+        | (('\u{2028}' <= c) & (c <= '\u{2029}'))
 }
 
 /// Whether a character can begin an identifier.
@@ -59,6 +59,9 @@ pub(super) fn is_continuing(c: char) -> bool
 pub(super) fn is_mark(c: char) -> bool
     ensures { result ≡ is_mark c }
 {
-    let code = c as u32;
-    code < 128 && b"~!@#$%^&*-=+|;:,<.>/?".contains(&(code as u8))
+    [
+        '~', '!', '@', '#', '$', '%', '^', '&', '*', '-', '=', '+', '|', ';', ':', ',', '<', '.',
+        '>', '/', '?',
+    ]
+    .contains(&c)
 }

@@ -1,0 +1,64 @@
+-- The laws of lexemes: what stands at a place ends behind it, between characters, and is one; a fault stands where none does.
+use Rattle.std.proofs.Common.{◌≡◌, ℕ, ◌<◌, ◌≤◌, List, length, IsUtf8, refl, sym, ◌∙◌, ap, subst, arith}
+use Rattle.std.specs.Str.{IsCharBoundary}
+use Rattle.logos_token.specs.LexemeOpenings.{opening_at, kind_of}
+use Rattle.logos_token.specs.Lexemes.{IsSuffixed, IsNext, IsStuck}
+use Rattle.logos_token.specs.declared.token.Span.{Span}
+use Rattle.logos_token.specs.declared.token.lexeme.Kind.{Kind}
+use Rattle.logos_token.specs.declared.token.lexeme.Kind.TheVariants.{Gap, Identifier, Literal, Doc, Punctuation, Opening, Closing}
+use Rattle.logos_token.specs.declared.token.lexeme.LexicalKind.{LexicalKind}
+use Rattle.logos_token.specs.declared.token.lexeme.LexicalKind.TheVariants.{BadCharacter, BadLiteral, Unterminated, Unbalanced}
+use Rattle.logos_token.specs.LexemeEnds.{Ends}
+use Rattle.logos_token.proofs.EndLaws.{Ends-one, Ends-after, Ends-boundary, IsSuffix-one, IsSuffix-le, IsSuffix-boundary}
+
+suffixed-le : (bytes : List ℕ) (kind : Kind) (end to : ℕ) → IsSuffixed bytes kind end to → end ≤ to
+suffixed-le bytes Literal end to p = IsSuffix-le bytes end to p
+suffixed-le bytes Gap end to p = omega arith
+suffixed-le bytes Identifier end to p = omega arith
+suffixed-le bytes Doc end to p = omega arith
+suffixed-le bytes (Punctuation spacing) end to p = omega arith
+suffixed-le bytes (Opening delimiter) end to p = omega arith
+suffixed-le bytes (Closing delimiter) end to p = omega arith
+
+suffixed-boundary : (bytes : List ℕ) (kind : Kind) (end to : ℕ) → IsUtf8 bytes → IsCharBoundary bytes end → IsSuffixed bytes kind end to → IsCharBoundary bytes to
+suffixed-boundary bytes Literal end to utf8 here p = IsSuffix-boundary bytes end utf8 here to p
+suffixed-boundary bytes Gap end to utf8 here p = rw p here
+suffixed-boundary bytes Identifier end to utf8 here p = rw p here
+suffixed-boundary bytes Doc end to utf8 here p = rw p here
+suffixed-boundary bytes (Punctuation spacing) end to utf8 here p = rw p here
+suffixed-boundary bytes (Opening delimiter) end to utf8 here p = rw p here
+suffixed-boundary bytes (Closing delimiter) end to utf8 here p = rw p here
+
+suffixed-one : (bytes : List ℕ) (kind : Kind) (end a b : ℕ) → IsSuffixed bytes kind end a → IsSuffixed bytes kind end b → a ≡ b
+suffixed-one bytes Literal end a b p q = IsSuffix-one bytes end a b p q
+suffixed-one bytes Gap end a b p q = p ∙ sym q
+suffixed-one bytes Identifier end a b p q = p ∙ sym q
+suffixed-one bytes Doc end a b p q = p ∙ sym q
+suffixed-one bytes (Punctuation spacing) end a b p q = p ∙ sym q
+suffixed-one bytes (Opening delimiter) end a b p q = p ∙ sym q
+suffixed-one bytes (Closing delimiter) end a b p q = p ∙ sym q
+
+-- what stands at a place is not empty, and stands in the source
+pub next_advances : (bytes : List ℕ) (from : ℕ) (kind : Kind) (to : ℕ) → IsNext bytes from kind to → (from < to) × (to ≤ length bytes)
+next_advances bytes from kind to n = (omega (arith, Ends-after bytes from (opening_at bytes from) n.end n.ends, suffixed-le bytes kind n.end to n.suffixed), n.within)
+
+-- and ends where a character does
+pub next_boundary : (bytes : List ℕ) (from : ℕ) (kind : Kind) (to : ℕ) → IsUtf8 bytes → IsCharBoundary bytes from → IsNext bytes from kind to → IsCharBoundary bytes to
+next_boundary bytes from kind to utf8 here n =
+    let advances = next_advances bytes from kind to n in
+    suffixed-boundary bytes kind n.end to utf8 (Ends-boundary bytes utf8 from (omega (arith, advances.0, advances.1)) here (opening_at bytes from) n.end n.ends) n.suffixed
+
+-- nothing else stands there
+pub next_one : (bytes : List ℕ) (from : ℕ) (kind other : Kind) (to end : ℕ) → IsNext bytes from kind to → IsNext bytes from other end → (kind ≡ other) × (to ≡ end)
+next_one bytes from kind other to end m n =
+    let same_kind : other ≡ kind = n.is_kind ∙ sym m.is_kind in
+    let same_end = Ends-one bytes from (opening_at bytes from) n.end m.end n.ends m.ends in
+    let suffixed : IsSuffixed bytes kind m.end end = subst (λ (e : ℕ). IsSuffixed bytes kind e end) same_end (subst (λ (k : Kind). IsSuffixed bytes k n.end end) same_kind n.suffixed) in
+    (sym same_kind, suffixed-one bytes kind m.end to end m.suffixed suffixed)
+
+-- and no fault
+pub stuck_excludes : (bytes : List ℕ) (from : ℕ) (fault : LexicalKind) (span : Span) (kind : Kind) (to : ℕ) → IsStuck bytes from fault span → IsNext bytes from kind to → ⊥
+stuck_excludes bytes from BadCharacter span kind to s n = let nothing = subst (λ opening. Ends bytes from opening n.end) s.opens n.ends in nothing
+stuck_excludes bytes from BadLiteral span kind to s n = s.broken (rw (Ends-one bytes from (opening_at bytes from) span.to n.end s.ends n.ends) n.sound)
+stuck_excludes bytes from Unterminated span kind to s n = s.endless n.end n.ends
+stuck_excludes bytes from Unbalanced span kind to s n = s
