@@ -13,7 +13,7 @@ use Rattle.logos_token.specs.LexemeEnds.{IsLineEnd, IsPair, Closes, closed, open
 use Rattle.logos_token.specs.declared.token.lexeme.openings.Content.{Content}
 use Rattle.logos_token.specs.declared.token.lexeme.openings.Opening.{Opening}
 use Rattle.logos_token.specs.declared.token.lexeme.openings.Opening.TheVariants.{Space, Line, Block, Word, Number, Quotes, Raw, Apostrophes, Character, Single, Nothing}
-use Rattle.logos_token.proofs.CharacterLaws.{past-boundary, past-ascii, past-moves, inside_from_byte, character-end}
+use Rattle.logos_token.proofs.CharacterLaws.{past-boundary, past-ascii, past-moves, inside_from_byte, character-end, boundary-behind, boundary-before}
 use Rattle.logos_token.proofs.RunLaws.{Steps-keep, Steps-le, Until-one, Run-one, IsFirst-one}
 
 -- steps have one end
@@ -270,45 +270,39 @@ Ends-after bytes from Nothing to p = absurd p
 -- and between characters
 
 module _ (bytes : List ℕ) (utf8 : IsUtf8 bytes) where
-  behind_ascii : (at to : ℕ) → 0 < get_or bytes at 0 → get_or bytes at 0 < 128 → to ≡ at + 1 → IsCharBoundary bytes to
-  behind_ascii at to low high e = rw e (IsCharBoundary-after_ascii bytes at utf8 (inside_from_byte bytes at low) high)
-
-  before_ascii : (at : ℕ) → 0 < get_or bytes at 0 → get_or bytes at 0 < 128 → IsCharBoundary bytes at
-  before_ascii at low high = IsCharBoundary-before_ascii bytes at (inside_from_byte bytes at low) high
-
   line-boundary : (to : ℕ) → IsLineEnd bytes to → IsCharBoundary bytes to
   line-boundary to p = elim (eq-or-lt_of_le p.begun) [
     inl e ↦ elim p.closes [
       inl f ↦ rw (e ∙ f) (IsCharBoundary-end bytes)
-      | inr f ↦ let g = rw (← e) at f in before_ascii to (omega arith) (omega arith)
+      | inr f ↦ let g = rw (← e) at f in boundary-before bytes to (omega arith) (omega arith)
       ]
-    | inr l ↦ let f = p.returns to (omega arith) l in before_ascii to (omega arith) (omega arith)
+    | inr l ↦ let f = p.returns to (omega arith) l in boundary-before bytes to (omega arith) (omega arith)
     ]
 
   step-boundary : (based : Bool) (at next : ℕ) → IsCharBoundary bytes at → GoesOn based bytes at next → IsCharBoundary bytes next
   step-boundary based at next bound (letter p) = rw p.moves (past-boundary bytes at utf8 bound p.inside)
-  step-boundary based at next bound (point b e d w) = behind_ascii at next (omega arith) (omega arith) w
-  step-boundary based at next bound (sign b e (inl f) d w) = behind_ascii at next (omega arith) (omega arith) w
-  step-boundary based at next bound (sign b e (inr f) d w) = behind_ascii at next (omega arith) (omega arith) w
+  step-boundary based at next bound (point b e d w) = boundary-behind bytes utf8 at next (omega arith) (omega arith) w
+  step-boundary based at next bound (sign b e (inl f) d w) = boundary-behind bytes utf8 at next (omega arith) (omega arith) w
+  step-boundary based at next bound (sign b e (inr f) d w) = boundary-behind bytes utf8 at next (omega arith) (omega arith) w
 
   quoted-boundary : (quote body to : ℕ) → 0 < quote → quote < 128 → IsQuoted quote bytes body to → IsCharBoundary bytes to
-  quoted-boundary quote body to low high p = let e = p.until.stop in behind_ascii p.quote_at to (omega arith) (omega arith) p.behind
+  quoted-boundary quote body to low high p = let e = p.until.stop in boundary-behind bytes utf8 p.quote_at to (omega arith) (omega arith) p.behind
 
   raw-boundary : (count body to : ℕ) → IsRaw count bytes body to → IsCharBoundary bytes to
   raw-boundary count body to p = elim (cases_lt 0 count) [
-    inl l ↦ let e = p.first.holds.hashes (count - 1) (omega arith) in behind_ascii (p.quote_at + 1 + (count - 1)) to (omega arith) (omega arith) (omega (arith, p.behind))
-    | inr l ↦ let e = p.first.holds.quote in behind_ascii p.quote_at to (omega arith) (omega arith) (omega (arith, p.behind))
+    inl l ↦ let e = p.first.holds.hashes (count - 1) (omega arith) in boundary-behind bytes utf8 (p.quote_at + 1 + (count - 1)) to (omega arith) (omega arith) (omega (arith, p.behind))
+    | inr l ↦ let e = p.first.holds.quote in boundary-behind bytes utf8 p.quote_at to (omega arith) (omega arith) (omega (arith, p.behind))
     ]
 
   pub Ends-boundary : (from : ℕ) → from < length bytes → IsCharBoundary bytes from → (opening : Opening) (to : ℕ) → Ends bytes from opening to → IsCharBoundary bytes to
   Ends-boundary from within bound Space to p = run-boundary is_space bytes utf8 (past bytes from) to (past-boundary bytes from utf8 bound within) p
   Ends-boundary from within bound (Line kind) to p = line-boundary to p.holds
-  Ends-boundary from within bound (Block kind) to p = let e = Closes-slash bytes 1 (from + 2) to p (omega arith) in behind_ascii (to - 1) to (omega arith) (omega arith) (omega (arith, Closes-le bytes 1 (from + 2) to p))
+  Ends-boundary from within bound (Block kind) to p = let e = Closes-slash bytes 1 (from + 2) to p (omega arith) in boundary-behind bytes utf8 (to - 1) to (omega arith) (omega arith) (omega (arith, Closes-le bytes 1 (from + 2) to p))
   Ends-boundary from within bound Word to p = IsName-boundary bytes from utf8 bound to p
   Ends-boundary from within bound Number to p = Steps-keep (GoesOn (is_based bytes from) bytes) (IsCharBoundary bytes) (step-boundary (is_based bytes from)) p.steps (past-boundary bytes from utf8 bound within)
   Ends-boundary from within bound (Quotes content) to p = quoted-boundary 34 (from + prefix_of content + 1) to (omega arith) (omega arith) p
   Ends-boundary from within bound (Raw content count) to p = raw-boundary count (from + prefix_of content + 1 + count + 1) to p
   Ends-boundary from within bound (Apostrophes content) to p = quoted-boundary 39 (from + prefix_of content + 1) to (omega arith) (omega arith) p
-  Ends-boundary from within bound Character to p = let e = p.quote in behind_ascii (past bytes (from + 1)) to (omega arith) (omega arith) p.behind
+  Ends-boundary from within bound Character to p = let e = p.quote in boundary-behind bytes utf8 (past bytes (from + 1)) to (omega arith) (omega arith) p.behind
   Ends-boundary from within bound (Single kind) to p = rw p (past-boundary bytes from utf8 bound within)
   Ends-boundary from within bound Nothing to p = absurd p

@@ -2,3 +2,4 @@ pub mod CharacterLaws
 pub mod RunLaws
 pub mod EndLaws
 pub mod LexemeLaws
+pub mod OpeningLaws

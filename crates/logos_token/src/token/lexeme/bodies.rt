@@ -10,6 +10,7 @@ use crate::token::lexeme::ends::prefix_of;
 use crate::token::lexeme::openings::{Content, Opening};
 
 /// Whether a backslash and this letter are an escape.
+#[tactic(auto, unfolding(crate::specs::LiteralBodies::is_simple))]
 fn is_simple(letter: u8) -> bool
     ensures { result ≡ is_simple letter }
 {
@@ -17,6 +18,7 @@ fn is_simple(letter: u8) -> bool
 }
 
 /// Whether a byte is blank: space, tab, LF or CR.
+#[tactic(auto, unfolding(crate::specs::LiteralBodies::is_blank))]
 fn is_blank(byte: u8) -> bool
     ensures { result ≡ is_blank byte }
 {

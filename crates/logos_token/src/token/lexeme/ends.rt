@@ -36,6 +36,7 @@ fn letters_end(source: &str, from: usize) -> usize
 }
 
 /// Whether a number that begins here starts with a base.
+#[tactic(auto, unfolding(crate::specs::LexemeEnds::is_based))]
 fn is_based(source: &str, from: usize) -> bool
     requires { from < length source.now }
     ensures { result ≡ is_based source.now from }

@@ -60,6 +60,7 @@ fn count_hashes(source: &str, from: usize) -> usize
 }
 
 /// A raw string, from behind its `r` on.
+#[tactic(auto, unfolding(crate::specs::LexemeOpenings::raw_opening))]
 fn raw_opening(content: Content, source: &str, at: usize) -> Option<Opening>
     requires { at ≤ length source.now + 2 }
     ensures { result ≡ raw_opening content source.now at }
@@ -75,6 +76,7 @@ fn raw_opening(content: Content, source: &str, at: usize) -> Option<Opening>
 }
 
 /// A string, from behind its `b` or `c` on.
+#[tactic(auto, unfolding(crate::specs::LexemeOpenings::string_opening))]
 fn string_opening(content: Content, source: &str, at: usize) -> Option<Opening>
     requires { at ≤ length source.now + 1 }
     ensures { result ≡ string_opening content source.now at }
@@ -90,6 +92,7 @@ fn string_opening(content: Content, source: &str, at: usize) -> Option<Opening>
 }
 
 /// A character literal, from behind its `'` on.
+#[tactic(auto, unfolding(crate::specs::LexemeOpenings::character_opening))]
 fn character_opening(source: &str, at: usize) -> Option<Opening>
     requires { IsCharBoundary source.now at }
     ensures { result ≡ character_opening source.now at }
@@ -105,6 +108,7 @@ fn character_opening(source: &str, at: usize) -> Option<Opening>
 }
 
 /// A literal of bytes, from behind its `b` on.
+#[tactic(auto, unfolding(crate::specs::LexemeOpenings::bytes_opening))]
 fn bytes_opening(source: &str, at: usize) -> Option<Opening>
     requires { at ≤ length source.now }
     ensures { result ≡ bytes_opening source.now at }
@@ -116,6 +120,7 @@ fn bytes_opening(source: &str, at: usize) -> Option<Opening>
 }
 
 /// A literal.
+#[tactic(auto, unfolding(crate::specs::LexemeOpenings::literal_opening))]
 fn literal_opening(source: &str, at: usize) -> Option<Opening>
     requires inside { at < length source.now }
     requires boundary { IsCharBoundary source.now at }
@@ -138,6 +143,7 @@ fn literal_opening(source: &str, at: usize) -> Option<Opening>
 }
 
 /// What a line comment is, from behind its `//` on.
+#[tactic(auto, unfolding(crate::specs::LexemeOpenings::line_kind))]
 fn line_kind(source: &str, at: usize) -> Kind
     requires { at ≤ length source.now + 2 }
     ensures { result ≡ line_kind source.now at }
@@ -152,6 +158,7 @@ fn line_kind(source: &str, at: usize) -> Kind
 }
 
 /// What a block comment is, from behind its `/*` on.
+#[tactic(auto, unfolding(crate::specs::LexemeOpenings::block_kind))]
 fn block_kind(source: &str, at: usize) -> Kind
     requires { at ≤ length source.now + 2 }
     ensures { result ≡ block_kind source.now at }
@@ -166,6 +173,7 @@ fn block_kind(source: &str, at: usize) -> Kind
 }
 
 /// A comment.
+#[tactic(auto, unfolding(crate::specs::LexemeOpenings::comment_opening))]
 fn comment_opening(source: &str, at: usize) -> Option<Opening>
     requires { at ≤ length source.now }
     ensures { result ≡ comment_opening source.now at }
@@ -184,6 +192,7 @@ fn comment_opening(source: &str, at: usize) -> Option<Opening>
 }
 
 /// Where the name of an identifier begins, if one stands here: behind its `r#`, or at once.
+#[tactic(auto, unfolding(crate::specs::LexemeOpenings::name_at))]
 pub(super) fn name_at(source: &str, at: usize) -> Option<usize>
     requires { IsCharBoundary source.now at }
     ensures value { result ≡ name_at source.now at }
@@ -201,6 +210,7 @@ pub(super) fn name_at(source: &str, at: usize) -> Option<usize>
 }
 
 /// Whether a punctuation is joint that ends here.
+#[tactic(auto, unfolding(crate::specs::LexemeOpenings::spacing))]
 fn spacing(source: &str, at: usize) -> Spacing
     requires { IsCharBoundary source.now at }
     ensures { result ≡ spacing source.now at }
@@ -216,6 +226,7 @@ fn spacing(source: &str, at: usize) -> Spacing
 }
 
 /// What a delimiter is.
+#[tactic(auto, unfolding(crate::specs::LexemeOpenings::delimiter_kind))]
 fn delimiter_kind(c: char) -> Option<Kind>
     ensures { result ≡ delimiter_kind c }
 {
@@ -241,6 +252,7 @@ fn delimiter_kind(c: char) -> Option<Kind>
 }
 
 /// What a lexeme of one character is.
+#[tactic(auto, unfolding(crate::specs::LexemeOpenings::single_kind))]
 fn single_kind(source: &str, at: usize) -> Option<Kind>
     requires inside { at < length source.now }
     requires boundary { IsCharBoundary source.now at }
@@ -261,6 +273,7 @@ fn single_kind(source: &str, at: usize) -> Option<Kind>
 }
 
 /// What opens where no literal and no comment does.
+#[tactic(auto, unfolding(crate::specs::LexemeOpenings::other_opening))]
 fn other_opening(source: &str, at: usize) -> Opening
     requires inside { at < length source.now }
     requires boundary { IsCharBoundary source.now at }
@@ -280,6 +293,7 @@ fn other_opening(source: &str, at: usize) -> Opening
 
 /// What opens at a place: a literal wherever one opens, else a comment, else what the character
 /// can begin.
+#[tactic(auto, unfolding(crate::specs::LexemeOpenings::opening_at))]
 pub(super) fn opening_at(source: &str, at: usize) -> Opening
     requires inside { at < length source.now }
     requires boundary { IsCharBoundary source.now at }
