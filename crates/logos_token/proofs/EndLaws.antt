@@ -9,12 +9,12 @@ use Rattle.unicode_ident.proofs.IdentLemmas.{is_xid_start-ascii}
 use Rattle.logos_token.specs.LexemeCharacters.{character, past, is_space, is_start, is_continuing}
 use Rattle.logos_token.specs.LexemeRuns.{Steps, here, step, Until, IsLast, Run, IsFirst, Passes}
 use Rattle.logos_token.specs.LexemeOpenings.{name_at, prefix_of}
-use Rattle.logos_token.specs.LexemeEnds.{IsLineEnd, IsPair, Closes, closed, opens, closes, inside, IsName, IsSuffix, is_based, GoesOn, letter, point, sign, InQuotes, escaped, plain, IsQuoted, IsRawEnd, IsRaw, IsCharacter, Ends}
+use Rattle.logos_token.specs.LexemeEnds.{IsLineEnd, IsPair, IsOnward, Closes, closed, opens, closes, inside, IsName, IsSuffix, is_based, GoesOn, letter, point, sign, InQuotes, escaped, plain, ReachesQuote, IsQuoted, IsRawEnd, IsRaw, IsCharacter, Ends}
 use Rattle.logos_token.specs.declared.token.lexeme.openings.Content.{Content}
 use Rattle.logos_token.specs.declared.token.lexeme.openings.Opening.{Opening}
 use Rattle.logos_token.specs.declared.token.lexeme.openings.Opening.TheVariants.{Space, Line, Block, Word, Number, Quotes, Raw, Apostrophes, Character, Single, Nothing}
 use Rattle.logos_token.proofs.CharacterLaws.{past-boundary, past-ascii, past-moves, inside_from_byte, character-end, boundary-behind, boundary-before}
-use Rattle.logos_token.proofs.RunLaws.{Steps-keep, Steps-le, Until-one, Run-one, IsFirst-one}
+use Rattle.logos_token.proofs.RunLaws.{Steps-keep, Steps-le, Until-one, Until-back, Until-step, Run-one, IsFirst-one}
 
 -- steps have one end
 
@@ -59,6 +59,28 @@ module _ (quote : ℕ) (bytes : List ℕ) where
   InQuotes-moves at next (escaped e v) = omega arith
   InQuotes-moves at next (plain i e f v) = omega arith
 
+  quote-inside : 0 < quote → (at : ℕ) → get_or bytes at 0 ≡ quote → at < length bytes
+  quote-inside visible at e = inside_from_byte bytes at (omega arith)
+
+  -- from a place with another byte the same quote is reached behind it
+  pub quote-on : (at next to : ℕ) → InQuotes quote bytes at next → ReachesQuote quote bytes next to → ReachesQuote quote bytes at to
+  quote-on at next to s u = Until-step (InQuotes quote bytes) s u
+
+  pub quote-back : quote ≢ 92 → (at next to : ℕ) → InQuotes quote bytes at next → ReachesQuote quote bytes at to → ReachesQuote quote bytes next to
+  quote-back other at next to s u = Until-back (InQuotes quote bytes) InQuotes-one (λ i. get_or bytes i 0 ≡ quote) (InQuotes-apart other) s u
+
+  pub quote-here : (at : ℕ) → get_or bytes at 0 ≡ quote → ReachesQuote quote bytes at at
+  quote-here at e = record { steps = here; stop = e }
+
+  -- and none at the end
+  past_end : 0 < quote → (at to : ℕ) → Steps (InQuotes quote bytes) at to → get_or bytes to 0 ≡ quote → at < length bytes
+  past_end visible at to here e = quote-inside visible at e
+  past_end visible at to (step (escaped f v) r) e = inside_from_byte bytes at (omega arith)
+  past_end visible at to (step (plain i f g v) r) e = i
+
+  pub no_quote : 0 < quote → (at to : ℕ) → length bytes ≤ at → ReachesQuote quote bytes at to → ⊥
+  no_quote visible at to end u = let l = past_end visible at to u.steps u.stop in omega arith
+
   pub IsQuoted-one : quote ≢ 92 → (body a b : ℕ) → IsQuoted quote bytes body a → IsQuoted quote bytes body b → a ≡ b
   IsQuoted-one other body a b p q = p.behind ∙ ap (λ n. n + 1) (Until-one (InQuotes quote bytes) InQuotes-one (λ at. get_or bytes at 0 ≡ quote) (InQuotes-apart other) p.until q.until) ∙ sym q.behind
 
@@ -102,6 +124,59 @@ module _ (bytes : List ℕ) where
     inl l ↦ Closes-slash _ _ _ q l
     | inr l ↦ let k : to - 1 ≡ at + 1 = omega (arith, no-more _ _ _ q (omega arith)) in rw k p.1
     ]
+
+  -- each step into, inside and out of comments leads on to the same end
+  back-opens : (depth at to : ℕ) → IsPair bytes at 47 42 → 0 < depth → Closes bytes depth at to → Closes bytes (depth + 1) (at + 2) to
+  back-opens depth at to p h closed = absurd (omega arith)
+  back-opens depth at to p h (opens i q r) = r
+  back-opens depth at to p h (closes i q r) = absurd (let e = p.0 in let f = q.0 in omega arith)
+  back-opens depth at to p h (inside i j f g r) = absurd (f p)
+
+  back-closes : (depth at to : ℕ) → IsPair bytes at 42 47 → 0 < depth → Closes bytes depth at to → Closes bytes (depth - 1) (at + 2) to
+  back-closes depth at to p h closed = absurd (omega arith)
+  back-closes depth at to p h (opens i q r) = absurd (let e = p.0 in let f = q.0 in omega arith)
+  back-closes depth at to p h (closes i q r) = r
+  back-closes depth at to p h (inside i j f g r) = absurd (g p)
+
+  back-inside : (depth at to : ℕ) → (IsPair bytes at 47 42 → ⊥) → (IsPair bytes at 42 47 → ⊥) → 0 < depth → Closes bytes depth at to → Closes bytes depth (at + 1) to
+  back-inside depth at to f g h closed = absurd (omega arith)
+  back-inside depth at to f g h (opens i q r) = absurd (f q)
+  back-inside depth at to f g h (closes i q r) = absurd (g q)
+  back-inside depth at to f g h (inside i j k l r) = r
+
+  pub onward-opens : (depth at : ℕ) → 0 < depth → depth ≤ at + 1 → IsPair bytes at 47 42 → IsOnward bytes depth at (depth + 1) (at + 2)
+  onward-opens depth at h shallow p = record {
+    moves = omega arith;
+    within = let e = p.1 in omega (arith, inside_from_byte bytes (at + 1) (omega arith));
+    shallow = omega arith;
+    on = λ to q. opens h p q;
+    back = λ to q. back-opens depth at to p h q;
+  }
+
+  pub onward-closes : (depth at : ℕ) → 0 < depth → depth ≤ at + 1 → IsPair bytes at 42 47 → IsOnward bytes depth at (depth - 1) (at + 2)
+  onward-closes depth at h shallow p = record {
+    moves = omega arith;
+    within = let e = p.1 in omega (arith, inside_from_byte bytes (at + 1) (omega arith));
+    shallow = omega arith;
+    on = λ to q. closes h p q;
+    back = λ to q. back-closes depth at to p h q;
+  }
+
+  pub onward-inside : (depth at : ℕ) → 0 < depth → depth ≤ at + 1 → at < length bytes → (IsPair bytes at 47 42 → ⊥) → (IsPair bytes at 42 47 → ⊥) → IsOnward bytes depth at depth (at + 1)
+  onward-inside depth at h shallow within f g = record {
+    moves = omega arith;
+    within = omega arith;
+    shallow = omega arith;
+    on = λ to q. inside h within f g q;
+    back = λ to q. back-inside depth at to f g h q;
+  }
+
+  pub closed_at : (depth at : ℕ) → depth ≤ 0 → Closes bytes depth at at
+  closed_at depth at h = let e : depth ≡ 0 = omega arith in rw e closed
+
+  pub no_pair : (at first second : ℕ) → ((get_or bytes at 0 ≡ first) × (get_or bytes (at + 1) 0 ≡ second → ⊥)) ⊎ (get_or bytes at 0 ≡ first → ⊥) → IsPair bytes at first second → ⊥
+  no_pair at first second (inl (e, f)) p = f p.1
+  no_pair at first second (inr f) p = f p.0
 
 -- where an identifier begins there is a character
 is_start-nothing : is_start 0 ≡ false
@@ -279,7 +354,7 @@ module _ (bytes : List ℕ) (utf8 : IsUtf8 bytes) where
     | inr l ↦ let f = p.returns to (omega arith) l in boundary-before bytes to (omega arith) (omega arith)
     ]
 
-  step-boundary : (based : Bool) (at next : ℕ) → IsCharBoundary bytes at → GoesOn based bytes at next → IsCharBoundary bytes next
+  pub step-boundary : (based : Bool) (at next : ℕ) → IsCharBoundary bytes at → GoesOn based bytes at next → IsCharBoundary bytes next
   step-boundary based at next bound (letter p) = rw p.moves (past-boundary bytes at utf8 bound p.inside)
   step-boundary based at next bound (point b e d w) = boundary-behind bytes utf8 at next (omega arith) (omega arith) w
   step-boundary based at next bound (sign b e (inl f) d w) = boundary-behind bytes utf8 at next (omega arith) (omega arith) w

@@ -8,6 +8,9 @@ module _ (Step : ℕ → ℕ → Type 0) where
   Steps-join here t = t
   Steps-join (step s r) t = step s (Steps-join r t)
 
+  pub Steps-push : {a b c : ℕ} → Steps Step a b → Step b c → Steps Step a c
+  Steps-push r s = Steps-join r (step s here)
+
   -- what steps keep
   pub Steps-keep : (P : ℕ → Type 0) → ((at next : ℕ) → P at → Step at next → P next) → {a b : ℕ} → Steps Step a b → P a → P b
   Steps-keep P keep here p = p

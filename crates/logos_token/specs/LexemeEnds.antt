@@ -26,6 +26,14 @@ pub data Closes (bytes : List ℕ) : (depth at to : ℕ) → Type 0 where
   closes : {depth at to : ℕ} → 0 < depth → IsPair bytes at 42 47 → Closes bytes (depth - 1) (at + 2) to → Closes bytes depth at to
   inside : {depth at to : ℕ} → 0 < depth → at < length bytes → (IsPair bytes at 47 42 → ⊥) → (IsPair bytes at 42 47 → ⊥) → Closes bytes depth (at + 1) to → Closes bytes depth at to
 
+-- from another place, with as many comments open as are open there, the outermost one ends where it does from here
+pub record IsOnward (bytes : List ℕ) (depth at next_depth next : ℕ) : Type 0 where
+  pub moves : at < next
+  pub within : next ≤ length bytes
+  pub shallow : next_depth ≤ next + 1
+  pub on : (to : ℕ) → Closes bytes next_depth next to → Closes bytes depth at to
+  pub back : (to : ℕ) → Closes bytes depth at to → Closes bytes next_depth next to
+
 -- an identifier stands here
 abbrev pub IsName : List ℕ → ℕ → ℕ → Type 0
 IsName bytes at to = MatchOption (name_at bytes at) ⊥ (λ name. Run (Passes is_continuing bytes) (past bytes name) to)
@@ -51,10 +59,14 @@ pub data InQuotes (quote : ℕ) (bytes : List ℕ) (at next : ℕ) : Type 0 wher
   escaped : slice_index bytes at ≡ 92 → next ≡ at + 2 → InQuotes quote bytes at next
   plain : at < length bytes → slice_index bytes at ≢ 92 → slice_index bytes at ≢ quote → next ≡ at + 1 → InQuotes quote bytes at next
 
+-- the next unescaped quote
+abbrev pub ReachesQuote : ℕ → List ℕ → ℕ → ℕ → Type 0
+ReachesQuote quote bytes from at = Until (InQuotes quote bytes) (λ i. slice_index bytes i ≡ quote) from at
+
 -- up to the next unescaped quote, and behind it
 pub record IsQuoted (quote : ℕ) (bytes : List ℕ) (body to : ℕ) : Type 0 where
   pub quote_at : ℕ
-  pub until : Until (InQuotes quote bytes) (λ at. slice_index bytes at ≡ quote) body quote_at
+  pub until : ReachesQuote quote bytes body quote_at
   pub behind : to ≡ quote_at + 1
 
 -- a quote with so many `#` behind it

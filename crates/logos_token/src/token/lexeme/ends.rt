@@ -1,11 +1,11 @@
 //! Where what opens at a place ends.
 
-ghost use Rattle.std.specs.Prelude.{◌≡◌, ◌≢◌, ℕ, ◌+◌, ◌-◌, ◌<◌, ◌≤◌, length, slice_index, MatchOption, IfSome};
+ghost use Rattle.std.specs.Prelude.{◌≡◌, ◌≢◌, ℕ, ◌+◌, ◌-◌, ◌<◌, ◌≤◌, ◌↔◌, length, slice_index, MatchOption, IsTrue};
 ghost use Rattle.std.specs.Str.{IsCharBoundary};
 ghost use Rattle.logos_token.specs.LexemeCharacters.{past, is_space, is_continuing};
-ghost use Rattle.logos_token.specs.LexemeRuns.{Until, Run, IsFirst, Passes};
+ghost use Rattle.logos_token.specs.LexemeRuns.{Run, IsFirst, Passes};
 ghost use Rattle.logos_token.specs.LexemeOpenings.{opening_at, prefix_of};
-ghost use Rattle.logos_token.specs.LexemeEnds.{IsLineEnd, Closes, IsName, IsSuffix, is_based, GoesOn, InQuotes, IsRawEnd, IsQuoted, IsRaw, IsCharacter, Ends};
+ghost use Rattle.logos_token.specs.LexemeEnds.{IsLineEnd, Closes, IsOnward, IsName, IsSuffix, is_based, GoesOn, ReachesQuote, IsRawEnd, IsQuoted, IsRaw, Ends};
 
 use crate::token::lexeme::characters::{byte_at, char_at, is_continuing, is_space, past};
 use crate::token::lexeme::openings::{Content, Opening, name_at};
@@ -111,9 +111,32 @@ fn line_end(source: &str, from: usize) -> usize
     end
 }
 
+/// One step inside block comments: how many are open behind it, and where; `None` at the end.
+fn block_step(source: &str, depth: usize, at: usize) -> Option<(usize, usize)>
+    requires open { 0 < depth }
+    requires shallow { depth ≤ at + 1 }
+    requires near { at ≤ length source.now + 2 }
+    ensures { MatchOption result
+        ((to : ℕ) → Closes source.now depth at to → ⊥)
+        (λ next. IsOnward source.now depth at next.0 next.1) }
+{
+    let first = byte_at(source, at);
+    let second = byte_at(source, at + 1);
+    if first == b'/' && second == b'*' {
+        return Some((depth + 1, at + 2));
+    }
+    if first == b'*' && second == b'/' {
+        return Some((depth - 1, at + 2));
+    }
+    if at >= source.len() {
+        return None;
+    }
+    Some((depth, at + 1))
+}
+
 /// Where a block comment ends, from behind its `/*` on.
 fn block_end(source: &str, from: usize) -> Option<usize>
-    requires { from ≤ length source.now }
+    requires { from ≤ length source.now + 2 }
     ensures { MatchOption result ((to : ℕ) → Closes source.now 1 from to → ⊥) (Closes source.now 1 from) }
 {
     let mut depth = 1;
@@ -126,30 +149,21 @@ fn block_end(source: &str, from: usize) -> Option<usize>
     Some(at)
 }
 
-/// One step inside block comments: how many are open then, and where.
-fn block_step(source: &str, depth: usize, at: usize) -> Option<(usize, usize)>
-    requires { depth ≤ at }
+/// How many bytes a byte inside quotes takes with what it escapes.
+fn width_of(byte: u8) -> usize
+    ensures escaped { byte ≡ 92 → result ≡ 2 }
+    ensures plain { byte ≢ 92 → result ≡ 1 }
 {
-    let first = byte_at(source, at);
-    let second = byte_at(source, at + 1);
-    if first == b'/' && second == b'*' {
-        return Some((depth + 1, at + 2));
-    }
-    if first == b'*' && second == b'/' {
-        return Some((depth - 1, at + 2));
-    }
-    if at < source.len() {
-        return Some((depth, at + 1));
-    }
-    None
+    if byte == b'\\' { 2 } else { 1 }
 }
 
 /// The next quote that is not escaped.
 fn quote_at(source: &str, quote: u8, from: usize) -> Option<usize>
-    requires { quote ≢ 92 }
+    requires visible { 0 < quote }
+    requires no_backslash { quote ≢ 92 }
     ensures { MatchOption result
-        ((to : ℕ) → Until (InQuotes quote source.now) (λ at. slice_index source.now at ≡ quote) from to → ⊥)
-        (Until (InQuotes quote source.now) (λ at. slice_index source.now at ≡ quote) from) }
+        ((to : ℕ) → ReachesQuote quote source.now from to → ⊥)
+        (λ to. (to < length source.now) × ReachesQuote quote source.now from to) }
 {
     let mut at = from;
     while at < source.len() {
@@ -157,14 +171,15 @@ fn quote_at(source: &str, quote: u8, from: usize) -> Option<usize>
         if byte == quote {
             return Some(at);
         }
-        at += if byte == b'\\' { 2 } else { 1 };
+        at += width_of(byte);
     }
     None
 }
 
 /// Where a literal ends that ends with an unescaped quote.
 fn quoted_end(source: &str, quote: u8, body: usize) -> Option<usize>
-    requires { quote ≢ 92 }
+    requires visible { 0 < quote }
+    requires no_backslash { quote ≢ 92 }
     ensures { MatchOption result
         ((to : ℕ) → IsQuoted quote source.now body to → ⊥)
         (IsQuoted quote source.now body) }
@@ -174,7 +189,10 @@ fn quoted_end(source: &str, quote: u8, body: usize) -> Option<usize>
 }
 
 /// Whether a quote with so many `#` behind it stands here.
-fn is_raw_end(source: &str, count: u8, at: usize) -> bool {
+fn is_raw_end(source: &str, count: u8, at: usize) -> bool
+    requires { at < length source.now }
+    ensures { IsTrue result ↔ IsRawEnd count source.now at }
+{
     if byte_at(source, at) != b'"' {
         return false;
     }
