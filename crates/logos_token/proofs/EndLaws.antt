@@ -326,7 +326,7 @@ Ends-one bytes from Nothing a b p q = absurd p
 
 -- and behind the place
 
-IsQuoted-after : (quote : ℕ) (bytes : List ℕ) (body to : ℕ) → IsQuoted quote bytes body to → body < to
+pub IsQuoted-after : (quote : ℕ) (bytes : List ℕ) (body to : ℕ) → IsQuoted quote bytes body to → body < to
 IsQuoted-after quote bytes body to p = omega (arith, p.behind, Steps-le (InQuotes quote bytes) (InQuotes-moves quote bytes) p.until.steps)
 
 pub Ends-after : (bytes : List ℕ) (from : ℕ) (opening : Opening) (to : ℕ) → Ends bytes from opening to → from < to

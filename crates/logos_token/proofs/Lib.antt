@@ -3,3 +3,4 @@ pub mod RunLaws
 pub mod EndLaws
 pub mod LexemeLaws
 pub mod OpeningLaws
+pub mod BodyLaws

@@ -20,6 +20,11 @@ module _ (Step : ℕ → ℕ → Type 0) where
   Steps-le moves here = omega arith
   Steps-le moves (step {at} {mid} s r) = omega (arith, moves at mid s, Steps-le moves r)
 
+  -- from a last place steps lead nowhere else
+  pub Steps-last : {at to : ℕ} → IsLast Step at → Steps Step at to → at ≡ to
+  Steps-last last here = refl
+  Steps-last {at} last (step {mid = mid} s r) = absurd (last mid s)
+
   -- a place has at most one next
   abbrev pub IsFunction : Type 0
   IsFunction = (at m n : ℕ) → Step at m → Step at n → m ≡ n
@@ -29,6 +34,9 @@ module _ (Step : ℕ → ℕ → Type 0) where
     pub Steps-back : {at next to : ℕ} → Step at next → Steps Step at to → (at ≡ to) ⊎ Steps Step next to
     Steps-back s here = inl refl
     Steps-back {at} {next} {to} s (step {mid = mid} s' r) = inr (subst (λ m. Steps Step m to) (one at mid next s' s) r)
+
+    pub Steps-on : {at next to : ℕ} → Step at next → at < to → Steps Step at to → Steps Step next to
+    Steps-on {at} {next} {to} s ahead r = elim (Steps-back s r) [ inl e ↦ absurd (omega arith) | inr t ↦ t ]
 
     module _ (Stop : ℕ → Type 0) (apart : (at next : ℕ) → Stop at → Step at next → ⊥) where
       stops-once : {a b c : ℕ} → Steps Step a b → Stop b → Steps Step a c → Stop c → b ≡ c

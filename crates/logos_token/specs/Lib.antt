@@ -4,4 +4,5 @@ pub mod LexemeOpenings
 pub mod LexemeRuns
 pub mod Lexemes
 pub mod LiteralBodies
+pub mod LiteralReads
 pub mod Tokens
