@@ -38,6 +38,16 @@ suffixed-one bytes (Punctuation spacing) end a b p q = p ∙ sym q
 suffixed-one bytes (Opening delimiter) end a b p q = p ∙ sym q
 suffixed-one bytes (Closing delimiter) end a b p q = p ∙ sym q
 
+-- what is no literal has no suffix
+pub no_suffix : (bytes : List ℕ) (kind : Kind) (end : ℕ) → (kind ≡ Literal → ⊥) → IsSuffixed bytes kind end end
+no_suffix bytes Literal end other = absurd (other refl)
+no_suffix bytes Gap end other = refl
+no_suffix bytes Identifier end other = refl
+no_suffix bytes Doc end other = refl
+no_suffix bytes (Punctuation spacing) end other = refl
+no_suffix bytes (Opening delimiter) end other = refl
+no_suffix bytes (Closing delimiter) end other = refl
+
 -- what stands at a place is not empty, and stands in the source
 pub next_advances : (bytes : List ℕ) (from : ℕ) (kind : Kind) (to : ℕ) → IsNext bytes from kind to → (from < to) × (to ≤ length bytes)
 next_advances bytes from kind to n = (omega (arith, Ends-after bytes from (opening_at bytes from) n.end n.ends, suffixed-le bytes kind n.end to n.suffixed), n.within)
