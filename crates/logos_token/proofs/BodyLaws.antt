@@ -17,9 +17,9 @@ use Rattle.logos_token.proofs.RunLaws.{IsFirst-one}
 -- a hexadecimal digit is inside
 pub hex-inside : (bytes : List ℕ) (at : ℕ) → is_hex (get_or bytes at 0) ≡ true → at < length bytes
 hex-inside bytes at h = elim (cases_lt 0 (get_or bytes at 0)) [
-  inl l ↦ inside_from_byte bytes at l
+  | inl l ↦ inside_from_byte bytes at l
   | inr l ↦ let e : get_or bytes at 0 ≡ 0 = omega arith in absurd (false≢true (sym (ap is_hex e) ∙ h))
-  ]
+]
 
 -- a brace is no digit
 no_digit : (byte : ℕ) → byte ≡ 125 → (is_hex byte || (byte == 95)) ≡ true → ⊥
@@ -28,10 +28,10 @@ no_digit byte e h = false≢true (ap (λ b. is_hex b || (b == 95)) (sym e) ∙ h
 module _ (bytes : List ℕ) (at : ℕ) where
   pub brace-one : (a b : ℕ) → IsUnicodeEscape bytes at a → IsUnicodeEscape bytes at b → a ≡ b
   brace-one a b u v = elim (cases_order a b) [
-    inl e ↦ e
+    | inl e ↦ e
     | inr (inl l) ↦ absurd (no_digit (get_or bytes a 0) u.closes (v.digits a u.begun l))
     | inr (inr l) ↦ absurd (no_digit (get_or bytes b 0) v.closes (u.digits b v.begun l))
-    ]
+  ]
 
   -- an escape by its letter
 
@@ -200,9 +200,9 @@ module _ (bytes : List ℕ) (from at : ℕ) (le : from ≤ at) (l : at < length 
 
   digits-grow : length (digits_between bytes from at) ≤ length (digits_between bytes from (at + 1))
   digits-grow = elim (cases_Bool (is_hex (get_or bytes at 0))) [
-    inl e ↦ omega (arith, ap length (digits-digit e), length_push (digits_between bytes from at) (get_or bytes at 0))
+    | inl e ↦ omega (arith, ap length (digits-digit e), length_push (digits_between bytes from at) (get_or bytes at 0))
     | inr e ↦ omega (arith, ap length (digits-other e))
-    ]
+  ]
 
 pub HasRead-none : (bytes : List ℕ) (from : ℕ) → HasRead (digits_between bytes from from) 0 0
 HasRead-none bytes from =
@@ -248,14 +248,15 @@ pub hex-decided : (content : Content) (bytes : List ℕ) (at : ℕ) → get_or b
 hex-decided content bytes at backslash letter x y first second greatest e f hx ex hy ey eg =
     let one : is_hex (get_or bytes (at + 2) 0) ≡ true = ap is_hex (sym e) ∙ hx in
     let two : is_hex (get_or bytes (at + 3) 0) ≡ true = ap is_hex (sym f) ∙ hy in
-    let sum : first * 16 + second ≡ digit_value (get_or bytes (at + 2) 0) * 16 + digit_value (get_or bytes (at + 3) 0) = omega (arith, ex, ey, ap digit_value e, ap digit_value f) in
-    (λ t. IsHexEscape-from bytes at one two content backslash letter (omega (arith, leb-true (first * 16 + second) greatest t, eg, sum)),
-     λ h. le-leb (first * 16 + second) greatest (omega (arith, IsHexEscape-small bytes at one two content h, eg, sum)))
+    let sum : first * 16 + second ≡ digit_value (get_or bytes (at + 2) 0) * 16 + digit_value (get_or bytes (at + 3) 0) = omega (arith, ex, ey, ap digit_value e, ap digit_value f) in (
+      λ t. IsHexEscape-from bytes at one two content backslash letter (omega (arith, leb-true (first * 16 + second) greatest t, eg, sum)),
+      λ h. le-leb (first * 16 + second) greatest (omega (arith, IsHexEscape-small bytes at one two content h, eg, sum)),
+    )
 
 -- where digits end that no brace follows, no brace follows digits
 pub no_brace : (bytes : List ℕ) (at end : ℕ) → IsFirst (λ i. (is_hex (get_or bytes i 0) || (get_or bytes i 0 == 95)) ≡ false) (at + 3) end → get_or bytes end 0 ≢ 125 → (brace : ℕ) → IsUnicodeEscape bytes at brace → ⊥
 no_brace bytes at end f other brace u = elim (cases_order end brace) [
-  inl e ↦ other (rw e u.closes)
+  | inl e ↦ other (rw e u.closes)
   | inr (inl l) ↦ false≢true (sym f.holds ∙ u.digits end f.begun l)
   | inr (inr l) ↦ f.first brace u.begun l (rw u.closes refl)
-  ]
+]

@@ -38,9 +38,9 @@ head-ascii b bytes h = let e = lt-ltb b 128 h in rw e (head-after b bytes)
 pub character-ascii : (bytes : List ℕ) (at : ℕ) → get_or bytes at 0 < 128 → character bytes at ≡ get_or bytes at 0
 unfolding character
 character-ascii bytes at h = elim (cases_lt at (length bytes)) [
-  inl l ↦ rw (drop-cons bytes at 0) (head-ascii (get_or bytes at 0) (drop (suc at) bytes) h)
+  | inl l ↦ rw (drop-cons bytes at 0) (head-ascii (get_or bytes at 0) (drop (suc at) bytes) h)
   | inr l ↦ rw (drop_all at bytes l, get_or_past bytes at 0 l, chars-nil) refl
-  ]
+]
 
 pub past-ascii : (bytes : List ℕ) (at : ℕ) → get_or bytes at 0 < 128 → past bytes at ≡ at + 1
 past-ascii bytes at h = rw (character-ascii bytes at h) (ap (λ n. at + n) (len_utf8_ascii (get_or bytes at 0) h))

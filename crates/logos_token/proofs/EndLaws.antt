@@ -121,9 +121,9 @@ module _ (bytes : List ℕ) where
   Closes-slash depth at to (opens h p q) _ = Closes-slash _ _ _ q (omega arith)
   Closes-slash depth at to (inside h i f g q) _ = Closes-slash _ _ _ q h
   Closes-slash depth at to (closes h p q) _ = elim (cases_lt 0 (depth - 1)) [
-    inl l ↦ Closes-slash _ _ _ q l
+    | inl l ↦ Closes-slash _ _ _ q l
     | inr l ↦ let k : to - 1 ≡ at + 1 = omega (arith, no-more _ _ _ q (omega arith)) in rw k p.1
-    ]
+  ]
 
   -- each step into, inside and out of comments leads on to the same end
   back-opens : (depth at to : ℕ) → IsPair bytes at 47 42 → 0 < depth → Closes bytes depth at to → Closes bytes (depth + 1) (at + 2) to
@@ -185,9 +185,9 @@ is_start-nothing = rw (is_xid_start-ascii 0 (omega arith)) refl
 
 starts_inside : (bytes : List ℕ) (at : ℕ) → is_start (character bytes at) ≡ true → at < length bytes
 starts_inside bytes at e = elim (cases_lt at (length bytes)) [
-  inl l ↦ l
+  | inl l ↦ l
   | inr l ↦ absurd (false≢true (sym is_start-nothing ∙ ap is_start (sym (character-end bytes at l)) ∙ e))
-  ]
+]
 
 -- what is known of the place where the name of an identifier begins
 pub record IsNameStart (bytes : List ℕ) (at name : ℕ) : Type 0 where
@@ -214,9 +214,9 @@ raw-start bytes at e =
 pub name_at-start : (bytes : List ℕ) (at name : ℕ) → name_at bytes at ≡ Some name → IsNameStart bytes at name
 unfolding name_at
 name_at-start bytes at name e = elim (name_cases _ _ (at + 2) at name e) [
-  inl (t, k) ↦ rw k (raw-start bytes at t)
+  | inl (t, k) ↦ rw k (raw-start bytes at t)
   | inr (t, k) ↦ rw k (record { behind = omega arith; begins = starts_inside bytes at t; boundary = λ utf8 bound. bound })
-  ]
+]
 
 -- an identifier
 
@@ -347,12 +347,12 @@ Ends-after bytes from Nothing to p = absurd p
 module _ (bytes : List ℕ) (utf8 : IsUtf8 bytes) where
   line-boundary : (to : ℕ) → IsLineEnd bytes to → IsCharBoundary bytes to
   line-boundary to p = elim (eq-or-lt_of_le p.begun) [
-    inl e ↦ elim p.closes [
-      inl f ↦ rw (e ∙ f) (IsCharBoundary-end bytes)
+    | inl e ↦ elim p.closes [
+      | inl f ↦ rw (e ∙ f) (IsCharBoundary-end bytes)
       | inr f ↦ let g = rw (← e) at f in boundary-before bytes to (omega arith) (omega arith)
-      ]
-    | inr l ↦ let f = p.returns to (omega arith) l in boundary-before bytes to (omega arith) (omega arith)
     ]
+    | inr l ↦ let f = p.returns to (omega arith) l in boundary-before bytes to (omega arith) (omega arith)
+  ]
 
   pub step-boundary : (based : Bool) (at next : ℕ) → IsCharBoundary bytes at → GoesOn based bytes at next → IsCharBoundary bytes next
   step-boundary based at next bound (letter p) = rw p.moves (past-boundary bytes at utf8 bound p.inside)
@@ -365,9 +365,9 @@ module _ (bytes : List ℕ) (utf8 : IsUtf8 bytes) where
 
   raw-boundary : (count body to : ℕ) → IsRaw count bytes body to → IsCharBoundary bytes to
   raw-boundary count body to p = elim (cases_lt 0 count) [
-    inl l ↦ let e = p.first.holds.hashes (count - 1) (omega arith) in boundary-behind bytes utf8 (p.quote_at + 1 + (count - 1)) to (omega arith) (omega arith) (omega (arith, p.behind))
+    | inl l ↦ let e = p.first.holds.hashes (count - 1) (omega arith) in boundary-behind bytes utf8 (p.quote_at + 1 + (count - 1)) to (omega arith) (omega arith) (omega (arith, p.behind))
     | inr l ↦ let e = p.first.holds.quote in boundary-behind bytes utf8 p.quote_at to (omega arith) (omega arith) (omega (arith, p.behind))
-    ]
+  ]
 
   pub Ends-boundary : (from : ℕ) → from < length bytes → IsCharBoundary bytes from → (opening : Opening) (to : ℕ) → Ends bytes from opening to → IsCharBoundary bytes to
   Ends-boundary from within bound Space to p = run-boundary is_space bytes utf8 (past bytes from) to (past-boundary bytes from utf8 bound within) p

@@ -20,22 +20,22 @@ module _ (bytes : List ℕ) (from : ℕ) where
   at_least n all =
       let m = prefix_len (λ c. c == 35) (drop from bytes) in
       elim (cases_lt m n) [
-        inr l ↦ l
+        | inr l ↦ l
         | inl l ↦
-          let here = all m l in
-          let inside = inside_from_byte bytes (from + m) (omega arith) in
-          let stops = prefix_len_stops (λ c. c == 35) (drop from bytes) 0 (omega (arith, length-drop from bytes)) in
-          let goes = eq-eqb (get_or bytes (from + m) 0) 35 here in
-          absurd (false≢true (sym stops ∙ ap (λ c. c == 35) (get_or-drop from bytes m 0) ∙ goes))
-        ]
+            let here = all m l in
+            let inside = inside_from_byte bytes (from + m) (omega arith) in
+            let stops = prefix_len_stops (λ c. c == 35) (drop from bytes) 0 (omega (arith, length-drop from bytes)) in
+            let goes = eq-eqb (get_or bytes (from + m) 0) 35 here in
+            absurd (false≢true (sym stops ∙ ap (λ c. c == 35) (get_or-drop from bytes m 0) ∙ goes))
+      ]
 
   -- and no further one, where another byte stands
   at_most : (n : ℕ) → get_or bytes (from + n) 0 ≢ 35 → hashes bytes from ≤ n
   unfolding hashes
   at_most n other = elim (cases_lt n (prefix_len (λ c. c == 35) (drop from bytes))) [
-    inr l ↦ l
+    | inr l ↦ l
     | inl l ↦ absurd (other (eqb-true (get_or bytes (from + n) 0) 35 (ap (λ c. c == 35) (sym (get_or-drop from bytes n 0)) ∙ prefix_len_passes (λ c. c == 35) (drop from bytes) n 0 l)))
-    ]
+  ]
 
   pub hashes_counted : (n : ℕ) → n ≤ 256 → ((k : ℕ) → k < n → get_or bytes (from + k) 0 ≡ 35) → get_or bytes (from + n) 0 ≢ 35 → n ≡ min 256 (hashes bytes from)
   hashes_counted n few all other = omega (arith, at_least n all, at_most n other)
@@ -74,7 +74,7 @@ module _ (P : Opening → Type 0) (bytes : List ℕ) where
   bytes-gives quotes raw escaped at = cond_both (get_or bytes at 0 == 39) _ _ (Gives P) (λ _. escaped Bytes) (λ _. string-gives quotes raw Bytes at)
 
   literal-gives : (at : ℕ) → P Number → ((content : Content) → P (Quotes content)) → ((content : Content) (count : ℕ) → P (Raw content count)) → ((content : Content) → P (Apostrophes content)) →
-    (get_or bytes at 0 ≡ 39 → get_or bytes (past bytes (at + 1)) 0 ≡ 39 → P Character) → Gives P (literal_opening bytes at)
+      (get_or bytes at 0 ≡ 39 → get_or bytes (past bytes (at + 1)) 0 ≡ 39 → P Character) → Gives P (literal_opening bytes at)
   unfolding literal_opening
   literal-gives at number quotes raw escaped character =
       cond_both (is_ascii_digit (get_or bytes at 0)) _ _ (Gives P) (λ _. number) (λ _.
@@ -98,9 +98,9 @@ module _ (P : Opening → Type 0) (bytes : List ℕ) where
       single-or P single nothing (single_kind bytes at)))
 
   opening-gives : (at : ℕ) → P Number → ((content : Content) → P (Quotes content)) → ((content : Content) (count : ℕ) → P (Raw content count)) → ((content : Content) → P (Apostrophes content)) →
-    (get_or bytes at 0 ≡ 39 → get_or bytes (past bytes (at + 1)) 0 ≡ 39 → P Character) →
-    ((kind : Kind) → get_or bytes (at + 1) 0 ≡ 47 → P (Line kind)) → ((kind : Kind) → P (Block kind)) →
-    P Space → P Word → ((kind : Kind) → P (Single kind)) → P Nothing → P (opening_at bytes at)
+      (get_or bytes at 0 ≡ 39 → get_or bytes (past bytes (at + 1)) 0 ≡ 39 → P Character) →
+      ((kind : Kind) → get_or bytes (at + 1) 0 ≡ 47 → P (Line kind)) → ((kind : Kind) → P (Block kind)) →
+      P Space → P Word → ((kind : Kind) → P (Single kind)) → P Nothing → P (opening_at bytes at)
   unfolding opening_at
   opening-gives at number quotes raw escaped character line block space word single nothing =
       gives-or P (literal_opening bytes at) _ (literal-gives at number quotes raw escaped character)

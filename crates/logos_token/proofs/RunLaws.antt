@@ -50,9 +50,9 @@ module _ (Step : ℕ → ℕ → Type 0) where
 
       pub Until-back : {at next to : ℕ} → Step at next → Until Step Stop at to → Until Step Stop next to
       Until-back {at} {next} {to} s u = elim (Steps-back s u.steps) [
-        inl e ↦ absurd (apart at next (subst Stop (sym e) u.stop) s)
+        | inl e ↦ absurd (apart at next (subst Stop (sym e) u.stop) s)
         | inr r ↦ record { steps = r; stop = u.stop }
-        ]
+      ]
 
     pub Run-one : {a b c : ℕ} → Run Step a b → Run Step a c → b ≡ c
     Run-one u v = Until-one (IsLast Step) (λ at next p s. p next s) u v
@@ -62,7 +62,7 @@ module _ (Step : ℕ → ℕ → Type 0) where
 
 pub IsFirst-one : {P : ℕ → Type 0} {from a b : ℕ} → IsFirst P from a → IsFirst P from b → a ≡ b
 IsFirst-one {P} {from} {a} {b} u v = elim (cases_order a b) [
-  inl e ↦ e
+  | inl e ↦ e
   | inr (inl l) ↦ absurd (v.first a u.begun l u.holds)
   | inr (inr l) ↦ absurd (u.first b v.begun l v.holds)
-  ]
+]

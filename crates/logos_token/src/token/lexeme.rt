@@ -11,7 +11,6 @@ mod bodies;
 mod characters;
 mod ends;
 mod openings;
-
 #[cfg(test)]
 mod tests;
 

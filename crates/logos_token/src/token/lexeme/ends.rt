@@ -269,7 +269,11 @@ pub(super) fn end_of(source: &str, from: usize, opens: Opening) -> Option<usize>
         }
         Opening::Quotes(content) => quoted_end(source, b'"', from + prefix_of(content) + 1),
         Opening::Raw(content, count) => {
-            raw_end(source, count, from + prefix_of(content) + 2 + count as usize)
+            raw_end(
+                source,
+                count,
+                from + prefix_of(content) + 2 + count as usize,
+            )
         }
         Opening::Apostrophes(content) => quoted_end(source, b'\'', from + prefix_of(content) + 1),
         Opening::Character => Some(past(source, from + 1) + 1),

@@ -37,7 +37,11 @@ fn stops<R: Abort>(rt: &R, source: &str, from: usize, kind: LexicalKind, to: usi
 
 #[test]
 fn white_space(rt: HostRuntime) {
-    whole(&rt, "\t\n\u{B}\u{C}\r \u{85}\u{200E}\u{200F}\u{2028}\u{2029}", Kind::Gap);
+    whole(
+        &rt,
+        "\t\n\u{B}\u{C}\r \u{85}\u{200E}\u{200F}\u{2028}\u{2029}",
+        Kind::Gap,
+    );
     reads(&rt, "a  b", 1, Kind::Gap, 3);
     reads(&rt, " // x", 0, Kind::Gap, 1);
     whole(&rt, "\u{FEFF}", Kind::Gap);
@@ -116,7 +120,13 @@ fn lifetimes(rt: HostRuntime) {
     reads(&rt, "'_", 0, Kind::Punctuation(Spacing::Joint), 1);
     reads(&rt, "'r#a", 0, Kind::Punctuation(Spacing::Joint), 1);
     reads(&rt, "'ab'", 0, Kind::Punctuation(Spacing::Joint), 1);
-    reads(&rt, "'\u{E9}t\u{E9}", 0, Kind::Punctuation(Spacing::Joint), 1);
+    reads(
+        &rt,
+        "'\u{E9}t\u{E9}",
+        0,
+        Kind::Punctuation(Spacing::Joint),
+        1,
+    );
     stops(&rt, "'", 0, LexicalKind::BadCharacter, 1);
     stops(&rt, "''", 0, LexicalKind::BadCharacter, 1);
     stops(&rt, "''x", 0, LexicalKind::BadCharacter, 1);
@@ -319,7 +329,13 @@ fn punctuation(rt: HostRuntime) {
     let joint = Kind::Punctuation(Spacing::Joint);
     let alone = Kind::Punctuation(Spacing::Alone);
     for mark in "~!@#$%^&*-=+|;:,<.>/?".char_indices() {
-        reads(&rt, "~!@#$%^&*-=+|;:,<.>/? ", mark.0, if mark.1 == '?' { alone } else { joint }, mark.0 + 1);
+        reads(
+            &rt,
+            "~!@#$%^&*-=+|;:,<.>/? ",
+            mark.0,
+            if mark.1 == '?' { alone } else { joint },
+            mark.0 + 1,
+        );
     }
     reads(&rt, "::a", 0, joint, 1);
     reads(&rt, "::a", 1, alone, 2);

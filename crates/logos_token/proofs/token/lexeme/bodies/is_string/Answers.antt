@@ -9,7 +9,7 @@ use Rattle.logos_token.proofs.token.lexeme.bodies.is_string.Goals as goal
 pub returns-in_default : goal.returns-in_default
 returns-in_default c = (
   λ e. absurd (false≢true e),
-  λ s. absurd (let e = Steps-last (IsStringPiece c.args.content c.args.source.now) c.in_default.ensures (c.loop-at.invariant.back s) in let l = c.loop-at-test.true in omega arith)
+  λ s. absurd (let e = Steps-last (IsStringPiece c.args.content c.args.source.now) c.in_default.ensures (c.loop-at.invariant.back s) in let l = c.loop-at-test.true in omega arith),
 )
 
 pub loop-at-preserved : goal.loop-at-preserved
@@ -21,5 +21,5 @@ loop-at-preserved c = record {
 pub returns : goal.returns
 returns c = (
   λ e. c.loop-at.invariant.on (subst (λ to. Steps (IsStringPiece c.args.content c.args.source.now) c.loop-at.at to) (eqb-true c.loop-at.at c.args.to e) here),
-  λ s. eq-eqb c.loop-at.at c.args.to (let l = Steps-le (IsStringPiece c.args.content c.args.source.now) (string-moves c.args.content c.args.source.now) (c.loop-at.invariant.back s) in let m = c.loop-at-test.false in omega arith)
+  λ s. eq-eqb c.loop-at.at c.args.to (let l = Steps-le (IsStringPiece c.args.content c.args.source.now) (string-moves c.args.content c.args.source.now) (c.loop-at.invariant.back s) in let m = c.loop-at-test.false in omega arith),
 )

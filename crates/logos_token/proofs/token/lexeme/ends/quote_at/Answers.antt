@@ -11,9 +11,9 @@ stepped : (c : goal.After-width_of-at) → InQuotes c.args.quote c.args.source.n
 stepped c =
     let e = c.byte_at-byte.ensures in
     elim (cases_eq c.byte_at-byte.result 92) [
-      inl f ↦ escaped (sym e ∙ f) (ap (λ (n : ℕ). c.loop-at.at + n) (c.width_of-at.ensures.escaped f))
+      | inl f ↦ escaped (sym e ∙ f) (ap (λ (n : ℕ). c.loop-at.at + n) (c.width_of-at.ensures.escaped f))
       | inr f ↦ plain c.loop-at-test.true (λ g. f (e ∙ g)) (λ g. c.if-byte-quote.false (e ∙ g)) (ap (λ (n : ℕ). c.loop-at.at + n) (c.width_of-at.ensures.plain f))
-      ]
+    ]
 
 pub loop-at-preserved : goal.loop-at-preserved
 loop-at-preserved c = record {
