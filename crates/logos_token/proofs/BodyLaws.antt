@@ -1,5 +1,5 @@
 -- Pieces of literals: each is one, and the digits that are read in them.
-use Rattle.std.proofs.Common.{◌≡◌, ◌≢◌, ℕ, suc, zero, ◌+◌, ◌-◌, ◌*◌, ◌^◌, ◌<◌, ◌≤◌, ◌==◌, ◌||◌, ◌⊎◌, inl, inr, Bool, true, false, leb, Option, Some, None, MatchOption, List, [], ◌∷◌, ◌++◌, length, get_or, slice_range, filter, cond, fold, refl, sym, ◌∙◌, ap, subst, arith, add-one, add-zero}
+use Rattle.std.proofs.Common.{◌≡◌, ◌≢◌, ℕ, suc, zero, ◌+◌, ◌-◌, ◌*◌, ◌^◌, ◌<◌, ◌≤◌, ◌==◌, ◌||◌, inl, inr, Bool, true, false, leb, Option, Some, None, MatchOption, List, [], ◌∷◌, ◌++◌, length, get_or, slice_range, filter, cond, refl, sym, ◌∙◌, ap, arith, add-one, add-zero}
 use Rattle.std.proofs.lemmas.Bool.{cases_lt, cases_order, cases_Bool, false≢true, ltb-true, leb-true, le-leb}
 use Rattle.std.proofs.lemmas.List.{length_push, append-nil}
 use Rattle.std.proofs.lemmas.List.Edits.{between_more, between_none}
@@ -7,8 +7,8 @@ use Rattle.std.proofs.lemmas.List.Elements.{filter-append}
 use Rattle.std.proofs.lemmas.List.Sums.{fold_push}
 use Rattle.std.proofs.Math.Nat.{pow-succ'}
 use Rattle.std.specs.Char.{digit_value}
-use Rattle.logos_token.specs.LexemeRuns.{Steps, here, step, IsFirst}
-use Rattle.logos_token.specs.LiteralBodies.{is_simple, is_hex, hex_value, greatest_of, digits_between, is_blank, BreaksLine, IsHexEscape, IsUnicodeEscape, IsEscape, simple, hex, unicode, IsContinuation, IsAllowed, IsReturn, IsStringPiece, plain, return, escape, continuation, IsRawPiece, plain as raw-plain, return as raw-return, IsCharacterPiece, plain as character-plain, escape as character-escape}
+use Rattle.logos_token.specs.LexemeRuns.{IsFirst}
+use Rattle.logos_token.specs.LiteralBodies.{is_simple, is_hex, hex_value, greatest_of, digits_between, BreaksLine, IsHexEscape, IsUnicodeEscape, IsEscape, simple, hex, unicode, IsStringPiece, plain, return, escape, continuation, IsRawPiece, IsCharacterPiece}
 use Rattle.logos_token.specs.LiteralReads.{HasRead, ReadsByte}
 use Rattle.logos_token.specs.declared.token.lexeme.openings.Content.{Content}
 use Rattle.logos_token.proofs.CharacterLaws.{inside_from_byte}

@@ -1,11 +1,10 @@
 -- Characters at places of a text, and the places behind them.
-use Rattle.std.proofs.Common.{◌≡◌, ℕ, ◌+◌, ◌<◌, ◌≤◌, List, [], ◌∷◌, ◌++◌, length, length-drop, get_or, drop, refl, sym, ◌∙◌, ap, arith, true, inl, inr, suc, IsUtf8, chars, encode_utf8}
+use Rattle.std.proofs.Common.{◌≡◌, ℕ, ◌+◌, ◌<◌, ◌≤◌, List, [], ◌∷◌, ◌++◌, length, length-drop, get_or, drop, refl, sym, ap, arith, inl, inr, suc, IsUtf8, encode_utf8}
 use Rattle.std.proofs.lemmas.Str.{IsUtf8-drop, IsCharBoundary-past_char, IsCharBoundary-after_ascii, IsCharBoundary-before_ascii, chars_past_char, chars-nil, len_utf8_ascii, len_utf8_bounds}
 use Rattle.std.specs.Str.{IsCharBoundary, encode_utf8_all, chars as chars_of, chars_after}
 use Rattle.std.proofs.Math.Seq.{drop-cons}
 use Rattle.std.proofs.lemmas.List.{drop_all, get_or_past}
 use Rattle.std.proofs.lemmas.Bool.{cases_lt, lt-ltb}
-use Rattle.std.specs.Char.{len_utf8}
 use Rattle.logos_token.specs.LexemeCharacters.{character, past}
 
 from_codes : (cs bytes : List ℕ) → encode_utf8_all cs ≡ bytes → 0 < length bytes → (c : ℕ) × (rest : List ℕ) × (bytes ≡ encode_utf8 c ++ rest)

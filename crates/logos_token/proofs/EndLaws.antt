@@ -1,16 +1,14 @@
 -- What opens at a place ends behind it, between characters, and at one place alone.
-use Rattle.std.proofs.Common.{◌≡◌, ◌≢◌, ℕ, suc, zero, ◌+◌, ◌-◌, ◌<◌, ◌≤◌, ◌⊎◌, inl, inr, Bool, true, false, cond, ◌&&◌, nat_eq, List, length, get_or, Option, Some, None, IsUtf8, MatchOption, refl, sym, ◌∙◌, ap, subst, arith}
-use Rattle.std.proofs.lemmas.Bool.{cases_lt, and_parts, eqb-true, cases_Bool, false≢true}
-use Rattle.std.proofs.lemmas.Str.{IsCharBoundary-end, IsCharBoundary-before_ascii, IsCharBoundary-after_ascii}
+use Rattle.std.proofs.Common.{◌≡◌, ◌≢◌, ℕ, ◌+◌, ◌-◌, ◌<◌, ◌≤◌, ◌⊎◌, inl, inr, Bool, true, false, cond, ◌&&◌, nat_eq, List, length, get_or, Option, Some, None, IsUtf8, MatchOption, refl, sym, ◌∙◌, ap, arith}
+use Rattle.std.proofs.lemmas.Bool.{cases_lt, and_parts, eqb-true, false≢true}
+use Rattle.std.proofs.lemmas.Str.{IsCharBoundary-end, IsCharBoundary-after_ascii}
 use Rattle.std.proofs.Math.Nat.{eq-or-lt_of_le}
 use Rattle.std.specs.Str.{IsCharBoundary}
-use Rattle.std.specs.Char.{is_ascii_alphabetic}
 use Rattle.unicode_ident.proofs.IdentLemmas.{is_xid_start-ascii}
 use Rattle.logos_token.specs.LexemeCharacters.{character, past, is_space, is_start, is_continuing}
-use Rattle.logos_token.specs.LexemeRuns.{Steps, here, step, Until, IsLast, Run, IsFirst, Passes}
+use Rattle.logos_token.specs.LexemeRuns.{Steps, here, step, Run, IsFirst, Passes}
 use Rattle.logos_token.specs.LexemeOpenings.{name_at, prefix_of}
-use Rattle.logos_token.specs.LexemeEnds.{IsLineEnd, IsPair, IsOnward, Closes, closed, opens, closes, inside, IsName, IsSuffix, is_based, GoesOn, letter, point, sign, InQuotes, escaped, plain, ReachesQuote, IsQuoted, IsRawEnd, IsRaw, IsCharacter, Ends}
-use Rattle.logos_token.specs.declared.token.lexeme.openings.Content.{Content}
+use Rattle.logos_token.specs.LexemeEnds.{IsLineEnd, IsPair, IsOnward, Closes, closed, opens, closes, inside, IsName, IsSuffix, is_based, GoesOn, letter, point, sign, InQuotes, escaped, plain, ReachesQuote, IsQuoted, IsRaw, IsCharacter, Ends}
 use Rattle.logos_token.specs.declared.token.lexeme.openings.Opening.{Opening}
 use Rattle.logos_token.specs.declared.token.lexeme.openings.Opening.TheVariants.{Space, Line, Block, Word, Number, Quotes, Raw, Apostrophes, Character, Single, Nothing}
 use Rattle.logos_token.proofs.CharacterLaws.{past-boundary, past-ascii, past-moves, inside_from_byte, character-end, boundary-behind, boundary-before}

@@ -1,7 +1,7 @@
 -- The laws of lexemes: what stands at a place ends behind it, between characters, and is one; a fault stands where none does.
-use Rattle.std.proofs.Common.{◌≡◌, ℕ, ◌<◌, ◌≤◌, List, length, IsUtf8, refl, sym, ◌∙◌, ap, subst, arith}
+use Rattle.std.proofs.Common.{◌≡◌, ℕ, ◌<◌, ◌≤◌, List, length, IsUtf8, refl, sym, ◌∙◌, subst, arith}
 use Rattle.std.specs.Str.{IsCharBoundary}
-use Rattle.logos_token.specs.LexemeOpenings.{opening_at, kind_of}
+use Rattle.logos_token.specs.LexemeOpenings.{opening_at}
 use Rattle.logos_token.specs.Lexemes.{IsSuffixed, IsNext, IsStuck}
 use Rattle.logos_token.specs.declared.token.Span.{Span}
 use Rattle.logos_token.specs.declared.token.lexeme.Kind.{Kind}

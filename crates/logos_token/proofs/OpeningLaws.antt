@@ -1,7 +1,7 @@
 -- What opens at a place, by cases.
-use Rattle.std.proofs.Common.{◌≡◌, ◌≢◌, ℕ, ◌+◌, ◌-◌, ◌<◌, ◌≤◌, ◌==◌, ◌&&◌, nat_le, not, min, Bool, true, false, inl, inr, Option, Some, None, unwrap_or, option_map, is_some, MatchOption, List, length, get_or, drop, get_or-drop, length-drop, refl, sym, ◌∙◌, ap, arith}
+use Rattle.std.proofs.Common.{◌≡◌, ◌≢◌, ℕ, ◌+◌, ◌<◌, ◌≤◌, ◌==◌, ◌&&◌, nat_le, not, min, inl, inr, Option, Some, None, unwrap_or, option_map, is_some, MatchOption, List, length, get_or, drop, get_or-drop, length-drop, sym, ◌∙◌, ap, arith}
 use Rattle.std.specs.List.{prefix_len}
-use Rattle.std.proofs.lemmas.Bool.{cases_lt, eqb-true, eq-eqb, false≢true, cond_both, not-false}
+use Rattle.std.proofs.lemmas.Bool.{cases_lt, eqb-true, eq-eqb, false≢true, cond_both}
 use Rattle.std.proofs.lemmas.List.Sums.{prefix_len_passes, prefix_len_stops}
 use Rattle.std.specs.Char.{is_ascii_digit}
 use Rattle.logos_token.specs.LexemeCharacters.{character, past, is_space}
@@ -11,7 +11,7 @@ use Rattle.logos_token.specs.declared.token.lexeme.openings.Content.{Content}
 use Rattle.logos_token.specs.declared.token.lexeme.openings.Content.TheVariants.{Text, Bytes, C}
 use Rattle.logos_token.specs.declared.token.lexeme.openings.Opening.{Opening}
 use Rattle.logos_token.specs.declared.token.lexeme.openings.Opening.TheVariants.{Space, Line, Block, Word, Number, Quotes, Raw, Apostrophes, Character, Single, Nothing}
-use Rattle.logos_token.proofs.CharacterLaws.{inside_from_byte, past-moves}
+use Rattle.logos_token.proofs.CharacterLaws.{inside_from_byte}
 
 module _ (bytes : List ℕ) (from : ℕ) where
   -- places that hold `#` are counted

@@ -1,5 +1,5 @@
 -- The characters of a source text, and what each can be part of.
-use Rattle.std.specs.Prelude.{ℕ, ◌+◌, ◌==◌, ◌||◌, Bool, List, length, drop, slice_index, chars, codes}
+use Rattle.std.specs.Prelude.{ℕ, ◌+◌, ◌==◌, ◌||◌, Bool, List, drop, slice_index, chars, codes}
 use Rattle.std.specs.Char.{len_utf8}
 use Rattle.std.specs.Int.{is_in_range}
 use Rattle.std.specs.List.{list_any}

@@ -2,9 +2,8 @@
 use Rattle.std.specs.Prelude.{◌≡◌, ◌≢◌, ℕ, ◌+◌, ◌-◌, ◌<◌, ◌≤◌, ◌==◌, ◌&&◌, ◌||◌, ◌⊎◌, Bool, false, List, length, slice_index, IsTrue, MatchOption}
 use Rattle.std.specs.Char.{is_ascii_digit}
 use Rattle.logos_token.specs.LexemeCharacters.{past, is_space, is_continuing}
-use Rattle.logos_token.specs.LexemeRuns.{Steps, Until, Run, IsFirst, Passes}
+use Rattle.logos_token.specs.LexemeRuns.{Until, Run, IsFirst, Passes}
 use Rattle.logos_token.specs.LexemeOpenings.{name_at, prefix_of}
-use Rattle.logos_token.specs.declared.token.lexeme.openings.Content.{Content}
 use Rattle.logos_token.specs.declared.token.lexeme.openings.Opening.{Opening}
 use Rattle.logos_token.specs.declared.token.lexeme.openings.Opening.TheVariants.{Space, Line, Block, Word, Number, Quotes, Raw, Apostrophes, Character, Single, Nothing}
 

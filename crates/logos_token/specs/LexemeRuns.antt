@@ -1,5 +1,5 @@
 -- Places that are found by going on from a place.
-use Rattle.std.specs.Prelude.{◌≡◌, ℕ, ◌+◌, ◌<◌, ◌≤◌, List, length, slice_index, IsTrue, Bool}
+use Rattle.std.specs.Prelude.{◌≡◌, ℕ, ◌<◌, ◌≤◌, List, length, IsTrue, Bool}
 use Rattle.logos_token.specs.LexemeCharacters.{character, past}
 
 -- steps lead from one place to another

@@ -6,7 +6,7 @@ use Rattle.logos_token.specs.LexemeEnds.{Ends, IsSuffix}
 use Rattle.logos_token.specs.LiteralBodies.{IsSound}
 use Rattle.logos_token.specs.declared.token.Span.{Span}
 use Rattle.logos_token.specs.declared.token.lexeme.Kind.{Kind}
-use Rattle.logos_token.specs.declared.token.lexeme.Kind.TheVariants.{Gap, Identifier, Literal, Doc, Punctuation, Opening as OpeningKind, Closing}
+use Rattle.logos_token.specs.declared.token.lexeme.Kind.TheVariants.{Literal}
 use Rattle.logos_token.specs.declared.token.lexeme.LexicalKind.{LexicalKind}
 use Rattle.logos_token.specs.declared.token.lexeme.LexicalKind.TheVariants.{BadCharacter, BadLiteral, Unterminated, Unbalanced}
 use Rattle.logos_token.specs.declared.token.lexeme.openings.Opening.TheVariants.{Nothing}

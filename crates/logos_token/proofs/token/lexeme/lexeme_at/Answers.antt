@@ -1,4 +1,4 @@
-use Rattle.std.proofs.Common.{refl, sym, ◌∙◌, ap}
+use Rattle.std.proofs.Common.{refl, ◌∙◌, ap}
 use Rattle.std.specs.Str.{IsCharBoundary}
 use Rattle.logos_token.specs.LexemeOpenings.{kind_of}
 use Rattle.logos_token.proofs.EndLaws.{Ends-boundary}

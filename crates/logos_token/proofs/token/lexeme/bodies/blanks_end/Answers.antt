@@ -1,4 +1,4 @@
-use Rattle.std.proofs.Common.{◌≡◌, false, get_or, refl, ap, ◌∙◌}
+use Rattle.std.proofs.Common.{◌≡◌, false, refl, ap, ◌∙◌}
 use Rattle.std.proofs.lemmas.List.{get_or_past}
 use Rattle.logos_token.specs.LiteralBodies.{is_blank}
 use Rattle.logos_token.proofs.token.lexeme.bodies.blanks_end.Goals as goal

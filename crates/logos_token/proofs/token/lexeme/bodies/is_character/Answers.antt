@@ -1,4 +1,4 @@
-use Rattle.std.proofs.Common.{refl, ap, subst}
+use Rattle.std.proofs.Common.{subst}
 use Rattle.std.proofs.lemmas.Bool.{eqb-true, eq-eqb, false≢true}
 use Rattle.logos_token.specs.LiteralBodies.{IsCharacterPiece}
 use Rattle.logos_token.proofs.BodyLaws.{character-one}

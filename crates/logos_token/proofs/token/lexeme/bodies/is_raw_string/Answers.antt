@@ -1,4 +1,4 @@
-use Rattle.std.proofs.Common.{◌≡◌, refl, sym, subst, arith}
+use Rattle.std.proofs.Common.{subst, arith}
 use Rattle.std.proofs.lemmas.Bool.{eqb-true, eq-eqb, false≢true}
 use Rattle.logos_token.specs.LexemeRuns.{Steps, here, step}
 use Rattle.logos_token.specs.LiteralBodies.{IsRawPiece}

@@ -1,7 +1,6 @@
-use Rattle.std.proofs.Common.{◌≡◌, ◌+◌, ◌-◌, arith, sym, ◌∙◌, ap}
+use Rattle.std.proofs.Common.{◌+◌, arith}
 use Rattle.logos_token.specs.LexemeOpenings.{prefix_of}
 use Rattle.logos_token.specs.LexemeEnds.{IsQuoted}
-use Rattle.logos_token.specs.declared.token.lexeme.openings.Opening.TheVariants.{Apostrophes}
 use Rattle.logos_token.proofs.EndLaws.{IsQuoted-after}
 use Rattle.logos_token.proofs.token.lexeme.bodies.is_sound.Goals as goal
 

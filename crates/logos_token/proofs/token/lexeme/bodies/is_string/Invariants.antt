@@ -1,4 +1,4 @@
-use Rattle.std.proofs.Common.{◌-◌, ◌≤◌}
+use Rattle.std.proofs.Common.{◌-◌}
 use Rattle.logos_token.specs.LexemeRuns.{Steps}
 use Rattle.logos_token.specs.LiteralBodies.{IsStringPiece}
 use Rattle.logos_token.proofs.token.lexeme.bodies.is_string.Given as goal

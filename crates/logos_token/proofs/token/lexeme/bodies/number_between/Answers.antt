@@ -1,5 +1,5 @@
 use Rattle.std.proofs.Common.{arith}
-use Rattle.logos_token.proofs.BodyLaws.{HasRead-none, HasRead-more, too_many}
+use Rattle.logos_token.proofs.BodyLaws.{HasRead-more, too_many}
 use Rattle.logos_token.proofs.token.lexeme.bodies.number_between.Goals as goal
 
 pub returns-in_err-digits : goal.returns-in_err-digits

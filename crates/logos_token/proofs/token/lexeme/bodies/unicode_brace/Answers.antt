@@ -1,4 +1,4 @@
-use Rattle.std.proofs.Common.{sym, ◌∙◌}
+use Rattle.std.proofs.Common.{◌∙◌}
 use Rattle.logos_token.proofs.BodyLaws.{no_brace}
 use Rattle.logos_token.proofs.token.lexeme.bodies.unicode_brace.Goals as goal
 

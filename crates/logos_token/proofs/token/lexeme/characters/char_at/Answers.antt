@@ -1,4 +1,4 @@
-use Rattle.std.proofs.Common.{sym, ◌∙◌, ap, chars, drop, length, slice_index}
+use Rattle.std.proofs.Common.{◌∙◌, chars, drop}
 use Rattle.std.proofs.lemmas.Option.{unwrap_or-slice_get}
 use Rattle.logos_token.specs.LexemeCharacters.{character}
 use Rattle.logos_token.proofs.token.lexeme.characters.char_at.Goals as goal

@@ -1,4 +1,4 @@
-use Rattle.std.proofs.Common.{◌≡◌, ◌+◌, ◌<◌, get_or, length, refl, sym, ◌∙◌, ap, arith}
+use Rattle.std.proofs.Common.{◌≡◌, ◌+◌, get_or, refl, sym, ◌∙◌, ap, arith}
 use Rattle.logos_token.specs.LexemeCharacters.{past}
 use Rattle.logos_token.proofs.CharacterLaws.{boundary-behind, inside_from_byte, past-moves}
 use Rattle.logos_token.proofs.OpeningLaws.{line_fits, is_between}

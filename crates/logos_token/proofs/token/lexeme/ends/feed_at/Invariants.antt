@@ -1,4 +1,4 @@
-use Rattle.std.proofs.Common.{◌≡◌, ◌≢◌, ℕ, ◌-◌, ◌<◌, ◌≤◌, length, get_or}
+use Rattle.std.proofs.Common.{◌≢◌, ℕ, ◌-◌, ◌<◌, ◌≤◌, length, get_or}
 use Rattle.logos_token.proofs.token.lexeme.ends.feed_at.Given as goal
 
 abbrev pub invariant-loop-at : goal.invariant-loop-at

@@ -1,4 +1,4 @@
-use Rattle.std.proofs.Common.{◌≡◌, ◌+◌, ℕ, get_or, sym, ◌∙◌, ap, inl, inr, arith}
+use Rattle.std.proofs.Common.{◌+◌, ℕ, sym, ◌∙◌, ap, inl, inr}
 use Rattle.std.proofs.lemmas.Bool.{cases_eq}
 use Rattle.logos_token.specs.LexemeEnds.{InQuotes, escaped, plain}
 use Rattle.logos_token.proofs.EndLaws.{quote-on, quote-back, quote-here, no_quote}

@@ -1,4 +1,4 @@
-use Rattle.std.proofs.Common.{sym, ◌∙◌}
+use Rattle.std.proofs.Common.{◌∙◌}
 use Rattle.logos_token.proofs.OpeningLaws.{hashes_counted, hashes_full}
 use Rattle.logos_token.proofs.token.lexeme.openings.count_hashes.Goals as goal
 

@@ -1,4 +1,4 @@
-use Rattle.std.proofs.Common.{◌≡◌, ◌+◌, sym, ◌∙◌, refl, arith, slice_index}
+use Rattle.std.proofs.Common.{◌≡◌, ◌+◌, sym, ◌∙◌, arith, slice_index}
 use Rattle.logos_token.proofs.CharacterLaws.{boundary-behind}
 use Rattle.logos_token.proofs.token.lexeme.openings.name_at.Goals as goal
 
