@@ -2,7 +2,7 @@
 use Rattle.std.proofs.Common.{◌≡◌, ℕ, ◌<◌, ◌≤◌, List, length, IsUtf8, refl, sym, ◌∙◌, subst, arith}
 use Rattle.std.specs.Str.{IsCharBoundary}
 use Rattle.logos_token.specs.LexemeOpenings.{opening_at}
-use Rattle.logos_token.specs.Lexemes.{IsSuffixed, IsNext, IsStuck}
+use Rattle.logos_token.specs.Lexemes.{IsSuffixed, IsNext, IsFaulty, IsStuck}
 use Rattle.logos_token.specs.declared.token.Span.{Span}
 use Rattle.logos_token.specs.declared.token.lexeme.Kind.{Kind}
 use Rattle.logos_token.specs.declared.token.lexeme.Kind.TheVariants.{Gap, Identifier, Literal, Doc, Punctuation, Opening, Closing}
@@ -49,26 +49,29 @@ no_suffix bytes (Opening delimiter) end other = refl
 no_suffix bytes (Closing delimiter) end other = refl
 
 -- what stands at a place is not empty, and stands in the source
-pub next_advances : (bytes : List ℕ) (from : ℕ) (kind : Kind) (to : ℕ) → IsNext bytes from kind to → (from < to) × (to ≤ length bytes)
-next_advances bytes from kind to n = (omega (arith, Ends-after bytes from (opening_at bytes from) n.end n.ends, suffixed-le bytes kind n.end to n.suffixed), n.within)
+pub next_advances : {bytes : List ℕ} {from : ℕ} {kind : Kind} {to : ℕ} → IsNext bytes from kind to → (from < to) × (to ≤ length bytes)
+next_advances {bytes} {from} {kind} {to} n = (omega (arith, Ends-after bytes from (opening_at bytes from) n.end n.ends, suffixed-le bytes kind n.end to n.suffixed), n.within)
 
 -- and ends where a character does
-pub next_boundary : (bytes : List ℕ) (from : ℕ) (kind : Kind) (to : ℕ) → IsUtf8 bytes → IsCharBoundary bytes from → IsNext bytes from kind to → IsCharBoundary bytes to
-next_boundary bytes from kind to utf8 here n =
-    let advances = next_advances bytes from kind to n in
+pub next_boundary : {bytes : List ℕ} {from : ℕ} {kind : Kind} {to : ℕ} → IsUtf8 bytes → IsCharBoundary bytes from → IsNext bytes from kind to → IsCharBoundary bytes to
+next_boundary {bytes} {from} {kind} {to} utf8 here n =
+    let advances = next_advances n in
     suffixed-boundary bytes kind n.end to utf8 (Ends-boundary bytes utf8 from (omega (arith, advances.0, advances.1)) here (opening_at bytes from) n.end n.ends) n.suffixed
 
 -- nothing else stands there
-pub next_one : (bytes : List ℕ) (from : ℕ) (kind other : Kind) (to end : ℕ) → IsNext bytes from kind to → IsNext bytes from other end → (kind ≡ other) × (to ≡ end)
-next_one bytes from kind other to end m n =
+pub next_one : {bytes : List ℕ} {from : ℕ} {kind other : Kind} {to end : ℕ} → IsNext bytes from kind to → IsNext bytes from other end → (kind ≡ other) × (to ≡ end)
+next_one {bytes} {from} {kind} {other} {to} {end} m n =
     let same_kind : other ≡ kind = n.is_kind ∙ sym m.is_kind in
     let same_end = Ends-one bytes from (opening_at bytes from) n.end m.end n.ends m.ends in
     let suffixed : IsSuffixed bytes kind m.end end = subst (λ (e : ℕ). IsSuffixed bytes kind e end) same_end (subst (λ (k : Kind). IsSuffixed bytes k n.end end) same_kind n.suffixed) in
     (sym same_kind, suffixed-one bytes kind m.end to end m.suffixed suffixed)
 
+faulty : (bytes : List ℕ) (from : ℕ) (fault : LexicalKind) (end : ℕ) (kind : Kind) (to : ℕ) → IsFaulty bytes from fault end → IsNext bytes from kind to → ⊥
+faulty bytes from BadCharacter end kind to f n = let nothing = subst (λ opening. Ends bytes from opening n.end) f.0 n.ends in nothing
+faulty bytes from BadLiteral end kind to f n = f.1 (rw (Ends-one bytes from (opening_at bytes from) end n.end f.0 n.ends) n.sound)
+faulty bytes from Unterminated end kind to f n = f.1 n.end n.ends
+faulty bytes from Unbalanced end kind to f n = f
+
 -- and no fault
-pub stuck_excludes : (bytes : List ℕ) (from : ℕ) (fault : LexicalKind) (span : Span) (kind : Kind) (to : ℕ) → IsStuck bytes from fault span → IsNext bytes from kind to → ⊥
-stuck_excludes bytes from BadCharacter span kind to s n = let nothing = subst (λ opening. Ends bytes from opening n.end) s.opens n.ends in nothing
-stuck_excludes bytes from BadLiteral span kind to s n = s.broken (rw (Ends-one bytes from (opening_at bytes from) span.to n.end s.ends n.ends) n.sound)
-stuck_excludes bytes from Unterminated span kind to s n = s.endless n.end n.ends
-stuck_excludes bytes from Unbalanced span kind to s n = s
+pub stuck_excludes : {bytes : List ℕ} {from to : ℕ} {fault : LexicalKind} {span : Span} {kind : Kind} → IsStuck bytes from fault span → IsNext bytes from kind to → ⊥
+stuck_excludes {bytes} {from} {to} {fault} {span} {kind} s n = faulty bytes from fault span.to kind to s.fault n

@@ -25,28 +25,14 @@ pub record IsNext (bytes : List ℕ) (from : ℕ) (kind : Kind) (to : ℕ) : Typ
   pub suffixed : IsSuffixed bytes kind end to
   pub within : to ≤ length bytes
 
--- a character that opens nothing
-pub record IsBadCharacter (bytes : List ℕ) (from : ℕ) (span : Span) : Type 0 where
-  pub opens : opening_at bytes from ≡ Nothing
-  pub begins : span.from ≡ from
-  pub ends : span.to ≡ past bytes from
+-- what is wrong at a place, up to another: a character that opens nothing; a literal that ends, and breaks its rules; a literal or a comment that ends nowhere
+abbrev pub IsFaulty : List ℕ → ℕ → LexicalKind → ℕ → Type 0
+IsFaulty bytes from BadCharacter to = (opening_at bytes from ≡ Nothing) × (to ≡ past bytes from)
+IsFaulty bytes from BadLiteral to = Ends bytes from (opening_at bytes from) to × (IsSound bytes from (opening_at bytes from) to → ⊥)
+IsFaulty bytes from Unterminated to = (opening_at bytes from ≢ Nothing) × ((end : ℕ) → Ends bytes from (opening_at bytes from) end → ⊥) × (to ≡ length bytes)
+IsFaulty bytes from Unbalanced to = ⊥
 
--- a literal that ends, and breaks its rules
-pub record IsBadLiteral (bytes : List ℕ) (from : ℕ) (span : Span) : Type 0 where
+-- why there is no next lexeme, and where; that a delimiter has no partner is not told here
+pub record IsStuck (bytes : List ℕ) (from : ℕ) (kind : LexicalKind) (span : Span) : Type 0 where
   pub begins : span.from ≡ from
-  pub ends : Ends bytes from (opening_at bytes from) span.to
-  pub broken : IsSound bytes from (opening_at bytes from) span.to → ⊥
-
--- a literal or a comment that nowhere ends
-pub record IsUnterminated (bytes : List ℕ) (from : ℕ) (span : Span) : Type 0 where
-  pub opens : opening_at bytes from ≢ Nothing
-  pub begins : span.from ≡ from
-  pub endless : (to : ℕ) → Ends bytes from (opening_at bytes from) to → ⊥
-  pub ends : span.to ≡ length bytes
-
--- why there is no next lexeme; delimiters without partners are not told here
-abbrev pub IsStuck : List ℕ → ℕ → LexicalKind → Span → Type 0
-IsStuck bytes from BadCharacter span = IsBadCharacter bytes from span
-IsStuck bytes from BadLiteral span = IsBadLiteral bytes from span
-IsStuck bytes from Unterminated span = IsUnterminated bytes from span
-IsStuck bytes from Unbalanced span = ⊥
+  pub fault : IsFaulty bytes from kind span.to
