@@ -1,7 +1,6 @@
 pub mod FlatLemmas
 pub mod RunLemmas
 pub mod CountLemmas
-pub mod LexemeLemmas
 pub mod LexemeLaws
 pub mod PieceLemmas
 pub mod NestingLemmas
@@ -9,3 +8,8 @@ pub mod SpellingLaws
 pub mod ReadingLemmas
 pub mod ClosingLemmas
 pub mod RefusalLemmas
+pub mod CharacterLaws
+pub mod RunLaws
+pub mod EndLaws
+pub mod OpeningLaws
+pub mod BodyLaws

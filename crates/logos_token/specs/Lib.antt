@@ -8,3 +8,9 @@ pub mod Refusals
 pub mod FaultNames
 pub mod Faults
 pub mod FaultView
+pub mod LexemeCharacters
+pub mod LexemeEnds
+pub mod LexemeOpenings
+pub mod LexemeRuns
+pub mod LiteralBodies
+pub mod LiteralReads

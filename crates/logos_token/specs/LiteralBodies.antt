@@ -1,0 +1,106 @@
+-- What stands inside literals.
+use Rattle.std.specs.Prelude.{◌≡◌, ◌≢◌, ℕ, ◌+◌, ◌-◌, ◌*◌, ◌<◌, ◌≤◌, ◌==◌, ◌||◌, ◌⊎◌, Bool, List, [], ◌∷◌, length, slice_index, slice_range, fold, filter, IsTrue, IsFalse}
+use Rattle.std.specs.Char.{is_digit, digit_value, IsScalar}
+use Rattle.std.specs.List.{list_any}
+use Rattle.logos_token.specs.LexemeRuns.{Steps, IsFirst}
+use Rattle.logos_token.specs.LexemeEnds.{body_of}
+use Rattle.logos_token.specs.declared.token.lexeme.openings.Content.{Content}
+use Rattle.logos_token.specs.declared.token.lexeme.openings.Content.TheVariants.{Text, Bytes, C}
+use Rattle.logos_token.specs.declared.token.lexeme.openings.Opening.{Opening}
+use Rattle.logos_token.specs.declared.token.lexeme.openings.Opening.TheVariants.{Quotes, Raw, Apostrophes, Character}
+
+-- n r t \ 0 ' " behind a backslash
+unfoldable pub is_simple : ℕ → Bool
+is_simple c = list_any (λ letter. letter == c) (110 ∷ 114 ∷ 116 ∷ 92 ∷ 48 ∷ 39 ∷ 34 ∷ [])
+
+-- a hexadecimal digit
+abbrev pub is_hex : ℕ → Bool
+is_hex c = is_digit c 16
+
+-- the number that hexadecimal digits write
+abbrev pub hex_value : List ℕ → ℕ
+hex_value digits = fold (λ value digit. value * 16 + digit_value digit) 0 digits
+
+-- the greatest byte that two hexadecimal digits may write
+abbrev pub greatest_of : Content → ℕ
+greatest_of Text = 0x7F
+greatest_of Bytes = 0xFF
+greatest_of C = 0xFF
+
+-- `\xNN`
+pub record IsHexEscape (content : Content) (bytes : List ℕ) (at : ℕ) : Type 0 where
+  pub backslash : slice_index bytes at ≡ 92
+  pub letter : slice_index bytes (at + 1) ≡ 120
+  pub first : IsTrue (is_hex (slice_index bytes (at + 2)))
+  pub second : IsTrue (is_hex (slice_index bytes (at + 3)))
+  pub small : hex_value (slice_range bytes (at + 2) (at + 4)) ≤ greatest_of content
+
+-- the digits of a span, without `_`
+abbrev pub digits_between : List ℕ → ℕ → ℕ → List ℕ
+digits_between bytes from to = filter is_hex (slice_range bytes from to)
+
+-- `\u{N}`: up to six digits, `_` behind the first, that write the number of a character; `brace` is where it closes
+pub record IsUnicodeEscape (bytes : List ℕ) (at brace : ℕ) : Type 0 where
+  pub backslash : slice_index bytes at ≡ 92
+  pub letter : slice_index bytes (at + 1) ≡ 117
+  pub opens : slice_index bytes (at + 2) ≡ 123
+  pub first : IsTrue (is_hex (slice_index bytes (at + 3)))
+  pub begun : at + 3 ≤ brace
+  pub digits : (i : ℕ) → at + 3 ≤ i → i < brace → IsTrue (is_hex (slice_index bytes i) || (slice_index bytes i == 95))
+  pub closes : slice_index bytes brace ≡ 125
+  pub few : length (digits_between bytes (at + 3) brace) ≤ 6
+  pub scalar : IsScalar (hex_value (digits_between bytes (at + 3) brace))
+
+-- an escape
+pub data IsEscape (content : Content) (bytes : List ℕ) (at next : ℕ) : Type 0 where
+  simple : slice_index bytes at ≡ 92 → IsTrue (is_simple (slice_index bytes (at + 1))) → next ≡ at + 2 → IsEscape content bytes at next
+  hex : IsHexEscape content bytes at → next ≡ at + 4 → IsEscape content bytes at next
+  unicode : {brace : ℕ} → content ≢ Bytes → IsUnicodeEscape bytes at brace → next ≡ brace + 1 → IsEscape content bytes at next
+
+-- space, tab, LF and CR
+unfoldable pub is_blank : ℕ → Bool
+is_blank c = (c == 32) || (c == 9) || (c == 10) || (c == 13)
+
+-- LF, or CR LF
+abbrev pub BreaksLine : List ℕ → ℕ → Type 0
+BreaksLine bytes at = (slice_index bytes at ≡ 10) ⊎ ((slice_index bytes at ≡ 13) × (slice_index bytes (at + 1) ≡ 10))
+
+-- `\` before a line break, up to the first that is not blank
+pub record IsContinuation (bytes : List ℕ) (at next : ℕ) : Type 0 where
+  pub backslash : slice_index bytes at ≡ 92
+  pub breaks : BreaksLine bytes (at + 1)
+  pub blanks : IsFirst (λ i. IsFalse (is_blank (slice_index bytes i))) (at + 1) next
+
+-- a byte that may stand for itself, or as a part of a character that does: no CR, and only ASCII in bytes
+pub record IsAllowed (content : Content) (byte : ℕ) : Type 0 where
+  pub no_return : byte ≢ 13
+  pub ascii : content ≡ Bytes → byte < 128
+
+-- a line break of CR and LF
+abbrev pub IsReturn : List ℕ → ℕ → ℕ → Type 0
+IsReturn bytes at next = (slice_index bytes at ≡ 13) × (slice_index bytes (at + 1) ≡ 10) × (next ≡ at + 2)
+
+-- a piece of a string
+pub data IsStringPiece (content : Content) (bytes : List ℕ) (at next : ℕ) : Type 0 where
+  plain : slice_index bytes at ≢ 92 → IsAllowed content (slice_index bytes at) → next ≡ at + 1 → IsStringPiece content bytes at next
+  return : IsReturn bytes at next → IsStringPiece content bytes at next
+  escape : IsEscape content bytes at next → IsStringPiece content bytes at next
+  continuation : IsContinuation bytes at next → IsStringPiece content bytes at next
+
+-- a piece of a raw string
+pub data IsRawPiece (content : Content) (bytes : List ℕ) (at next : ℕ) : Type 0 where
+  plain : IsAllowed content (slice_index bytes at) → next ≡ at + 1 → IsRawPiece content bytes at next
+  return : IsReturn bytes at next → IsRawPiece content bytes at next
+
+-- what stands between apostrophes
+pub data IsCharacterPiece (content : Content) (bytes : List ℕ) (at next : ℕ) : Type 0 where
+  plain : slice_index bytes at ≢ 92 → IsAllowed content (slice_index bytes at) → next ≡ at + 1 → IsCharacterPiece content bytes at next
+  escape : IsEscape content bytes at next → IsCharacterPiece content bytes at next
+
+-- what a literal that opens at `from` and ends at `to` holds keeps to the rules; anything else is sound
+abbrev pub IsSound : List ℕ → ℕ → Opening → ℕ → Type 0
+IsSound bytes from (Quotes content) to = Steps (IsStringPiece content bytes) (body_of (Quotes content) from) (to - 1)
+IsSound bytes from (Raw content count) to = Steps (IsRawPiece content bytes) (body_of (Raw content count) from) (to - 1 - count)
+IsSound bytes from (Apostrophes content) to = IsCharacterPiece content bytes (body_of (Apostrophes content) from) (to - 1)
+IsSound bytes from Character to = slice_index bytes (from + 1) ≢ 13
+IsSound bytes from _ to = Unit {0}
