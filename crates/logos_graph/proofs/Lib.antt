@@ -1,3 +1,5 @@
 pub mod Unique
 pub mod Window
 pub mod Examples
+pub mod SameMembers
+pub mod OneFaults

@@ -8,3 +8,4 @@ pub mod Faults
 pub mod Reduced
 pub mod Least
 pub mod View
+pub mod Errors

@@ -1,3 +1,6 @@
 //! The automaton of a lexer, and its graph.
 
 #![tactic(auto)]
+
+pub mod graph;
+pub mod laws;

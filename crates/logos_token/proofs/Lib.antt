@@ -1,6 +1,15 @@
 pub mod CharacterLaws
 pub mod RunLaws
 pub mod EndLaws
-pub mod LexemeLaws
 pub mod OpeningLaws
 pub mod BodyLaws
+pub mod LexemeLaws
+pub mod FlatLemmas
+pub mod RunLemmas
+pub mod CountLemmas
+pub mod PieceLemmas
+pub mod NestingLemmas
+pub mod SpellingLaws
+pub mod ReadingLemmas
+pub mod ClosingLemmas
+pub mod RefusalLemmas

@@ -6,3 +6,11 @@ pub mod Lexemes
 pub mod LiteralBodies
 pub mod LiteralReads
 pub mod Tokens
+pub mod Flat
+pub mod Views
+pub mod Spelling
+pub mod Reading
+pub mod Refusals
+pub mod FaultNames
+pub mod Faults
+pub mod FaultView
