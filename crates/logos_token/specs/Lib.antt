@@ -1,5 +1,4 @@
 pub mod Tokens
-pub mod Lexemes
 pub mod Flat
 pub mod Views
 pub mod Spelling

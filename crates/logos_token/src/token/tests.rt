@@ -140,11 +140,11 @@ fn unreadable_sources(rt: HostRuntime) {
         lexical(LexicalKind::Unterminated, 2, 5)
     );
     assert_eq!(rt;
-        refusal(rt.alloc(), "( 7"),
+        refusal(rt.alloc(), "( `"),
         lexical(LexicalKind::BadCharacter, 2, 3)
     );
     assert_eq!(rt;
-        refusal(rt.alloc(), "a é"),
+        refusal(rt.alloc(), "a £"),
         lexical(LexicalKind::BadCharacter, 2, 4)
     );
     assert_eq!(rt;

@@ -12,23 +12,23 @@ use Rattle.logos_token.specs.Flat.{value_of, flat_token}
 use Rattle.logos_token.specs.Lexemes.{IsNext}
 use Rattle.logos_token.specs.Spelling.{leaf, lexeme_of, token_lexemes}
 use Rattle.logos_token.specs.Reading.{IsRead}
-use Rattle.logos_token.proofs.PieceLemmas.{piece-advances}
 use Rattle.logos_token.proofs.ReadingLemmas.{read-gap, read-leaf}
+use Rattle.logos_token.proofs.LexemeLaws.{next_advances}
 use Rattle.logos_token.proofs.token.reader.add.Goals as goal
 
+-- a piece is not empty, and stands in the source
+
 pub range-text-requires-clause-start_le_end : goal.range-text-requires-clause-start_le_end
-range-text-requires-clause-start_le_end c = let a = piece-advances c.args.source.now c.args.span.from c.args.kind c.args.span.to c.requires.next in omega (arith, a.0)
+range-text-requires-clause-start_le_end c = omega (arith, (next_advances c.requires.next).0)
 
 pub range-text-requires-in-Literal-clause-start_le_end : goal.range-text-requires-in-Literal-clause-start_le_end
-range-text-requires-in-Literal-clause-start_le_end c = let a = piece-advances c.args.source.now c.args.span.from c.args.kind c.args.span.to c.requires.next in omega (arith, a.0)
+range-text-requires-in-Literal-clause-start_le_end c = omega (arith, (next_advances c.requires.next).0)
 
 pub range-text-requires-in-Doc-clause-start_le_end : goal.range-text-requires-in-Doc-clause-start_le_end
-range-text-requires-in-Doc-clause-start_le_end c = let a = piece-advances c.args.source.now c.args.span.from c.args.kind c.args.span.to c.requires.next in omega (arith, a.0)
+range-text-requires-in-Doc-clause-start_le_end c = omega (arith, (next_advances c.requires.next).0)
 
 pub bounds-as_bytes-span : goal.bounds-as_bytes-span
-bounds-as_bytes-span c =
-    let a = piece-advances c.args.source.now c.args.span.from c.args.kind c.args.span.to c.requires.next in
-    rw c.as_bytes.ensures.value (omega (arith, a.0, a.1))
+bounds-as_bytes-span c = let advances = next_advances c.requires.next in omega (arith, advances.0, advances.1, c.as_bytes.ensures.len)
 
 pub returns-in-Gap-clause-ok : goal.returns-in-Gap-clause-ok
 returns-in-Gap-clause-ok c = read-gap c.args.source.now c.args.span _ _ c.requires.read (rw c.in-Gap.is at c.requires.next)
