@@ -13,3 +13,4 @@ pub mod LexemeOpenings
 pub mod LexemeRuns
 pub mod LiteralBodies
 pub mod LiteralReads
+pub mod Lexemes
