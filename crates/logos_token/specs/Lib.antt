@@ -2,6 +2,7 @@ pub mod Tokens
 pub mod Lexemes
 pub mod Flat
 pub mod Views
+pub mod Punctuation
 pub mod Spelling
 pub mod Reading
 pub mod Refusals

@@ -4,3 +4,4 @@
 
 pub mod error;
 pub mod token;
+pub mod util;
