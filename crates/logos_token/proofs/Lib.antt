@@ -9,3 +9,4 @@ pub mod SpellingLaws
 pub mod ReadingLemmas
 pub mod ClosingLemmas
 pub mod RefusalLemmas
+pub mod PrintingLemmas

@@ -3,9 +3,12 @@ pub mod Lexemes
 pub mod Flat
 pub mod Views
 pub mod Punctuation
+pub mod Printing
+pub mod PrintingSteps
 pub mod Spelling
 pub mod Reading
 pub mod Refusals
 pub mod FaultNames
 pub mod Faults
 pub mod FaultView
+pub mod Rendering

@@ -3,6 +3,7 @@ ghost use Rattle.std.specs.Prelude.{◌≡◌, ◌++◌, ◌∷◌, [], List, On
 ghost use Rattle.logos_token.specs.Faults.{Fault};
 
 mod fault_code;
+mod rendering;
 #[cfg(test)]
 mod tests;
 

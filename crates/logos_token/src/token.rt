@@ -3,12 +3,14 @@
 mod entry;
 pub mod lexeme;
 mod literal_text;
+mod printing;
 mod reader;
 #[cfg(test)]
 mod tests;
 mod views;
 
 pub use lexeme::LexicalKind;
+pub use printing::print;
 pub use reader::{TokenError, spells_once, tokenize};
 pub use views::{Group, TokenIter, TokenStream, TokenTree, Tokens};
 
