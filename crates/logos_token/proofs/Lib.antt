@@ -10,3 +10,4 @@ pub mod ReadingLemmas
 pub mod ClosingLemmas
 pub mod RefusalLemmas
 pub mod PrintingLemmas
+pub mod OrderLemmas

@@ -19,7 +19,7 @@ group-lexemes : (delimiter : Delimiter) (span : Span) (inside : TokenList) (more
 group-lexemes delimiter span inside more = ap (λ ls. opens delimiter span.from ∷ ls) (append_assoc (lexemes inside) (closes delimiter span.to ∷ []) more)
 
 -- a group and other tokens in front of other lexemes
-run-lexemes : (delimiter : Delimiter) (span : Span) (inside rest : TokenList) (more : List Lexeme) →
+pub run-lexemes : (delimiter : Delimiter) (span : Span) (inside rest : TokenList) (more : List Lexeme) →
     lexemes (also (group delimiter span inside) rest) ++ more ≡ opens delimiter span.from ∷ (lexemes inside ++ (closes delimiter span.to ∷ (lexemes rest ++ more)))
 run-lexemes delimiter span inside rest more =
     append_assoc (token_lexemes (group delimiter span inside)) (lexemes rest) more ∙ group-lexemes delimiter span inside (lexemes rest ++ more)

@@ -5,6 +5,7 @@ pub mod Views
 pub mod Punctuation
 pub mod Printing
 pub mod PrintingSteps
+pub mod MaybePrinted
 pub mod Spelling
 pub mod Reading
 pub mod Refusals

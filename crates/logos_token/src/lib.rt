@@ -1,4 +1,4 @@
-//! Source texts: tokens with their spans, and the faults found in them.
+//! Source texts: tokens with their spans, the faults found in them, and small helpers.
 
 #![tactic(auto)]
 

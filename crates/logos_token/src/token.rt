@@ -11,7 +11,7 @@ mod views;
 
 pub use lexeme::LexicalKind;
 pub use printing::print;
-pub use reader::{TokenError, spells_once, tokenize};
+pub use reader::{TokenError, spelled_in_order, spells_once, tokenize};
 pub use views::{Group, TokenIter, TokenStream, TokenTree, Tokens};
 
 /// The bytes of the source from `from` up to `to`, which it leaves out.

@@ -6,7 +6,9 @@ ghost use Rattle.logos_token.specs.Punctuation.{is_alone, unless_alone};
 #[cfg(test)]
 mod tests;
 
-use crate::token::{Ident, Spacing, Span, TokenStream, TokenTree};
+use crate::error::Memory;
+use crate::token::{Ident, Spacing, Span, TokenStream, TokenTree, print};
+use std::alloc::Global;
 use std::mem;
 
 /// Whether the tree is this punctuation, with no other one directly behind it.
@@ -62,6 +64,9 @@ pub enum MaybeVoid<'s> {
 }
 
 impl<'s> MaybeVoid<'s> {
+    ghost use Rattle.std.specs.Prelude.{◌≡◌, IfOk, string_bytes};
+    ghost use Rattle.logos_token.specs.MaybePrinted.{maybe_printed};
+
     /// Puts tokens in place of what was there, which it gives back.
     pub fn replace(&mut self, stream: TokenStream<'s>) -> MaybeVoid<'s>
         ensures former { result ≡ self.old }
@@ -76,5 +81,15 @@ impl<'s> MaybeVoid<'s> {
         ensures after { self.new ≡ MaybeVoid.Void }
     {
         mem::replace(self, MaybeVoid::Void)
+    }
+
+    /// The text of the tokens, as `print` gives it; that of `()` where there are none.
+    pub fn print(&self, alloc: Global) -> Result<String, Memory>
+        ensures { IfOk result (λ text. string_bytes text ≡ maybe_printed self.now) }
+    {
+        match self {
+            MaybeVoid::Some(stream) => print(alloc, stream.run()),
+            MaybeVoid::Void => Ok(String::from_str(alloc, "( )")?),
+        }
     }
 }

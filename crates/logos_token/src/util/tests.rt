@@ -47,8 +47,10 @@ fn tokens_or_none(rt: HostRuntime) -> Result<(), Fail> {
     assert_eq!(rt; width(&tokens), Some(7));
     let former = tokens.replace(copy);
     assert_eq!(rt; width(&former), Some(7));
+    assert_eq!(rt; tokens.print(rt.alloc())?.as_str(), "b ( c )");
     let former = tokens.take();
     assert_eq!(rt; width(&former), Some(7));
+    assert_eq!(rt; tokens.print(rt.alloc())?.as_str(), "( )");
     assert_eq!(rt; width(&tokens), None);
     Ok(())
 }
