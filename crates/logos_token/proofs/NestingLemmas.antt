@@ -1,10 +1,10 @@
 -- Delimiters in the lexemes of tokens.
-use Rattle.std.proofs.Common.{◌≡◌, ℕ, zero, suc, ◌+◌, ◌-◌, ◌<◌, ◌≤◌, max, Bool, true, false, cond, List, [], ◌∷◌, ◌++◌, length, Option, Some, None, arith, sym, ◌∙◌, subst, ap, refl, append_assoc}
+use Rattle.std.proofs.Common.{◌≡◌, ℕ, suc, ◌+◌, ◌-◌, ◌≤◌, max, Bool, true, false, cond, List, [], ◌∷◌, ◌++◌, length, Option, Some, None, arith, sym, ◌∙◌, subst, ap, refl, append_assoc}
 use Rattle.std.proofs.lemmas.List.{append-nil}
 use Rattle.logos_token.specs.declared.token.Span.{Span}
 use Rattle.logos_token.specs.declared.token.Delimiter.{Delimiter}
 use Rattle.logos_token.specs.declared.token.Delimiter.TheVariants.{Parenthesis, Bracket, Brace}
-use Rattle.logos_token.specs.Tokens.{Token, identifier, punctuation, literal, doc, group, TokenList, none, also, append, depth_of}
+use Rattle.logos_token.specs.Tokens.{identifier, punctuation, literal, doc, group, TokenList, none, also, append, depth_of}
 use Rattle.logos_token.proofs.CountLemmas.{append-also}
 use Rattle.logos_token.specs.Spelling.{Lexeme, leaf, opens, closes, lexemes, token_lexemes, is_partner, opened, most_open}
 

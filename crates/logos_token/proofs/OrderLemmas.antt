@@ -1,12 +1,11 @@
 -- Where the tokens that a source spells stand in it.
-use Rattle.std.proofs.Common.{◌≡◌, ℕ, ◌+◌, ◌-◌, ◌<◌, ◌≤◌, ◌⊎◌, inl, inr, List, [], ◌∷◌, ◌++◌, length, slice_index, slice_range, arith, sym, ◌∙◌, subst, ap, refl, append_assoc}
+use Rattle.std.proofs.Common.{◌≡◌, ℕ, ◌+◌, ◌-◌, ◌<◌, ◌≤◌, ◌⊎◌, inl, inr, List, [], ◌∷◌, ◌++◌, length, slice_index, slice_range, arith, sym, ◌∙◌, subst, ap, refl}
 use Rattle.std.proofs.lemmas.List.{append-nil}
 use Rattle.logos_token.specs.declared.token.Span.{Span}
 use Rattle.logos_token.specs.declared.token.Spacing.{Spacing}
 use Rattle.logos_token.specs.declared.token.Delimiter.{Delimiter}
 use Rattle.logos_token.specs.declared.token.lexeme.Kind.{Kind}
 use Rattle.logos_token.specs.declared.token.lexeme.Kind.TheVariants.{Gap, Identifier, Literal, Doc, Punctuation, Opening, Closing}
-use Rattle.logos_token.specs.Lexemes.{IsNext}
 use Rattle.logos_token.specs.Tokens.{Token, identifier, punctuation, literal, doc, group, TokenList, none, also, span_of}
 use Rattle.logos_token.specs.Spelling.{Piece, Pieces, Lexeme, leaf, opens, closes, lexeme_of, seen, lexemes, Spells, TokenStands, RunStands}
 use Rattle.logos_token.proofs.PieceLemmas.{piece-advances}
@@ -38,32 +37,32 @@ next-lexeme bytes [] from lexeme more to filled is = absurd cc
 next-lexeme bytes (piece ∷ pieces) from lexeme more to filled is =
     let a = piece-advances bytes from piece.kind piece.span.to filled.1 in
     elim (one-lexeme bytes piece.kind piece.span) [
-      inl gap ↦
-        let n = next-lexeme bytes pieces piece.span.to lexeme more to filled.2 (ap (λ ls. ls ++ seen bytes pieces) (sym gap) ∙ is) in
-        record {
-          kind = n.kind;
-          span = n.span;
-          begins = let b = n.begins in omega (arith, a.0);
-          begun = n.begun;
-          is = n.is;
-          rest = n.rest;
-          filled = n.filled;
-          behind = n.behind;
-        }
+      | inl gap ↦
+          let n = next-lexeme bytes pieces piece.span.to lexeme more to filled.2 (ap (λ ls. ls ++ seen bytes pieces) (sym gap) ∙ is) in
+          record {
+            kind = n.kind;
+            span = n.span;
+            begins = let b = n.begins in omega (arith, a.0);
+            begun = n.begun;
+            is = n.is;
+            rest = n.rest;
+            filled = n.filled;
+            behind = n.behind;
+          }
       | inr l ↦
-        let e : l.0 ∷ seen bytes pieces ≡ lexeme ∷ more = ap (λ ls. ls ++ seen bytes pieces) (sym l.1) ∙ is in
-        let first : l.0 ≡ lexeme = cc in
-        let begins = filled.0 in
-        record {
-          kind = piece.kind;
-          span = piece.span;
-          begins = omega arith;
-          begun = omega (arith, a.0);
-          is = l.1 ∙ ap (λ x. x ∷ []) first;
-          rest = pieces;
-          filled = filled.2;
-          behind = cc;
-        }
+          let e : l.0 ∷ seen bytes pieces ≡ lexeme ∷ more = ap (λ ls. ls ++ seen bytes pieces) (sym l.1) ∙ is in
+          let first : l.0 ≡ lexeme = cc in
+          let begins = filled.0 in
+          record {
+            kind = piece.kind;
+            span = piece.span;
+            begins = omega arith;
+            begun = omega (arith, a.0);
+            is = l.1 ∙ ap (λ x. x ∷ []) first;
+            rest = pieces;
+            filled = filled.2;
+            behind = cc;
+          }
     ]
 
 identifier-is : (bytes : List ℕ) (kind : Kind) (s : Span) (text : List ℕ) (span : Span) → lexeme_of bytes kind s ≡ leaf (identifier text span) ∷ [] → (s ≡ span) × (text ≡ slice_range bytes s.from s.to)
@@ -206,8 +205,8 @@ placed bytes (also (group delimiter span inside) rest) pieces from more to fille
     let lower : span.from + 1 ≤ o.span.to = omega arith in
     let upper : i.mid ≤ span.to - 1 = omega arith in
     leaf-placed bytes from (group delimiter span inside) rest more to c.span.to last
-        (omega arith, omega arith, run-later bytes (span.from + 1) inside i.mid (span.to - 1) upper (run-earlier bytes o.span.to (span.from + 1) inside i.mid lower i.stands))
-        (placed bytes rest c.rest c.span.to more to c.filled c.behind)
+    (omega arith, omega arith, run-later bytes (span.from + 1) inside i.mid (span.to - 1) upper (run-earlier bytes o.span.to (span.from + 1) inside i.mid lower i.stands))
+    (placed bytes rest c.rest c.span.to more to c.filled c.behind)
 
 pub spelled-in_order : (bytes : List ℕ) (tokens : TokenList) → Spells bytes tokens → RunStands bytes 0 tokens (length bytes)
 spelled-in_order bytes tokens s =

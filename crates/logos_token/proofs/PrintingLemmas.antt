@@ -1,13 +1,12 @@
 -- What is left to be printed, tree by tree.
-use Rattle.std.proofs.Common.{◌≡◌, ℕ, ◌+◌, ◌*◌, ◌<◌, List, [], ◌∷◌, ◌++◌, fold, arith, sym, ◌∙◌, ap, refl, append_assoc}
+use Rattle.std.proofs.Common.{◌≡◌, ◌+◌, ◌*◌, ◌<◌, List, [], ◌∷◌, ◌++◌, fold, arith, sym, ◌∙◌, ap, append_assoc}
 use Rattle.std.proofs.lemmas.List.{append-nil}
 use Rattle.std.proofs.lemmas.List.Sums.{fold-append}
 use Rattle.logos_token.specs.declared.token.Span.{Span}
-use Rattle.logos_token.specs.declared.token.Delimiter.{Delimiter}
 use Rattle.logos_token.specs.declared.token.printing.Outer.{Outer}
 use Rattle.logos_token.specs.Tokens.{Token, group, TokenList, none, also, count_of}
 use Rattle.logos_token.specs.Views.{tokens_of}
-use Rattle.logos_token.specs.Printing.{Part, opening_text, closing_text, spaced, token_parts, run_parts, Printed, print_part}
+use Rattle.logos_token.specs.Printing.{opening_text, closing_text, spaced, token_parts, run_parts, Printed, print_part}
 use Rattle.logos_token.specs.PrintingSteps.{outer_parts, whole, outer_left, left_of}
 use Rattle.logos_token.proofs.CountLemmas.{token_count-positive}
 

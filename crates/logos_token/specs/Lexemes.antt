@@ -5,7 +5,6 @@ use Rattle.std.specs.Char.{is_ascii_digit, is_ascii_alphabetic, is_ascii_punctua
 use Rattle.logos_token.specs.declared.token.Span.{Span}
 use Rattle.logos_token.specs.declared.token.Spacing.{Spacing}
 use Rattle.logos_token.specs.declared.token.Spacing.TheVariants.{Alone, Joint}
-use Rattle.logos_token.specs.declared.token.Delimiter.{Delimiter}
 use Rattle.logos_token.specs.declared.token.Delimiter.TheVariants.{Parenthesis, Bracket, Brace}
 use Rattle.logos_token.specs.declared.token.lexeme.Class.{Class}
 use Rattle.logos_token.specs.declared.token.lexeme.Class.TheVariants.{Space, Letter, Digit, Mark, Quote, Opens, Closes, Other}

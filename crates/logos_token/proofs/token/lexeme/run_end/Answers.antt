@@ -1,4 +1,4 @@
-use Rattle.std.proofs.Common.{arith, get_or, ◌<◌}
+use Rattle.std.proofs.Common.{arith, get_or}
 use Rattle.logos_token.specs.Lexemes.{IsIn, class_of}
 use Rattle.logos_token.proofs.LexemeLemmas.{from-more}
 use Rattle.logos_token.proofs.token.lexeme.run_end.Goals as goal
