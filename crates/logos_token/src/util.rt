@@ -83,7 +83,8 @@ impl<'s> MaybeVoid<'s> {
         mem::replace(self, MaybeVoid::Void)
     }
 
-    /// The text of the tokens, as `print` gives it; that of `()` where there are none.
+    /// The text of the tokens, as `print` gives it; that of `()` where there are none. It fails only
+    /// where there is no memory.
     pub fn print(&self, alloc: Global) -> Result<String, Memory>
         ensures { IfOk result (λ text. string_bytes text ≡ maybe_printed self.now) }
     {

@@ -54,7 +54,7 @@ impl Errors {
     ghost use Rattle.logos_token.specs.Rendering.{rendered};
 
     /// A function that does not compile, with the messages as what the compiler says; nothing where
-    /// there is no fault.
+    /// there is no fault. It fails only where there is no memory.
     pub fn render(&self) -> Result<Option<String>, Memory>
         ensures { IfOk result (λ text. option_map string_bytes text ≡ rendered self.now) }
     {

@@ -149,7 +149,7 @@ fn step<'t, 's>(
 }
 
 /// The text of the tokens: their lexemes with one space in between, none behind a joint punctuation,
-/// and a line's end behind a comment that ends with its line.
+/// and a line's end behind a comment that ends with its line. It fails only where there is no memory.
 pub fn print(alloc: Global, run: Tokens<'_, '_>) -> Result<String, Memory>
     ensures { IfOk result (λ text. string_bytes text ≡ printed (tokens_of run.entry)) }
 {

@@ -1,5 +1,4 @@
 //! A buffer of tokens, and views of the runs in it.
-ghost use Rattle.std.specs.Prelude.{◌≡◌};
 ghost use Rattle.std.proofs.Props.{props};
 ghost use Rattle.logos_token.specs.Flat.{IsFlat};
 
@@ -145,7 +144,7 @@ impl<'t, 's> Tokens<'t, 's> {
         Span { from, to }
     }
 
-    /// A buffer of its own with these trees.
+    /// A buffer of its own with these trees. It fails only where there is no memory for it.
     pub fn to_stream(self, alloc: Global) -> Result<TokenStream<'s>, Memory>
         ensures { IfOk result (λ stream. stream_tokens stream ≡ tokens_of self.entry) }
     {
