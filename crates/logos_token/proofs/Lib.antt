@@ -13,3 +13,5 @@ pub mod RunLaws
 pub mod EndLaws
 pub mod OpeningLaws
 pub mod BodyLaws
+pub mod PrintingLemmas
+pub mod OrderLemmas

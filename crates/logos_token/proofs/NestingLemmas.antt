@@ -1,10 +1,10 @@
 -- Delimiters in the lexemes of tokens.
-use Rattle.std.proofs.Common.{◌≡◌, ℕ, zero, suc, ◌+◌, ◌-◌, ◌<◌, ◌≤◌, max, Bool, true, false, cond, List, [], ◌∷◌, ◌++◌, length, Option, Some, None, arith, sym, ◌∙◌, subst, ap, refl, append_assoc}
+use Rattle.std.proofs.Common.{◌≡◌, ℕ, suc, ◌+◌, ◌-◌, ◌≤◌, max, Bool, true, false, cond, List, [], ◌∷◌, ◌++◌, length, Option, Some, None, arith, sym, ◌∙◌, subst, ap, refl, append_assoc}
 use Rattle.std.proofs.lemmas.List.{append-nil}
 use Rattle.logos_token.specs.declared.token.Span.{Span}
 use Rattle.logos_token.specs.declared.token.Delimiter.{Delimiter}
 use Rattle.logos_token.specs.declared.token.Delimiter.TheVariants.{Parenthesis, Bracket, Brace}
-use Rattle.logos_token.specs.Tokens.{Token, identifier, punctuation, literal, doc, group, TokenList, none, also, append, depth_of}
+use Rattle.logos_token.specs.Tokens.{identifier, punctuation, literal, doc, group, TokenList, none, also, append, depth_of}
 use Rattle.logos_token.proofs.CountLemmas.{append-also}
 use Rattle.logos_token.specs.Spelling.{Lexeme, leaf, opens, closes, lexemes, token_lexemes, is_partner, opened, most_open}
 
@@ -19,7 +19,7 @@ group-lexemes : (delimiter : Delimiter) (span : Span) (inside : TokenList) (more
 group-lexemes delimiter span inside more = ap (λ ls. opens delimiter span.from ∷ ls) (append_assoc (lexemes inside) (closes delimiter span.to ∷ []) more)
 
 -- a group and other tokens in front of other lexemes
-run-lexemes : (delimiter : Delimiter) (span : Span) (inside rest : TokenList) (more : List Lexeme) →
+pub run-lexemes : (delimiter : Delimiter) (span : Span) (inside rest : TokenList) (more : List Lexeme) →
     lexemes (also (group delimiter span inside) rest) ++ more ≡ opens delimiter span.from ∷ (lexemes inside ++ (closes delimiter span.to ∷ (lexemes rest ++ more)))
 run-lexemes delimiter span inside rest more =
     append_assoc (token_lexemes (group delimiter span inside)) (lexemes rest) more ∙ group-lexemes delimiter span inside (lexemes rest ++ more)

@@ -1,6 +1,10 @@
 pub mod Tokens
 pub mod Flat
 pub mod Views
+pub mod Punctuation
+pub mod Printing
+pub mod PrintingSteps
+pub mod MaybePrinted
 pub mod Spelling
 pub mod Reading
 pub mod Refusals
@@ -14,3 +18,4 @@ pub mod LexemeRuns
 pub mod LiteralBodies
 pub mod LiteralReads
 pub mod Lexemes
+pub mod Rendering

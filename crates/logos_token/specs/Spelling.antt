@@ -7,7 +7,7 @@ use Rattle.logos_token.specs.declared.token.lexeme.Kind.{Kind}
 use Rattle.logos_token.specs.declared.token.lexeme.Kind.TheVariants.{Gap, Identifier, Literal, Doc, Punctuation, Opening, Closing}
 use Rattle.logos_token.specs.declared.token.lexeme.LexicalKind.{LexicalKind}
 use Rattle.logos_token.specs.declared.token.lexeme.LexicalKind.TheVariants.{Unbalanced}
-use Rattle.logos_token.specs.Tokens.{Token, identifier, punctuation, literal, doc, group, TokenList, none, also}
+use Rattle.logos_token.specs.Tokens.{Token, identifier, punctuation, literal, doc, group, TokenList, none, also, span_of}
 use Rattle.logos_token.specs.Lexemes.{IsNext, IsStuck}
 
 -- a piece of a source
@@ -60,6 +60,20 @@ pub record Spells (bytes : List ℕ) (tokens : TokenList) : Type 0 where
   pub pieces : List Piece
   pub filled : Pieces bytes 0 pieces (length bytes)
   pub nested : lexemes tokens ≡ seen bytes pieces
+
+abbrev mutual
+  -- a token stands behind this place, it is not empty, its text is the source at its span, and what is inside a group stands between its delimiters
+  pub TokenStands : List ℕ → ℕ → Token → Type 0
+  TokenStands bytes from (identifier text span) = (from ≤ span.from) × (span.from < span.to) × (text ≡ slice_range bytes span.from span.to)
+  TokenStands bytes from (punctuation character spacing span) = (from ≤ span.from) × (span.from < span.to) × (character ≡ slice_index bytes span.from)
+  TokenStands bytes from (literal text span) = (from ≤ span.from) × (span.from < span.to) × (text ≡ slice_range bytes span.from span.to)
+  TokenStands bytes from (doc text span) = (from ≤ span.from) × (span.from < span.to) × (text ≡ slice_range bytes span.from span.to)
+  TokenStands bytes from (group delimiter span inside) = (from ≤ span.from) × (span.from < span.to) × RunStands bytes (span.from + 1) inside (span.to - 1)
+
+  -- the tokens of a run stand in order between these places
+  pub RunStands : List ℕ → ℕ → TokenList → ℕ → Type 0
+  RunStands bytes from none to = from ≤ to
+  RunStands bytes from (also token rest) to = TokenStands bytes from token × RunStands bytes (span_of token).to rest to
 
 -- whether the second delimiter closes the first
 abbrev pub is_partner : Delimiter → Delimiter → Bool

@@ -1,8 +1,7 @@
 //! Faults, in order of collection.
-ghost use Rattle.std.specs.Prelude.{◌≡◌, ◌++◌, ◌∷◌, [], List, OnOk, OnErr, Some, None};
-ghost use Rattle.logos_token.specs.Faults.{Fault};
 
 mod fault_code;
+mod rendering;
 #[cfg(test)]
 mod tests;
 

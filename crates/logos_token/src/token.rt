@@ -3,13 +3,15 @@
 mod entry;
 pub mod lexeme;
 mod literal_text;
+mod printing;
 mod reader;
 #[cfg(test)]
 mod tests;
 mod views;
 
 pub use lexeme::LexicalKind;
-pub use reader::{TokenError, spells_once, tokenize};
+pub use printing::print;
+pub use reader::{TokenError, spelled_in_order, spells_once, tokenize};
 pub use views::{Group, TokenIter, TokenStream, TokenTree, Tokens};
 
 /// The bytes of the source from `from` up to `to`, which it leaves out.

@@ -29,3 +29,23 @@ fn printed_names(rt: HostRuntime) -> Result<(), Fail> {
     assert_eq!(rt; text.as_str(), "LimitSource: out of memory");
     Ok(())
 }
+
+#[test]
+fn rendered_faults(rt: HostRuntime) -> Result<(), Fail> {
+    let mut errors = Errors::new(rt.alloc());
+    assert!(rt; errors.render()?.is_none());
+    let span = Span { from: 0, to: 1 };
+    errors.err(FaultCode::CallbackValue, "Not a valid callback", span)?;
+    let text = errors.render()?.ok_or("a text")?;
+    assert_eq!(rt;
+        text.as_str(),
+        "fn _logos_derive_compile_errors ( ) { { compile_error ! ( \"Not a valid callback\" ) } } unimplemented ! ( )"
+    );
+    errors.err(FaultCode::IgnoreUnknown, "\"x\\y\"\n\r\té", span)?;
+    let text = errors.render()?.ok_or("a text")?;
+    assert_eq!(rt;
+        text.as_str(),
+        "fn _logos_derive_compile_errors ( ) { { compile_error ! ( \"Not a valid callback\" ) } { compile_error ! ( \"\\\"x\\\\y\\\"\\n\\r\\té\" ) } } unimplemented ! ( )"
+    );
+    Ok(())
+}

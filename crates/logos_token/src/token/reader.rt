@@ -5,7 +5,7 @@ ghost use Rattle.logos_token.specs.Lexemes.{IsNext};
 ghost use Rattle.logos_token.specs.Tokens.{TokenList, depth_of};
 ghost use Rattle.logos_token.specs.Flat.{value_of};
 ghost use Rattle.logos_token.specs.Views.{stream_tokens};
-ghost use Rattle.logos_token.specs.Spelling.{Spells};
+ghost use Rattle.logos_token.specs.Spelling.{Spells, RunStands};
 ghost use Rattle.logos_token.specs.Reading.{IsRead};
 ghost use Rattle.logos_token.specs.Refusals.{IsRefusal, SpellsNothing, IsErrOf};
 
@@ -231,4 +231,9 @@ pub fn tokenize<'s>(alloc: Global, src: &'s str) -> Result<TokenStream<'s>, Toke
 /// A source spells one run of tokens at most.
 pub fn spells_once()
     ensures { (bytes : List ℕ) (tokens other : TokenList) → Spells bytes tokens → Spells bytes other → tokens ≡ other }
+{}
+
+/// The tokens that a source spells stand in it in order, each with the source at its span as its text.
+pub fn spelled_in_order()
+    ensures { (bytes : List ℕ) (tokens : TokenList) → Spells bytes tokens → RunStands bytes 0 tokens (length bytes) }
 {}

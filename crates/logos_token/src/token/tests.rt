@@ -1,5 +1,5 @@
 use super::lexeme::LexicalKind;
-use super::{Spacing, Span, TokenError, TokenTree, Tokens, tokenize};
+use super::{Spacing, Span, TokenError, TokenTree, Tokens, print, tokenize};
 use std::alloc::{AllocError, Global};
 use std::test::Fail;
 
@@ -175,5 +175,19 @@ fn length_of_sources(rt: HostRuntime) -> Result<(), Fail> {
         refusal(rt.alloc(), text.as_str()),
         Some(TokenError::LimitSource)
     );
+    Ok(())
+}
+
+#[test]
+fn printed_tokens(rt: HostRuntime) -> Result<(), Fail> {
+    let stream = tokenize(rt.alloc(), "a,|b|")?;
+    let text = print(rt.alloc(), stream.run())?;
+    assert_eq!(rt; text.as_str(), "a ,| b |");
+    let stream = tokenize(rt.alloc(), "enum E{#[token(\"a\")]A::B}")?;
+    let text = print(rt.alloc(), stream.run())?;
+    assert_eq!(rt; text.as_str(), "enum E { # [ token ( \"a\" ) ] A :: B }");
+    let stream = tokenize(rt.alloc(), "")?;
+    let text = print(rt.alloc(), stream.run())?;
+    assert_eq!(rt; text.as_str(), "");
     Ok(())
 }

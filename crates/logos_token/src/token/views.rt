@@ -1,10 +1,11 @@
 //! A buffer of tokens, and views of the runs in it.
-ghost use Rattle.std.specs.Prelude.{◌≡◌};
 ghost use Rattle.std.proofs.Props.{props};
 ghost use Rattle.logos_token.specs.Flat.{IsFlat};
 
+use crate::error::Memory;
 use crate::token::entry::Entry;
 use crate::token::{Delimiter, Doc, Ident, Literal, Punct, Span};
+use std::alloc::Global;
 
 /// All tokens of a source.
 #[derive(Debug, Drop)]
@@ -69,9 +70,9 @@ impl<'s> TokenStream<'s> {
 }
 
 impl<'t, 's> Tokens<'t, 's> {
-    ghost use Rattle.std.specs.Prelude.{◌≡◌, ◌↔◌, IsTrue, MatchOption, option_map};
+    ghost use Rattle.std.specs.Prelude.{◌≡◌, ◌↔◌, IsTrue, MatchOption, option_map, IfOk};
     ghost use Rattle.logos_token.specs.Tokens.{none, also, IsRestOf, first_of, rest_of, run_span};
-    ghost use Rattle.logos_token.specs.Views.{tokens_of, tree_of, iter_rest, listed};
+    ghost use Rattle.logos_token.specs.Views.{stream_tokens, tokens_of, tree_of, iter_rest, listed};
 
     /// Whether there is no tree.
     pub fn is_empty(self) -> bool
@@ -141,6 +142,14 @@ impl<'t, 's> Tokens<'t, 's> {
             rest = rest.rest();
         }
         Span { from, to }
+    }
+
+    /// A buffer of its own with these trees. It fails only where there is no memory for it.
+    pub fn to_stream(self, alloc: Global) -> Result<TokenStream<'s>, Memory>
+        ensures { IfOk result (λ stream. stream_tokens stream ≡ tokens_of self.entry) }
+    {
+        let entries = Vec::from_slice(alloc, self.entries)?;
+        Ok(TokenStream { entries })
     }
 
     /// The trees, one after another.

@@ -1,4 +1,4 @@
-use Rattle.std.proofs.Common.{◌≡◌, ℕ, List, [], ◌∷◌, ◌++◌, map, refl, sym, ◌∙◌, ap, slice_index, slice_range, arith}
+use Rattle.std.proofs.Common.{◌≡◌, ℕ, List, [], ◌∷◌, ◌++◌, map, refl, ◌∙◌, ap, slice_index, slice_range, arith}
 use Rattle.std.proofs.lemmas.List.{map_push}
 use Rattle.std.proofs.lemmas.Result.{on_ok_weaker}
 use Rattle.logos_token.specs.declared.token.Span.{Span}
@@ -6,7 +6,6 @@ use Rattle.logos_token.specs.declared.token.reader.Begun.{Begun}
 use Rattle.logos_token.specs.declared.token.entry.Entry.{Entry}
 use Rattle.logos_token.specs.declared.token.entry.Entry.TheVariants.{Ident, Punct, Literal, Doc}
 use Rattle.logos_token.specs.declared.token.lexeme.Kind.{Kind}
-use Rattle.logos_token.specs.declared.token.lexeme.Kind.TheVariants.{Identifier, Literal as LiteralKind, Doc as DocKind, Punctuation}
 use Rattle.logos_token.specs.Tokens.{Token, identifier, punctuation, literal, doc}
 use Rattle.logos_token.specs.Flat.{value_of, flat_token}
 use Rattle.logos_token.specs.Lexemes.{IsNext}

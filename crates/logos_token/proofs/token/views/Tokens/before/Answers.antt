@@ -1,4 +1,3 @@
-use Rattle.std.proofs.Common.{rules}
 use Rattle.logos_token.proofs.RunLemmas.{front-entries, front-within, IsFlat-from_flat, tokens_in-from_flat}
 use Rattle.logos_token.proofs.token.views.Tokens.before.Goals as goal
 

@@ -1,0 +1,10 @@
+-- The printed text of tokens, or of `()` in their place.
+use Rattle.std.specs.Prelude.{ℕ, List, codes}
+use Rattle.logos_token.specs.declared.util.MaybeVoid.{MaybeVoid}
+use Rattle.logos_token.specs.declared.util.MaybeVoid.TheVariants.{Some, Void}
+use Rattle.logos_token.specs.Views.{stream_tokens}
+use Rattle.logos_token.specs.Printing.{printed}
+
+abbrev pub maybe_printed : MaybeVoid → List ℕ
+maybe_printed (Some stream) = printed (stream_tokens stream)
+maybe_printed Void = codes "( )"

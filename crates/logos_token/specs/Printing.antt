@@ -1,0 +1,62 @@
+-- The printed text of tokens: their lexemes with one space in between, none behind joint punctuation, and a line's end behind a line comment.
+use Rattle.std.specs.Prelude.{ℕ, Bool, false, ◌==◌, List, [], ◌∷◌, ◌++◌, codes, fold, if◌then◌else◌}
+use Rattle.std.specs.Char.{encode_utf8}
+use Rattle.logos_token.specs.declared.token.Spacing.{Spacing}
+use Rattle.logos_token.specs.declared.token.Spacing.TheVariants.{Alone, Joint}
+use Rattle.logos_token.specs.declared.token.Delimiter.{Delimiter}
+use Rattle.logos_token.specs.declared.token.Delimiter.TheVariants.{Parenthesis, Bracket, Brace}
+use Rattle.logos_token.specs.Tokens.{Token, identifier, punctuation, literal, doc, group, TokenList, none, also}
+
+-- the text of a lexeme, and what parts it from the next one
+pub record Part : Type 0 where
+  pub text : List ℕ
+  pub gap : List ℕ
+
+abbrev pub opening_text : Delimiter → List ℕ
+opening_text Parenthesis = codes "("
+opening_text Bracket = codes "["
+opening_text Brace = codes "{"
+
+abbrev pub closing_text : Delimiter → List ℕ
+closing_text Parenthesis = codes ")"
+closing_text Bracket = codes "]"
+closing_text Brace = codes "}"
+
+abbrev pub gap_behind : Spacing → List ℕ
+gap_behind Alone = codes " "
+gap_behind Joint = []
+
+-- a comment that begins with two slashes ends with its line
+abbrev pub is_line_comment : List ℕ → Bool
+is_line_comment [] = false
+is_line_comment (first ∷ []) = false
+is_line_comment (first ∷ second ∷ rest) = second == 47
+
+abbrev pub spaced : List ℕ → Part
+spaced text = record { text = text; gap = codes " " }
+
+abbrev mutual
+  -- the lexemes of a token
+  pub token_parts : Token → List Part
+  token_parts (identifier text span) = spaced text ∷ []
+  token_parts (punctuation character spacing span) = (record { text = encode_utf8 character; gap = gap_behind spacing }) ∷ []
+  token_parts (literal text span) = spaced text ∷ []
+  token_parts (doc text span) = (record { text = text; gap = if is_line_comment text then 10 ∷ [] else codes " " }) ∷ []
+  token_parts (group delimiter span inside) = spaced (opening_text delimiter) ∷ (run_parts inside ++ spaced (closing_text delimiter) ∷ [])
+
+  -- the lexemes of a run
+  pub run_parts : TokenList → List Part
+  run_parts none = []
+  run_parts (also token rest) = token_parts token ++ run_parts rest
+
+-- what is printed so far, and what parts it from the next lexeme
+pub record Printed : Type 0 where
+  pub text : List ℕ
+  pub gap : List ℕ
+
+abbrev pub print_part : Printed → Part → Printed
+print_part printed part = record { text = (printed.text ++ printed.gap) ++ part.text; gap = part.gap }
+
+-- the whole text
+abbrev pub printed : TokenList → List ℕ
+printed tokens = (fold print_part (record { text = []; gap = [] }) (run_parts tokens)).text

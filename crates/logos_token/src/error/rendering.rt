@@ -1,0 +1,70 @@
+//! The text of faults for the compiler.
+ghost use Rattle.std.specs.Prelude.{◌≡◌, ◌++◌, OnOk, string_bytes};
+ghost use Rattle.std.specs.List.{flat_map};
+ghost use Rattle.logos_token.specs.FaultView.{faults_of, fault_of};
+ghost use Rattle.logos_token.specs.Rendering.{escaped_character, escaped, rendered_fault};
+
+use crate::error::{Errors, Memory, SpannedError};
+
+/// Adds a character of a string literal.
+fn push_character(text: &mut String, character: char) -> Result<(), Memory>
+    ensures { OnOk result (string_bytes text.new ≡ string_bytes text.old ++ escaped_character character) }
+{
+    match character {
+        '"' => text.push_str("\\\"")?,
+        '\\' => text.push_str("\\\\")?,
+        '\n' => text.push_str("\\n")?,
+        '\r' => text.push_str("\\r")?,
+        '\t' => text.push_str("\\t")?,
+        _ => text.push(character)?,
+    }
+    Ok(())
+}
+
+/// Adds the characters of a string literal.
+fn push_escaped(text: &mut String, message: &str) -> Result<(), Memory>
+    ensures { OnOk result (string_bytes text.new ≡ string_bytes text.old ++ escaped message.now) }
+{
+    for character in message.chars() {
+        push_character(text, character)?;
+    }
+    Ok(())
+}
+
+fn push_fault(text: &mut String, fault: &SpannedError) -> Result<(), Memory>
+    ensures { OnOk result (string_bytes text.new ≡ string_bytes text.old ++ rendered_fault (fault_of fault.now)) }
+{
+    text.push_str("{ compile_error ! ( \"")?;
+    push_escaped(text, fault.message.as_str())?;
+    text.push_str("\" ) } ")?;
+    Ok(())
+}
+
+fn push_faults(text: &mut String, faults: &[SpannedError]) -> Result<(), Memory>
+    ensures { OnOk result (string_bytes text.new ≡ string_bytes text.old ++ flat_map rendered_fault (faults_of faults.now)) }
+{
+    for fault in faults {
+        push_fault(text, fault)?;
+    }
+    Ok(())
+}
+
+impl Errors {
+    ghost use Rattle.std.specs.Prelude.{◌≡◌, IfOk, option_map, string_bytes};
+    ghost use Rattle.logos_token.specs.Rendering.{rendered};
+
+    /// A function that does not compile, with the messages as what the compiler says; nothing where
+    /// there is no fault. It fails only where there is no memory.
+    pub fn render(&self) -> Result<Option<String>, Memory>
+        ensures { IfOk result (λ text. option_map string_bytes text ≡ rendered self.now) }
+    {
+        let faults = self.list();
+        if faults.is_empty() {
+            return Ok(None);
+        }
+        let mut text = String::from_str(self.alloc, "fn _logos_derive_compile_errors ( ) { ")?;
+        push_faults(&mut text, faults)?;
+        text.push_str("} unimplemented ! ( )")?;
+        Ok(Some(text))
+    }
+}

@@ -1,0 +1,166 @@
+//! Printing tokens.
+ghost use Rattle.std.specs.Prelude.{◌≡◌, ◌<◌, ◌∷◌, [], IfOk, IfSome, MatchOption, string_bytes, codes, if◌then◌else◌};
+ghost use Rattle.logos_token.specs.Tokens.{none};
+ghost use Rattle.logos_token.specs.Views.{tokens_of};
+ghost use Rattle.logos_token.specs.Printing.{opening_text, closing_text, gap_behind, is_line_comment, printed};
+ghost use Rattle.logos_token.specs.PrintingSteps.{printed_of, whole, left_of};
+
+use crate::error::Memory;
+use crate::token::{Delimiter, Group, Spacing, TokenTree, Tokens};
+use std::alloc::Global;
+
+/// What is printed so far.
+#[derive(Drop)]
+struct Printer {
+    text: String,
+    /// What parts it from the next lexeme.
+    gap: &'static str,
+}
+
+/// A group that is begun.
+#[derive(Clone, Copy)]
+struct Outer<'t, 's> {
+    delimiter: Delimiter,
+    /// The trees behind the group.
+    rest: Tokens<'t, 's>,
+}
+
+fn opening_text(delimiter: Delimiter) -> &'static str
+    ensures { result.now ≡ opening_text delimiter }
+{
+    match delimiter {
+        Delimiter::Parenthesis => "(",
+        Delimiter::Bracket => "[",
+        Delimiter::Brace => "{",
+    }
+}
+
+fn closing_text(delimiter: Delimiter) -> &'static str
+    ensures { result.now ≡ closing_text delimiter }
+{
+    match delimiter {
+        Delimiter::Parenthesis => ")",
+        Delimiter::Bracket => "]",
+        Delimiter::Brace => "}",
+    }
+}
+
+fn gap_behind(spacing: Spacing) -> &'static str
+    ensures { result.now ≡ gap_behind spacing }
+{
+    match spacing {
+        Spacing::Alone => " ",
+        Spacing::Joint => "",
+    }
+}
+
+fn gap_behind_doc(text: &str) -> &'static str
+    ensures { result.now ≡ (if is_line_comment text.now then 10 ∷ [] else codes " ") }
+{
+    match text.as_bytes() {
+        [_, b'/', ..] => "\n",
+        _ => " ",
+    }
+}
+
+impl Printer {
+    ghost use Rattle.std.specs.Prelude.{◌≡◌, OnOk, IfOk, MatchOption, fold, codes};
+    ghost use Rattle.std.specs.Char.{encode_utf8};
+    ghost use Rattle.logos_token.specs.Tokens.{group};
+    ghost use Rattle.logos_token.specs.Views.{tree_of, inside_of};
+    ghost use Rattle.logos_token.specs.Printing.{print_part, spaced, opening_text, token_parts};
+    ghost use Rattle.logos_token.specs.PrintingSteps.{printed_of};
+
+    /// Adds a lexeme.
+    fn add(&mut self, text: &str, gap: &'static str) -> Result<(), Memory>
+        ensures { OnOk result (printed_of self.new ≡ print_part (printed_of self.old) (record { text = text.now; gap = gap.now })) }
+    {
+        self.text.push_str(self.gap)?;
+        self.text.push_str(text)?;
+        self.gap = gap;
+        Ok(())
+    }
+
+    /// Adds a lexeme of one character.
+    fn add_character(&mut self, character: char, gap: &'static str) -> Result<(), Memory>
+        ensures { OnOk result (printed_of self.new ≡ print_part (printed_of self.old) (record { text = encode_utf8 character; gap = gap.now })) }
+    {
+        self.text.push_str(self.gap)?;
+        self.text.push(character)?;
+        self.gap = gap;
+        Ok(())
+    }
+
+    /// Adds a token; of a group only the opening delimiter.
+    fn add_tree<'t, 's>(&mut self, tree: TokenTree<'t, 's>) -> Result<Option<Group<'t, 's>>, Memory>
+        ensures { IfOk result (λ entered. MatchOption entered (printed_of self.new ≡ fold print_part (printed_of self.old) (token_parts (tree_of tree.entry))) (λ g. (tree_of tree.entry ≡ group g.delimiter g.span (inside_of g)) × (printed_of self.new ≡ print_part (printed_of self.old) (spaced (opening_text g.delimiter))))) }
+    {
+        match tree {
+            TokenTree::Ident(ident) => self.add(ident.text, " ")?,
+            TokenTree::Punct(punct) => {
+                self.add_character(punct.character, gap_behind(punct.spacing))?
+            }
+            TokenTree::Literal(literal) => self.add(literal.text, " ")?,
+            TokenTree::Doc(doc) => self.add(doc.text, gap_behind_doc(doc.text))?,
+            TokenTree::Group(group) => {
+                self.add(opening_text(group.delimiter), " ")?;
+                return Ok(Some(group));
+            }
+        }
+        Ok(None)
+    }
+}
+
+/// Leaves the innermost group that is begun, if there is one.
+fn leave<'t, 's>(
+    printer: &mut Printer,
+    outer: &mut Vec<Outer<'t, 's>>,
+) -> Result<Option<Tokens<'t, 's>>, Memory>
+    ensures ok { IfOk result (λ next. MatchOption next (printed_of printer.new ≡ whole (printed_of printer.old) outer.old.items none) (λ run. whole (printed_of printer.new) outer.new.items (tokens_of run) ≡ whole (printed_of printer.old) outer.old.items none)) }
+    ensures fewer { IfOk result (λ next. IfSome next (λ run. left_of outer.new.items (tokens_of run) < left_of outer.old.items none)) }
+{
+    let Some(group) = outer.pop() else {
+        return Ok(None);
+    };
+    printer.add(closing_text(group.delimiter), " ")?;
+    Ok(Some(group.rest))
+}
+
+/// Prints the first tree of the rest, and gives what is to be printed next.
+fn step<'t, 's>(
+    printer: &mut Printer,
+    outer: &mut Vec<Outer<'t, 's>>,
+    rest: Tokens<'t, 's>,
+) -> Result<Option<Tokens<'t, 's>>, Memory>
+    ensures ok { IfOk result (λ next. MatchOption next (printed_of printer.new ≡ whole (printed_of printer.old) outer.old.items (tokens_of rest.entry)) (λ run. whole (printed_of printer.new) outer.new.items (tokens_of run) ≡ whole (printed_of printer.old) outer.old.items (tokens_of rest.entry))) }
+    ensures fewer { IfOk result (λ next. IfSome next (λ run. left_of outer.new.items (tokens_of run) < left_of outer.old.items (tokens_of rest.entry))) }
+{
+    let Some(tree) = rest.first() else {
+        return leave(printer, outer);
+    };
+    let Some(group) = printer.add_tree(tree)? else {
+        return Ok(Some(rest.rest()));
+    };
+    outer.push(Outer {
+        delimiter: group.delimiter,
+        rest: rest.rest(),
+    })?;
+    Ok(Some(group.run()))
+}
+
+/// The text of the tokens: their lexemes with one space in between, none behind a joint punctuation,
+/// and a line's end behind a comment that ends with its line. It fails only where there is no memory.
+pub fn print(alloc: Global, run: Tokens<'_, '_>) -> Result<String, Memory>
+    ensures { IfOk result (λ text. string_bytes text ≡ printed (tokens_of run.entry)) }
+{
+    let mut printer = Printer {
+        text: String::new(alloc),
+        gap: "",
+    };
+    let mut outer = Vec::new(alloc);
+    let mut rest = run;
+    'trees: while let Some(next) = step(&mut printer, &mut outer, rest)? {
+        rest = next;
+    }
+    Ok(printer.text)
+}
