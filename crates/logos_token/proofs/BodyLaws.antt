@@ -86,7 +86,7 @@ module _ (bytes : List ℕ) (at : ℕ) where
     no_break next held (unicode c u v) (inr f) = let e = u.letter in let g = f.0 in omega arith
 
 module _ (escapes : Bool) (content : Content) (bytes : List ℕ) where
-  Says-one : (at m n : ℕ) (xs ys : List ℕ) → Says escapes content bytes at m xs → Says escapes content bytes at n ys → m ≡ n
+  pub Says-one : (at m n : ℕ) (xs ys : List ℕ) → Says escapes content bytes at m xs → Says escapes content bytes at n ys → m ≡ n
   Says-one at m n xs ys (plain e a v) (plain f b w) = v ∙ sym w
   Says-one at m n xs ys (plain e a v) (return r) = absurd (a.no_return r.0)
   Says-one at m n xs ys (plain e a v) (escape t f) = absurd (e t (escape-backslash bytes at content n ys f))
@@ -104,7 +104,7 @@ module _ (escapes : Bool) (content : Content) (bytes : List ℕ) where
   Says-one at m n xs ys (continuation t k) (escape u f) = absurd (no_break bytes at content n ys f k.breaks)
   Says-one at m n xs ys (continuation t k) (continuation u l) = IsFirst-one k.blanks l.blanks
 
-  Says-moves : (at next : ℕ) (held : List ℕ) → Says escapes content bytes at next held → at < next
+  pub Says-moves : (at next : ℕ) (held : List ℕ) → Says escapes content bytes at next held → at < next
   Says-moves at next held (plain e a v) = omega arith
   Says-moves at next held (return r) = omega (arith, r.2)
   Says-moves at next held (escape t e) = escape-moves bytes at content next held e

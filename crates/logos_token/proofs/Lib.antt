@@ -13,3 +13,4 @@ pub mod SpellingLaws
 pub mod ReadingLemmas
 pub mod ClosingLemmas
 pub mod RefusalLemmas
+pub mod ValueLaws

@@ -5,6 +5,7 @@ pub mod LexemeRuns
 pub mod Lexemes
 pub mod LiteralBodies
 pub mod LiteralReads
+pub mod LiteralValues
 pub mod Tokens
 pub mod Flat
 pub mod Views

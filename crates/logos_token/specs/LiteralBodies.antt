@@ -1,5 +1,5 @@
 -- What stands inside literals.
-use Rattle.std.specs.Prelude.{◌≡◌, ◌≢◌, ℕ, ◌+◌, ◌-◌, ◌*◌, ◌<◌, ◌≤◌, ◌==◌, ◌||◌, ◌⊎◌, Bool, true, false, if◌then◌else◌, List, [], ◌∷◌, length, slice_index, slice_range, fold, filter, encode_utf8, IsTrue, IsFalse}
+use Rattle.std.specs.Prelude.{◌≡◌, ◌≢◌, ℕ, ◌+◌, ◌-◌, ◌*◌, ◌<◌, ◌≤◌, ◌==◌, ◌||◌, ◌⊎◌, Bool, true, false, if◌then◌else◌, List, [], ◌∷◌, ◌++◌, length, slice_index, slice_range, fold, filter, encode_utf8, IsTrue, IsFalse}
 use Rattle.std.specs.Char.{is_digit, digit_value, IsScalar}
 use Rattle.std.specs.List.{list_any}
 use Rattle.logos_token.specs.LexemeRuns.{Steps, IsFirst}
@@ -99,6 +99,11 @@ pub data Says (escapes : Bool) (content : Content) (bytes : List ℕ) (at next :
 -- a piece of a string, whatever it holds
 abbrev pub IsPiece : Bool → Content → List ℕ → ℕ → ℕ → Type 0
 IsPiece escapes content bytes at next = (held : List ℕ) × Says escapes content bytes at next held
+
+-- pieces fill the span from one place to another, and hold these bytes, one behind another
+pub data Holds (escapes : Bool) (content : Content) (bytes : List ℕ) : (at to : ℕ) → List ℕ → Type 0 where
+  none : {at : ℕ} → Holds escapes content bytes at at []
+  more : {at mid to : ℕ} {said rest held : List ℕ} → Says escapes content bytes at mid said → Holds escapes content bytes mid to rest → held ≡ said ++ rest → Holds escapes content bytes at to held
 
 -- what stands between apostrophes
 pub data IsCharacterPiece (content : Content) (bytes : List ℕ) (at next : ℕ) : Type 0 where

@@ -6,10 +6,12 @@ mod literal_text;
 mod reader;
 #[cfg(test)]
 mod tests;
+mod value;
 mod views;
 
 pub use lexeme::LexicalKind;
 pub use reader::{TokenError, spells_once, tokenize};
+pub use value::LiteralValue;
 pub use views::{Group, TokenIter, TokenStream, TokenTree, Tokens};
 
 /// The bytes of the source from `from` up to `to`, which it leaves out.
