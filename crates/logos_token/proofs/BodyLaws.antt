@@ -1,5 +1,5 @@
 -- Pieces of literals: each is one, and the digits that are read in them.
-use Rattle.std.proofs.Common.{◌≡◌, ◌≢◌, ℕ, suc, zero, ◌+◌, ◌-◌, ◌*◌, ◌^◌, ◌<◌, ◌≤◌, ◌==◌, ◌||◌, inl, inr, Bool, true, false, leb, Option, Some, None, MatchOption, List, [], ◌∷◌, ◌++◌, length, get_or, slice_range, filter, cond, refl, sym, ◌∙◌, ap, arith, add-one, add-zero}
+use Rattle.std.proofs.Common.{◌≡◌, ◌≢◌, ℕ, suc, zero, ◌+◌, ◌-◌, ◌*◌, ◌^◌, ◌<◌, ◌≤◌, ◌==◌, ◌||◌, inl, inr, Bool, true, false, leb, Option, Some, None, MatchOption, List, [], ◌∷◌, ◌++◌, length, get_or, slice_range, filter, cond, refl, sym, ◌∙◌, ap, arith, add-one, add-zero, encode_utf8}
 use Rattle.std.proofs.lemmas.Bool.{cases_lt, cases_order, cases_Bool, false≢true, ltb-true, leb-true, le-leb}
 use Rattle.std.proofs.lemmas.List.{length_push, append-nil}
 use Rattle.std.proofs.lemmas.List.Edits.{between_more, between_none}
@@ -56,16 +56,17 @@ module _ (bytes : List ℕ) (at : ℕ) where
   no_return = refl
 
   module _ (content : Content) where
-    pub IsEscape-one : (m n : ℕ) (xs ys : List ℕ) → IsEscape content bytes at m xs → IsEscape content bytes at n ys → m ≡ n
-    IsEscape-one m n xs ys (simple e s v) (simple f t w) = v ∙ sym w
+    pub IsEscape-one : (m n : ℕ) (xs ys : List ℕ) → IsEscape content bytes at m xs → IsEscape content bytes at n ys → (m ≡ n) × (xs ≡ ys)
+    IsEscape-one m n xs ys (simple e s v) (simple f t w) = (v ∙ sym w, refl)
     IsEscape-one m n xs ys (simple e s v) (hex h w) = absurd (no_letter 120 h.letter no_x s)
     IsEscape-one m n xs ys (simple e s v) (unicode c u w) = absurd (no_letter 117 u.letter no_u s)
     IsEscape-one m n xs ys (hex h v) (simple f t w) = absurd (no_letter 120 h.letter no_x t)
-    IsEscape-one m n xs ys (hex h v) (hex i w) = v ∙ sym w
+    IsEscape-one m n xs ys (hex h v) (hex i w) = (v ∙ sym w, refl)
     IsEscape-one m n xs ys (hex h v) (unicode c u w) = absurd (let e = h.letter in let f = u.letter in omega arith)
     IsEscape-one m n xs ys (unicode c u v) (simple f t w) = absurd (no_letter 117 u.letter no_u t)
     IsEscape-one m n xs ys (unicode c u v) (hex h w) = absurd (let e = h.letter in let f = u.letter in omega arith)
-    IsEscape-one m n xs ys (unicode {brace = a} c u v) (unicode {brace = b} d t w) = v ∙ ap (λ k. k + 1) (brace-one a b u t) ∙ sym w
+    IsEscape-one m n xs ys (unicode {brace = a} c u v) (unicode {brace = b} d t w) =
+        let same = brace-one a b u t in (v ∙ ap (λ k. k + 1) same ∙ sym w, ap (λ k. encode_utf8 (hex_value (digits_between bytes (at + 3) k))) same)
 
     pub escape-backslash : (next : ℕ) (held : List ℕ) → IsEscape content bytes at next held → get_or bytes at 0 ≡ 92
     escape-backslash next held (simple e s v) = e
@@ -86,13 +87,13 @@ module _ (bytes : List ℕ) (at : ℕ) where
     no_break next held (unicode c u v) (inr f) = let e = u.letter in let g = f.0 in omega arith
 
 module _ (escapes : Bool) (content : Content) (bytes : List ℕ) where
-  pub Says-one : (at m n : ℕ) (xs ys : List ℕ) → Says escapes content bytes at m xs → Says escapes content bytes at n ys → m ≡ n
-  Says-one at m n xs ys (plain e a v) (plain f b w) = v ∙ sym w
+  pub Says-one : (at m n : ℕ) (xs ys : List ℕ) → Says escapes content bytes at m xs → Says escapes content bytes at n ys → (m ≡ n) × (xs ≡ ys)
+  Says-one at m n xs ys (plain e a v) (plain f b w) = (v ∙ sym w, refl)
   Says-one at m n xs ys (plain e a v) (return r) = absurd (a.no_return r.0)
   Says-one at m n xs ys (plain e a v) (escape t f) = absurd (e t (escape-backslash bytes at content n ys f))
   Says-one at m n xs ys (plain e a v) (continuation t k) = absurd (e t k.backslash)
   Says-one at m n xs ys (return r) (plain f b w) = absurd (b.no_return r.0)
-  Says-one at m n xs ys (return r) (return s) = r.2 ∙ sym s.2
+  Says-one at m n xs ys (return r) (return s) = (r.2 ∙ sym s.2, refl)
   Says-one at m n xs ys (return r) (escape t f) = absurd (let e = escape-backslash bytes at content n ys f in let g = r.0 in omega arith)
   Says-one at m n xs ys (return r) (continuation t k) = absurd (let e = k.backslash in let g = r.0 in omega arith)
   Says-one at m n xs ys (escape t e) (plain f b w) = absurd (f t (escape-backslash bytes at content m xs e))
@@ -102,7 +103,7 @@ module _ (escapes : Bool) (content : Content) (bytes : List ℕ) where
   Says-one at m n xs ys (continuation t k) (plain f b w) = absurd (f t k.backslash)
   Says-one at m n xs ys (continuation t k) (return r) = absurd (let e = k.backslash in let g = r.0 in omega arith)
   Says-one at m n xs ys (continuation t k) (escape u f) = absurd (no_break bytes at content n ys f k.breaks)
-  Says-one at m n xs ys (continuation t k) (continuation u l) = IsFirst-one k.blanks l.blanks
+  Says-one at m n xs ys (continuation t k) (continuation u l) = (IsFirst-one k.blanks l.blanks, refl)
 
   pub Says-moves : (at next : ℕ) (held : List ℕ) → Says escapes content bytes at next held → at < next
   Says-moves at next held (plain e a v) = omega arith
@@ -111,7 +112,7 @@ module _ (escapes : Bool) (content : Content) (bytes : List ℕ) where
   Says-moves at next held (continuation t k) = let b = k.blanks.begun in omega arith
 
   pub piece-one : (at m n : ℕ) → IsPiece escapes content bytes at m → IsPiece escapes content bytes at n → m ≡ n
-  piece-one at m n p q = Says-one at m n p.0 q.0 p.1 q.1
+  piece-one at m n p q = (Says-one at m n p.0 q.0 p.1 q.1).0
 
   pub piece-moves : (at next : ℕ) → IsPiece escapes content bytes at next → at < next
   piece-moves at next p = Says-moves at next p.0 p.1
@@ -121,7 +122,7 @@ module _ (content : Content) (bytes : List ℕ) (at : ℕ) where
   character-one m n (unescaped e a v) (unescaped f b w) = v ∙ sym w
   character-one m n (unescaped e a v) (escaped {held} f) = absurd (e (escape-backslash bytes at content n held f))
   character-one m n (escaped {held} e) (unescaped f b w) = absurd (f (escape-backslash bytes at content m held e))
-  character-one m n (escaped {held = xs} e) (escaped {held = ys} f) = IsEscape-one bytes at content m n xs ys e f
+  character-one m n (escaped {held = xs} e) (escaped {held = ys} f) = (IsEscape-one bytes at content m n xs ys e f).0
 
   -- a piece of a string is an escape behind a backslash that no line break follows, and else stands for itself
 

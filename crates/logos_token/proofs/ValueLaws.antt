@@ -19,7 +19,7 @@ use Rattle.logos_token.specs.declared.token.value.LiteralValue.{LiteralValue}
 use Rattle.logos_token.specs.declared.token.value.LiteralValue.TheVariants.{Text as TextValue, Bytes as BytesValue}
 use Rattle.logos_token.specs.LexemeOpenings.{opening_at}
 use Rattle.logos_token.specs.LexemeEnds.{Ends, body_of}
-use Rattle.logos_token.specs.declared.token.lexeme.openings.Opening.TheVariants.{Quotes, Raw}
+use Rattle.logos_token.specs.declared.token.lexeme.openings.Opening.TheVariants.{Space, Line, Block, Word, Number, Quotes, Raw, Apostrophes, Character as Apostrophe, Single, Nothing as NoOpening}
 use Rattle.logos_token.specs.LiteralValues.{HoldsIn, BeginsWithString, IsHeld, IsValue}
 use Rattle.logos_token.proofs.EndLaws.{Ends-one}
 use Rattle.logos_token.proofs.CharacterLaws.{boundary-behind}
@@ -34,7 +34,17 @@ module _ (escapes : Bool) (content : Content) (bytes : List ℕ) where
   first_piece : (at next to : ℕ) (said held : List ℕ) → Says escapes content bytes at next said → at < to → Holds escapes content bytes at to held → (rest : List ℕ) × Holds escapes content bytes next to rest
   first_piece at next to said held s ahead none = absurd (omega arith)
   first_piece at next to said held s ahead (more {mid = mid} {said = other} {rest = rest} t h e) =
-      (rest, subst (λ m. Holds escapes content bytes m to rest) (Says-one escapes content bytes at mid next other said t s) h)
+      (rest, subst (λ m. Holds escapes content bytes m to rest) (Says-one escapes content bytes at mid next other said t s).0 h)
+
+  -- a span holds the same bytes, however it is cut
+  Holds-one : (at to end : ℕ) (xs ys : List ℕ) → Holds escapes content bytes at to xs → Holds escapes content bytes at end ys → to ≡ end → xs ≡ ys
+  Holds-one at to end xs ys none none d = refl
+  Holds-one at to end xs ys none (more {mid = mid} {said = said} {rest = rest} s h e) d = absurd (omega (arith, Says-moves escapes content bytes at mid said s, Holds-le mid end rest h))
+  Holds-one at to end xs ys (more {mid = mid} {said = said} {rest = rest} s h e) none d = absurd (omega (arith, Says-moves escapes content bytes at mid said s, Holds-le mid to rest h))
+  Holds-one at to end xs ys (more {mid = mid} {said = said} {rest = rest} s h e) (more {mid = next} {said = other} {rest = others} t i f) d =
+      let same = Says-one escapes content bytes at mid next said other s t in
+      let rests = Holds-one mid to end rest others h (subst (λ n. Holds escapes content bytes n end others) (sym same.0) i) d in
+      e ∙ ap (λ ws. ws ++ rest) same.1 ∙ ap (λ ws. other ++ ws) rests ∙ sym f
 
   pub rest-none : (at to : ℕ) → IsRest escapes content bytes at at to []
   rest-none at to = record { on = λ held h. h; back = λ held h. (held, h) }
@@ -110,9 +120,9 @@ wide_char c l f = grind (arith, nat_tests)
 -- a character of one byte is that byte
 one_byte : (c x : ℕ) → encode_utf8 c ≡ x ∷ [] → x < 128
 one_byte c x e = elim (cases_lt c 128) [
-  inl l ↦ let f : c ∷ [] ≡ x ∷ [] = sym (encode_ascii c l) ∙ e in let g : c ≡ x = cc in omega arith
+  | inl l ↦ let f : c ∷ [] ≡ x ∷ [] = sym (encode_ascii c l) ∙ e in let g : c ≡ x = cc in omega arith
   | inr l ↦ absurd (let f : len_utf8 c ≡ 1 = sym (length-encode c) ∙ ap length e in wide_char c l f)
-  ]
+]
 
 module _ (escapes : Bool) (bytes : List ℕ) (at next : ℕ) where
   escape_small : (held : List ℕ) → IsEscape Text bytes at next held → (x : ℕ) → held ≡ x ∷ [] → x < 128
@@ -179,7 +189,7 @@ module _ (text : List ℕ) (opening : Opening) (end : ℕ) (escapes : Bool) (con
   pub IsValue-from : (value : Option LiteralValue) → IsHeld escapes content text from to value → IsValue text value
   IsValue-from None h = (
     λ held b. let i = begins-into Characters held b in h (λ e. let s = i.0 in absurd (cc)) held i.1,
-    λ held b. let i = begins-into Octets held b in h (λ e. let s = i.0 in absurd (cc)) held i.1
+    λ held b. let i = begins-into Octets held b in h (λ e. let s = i.0 in absurd (cc)) held i.1,
   )
   IsValue-from (Some (TextValue value)) h = begins-from Characters (string_bytes value) h.0 h.1
   IsValue-from (Some (BytesValue value)) h = begins-from Octets value.items h.0 h.1
@@ -191,3 +201,23 @@ IsValue-quotes text content end from opens ends e value h =
 pub IsValue-raw : (text : List ℕ) (content : Content) (count end from : ℕ) → opening_at text 0 ≡ Raw content count → Ends text 0 (Raw content count) end → from ≡ body_of (Raw content count) 0 → (value : Option LiteralValue) → IsHeld false content text from (end - 1 - count) value → IsValue text value
 IsValue-raw text content count end from opens ends e value h =
     IsValue-from text (Raw content count) end false content (body_of (Raw content count) 0) (end - 1 - count) opens ends (λ other held i. i) (λ other held s i. (s, i)) value (subst (λ n. IsHeld false content text n (end - 1 - count) value) e h)
+
+-- a text begins with one value at most
+
+one_in : (text : List ℕ) (opening : Opening) (end : ℕ) (content : Content) (xs ys : List ℕ) → HoldsIn text opening end content xs → HoldsIn text opening end content ys → xs ≡ ys
+one_in text (Quotes other) end content xs ys h i = Holds-one true other text (body_of (Quotes other) 0) (end - 1) (end - 1) xs ys h.1 i.1 refl
+one_in text (Raw other count) end content xs ys h i = Holds-one false other text (body_of (Raw other count) 0) (end - 1 - count) (end - 1 - count) xs ys h.1 i.1 refl
+one_in text Space end content xs ys h i = absurd h
+one_in text (Line kind) end content xs ys h i = absurd h
+one_in text (Block kind) end content xs ys h i = absurd h
+one_in text Word end content xs ys h i = absurd h
+one_in text Number end content xs ys h i = absurd h
+one_in text (Apostrophes other) end content xs ys h i = absurd h
+one_in text Apostrophe end content xs ys h i = absurd h
+one_in text (Single kind) end content xs ys h i = absurd h
+one_in text NoOpening end content xs ys h i = absurd h
+
+pub value_one : {text : List ℕ} {content : Content} {xs ys : List ℕ} → BeginsWithString text content xs → BeginsWithString text content ys → xs ≡ ys
+value_one {text} {content} {xs} {ys} b d =
+    let same = Ends-one text 0 (opening_at text 0) d.end b.end d.ends b.ends in
+    one_in text (opening_at text 0) b.end content xs ys b.holds (subst (λ e. HoldsIn text (opening_at text 0) e content ys) same d.holds)

@@ -340,7 +340,13 @@ pub(crate) fn is_sound(source: &str, from: usize, opens: Opening, end: usize) ->
 {
     match opens {
         Opening::Quotes(content) => {
-            is_filled(source, true, content, from + prefix_of(content) + 1, end - 1)
+            is_filled(
+                source,
+                true,
+                content,
+                from + prefix_of(content) + 1,
+                end - 1,
+            )
         }
         Opening::Raw(content, count) => {
             let hashes = count as usize;

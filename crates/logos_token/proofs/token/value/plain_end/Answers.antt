@@ -9,9 +9,9 @@ module _ (escapes : Bool) (byte : ℕ) (ordinary : false ≡ ((byte == 13) || (e
 
   no_escape : escapes ≡ true → byte ≢ 92
   no_escape t e = elim (and_cases escapes (byte == 92) (or_parts (byte == 13) (escapes && (byte == 92)) (sym ordinary)).1) [
-    inl f ↦ false≢true (sym f ∙ t)
+    | inl f ↦ false≢true (sym f ∙ t)
     | inr f ↦ false≢true (sym f ∙ eq-eqb byte 92 e)
-    ]
+  ]
 
 pub loop-end-init : goal.loop-end-init
 loop-end-init c = record { begun = omega arith; ended = c.requires.inside; rest = rest-start c.args.escapes c.args.source.now c.args.from c.args.to }

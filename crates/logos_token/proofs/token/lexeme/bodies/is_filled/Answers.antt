@@ -18,5 +18,5 @@ loop-at-preserved c =
 pub returns : goal.returns
 returns c = (
   λ e. c.loop-at.invariant.on (subst (λ to. Steps (IsPiece c.args.escapes c.args.content c.args.source.now) c.loop-at.at to) (eqb-true c.loop-at.at c.args.to e) here),
-  λ s. eq-eqb c.loop-at.at c.args.to (let l = Steps-le (IsPiece c.args.escapes c.args.content c.args.source.now) (piece-moves c.args.escapes c.args.content c.args.source.now) (c.loop-at.invariant.back s) in let m = c.loop-at-test.false in omega arith)
+  λ s. eq-eqb c.loop-at.at c.args.to (let l = Steps-le (IsPiece c.args.escapes c.args.content c.args.source.now) (piece-moves c.args.escapes c.args.content c.args.source.now) (c.loop-at.invariant.back s) in let m = c.loop-at-test.false in omega arith),
 )
