@@ -1,4 +1,5 @@
 pub mod Tokens
+pub mod Lexemes
 pub mod Flat
 pub mod Views
 pub mod Spelling
