@@ -7,7 +7,7 @@ use Rattle.logos_token.specs.declared.token.Span.{Span}
 use Rattle.logos_token.specs.declared.token.Spacing.{Spacing}
 use Rattle.logos_token.specs.declared.token.Delimiter.TheVariants.{Parenthesis, Bracket, Brace}
 use Rattle.logos_token.specs.Tokens.{Token, TokenList, identifier, punctuation, literal, group, none, also, span_of}
-use Rattle.logos_parser.specs.Expected.{BeginsWith, Lacks, GoesOn, IsWord, IsName, IsLiteral, IsGroup, first_span}
+use Rattle.logos_parser.specs.Expected.{BeginsWith, Lacks, GoesOn, IsPlainText, IsWord, IsName, IsLiteral, IsGroup, first_span}
 use Rattle.logos_parser.specs.Values.{Slice, DefinitionValue}
 use Rattle.logos_parser.specs.Enum.{enum_word, token_word, hash, comma, IsArgument, IsToken, AreAttributes, variant_definitions, IsVariant, AreVariants, IsBody, IsEnum, IsArgumentMisfit, IsTokenMisfit, IsVariantMisfit, IsBodyMisfit, IsMisfit}
 use Rattle.logos_parser.specs.Enum.AreAttributes.{begun as no_attribute, further as next_attribute}
@@ -18,6 +18,7 @@ use Rattle.logos_parser.specs.Enum.IsTokenMisfit.{word, parenthesis, argument, b
 use Rattle.logos_parser.specs.Enum.IsVariantMisfit.{bracket, token, name as no_name}
 use Rattle.logos_parser.specs.Enum.IsMisfit.{name, braces, body, behind}
 use Rattle.logos_parser.proofs.Misfits.{body-variant, body-after_variant}
+use Rattle.logos_parser.proofs.PlainTexts.{plain_text-decided}
 use Rattle.logos_parser.proofs.Reading.{attributes-none}
 
 -- a value for which the one holds, or a span for which the other does
@@ -40,8 +41,11 @@ found-name : (run : TokenList) → ((name : Slice) × (rest : TokenList) × (run
 found-name (also (identifier t s) rest) = inl (record { text = t; span = s }, rest, refl)
 found-name run = inr (λ h. h, refl)
 
-found-literal : (run : TokenList) → ((value : Slice) × (rest : TokenList) × (run ≡ also (literal value.text value.span) rest)) ⊎ Lacks IsLiteral run (first_span run)
-found-literal (also (literal t s) rest) = inl (record { text = t; span = s }, rest, refl)
+found-literal : (run : TokenList) → ((value : Slice) × (rest : TokenList) × (run ≡ also (literal value.text value.span) rest) × IsPlainText value.text) ⊎ Lacks IsLiteral run (first_span run)
+found-literal (also (literal t s) rest) = elim (plain_text-decided t) [
+  | inl p ↦ inl (record { text = t; span = s }, rest, refl, p)
+  | inr n ↦ inr (n, refl)
+]
 found-literal run = inr (λ h. h, refl)
 
 found-parenthesis : (run : TokenList) → ((span : Span) × (inside rest : TokenList) × (run ≡ also (group Parenthesis span inside) rest)) ⊎ Lacks (IsGroup Parenthesis) run (first_span run)
@@ -58,7 +62,7 @@ found-brace run = inr (λ h. h, refl)
 
 argument-decided : (run : TokenList) → Either (IsArgument run) (IsArgumentMisfit run)
 argument-decided run = elim (found-literal run) [
-  | inl f ↦ elim (found-end f.1) [ inl e ↦ inl (f.0, rw e at f.2) | inr g ↦ inr (first_span f.1, behind_literal f.2 g) ]
+  | inl f ↦ elim (found-end f.1) [ inl e ↦ inl (f.0, record { spelled = rw e at f.2; plain = f.3 }) | inr g ↦ inr (first_span f.1, behind_literal f.2 f.3 g) ]
   | inr l ↦ inr (first_span run, other l)
 ]
 

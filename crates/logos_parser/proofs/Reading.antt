@@ -6,7 +6,7 @@ use Rattle.std.proofs.lemmas.Bool.Decides.{Decides-eqb}
 use Rattle.logos_token.specs.declared.token.Span.{Span}
 use Rattle.logos_token.specs.declared.token.Delimiter.TheVariants.{Parenthesis, Bracket, Brace}
 use Rattle.logos_token.specs.Tokens.{Token, TokenList, identifier, punctuation, literal, doc, group, none, also, span_of}
-use Rattle.logos_parser.specs.Expected.{Lacks, GoesOn, IsWord, IsName, IsMark, IsLiteral, IsGroup, first_span}
+use Rattle.logos_parser.specs.Expected.{Lacks, GoesOn, IsPlainText, IsWord, IsName, IsMark, IsLiteral, IsGroup, first_span}
 use Rattle.logos_parser.specs.Values.{Slice, DefinitionValue, EnumValue}
 use Rattle.logos_parser.specs.Enum.{token_word, hash, comma, IsArgument, IsToken, IsAttribute, AreAttributes, variant_definitions, IsVariant, AreVariants, IsBody, IsEnum, IsArgumentMisfit, IsTokenMisfit, IsVariantMisfit, IsBodyMisfit, IsMisfit}
 use Rattle.logos_parser.specs.Enum.AreAttributes.{begun as attributes-begun, further as attributes-further}
@@ -17,13 +17,19 @@ use Rattle.logos_parser.specs.Enum.IsTokenMisfit.{word as token_misfit-word, par
 use Rattle.logos_parser.specs.Enum.IsVariantMisfit.{bracket as variant_misfit-bracket, token as variant_misfit-token, name as variant_misfit-name}
 use Rattle.logos_parser.specs.Enum.IsBodyMisfit.{variant as body_misfit-variant, after_variant as body_misfit-after_variant}
 use Rattle.logos_parser.specs.Enum.IsMisfit.{name as misfit-name, braces as misfit-braces, body as misfit-body, behind as misfit-behind}
+use Rattle.logos_parser.proofs.PlainTexts.{plain_text-decided}
 
 abbrev ended : {A : Type 0} → A → TokenList → Result A Span
 ended value none = Ok value
 ended value (also token rest) = Err (span_of token)
 
+-- where a plain text has to stand, and the end behind it
+abbrev literal_read : {text : List ℕ} → Slice → TokenList → IsPlainText text ⊎ (IsPlainText text → ⊥) → Result Slice Span
+literal_read value rest (inl p) = ended value rest
+literal_read value rest (inr n) = Err value.span
+
 abbrev argument_read : TokenList → Result Slice Span
-argument_read (also (literal text span) rest) = ended (record { text = text; span = span }) rest
+argument_read (also (literal text span) rest) = literal_read (record { text = text; span = span }) rest (plain_text-decided text)
 argument_read run = Err (first_span run)
 
 abbrev and_ended : {A : Type 0} → TokenList → Result A Span → Result A Span
@@ -99,20 +105,28 @@ is_false : (b : Bool) → (b ≡ true → ⊥) → b ≡ false
 is_false true h = absurd (h refl)
 is_false false h = refl
 
+literal-plain : (value : Slice) (rest : TokenList) (d : IsPlainText value.text ⊎ (IsPlainText value.text → ⊥)) → IsPlainText value.text → literal_read value rest d ≡ ended value rest
+literal-plain value rest (inl p) t = refl
+literal-plain value rest (inr n) t = absurd (n t)
+
+literal-other : (value : Slice) (rest : TokenList) (d : IsPlainText value.text ⊎ (IsPlainText value.text → ⊥)) → (IsPlainText value.text → ⊥) → literal_read value rest d ≡ Err value.span
+literal-other value rest (inl p) o = absurd (o p)
+literal-other value rest (inr n) o = refl
+
 argument-ok : (run : TokenList) (value : Slice) → IsArgument run value → argument_read run ≡ Ok value
-argument-ok run value e = rw e refl
+argument-ok run value h = rw h.spelled (literal-plain value none (plain_text-decided value.text) h.plain)
 
 argument-lacks : (run : TokenList) (span : Span) → Lacks IsLiteral run span → argument_read run ≡ Err span
 argument-lacks none span l = ap Err (sym l.1)
 argument-lacks (also (identifier t s) rest) span l = ap Err (sym l.1)
 argument-lacks (also (punctuation c j s) rest) span l = ap Err (sym l.1)
-argument-lacks (also (literal t s) rest) span l = absurd (l.0 tt)
+argument-lacks (also (literal t s) rest) span l = literal-other (record { text = t; span = s }) rest (plain_text-decided t) l.0 ∙ ap Err (sym l.1)
 argument-lacks (also (doc t s) rest) span l = ap Err (sym l.1)
 argument-lacks (also (group d s inside) rest) span l = ap Err (sym l.1)
 
 argument-err : (run : TokenList) (span : Span) → IsArgumentMisfit run span → argument_read run ≡ Err span
 argument-err run span (argument_misfit-other l) = argument-lacks run span l
-argument-err run span (argument_misfit-behind {value} {rest} e g) = rw e (ended-err _ rest span g)
+argument-err run span (argument_misfit-behind {value} {rest} e p g) = rw e (literal-plain value rest (plain_text-decided value.text) p ∙ ended-err value rest span g)
 
 token-ok : (run : TokenList) (value : Slice) → IsToken run value → token_read run ≡ Ok value
 token-ok run value h = rw (h.spelled, argument-ok _ _ h.literal) refl

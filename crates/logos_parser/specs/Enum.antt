@@ -4,7 +4,7 @@ use Rattle.logos_token.specs.declared.token.Span.{Span}
 use Rattle.logos_token.specs.declared.token.Spacing.{Spacing}
 use Rattle.logos_token.specs.declared.token.Delimiter.TheVariants.{Parenthesis, Bracket, Brace}
 use Rattle.logos_token.specs.Tokens.{Token, TokenList, identifier, punctuation, literal, group, none, also}
-use Rattle.logos_parser.specs.Expected.{IsWord, IsName, IsMark, IsLiteral, IsGroup, Lacks, GoesOn}
+use Rattle.logos_parser.specs.Expected.{IsPlainText, IsWord, IsName, IsMark, IsLiteral, IsGroup, Lacks, GoesOn}
 use Rattle.logos_parser.specs.Values.{Slice, DefinitionValue, EnumValue}
 
 abbrev pub enum_word : List ℕ
@@ -21,9 +21,10 @@ hash = 35
 abbrev pub comma : ℕ
 comma = 44
 
--- what a parenthesis holds: one literal
-abbrev pub IsArgument : TokenList → Slice → Type 0
-IsArgument run value = run ≡ also (literal value.text value.span) none
+-- what a parenthesis holds: one literal, which is a plain text
+pub record IsArgument (run : TokenList) (value : Slice) : Type 0 where
+  pub spelled : run ≡ also (literal value.text value.span) none
+  pub plain : IsPlainText value.text
 
 -- `token` and a parenthesis, and behind them the rest
 abbrev pub token_call : Span → Span → TokenList → TokenList → TokenList
@@ -93,10 +94,10 @@ pub record IsEnum (run : TokenList) (value : EnumValue) : Type 0 where
 
 -- the first token in a parenthesis that does not fit
 pub data IsArgumentMisfit (run : TokenList) (span : Span) : Type 0 where
-  -- a literal should stand there
+  -- a plain text should stand there
   other : Lacks IsLiteral run span → IsArgumentMisfit run span
   -- nothing should stand behind it
-  behind : {value : Slice} {rest : TokenList} → run ≡ also (literal value.text value.span) rest → GoesOn rest span → IsArgumentMisfit run span
+  behind : {value : Slice} {rest : TokenList} → run ≡ also (literal value.text value.span) rest → IsPlainText value.text → GoesOn rest span → IsArgumentMisfit run span
 
 -- the first token in the brackets of an attribute that does not fit
 pub data IsTokenMisfit (run : TokenList) (span : Span) : Type 0 where

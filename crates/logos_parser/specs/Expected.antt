@@ -1,5 +1,5 @@
 -- What a grammar asks of the next token of a run.
-use Rattle.std.specs.Prelude.{◌≡◌, ℕ, List}
+use Rattle.std.specs.Prelude.{◌≡◌, ◌≢◌, ℕ, ◌≤◌, List, [], ◌∷◌, ◌++◌, All}
 use Rattle.logos_token.specs.declared.token.Span.{Span}
 use Rattle.logos_token.specs.declared.token.Delimiter.{Delimiter}
 use Rattle.logos_token.specs.Tokens.{Token, TokenList, identifier, punctuation, literal, group, none, also, span_of}
@@ -19,8 +19,17 @@ abbrev pub IsMark : ℕ → Token → Type 0
 IsMark mark (punctuation character spacing span) = character ≡ mark
 IsMark mark _ = ⊥
 
+-- a byte from 0x20 to 0x7E that is neither `"` nor `\`
+abbrev pub IsPlain : ℕ → Type 0
+IsPlain byte = (32 ≤ byte) × (byte ≤ 126) × (byte ≢ 34) × (byte ≢ 92)
+
+-- such bytes between quotes: a string that holds what is written
+abbrev pub IsPlainText : List ℕ → Type 0
+IsPlainText text = (inner : List ℕ) × (text ≡ 34 ∷ (inner ++ 34 ∷ [])) × All IsPlain inner
+
+-- a literal that is a plain text
 abbrev pub IsLiteral : Token → Type 0
-IsLiteral (literal text span) = Unit {0}
+IsLiteral (literal text span) = IsPlainText text
 IsLiteral _ = ⊥
 
 -- a group that these delimiters enclose

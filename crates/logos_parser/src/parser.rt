@@ -1,11 +1,11 @@
 //! Reads the enum of a lexer.
-ghost use Rattle.std.specs.Prelude.{◌≡◌, ◌⊎◌, ◌++◌, List, map, IfOk, IfErr, MatchOption, MatchResult};
+ghost use Rattle.std.specs.Prelude.{◌≡◌, ◌≢◌, ◌⊎◌, ◌↔◌, ℕ, List, [], ◌∷◌, ◌++◌, All, map, IsTrue, IfOk, IfErr, MatchOption, MatchResult};
 ghost use Rattle.logos_token.specs.declared.token.Span.{Span};
 ghost use Rattle.logos_token.specs.declared.token.Spacing.{Spacing};
 ghost use Rattle.logos_token.specs.Tokens.{TokenList, none, also, identifier, punctuation, literal, group, run_span};
 ghost use Rattle.logos_token.specs.Views.{tokens_of, tree_of};
 ghost use Rattle.logos_parser.specs.declared.parser.ReadError.TheVariants.{Memory};
-ghost use Rattle.logos_parser.specs.Expected.{first_span, Lacks, GoesOn, BeginsWith, IsWord, IsName, IsMark, IsLiteral, IsGroup};
+ghost use Rattle.logos_parser.specs.Expected.{first_span, Lacks, GoesOn, BeginsWith, IsPlain, IsPlainText, IsWord, IsName, IsMark, IsLiteral, IsGroup};
 ghost use Rattle.logos_parser.specs.Values.{DefinitionValue, EnumValue, literal_slice, ident_slice, definition_value, enum_value};
 ghost use Rattle.logos_parser.specs.ReadErrors.{IsRefusal, IfNotAnEnum, IfGrammar};
 ghost use Rattle.logos_parser.specs.Enum.{IsArgument, IsToken, AreAttributes, variant_definitions, IsVariant, IsBody, IsEnum, enum_word, hash, IsArgumentMisfit, IsTokenMisfit, IsVariantMisfit, IsBodyMisfit, IsMisfit};
@@ -118,12 +118,48 @@ fn read_name<'t, 's>(tokens: Tokens<'t, 's>) -> Result<(Ident<'s>, Tokens<'t, 's
     }
 }
 
-/// The literal that comes first, and what is behind it.
+/// Whether a byte is one from 0x20 to 0x7E that is neither `"` nor `\`.
+fn is_plain_byte(byte: u8) -> bool
+    ensures { IsTrue result ↔ IsPlain byte }
+{
+    (b' ' <= byte) & (byte <= b'~') & (byte != b'"') & (byte != b'\\')
+}
+
+/// Whether all bytes are such ones.
+fn are_plain(bytes: &[u8]) -> bool
+    ensures { IsTrue result ↔ All IsPlain bytes.now }
+{
+    for byte in bytes {
+        if !is_plain_byte(*byte) {
+            return false;
+        }
+    }
+    true
+}
+
+/// What stands between a quote in front and one at the end.
+fn unquoted(text: &str) -> Option<&str>
+    ensures { MatchOption result ((inner : List ℕ) → text.now ≢ 34 ∷ (inner ++ 34 ∷ [])) (λ inner. text.now ≡ 34 ∷ (inner.now ++ 34 ∷ [])) }
+{
+    text.strip_prefix('"')?.strip_suffix('"')
+}
+
+/// Whether a literal is a plain text: quotes with plain bytes between them.
+fn is_plain(text: &str) -> bool
+    ensures { IsTrue result ↔ IsPlainText text.now }
+{
+    match unquoted(text) {
+        Some(inner) => are_plain(inner.as_bytes()),
+        None => false,
+    }
+}
+
+/// The plain text that comes first, and what is behind it.
 fn read_literal<'t, 's>(tokens: Tokens<'t, 's>) -> Result<(Literal<'s>, Tokens<'t, 's>), Misfit>
-    ensures { MatchResult result (λ read. tokens_of tokens.entry ≡ also (literal read.0.text.now read.0.span) (tokens_of read.1)) (λ misfit. Lacks IsLiteral (tokens_of tokens.entry) misfit.span) }
+    ensures { MatchResult result (λ read. IsPlainText read.0.text.now × (tokens_of tokens.entry ≡ also (literal read.0.text.now read.0.span) (tokens_of read.1))) (λ misfit. Lacks IsLiteral (tokens_of tokens.entry) misfit.span) }
 {
     match split(tokens) {
-        Some((TokenTree::Literal(literal), rest)) => Ok((literal, rest)),
+        Some((TokenTree::Literal(literal), rest)) if is_plain(literal.text) => Ok((literal, rest)),
         _ => Err(Misfit::at(tokens)),
     }
 }
@@ -262,8 +298,8 @@ fn read_variants<'s>(
 }
 
 /// The enum that these tokens are: `enum`, a name, and braces with variants between commas, where the last may have a comma too, and
-/// nothing behind the braces. A variant is any number of `#[token(..)]`, each with one literal between the parentheses, and a name. Every
-/// identifier serves as a name.
+/// nothing behind the braces. A variant is any number of `#[token(..)]`, each with one plain text between the parentheses, and a name. A plain
+/// text is a string of bytes from 0x20 to 0x7E without `"` and `\`. Every identifier serves as a name.
 ///
 /// Fails with `NotAnEnum` where the identifier `enum` does not come first, with `Grammar` where it does and a later token does not fit, and
 /// with `Memory`. An enum is always read unless memory runs out. After an error nothing is kept.

@@ -93,6 +93,22 @@ fn texts_and_spacing(rt: HostRuntime) -> Result<(), Fail> {
     Ok(())
 }
 
+/// The text of the first tree, if it is an identifier. It outlives the buffer, which ends here.
+fn first_name<'s>(alloc: Global, source: &'s str) -> Result<Option<&'s str>, TokenError> {
+    let stream = tokenize(alloc, source)?;
+    match stream.run().first() {
+        Some(TokenTree::Ident(name)) => Ok(Some(name.text)),
+        _ => Ok(None),
+    }
+}
+
+#[test]
+fn texts_outlive_buffers(rt: HostRuntime) -> Result<(), Fail> {
+    assert_eq!(rt; first_name(rt.alloc(), "enum T {}")?, Some("enum"));
+    assert_eq!(rt; first_name(rt.alloc(), "{ T }")?, None);
+    Ok(())
+}
+
 #[test]
 fn fronts_of_runs(rt: HostRuntime) -> Result<(), Fail> {
     let stream = tokenize(rt.alloc(), "a (b) c")?;
