@@ -7,7 +7,6 @@ pub mod LiteralBodies
 pub mod LiteralReads
 pub mod LiteralValues
 pub mod Tokens
-pub mod Lexemes
 pub mod Flat
 pub mod Views
 pub mod Punctuation
