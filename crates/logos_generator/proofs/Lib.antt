@@ -1,2 +1,5 @@
 pub mod Compose
 pub mod Examples
+pub mod CodeLemmas
+pub mod FastLoopLemmas
+pub mod StandLemmas

@@ -18,33 +18,35 @@ Callback = ℕ → List ℕ → Action → Type 0
 abbrev pub Search : Type 1
 Search = ℕ → Found → Type 0
 
--- Uses of the leaves by number, a callback, and the input.
-module _ (uses : List Use) (callback : Callback) (bytes : List ℕ) where
+-- Uses of the leaves by number.
+module _ (uses : List Use) where
   abbrev pub asks : ℕ → Bool
   asks leaf = option_map_or (λ use_of. use_of.asks) (slice_get uses leaf) false
 
   abbrev pub skips : ℕ → Bool
   skips leaf = option_map_or (λ use_of. use_of.skips) (slice_get uses leaf) false
 
-  -- what may be answered to a match; a leaf without a callback emits
-  abbrev pub MayAnswer : ℕ → List ℕ → Action → Type 0
-  MayAnswer leaf slice answer = MatchBool (asks leaf) (callback leaf slice answer) (answer ≡ Emit)
+  -- A callback, and the input.
+  module _ (callback : Callback) (bytes : List ℕ) where
+    -- what may be answered to a match; a leaf without a callback emits
+    abbrev pub MayAnswer : ℕ → List ℕ → Action → Type 0
+    MayAnswer leaf slice answer = MatchBool (asks leaf) (callback leaf slice answer) (answer ≡ Emit)
 
-  -- the items that a match gives
-  abbrev pub items_of : Action → ℕ → ℕ → ℕ → List Item
-  items_of Emit leaf from to = if skips leaf then [] else token leaf from to (slice_range bytes from to) ∷ []
-  items_of Skip leaf from to = []
-  items_of Error leaf from to = error (Some leaf) from to (slice_range bytes from to) ∷ []
+    -- the items that a match gives
+    abbrev pub items_of : Action → ℕ → ℕ → ℕ → List Item
+    items_of Emit leaf from to = if skips leaf then [] else token leaf from to (slice_range bytes from to) ∷ []
+    items_of Skip leaf from to = []
+    items_of Error leaf from to = error (Some leaf) from to (slice_range bytes from to) ∷ []
 
-  -- The items from a place on, where a search says what is found at each.
-  pub data Lexes (search : Search) : ℕ → List Item → Type 0 where
-    over : (from : ℕ) → search from ended → Lexes search from []
-    match : (from to leaf : ℕ) (answer : Action) (rest : List Item) →
-        search from (matched leaf to) → MayAnswer leaf (slice_range bytes from to) answer →
-        Lexes search to rest → Lexes search from (items_of answer leaf from to ++ rest)
-    fault : (from to : ℕ) (rest : List Item) →
-        search from (failed to) → Lexes search to rest →
-        Lexes search from (error None from to (slice_range bytes from to) ∷ rest)
+    -- The items from a place on, where a search says what is found at each.
+    pub data Lexes (search : Search) : ℕ → List Item → Type 0 where
+      over : (from : ℕ) → search from ended → Lexes search from []
+      match : (from to leaf : ℕ) (answer : Action) (rest : List Item) →
+          search from (matched leaf to) → MayAnswer leaf (slice_range bytes from to) answer →
+          Lexes search to rest → Lexes search from (items_of answer leaf from to ++ rest)
+      fault : (from to : ℕ) (rest : List Item) →
+          search from (failed to) → Lexes search to rest →
+          Lexes search from (error None from to (slice_range bytes from to) ∷ rest)
 
 -- the items of maximal munch, from a place on
 abbrev pub Items : List Rule → Callback → Bool → List ℕ → ℕ → List Item → Type 0

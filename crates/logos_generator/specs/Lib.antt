@@ -3,4 +3,7 @@ pub mod Code
 pub mod Runs
 pub mod Items
 pub mod Headline
+pub mod CodeView
+pub mod Stands
+pub mod Attempts
 pub mod LexerValue

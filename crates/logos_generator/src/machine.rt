@@ -1,5 +1,8 @@
 //! What a run of a lexer gives.
 
+mod attempt;
+mod fast_loop;
+
 use logos_pattern::leaf::LeafId;
 use logos_token::token::Span;
 
