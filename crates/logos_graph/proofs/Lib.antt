@@ -1,3 +1,4 @@
 pub mod Unique
 pub mod Window
 pub mod Examples
+pub mod JoinLemmas

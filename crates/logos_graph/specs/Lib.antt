@@ -7,4 +7,5 @@ pub mod Found
 pub mod Faults
 pub mod Reduced
 pub mod Least
+pub mod Bytes
 pub mod View
