@@ -3,3 +3,4 @@ pub mod Examples
 pub mod CodeLemmas
 pub mod FastLoopLemmas
 pub mod StandLemmas
+pub mod LexerLemmas
