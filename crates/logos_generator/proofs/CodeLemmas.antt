@@ -16,7 +16,7 @@ use Rattle.logos_generator.specs.CodeView.{has_mask, jumps_of, fork_of, state_of
 use Rattle.logos_generator.specs.declared.code.CodeState.{CodeState as TheState}
 use Rattle.logos_generator.specs.declared.code.Fork.{Fork as TheFork}
 use Rattle.logos_generator.specs.declared.code.Fork.TheVariants.{Table}
-use Rattle.logos_generator.specs.declared.code.Code.TheInside.{Inside}
+use Rattle.logos_generator.specs.declared.code.CodeParts.{CodeParts}
 
 -- a bit as a test: whether it leaves something of a power
 some_of_power : (bit power : ℕ) → bit < 2 → 0 < power → not (bit * power == 0) ≡ (bit == 1)
@@ -44,12 +44,12 @@ All-map P f xs i x all h is =
     rw (← is) at (rw (get_or-map f xs i x (f x) h) at (all i (f x) (rw length-map h)))
 
 -- what a state names is there
-pub state_names : (code : Inside) (s : ℕ) (state : TheState) → IsSound (code_of code) → s < length (code_of code).states →
+pub state_names : (code : CodeParts) (s : ℕ) (state : TheState) → IsSound (code_of code) → s < length (code_of code).states →
     state ≡ get_or code.states.items s state → NamesWhatIsThere (code_of code) (state_of code.jump_tables.items state)
 state_names code s state sound l is =
     All-map (NamesWhatIsThere (code_of code)) (state_of code.jump_tables.items) code.states.items s state sound.states (rw length-map at l) is
 
-pub fork_names : (code : Inside) (s : ℕ) (state : TheState) (fork : TheFork) → IsSound (code_of code) → s < length (code_of code).states →
+pub fork_names : (code : CodeParts) (s : ℕ) (state : TheState) (fork : TheFork) → IsSound (code_of code) → s < length (code_of code).states →
     state ≡ get_or code.states.items s state → state.fork ≡ fork → NamesFork (code_of code) (fork_of code.jump_tables.items fork)
 fork_names code s state fork sound l is f = rw f at (state_names code s state sound l is).fork
 

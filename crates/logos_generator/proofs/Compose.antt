@@ -25,7 +25,7 @@ is_lexer rules utf8 graph code longest runs mode uses = record {
 -- the same items, where a search finds no more
 pub lexes_by : (uses : List Use) (callback : Callback) (bytes : List ℕ) (search other : Search) →
     ((from : ℕ) (found : Found) → search from found → other from found) →
-    {from : ℕ} {items : List Item} → Lexes uses bytes callback search from items → Lexes uses bytes callback other from items
+    {from : ℕ} {items : List Item} → Lexes uses callback bytes search from items → Lexes uses callback bytes other from items
 lexes_by uses callback bytes search other h (over from s) = over from (h from ended s)
 lexes_by uses callback bytes search other h (match from to leaf answer rest s a l) =
     match from to leaf answer rest (h from (matched leaf to) s) a (lexes_by uses callback bytes search other h l)

@@ -16,15 +16,15 @@ module _ {C : Type 0} (lexer : LexerValue C) (from to : ℕ) (starts : lexer.fro
   error_span leaf slice item e = let same : error leaf from to slice ≡ item = cc in subst (HasSpan lexer) same (starts, ends)
 
   -- the item of a match has its span
-  pub item_span : (uses : List Use) (bytes : List ℕ) (answer : Action) (leaf : ℕ) (item : Item) →
-      items_of uses bytes answer leaf from to ≡ item ∷ [] → HasSpan lexer item
-  item_span uses bytes Emit leaf item e = go (skips uses leaf) e
+  pub item_span : (uses : List Use) (callback : Callback) (bytes : List ℕ) (answer : Action) (leaf : ℕ) (item : Item) →
+      items_of uses callback bytes answer leaf from to ≡ item ∷ [] → HasSpan lexer item
+  item_span uses callback bytes Emit leaf item e = go (skips uses callback bytes leaf) e
     where
       go : (b : Bool) → (if b then [] else token leaf from to (slice_range bytes from to) ∷ []) ≡ item ∷ [] → HasSpan lexer item
       go true e = absurd (cc)
       go false e = token_span leaf _ item e
-  item_span uses bytes Skip leaf item e = absurd (cc)
-  item_span uses bytes Error leaf item e = error_span (Some leaf) _ item e
+  item_span uses callback bytes Skip leaf item e = absurd (cc)
+  item_span uses callback bytes Error leaf item e = error_span (Some leaf) _ item e
 
 -- what is not there is `None`
 pub none_of : {A : Type 0} (o : Option A) → ((x : A) → o ≡ Some x → ⊥) → o ≡ None
@@ -34,11 +34,11 @@ none_of (Some x) h = absurd (h x (cc))
 module _ (code : CodeValue) (callback : Callback) (bytes : List ℕ) (from : ℕ) where
   -- a run that begins with a match
   pub match_runs : (to leaf n : ℕ) (answer : Action) (items rest : List Item) → Tries code bytes from (matched leaf to) n →
-      MayAnswer code.leaves callback leaf (slice_range bytes from to) answer → items_of code.leaves bytes answer leaf from to ≡ items →
+      MayAnswer code.leaves callback bytes leaf (slice_range bytes from to) answer → items_of code.leaves callback bytes answer leaf from to ≡ items →
       Runs code callback bytes to rest → Runs code callback bytes from (items ++ rest)
   match_runs to leaf n answer items rest tries may is r = rw is at (match_run (n, tries))
     where
-      match_run : CodeFinds code bytes from (matched leaf to) → Runs code callback bytes from (items_of code.leaves bytes answer leaf from to ++ rest)
+      match_run : CodeFinds code bytes from (matched leaf to) → Runs code callback bytes from (items_of code.leaves callback bytes answer leaf from to ++ rest)
       match_run finds = match from to leaf answer rest finds may r
 
   -- with an error

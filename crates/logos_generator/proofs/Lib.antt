@@ -4,3 +4,4 @@ pub mod CodeLemmas
 pub mod FastLoopLemmas
 pub mod StandLemmas
 pub mod LexerLemmas
+pub mod SoundLemmas

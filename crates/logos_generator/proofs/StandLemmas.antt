@@ -11,7 +11,7 @@ use Rattle.std.proofs.lemmas.Bool.Decides.{eqb_tells}
 use Rattle.logos_generator.specs.Bytes.{passes_test}
 use Rattle.logos_generator.specs.Code.{CodeValue, CodeState, Mark, Condition, Fork, by_conditions, by_table}
 use Rattle.logos_generator.specs.CodeView.{state_at, no_state}
-use Rattle.logos_generator.specs.Headline.{IsSound, IsLate, NamesWhatIsThere, NamesFork, NamesState, NamesCondition}
+use Rattle.logos_generator.specs.Headline.{IsSound, IsRoot, IsEnd, IsLate, NamesWhatIsThere, NamesFork, NamesState, NamesCondition}
 use Rattle.logos_generator.specs.Runs.{Stand, Turn, enters, acts, returns, passes, target, looped, marked, forked, turn, Does}
 use Rattle.logos_generator.specs.Stands.{IsMatch, IsContext, IsBehind, IsStand}
 
@@ -67,15 +67,14 @@ module _ (code : CodeValue) (sound : IsSound code) (bytes : List ℕ) (start : �
   Stands = IsStand code bytes start
 
   -- the root has no mark, and no late state is one step from it
-  root_state : (state : CodeState) → slice_get code.states code.root ≡ Some state →
-      (state.mark ≡ None) × ((b t : ℕ) → target code state.fork b ≡ Some t → ¬ IsLate code t) × ((t : ℕ) → state.at_end ≡ Some t → ¬ IsLate code t)
+  root_state : (state : CodeState) → slice_get code.states code.root ≡ Some state → IsRoot code state
   root_state state is = rw is at sound.root
 
   root_there : code.root < length code.states
   root_there = go (slice_get code.states code.root) refl sound.root
     where
       go : (o : Option CodeState) → slice_get code.states code.root ≡ o →
-          IsSomeAnd o (λ state. (state.mark ≡ None) × ((b t : ℕ) → target code state.fork b ≡ Some t → ¬ IsLate code t) × ((t : ℕ) → state.at_end ≡ Some t → ¬ IsLate code t)) →
+          IsSomeAnd o (IsRoot code) →
           code.root < length code.states
       go None e h = absurd h
       go (Some state) e h = slice_get_within code.states code.root state e
@@ -91,10 +90,10 @@ module _ (code : CodeValue) (sound : IsSound code) (bytes : List ℕ) (start : �
   root_early s e late = go (slice_get code.states code.root) refl sound.root (subst (IsLate code) e late)
     where
       go : (o : Option CodeState) → slice_get code.states code.root ≡ o →
-          IsSomeAnd o (λ state. (state.mark ≡ None) × ((b t : ℕ) → target code state.fork b ≡ Some t → ¬ IsLate code t) × ((t : ℕ) → state.at_end ≡ Some t → ¬ IsLate code t)) →
+          IsSomeAnd o (IsRoot code) →
           IsLate code code.root → ⊥
       go None e h l = h
-      go (Some state) e h l = rw h.0 at (late_marked code.root state e l)
+      go (Some state) e h l = rw h.mark at (late_marked code.root state e l)
 
   pub stands_first : Stands (record { state = code.root; offset = start; context = None })
   stands_first = record {
@@ -143,7 +142,7 @@ module _ (code : CodeValue) (sound : IsSound code) (bytes : List ℕ) (start : �
             other same = clash (rw same at is)
               where
                 clash : slice_get code.states code.root ≡ Some state → ⊥
-                clash f = some_none (sym (root_state state f).0 ∙ e)
+                clash f = some_none (sym (root_state state f).mark ∙ e)
 
             by_late : (l : Bool) → mark.late ≡ l → IsMatch code bytes start mark.leaf (if l then offset - 1 else offset)
             by_late true l =
@@ -170,7 +169,7 @@ module _ (code : CodeValue) (sound : IsSound code) (bytes : List ℕ) (start : �
       state = target_there code state.fork b t names.fork leads;
       begun = let f = s.begun in omega (arith, f);
       first = λ e. absurd (let f = s.begun in omega (arith, e, f));
-      second = second_at t (λ same. (root_state state (rw same at is)).1 b t leads);
+      second = second_at t (λ same. (root_state state (rw same at is)).fork b t leads);
       within = inl (omega (arith, byte_in b there));
       context = fits;
     }
@@ -187,7 +186,7 @@ module _ (code : CodeValue) (sound : IsSound code) (bytes : List ℕ) (start : �
       state = rw leads at names.at_end;
       begun = let f = s.begun in omega (arith, f);
       first = λ e. absurd (let f = s.begun in omega (arith, e, f));
-      second = second_at t (λ same. (root_state state (rw same at is)).2 t leads);
+      second = second_at t (λ same. (root_state state (rw same at is)).at_end t leads);
       within = inr record {
         offset = let p = past there in ⊎_elim (λ h. omega (arith, in_bytes h, p)) (λ h. absurd (let m : state.at_end ≡ None = rw state_is at h.last in some_none (sym m ∙ leads))) s.within;
         late = ends.0;
@@ -197,7 +196,7 @@ module _ (code : CodeValue) (sound : IsSound code) (bytes : List ℕ) (start : �
     }
       where
         ends : IsLate code t × IsSomeAnd (slice_get code.states t) (λ next. next.at_end ≡ None)
-        ends = rw leads at (All-slice_get (λ (state : CodeState). IfSome state.at_end (λ t. IsLate code t × IsSomeAnd (slice_get code.states t) (λ next. next.at_end ≡ None))) code.states at.state state sound.ends is)
+        ends = rw leads at (All-slice_get (λ (state : CodeState). IsEnd code state.at_end) code.states at.state state sound.ends is)
 
         last : (o : Option CodeState) → slice_get code.states t ≡ o → IsSomeAnd o (λ next. next.at_end ≡ None) → (state_at code t).at_end ≡ None
         last None e h = absurd h

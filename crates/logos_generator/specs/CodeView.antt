@@ -1,6 +1,7 @@
 -- What contracts see of a code value.
-use Rattle.std.specs.Prelude.{◌≡◌, ℕ, ◌<◌, Bool, not, List, [], map, length, Option, Some, None, option_map, if◌then◌else◌, ◌==◌, slice_index, slice_index_or, slice_get}
+use Rattle.std.specs.Prelude.{◌≡◌, ℕ, ◌<◌, Bool, not, List, [], map, length, false, Option, Some, None, option_map, if◌then◌else◌, ◌==◌, slice_index, slice_index_or, slice_get}
 use Rattle.std.specs.Int.Bits.{bit_and}
+use Rattle.std.specs.Option.{option_map_or}
 use Rattle.logos_pattern.specs.Leaf.{is_skip}
 use Rattle.logos_graph.specs.Munch.{Use}
 use Rattle.logos_graph.specs.Bytes.{comparison_of}
@@ -13,7 +14,7 @@ use Rattle.logos_generator.specs.declared.code.Fork.{Fork as TheFork}
 use Rattle.logos_generator.specs.declared.code.Fork.TheVariants.{Conditions, Table}
 use Rattle.logos_generator.specs.declared.code.CodeState.{CodeState as TheState}
 use Rattle.logos_generator.specs.declared.code.CodeLeaf.{CodeLeaf}
-use Rattle.logos_generator.specs.declared.code.Code.TheInside.{Inside}
+use Rattle.logos_generator.specs.declared.code.CodeParts.{CodeParts}
 
 abbrev pub mark_of : TheMark → Mark
 mark_of mark = record { leaf = mark.leaf.0; late = mark.late }
@@ -48,7 +49,7 @@ state_of tables state = record {
 abbrev pub use_of : CodeLeaf → Use
 use_of leaf = record { skips = is_skip leaf.kind; asks = leaf.has_callback }
 
-abbrev pub code_of : Inside → CodeValue
+abbrev pub code_of : CodeParts → CodeValue
 code_of code = record {
   states = map (state_of code.jump_tables.items) code.states.items;
   bit_tables = code.bit_tables.items;
@@ -64,6 +65,14 @@ no_state = record { fast_loop = None; mark = None; fork = by_conditions []; at_e
 abbrev pub state_at : CodeValue → ℕ → CodeState
 state_at code s = slice_index_or code.states s no_state
 
+-- a callback is asked for the matches of the leaf
+abbrev pub asks_for : CodeValue → ℕ → Bool
+asks_for code leaf = option_map_or (λ use_of. use_of.asks) (slice_get code.leaves leaf) false
+
+-- the matches of the leaf are left out
+abbrev pub skips_over : CodeValue → ℕ → Bool
+skips_over code leaf = option_map_or (λ use_of. use_of.skips) (slice_get code.leaves leaf) false
+
 -- one of the mask's bits stands in the table's entry for the byte
 abbrev pub has_mask : List ℕ → ℕ → ℕ → Bool
 has_mask table mask b = not (bit_and (slice_index table b) mask == 0)
@@ -73,6 +82,6 @@ abbrev pub AreDifferent : List (List ℕ) → Type 0
 AreDifferent tables = (i j : ℕ) → i < length tables → j < length tables → slice_get tables i ≡ slice_get tables j → i ≡ j
 
 -- what the type of a code value keeps
-pub record IsKept (code : Inside) : Type 0 where
+pub record IsKept (code : CodeParts) : Type 0 where
   pub sound : IsSound (code_of code)
   pub once : AreDifferent code.jump_tables.items

@@ -18,36 +18,34 @@ Callback = ℕ → List ℕ → Action → Type 0
 abbrev pub Search : Type 1
 Search = ℕ → Found → Type 0
 
--- Uses of the leaves by number.
-module _ (uses : List Use) where
+-- Uses of the leaves by number, a callback, and the input.
+module _ (uses : List Use) (callback : Callback) (bytes : List ℕ) where
   abbrev pub asks : ℕ → Bool
   asks leaf = option_map_or (λ use_of. use_of.asks) (slice_get uses leaf) false
 
   abbrev pub skips : ℕ → Bool
   skips leaf = option_map_or (λ use_of. use_of.skips) (slice_get uses leaf) false
 
-  -- what a callback may answer to a match; a leaf without a callback emits
-  abbrev pub MayAnswer : Callback → ℕ → List ℕ → Action → Type 0
-  MayAnswer callback leaf slice answer = MatchBool (asks leaf) (callback leaf slice answer) (answer ≡ Emit)
+  -- what may be answered to a match; a leaf without a callback emits
+  abbrev pub MayAnswer : ℕ → List ℕ → Action → Type 0
+  MayAnswer leaf slice answer = MatchBool (asks leaf) (callback leaf slice answer) (answer ≡ Emit)
 
-  -- The input.
-  module _ (bytes : List ℕ) where
-    -- the items that a match gives
-    abbrev pub items_of : Action → ℕ → ℕ → ℕ → List Item
-    items_of Emit leaf from to = if skips leaf then [] else token leaf from to (slice_range bytes from to) ∷ []
-    items_of Skip leaf from to = []
-    items_of Error leaf from to = error (Some leaf) from to (slice_range bytes from to) ∷ []
+  -- the items that a match gives
+  abbrev pub items_of : Action → ℕ → ℕ → ℕ → List Item
+  items_of Emit leaf from to = if skips leaf then [] else token leaf from to (slice_range bytes from to) ∷ []
+  items_of Skip leaf from to = []
+  items_of Error leaf from to = error (Some leaf) from to (slice_range bytes from to) ∷ []
 
-    -- The items from a place on, by a callback, where a search says what is found at each.
-    pub data Lexes (callback : Callback) (search : Search) : ℕ → List Item → Type 0 where
-      over : (from : ℕ) → search from ended → Lexes callback search from []
-      match : (from to leaf : ℕ) (answer : Action) (rest : List Item) →
-          search from (matched leaf to) → MayAnswer callback leaf (slice_range bytes from to) answer →
-          Lexes callback search to rest → Lexes callback search from (items_of answer leaf from to ++ rest)
-      fault : (from to : ℕ) (rest : List Item) →
-          search from (failed to) → Lexes callback search to rest →
-          Lexes callback search from (error None from to (slice_range bytes from to) ∷ rest)
+  -- The items from a place on, where a search says what is found at each.
+  pub data Lexes (search : Search) : ℕ → List Item → Type 0 where
+    over : (from : ℕ) → search from ended → Lexes search from []
+    match : (from to leaf : ℕ) (answer : Action) (rest : List Item) →
+        search from (matched leaf to) → MayAnswer leaf (slice_range bytes from to) answer →
+        Lexes search to rest → Lexes search from (items_of answer leaf from to ++ rest)
+    fault : (from to : ℕ) (rest : List Item) →
+        search from (failed to) → Lexes search to rest →
+        Lexes search from (error None from to (slice_range bytes from to) ∷ rest)
 
 -- the items of maximal munch, from a place on
 abbrev pub Items : List Rule → Callback → Bool → List ℕ → ℕ → List Item → Type 0
-Items rules callback utf8 bytes = Lexes (map (λ rule. rule.use_of) rules) bytes callback (Finds rules utf8 bytes)
+Items rules callback utf8 bytes = Lexes (map (λ rule. rule.use_of) rules) callback bytes (Finds rules utf8 bytes)

@@ -66,5 +66,5 @@ pub record Keeps {C : Type 0} (old new : LexerValue C) : Type 0 where
 -- what a match gives: the item, if the answer gives one
 pub record MatchGives (code : CodeValue) (callback : Callback) (bytes : List ℕ) (leaf from to : ℕ) (item : Option Item) : Type 0 where
   pub answer : Action
-  pub may : MayAnswer code.leaves callback leaf (slice_range bytes from to) answer
-  pub is : items_of code.leaves bytes answer leaf from to ≡ option_to_list item
+  pub may : MayAnswer code.leaves callback bytes leaf (slice_range bytes from to) answer
+  pub is : items_of code.leaves callback bytes answer leaf from to ≡ option_to_list item

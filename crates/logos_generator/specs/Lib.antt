@@ -7,3 +7,4 @@ pub mod CodeView
 pub mod Stands
 pub mod Attempts
 pub mod LexerValue
+pub mod Order

@@ -91,4 +91,4 @@ CodeFinds code bytes from found = (n : ℕ) × Tries code bytes from found n
 
 -- the items of a run of the code value, from a place on
 abbrev pub Runs : CodeValue → Callback → List ℕ → ℕ → List Item → Type 0
-Runs code callback bytes = Lexes code.leaves bytes callback (CodeFinds code bytes)
+Runs code callback bytes = Lexes code.leaves callback bytes (CodeFinds code bytes)

@@ -4,9 +4,10 @@ ghost use Rattle.logos_graph.specs.Bytes.{comparison_of, some_compares};
 ghost use Rattle.logos_generator.specs.Bytes.{passes_test};
 ghost use Rattle.logos_generator.specs.Code.{by_conditions};
 ghost use Rattle.logos_generator.specs.Headline.{IsSound, NamesTest, NamesCondition, NamesFork};
-ghost use Rattle.logos_generator.specs.Items.{asks, skips};
 ghost use Rattle.logos_generator.specs.Runs.{target, passes};
-ghost use Rattle.logos_generator.specs.CodeView.{mark_of, condition_of, branch_of, jumps_of, state_at, has_mask};
+ghost use Rattle.logos_generator.specs.CodeView.{mark_of, condition_of, branch_of, entry_of, jumps_of, state_at, has_mask, asks_for, skips_over, code_of, IsKept};
+
+mod sound;
 
 use logos_graph::byte_class::Comparisons;
 use logos_pattern::leaf::{LeafId, VariantKind};
@@ -59,15 +60,24 @@ pub struct CodeLeaf<'s> {
     pub has_callback: bool,
 }
 
+/// What a code value is made of.
+#[derive(Drop)]
+pub(crate) struct CodeParts<'s> {
+    pub states: Vec<CodeState>,
+    /// Test number k is bit k mod 8 of the entries of table k / 8.
+    pub bit_tables: Vec<[u8; 256]>,
+    pub jump_tables: Vec<[u32; 256]>,
+    pub leaves: Vec<CodeLeaf<'s>>,
+    /// The state in which each try begins.
+    pub root: u32,
+    /// Errors end between characters, and the input has to be UTF-8.
+    pub utf8: bool,
+}
+
 /// The code of a lexer. Each state, table, test and leaf that it names is there, and each jump table is there once.
 #[derive(Drop)]
 pub struct Code<'s> {
-    states: Vec<CodeState>,
-    bit_tables: Vec<[u8; 256]>,
-    jump_tables: Vec<[u32; 256]>,
-    leaves: Vec<CodeLeaf<'s>>,
-    root: u32,
-    utf8: bool,
+    parts: CodeParts<'s>,
 }
 
 impl<'s> Model for Code<'s> {
@@ -77,9 +87,19 @@ impl<'s> Model for Code<'s> {
 
     ghost use Rattle.logos_generator.specs.CodeView.{code_of, IsKept};
 
-    ghost view = { code_of };
+    ghost view = { λ code. code_of code.parts };
 
-    ghost invariant = { IsKept };
+    ghost invariant = { λ code. IsKept code.parts };
+}
+
+impl<'s> Code<'s> {
+    /// The code of these parts.
+    pub(crate) fn new(parts: CodeParts<'s>) -> Code<'s>
+        requires { IsKept parts }
+        ensures { result ≡ code_of parts.entry }
+    {
+        Code { parts }
+    }
 }
 
 impl Code<'_> {
@@ -88,14 +108,14 @@ impl Code<'_> {
         ensures root { result ≡ self.now.root }
         ensures sound { IsSound self.now }
     {
-        self.root as usize
+        self.parts.root as usize
     }
 
     /// Whether errors end between characters, and the input has to be UTF-8.
     pub(crate) fn is_utf8(&self) -> bool
         ensures { result ≡ self.now.utf8 }
     {
-        self.utf8
+        self.parts.utf8
     }
 
     /// The number of the test of the bytes that stay in the state.
@@ -105,7 +125,7 @@ impl Code<'_> {
         ensures is { result ≡ (state_at self.now state).fast_loop }
         ensures there { IfSome result (NamesTest self.now) }
     {
-        self.states[state].fast_loop
+        self.parts.states[state].fast_loop
     }
 
     #[inline]
@@ -113,7 +133,7 @@ impl Code<'_> {
         requires { state < length self.now.states }
         ensures { option_map mark_of result ≡ (state_at self.now state).mark }
     {
-        self.states[state].mark
+        self.parts.states[state].mark
     }
 
     /// Where the end of the input leads from the state.
@@ -122,7 +142,7 @@ impl Code<'_> {
         requires { state < length self.now.states }
         ensures { result ≡ (state_at self.now state).at_end }
     {
-        self.states[state].at_end
+        self.parts.states[state].at_end
     }
 
     /// Where the byte leads from the state.
@@ -131,9 +151,9 @@ impl Code<'_> {
         requires { state < length self.now.states }
         ensures { result ≡ target self.now (state_at self.now state).fork byte }
     {
-        match &self.states[state].fork {
+        match &self.parts.states[state].fork {
             Fork::Conditions(branches) => self.first_target(branches, byte),
-            Fork::Table(k) => jump(&self.jump_tables[*k as usize], byte),
+            Fork::Table(k) => jump(&self.parts.jump_tables[*k as usize], byte),
         }
     }
 
@@ -167,17 +187,17 @@ impl Code<'_> {
     /// Whether a callback is asked for the matches of the leaf.
     pub(crate) fn asks(&self, leaf: LeafId) -> bool
         requires { leaf.0 < length self.now.leaves }
-        ensures { result ≡ asks self.now.leaves leaf.0 }
+        ensures { result ≡ asks_for self.now leaf.0 }
     {
-        self.leaves[leaf.0].has_callback
+        self.parts.leaves[leaf.0].has_callback
     }
 
     /// Whether the matches of the leaf are left out.
     pub(crate) fn skips(&self, leaf: LeafId) -> bool
         requires { leaf.0 < length self.now.leaves }
-        ensures { result ≡ skips self.now.leaves leaf.0 }
+        ensures { result ≡ skips_over self.now leaf.0 }
     {
-        matches!(self.leaves[leaf.0].kind, VariantKind::Skip)
+        matches!(self.parts.leaves[leaf.0].kind, VariantKind::Skip)
     }
 
     /// The table of the test with this number, and the bit of its entries that is the test.
@@ -186,16 +206,23 @@ impl Code<'_> {
         requires { NamesTest self.now k }
         ensures { (b : ℕ) → has_mask result.0.now result.1 b ≡ passes_test self.now.bit_tables k b }
     {
-        (&self.bit_tables[k as usize / 8], 1 << (k % 8))
+        (&self.parts.bit_tables[k as usize / 8], 1 << (k % 8))
     }
 }
 
-/// The entry of a jump table.
+/// The entry of a jump table for the byte.
 #[inline]
 fn jump(table: &[u32; 256], byte: u8) -> Option<u32>
     ensures { result ≡ slice_index_or (jumps_of table.now) byte None }
 {
-    let entry = table[byte as usize];
+    target_of(table[byte as usize])
+}
+
+/// The state that an entry of a jump table stands for.
+#[inline]
+fn target_of(entry: u32) -> Option<u32>
+    ensures { result ≡ entry_of entry }
+{
     if entry == NOWHERE { None } else { Some(entry) }
 }
 

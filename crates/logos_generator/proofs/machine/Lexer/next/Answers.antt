@@ -4,7 +4,7 @@ use Rattle.logos_graph.specs.Munch.{matched, failed, ended}
 use Rattle.logos_generator.specs.Items.{items_of}
 use Rattle.logos_generator.specs.Runs.{Tries}
 use Rattle.logos_generator.specs.Stands.{IsMatch}
-use Rattle.logos_generator.specs.LexerValue.{LexerValue, item_of}
+use Rattle.logos_generator.specs.LexerValue.{LexerValue, item_of, answers_of}
 use Rattle.logos_generator.proofs.LexerLemmas.{item_span, none_of, match_runs, fault_runs, over_runs}
 use Rattle.logos_generator.proofs.machine.Lexer.next.Goals as goal
 
@@ -42,10 +42,10 @@ returns-in-Some-clause-item g c =
     let tries : Tries l.code.now l.input.now l.to (matched leaf to) c.attempt-found.result.1 = rw c.in-Matched.is at c.attempt-found.ensures.tries in
     let within : IsMatch l.code.now l.input.now l.to leaf to = rw c.in-Matched.is at c.attempt-found.ensures.within in
     let gives = c.matched_item.ensures in
-    let is : items_of l.code.now.leaves l.input.now gives.answer leaf l.to to ≡ item_of c.in-Some.item ∷ [] = rw c.in-Some.is at gives.is in
+    let is : items_of l.code.now.leaves (answers_of g.C.Fn l.callback) l.input.now gives.answer leaf l.to to ≡ item_of c.in-Some.item ∷ [] = rw c.in-Some.is at gives.is in
     let new : LexerValue g.row.C.Denot = record { code = l.code.now; input = l.input.now; callback = l.callback; from = l.to; to = to; steps = c.attempt-found.result.1 } in
     record {
-      span = item_span new l.to to refl refl l.code.now.leaves l.input.now gives.answer leaf (item_of c.in-Some.item) is;
+      span = item_span new l.to to refl refl l.code.now.leaves (answers_of g.C.Fn l.callback) l.input.now gives.answer leaf (item_of c.in-Some.item) is;
       behind = c.loop-to.invariant.behind;
       nonempty = within.1;
       within = within.2;
@@ -64,7 +64,7 @@ loop-to-preserved g c =
     let tries : Tries l.code.now l.input.now l.to (matched leaf to) c.attempt-found.result.1 = rw c.in-Matched.is at c.attempt-found.ensures.tries in
     let within : IsMatch l.code.now l.input.now l.to leaf to = rw c.in-Matched.is at c.attempt-found.ensures.within in
     let gives = c.matched_item.ensures in
-    let is : items_of l.code.now.leaves l.input.now gives.answer leaf l.to to ≡ [] = rw (none_of c.matched_item.result c.in_default.not-Some) at gives.is in
+    let is : items_of l.code.now.leaves (answers_of g.C.Fn l.callback) l.input.now gives.answer leaf l.to to ≡ [] = rw (none_of c.matched_item.result c.in_default.not-Some) at gives.is in
     record {
       same_code = i.same_code;
       same_input = i.same_input;
