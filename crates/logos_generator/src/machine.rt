@@ -255,3 +255,6 @@ fn answer<C: Fn(LeafId, &[u8]) -> Action>(
         Action::Emit
     }
 }
+
+#[cfg(test)]
+mod tests;
