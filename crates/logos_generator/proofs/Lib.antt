@@ -5,3 +5,7 @@ pub mod FastLoopLemmas
 pub mod StandLemmas
 pub mod LexerLemmas
 pub mod SoundLemmas
+pub mod ScanLemmas
+pub mod FoundLemmas
+pub mod TurnLemmas
+pub mod RunLemmas

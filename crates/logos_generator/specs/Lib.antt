@@ -4,6 +4,7 @@ pub mod Runs
 pub mod Items
 pub mod Headline
 pub mod CodeView
+pub mod Makes
 pub mod Stands
 pub mod Attempts
 pub mod LexerValue

@@ -26,16 +26,16 @@ pub enum Condition {
     /// One of these holds.
     Comparisons(Vec<Comparisons>),
     /// The test with this number.
-    Test(u32),
+    Test(usize),
 }
 
 /// Where a byte leads.
 #[derive(Drop)]
 pub enum Fork {
     /// To the state of the first condition that holds.
-    Conditions(Vec<(Condition, u32)>),
+    Conditions(Vec<(Condition, usize)>),
     /// To its entry in the jump table with this number.
-    Table(u32),
+    Table(usize),
 }
 
 /// The entry of a jump table for a byte that leads nowhere.
@@ -46,11 +46,11 @@ pub const NOWHERE: u32 = u32::MAX;
 #[derive(Drop)]
 pub struct CodeState {
     /// The number of the test of the bytes that stay in the state.
-    pub fast_loop: Option<u32>,
+    pub fast_loop: Option<usize>,
     pub mark: Option<Mark>,
     pub fork: Fork,
     /// Where the end of the input leads.
-    pub at_end: Option<u32>,
+    pub at_end: Option<usize>,
 }
 
 /// What becomes of the matches of a leaf.
@@ -69,7 +69,7 @@ pub(crate) struct CodeParts<'s> {
     pub jump_tables: Vec<[u32; 256]>,
     pub leaves: Vec<CodeLeaf<'s>>,
     /// The state in which each try begins.
-    pub root: u32,
+    pub root: usize,
     /// Errors end between characters, and the input has to be UTF-8.
     pub utf8: bool,
 }
@@ -108,7 +108,7 @@ impl Code<'_> {
         ensures root { result ≡ self.now.root }
         ensures sound { IsSound self.now }
     {
-        self.parts.root as usize
+        self.parts.root
     }
 
     /// Whether errors end between characters, and the input has to be UTF-8.
@@ -120,7 +120,7 @@ impl Code<'_> {
 
     /// The number of the test of the bytes that stay in the state.
     #[inline]
-    pub(crate) fn fast_loop(&self, state: usize) -> Option<u32>
+    pub(crate) fn fast_loop(&self, state: usize) -> Option<usize>
         requires { state < length self.now.states }
         ensures is { result ≡ (state_at self.now state).fast_loop }
         ensures there { IfSome result (NamesTest self.now) }
@@ -138,7 +138,7 @@ impl Code<'_> {
 
     /// Where the end of the input leads from the state.
     #[inline]
-    pub(crate) fn at_end(&self, state: usize) -> Option<u32>
+    pub(crate) fn at_end(&self, state: usize) -> Option<usize>
         requires { state < length self.now.states }
         ensures { result ≡ (state_at self.now state).at_end }
     {
@@ -147,18 +147,18 @@ impl Code<'_> {
 
     /// Where the byte leads from the state.
     #[inline]
-    pub(crate) fn target(&self, state: usize, byte: u8) -> Option<u32>
+    pub(crate) fn target(&self, state: usize, byte: u8) -> Option<usize>
         requires { state < length self.now.states }
         ensures { result ≡ target self.now (state_at self.now state).fork byte }
     {
         match &self.parts.states[state].fork {
             Fork::Conditions(branches) => self.first_target(branches, byte),
-            Fork::Table(k) => jump(&self.parts.jump_tables[*k as usize], byte),
+            Fork::Table(k) => jump(&self.parts.jump_tables[*k], byte),
         }
     }
 
     /// The target of the first of the branches whose condition holds.
-    fn first_target(&self, branches: &[(Condition, u32)], byte: u8) -> Option<u32>
+    fn first_target(&self, branches: &[(Condition, usize)], byte: u8) -> Option<usize>
         requires { NamesFork self.now (by_conditions (map branch_of branches.now)) }
         ensures { result ≡ target self.now (by_conditions (map branch_of branches.now)) byte }
     {
@@ -202,17 +202,17 @@ impl Code<'_> {
 
     /// The table of the test with this number, and the bit of its entries that is the test.
     #[inline]
-    pub(crate) fn test(&self, k: u32) -> (&[u8; 256], u8)
+    pub(crate) fn test(&self, k: usize) -> (&[u8; 256], u8)
         requires { NamesTest self.now k }
         ensures { (b : ℕ) → has_mask result.0.now result.1 b ≡ passes_test self.now.bit_tables k b }
     {
-        (&self.parts.bit_tables[k as usize / 8], 1 << (k % 8))
+        (&self.parts.bit_tables[k / 8], 1 << (k % 8))
     }
 }
 
 /// The entry of a jump table for the byte.
 #[inline]
-fn jump(table: &[u32; 256], byte: u8) -> Option<u32>
+fn jump(table: &[u32; 256], byte: u8) -> Option<usize>
     ensures { result ≡ slice_index_or (jumps_of table.now) byte None }
 {
     target_of(table[byte as usize])
@@ -220,10 +220,10 @@ fn jump(table: &[u32; 256], byte: u8) -> Option<u32>
 
 /// The state that an entry of a jump table stands for.
 #[inline]
-fn target_of(entry: u32) -> Option<u32>
+fn target_of(entry: u32) -> Option<usize>
     ensures { result ≡ entry_of entry }
 {
-    if entry == NOWHERE { None } else { Some(entry) }
+    if entry == NOWHERE { None } else { Some(entry as usize) }
 }
 
 /// Whether one of the comparisons holds for the byte.

@@ -55,11 +55,11 @@ fn is_state_there(parts: &CodeParts, state: &CodeState) -> bool
 }
 
 /// Whether the test, if there is one, is there.
-fn is_test_there(parts: &CodeParts, test: Option<u32>) -> bool
+fn is_test_there(parts: &CodeParts, test: Option<usize>) -> bool
     ensures { IsTrue result ↔ IfSome test (NamesTest (code_of parts.now)) }
 {
     match test {
-        Some(k) => k as usize / 8 < parts.bit_tables.len(),
+        Some(k) => k / 8 < parts.bit_tables.len(),
         None => true,
     }
 }
@@ -73,11 +73,11 @@ fn is_leaf_there(parts: &CodeParts, mark: Option<Mark>) -> bool
     }
 }
 
-fn is_target_there(parts: &CodeParts, target: Option<u32>) -> bool
+fn is_target_there(parts: &CodeParts, target: Option<usize>) -> bool
     ensures { IsTrue result ↔ IfSome target (NamesState (code_of parts.now)) }
 {
     match target {
-        Some(state) => (state as usize) < parts.states.len(),
+        Some(state) => state < parts.states.len(),
         None => true,
     }
 }
@@ -87,14 +87,14 @@ fn is_fork_there(parts: &CodeParts, fork: &Fork) -> bool
 {
     match fork {
         Fork::Conditions(branches) => are_branches_there(parts, branches),
-        Fork::Table(k) => match parts.jump_tables.get(*k as usize) {
+        Fork::Table(k) => match parts.jump_tables.get(*k) {
             Some(table) => are_entries_there(parts, table),
             None => false,
         },
     }
 }
 
-fn are_branches_there(parts: &CodeParts, branches: &[(Condition, u32)]) -> bool
+fn are_branches_there(parts: &CodeParts, branches: &[(Condition, usize)]) -> bool
     ensures { IsTrue result ↔ All (λ branch. NamesCondition (code_of parts.now) (condition_of branch.0) × NamesState (code_of parts.now) branch.1) branches.now }
 {
     branches.iter().all(|branch| is_branch_there(parts, branch))
@@ -109,7 +109,7 @@ fn are_entries_there(parts: &CodeParts, table: &[u32; 256]) -> bool
         .all(|entry| is_target_there(parts, target_of(*entry)))
 }
 
-fn is_branch_there(parts: &CodeParts, branch: &(Condition, u32)) -> bool
+fn is_branch_there(parts: &CodeParts, branch: &(Condition, usize)) -> bool
     ensures { IsTrue result ↔ NamesCondition (code_of parts.now) (condition_of branch.now.0) × NamesState (code_of parts.now) branch.now.1 }
 {
     is_condition_there(parts, &branch.0) && is_target_there(parts, Some(branch.1))
@@ -127,7 +127,7 @@ fn is_condition_there(parts: &CodeParts, condition: &Condition) -> bool
 fn is_root_sound(parts: &CodeParts) -> bool
     ensures { IsTrue result → IsSomeAnd (slice_get (code_of parts.now).states (code_of parts.now).root) (IsRoot (code_of parts.now)) }
 {
-    match parts.states.get(parts.root as usize) {
+    match parts.states.get(parts.root) {
         Some(state) => {
             state.mark.is_none()
                 && is_fork_early(parts, &state.fork)
@@ -143,14 +143,14 @@ fn is_fork_early(parts: &CodeParts, fork: &Fork) -> bool
 {
     match fork {
         Fork::Conditions(branches) => are_branches_early(parts, branches),
-        Fork::Table(k) => match parts.jump_tables.get(*k as usize) {
+        Fork::Table(k) => match parts.jump_tables.get(*k) {
             Some(table) => are_entries_early(parts, table),
             None => false,
         },
     }
 }
 
-fn are_branches_early(parts: &CodeParts, branches: &[(Condition, u32)]) -> bool
+fn are_branches_early(parts: &CodeParts, branches: &[(Condition, usize)]) -> bool
     ensures { IsTrue result ↔ All (λ branch. ¬ IsLate (code_of parts.now) branch.1) branches.now }
 {
     branches
@@ -165,7 +165,7 @@ fn are_entries_early(parts: &CodeParts, table: &[u32; 256]) -> bool
 }
 
 /// Whether the target, if there is one, has no late mark.
-fn is_early(parts: &CodeParts, target: Option<u32>) -> bool
+fn is_early(parts: &CodeParts, target: Option<usize>) -> bool
     ensures { IsTrue result ↔ IfSome target (λ t. ¬ IsLate (code_of parts.now) t) }
 {
     match target {
@@ -174,10 +174,10 @@ fn is_early(parts: &CodeParts, target: Option<u32>) -> bool
     }
 }
 
-fn is_late(parts: &CodeParts, state: u32) -> bool
+fn is_late(parts: &CodeParts, state: usize) -> bool
     ensures { IsTrue result ↔ IsLate (code_of parts.now) state }
 {
-    match parts.states.get(state as usize) {
+    match parts.states.get(state) {
         Some(state) => is_late_mark(state.mark),
         None => false,
     }
@@ -201,7 +201,7 @@ fn are_ends_sound(parts: &CodeParts) -> bool
         .all(|state| is_end_sound(parts, state.at_end))
 }
 
-fn is_end_sound(parts: &CodeParts, at_end: Option<u32>) -> bool
+fn is_end_sound(parts: &CodeParts, at_end: Option<usize>) -> bool
     ensures { IsTrue result ↔ IsEnd (code_of parts.now) at_end }
 {
     match at_end {
@@ -211,10 +211,10 @@ fn is_end_sound(parts: &CodeParts, at_end: Option<u32>) -> bool
 }
 
 /// Whether the end of the input leads nowhere from the state.
-fn is_last(parts: &CodeParts, state: u32) -> bool
+fn is_last(parts: &CodeParts, state: usize) -> bool
     ensures { IsTrue result ↔ IsSomeAnd (slice_get (code_of parts.now).states state) (λ next. next.at_end ≡ None) }
 {
-    match parts.states.get(state as usize) {
+    match parts.states.get(state) {
         Some(state) => state.at_end.is_none(),
         None => false,
     }

@@ -89,13 +89,13 @@ fn marked(
 
 /// On to the target behind the offset, if there is one.
 #[inline]
-fn go_on(target: Option<u32>, offset: usize, context: Option<(LeafId, usize)>) -> Turn
+fn go_on(target: Option<usize>, offset: usize, context: Option<(LeafId, usize)>) -> Turn
     requires { offset + 1 < 2 ^ 64 }
     ensures { turn_of result ≡ led target offset (context_of context) }
 {
     match target {
         Some(state) => Turn::Enters(Stand {
-            state: state as usize,
+            state,
             offset: offset + 1,
             context,
         }),

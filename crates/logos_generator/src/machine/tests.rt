@@ -41,7 +41,7 @@ fn dead_end(alloc: Global, mark: Option<Mark>) -> CodeState {
 }
 
 /// A fork that leads by the bytes from `first` to `last`.
-fn by_range(alloc: Global, first: u8, last: u8, target: u32) -> Result<Fork, AllocError> {
+fn by_range(alloc: Global, first: u8, last: u8, target: usize) -> Result<Fork, AllocError> {
     let mut comparisons = Vec::new(alloc);
     comparisons.push(Comparisons::new(alloc, RangeInclusive::new(first, last)))?;
     let mut branches = Vec::new(alloc);
