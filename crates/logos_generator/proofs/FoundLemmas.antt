@@ -96,9 +96,9 @@ module _ (code : CodeValue) (graph : List GraphState) (utf8 : Bool) (bytes : Lis
       same l = ⊎_elim
           (λ h. absurd (clash v.n v.mark (no_there v.n (l.last v.n h v.fits)) v.is))
           (λ o. ⊎_elim
-            (λ h. absurd (clash l.at _ (v.last l.at h l.in_rest) (there l.at leaf l.size l.mark)))
-            (λ e. same_last leaf to v.mark v.n l.at l.size e v.is (there l.at leaf l.size l.mark) l.end)
-            o)
+          (λ h. absurd (clash l.at _ (v.last l.at h l.in_rest) (there l.at leaf l.size l.mark)))
+          (λ e. same_last leaf to v.mark v.n l.at l.size e v.is (there l.at leaf l.size l.mark) l.end)
+          o)
           (order l.at v.n)
 
       back : matched leaf to ≡ matched v.mark.0 v.mark.1 → IsLastMark graph utf8 bytes from leaf to
@@ -122,10 +122,10 @@ module _ (code : CodeValue) (graph : List GraphState) (utf8 : Bool) (bytes : Lis
   covers_iff : (to : ℕ) → CoversWalk graph utf8 bytes from to ↔ ((max (from + reach code graph 0 rest) (from + 1) ≤ to) × (IsTrue code.utf8 → IsCharBoundary bytes to))
   covers_iff to = (
     λ c.
-      let f = reach-fits code graph 0 rest in
-      let a = c.covers (reach code graph 0 rest) f ((walk_reach code graph 0 rest (reach code graph 0 rest) f).1 (omega arith)) in
-      let b = c.nonempty in
-      (omega arith, λ t. c.boundary (subst IsTrue mode t)),
+        let f = reach-fits code graph 0 rest in
+        let a = c.covers (reach code graph 0 rest) f ((walk_reach code graph 0 rest (reach code graph 0 rest) f).1 (omega arith)) in
+        let b = c.nonempty in
+        (omega arith, λ t. c.boundary (subst IsTrue mode t)),
     λ c. record {
       nonempty = omega (arith, c.0);
       covers = λ n h w. let k = (walk_reach code graph 0 rest n h).0 w in omega (arith, c.0, k);
@@ -141,8 +141,8 @@ module _ (code : CodeValue) (graph : List GraphState) (utf8 : Bool) (bytes : Lis
   )
   found_none (failed to) v = rw v.result_is (
     λ u.
-      let c = (covers_iff to).0 u.covers in
-      record { past = c.0; boundary = c.1; least = λ other p b. u.least other ((covers_iff other).1 (p, b)) },
+        let c = (covers_iff to).0 u.covers in
+        record { past = c.0; boundary = c.1; least = λ other p b. u.least other ((covers_iff other).1 (p, b)) },
     λ e. record {
       starts = starts;
       unmarked = λ n h. no_back n (v.none n h);

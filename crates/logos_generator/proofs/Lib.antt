@@ -9,3 +9,5 @@ pub mod ScanLemmas
 pub mod FoundLemmas
 pub mod TurnLemmas
 pub mod RunLemmas
+pub mod BitLemmas
+pub mod ForkLemmas

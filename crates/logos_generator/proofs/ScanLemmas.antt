@@ -148,8 +148,10 @@ module _ (code : CodeValue) (graph : List GraphState) where
         where
           at_end : mark_n s [] at 1 ≡ marked (mark_at t) (at + 1) None
           at_end = rw e (end_mark t (at + 1))
+
           above : (m : ℕ) → suc (suc m) ≤ 1 → ⊥
           above m h = omega arith
+
           go2 : (o : Option Mark) → mark_at t ≡ o → LastView s [] at context (last_of s [] at context)
           go2 None f = own s [] at context _ (rw (e, f) refl) none
             where
@@ -182,11 +184,12 @@ module _ (code : CodeValue) (graph : List GraphState) where
             result_is = last_of-step s b rest at context t e ∙ v.result_is;
           })
           (λ v. own s (b ∷ rest) at context _ (last_of-step s b rest at context t e ∙ v.result_is)
-              (λ m h. mark_n-suc s b rest at m t e ∙ v.none m (less m h)))
+          (λ m h. mark_n-suc s b rest at m t e ∙ v.none m (less m h)))
           (below t)
         where
           less : (m : ℕ) → suc m ≤ suc (length rest) + 1 → m ≤ length rest + 1
           less m h = omega arith
+
           later : (n : ℕ) → ((m : ℕ) → n < m → m ≤ length rest + 1 → mark_n t rest (at + 1) m ≡ None) →
               (m : ℕ) → suc n < m → m ≤ suc (length rest) + 1 → mark_n s (b ∷ rest) at m ≡ None
           later n f zero h k = absurd (not_before n h)
@@ -208,6 +211,7 @@ module _ (code : CodeValue) (graph : List GraphState) where
         where
           wrong : false ≡ true → ⊥
           wrong g = cc
+
           none : suc n ≤ 0 → ⊥
           none g = omega arith
       go below (Some t) e = rw e (λ g. let k = (below t).0 g in omega arith, λ g. (below t).1 (omega (arith, g)))

@@ -131,9 +131,13 @@ module _ (code : CodeValue) (graph : List GraphState) where
     -- a byte, or the end of the input
     byte_cases : (at : ℕ) → ((b : ℕ) × (at < length bytes) × (slice_get bytes at ≡ Some b) × (b < 256) × (drop at bytes ≡ b ∷ drop (at + 1) bytes)) ⊎ ((length bytes ≤ at) × (slice_get bytes at ≡ None) × (drop at bytes ≡ []))
     byte_cases at = ⊎_elim
-        (λ u. inl (u.0, u.1, u.2,
+        (λ u. inl (
+          u.0,
+          u.1,
+          u.2,
           subst (λ b. b < 256) u.3 (are at u.0 u.1),
-          drop_more bytes at u.0 u.1 ∙ ap (λ b. b ∷ drop (at + 1) bytes) u.3))
+          drop_more bytes at u.0 u.1 ∙ ap (λ b. b ∷ drop (at + 1) bytes) u.3,
+        ))
         (λ u. inr (u.0, u.1, drop_all at bytes u.0))
         (slice_get_cases bytes at).1
 

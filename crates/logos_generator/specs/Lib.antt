@@ -5,6 +5,7 @@ pub mod Items
 pub mod Headline
 pub mod CodeView
 pub mod Makes
+pub mod Nodes
 pub mod Stands
 pub mod Attempts
 pub mod LexerValue

@@ -223,7 +223,11 @@ fn jump(table: &[u32; 256], byte: u8) -> Option<usize>
 fn target_of(entry: u32) -> Option<usize>
     ensures { result ≡ entry_of entry }
 {
-    if entry == NOWHERE { None } else { Some(entry as usize) }
+    if entry == NOWHERE {
+        None
+    } else {
+        Some(entry as usize)
+    }
 }
 
 /// Whether one of the comparisons holds for the byte.

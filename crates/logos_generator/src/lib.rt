@@ -3,4 +3,5 @@
 #![tactic(auto)]
 
 pub mod code;
+pub mod generator;
 pub mod machine;
