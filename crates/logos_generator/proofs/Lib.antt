@@ -11,3 +11,5 @@ pub mod TurnLemmas
 pub mod RunLemmas
 pub mod BitLemmas
 pub mod ForkLemmas
+pub mod NodeLemmas
+pub mod MadeLemmas

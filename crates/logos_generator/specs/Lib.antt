@@ -6,6 +6,7 @@ pub mod Headline
 pub mod CodeView
 pub mod Makes
 pub mod Nodes
+pub mod StateView
 pub mod Stands
 pub mod Attempts
 pub mod LexerValue

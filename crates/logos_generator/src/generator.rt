@@ -8,4 +8,5 @@ pub struct Config {
 }
 
 mod fork;
+mod states;
 mod tests_by_bits;
