@@ -1,14 +1,13 @@
 -- Parts of a code value, by its fields.
-use Rattle.std.proofs.Common.{◌≡◌, ℕ, zero, suc, ◌+◌, ◌*◌, ◌/◌, ◌%◌, ◌^◌, ◌<◌, ◌≤◌, ◌⊎◌, inl, inr, Bool, true, false, not, ◌==◌, List, [], length, map, All, Option, Some, slice_get, slice_index, get_or, refl, sym, ap, ◌∙◌, arith, ⊎_elim}
+use Rattle.std.proofs.Common.{◌≡◌, ℕ, zero, suc, ◌*◌, ◌/◌, ◌%◌, ◌^◌, ◌<◌, ◌≤◌, ◌⊎◌, not, ◌==◌, List, [], length, map, All, Some, slice_get, slice_index, get_or, refl, sym, ap, ◌∙◌, arith, ⊎_elim}
 use Rattle.std.specs.Int.{bit_at}
-use Rattle.std.specs.Int.Bits.{bit_and}
 use Rattle.std.proofs.lemmas.Option.{slice_get-get_or}
 use Rattle.std.proofs.lemmas.Nat.Bits.{and_pow, bit_at-lt}
 use Rattle.std.proofs.lemmas.Nat.{pow_pos}
 use Rattle.std.proofs.lemmas.Bool.{ne_eqb}
 use Rattle.std.proofs.lemmas.List.{get_or-map, length-map}
 use Rattle.std.proofs.Math.Pow.{pow-lt}
-use Rattle.logos_generator.specs.Bytes.{has_bit, passes_test}
+use Rattle.logos_generator.specs.Bytes.{passes_test}
 use Rattle.std.proofs.Math.ListN.{get_or-eq_default}
 use Rattle.logos_generator.specs.Code.{CodeValue}
 use Rattle.logos_generator.specs.Headline.{IsSound, NamesWhatIsThere, NamesFork}

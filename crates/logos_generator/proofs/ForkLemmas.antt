@@ -1,17 +1,15 @@
 -- Tables by their entries, and branches by their edges.
-use Rattle.std.proofs.Common.{◌≡◌, ◌≢◌, ℕ, zero, suc, ◌+◌, ◌<◌, ◌≤◌, ◌↔◌, Bool, true, false, not, ◌&&◌, ◌||◌, ◌==◌, cond, if◌then◌else◌, MatchBool, IsSomeAnd, List, [], ◌∷◌, ◌++◌, length, drop, map, find, Option, Some, None, option_map, slice_get, slice_index_or, get_or, nat_le, refl, sym, ap, ◌∙◌, subst, arith, rules, ⊎_elim, inl, inr, ◌⊎◌, append_assoc, append-nil}
-use Rattle.std.specs.Option.{option_or, option_map_or}
+use Rattle.std.proofs.Common.{◌≡◌, ℕ, zero, suc, ◌+◌, ◌<◌, Bool, true, false, ◌&&◌, ◌||◌, ◌==◌, cond, MatchBool, IsSomeAnd, List, [], ◌∷◌, ◌++◌, length, drop, map, find, Option, Some, None, option_map, slice_get, get_or, nat_le, refl, sym, ap, ◌∙◌, append_assoc, append-nil}
+use Rattle.std.specs.Option.{option_or}
 use Rattle.std.specs.declared.ops.RangeInclusive.{RangeInclusive}
-use Rattle.std.proofs.lemmas.List.{drop_more, drop_all, map-append}
-use Rattle.std.proofs.lemmas.Bool.Decides.{eqb_tells}
-use Rattle.std.proofs.lemmas.Bool.{ne_eqb}
+use Rattle.std.proofs.lemmas.List.{drop_more, map-append}
 use Rattle.logos_graph.specs.Graph.{is_in}
 use Rattle.logos_graph.specs.Bytes.{bounds}
 use Rattle.logos_graph.specs.declared.byte_class.ByteClass.{ByteClass}
 use Rattle.logos_generator.specs.Code.{Condition, by_comparisons, by_test}
 use Rattle.logos_generator.specs.declared.code.Condition.{Condition as TheCondition}
 use Rattle.logos_generator.specs.CodeView.{branch_of}
-use Rattle.logos_generator.specs.Nodes.{Edge, edge_of, hit, is_other, leads_beside, Extends, IsSetOf, IsTest, IsConditionOf, IsBranchOf, AreBranchesOf, IsLoopOf}
+use Rattle.logos_generator.specs.Nodes.{Edge, edge_of, hit, is_other, leads_beside, Extends, IsSetOf, IsTest, IsConditionOf, IsBranchOf, AreBranchesOf}
 
 -- nothing is written where nothing is hit
 pub hit_nothing : (t : ℕ) (e : Option ℕ) → hit false t e ≡ e

@@ -1,15 +1,14 @@
 -- What a graph finds, by the one walk of ScanLemmas.
-use Rattle.std.proofs.Common.{◌≡◌, ℕ, zero, suc, ◌+◌, ◌-◌, ◌<◌, ◌≤◌, ◌↔◌, ◌⊎◌, inl, inr, ⊎_elim, max, Bool, true, false, List, [], ◌∷◌, length, take, drop, Option, Some, None, IsSome, IsTrue, IsCharBoundary, option_map, option_and_then, slice_get, nat_lt, refl, sym, ap, ◌∙◌, subst, arith, rules, length-drop}
-use Rattle.std.specs.Option.{option_map_or}
+use Rattle.std.proofs.Common.{◌≡◌, ℕ, zero, suc, ◌+◌, ◌-◌, ◌<◌, ◌≤◌, ◌↔◌, ◌⊎◌, ⊎_elim, max, Bool, false, List, length, take, drop, Option, Some, None, IsTrue, IsCharBoundary, option_map, option_and_then, slice_get, nat_lt, refl, sym, ap, ◌∙◌, subst, arith, rules}
 use Rattle.logos_graph.specs.Munch.{Found, ended, matched, failed}
-use Rattle.logos_generator.specs.Code.{CodeValue, Mark}
-use Rattle.logos_generator.specs.Runs.{marked, Acts, EndsError}
-use Rattle.logos_graph.specs.Graph.{StateType, GraphState, next_by, next_at_end, walk, type_after}
-use Rattle.logos_graph.specs.Found.{mark_of, mark_after, GraphFinds, IsLastMark, CoversWalk, IsUnmarked}
+use Rattle.logos_generator.specs.Code.{CodeValue}
+use Rattle.logos_generator.specs.Runs.{marked, Acts}
+use Rattle.logos_graph.specs.Graph.{StateType, GraphState, type_after}
+use Rattle.logos_graph.specs.Found.{mark_of, mark_after, GraphFinds, IsLastMark, CoversWalk}
 use Rattle.logos_generator.specs.Makes.{mark_made, mark_by}
-use Rattle.logos_generator.proofs.ScanLemmas.{mark_at, last_of, reach, mark_n, last_view, HasLast, HasNone, LastView, mark_n-zero, walk_reach, reach-fits}
+use Rattle.logos_generator.proofs.ScanLemmas.{mark_at, last_of, reach, mark_n, last_view, HasLast, HasNone, mark_n-zero, walk_reach, reach-fits}
 
-module _ (code : CodeValue) (graph : List GraphState) (utf8 : Bool) (bytes : List ℕ) (from : ℕ) (mode : code.utf8 ≡ utf8) (starts : from < length bytes) (unmarked : mark_at code graph 0 ≡ None) where
+module _ (code : CodeValue) (graph : List GraphState) (utf8 : Bool) (bytes : List ℕ) (from : ℕ) (mode : code.utf8 ≡ utf8) (starts : from < length bytes) (unmarked : mark_at graph 0 ≡ None) where
   abbrev rest : List ℕ
   rest = drop from bytes
 
@@ -28,7 +27,7 @@ module _ (code : CodeValue) (graph : List GraphState) (utf8 : Bool) (bytes : Lis
   placed_marks None n = refl
   placed_marks (Some type) n = placed_mark type.early type.accept n
 
-  mark_n-is : (n : ℕ) → mark_n code graph 0 rest from (suc n) ≡ placed (mark_after graph utf8 bytes from (suc n))
+  mark_n-is : (n : ℕ) → mark_n graph 0 rest from (suc n) ≡ placed (mark_after graph utf8 bytes from (suc n))
   mark_n-is n = placed_marks (type_after graph 0 (take (suc n) rest) (nat_lt (length rest) (suc n))) n
 
   unmarked_by : (early accept : Option ℕ) → mark_by early accept ≡ None → mark_of (record { accept = accept; early = early }) 0 ≡ None
@@ -44,10 +43,10 @@ module _ (code : CodeValue) (graph : List GraphState) (utf8 : Bool) (bytes : Lis
   nat_lt-zero : (a : ℕ) → nat_lt a 0 ≡ false
   nat_lt-zero a = search rules
 
-  mark_is : (n : ℕ) → mark_n code graph 0 rest from n ≡ placed (mark_after graph utf8 bytes from n)
+  mark_is : (n : ℕ) → mark_n graph 0 rest from n ≡ placed (mark_after graph utf8 bytes from n)
   mark_is zero =
       let e : mark_after graph utf8 bytes from 0 ≡ None = rw (nat_lt-zero (length rest)) (unmarked_at (slice_get graph 0) unmarked) in
-      let m = mark_n-zero code graph 0 rest from in
+      let m = mark_n-zero graph 0 rest from in
       rw (e, m, unmarked) refl
   mark_is (suc n) = mark_n-is n
 
@@ -61,31 +60,31 @@ module _ (code : CodeValue) (graph : List GraphState) (utf8 : Bool) (bytes : Lis
       (q.1, ap (λ (r : ℕ × ℕ). Some (r.0, q.1)) f, sym (ap (λ (r : ℕ × ℕ). r.1) f))
 
   -- a mark of the graph is one by its place
-  there : (n leaf size : ℕ) → mark_after graph utf8 bytes from n ≡ Some (leaf, size) → mark_n code graph 0 rest from n ≡ Some (leaf, from + size)
+  there : (n leaf size : ℕ) → mark_after graph utf8 bytes from n ≡ Some (leaf, size) → mark_n graph 0 rest from n ≡ Some (leaf, from + size)
   there n leaf size e = mark_is n ∙ ap placed e
 
-  no_there : (n : ℕ) → mark_after graph utf8 bytes from n ≡ None → mark_n code graph 0 rest from n ≡ None
+  no_there : (n : ℕ) → mark_after graph utf8 bytes from n ≡ None → mark_n graph 0 rest from n ≡ None
   no_there n e = mark_is n ∙ ap placed e
 
-  no_back : (n : ℕ) → mark_n code graph 0 rest from n ≡ None → mark_after graph utf8 bytes from n ≡ None
+  no_back : (n : ℕ) → mark_n graph 0 rest from n ≡ None → mark_after graph utf8 bytes from n ≡ None
   no_back n e = of_none _ (sym (mark_is n) ∙ e)
 
-  clash : (n : ℕ) (p : ℕ × ℕ) → mark_n code graph 0 rest from n ≡ None → mark_n code graph 0 rest from n ≡ Some p → ⊥
+  clash : (n : ℕ) (p : ℕ × ℕ) → mark_n graph 0 rest from n ≡ None → mark_n graph 0 rest from n ≡ Some p → ⊥
   clash n p e f = cc
 
   order : (a b : ℕ) → (a < b) ⊎ ((b < a) ⊎ (a ≡ b))
   order a b = grind arith
 
-  same_last : (leaf to : ℕ) (p : ℕ × ℕ) (n at size : ℕ) → at ≡ n → mark_n code graph 0 rest from n ≡ Some p → mark_n code graph 0 rest from at ≡ Some (leaf, from + size) → to ≡ from + size → matched leaf to ≡ matched p.0 p.1
+  same_last : (leaf to : ℕ) (p : ℕ × ℕ) (n at size : ℕ) → at ≡ n → mark_n graph 0 rest from n ≡ Some p → mark_n graph 0 rest from at ≡ Some (leaf, from + size) → to ≡ from + size → matched leaf to ≡ matched p.0 p.1
   same_last leaf to p n at size same is found end =
-      let e : mark_n code graph 0 rest from n ≡ Some (leaf, from + size) = subst (λ k. mark_n code graph 0 rest from k ≡ Some (leaf, from + size)) same found in
+      let e : mark_n graph 0 rest from n ≡ Some (leaf, from + size) = subst (λ k. mark_n graph 0 rest from k ≡ Some (leaf, from + size)) same found in
       let f : (leaf, from + size) ≡ p = cc in
       ap (λ k. matched leaf k) end ∙ ap (λ (q : ℕ × ℕ). matched q.0 q.1) f
 
   abbrev scan : Option (ℕ × ℕ)
-  scan = last_of code graph 0 rest from None
+  scan = last_of graph 0 rest from None
 
-  found_last : (found : Found) → HasLast code graph 0 rest from scan → GraphFinds graph utf8 bytes from found ↔ Acts code bytes from scan (from + reach code graph 0 rest) found
+  found_last : (found : Found) → HasLast graph 0 rest from scan → GraphFinds graph utf8 bytes from found ↔ Acts code bytes from scan (from + reach graph 0 rest) found
   found_last ended v = rw v.result_is (λ g. absurd (omega (arith, g, starts)), λ e. absurd (cc))
   found_last (matched leaf to) v = rw v.result_is (
     λ g. same g.1,
@@ -119,21 +118,21 @@ module _ (code : CodeValue) (graph : List GraphState) (utf8 : Bool) (bytes : Lis
     λ e. absurd (cc),
   )
 
-  covers_iff : (to : ℕ) → CoversWalk graph utf8 bytes from to ↔ ((max (from + reach code graph 0 rest) (from + 1) ≤ to) × (IsTrue code.utf8 → IsCharBoundary bytes to))
+  covers_iff : (to : ℕ) → CoversWalk graph utf8 bytes from to ↔ ((max (from + reach graph 0 rest) (from + 1) ≤ to) × (IsTrue code.utf8 → IsCharBoundary bytes to))
   covers_iff to = (
     λ c.
-        let f = reach-fits code graph 0 rest in
-        let a = c.covers (reach code graph 0 rest) f ((walk_reach code graph 0 rest (reach code graph 0 rest) f).1 (omega arith)) in
+        let f = reach-fits graph 0 rest in
+        let a = c.covers (reach graph 0 rest) f ((walk_reach graph 0 rest (reach graph 0 rest) f).1 (omega arith)) in
         let b = c.nonempty in
         (omega arith, λ t. c.boundary (subst IsTrue mode t)),
     λ c. record {
       nonempty = omega (arith, c.0);
-      covers = λ n h w. let k = (walk_reach code graph 0 rest n h).0 w in omega (arith, c.0, k);
+      covers = λ n h w. let k = (walk_reach graph 0 rest n h).0 w in omega (arith, c.0, k);
       boundary = λ t. c.1 (subst IsTrue (sym mode) t);
     },
   )
 
-  found_none : (found : Found) → HasNone code graph 0 rest from None scan → GraphFinds graph utf8 bytes from found ↔ Acts code bytes from scan (from + reach code graph 0 rest) found
+  found_none : (found : Found) → HasNone graph 0 rest from None scan → GraphFinds graph utf8 bytes from found ↔ Acts code bytes from scan (from + reach graph 0 rest) found
   found_none ended v = rw v.result_is (λ g. omega (arith, g, starts), λ e. absurd e)
   found_none (matched leaf to) v = rw v.result_is (
     λ g. clash g.1.at _ (v.none g.1.at g.1.in_rest) (there g.1.at leaf g.1.size g.1.mark),
@@ -151,5 +150,5 @@ module _ (code : CodeValue) (graph : List GraphState) (utf8 : Bool) (bytes : Lis
     },
   )
 
-  pub found_iff : (found : Found) → GraphFinds graph utf8 bytes from found ↔ Acts code bytes from (last_of code graph 0 (drop from bytes) from None) (from + reach code graph 0 (drop from bytes)) found
-  found_iff found = ⊎_elim (found_last found) (found_none found) (last_view code graph 0 rest from None)
+  pub found_iff : (found : Found) → GraphFinds graph utf8 bytes from found ↔ Acts code bytes from (last_of graph 0 (drop from bytes) from None) (from + reach graph 0 (drop from bytes)) found
+  found_iff found = ⊎_elim (found_last found) (found_none found) (last_view graph 0 rest from None)

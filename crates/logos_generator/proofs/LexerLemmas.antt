@@ -1,5 +1,5 @@
 -- Steps of a lexer.
-use Rattle.std.proofs.Common.{◌≡◌, ℕ, Bool, true, false, if◌then◌else◌, List, [], ◌∷◌, ◌++◌, Option, Some, None, is_some, slice_range, sym, subst}
+use Rattle.std.proofs.Common.{◌≡◌, ℕ, Bool, true, false, if◌then◌else◌, List, [], ◌∷◌, ◌++◌, Option, Some, None, slice_range, subst}
 use Rattle.logos_graph.specs.Munch.{Use, ended, matched, failed}
 use Rattle.logos_generator.specs.declared.machine.Action.{Action}
 use Rattle.logos_generator.specs.declared.machine.Action.TheVariants.{Emit, Skip, Error}

@@ -1,22 +1,20 @@
 -- A code whose states are made of a graph's states is sound, and made from the graph.
-use Rattle.std.proofs.Common.{◌≡◌, ◌≢◌, ℕ, zero, suc, ◌+◌, ◌*◌, ◌<◌, ◌≤◌, ◌↔◌, Bool, true, false, not, ◌&&◌, ◌==◌, cond, if◌then◌else◌, MatchOption, IsSomeAnd, IfSome, IsTrue, List, [], ◌∷◌, length, map, find, All, Option, Some, None, option_map, slice_get, slice_index_or, get_or, refl, sym, ap, ◌∙◌, subst, arith, rules, ⊎_elim, inl, inr, ◌⊎◌}
+use Rattle.std.proofs.Common.{◌≡◌, ◌≢◌, ℕ, zero, suc, ◌*◌, ◌<◌, ◌≤◌, ◌↔◌, Bool, true, false, ◌==◌, cond, if◌then◌else◌, MatchOption, IsSomeAnd, IfSome, IsTrue, List, [], ◌∷◌, length, find, All, Option, Some, None, option_map, slice_get, get_or, refl, sym, ap, ◌∙◌, subst, arith, ⊎_elim, ◌⊎◌}
 use Rattle.std.specs.List.{AllPairs, IsDistinct}
 use Rattle.std.specs.Str.{bytes_eq}
 use Rattle.std.proofs.lemmas.Slice.Eq.{bytes_eq-Decides}
 use Rattle.std.proofs.lemmas.Map.Made.{AllPairs-from_IsDistinct}
-use Rattle.std.specs.Option.{option_map_or}
 use Rattle.std.proofs.lemmas.List.{length-map}
 use Rattle.std.proofs.lemmas.Option.{slice_get-get_or, get_or_from_slice_get, slice_get_within, slice_get_cases, slice_get-map}
 use Rattle.logos_generator.proofs.StandLemmas.{All-slice_get}
 use Rattle.std.proofs.lemmas.Bool.Decides.{eqb_tells}
 use Rattle.logos_graph.specs.Graph.{GraphState, is_in}
-use Rattle.logos_graph.specs.Munch.{Use}
 use Rattle.logos_generator.specs.Bytes.{passes_test}
-use Rattle.logos_generator.specs.Code.{CodeValue, CodeState, Mark}
+use Rattle.logos_generator.specs.Code.{CodeValue, CodeState}
 use Rattle.logos_generator.specs.Runs.{target}
 use Rattle.logos_generator.specs.Headline.{IsSound, IsRoot, IsEnd, IsLate, NamesWhatIsThere, NamesState}
-use Rattle.logos_generator.specs.Makes.{mark_made, led_by, stays, leads, Makes, IsLast, IsClosed, IsMade}
-use Rattle.logos_generator.specs.Nodes.{Edge, edge_leads, leads_beside, tests_byte, IsTest, IsLoopOf, IsForkOf, IsStateOf, IsFinishedState, IsFirst, IsLateIn, IsFinished}
+use Rattle.logos_generator.specs.Makes.{stays, Makes, IsLast, IsMade}
+use Rattle.logos_generator.specs.Nodes.{Edge, edge_leads, leads_beside, tests_byte, IsTest, IsLoopOf, IsStateOf, IsFinishedState, IsFirst, IsLateIn, IsFinished}
 use Rattle.logos_generator.specs.CodeView.{code_of, state_of, use_of, AreDifferent}
 use Rattle.logos_generator.specs.StateView.{AreStatesOf}
 use Rattle.logos_generator.specs.declared.code.CodeState.{CodeState as TheState}

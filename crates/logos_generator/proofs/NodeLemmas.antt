@@ -1,16 +1,12 @@
 -- What is made of a state, with the tests and the jump tables that come later.
-use Rattle.std.proofs.Common.{◌≡◌, ◌≢◌, ℕ, zero, suc, ◌+◌, ◌*◌, ◌<◌, ◌≤◌, ◌↔◌, Bool, true, false, not, ◌&&◌, ◌==◌, cond, if◌then◌else◌, MatchBool, MatchOption, IsSomeAnd, IfSome, List, [], ◌∷◌, ◌++◌, length, map, find, All, Option, Some, None, option_map, slice_get, slice_index_or, get_or, refl, sym, ap, ◌∙◌, subst, arith, rules, ⊎_elim, inl, inr, ◌⊎◌}
-use Rattle.std.specs.List.{AllPairs}
+use Rattle.std.proofs.Common.{◌≡◌, ◌≢◌, ℕ, zero, suc, ◌+◌, ◌*◌, ◌<◌, ◌≤◌, ◌↔◌, Bool, true, false, not, ◌&&◌, ◌==◌, cond, if◌then◌else◌, MatchBool, MatchOption, IsSomeAnd, IfSome, List, [], ◌∷◌, ◌++◌, length, find, All, Option, Some, None, option_map, slice_get, slice_index_or, get_or, refl, sym, ap, ◌∙◌, subst, arith, ⊎_elim, inl, inr, ◌⊎◌}
 use Rattle.std.specs.Option.{option_map_or}
-use Rattle.std.proofs.lemmas.List.{length-map}
 use Rattle.std.proofs.lemmas.Option.{slice_get-get_or, get_or_from_slice_get, slice_get_within}
 use Rattle.std.proofs.Math.ListN.{get_or-eq_default}
 use Rattle.std.proofs.lemmas.Bool.Decides.{eqb_tells}
-use Rattle.std.proofs.lemmas.Bool.{ne_eqb}
 use Rattle.logos_graph.specs.Graph.{GraphState, is_in}
-use Rattle.logos_graph.specs.Bytes.{some_compares}
 use Rattle.logos_generator.specs.Bytes.{passes_test}
-use Rattle.logos_generator.specs.Code.{CodeValue, CodeState, Condition, by_comparisons, by_test, Fork, by_conditions, by_table}
+use Rattle.logos_generator.specs.Code.{CodeValue, Condition, by_comparisons, by_test, Fork, by_conditions, by_table}
 use Rattle.logos_generator.specs.Runs.{passes, target}
 use Rattle.logos_generator.specs.Headline.{NamesTest, NamesCondition, NamesState, NamesFork}
 use Rattle.logos_generator.specs.CodeView.{fork_of, state_of, jumps_of}

@@ -1,19 +1,19 @@
 -- A code value that is made from a graph runs as the graph does.
-use Rattle.std.proofs.Common.{◌≡◌, ℕ, zero, suc, ◌+◌, ◌-◌, ◌<◌, ◌≤◌, ◌↔◌, ◌⊎◌, inl, inr, ⊎_elim, Bool, true, false, ◌&&◌, ◌==◌, List, [], ◌∷◌, length, drop, Option, Some, None, slice_get, refl, sym, ap, ◌∙◌, subst, arith, rules}
+use Rattle.std.proofs.Common.{◌≡◌, ℕ, zero, suc, ◌+◌, ◌-◌, ◌<◌, ◌≤◌, ◌↔◌, ◌⊎◌, inl, inr, ⊎_elim, Bool, true, ◌==◌, List, [], length, drop, Option, Some, None, slice_get, refl, sym, ap, ◌∙◌, subst, arith}
 use Rattle.std.proofs.lemmas.List.{drop_all}
 use Rattle.std.proofs.lemmas.Option.{slice_get_past}
 use Rattle.std.proofs.lemmas.Bool.Decides.{eqb_tells}
 use Rattle.logos_pattern.specs.Text.{IsBytes}
 use Rattle.logos_graph.specs.Munch.{Found, ended, matched, failed}
-use Rattle.logos_generator.specs.Code.{CodeValue, CodeState, Mark}
-use Rattle.logos_generator.specs.Runs.{Stand, Turn, enters, acts, returns, marked, looped, forked, turn, Does, Acts, EndsError, Goes, goes_on, is_over, acts_on, Tries, CodeFinds}
+use Rattle.logos_generator.specs.Code.{CodeValue, CodeState}
+use Rattle.logos_generator.specs.Runs.{Stand, Turn, enters, acts, returns, looped, turn, Does, Acts, Goes, goes_on, is_over, acts_on, Tries, CodeFinds}
 use Rattle.logos_graph.specs.Graph.{GraphState}
 use Rattle.logos_graph.specs.Found.{GraphFinds}
 use Rattle.logos_generator.specs.Headline.{RunsAs}
-use Rattle.logos_generator.specs.Makes.{mark_made, Makes, IsMade}
+use Rattle.logos_generator.specs.Makes.{Makes, IsMade}
 use Rattle.logos_generator.proofs.ScanLemmas.{mark_at, last_of, reach}
 use Rattle.logos_generator.proofs.FoundLemmas.{found_iff}
-use Rattle.logos_generator.proofs.TurnLemmas.{Bound, GoesOn, IsDone, Turns, turns}
+use Rattle.logos_generator.proofs.TurnLemmas.{Bound, Turns, turns}
 
 -- an action by another offset, which counts only where there is no context
 acts_by : (code : CodeValue) (bytes : List ℕ) (start : ℕ) (context other : Option (ℕ × ℕ)) (offset place : ℕ) (found : Found) →
@@ -42,7 +42,7 @@ module _ (graph : List GraphState) (utf8 : Bool) (code : CodeValue) (is_made : I
   module _ (start : ℕ) (starts : start < length bytes) where
     -- what is found from a stand on
     abbrev Finds : Stand → Found → Type 0
-    Finds at found = Acts code bytes start (last_of code graph at.state (drop at.offset bytes) at.offset at.context) (at.offset + reach code graph at.state (drop at.offset bytes)) found
+    Finds at found = Acts code bytes start (last_of graph at.state (drop at.offset bytes) at.offset at.context) (at.offset + reach graph at.state (drop at.offset bytes)) found
 
     abbrev Stands : Stand → Type 0
     Stands at = (state : GraphState) × (slice_get graph at.state ≡ Some state) × Bound code graph bytes are start starts state at.offset
@@ -130,10 +130,10 @@ module _ (graph : List GraphState) (utf8 : Bool) (code : CodeValue) (is_made : I
     λ f. finds_goes from starts (length bytes + 2) _ found (first from starts) (omega arith) (iff.0 f),
   )
     where
-      unmarked : mark_at code graph 0 ≡ None
+      unmarked : mark_at graph 0 ≡ None
       unmarked = rw is_made.has_first is_made.unmarked
 
-      iff : GraphFinds graph utf8 bytes from found ↔ Acts code bytes from (last_of code graph 0 (drop from bytes) from None) (from + reach code graph 0 (drop from bytes)) found
+      iff : GraphFinds graph utf8 bytes from found ↔ Acts code bytes from (last_of graph 0 (drop from bytes) from None) (from + reach graph 0 (drop from bytes)) found
       iff = found_iff code graph utf8 bytes from is_made.mode starts unmarked found
 
   outside : (from : ℕ) → length bytes ≤ from → (found : Found) → CodeFinds code bytes from found ↔ GraphFinds graph utf8 bytes from found

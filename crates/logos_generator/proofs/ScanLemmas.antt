@@ -1,13 +1,12 @@
 -- The last mark on the way through a graph, and how far it can be followed, by one walk over the rest of the input.
-use Rattle.std.proofs.Common.{◌≡◌, ℕ, zero, suc, ◌+◌, ◌-◌, ◌<◌, ◌≤◌, ◌↔◌, ◌⊎◌, inl, inr, ⊎_elim, Bool, true, false, List, [], ◌∷◌, length, take, drop, Option, Some, None, IsSome, option_map, option_and_then, slice_get, nat_lt, refl, sym, ap, ◌∙◌, subst, arith, rules}
+use Rattle.std.proofs.Common.{◌≡◌, ℕ, zero, suc, ◌+◌, ◌<◌, ◌≤◌, ◌↔◌, ◌⊎◌, inl, inr, ⊎_elim, true, false, List, [], ◌∷◌, length, take, Option, Some, None, IsSome, option_map, option_and_then, slice_get, nat_lt, refl, ◌∙◌, arith, rules}
 use Rattle.std.specs.Option.{option_map_or}
-use Rattle.logos_generator.specs.Code.{CodeValue, Mark}
+use Rattle.logos_generator.specs.Code.{Mark}
 use Rattle.logos_generator.specs.Runs.{marked}
-use Rattle.logos_graph.specs.Graph.{StateType, GraphState, next_by, next_at_end, walk, type_after}
-use Rattle.logos_graph.specs.Found.{mark_of, mark_after}
-use Rattle.logos_generator.specs.Makes.{mark_made, led_by}
+use Rattle.logos_graph.specs.Graph.{GraphState, next_by, next_at_end, walk, type_after}
+use Rattle.logos_generator.specs.Makes.{mark_made}
 
-module _ (code : CodeValue) (graph : List GraphState) where
+module _ (graph : List GraphState) where
   -- the mark of a state
   abbrev pub mark_at : ℕ → Option Mark
   mark_at s = option_and_then (λ state. mark_made state.state_type) (slice_get graph s)

@@ -1,8 +1,6 @@
 -- In a sound code each step of a try leads to a place where it can stand.
-use Rattle.std.proofs.Common.{◌≡◌, ◌≢◌, ℕ, zero, suc, ◌+◌, ◌-◌, ◌<◌, ◌≤◌, ◌⊎◌, inl, inr, ⊎_elim, Bool, true, false, ◌&&◌, ◌==◌, IsTrue, IfSome, IsSomeAnd, List, [], ◌∷◌, length, take, drop, find, Option, Some, None, option_map, slice_get, slice_index_or, get_or, refl, sym, ap, ◌∙◌, subst, arith, rules, length-drop, All, cond, if◌then◌else◌}
+use Rattle.std.proofs.Common.{◌≡◌, ◌≢◌, ℕ, suc, ◌+◌, ◌-◌, ◌<◌, ◌≤◌, ◌⊎◌, inl, inr, ⊎_elim, Bool, true, false, ◌&&◌, ◌==◌, IsTrue, IfSome, IsSomeAnd, List, [], ◌∷◌, length, drop, find, Option, Some, None, option_map, slice_get, refl, sym, ◌∙◌, subst, arith, rules, length-drop, All, cond, if◌then◌else◌}
 use Rattle.std.specs.Option.{option_map_or}
-use Rattle.std.specs.List.{take_while, prefix_len}
-use Rattle.std.proofs.lemmas.List.{drop_all}
 use Rattle.std.proofs.lemmas.List.Folds.{length-prefix_len}
 use Rattle.std.proofs.lemmas.List.Sums.{prefix_len-le-length}
 use Rattle.std.proofs.lemmas.Option.{slice_get_within, get_or_from_slice_get, slice_get_cases}
@@ -12,8 +10,8 @@ use Rattle.logos_generator.specs.Bytes.{passes_test}
 use Rattle.logos_generator.specs.Code.{CodeValue, CodeState, Mark, Condition, Fork, by_conditions, by_table}
 use Rattle.logos_generator.specs.CodeView.{state_at, no_state}
 use Rattle.logos_generator.specs.Headline.{IsSound, IsRoot, IsEnd, IsLate, NamesWhatIsThere, NamesFork, NamesState, NamesCondition}
-use Rattle.logos_generator.specs.Runs.{Stand, Turn, enters, acts, returns, passes, target, looped, marked, forked, turn, Does}
-use Rattle.logos_generator.specs.Stands.{IsMatch, IsContext, IsBehind, IsStand}
+use Rattle.logos_generator.specs.Runs.{Stand, enters, acts, returns, passes, target, looped, marked, forked, Does}
+use Rattle.logos_generator.specs.Stands.{IsMatch, IsContext, IsStand}
 
 some_none : {A : Type 0} {a : A} → None ≡ Some a → ⊥
 some_none h = cc

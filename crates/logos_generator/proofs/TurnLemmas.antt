@@ -1,19 +1,17 @@
 -- What a state of the code does, by the walk of ScanLemmas.
-use Rattle.std.proofs.Common.{◌≡◌, ℕ, zero, suc, ◌+◌, ◌-◌, ◌<◌, ◌≤◌, ◌↔◌, ◌⊎◌, inl, inr, ⊎_elim, max, Bool, true, false, ◌&&◌, ◌==◌, if◌then◌else◌, cond, List, [], ◌∷◌, length, take, drop, Option, Some, None, option_map, option_and_then, slice_get, refl, sym, ap, ◌∙◌, subst, arith, rules, length-drop, All, IsTrue, IsCharBoundary, drop-drop, get_or}
+use Rattle.std.proofs.Common.{◌≡◌, ℕ, suc, ◌+◌, ◌-◌, ◌<◌, ◌≤◌, ◌⊎◌, inl, inr, ⊎_elim, Bool, true, false, ◌&&◌, ◌==◌, if◌then◌else◌, cond, List, [], ◌∷◌, length, drop, Option, Some, None, slice_get, refl, sym, ap, ◌∙◌, subst, arith, length-drop, drop-drop}
 use Rattle.std.proofs.lemmas.List.{drop_more, drop_all}
 use Rattle.std.proofs.lemmas.Option.{slice_get_cases}
 use Rattle.std.proofs.lemmas.Bool.{ne_eqb}
 use Rattle.std.proofs.lemmas.List.Elements.{All-drop}
 use Rattle.std.proofs.lemmas.List.Sums.{take_while-cons}
 use Rattle.std.specs.List.{take_while}
-use Rattle.std.specs.Option.{option_map_or}
 use Rattle.logos_pattern.specs.Text.{IsBytes}
-use Rattle.logos_graph.specs.Munch.{Found, ended, matched, failed}
 use Rattle.logos_generator.specs.Bytes.{passes_test}
-use Rattle.logos_generator.specs.Code.{CodeValue, CodeState, Mark}
-use Rattle.logos_generator.specs.Runs.{Stand, Turn, enters, acts, returns, marked, looped, target, forked, turn, Does, Acts, EndsError, Goes, goes_on, is_over, acts_on, Tries, CodeFinds}
-use Rattle.logos_graph.specs.Graph.{StateType, GraphState, next_by, next_at_end}
-use Rattle.logos_generator.specs.Makes.{mark_made, led_by, stays, leads, Makes, IsLast, IsClosed, IsMade}
+use Rattle.logos_generator.specs.Code.{CodeValue, CodeState}
+use Rattle.logos_generator.specs.Runs.{Stand, Turn, enters, acts, marked, looped, target, forked, turn}
+use Rattle.logos_graph.specs.Graph.{GraphState, next_by, next_at_end}
+use Rattle.logos_generator.specs.Makes.{mark_made, led_by, stays, Makes, IsClosed}
 use Rattle.logos_generator.proofs.ScanLemmas.{mark_at, passed, last_of, reach, last_of-remark, last_of-step, last_of-stuck, reach-step, reach-stuck}
 
 some_none : {A : Type 0} {a : A} → Some a ≡ None → ⊥
@@ -26,8 +24,8 @@ and_false false = refl
 module _ (code : CodeValue) (graph : List GraphState) where
   -- what stays true of the rest of the input behind the bytes that the fast loop takes
   pub record Skips (p : ℕ → Bool) (s : ℕ) (rest : List ℕ) (at : ℕ) (context : Option (ℕ × ℕ)) (k : ℕ) : Type 0 where
-    pub last : last_of code graph s rest at context ≡ last_of code graph s (drop k rest) (at + k) context
-    pub reached : at + reach code graph s rest ≡ at + k + reach code graph s (drop k rest)
+    pub last : last_of graph s rest at context ≡ last_of graph s (drop k rest) (at + k) context
+    pub reached : at + reach graph s rest ≡ at + k + reach graph s (drop k rest)
     pub fits : k ≤ length rest
     pub stop : (b : ℕ) (after : List ℕ) → drop k rest ≡ b ∷ after → p b ≡ false
 
@@ -63,8 +61,8 @@ module _ (code : CodeValue) (graph : List GraphState) where
           let i = below context in
           let k : at + suc (length (take_while p rest)) ≡ at + 1 + length (take_while p rest) = omega arith in
           rw w record {
-            last = last_of-step code graph s b rest at context s n ∙ last_of-remark code graph s rest (at + 1) at context ∙ i.last ∙ rw k refl;
-            reached = let f = reach-step code graph s b rest s n in let g = i.reached in omega arith;
+            last = last_of-step graph s b rest at context s n ∙ last_of-remark graph s rest (at + 1) at context ∙ i.last ∙ rw k refl;
+            reached = let f = reach-step graph s b rest s n in let g = i.reached in omega arith;
             fits = let g = i.fits in omega arith;
             stop = i.stop;
           }
@@ -82,7 +80,7 @@ module _ (code : CodeValue) (graph : List GraphState) where
   next_at : (s : ℕ) (state : GraphState) (b : ℕ) → slice_get graph s ≡ Some state → next_by graph s b ≡ led_by state b
   next_at s state b is = rw is refl
 
-  mark_here : (s : ℕ) (state : GraphState) → slice_get graph s ≡ Some state → mark_at code graph s ≡ mark_made state.state_type
+  mark_here : (s : ℕ) (state : GraphState) → slice_get graph s ≡ Some state → mark_at graph s ≡ mark_made state.state_type
   mark_here s state is = rw is refl
 
   end_at : (s : ℕ) (state : GraphState) → slice_get graph s ≡ Some state → next_at_end graph s ≡ state.eoi
@@ -115,15 +113,15 @@ module _ (code : CodeValue) (graph : List GraphState) where
       pub has : slice_get graph next.state ≡ Some state
       pub bound : Bound state next.offset
       pub moves : at.offset < next.offset
-      pub last : last_of code graph at.state (drop at.offset bytes) at.offset at.context ≡ last_of code graph next.state (drop next.offset bytes) next.offset next.context
-      pub reached : last_of code graph next.state (drop next.offset bytes) next.offset next.context ≡ None →
-          at.offset + reach code graph at.state (drop at.offset bytes) ≡ next.offset + reach code graph next.state (drop next.offset bytes)
+      pub last : last_of graph at.state (drop at.offset bytes) at.offset at.context ≡ last_of graph next.state (drop next.offset bytes) next.offset next.context
+      pub reached : last_of graph next.state (drop next.offset bytes) next.offset next.context ≡ None →
+          at.offset + reach graph at.state (drop at.offset bytes) ≡ next.offset + reach graph next.state (drop next.offset bytes)
 
     -- the try is over, and acts on what is found
     pub record IsDone (at : Stand) (what : Turn) : Type 0 where
       pub offset : ℕ
-      pub is : what ≡ acts (last_of code graph at.state (drop at.offset bytes) at.offset at.context) offset
-      pub reached : at.offset + reach code graph at.state (drop at.offset bytes) ≡ offset
+      pub is : what ≡ acts (last_of graph at.state (drop at.offset bytes) at.offset at.context) offset
+      pub reached : at.offset + reach graph at.state (drop at.offset bytes) ≡ offset
 
     abbrev pub Turns : Stand → Turn → Type 0
     Turns at what = GoesOn at what ⊎ IsDone at what
@@ -149,7 +147,7 @@ module _ (code : CodeValue) (graph : List GraphState) where
         Turns (record { state = s; offset = at; context = context }) (forked code made (slice_get bytes at) fresh at (marked made.mark at context))
     after s state made is makes closed at context bound stop fresh stale = ⊎_elim by_byte by_end (byte_cases at)
       where
-        marks : marked made.mark at context ≡ passed code graph s at context
+        marks : marked made.mark at context ≡ passed graph s at context
         marks = ap (λ m. marked m at context) (makes.mark ∙ sym (mark_here s state is))
 
         by_byte : (b : ℕ) × (at < length bytes) × (slice_get bytes at ≡ Some b) × (b < 256) × (drop at bytes ≡ b ∷ drop (at + 1) bytes) →
@@ -163,19 +161,19 @@ module _ (code : CodeValue) (graph : List GraphState) where
             go (Some t) e =
                 let there = closed.bytes u.0 t u.3 (sym (next_at s state u.0 is) ∙ e) in
                 inl record {
-                  next = record { state = t; offset = at + 1; context = passed code graph s at context };
+                  next = record { state = t; offset = at + 1; context = passed graph s at context };
                   is = rw (u.2, leads_to, e, marks) refl;
                   state = there.0;
                   has = there.1;
                   bound = inl (omega (arith, u.1));
                   moves = omega arith;
-                  last = rw u.4 (last_of-step code graph s u.0 (drop (at + 1) bytes) at context t e);
-                  reached = λ n. rw u.4 (let f = reach-step code graph s u.0 (drop (at + 1) bytes) t e in omega arith);
+                  last = rw u.4 (last_of-step graph s u.0 (drop (at + 1) bytes) at context t e);
+                  reached = λ n. rw u.4 (let f = reach-step graph s u.0 (drop (at + 1) bytes) t e in omega arith);
                 }
             go None e = inr record {
               offset = at;
-              is = rw (u.2, leads_to, e, marks, u.4) (ap (λ c. acts c at) (sym (last_of-stuck code graph s u.0 (drop (at + 1) bytes) at context e)));
-              reached = rw u.4 (let f = reach-stuck code graph s u.0 (drop (at + 1) bytes) e in omega arith);
+              is = rw (u.2, leads_to, e, marks, u.4) (ap (λ c. acts c at) (sym (last_of-stuck graph s u.0 (drop (at + 1) bytes) at context e)));
+              reached = rw u.4 (let f = reach-stuck graph s u.0 (drop (at + 1) bytes) e in omega arith);
             }
 
         by_end : (length bytes ≤ at) × (slice_get bytes at ≡ None) × (drop at bytes ≡ []) →
@@ -198,9 +196,9 @@ module _ (code : CodeValue) (graph : List GraphState) where
                 let l = closed.end t e in
                 let past : drop (at + 1) bytes ≡ [] = drop_all (at + 1) bytes (omega (arith, u.0)) in
                 let no_end : next_at_end graph t ≡ None = end_at t l.state l.is ∙ l.no_end in
-                let late : mark_at code graph t ≡ Some (record { leaf = l.leaf; late = true }) = mark_here t l.state l.is ∙ l.late in
+                let late : mark_at graph t ≡ Some (record { leaf = l.leaf; late = true }) = mark_here t l.state l.is ∙ l.late in
                 inl record {
-                  next = record { state = t; offset = at + 1; context = passed code graph s at context };
+                  next = record { state = t; offset = at + 1; context = passed graph s at context };
                   is = rw (u.1, not_fresh, makes.end, e, marks) refl;
                   state = l.state;
                   has = l.is;
@@ -242,11 +240,11 @@ module _ (code : CodeValue) (graph : List GraphState) where
         dropped : drop k (drop at.offset bytes) ≡ drop (at.offset + k) bytes
         dropped = drop-drop k at.offset bytes
 
-        last : last_of code graph at.state (drop at.offset bytes) at.offset at.context ≡ last_of code graph at.state (drop (at.offset + k) bytes) (at.offset + k) at.context
-        last = skip.last ∙ ap (λ l. last_of code graph at.state l (at.offset + k) at.context) dropped
+        last : last_of graph at.state (drop at.offset bytes) at.offset at.context ≡ last_of graph at.state (drop (at.offset + k) bytes) (at.offset + k) at.context
+        last = skip.last ∙ ap (λ l. last_of graph at.state l (at.offset + k) at.context) dropped
 
-        reached : at.offset + reach code graph at.state (drop at.offset bytes) ≡ at.offset + k + reach code graph at.state (drop (at.offset + k) bytes)
-        reached = skip.reached ∙ ap (λ l. at.offset + k + reach code graph at.state l) dropped
+        reached : at.offset + reach graph at.state (drop at.offset bytes) ≡ at.offset + k + reach graph at.state (drop (at.offset + k) bytes)
+        reached = skip.reached ∙ ap (λ l. at.offset + k + reach graph at.state l) dropped
 
         stop : (b : ℕ) (later : List ℕ) → drop (at.offset + k) bytes ≡ b ∷ later → stays code made.fast_loop b ≡ false
         stop b later e = skip.stop b later (dropped ∙ e)

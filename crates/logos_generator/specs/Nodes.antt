@@ -1,11 +1,11 @@
 -- The nodes that a generator makes of a graph's state, by the byte sets that it tests by bits.
-use Rattle.std.specs.Prelude.{◌≡◌, ◌≢◌, ℕ, ◌+◌, ◌<◌, ◌≤◌, Bool, true, false, IsTrue, IfSome, not, ◌&&◌, ◌==◌, List, [], ◌∷◌, ◌++◌, map, length, sum_by, Option, Some, None, option_map, MatchBool, MatchOption, IsSomeAnd, if◌then◌else◌, find, slice_get, slice_index_or}
+use Rattle.std.specs.Prelude.{◌≡◌, ◌≢◌, ℕ, ◌<◌, ◌≤◌, Bool, true, false, IsTrue, IfSome, not, ◌&&◌, ◌==◌, List, [], ◌∷◌, ◌++◌, length, sum_by, Option, Some, None, option_map, MatchBool, MatchOption, IsSomeAnd, if◌then◌else◌, find, slice_get, slice_index_or}
 use Rattle.std.specs.List.{All, AllPairs}
 use Rattle.std.specs.Option.{option_map_or, option_or}
-use Rattle.logos_graph.specs.Graph.{StateType, GraphState, is_in}
+use Rattle.logos_graph.specs.Graph.{GraphState, is_in}
 use Rattle.logos_graph.specs.Bytes.{Comparison, operations, joined, some_compares, ranges_of, AreSeparated}
 use Rattle.logos_graph.specs.declared.byte_class.ByteClass.{ByteClass}
-use Rattle.logos_generator.specs.Code.{CodeState, Mark, Condition, by_comparisons, by_test, Fork, by_conditions, by_table}
+use Rattle.logos_generator.specs.Code.{CodeState, Condition, by_comparisons, by_test, Fork, by_conditions, by_table}
 use Rattle.logos_generator.specs.Makes.{mark_made, IsLast}
 
 -- the ranges of the bytes that lead to a state, and the state

@@ -9,7 +9,6 @@ pub struct Config {
 
 mod fork;
 mod states;
-mod tests_by_bits;
-
 #[cfg(test)]
 mod tests;
+mod tests_by_bits;

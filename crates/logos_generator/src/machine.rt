@@ -54,8 +54,8 @@ pub struct NotUtf8 {
 
 /// A run of a code value on an input. Items borrow the input alone, so they outlive the lexer.
 #[derive(Drop)]
-pub struct Lexer<'c, 'i, C> {
-    code: &'c Code<'c>,
+pub struct Lexer<'c, 's, 'i, C> {
+    code: &'c Code<'s>,
     input: &'i [u8],
     callback: C,
     from: usize,
@@ -63,7 +63,7 @@ pub struct Lexer<'c, 'i, C> {
     steps: usize,
 }
 
-impl<'c, 'i, C> Model for Lexer<'c, 'i, C> {
+impl<'c, 's, 'i, C> Model for Lexer<'c, 's, 'i, C> {
     ghost use Rattle.std.specs.Prelude.{◌≤◌, length};
     ghost use Rattle.logos_generator.specs.LexerValue.{LexerValue};
 
@@ -74,9 +74,9 @@ impl<'c, 'i, C> Model for Lexer<'c, 'i, C> {
     ghost invariant = { λ l. (l.from ≤ l.to) × (l.to ≤ length l.input.now) };
 }
 
-impl<'c, 'i, C: Fn(LeafId, &[u8]) -> Action> Lexer<'c, 'i, C> {
+impl<'c, 's, 'i, C: Fn(LeafId, &[u8]) -> Action> Lexer<'c, 's, 'i, C> {
     /// A lexer at the start of a text. The callback is asked for the matches of the leaves that have one.
-    pub fn new_str(code: &'c Code<'c>, input: &'i str, callback: C) -> Lexer<'c, 'i, C>
+    pub fn new_str(code: &'c Code<'s>, input: &'i str, callback: C) -> Lexer<'c, 's, 'i, C>
         requires { C.IsAlwaysCallable callback }
         ensures { result ≡ begun code.now input.now callback }
     {
@@ -85,10 +85,10 @@ impl<'c, 'i, C: Fn(LeafId, &[u8]) -> Action> Lexer<'c, 'i, C> {
 
     /// A lexer at the start of some bytes. In UTF-8 mode, and only there, they are refused if they are not UTF-8.
     pub fn new_bytes(
-        code: &'c Code<'c>,
+        code: &'c Code<'s>,
         input: &'i [u8],
         callback: C,
-    ) -> Result<Lexer<'c, 'i, C>, NotUtf8>
+    ) -> Result<Lexer<'c, 's, 'i, C>, NotUtf8>
         requires { C.IsAlwaysCallable callback }
         ensures accepted { IfOk result (λ lexer. (lexer ≡ begun code.now input.now callback) × (IsTrue code.now.utf8 → IsUtf8 input.now)) }
         ensures refused { IfErr result (λ refusal. IsTrue code.now.utf8 × ¬ IsUtf8 input.now × IsValidUpTo input.now refusal.valid_up_to) }
@@ -99,7 +99,7 @@ impl<'c, 'i, C: Fn(LeafId, &[u8]) -> Action> Lexer<'c, 'i, C> {
         Ok(Lexer::start(code, input, callback))
     }
 
-    fn start(code: &'c Code<'c>, input: &'i [u8], callback: C) -> Lexer<'c, 'i, C>
+    fn start(code: &'c Code<'s>, input: &'i [u8], callback: C) -> Lexer<'c, 's, 'i, C>
         ensures { result ≡ begun code.now input.now callback }
     {
         Lexer {

@@ -55,7 +55,12 @@ fn nothing_kept(alloc: Global) -> Kept {
     }
 }
 
-fn fork_of(alloc: Global, kept: &mut Kept, edges: &[(ByteClass, usize)], state: usize) -> Result<Fork, Fail> {
+fn fork_of(
+    alloc: Global,
+    kept: &mut Kept,
+    edges: &[(ByteClass, usize)],
+    state: usize,
+) -> Result<Fork, Fail> {
     if !are_separated(edges) || !are_small(edges) {
         return Err(Fail::from("no edges of a graph"));
     }
@@ -73,9 +78,15 @@ fn cheap_classes_are_compared(rt: HostRuntime) -> Result<(), Fail> {
         return Err(Fail::from("a table"));
     };
     assert_eq!(rt; branches.len(), 2);
-    assert!(rt; matches!(branches[0].0, Condition::Comparisons(_)), "two operations");
+    assert!(rt;
+        matches!(branches[0].0, Condition::Comparisons(_)),
+        "two operations"
+    );
     assert_eq!(rt; branches[0].1, 1);
-    assert!(rt; matches!(branches[1].0, Condition::Comparisons(_)), "two single bytes");
+    assert!(rt;
+        matches!(branches[1].0, Condition::Comparisons(_)),
+        "two single bytes"
+    );
     assert_eq!(rt; branches[1].1, 2);
     assert!(rt; kept.tests.is_empty());
     Ok(())
@@ -91,7 +102,10 @@ fn dear_classes_are_tested_by_bits(rt: HostRuntime) -> Result<(), Fail> {
         return Err(Fail::from("a table"));
     };
     assert_eq!(rt; branches.len(), 1);
-    assert!(rt; matches!(branches[0].0, Condition::Test(0)), "a range with an exception costs three operations");
+    assert!(rt;
+        matches!(branches[0].0, Condition::Test(0)),
+        "a range with an exception costs three operations"
+    );
     let again = fork_of(alloc, &mut kept, edges.as_slice(), 0)?;
     assert!(rt; matches!(again, Fork::Conditions(_)));
     assert_eq!(rt; kept.tests.len(), 1, "equal tests share a number");
@@ -105,13 +119,19 @@ fn the_edge_back_is_a_loop(rt: HostRuntime) -> Result<(), Fail> {
     let mut edges = Vec::new(alloc);
     edges.push((class(alloc, &[(b'a', b'z')])?, 1))?;
     edges.push((class(alloc, &[(b'0', b'0')])?, 2))?;
-    assert_eq!(rt; maybe_impl_fast_loop(&mut kept.tests, edges.as_slice(), 1)?, Some(0));
+    assert_eq!(rt;
+        maybe_impl_fast_loop(&mut kept.tests, edges.as_slice(), 1)?,
+        Some(0)
+    );
     let Fork::Conditions(branches) = fork_of(alloc, &mut kept, edges.as_slice(), 1)? else {
         return Err(Fail::from("a table"));
     };
     assert_eq!(rt; branches.len(), 1);
     assert_eq!(rt; branches[0].1, 2);
-    assert_eq!(rt; maybe_impl_fast_loop(&mut kept.tests, edges.as_slice(), 3)?, None);
+    assert_eq!(rt;
+        maybe_impl_fast_loop(&mut kept.tests, edges.as_slice(), 3)?,
+        None
+    );
     Ok(())
 }
 

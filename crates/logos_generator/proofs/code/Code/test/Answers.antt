@@ -1,4 +1,3 @@
-use Rattle.std.proofs.Common.{sym}
 use Rattle.logos_generator.proofs.CodeLemmas.{mask_tests}
 use Rattle.logos_generator.proofs.code.Code.test.Goals as goal
 

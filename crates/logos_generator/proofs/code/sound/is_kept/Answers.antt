@@ -1,4 +1,3 @@
-use Rattle.std.proofs.Common.{◌≡◌, ◌↔◌}
 use Rattle.logos_generator.specs.Code.{CodeState}
 use Rattle.logos_generator.specs.Headline.{NamesWhatIsThere, IsEnd}
 use Rattle.logos_generator.specs.CodeView.{code_of, state_of}

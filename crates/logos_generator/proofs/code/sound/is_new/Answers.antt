@@ -1,4 +1,4 @@
-use Rattle.std.proofs.Common.{ℕ, below_more, arith}
+use Rattle.std.proofs.Common.{below_more, arith}
 use Rattle.logos_generator.proofs.SoundLemmas.{tables_differ}
 use Rattle.logos_generator.proofs.code.sound.is_new.Goals as goal
 

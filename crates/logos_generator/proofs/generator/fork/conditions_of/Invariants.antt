@@ -1,4 +1,4 @@
-use Rattle.std.proofs.Common.{◌≡◌, ℕ, Bool, List, ◌++◌, drop, map}
+use Rattle.std.proofs.Common.{ℕ, Bool, List, ◌++◌, drop, map}
 use Rattle.logos_generator.specs.Code.{Condition}
 use Rattle.logos_generator.specs.CodeView.{branch_of}
 use Rattle.logos_generator.specs.Nodes.{edge_of, Extends, AreBranchesOf}

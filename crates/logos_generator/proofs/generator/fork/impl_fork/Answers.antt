@@ -1,9 +1,9 @@
-use Rattle.std.proofs.Common.{◌≡◌, ◌∙◌, [], None, Some, refl, sym, ap, length, get_or, map, arith}
+use Rattle.std.proofs.Common.{◌≡◌, ◌∙◌, [], None, refl, sym, get_or, arith}
 use Rattle.std.specs.Cmp.{unsigned_Decides}
 use Rattle.std.proofs.lemmas.List.{length-map, get_or-map}
 use Rattle.std.proofs.lemmas.Option.{get_or_from_slice_get}
 use Rattle.std.proofs.lemmas.Slice.Eq.{slice_eq-Decides}
-use Rattle.logos_generator.specs.CodeView.{entry_of, jumps_of}
+use Rattle.logos_generator.specs.CodeView.{entry_of}
 use Rattle.logos_generator.specs.Nodes.{edge_of}
 use Rattle.logos_generator.proofs.generator.fork.impl_fork.Goals as goal
 

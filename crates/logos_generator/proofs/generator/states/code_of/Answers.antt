@@ -1,4 +1,4 @@
-use Rattle.std.proofs.Common.{◌≡◌, map, length, refl, arith}
+use Rattle.std.proofs.Common.{map, length, refl, arith}
 use Rattle.logos_generator.specs.Nodes.{IsFinishedState}
 use Rattle.logos_generator.specs.StateView.{graph_state_of}
 use Rattle.logos_generator.specs.declared.code.CodeParts.{CodeParts}

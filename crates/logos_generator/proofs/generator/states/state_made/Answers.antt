@@ -1,4 +1,4 @@
-use Rattle.std.proofs.Common.{◌≡◌, ◌<◌, map, refl}
+use Rattle.std.proofs.Common.{◌<◌, map, refl}
 use Rattle.logos_graph.specs.Bytes.{AreSeparated}
 use Rattle.logos_generator.specs.Nodes.{Edge, edge_of}
 use Rattle.logos_generator.proofs.SoundLemmas.{All-map-iff}

@@ -1,4 +1,4 @@
-use Rattle.std.proofs.Common.{◌≡◌, ◌∙◌, List, Bool, ℕ, map, subst, sym}
+use Rattle.std.proofs.Common.{◌∙◌, List, Bool, ℕ, map, subst, sym}
 use Rattle.logos_generator.specs.StateView.{graph_state_of, AreStatesOf}
 use Rattle.logos_generator.proofs.MadeLemmas.{keys_differ}
 use Rattle.logos_generator.proofs.generator.states.tables_made.Goals as goal

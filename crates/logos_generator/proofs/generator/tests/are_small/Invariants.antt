@@ -1,5 +1,4 @@
 use Rattle.std.proofs.Common.{ℕ, ◌<◌, get_or}
-use Rattle.logos_graph.specs.Bytes.{ranges_of, AreSeparated}
 use Rattle.logos_graph.specs.declared.byte_class.ByteClass.{ByteClass}
 use Rattle.logos_generator.proofs.generator.tests.are_small.Given as goal
 

@@ -1,5 +1,3 @@
-use Rattle.std.proofs.Common.{◌≡◌, ℕ, rules, ap, ◌+◌, ◌*◌, ◌^◌, ◌<◌, rules}
-use Rattle.logos_generator.specs.Nodes.{tests_byte}
 use Rattle.logos_generator.proofs.BitLemmas.{bits_fit, bits_turn}
 use Rattle.logos_generator.proofs.generator.tests_by_bits.entry_of.Goals as goal
 

@@ -1,4 +1,4 @@
-use Rattle.std.proofs.Common.{◌≡◌, ℕ, ◌+◌, ◌-◌, ◌*◌, ◌^◌, ◌<◌, if◌then◌else◌}
+use Rattle.std.proofs.Common.{◌≡◌, ℕ, ◌+◌, ◌*◌, ◌^◌, ◌<◌, if◌then◌else◌}
 use Rattle.std.specs.Int.{bit_at}
 use Rattle.logos_generator.specs.Nodes.{tests_byte}
 use Rattle.logos_generator.proofs.generator.tests_by_bits.entry_of.Given as goal

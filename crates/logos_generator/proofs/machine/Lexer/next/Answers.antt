@@ -1,5 +1,4 @@
-use Rattle.std.proofs.Common.{◌≡◌, ◌≤◌, ◌<◌, length, [], ◌∷◌, Some, refl, arith, option_map}
-use Rattle.std.specs.Option.{option_to_list}
+use Rattle.std.proofs.Common.{◌≡◌, ◌≤◌, length, [], ◌∷◌, refl, arith}
 use Rattle.logos_graph.specs.Munch.{matched, failed, ended}
 use Rattle.logos_generator.specs.Items.{items_of}
 use Rattle.logos_generator.specs.Runs.{Tries}
@@ -26,7 +25,7 @@ returns-in-Failed-clause-item g c =
     let tries : Tries l.code.now l.input.now l.to (failed c.in-Failed.to) c.attempt-found.result.1 = rw c.in-Failed.is at c.attempt-found.ensures.tries in
     let within = rw c.in-Failed.is at c.attempt-found.ensures.within in
     record {
-      span = (refl, refl);
+      span = (refl {a = l.to}, refl {a = c.in-Failed.to});
       behind = c.loop-to.invariant.behind;
       nonempty = within.0;
       within = within.1;

@@ -1,7 +1,6 @@
-use Rattle.std.proofs.Common.{◌≡◌, ℕ, ◌+◌, ◌-◌, ◌≤◌, length, None}
+use Rattle.std.proofs.Common.{ℕ, ◌+◌, ◌-◌, ◌≤◌, length}
 use Rattle.logos_graph.specs.Munch.{Found}
 use Rattle.logos_generator.specs.Runs.{Goes, Tries}
-use Rattle.logos_generator.specs.Headline.{IsSound}
 use Rattle.logos_generator.specs.Stands.{IsStand}
 use Rattle.logos_generator.specs.Attempts.{stand_of}
 use Rattle.logos_generator.proofs.machine.attempt.attempt.Given as goal
