@@ -1,3 +1,16 @@
 pub mod Compose
 pub mod Examples
 pub mod InOrder
+pub mod CodeLemmas
+pub mod FastLoopLemmas
+pub mod StandLemmas
+pub mod LexerLemmas
+pub mod SoundLemmas
+pub mod ScanLemmas
+pub mod FoundLemmas
+pub mod TurnLemmas
+pub mod RunLemmas
+pub mod BitLemmas
+pub mod ForkLemmas
+pub mod NodeLemmas
+pub mod MadeLemmas

@@ -1,7 +1,7 @@
 -- A code value: what a lexer does in each state.
 use Rattle.std.specs.Prelude.{ℕ, Bool, List, Option}
 use Rattle.logos_graph.specs.Munch.{Use}
-use Rattle.logos_generator.specs.Bytes.{Comparison}
+use Rattle.logos_graph.specs.Bytes.{Comparison}
 
 -- a match of this leaf ends here, or one byte before where it is late
 pub record Mark : Type 0 where

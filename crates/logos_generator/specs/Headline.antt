@@ -1,5 +1,5 @@
 -- What a code value promises.
-use Rattle.std.specs.Prelude.{◌≡◌, ℕ, ◌+◌, ◌-◌, ◌*◌, ◌<◌, ◌≤◌, ◌↔◌, Bool, List, map, length, Some, None, IfSome, IsTrue, IsCharBoundary, IsSomeAnd, slice_get}
+use Rattle.std.specs.Prelude.{◌≡◌, ℕ, ◌+◌, ◌-◌, ◌*◌, ◌<◌, ◌≤◌, ◌↔◌, Bool, List, map, length, Option, Some, None, IfSome, IsTrue, IsCharBoundary, IsSomeAnd, slice_get}
 use Rattle.std.specs.List.{All}
 use Rattle.logos_pattern.specs.Text.{IsBytes}
 use Rattle.logos_graph.specs.Munch.{Rule, Found, Finds}
@@ -53,12 +53,18 @@ IsCut bytes (error leaf from to slice) = IsCharBoundary bytes from × IsCharBoun
 abbrev pub IsLate : CodeValue → ℕ → Type 0
 IsLate code s = IsSomeAnd (slice_get code.states s) (λ state. IsSomeAnd state.mark (λ mark. IsTrue mark.late))
 
+-- the root has no mark, and no state with a late mark is one step from it
+pub record IsRoot (code : CodeValue) (state : CodeState) : Type 0 where
+  pub mark : state.mark ≡ None
+  pub fork : (b t : ℕ) → target code state.fork b ≡ Some t → ¬ IsLate code t
+  pub at_end : (t : ℕ) → state.at_end ≡ Some t → ¬ IsLate code t
+
+-- a state that the end leads to has a late mark, and the end leads no further
+abbrev pub IsEnd : CodeValue → Option ℕ → Type 0
+IsEnd code at_end = IfSome at_end (λ t. IsLate code t × IsSomeAnd (slice_get code.states t) (λ next. next.at_end ≡ None))
+
 -- What the type of a code value keeps.
 pub record IsSound (code : CodeValue) : Type 0 where
   pub states : All (NamesWhatIsThere code) code.states
-  pub root : IsSomeAnd (slice_get code.states code.root) (λ state.
-      (state.mark ≡ None)
-      × ((b t : ℕ) → target code state.fork b ≡ Some t → ¬ IsLate code t)
-      × ((t : ℕ) → state.at_end ≡ Some t → ¬ IsLate code t))
-  -- a state that the end leads to has a late mark, and the end leads no further
-  pub ends : All (λ state. IfSome state.at_end (λ t. IsLate code t × IsSomeAnd (slice_get code.states t) (λ next. next.at_end ≡ None))) code.states
+  pub root : IsSomeAnd (slice_get code.states code.root) (IsRoot code)
+  pub ends : All (λ state. IsEnd code state.at_end) code.states

@@ -3,5 +3,11 @@ pub mod Code
 pub mod Runs
 pub mod Items
 pub mod Headline
+pub mod CodeView
+pub mod Makes
+pub mod Nodes
+pub mod StateView
+pub mod Stands
+pub mod Attempts
 pub mod LexerValue
 pub mod Order

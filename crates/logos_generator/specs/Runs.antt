@@ -1,8 +1,9 @@
 -- What a code value does on an input.
 use Rattle.std.specs.Prelude.{◌≡◌, ℕ, suc, ◌+◌, ◌-◌, ◌≤◌, max, Bool, ◌&&◌, List, length, drop, Option, Some, None, option_map, if◌then◌else◌, ◌==◌, slice_get, IsTrue, IsCharBoundary, find, slice_index_or}
-use Rattle.std.specs.List.{list_any, take_while}
+use Rattle.std.specs.List.{take_while}
 use Rattle.std.specs.Option.{option_map_or}
-use Rattle.logos_generator.specs.Bytes.{compares, passes_test}
+use Rattle.logos_graph.specs.Bytes.{some_compares}
+use Rattle.logos_generator.specs.Bytes.{passes_test}
 use Rattle.logos_generator.specs.Code.{CodeValue, CodeState, Mark, Condition, by_comparisons, by_test, Fork, by_conditions, by_table}
 use Rattle.logos_graph.specs.Munch.{Found, ended, matched, failed}
 use Rattle.logos_generator.specs.Items.{Callback, Item, Lexes}
@@ -20,9 +21,18 @@ pub data Turn : Type 0 where
   acts : Option (ℕ × ℕ) → (offset : ℕ) → Turn
   returns : Turn
 
+-- the context behind a mark at the offset
+abbrev pub marked : Option Mark → ℕ → Option (ℕ × ℕ) → Option (ℕ × ℕ)
+marked None offset context = context
+marked (Some mark) offset context = Some (mark.leaf, if mark.late then offset - 1 else offset)
+
+-- on to the target, if there is one
+abbrev pub led : Option ℕ → ℕ → Option (ℕ × ℕ) → Turn
+led target offset context = option_map_or (λ next. enters (record { state = next; offset = offset + 1; context = context })) target (acts context offset)
+
 module _ (code : CodeValue) where
   abbrev pub passes : Condition → ℕ → Bool
-  passes (by_comparisons all) b = list_any (λ c. compares c b) all
+  passes (by_comparisons all) b = some_compares all b
   passes (by_test k) b = passes_test code.bit_tables k b
 
   -- the state to which the byte leads
@@ -35,18 +45,10 @@ module _ (code : CodeValue) where
   looped None rest = 0
   looped (Some k) rest = length (take_while (passes_test code.bit_tables k) rest)
 
-  -- the context behind a mark at the offset
-  abbrev pub marked : Option Mark → ℕ → Option (ℕ × ℕ) → Option (ℕ × ℕ)
-  marked None offset context = context
-  marked (Some mark) offset context = Some (mark.leaf, if mark.late then offset - 1 else offset)
-
   -- behind the fork's byte, if there is one, or at the end of the input
   abbrev pub forked : CodeState → Option ℕ → Bool → ℕ → Option (ℕ × ℕ) → Turn
-  forked state (Some b) fresh offset context =
-      option_map_or (λ next. enters (record { state = next; offset = offset + 1; context = context })) (target state.fork b) (acts context offset)
-  forked state None fresh offset context =
-      if fresh then returns
-      else option_map_or (λ next. enters (record { state = next; offset = offset + 1; context = context })) state.at_end (acts context offset)
+  forked state (Some b) fresh offset context = led (target state.fork b) offset context
+  forked state None fresh offset context = if fresh then returns else led state.at_end offset context
 
   module _ (bytes : List ℕ) (start : ℕ) where
     -- what a state does: its fast loop, its mark, and its fork

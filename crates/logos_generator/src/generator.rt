@@ -6,3 +6,9 @@ pub struct Config {
     /// One loop over a state variable, in place of a function for each state. Both shapes give the same items.
     pub use_state_machine_codegen: bool,
 }
+
+mod fork;
+mod states;
+#[cfg(test)]
+mod tests;
+mod tests_by_bits;

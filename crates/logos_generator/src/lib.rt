@@ -2,6 +2,7 @@
 
 #![tactic(auto)]
 
+pub mod code;
 pub mod generator;
 pub mod laws;
 pub mod machine;

@@ -3,3 +3,4 @@ pub mod Window
 pub mod Examples
 pub mod SameMembers
 pub mod OneFaults
+pub mod JoinLemmas

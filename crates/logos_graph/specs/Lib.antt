@@ -7,5 +7,6 @@ pub mod Found
 pub mod Faults
 pub mod Reduced
 pub mod Least
+pub mod Bytes
 pub mod View
 pub mod Errors

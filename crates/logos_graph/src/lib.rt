@@ -2,5 +2,6 @@
 
 #![tactic(auto)]
 
+pub mod byte_class;
 pub mod graph;
 pub mod laws;

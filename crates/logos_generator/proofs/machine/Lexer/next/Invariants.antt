@@ -1,0 +1,22 @@
+use Rattle.std.proofs.Common.{◌≡◌, ◌≤◌, ◌-◌, List, length}
+use Rattle.logos_generator.specs.Items.{Item}
+use Rattle.logos_generator.specs.Runs.{Runs}
+use Rattle.logos_generator.specs.LexerValue.{answers_of}
+use Rattle.logos_generator.proofs.machine.Lexer.next.Given as goal
+
+-- what goes on behind the skipped matches goes on behind the last item
+abbrev pub invariant-loop-to : goal.invariant-loop-to
+invariant-loop-to g l = record {
+  same_code : l.self-inside.code.now ≡ l.fn.self.code;
+  same_input : l.self-inside.input.now ≡ l.fn.self.input;
+  same_callback : l.self-inside.callback ≡ l.fn.self.callback;
+  behind : l.fn.self.to ≤ l.self-inside.to;
+  order : l.self-inside.from ≤ l.self-inside.to;
+  within : l.self-inside.to ≤ length l.self-inside.input.now;
+  goes_on : (items : List Item) →
+      Runs l.self-inside.code.now (answers_of g.C.Fn l.self-inside.callback) l.self-inside.input.now l.self-inside.to items →
+      Runs l.fn.self.code (answers_of g.C.Fn l.fn.self.callback) l.fn.self.input l.fn.self.to items;
+}
+
+abbrev pub decreases-loop-to : goal.decreases-loop-to
+decreases-loop-to g l = length l.self-inside.input.now - l.self-inside.to

@@ -1,0 +1,111 @@
+-- The nodes that a generator makes of a graph's state, by the byte sets that it tests by bits.
+use Rattle.std.specs.Prelude.{◌≡◌, ◌≢◌, ℕ, ◌<◌, ◌≤◌, Bool, true, false, IsTrue, IfSome, not, ◌&&◌, ◌==◌, List, [], ◌∷◌, ◌++◌, length, sum_by, Option, Some, None, option_map, MatchBool, MatchOption, IsSomeAnd, if◌then◌else◌, find, slice_get, slice_index_or}
+use Rattle.std.specs.List.{All, AllPairs}
+use Rattle.std.specs.Option.{option_map_or, option_or}
+use Rattle.logos_graph.specs.Graph.{GraphState, is_in}
+use Rattle.logos_graph.specs.Bytes.{Comparison, operations, joined, some_compares, ranges_of, AreSeparated}
+use Rattle.logos_graph.specs.declared.byte_class.ByteClass.{ByteClass}
+use Rattle.logos_generator.specs.Code.{CodeState, Condition, by_comparisons, by_test, Fork, by_conditions, by_table}
+use Rattle.logos_generator.specs.Makes.{mark_made, IsLast}
+
+-- the ranges of the bytes that lead to a state, and the state
+abbrev pub Edge : Type 0
+Edge = List (ℕ × ℕ) × ℕ
+
+abbrev pub edge_of : ByteClass × ℕ → Edge
+edge_of edge = (ranges_of edge.0, edge.1)
+
+-- where a byte leads
+abbrev pub edge_leads : List Edge → ℕ → Option ℕ
+edge_leads edges b = option_map (λ e. e.1) (find (λ e. is_in e.0 b) edges)
+
+-- the edge leads elsewhere than to s, by this byte
+abbrev pub is_other : ℕ → ℕ → Edge → Bool
+is_other s b e = not (e.1 == s) && is_in e.0 b
+
+-- where a byte leads, without the edges to s
+abbrev pub leads_beside : ℕ → List Edge → ℕ → Option ℕ
+leads_beside s edges b = option_map (λ e. e.1) (find (is_other s b) edges)
+
+-- an entry that is written where the byte is hit and nothing was written before
+abbrev pub hit : Bool → ℕ → Option ℕ → Option ℕ
+hit b target entry = option_or entry (if b then Some target else None)
+
+-- the list begins with what there was
+abbrev pub Extends : {A : Type 0} → List A → List A → Type 0
+Extends {A} old new = (more : List A) × (new ≡ old ++ more)
+
+-- the set holds the bytes of the ranges
+pub record IsSetOf (ranges : List (ℕ × ℕ)) (set : List Bool) : Type 0 where
+  pub members : (b : ℕ) → b < 256 → slice_index_or set b false ≡ is_in ranges b
+
+-- how many operations test a byte
+abbrev pub cost : List Comparison → ℕ
+cost all = sum_by operations all
+
+-- Byte sets, each by the number of its test.
+module _ (tests : List (List Bool)) where
+  -- the test with this number, at a byte
+  abbrev pub tests_byte : ℕ → ℕ → Bool
+  tests_byte k b = option_map_or (λ set. slice_index_or set b false) (slice_get tests k) false
+
+  -- the test with this number is for the bytes of the ranges
+  abbrev pub IsTest : List (ℕ × ℕ) → ℕ → Type 0
+  IsTest ranges k = IsSomeAnd (slice_get tests k) (IsSetOf ranges)
+
+  -- comparisons, or a bit where they cost more than two operations
+  abbrev pub IsConditionOf : List (ℕ × ℕ) → Condition → Type 0
+  IsConditionOf ranges (by_comparisons all) = (all ≡ joined ranges) × (cost all ≤ 2) × ((b : ℕ) → b < 256 → some_compares all b ≡ is_in ranges b)
+  IsConditionOf ranges (by_test k) = (2 < cost (joined ranges)) × IsTest ranges k
+
+  pub record IsBranchOf (edge : Edge) (branch : Condition × ℕ) : Type 0 where
+    pub condition : IsConditionOf edge.0 branch.0
+    pub target : branch.1 ≡ edge.1
+
+  -- one branch for each edge that leads elsewhere than to s, in the order of the edges
+  abbrev pub AreBranchesOf : ℕ → List Edge → List (Condition × ℕ) → Type 0
+  AreBranchesOf s [] branches = branches ≡ []
+  AreBranchesOf s (edge ∷ edges) branches = MatchBool (edge.1 == s)
+      (AreBranchesOf s edges branches)
+      ((branch : Condition × ℕ) × (rest : List (Condition × ℕ)) × (branches ≡ branch ∷ rest) × IsBranchOf edge branch × AreBranchesOf s edges rest)
+
+  -- a table where there are more than two edges, else conditions
+  abbrev pub IsForkOf : ℕ → List Edge → Fork → Type 0
+  IsForkOf s edges (by_conditions branches) = (length edges ≤ 2) × AreBranchesOf s edges branches
+  IsForkOf s edges (by_table entries) = (2 < length edges) × (length entries ≡ 256) × ((b : ℕ) → b < 256 → slice_index_or entries b None ≡ leads_beside s edges b)
+
+  -- the test of the edge to s, if there is one
+  abbrev pub IsLoopOf : ℕ → List Edge → Option ℕ → Type 0
+  IsLoopOf s edges loop = MatchOption (find (λ e. e.1 == s) edges) (loop ≡ None) (λ edge. IsSomeAnd loop (IsTest edge.0))
+
+  -- state s of a graph, as a state of the code
+  pub record IsStateOf (s : ℕ) (state : GraphState) (made : CodeState) : Type 0 where
+    pub fast_loop : IsLoopOf s state.normal made.fast_loop
+    pub mark : made.mark ≡ mark_made state.state_type
+    pub fork : IsForkOf s state.normal made.fork
+    pub at_end : made.at_end ≡ state.eoi
+
+-- A graph that a code can be made of, by the number of its leaves.
+module _ (graph : List GraphState) (leaves : ℕ) where
+  -- what the edges of a state lead to is there, an edge's bytes lead where the edge says, and no two edges lead to one state
+  pub record IsFinishedState (state : GraphState) : Type 0 where
+    pub separated : All (λ edge. AreSeparated edge.0) state.normal
+    pub targets : All (λ edge. edge.1 < length graph) state.normal
+    pub leads : All (λ edge. (b : ℕ) → b < 256 → is_in edge.0 b ≡ true → edge_leads state.normal b ≡ Some edge.1) state.normal
+    pub apart : AllPairs (λ edge other. edge.1 ≢ other.1) state.normal
+    pub mark : IfSome (mark_made state.state_type) (λ mark. mark.leaf < leaves)
+    pub end : (t : ℕ) → state.eoi ≡ Some t → IsLast graph t
+
+  abbrev pub IsLateIn : ℕ → Type 0
+  IsLateIn s = IsSomeAnd (slice_get graph s) (λ state. IsSomeAnd (mark_made state.state_type) (λ mark. IsTrue mark.late))
+
+  -- nothing is matched before the first byte, and what is matched there is no late match of the empty text
+  pub record IsFirst (state : GraphState) : Type 0 where
+    pub unmarked : mark_made state.state_type ≡ None
+    pub early : All (λ edge. ¬ IsLateIn edge.1) state.normal
+    pub no_end : state.eoi ≡ None
+
+  pub record IsFinished : Type 0 where
+    pub few : length graph < 4294967295
+    pub states : All IsFinishedState graph
+    pub first : IsSomeAnd (slice_get graph 0) IsFirst

@@ -1,0 +1,39 @@
+-- What contracts see of the states that a generator reads and makes.
+use Rattle.std.specs.Prelude.{◌≡◌, ℕ, ◌<◌, ◌≤◌, ◌*◌, Bool, List, map, length, option_map, IsSomeAnd, Some, slice_get}
+use Rattle.std.specs.List.{All}
+use Rattle.logos_pattern.specs.declared.leaf.LeafId.{LeafId}
+use Rattle.logos_graph.specs.Graph.{StateType, GraphState}
+use Rattle.logos_graph.specs.Bytes.{AreSeparated}
+use Rattle.logos_generator.specs.declared.generator.states.StateType.{StateType as TheStateType}
+use Rattle.logos_generator.specs.declared.generator.states.StateData.{StateData}
+use Rattle.logos_generator.specs.declared.code.CodeState.{CodeState as TheState}
+use Rattle.logos_generator.specs.CodeView.{state_of, AreDifferent}
+use Rattle.logos_generator.specs.Bytes.{passes_test}
+use Rattle.logos_generator.specs.Nodes.{edge_of, tests_byte, IsStateOf}
+
+abbrev pub leaf_number : LeafId → ℕ
+leaf_number leaf = leaf.0
+
+abbrev pub state_type_of : TheStateType → StateType
+state_type_of type = record { accept = option_map leaf_number type.accept; early = option_map leaf_number type.early }
+
+abbrev pub graph_state_of : StateData → GraphState
+graph_state_of state = record { state_type = state_type_of state.state_type; normal = map edge_of state.normal.items; eoi = state.eoi }
+
+-- what a state's edges have to be, so that a code state can be made of it
+pub record IsCodable (state : GraphState) : Type 0 where
+  pub separated : All (λ edge. AreSeparated edge.0) state.normal
+  pub targets : All (λ edge. edge.1 < 4294967295) state.normal
+
+-- the states of a code are made of the graph's, one of each
+pub record AreStatesOf (tests : List (List Bool)) (jumps : List (List ℕ)) (graph : List GraphState) (states : List TheState) : Type 0 where
+  pub count : length states ≡ length graph
+  pub each : (s : ℕ) (state : GraphState) → slice_get graph s ≡ Some state → IsSomeAnd (slice_get states s) (λ made. IsStateOf tests s state (state_of jumps made))
+
+-- they are made so for some tests, which the bit tables hold, and no two jump tables are equal
+pub record AreTablesOf (graph : List GraphState) (states : List TheState) (bit_tables jump_tables : List (List ℕ)) : Type 0 where
+  pub tests : List (List Bool)
+  pub are : AreStatesOf tests jump_tables graph states
+  pub hold : (k b : ℕ) → b < 256 → passes_test bit_tables k b ≡ tests_byte tests k b
+  pub fit : length tests ≤ 8 * length bit_tables
+  pub once : AreDifferent jump_tables

@@ -1,0 +1,183 @@
+//! Forks of states, and their fast loops.
+ghost use Rattle.std.specs.Prelude.{◌≡◌, ◌<◌, ◌≤◌, ◌↔◌, ◌&&◌, ◌==◌, ℕ, true, IfOk, OnOk, IsTrue, MatchBool, [], ◌∷◌, ◌++◌, List, Bool, length, map, option_map, find, drop, nat_le, slice_index, None};
+ghost use Rattle.std.specs.List.{All};
+ghost use Rattle.std.specs.Option.{option_or};
+ghost use Rattle.logos_graph.specs.Graph.{is_in};
+ghost use Rattle.logos_graph.specs.Bytes.{ranges_of, has_byte, AreSeparated, comparison_of};
+ghost use Rattle.logos_generator.specs.CodeView.{condition_of, branch_of, entry_of, fork_of};
+ghost use Rattle.logos_generator.specs.Nodes.{Edge, edge_of, hit, leads_beside, Extends, IsConditionOf, IsBranchOf, AreBranchesOf, IsForkOf, IsLoopOf, cost};
+
+use super::tests_by_bits::add_test;
+use crate::code::{Condition, Fork, NOWHERE};
+use indexmap::IndexSet;
+use logos_graph::byte_class::{ByteClass, Comparisons};
+use std::alloc::{AllocError, Global};
+
+/// The test of the edge back to the state, if there is one.
+pub(super) fn maybe_impl_fast_loop(
+    tests: &mut IndexSet<[bool; 256]>,
+    edges: &[(ByteClass, usize)],
+    state: usize,
+) -> Result<Option<usize>, AllocError>
+    ensures grows { OnOk result (Extends tests.old.keys tests.new.keys) }
+    ensures is { IfOk result (IsLoopOf tests.new.keys state (map edge_of edges.now)) }
+{
+    match edge_back(edges, state) {
+        Some(class) => Ok(Some(add_test(tests, class)?)),
+        None => Ok(None),
+    }
+}
+
+/// The bytes of the first edge that leads back to the state.
+fn edge_back<'e>(edges: &'e [(ByteClass, usize)], state: usize) -> Option<&'e ByteClass>
+    ensures { option_map (λ class. ranges_of class.now) result ≡ option_map (λ edge. edge.0) (find (λ edge. edge.1 == state) (map edge_of edges.now)) }
+{
+    for edge in edges {
+        if edge.1 == state {
+            return Some(&edge.0);
+        }
+    }
+    None
+}
+
+/// The fork of a state, without the edge back to it: a table for more than two edges, else conditions.
+pub(super) fn impl_fork(
+    alloc: Global,
+    tests: &mut IndexSet<[bool; 256]>,
+    jumps: &mut IndexSet<[u32; 256]>,
+    edges: &[(ByteClass, usize)],
+    state: usize,
+) -> Result<Fork, AllocError>
+    requires separated { All (λ edge. AreSeparated (ranges_of edge.0)) edges.now }
+    requires targets { All (λ edge. edge.1 < 4294967295) edges.now }
+    ensures tests { OnOk result (Extends tests.old.keys tests.new.keys) }
+    ensures jumps { OnOk result (Extends jumps.old.keys jumps.new.keys) }
+    ensures is { IfOk result (λ fork. IsForkOf tests.new.keys state (map edge_of edges.now) (fork_of jumps.new.keys fork)) }
+{
+    if edges.len() > 2 {
+        let (k, _) = jumps.insert_full(table_of(edges, state))?;
+        return Ok(Fork::Table(k));
+    }
+    Ok(Fork::Conditions(conditions_of(alloc, tests, edges, state)?))
+}
+
+/// The jump table of a state's edges, without the edge back to it.
+fn table_of(edges: &[(ByteClass, usize)], state: usize) -> [u32; 256]
+    requires { All (λ edge. edge.1 < 4294967295) edges.now }
+    ensures long { length result ≡ 256 }
+    ensures leads { (b : ℕ) → b < 256 → entry_of (slice_index result b) ≡ leads_beside state (map edge_of edges.now) b }
+{
+    let mut table = [NOWHERE; 256];
+    for edge in edges {
+        fill_edge(&mut table, edge, state);
+    }
+    table
+}
+
+/// Writes an edge, if it leads elsewhere.
+fn fill_edge(table: &mut [u32; 256], edge: &(ByteClass, usize), state: usize)
+    requires { edge.now.1 < 4294967295 }
+    ensures { (b : ℕ) → b < 256 → entry_of (slice_index table.new b) ≡ option_or (entry_of (slice_index table.old b)) (leads_beside state (edge_of edge.now ∷ []) b) }
+{
+    if edge.1 != state {
+        fill_class(table, &edge.0, edge.1 as u32);
+    }
+}
+
+/// Writes the target at each byte of the class that has none.
+fn fill_class(table: &mut [u32; 256], class: &ByteClass, target: u32)
+    requires { target < 4294967295 }
+    ensures { (b : ℕ) → b < 256 → entry_of (slice_index table.new b) ≡ hit (has_byte class.now b) target (entry_of (slice_index table.old b)) }
+{
+    for range in &class.ranges {
+        fill_range(table, *range.start(), *range.end(), target);
+    }
+}
+
+/// Writes the target at each byte of a range that has none.
+fn fill_range(table: &mut [u32; 256], first: u8, last: u8, target: u32)
+    requires { target < 4294967295 }
+    ensures { (b : ℕ) → b < 256 → entry_of (slice_index table.new b) ≡ hit (nat_le first b && nat_le b last) target (entry_of (slice_index table.old b)) }
+{
+    for b in first as usize..last as usize + 1 {
+        table[b] = filled(table[b], target);
+    }
+}
+
+/// The entry, or the target where there is none.
+fn filled(entry: u32, target: u32) -> u32
+    requires { target < 4294967295 }
+    ensures { entry_of result ≡ hit true target (entry_of entry) }
+{
+    if entry == NOWHERE { target } else { entry }
+}
+
+/// The conditions of a state's edges, without the edge back to it.
+fn conditions_of(
+    alloc: Global,
+    tests: &mut IndexSet<[bool; 256]>,
+    edges: &[(ByteClass, usize)],
+    state: usize,
+) -> Result<Vec<(Condition, usize)>, AllocError>
+    requires { All (λ edge. AreSeparated (ranges_of edge.0)) edges.now }
+    ensures grows { OnOk result (Extends tests.old.keys tests.new.keys) }
+    ensures are { IfOk result (λ made. AreBranchesOf tests.new.keys state (map edge_of edges.now) (map branch_of made.items)) }
+{
+    let mut made = Vec::new(alloc);
+    for edge in edges {
+        add_branch(alloc, tests, &mut made, edge, state)?;
+    }
+    Ok(made)
+}
+
+/// Adds the branch of an edge, if it leads elsewhere.
+fn add_branch(
+    alloc: Global,
+    tests: &mut IndexSet<[bool; 256]>,
+    made: &mut Vec<(Condition, usize)>,
+    edge: &(ByteClass, usize),
+    state: usize,
+) -> Result<(), AllocError>
+    requires { AreSeparated (ranges_of edge.now.0) }
+    ensures grows { OnOk result (Extends tests.old.keys tests.new.keys) }
+    ensures adds { OnOk result (MatchBool (edge.now.1 == state) (made.new.items ≡ made.old.items) ((branch : _) × (made.new.items ≡ made.old.items ++ branch ∷ []) × IsBranchOf tests.new.keys (edge_of edge.now) (branch_of branch))) }
+{
+    if edge.1 == state {
+        return Ok(());
+    }
+    let condition = condition_of(alloc, tests, &edge.0)?;
+    made.push((condition, edge.1))?;
+    Ok(())
+}
+
+/// The test of a class: by comparisons, or by a bit of a table where they cost more than two operations.
+fn condition_of(
+    alloc: Global,
+    tests: &mut IndexSet<[bool; 256]>,
+    class: &ByteClass,
+) -> Result<Condition, AllocError>
+    requires { AreSeparated (ranges_of class.now) }
+    ensures grows { OnOk result (Extends tests.old.keys tests.new.keys) }
+    ensures is { IfOk result (λ condition. IsConditionOf tests.new.keys (ranges_of class.now) (condition_of condition)) }
+{
+    let comparisons = class.impl_with_cmp(alloc)?;
+    if are_cheap(&comparisons) {
+        return Ok(Condition::Comparisons(comparisons));
+    }
+    Ok(Condition::Test(add_test(tests, class)?))
+}
+
+/// Whether the comparisons cost two operations at most.
+fn are_cheap(comparisons: &[Comparisons]) -> bool
+    ensures { IsTrue result ↔ (cost (map comparison_of comparisons.now) ≤ 2) }
+{
+    let mut left: usize = 2;
+    for comparison in comparisons {
+        let operations = comparison.count_ops();
+        if operations > left {
+            return false;
+        }
+        left -= operations;
+    }
+    true
+}

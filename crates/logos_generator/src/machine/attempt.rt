@@ -1,0 +1,169 @@
+//! One try: from a place of the input to a match, an error or the end.
+ghost use Rattle.std.specs.Prelude.{◌≡◌, ◌+◌, ◌-◌, ◌<◌, ◌≤◌, ℕ, length, drop, option_map, IfSome, IsTrue, IsCharBoundary, ◌^◌, ◌↔◌};
+ghost use Rattle.logos_generator.specs.CodeView.{mark_of, state_at};
+ghost use Rattle.logos_generator.specs.Runs.{Does, Tries, EndsError, looped, marked, led};
+ghost use Rattle.logos_generator.specs.Stands.{IsStand, StaysWithin};
+ghost use Rattle.logos_generator.specs.Attempts.{context_of, stand_of, turn_of, found_of};
+
+use super::fast_loop::passing_len;
+use crate::code::{Code, Mark};
+use logos_pattern::leaf::LeafId;
+
+/// Where a try stands as it enters a state.
+#[derive(Clone, Copy)]
+pub(super) struct Stand {
+    pub state: usize,
+    pub offset: usize,
+    /// The last mark passed: its leaf, and where the match ends.
+    pub context: Option<(LeafId, usize)>,
+}
+
+/// What a state does.
+#[derive(Clone, Copy)]
+pub(super) enum Turn {
+    Enters(Stand),
+    /// The try is over at this offset.
+    Acts(Option<(LeafId, usize)>, usize),
+    /// The input is over, and nothing was read in this try.
+    Returns,
+}
+
+/// What a try finds.
+#[derive(Clone, Copy)]
+pub(super) enum Found {
+    Ended,
+    /// A match of this leaf up to this offset.
+    Matched(LeafId, usize),
+    /// No match; the error ends at this offset.
+    Failed(usize),
+}
+
+/// What the state does that is entered there.
+#[inline]
+fn run_state(code: &Code, input: &[u8], start: usize, at: Stand) -> Turn
+    requires { IsStand code.now input.now start (stand_of at) }
+    ensures { Does code.now input.now start (stand_of at) (turn_of result) }
+{
+    let offset = at.offset + loop_len(code, input, at.state, at.offset);
+    let context = marked(code.mark(at.state), offset, at.context);
+    if offset < input.len() {
+        return go_on(code.target(at.state, input[offset]), offset, context);
+    }
+    if at.state == code.root() && offset == start {
+        return Turn::Returns;
+    }
+    go_on(code.at_end(at.state), offset, context)
+}
+
+/// How many bytes the state's fast loop takes.
+#[inline]
+fn loop_len(code: &Code, input: &[u8], state: usize, offset: usize) -> usize
+    requires { state < length code.now.states }
+    ensures { result ≡ looped code.now (state_at code.now state).fast_loop (drop offset input.now) }
+{
+    let Some(k) = code.fast_loop(state) else {
+        return 0;
+    };
+    if offset > input.len() {
+        return 0;
+    }
+    let (table, mask) = code.test(k);
+    passing_len(table, mask, &input[offset..])
+}
+
+/// The context behind a mark.
+#[inline]
+fn marked(
+    mark: Option<Mark>,
+    offset: usize,
+    context: Option<(LeafId, usize)>,
+) -> Option<(LeafId, usize)>
+    requires { IfSome mark (λ m. IsTrue m.late → 0 < offset) }
+    ensures { context_of result ≡ marked (option_map mark_of mark) offset (context_of context) }
+{
+    match mark {
+        Some(mark) => Some((mark.leaf, offset - mark.late as usize)),
+        None => context,
+    }
+}
+
+/// On to the target behind the offset, if there is one.
+#[inline]
+fn go_on(target: Option<usize>, offset: usize, context: Option<(LeafId, usize)>) -> Turn
+    requires { offset + 1 < 2 ^ 64 }
+    ensures { turn_of result ≡ led target offset (context_of context) }
+{
+    match target {
+        Some(state) => Turn::Enters(Stand {
+            state,
+            offset: offset + 1,
+            context,
+        }),
+        None => Turn::Acts(context, offset),
+    }
+}
+
+/// Where an error ends that has come to the offset: behind a byte at least, and in UTF-8 mode behind a character.
+fn error_end(code: &Code, input: &[u8], start: usize, offset: usize) -> usize
+    requires start { start < length input.now }
+    requires offset { offset ≤ length input.now }
+    ensures ends { EndsError code.now input.now start offset result }
+    ensures within { result ≤ length input.now }
+{
+    let least = offset.max(start + 1);
+    if code.is_utf8() {
+        boundary_from(input, least)
+    } else {
+        least
+    }
+}
+
+/// The first boundary of characters from the offset on.
+fn boundary_from(input: &[u8], from: usize) -> usize
+    requires { from ≤ length input.now }
+    ensures past { from ≤ result }
+    ensures boundary { IsCharBoundary input.now result }
+    ensures least { (other : ℕ) → from ≤ other → IsCharBoundary input.now other → result ≤ other }
+{
+    let mut to = from;
+    while to < input.len() && is_continuation(input[to]) {
+        to += 1;
+    }
+    to
+}
+
+/// Whether the byte goes on with a character.
+fn is_continuation(byte: u8) -> bool
+    ensures { IsTrue result ↔ (128 ≤ byte) × (byte < 192) }
+{
+    matches!(byte, 0x80..=0xBF)
+}
+
+/// What is found from a place of the input on, and the number of states entered.
+pub(super) fn attempt(code: &Code, input: &[u8], start: usize) -> (Found, usize)
+    requires { start ≤ length input.now }
+    ensures tries { Tries code.now input.now start (found_of result.0) result.1 }
+    ensures within { StaysWithin code.now input.now start (found_of result.0) }
+    ensures few { result.1 ≤ (length input.now - start) + 2 }
+{
+    let mut at = Stand {
+        state: code.root(),
+        offset: start,
+        context: None,
+    };
+    let mut before = 0;
+    loop {
+        match run_state(code, input, start, at) {
+            Turn::Enters(next) => at = next,
+            Turn::Acts(Some((leaf, to)), _) => return (Found::Matched(leaf, to), before + 1),
+            Turn::Acts(None, offset) => {
+                return (
+                    Found::Failed(error_end(code, input, start, offset)),
+                    before + 1,
+                );
+            }
+            Turn::Returns => return (Found::Ended, before + 1),
+        }
+        before += 1;
+    }
+}
