@@ -12,3 +12,6 @@ pub mod TextLemmas
 pub mod IsCoreLemmas
 pub mod TreesLemmas
 pub mod PartLemmas
+pub mod WidthLemmas
+pub mod RepetitionLemmas
+pub mod ClassLemmas

@@ -44,9 +44,12 @@ Spells-of_StandsAt bytes text i j h = go text i j h.end h.here
     go [] i j e h = omega (arith, e)
     go (b ∷ text) i j e h =
         let n : j - i ≡ suc (j - suc i) = omega (arith, e) in
-        let f = front (j - suc i) (drop i bytes) b text (ap (λ k. take k (drop i bytes)) (sym n) ∙ h) in
+        let f = front (j - suc i) (drop i bytes) b text (subst (λ k. take k (drop i bytes) ≡ b ∷ text) n h) in
         let at = at_drop bytes i b f.0 f.1 in
-        (at.0, go text (suc i) j (omega (arith, e)) (ap (take (j - suc i)) at.1 ∙ f.2))
+        let rest = take (j - suc i) f.0 in
+        let same : slice_range bytes (suc i) j ≡ rest = ap (take (j - suc i)) {y = f.0} at.1 in
+        let here : slice_range bytes (suc i) j ≡ text = same ∙ f.2 in
+        (at.0, go text (suc i) j (omega (arith, e)) here)
 
 pub InRanges-of_is_in : (ranges : List (ℕ × ℕ)) (n : ℕ) → is_in ranges n ≡ true → InRanges ranges n
 InRanges-of_is_in ranges n h =
