@@ -15,3 +15,9 @@ pub mod PartLemmas
 pub mod WidthLemmas
 pub mod RepetitionLemmas
 pub mod ClassLemmas
+pub mod MarkLemmas
+pub mod StepLemmas
+pub mod SteppedLemmas
+pub mod RangeLemmas
+pub mod TableLemmas
+pub mod BuildLemmas

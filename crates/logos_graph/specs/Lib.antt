@@ -9,9 +9,13 @@ pub mod Reduced
 pub mod Least
 pub mod Bytes
 pub mod Core
+pub mod Marks
+pub mod Stepped
 pub mod Repeat
 pub mod Characters
 pub mod Reader
+pub mod Ranges
+pub mod Table
 pub mod IsCore
 pub mod Run
 pub mod View

@@ -3,3 +3,6 @@
 #![tactic(auto)]
 
 pub mod byte_class;
+mod marks;
+mod ranges;
+mod table;
