@@ -67,7 +67,7 @@ module _ (ks : List Rest) where
         (k.row, subst (λ x. IsAt ks x k.row) d k.at,
         subst (λ x. FindsNext ks k.row k.row.left x (slice_index_or follow (q * 64 + (b - 0x80)) None)) m k.next)
 
-    pub is_reader : IsReaderOf c (reader_from ks first follow)
+    pub is_reader : IsReaderOf c (reader_from (length ks) first follow)
     is_reader = record {
       rest = rest_of ks;
       small = λ q le. let r = row_at q le in

@@ -15,15 +15,11 @@ use Rattle.logos_graph.specs.Core.{Core, At, Reader, Stands, width, IsFree}
 use Rattle.logos_graph.specs.Characters.{IsOfScalars, IsBeginningOf, IsCharOf}
 use Rattle.logos_graph.specs.Graph.{is_in}
 use Rattle.logos_graph.specs.Places.{Place, byte_of, member, within, Reads, begun}
-use Rattle.logos_graph.specs.Reader.{Spells, IsReaderOf, IsCharAt, IsBegunAt}
+use Rattle.logos_graph.specs.Reader.{is_char_in, Spells, IsReaderOf, IsCharAt, IsBegunAt}
 use Rattle.logos_graph.specs.Size.{size}
 use Rattle.logos_graph.specs.IsCore.{IsCoreOf}
 use Rattle.logos_graph.proofs.ReaderLemmas.{leaf_matches, leaf_begins}
 use Rattle.logos_graph.proofs.TextLemmas.{StandsAt-of_Spells, Spells-of_StandsAt, Spells-end, InRanges-of_is_in, is_in-of_InRanges}
-
--- the characters of the ranges
-abbrev pub is_char_in : List (ℕ × ℕ) → ℕ → Bool
-is_char_in ranges c = scalar c && is_in ranges c
 
 pub scalars_only : (ranges : List (ℕ × ℕ)) → IsOfScalars (is_char_in ranges)
 scalars_only ranges k h = (and_parts (scalar k) (is_in ranges k) h).0

@@ -1,7 +1,8 @@
 -- Rows of the table.
-use Rattle.std.proofs.Common.{◌≡◌, ℕ, zero, suc, ◌+◌, ◌-◌, ◌*◌, ◌/◌, ◌%◌, slice_index, slice_index_or, ◌<◌, ◌≤◌, ◌⊎◌, Bool, true, false, ◌&&◌, ◌||◌, if◌then◌else◌, List, [], ◌∷◌, ◌++◌, Option, Some, None, length, slice_get, refl, sym, ap, ◌∙◌, subst, inl, inr, ⊎_elim, true≢false, rules, arith}
+use Rattle.std.proofs.Common.{◌≡◌, ℕ, zero, suc, ◌+◌, ◌-◌, ◌*◌, ◌/◌, ◌%◌, slice_index, slice_index_or, ◌<◌, ◌≤◌, ◌⊎◌, Bool, true, false, ◌&&◌, ◌||◌, if◌then◌else◌, List, [], ◌∷◌, ◌++◌, Option, Some, None, length, get_or, slice_get, refl, sym, ap, ◌∙◌, subst, inl, inr, ⊎_elim, true≢false, rules, arith}
 use Rattle.std.proofs.lemmas.Bool.{and_parts, and_from}
-use Rattle.std.proofs.lemmas.Option.{same_Some}
+use Rattle.std.proofs.lemmas.Option.{same_Some, get_or_from_slice_get}
+use Rattle.std.proofs.lemmas.List.Sums.{sum_by-drop_more, sum_by-cons}
 use Rattle.std.specs.List.{list_any}
 use Rattle.std.proofs.lemmas.List.{get_or_append_left}
 use Rattle.std.proofs.Math.Seq.{get_or-append_seam}
@@ -11,7 +12,7 @@ use Rattle.std.proofs.lemmas.Bool.Decides.{nat_tests}
 use Rattle.logos_graph.specs.Characters.{size, Lead, lead, after_lead, after_byte, IsOpen}
 use Rattle.logos_graph.specs.Reader.{IsShut}
 use Rattle.logos_graph.specs.Ranges.{in_ranges, AreParts, from_floor}
-use Rattle.logos_graph.specs.Table.{Row, row_of, IsAt, Grows, AreRests, IsRowFor, Finds, FindsFirst, FindsNext, IsCell}
+use Rattle.logos_graph.specs.Table.{Row, row_of, IsAt, Grows, AreRests, IsRowFor, Finds, FindsFirst, FindsNext, IsCell, weight, led_to}
 use Rattle.logos_graph.specs.declared.ranges.CharRange.{CharRange}
 use Rattle.logos_graph.specs.declared.table.Rest.{Rest}
 use Rattle.logos_graph.proofs.RangeLemmas.{part_of}
@@ -253,3 +254,28 @@ pub start_rows : (old new : List Rest) (y : Rest) (x : CharRange) → old ≡ []
 start_rows old new y x e h l f z =
     let n : new ≡ y ∷ [] = h ∙ ap (λ (ks : List Rest). if list_any (alike y) ks then ks else ks ++ y ∷ []) e in
     subst AreRests (sym n) (one_row y x l f z)
+
+pub start_weight : (old new : List Rest) (y : Rest) → old ≡ [] → new ≡ (if list_any (alike y) old then old else old ++ y ∷ []) → y.left ≡ 0 → weight 0 new ≡ 1
+start_weight old new y e h l =
+    let n : new ≡ y ∷ [] = h ∙ ap (λ (ks : List Rest). if list_any (alike y) ks then ks else ks ++ y ∷ []) e in
+    ap (weight 0) n ∙ ap (λ k. 0 + (1 + 64 * led_to (k - 1))) l
+
+-- a row is followed through: its weight is that of the rows after it
+pub row_weight : (ks : List Rest) (row : ℕ) (new : List Rest) → row < length ks →
+    ((r : Row) → IsAt ks row r → weight (row + 1) new ≤ weight (row + 1) ks + 64 * led_to (r.left - 1)) →
+    weight (row + 1) new + 1 ≤ weight row ks
+row_weight ks row new lt h =
+    let k = got_at ks row lt in
+    let at : IsAt ks row (row_of k.0) = record { key = k.0; is = k.1; same = refl } in
+    let got : get_or ks row k.0 ≡ k.0 = get_or_from_slice_get ks row k.0 k.0 k.1 in
+    let sum = sum_by-drop_more (λ (r : Rest). 1 + 64 * led_to (r.left - 1)) ks row k.0 lt in
+    let first : 1 + 64 * led_to ((get_or ks row k.0).left - 1) ≡ 1 + 64 * led_to (k.0.left - 1) = ap (λ (r : Rest). 1 + 64 * led_to (r.left - 1)) got in
+    let g = h (row_of k.0) at in
+    omega (arith, g, sum, first)
+
+-- no row weighs nothing
+pub weight_bound : (ks : List Rest) → length ks ≤ weight 0 ks
+weight_bound [] = omega arith
+weight_bound (k ∷ ks) =
+    let e = sum_by-cons (λ (r : Rest). 1 + 64 * led_to (r.left - 1)) k ks in
+    omega (arith, weight_bound ks, e)

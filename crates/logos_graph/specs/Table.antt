@@ -1,5 +1,6 @@
 -- The table of a reader.
-use Rattle.std.specs.Prelude.{◌≡◌, ℕ, zero, suc, ◌+◌, ◌-◌, ◌*◌, ◌/◌, ◌%◌, ◌<◌, ◌≤◌, ◌⊎◌, Bool, true, false, ◌&&◌, ◌||◌, if◌then◌else◌, nat_lt, nat_le, List, [], ◌∷◌, Option, Some, None, length, slice_get, slice_index_or}
+use Rattle.std.specs.Prelude.{◌≡◌, ℕ, zero, suc, ◌+◌, ◌-◌, min, drop, ◌*◌, ◌/◌, ◌%◌, ◌<◌, ◌≤◌, ◌⊎◌, Bool, true, false, ◌&&◌, ◌||◌, if◌then◌else◌, nat_lt, nat_le, List, [], ◌∷◌, Option, Some, None, length, slice_get, slice_index_or}
+use Rattle.std.specs.List.{sum_by}
 use Rattle.std.specs.Option.{MatchOption}
 use Rattle.logos_graph.specs.Characters.{size, Lead, lead, after_lead, after_byte, IsOpen}
 use Rattle.logos_graph.specs.Core.{Reader}
@@ -7,6 +8,7 @@ use Rattle.logos_graph.specs.Reader.{IsShut, Remainder}
 use Rattle.logos_graph.specs.Ranges.{in_ranges}
 use Rattle.logos_graph.specs.declared.ranges.CharRange.{CharRange}
 use Rattle.logos_graph.specs.declared.table.Rest.{Rest}
+use Rattle.logos_graph.specs.declared.table.Table.{Table}
 
 -- what a row stands for
 pub record Row : Type 0 where
@@ -59,6 +61,19 @@ pub record IsCell (ks : List Rest) (cells : List (Option ℕ)) (j : ℕ) : Type 
   pub at : IsAt ks (j / 64) row
   pub next : FindsNext ks row row.left (0x80 + j % 64) (slice_index_or cells j None)
 
+-- how many rows there are, at most, from a place on where so many bytes are left
+abbrev pub led_to : ℕ → ℕ
+led_to zero = 0
+led_to (suc n) = 1 + 64 * led_to n
+
+-- the same for the rows from the n-th on, those that are not there yet too
+abbrev pub weight : ℕ → List Rest → ℕ
+weight n ks = sum_by (λ r. 1 + 64 * led_to (r.left - 1)) (drop n ks)
+
+-- the same for all first bytes below b
+abbrev pub first_weight : ℕ → ℕ
+first_weight b = (min b 0xE0 - 0xC0) + 65 * (min b 0xF0 - 0xE0) + 4161 * (min b 0xF8 - 0xF0)
+
 abbrev pub rest_at : Option Rest → Remainder
 rest_at None = record { left = 0; has = λ o. false }
 rest_at (Some k) = record { left = k.left; has = in_ranges k.offsets.items }
@@ -66,10 +81,14 @@ rest_at (Some k) = record { left = k.left; has = in_ranges k.offsets.items }
 abbrev pub rest_of : List Rest → ℕ → Remainder
 rest_of ks q = rest_at (slice_get ks q)
 
--- the reader of a table
-abbrev pub reader_from : List Rest → List (Option ℕ) → List (Option ℕ) → Reader
-reader_from ks first follow = record {
-  others = length ks - 1;
+-- the reader with these cells
+abbrev pub reader_from : ℕ → List (Option ℕ) → List (Option ℕ) → Reader
+reader_from rows first follow = record {
+  others = rows - 1;
   first = λ b. slice_index_or first b None;
   follow = λ q b. if nat_le 0x80 b && nat_lt b 0xC0 then slice_index_or follow (q * 64 + (b - 0x80)) None else None;
 }
+
+-- the reader of a table
+abbrev pub reader_of : Table → Reader
+reader_of t = reader_from t.rows t.first.items t.follow.items

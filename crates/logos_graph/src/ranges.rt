@@ -1,8 +1,14 @@
 // Ranges of characters.
-ghost use Rattle.std.specs.Prelude.{◌≡◌, ℕ, ◌+◌, ◌^◌, ◌<◌, ◌≤◌, ◌||◌, OnOk, IfOk};
+ghost use Rattle.std.specs.Prelude.{◌&&◌, nat_le, ◌≡◌, ℕ, ◌+◌, ◌^◌, ◌<◌, ◌≤◌, ◌||◌, OnOk, IfOk};
+ghost use lib.Utf8.{scalar};
+ghost use Rattle.logos_pattern.specs.Hir.{pairs};
+ghost use Rattle.logos_graph.specs.Graph.{is_in};
+ghost use Rattle.logos_graph.specs.Reader.{is_char_in};
 ghost use Rattle.logos_graph.specs.Ranges.{in_range, in_ranges, from_floor, ClipsTo, AreParts};
 
 use std::alloc::{AllocError, Global};
+
+use logos_pattern::pattern::Range;
 
 /// The numbers from `first` to `last`.
 #[derive(Clone, Copy, PartialEq, Eq, Hash)]
@@ -54,6 +60,35 @@ pub fn clip(alloc: Global, ranges: &[CharRange], floor: u32, start: u32, size: u
     let mut out = Vec::new(alloc);
     for i in 0..ranges.len() {
         push_clip(&mut out, ranges[i], floor, start, size)?;
+    }
+    Ok(out)
+}
+
+/// Adds the range, unless it holds no number.
+fn push_range(out: &mut Vec<CharRange>, first: u32, last: u32) -> Result<(), AllocError>
+    ensures { OnOk result ((c : ℕ) → in_ranges out.new.items c ≡ (in_ranges out.old.items c || (nat_le first c && nat_le c last))) }
+{
+    if first <= last {
+        out.push(CharRange { first, last })?;
+    }
+    Ok(())
+}
+
+/// Adds the characters of one range.
+fn push_scalars(out: &mut Vec<CharRange>, range: Range) -> Result<(), AllocError>
+    ensures { OnOk result ((c : ℕ) → in_ranges out.new.items c ≡ (in_ranges out.old.items c || (scalar c && (nat_le range.first c && nat_le c range.last)))) }
+{
+    push_range(out, range.first, range.last.min(0xD7FF))?;
+    push_range(out, range.first.max(0xE000), range.last.min(0x10_FFFF))
+}
+
+/// The characters of the ranges: no surrogate, and nothing past the last character.
+pub fn scalars(alloc: Global, ranges: &[Range]) -> Result<Vec<CharRange>, AllocError>
+    ensures { IfOk result (λ made. (c : ℕ) → in_ranges made.items c ≡ is_char_in (pairs ranges.now) c) }
+{
+    let mut out = Vec::new(alloc);
+    for range in ranges {
+        push_scalars(&mut out, *range)?;
     }
     Ok(out)
 }

@@ -1,14 +1,16 @@
 // The table of a reader that reads a character of a class.
-ghost use Rattle.std.specs.Prelude.{◌≡◌, ℕ, ◌+◌, ◌-◌, ◌*◌, ◌/◌, ◌%◌, ◌^◌, ◌<◌, ◌≤◌, ◌||◌, OnOk, IfOk, IfSome, Bool, None, slice_index_or, length, vec_len};
+ghost use Rattle.std.specs.Prelude.{zero, min, ◌≡◌, ℕ, ◌+◌, ◌-◌, ◌*◌, ◌/◌, ◌%◌, ◌^◌, ◌<◌, ◌≤◌, ◌||◌, OnOk, IfOk, IfSome, Bool, None, slice_index_or, length, vec_len};
 ghost use Rattle.logos_graph.specs.Characters.{size, lead, after_byte};
 ghost use Rattle.logos_graph.specs.Ranges.{in_ranges, AreParts, from_floor};
 ghost use Rattle.logos_graph.specs.Table as table;
-ghost use Rattle.logos_graph.specs.Reader.{IsReaderOf};
+ghost use Rattle.logos_graph.specs.Reader.{is_char_in, IsReaderOf};
+ghost use Rattle.logos_pattern.specs.Hir.{pairs};
 
 use std::alloc::{AllocError, Global};
 
-use crate::ranges::{CharRange, clip};
+use crate::ranges::{CharRange, clip, scalars};
 use indexmap::IndexSet;
+use logos_pattern::pattern::Range;
 
 /// What is left of a character that is begun: so many bytes, and the offsets in the block that they pick from.
 #[derive(PartialEq, Eq, Hash, Drop)]
@@ -23,6 +25,7 @@ fn number_of(rests: &mut IndexSet<Rest>, rest: Rest) -> Result<usize, AllocError
     ensures stored { IfOk result (λ i. table.IsAt rests.new.keys i (table.row_of rest)) }
     ensures longer { OnOk result (length rests.old.keys ≤ length rests.new.keys) }
     ensures rests { 0 < rest.left → rest.left ≤ 3 → table.AreRests rests.old.keys → OnOk result (table.AreRests rests.new.keys) }
+    ensures weight { (n : ℕ) → OnOk result (table.weight n rests.new.keys ≤ table.weight n rests.old.keys + (1 + 64 * table.led_to (rest.left - 1))) }
 {
     let (i, _) = rests.insert_full(rest)?;
     Ok(i)
@@ -37,6 +40,7 @@ fn place(rests: &mut IndexSet<Rest>, left: u8, offsets: Vec<CharRange>) -> Resul
     ensures longer { OnOk result (length rests.old.keys ≤ length rests.new.keys) }
     ensures rests { OnOk result (table.AreRests rests.new.keys) }
     ensures finds { IfOk result (table.Finds rests.new.keys left (in_ranges offsets.items)) }
+    ensures weight { (n : ℕ) → OnOk result (table.weight n rests.new.keys ≤ table.weight n rests.old.keys + table.led_to left) }
 {
     if offsets.is_empty() {
         return Ok(None);
@@ -57,6 +61,7 @@ fn row_for(alloc: Global, rests: &mut IndexSet<Rest>, left: u8, ranges: &[CharRa
     ensures longer { OnOk result (length rests.old.keys ≤ length rests.new.keys) }
     ensures rests { OnOk result (table.AreRests rests.new.keys) }
     ensures finds { IfOk result (table.Finds rests.new.keys left (from_floor (in_ranges ranges.now) floor start)) }
+    ensures weight { (n : ℕ) → OnOk result (table.weight n rests.new.keys ≤ table.weight n rests.old.keys + table.led_to left) }
 {
     let offsets = clip(alloc, ranges, floor, start, block_size(left))?;
     place(rests, left, offsets)
@@ -69,6 +74,7 @@ fn first_for(alloc: Global, rests: &mut IndexSet<Rest>, ranges: &[CharRange], by
     ensures longer { OnOk result (length rests.old.keys ≤ length rests.new.keys) }
     ensures rests { OnOk result (table.AreRests rests.new.keys) }
     ensures finds { IfOk result (table.FindsFirst rests.new.keys (in_ranges ranges.now) (lead byte)) }
+    ensures weight { OnOk result (table.weight 0 rests.new.keys + table.first_weight byte ≤ table.weight 0 rests.old.keys + table.first_weight (byte + 1)) }
 {
     let value = byte as u32;
     if value < 0x80 {
@@ -108,6 +114,7 @@ fn next_for(alloc: Global, rests: &mut IndexSet<Rest>, row: usize, part: u32) ->
     ensures longer { OnOk result (length rests.old.keys ≤ length rests.new.keys) }
     ensures rests { OnOk result (table.AreRests rests.new.keys) }
     ensures finds { (r : table.Row) → table.IsAt rests.old.keys row r → IfOk result (table.FindsNext rests.new.keys r r.left (0x80 + part)) }
+    ensures weight { (r : table.Row) → table.IsAt rests.old.keys row r → (n : ℕ) → OnOk result (table.weight n rests.new.keys ≤ table.weight n rests.old.keys + table.led_to (r.left - 1)) }
 {
     let rest = match rests.get_index(row) {
         None => return Ok(None),
@@ -140,6 +147,7 @@ fn first_cells(alloc: Global, rests: &mut IndexSet<Rest>, ranges: &[CharRange]) 
     ensures rests { OnOk result (table.AreRests rests.new.keys) }
     ensures long { IfOk result (λ cells. vec_len cells ≡ 256) }
     ensures cells { IfOk result (λ cells. (b : ℕ) → b < 256 → table.FindsFirst rests.new.keys (in_ranges ranges.now) (lead b) (slice_index_or cells.items b None)) }
+    ensures weight { OnOk result (table.weight 0 rests.new.keys + table.first_weight 0 ≤ table.weight 0 rests.old.keys + table.first_weight 256) }
 {
     let mut cells: Vec<Option<usize>> = Vec::new(alloc);
     for byte in 0..256_u32 {
@@ -149,31 +157,52 @@ fn first_cells(alloc: Global, rests: &mut IndexSet<Rest>, ranges: &[CharRange]) 
     Ok(cells)
 }
 
-/// The rows after each row and each byte that goes on, if there are at most `limit` rows.
-fn follow_cells(alloc: Global, rests: &mut IndexSet<Rest>, limit: usize) -> Result<Option<Vec<Option<usize>>>, AllocError>
+/// Adds the rows after one row and each byte that goes on.
+fn follow_row(alloc: Global, rests: &mut IndexSet<Rest>, row: usize, cells: &mut Vec<Option<usize>>) -> Result<(), AllocError>
     requires rests { table.AreRests rests.old.keys }
-    requires small { limit < 2 ^ 40 }
+    requires there { row < length rests.old.keys }
+    requires long { vec_len cells.old ≡ 64 * row }
+    requires cells { (j : ℕ) → j < 64 * row → table.IsCell rests.old.keys cells.old.items j }
+    requires fits { 64 * row + 64 < 2 ^ 64 }
     ensures grows { OnOk result (table.Grows rests.old.keys rests.new.keys) }
+    ensures longer { OnOk result (length rests.old.keys ≤ length rests.new.keys) }
     ensures rests { OnOk result (table.AreRests rests.new.keys) }
-    ensures long { IfOk result (λ o. IfSome o (λ cells. vec_len cells ≡ 64 * length rests.new.keys)) }
-    ensures cells { IfOk result (λ o. IfSome o (λ cells. (j : ℕ) → j < vec_len cells → table.IsCell rests.new.keys cells.items j)) }
+    ensures long { OnOk result (vec_len cells.new ≡ 64 * (row + 1)) }
+    ensures cells { OnOk result ((j : ℕ) → j < 64 * (row + 1) → table.IsCell rests.new.keys cells.new.items j) }
+    ensures weight { OnOk result (table.weight (row + 1) rests.new.keys + 1 ≤ table.weight row rests.old.keys) }
 {
-    let mut cells: Vec<Option<usize>> = Vec::new(alloc);
-    while rests.len() <= limit && cells.len() < 64 * rests.len() {
-        let n = cells.len();
-        let to = next_for(alloc, rests, n / 64, (n % 64) as u32)?;
+    for part in 0..64_u32 {
+        let to = next_for(alloc, rests, row, part)?;
         cells.push(to)?;
     }
-    if rests.len() > limit {
-        return Ok(None);
-    }
-    Ok(Some(cells))
+    Ok(())
 }
 
-/// The table of a class.
+/// The rows after each row and each byte that goes on.
+fn follow_cells(alloc: Global, rests: &mut IndexSet<Rest>) -> Result<Vec<Option<usize>>, AllocError>
+    requires rests { table.AreRests rests.old.keys }
+    requires small { table.weight 0 rests.old.keys ≤ 34_361 }
+    ensures grows { OnOk result (table.Grows rests.old.keys rests.new.keys) }
+    ensures rests { OnOk result (table.AreRests rests.new.keys) }
+    ensures few { OnOk result (length rests.new.keys ≤ 34_361) }
+    ensures long { IfOk result (λ cells. vec_len cells ≡ 64 * length rests.new.keys) }
+    ensures cells { IfOk result (λ cells. (j : ℕ) → j < vec_len cells → table.IsCell rests.new.keys cells.items j) }
+{
+    let mut cells: Vec<Option<usize>> = Vec::new(alloc);
+    let mut row = 0;
+    while row < rests.len() {
+        follow_row(alloc, rests, row, &mut cells)?;
+        row += 1;
+    }
+    Ok(cells)
+}
+
+/// A class of characters as an automaton over the bytes of UTF-8. At row 0 a character is read whole; at each other row one is
+/// begun.
 #[derive(Drop)]
 pub struct Table {
-    pub rests: IndexSet<Rest>,
+    /// How many rows there are.
+    pub rows: usize,
     /// For each byte, the row after it.
     pub first: Vec<Option<usize>>,
     /// For each row and each of the 64 bytes that go on, the row after it.
@@ -182,7 +211,8 @@ pub struct Table {
 
 /// The rows with the end alone.
 fn start(alloc: Global) -> Result<IndexSet<Rest>, AllocError>
-    ensures { IfOk result (λ rests. table.AreRests rests.keys) }
+    ensures rests { IfOk result (λ rests. table.AreRests rests.keys) }
+    ensures weight { IfOk result (λ rests. table.weight 0 rests.keys ≡ 1) }
 {
     let mut rests = IndexSet::new(alloc);
     let mut offsets = Vec::new(alloc);
@@ -191,16 +221,28 @@ fn start(alloc: Global) -> Result<IndexSet<Rest>, AllocError>
     Ok(rests)
 }
 
-/// The table of the class, if it has at most `limit` rows.
-pub fn build(alloc: Global, ranges: &[CharRange], limit: usize) -> Result<Option<Table>, AllocError>
-    requires small { limit < 2 ^ 40 }
-    ensures { IfOk result (λ o. IfSome o (λ made. IsReaderOf (in_ranges ranges.now) (table.reader_from made.rests.keys made.first.items made.follow.items))) }
+/// The table of the characters of the ranges.
+fn build(alloc: Global, ranges: &[CharRange]) -> Result<Table, AllocError>
+    ensures reads { IfOk result (λ made. IsReaderOf (in_ranges ranges.now) (table.reader_of made)) }
+    ensures some { IfOk result (λ made. 0 < made.rows) }
+    ensures few { IfOk result (λ made. made.rows < 2 ^ 16) }
 {
     let mut rests = start(alloc)?;
     let first = first_cells(alloc, &mut rests, ranges)?;
-    let made = follow_cells(alloc, &mut rests, limit)?;
-    match made {
-        None => Ok(None),
-        Some(follow) => Ok(Some(Table { rests, first, follow })),
-    }
+    let follow = follow_cells(alloc, &mut rests)?;
+    Ok(Table {
+        rows: rests.len(),
+        first,
+        follow,
+    })
+}
+
+/// The table of the class of the characters of these ranges.
+pub fn table_of(alloc: Global, ranges: &[Range]) -> Result<Table, AllocError>
+    ensures reads { IfOk result (λ made. IsReaderOf (is_char_in (pairs ranges.now)) (table.reader_of made)) }
+    ensures some { IfOk result (λ made. 0 < made.rows) }
+    ensures few { IfOk result (λ made. made.rows < 2 ^ 16) }
+{
+    let ranges = scalars(alloc, ranges)?;
+    build(alloc, &ranges)
 }

@@ -11,4 +11,5 @@ loop-byte-preserved c =
       cells = rw c.in_ok-push.ensures.items
           (first_more (in_ranges c.args.ranges.now) c.loop-byte.rests.keys _ c.loop-byte.cells.items c.loop-byte.byte c.in_ok-to.to
           (sym c.loop-byte.invariant.long ∙ c.loop-byte.cells.ok.0) c.in_ok-to.ensures.grows c.loop-byte.invariant.cells c.in_ok-to.ensures.finds);
+      weight = omega (arith, c.in_ok-to.ensures.weight, c.loop-byte.invariant.weight);
     }

@@ -1,4 +1,4 @@
-use Rattle.std.proofs.Common.{◌≡◌, ℕ, suc, ◌+◌, ◌-◌, ◌<◌, ◌≤◌, length, Some, sym, ap, ◌∙◌, subst, refl, rules, arith}
+use Rattle.std.proofs.Common.{OnOk, ◌≡◌, ℕ, suc, ◌+◌, ◌-◌, ◌<◌, ◌≤◌, length, Some, sym, ap, ◌∙◌, subst, refl, rules, arith}
 use Rattle.std.proofs.lemmas.Option.{same_Some}
 use Rattle.std.proofs.lemmas.Result.{IfOk-weaker}
 use Rattle.logos_graph.specs.Table as table
@@ -23,3 +23,10 @@ returns-clause-finds c = λ r at.
     IfOk-weaker c.place.result _ _
     (λ to f. next_found c.place.new.rests.keys c.in-Some.rest.now r (c.in-Some.rest.now.left - 1) c.args.part _ to same left c.in_ok-offsets.ensures.members f)
     c.place.ensures.finds
+
+pub returns-clause-weight : goal.returns-clause-weight
+returns-clause-weight c = λ r at n.
+    let key : at.key ≡ c.in-Some.rest.now = same_Some _ _ (sym at.is ∙ sym c.in-Some.ensures.key) in
+    let same : table.row_of c.in-Some.rest.now ≡ r = ap table.row_of (sym key) ∙ at.same in
+    let left : c.in-Some.rest.now.left ≡ r.left = ap (λ (x : table.Row). x.left) same in
+    subst (λ k. OnOk c.place.result (table.weight n c.place.new.rests.keys ≤ table.weight n c.args.rests.now.keys + table.led_to (k - 1))) left (c.place.ensures.weight n)
