@@ -108,7 +108,7 @@ module _ (bytes : List ℕ) where
       (i, refl, (record { byte = b; is = h.0; within = eq-eqb b b refl }, refl))
       (subst (λ k. core.Reads bytes (spelled text) (At (suc i)) k m) back (reads_spelled text (suc i) p m (omega arith) h.1)))
 
-spelled_width : (text : List ℕ) → width (spelled text) ≡ length text
+pub spelled_width : (text : List ℕ) → width (spelled text) ≡ length text
 spelled_width [] = refl
 spelled_width (b ∷ text) = let e = spelled_width text in omega arith
 

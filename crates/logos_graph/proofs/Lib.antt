@@ -21,3 +21,5 @@ pub mod SteppedLemmas
 pub mod RangeLemmas
 pub mod TableLemmas
 pub mod BuildLemmas
+pub mod LookLemmas
+pub mod NodeLemmas

@@ -9,6 +9,7 @@ pub mod Reduced
 pub mod Least
 pub mod Bytes
 pub mod Core
+pub mod Kinds
 pub mod Marks
 pub mod Stepped
 pub mod Repeat
@@ -16,6 +17,7 @@ pub mod Characters
 pub mod Reader
 pub mod Ranges
 pub mod Table
+pub mod Node
 pub mod IsCore
 pub mod Run
 pub mod View

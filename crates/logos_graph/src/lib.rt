@@ -3,6 +3,8 @@
 #![tactic(auto)]
 
 pub mod byte_class;
+mod look;
 mod marks;
+mod node;
 mod ranges;
 mod table;
