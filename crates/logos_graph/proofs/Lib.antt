@@ -23,3 +23,4 @@ pub mod TableLemmas
 pub mod BuildLemmas
 pub mod LookLemmas
 pub mod NodeLemmas
+pub mod JumpLemmas

@@ -10,7 +10,7 @@ use Rattle.logos_graph.proofs.PlaceLemmas.{Exits-map, Steps-map}
 use Rattle.logos_graph.proofs.MarkLemmas.{Has-push, IsSet-push, IsSet-more}
 use Rattle.logos_graph.proofs.StepLemmas.{iff_trans, iff_sym, iff_refl, Exits-iff, Exits-past, exits_cat, exits_alt}
 
-Steps-below : (t : Core) (test : Look → Bool) (x : ℕ) (M : ℕ → Type 0) (d : Type 0) (p : ℕ) → Steps t test x M d p → p < width t
+pub Steps-below : (t : Core) (test : Look → Bool) (x : ℕ) (M : ℕ → Type 0) (d : Type 0) (p : ℕ) → Steps t test x M d p → p < width t
 Steps-below void test x M d p h = absurd h
 Steps-below empty test x M d p h = absurd h
 Steps-below (byte_in c) test x M d p h = omega arith
@@ -22,7 +22,7 @@ Steps-below (alt a b) test x M d p h =
     ⊎_elim (λ u. omega (arith, u.0)) (λ u. omega (arith, u.0, Steps-below b test x _ _ (p - width a) u.1)) h
 Steps-below (plus a) test x M d p h = Steps-below a test x M _ p h
 
-Exits-void : (t : Core) (test : Look → Bool) → Exits t test (λ q. ⊥) ⊥ → ⊥
+pub Exits-void : (t : Core) (test : Look → Bool) → Exits t test (λ q. ⊥) ⊥ → ⊥
 Exits-void void test h = h
 Exits-void empty test h = h
 Exits-void (byte_in c) test h = h
@@ -32,7 +32,7 @@ Exits-void (cat a b) test h = Exits-void b test (Exits-map b test _ _ _ ⊥ (λ 
 Exits-void (alt a b) test h = ⊎_elim (Exits-void a test) (Exits-void b test) h
 Exits-void (plus a) test h = Exits-void a test h
 
-Steps-void : (t : Core) (test : Look → Bool) (x p : ℕ) → Steps t test x (λ q. ⊥) ⊥ p → ⊥
+pub Steps-void : (t : Core) (test : Look → Bool) (x p : ℕ) → Steps t test x (λ q. ⊥) ⊥ p → ⊥
 Steps-void void test x p h = h
 Steps-void empty test x p h = h
 Steps-void (byte_in c) test x p h = h.1

@@ -3,6 +3,7 @@
 #![tactic(auto)]
 
 pub mod byte_class;
+mod exits;
 mod look;
 mod marks;
 mod node;

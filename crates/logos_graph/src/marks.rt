@@ -1,5 +1,5 @@
 // Sets of places, as rising lists.
-ghost use Rattle.std.specs.Prelude.{◌≡◌, ℕ, ◌+◌, ◌*◌, ◌<◌, ◌≤◌, ◌↔◌, IsTrue, length};
+ghost use Rattle.std.specs.Prelude.{◌^◌, ◌≡◌, ℕ, ◌+◌, ◌*◌, ◌<◌, ◌≤◌, ◌↔◌, IsTrue, length};
 ghost use Rattle.logos_graph.specs.Marks.{IsRising, Has, IsFirstFrom};
 
 /// The index of the first place from `from` on.
@@ -40,7 +40,7 @@ pub fn any_mark(marks: &[usize], from: usize, width: usize) -> bool
 
 /// How many of the next `most` parts of `each` places hold no mark, up to the first that does. None is passed where the
 /// first is entered.
-pub fn empty_parts(entered: bool, marks: &[usize], start: usize, each: usize, most: usize) -> usize
+fn empty_parts(entered: bool, marks: &[usize], start: usize, each: usize, most: usize) -> usize
     requires { IsRising marks.now }
     ensures bound { result ≤ most }
     ensures stays { IsTrue entered → result ≡ 0 }
@@ -57,4 +57,18 @@ pub fn empty_parts(entered: bool, marks: &[usize], start: usize, each: usize, mo
         return most;
     }
     ((marks[i] - start) / each).min(most)
+}
+
+/// The first of the copies from `done` on that is entered or holds a mark, of `count` copies of `each` places; `count` if there is
+/// none. The copies begin at `base`, and the one numbered `done` is entered or not.
+pub fn next_copy(entered: bool, marks: &[usize], base: usize, each: usize, done: usize, count: usize) -> usize
+    requires rising { IsRising marks.now }
+    requires fits { base + each * count < 2 ^ 64 }
+    requires within { done ≤ count }
+    ensures after { done ≤ result }
+    ensures bound { result ≤ count }
+    ensures stays { IsTrue entered → result ≡ done }
+    ensures unmarked { (q : ℕ) → each * done ≤ q → q < each * result → ¬ (Has marks.now (base + q)) }
+{
+    done + empty_parts(entered, marks, base + each * done, each, count - done)
 }
