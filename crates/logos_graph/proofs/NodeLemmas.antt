@@ -12,7 +12,7 @@ use Rattle.logos_graph.specs.Core.{Core, width}
 use Rattle.logos_graph.specs.Repeat.{IsOrdered, count_of, spelled, repeated}
 use Rattle.logos_graph.specs.Table.{reader_of}
 use Rattle.logos_graph.specs.Node.{Sized, is_ordered, node_sized, sized_of, core_of, is_measured}
-use Rattle.logos_graph.specs.declared.table.Table.{Table}
+use Rattle.logos_graph.specs.declared.char_table.Table.{Table}
 use Rattle.logos_graph.proofs.IsCoreLemmas.{spelled_width}
 use Rattle.logos_graph.proofs.WidthLemmas.{width-repeated}
 use Rattle.logos_graph.specs.declared.node.Node.{Node, Node-F, fold-roll-Node}
@@ -30,7 +30,7 @@ sized-Literal text = ap sized_of (sym (rolls-Literal text)) ∙ fold-roll-Node S
 sized-Bytes : (ranges : Vec Range Global) → sized_of (Bytes ranges) ≡ record { written = core.byte_in (is_in (pairs ranges.items)); measured = true }
 sized-Bytes ranges = ap sized_of (sym (rolls-Bytes ranges)) ∙ fold-roll-Node Sized node_sized (Node-F.Bytes ranges)
 
-sized-Characters : (table : Table) → sized_of (Characters table) ≡ record { written = core.character (reader_of table); measured = nat_lt 0 table.rows }
+sized-Characters : (table : Table) → sized_of (Characters table) ≡ record { written = core.character (reader_of table); measured = true }
 sized-Characters table = ap sized_of (sym (rolls-Characters table)) ∙ fold-roll-Node Sized node_sized (Node-F.Characters table)
 
 sized-Look : (l : look_type.Look) → sized_of (Look l) ≡ record { written = core.look l; measured = true }
@@ -96,12 +96,6 @@ pair-Cat split whole a b h = pair_of split whole a.value b.value (sym (ap (λ (s
 pub pair-Alt : (split whole : ℕ) (a b : Box Node Global) → is_measured (Alt split whole a b) ≡ true → ArePair split whole a.value b.value
 pair-Alt split whole a b h = pair_of split whole a.value b.value (sym (ap (λ (s : Sized). s.measured) (sized-Alt split whole a b)) ∙ h)
 
-pub some-Characters : (table : Table) → is_measured (Characters table) ≡ true → 0 < table.rows
-some-Characters table h = low table.rows (sym (ap (λ (s : Sized). s.measured) (sized-Characters table)) ∙ h)
-  where
-    low : (n : ℕ) → nat_lt 0 n ≡ true → 0 < n
-    low n e = grind (arith, nat_tests)
-
 -- what the numbers beside a repetition say
 pub record IsRepeat (least : ℕ) (most : Option ℕ) (each : ℕ) (body : Node) : Type 0 where
   pub ordered : IsOrdered least most
@@ -129,8 +123,8 @@ repeat-Repeat least most each body h =
 pub width-Literal : (text : Vec ℕ Global) → length text.items ≡ width (core_of (Literal text))
 width-Literal text = sym (ap width (core-Literal text) ∙ spelled_width text.items)
 
-pub width-Characters : (table : Table) → is_measured (Characters table) ≡ true → table.rows ≡ width (core_of (Characters table))
-width-Characters table h = let some = some-Characters table h in let e : table.rows ≡ suc (table.rows - 1) = omega arith in e ∙ sym (ap width (core-Characters table))
+pub width-Characters : (table : Table) → table.rows ≡ width (core_of (Characters table))
+width-Characters table = let some = table.some in let e : table.rows ≡ suc (table.rows - 1) = omega arith in e ∙ sym (ap width (core-Characters table))
 
 pub width-Cat : (split whole : ℕ) (a b : Box Node Global) → is_measured (Cat split whole a b) ≡ true → whole ≡ width (core_of (Cat split whole a b))
 width-Cat split whole a b h =

@@ -26,7 +26,7 @@ node_sized Node-F.Void = record { written = core.void; measured = true }
 node_sized Node-F.Empty = record { written = core.empty; measured = true }
 node_sized (Node-F.Literal text) = record { written = spelled text.items; measured = true }
 node_sized (Node-F.Bytes ranges) = record { written = core.byte_in (is_in (pairs ranges.items)); measured = true }
-node_sized (Node-F.Characters table) = record { written = core.character (reader_of table); measured = nat_lt 0 table.rows }
+node_sized (Node-F.Characters table) = record { written = core.character (reader_of table); measured = true }
 node_sized (Node-F.Look l) = record { written = core.look l; measured = true }
 node_sized (Node-F.Cat split whole first second) = record {
   written = core.cat first.value.written second.value.written;

@@ -8,7 +8,7 @@ use Rattle.logos_graph.specs.Reader.{IsShut, Remainder}
 use Rattle.logos_graph.specs.Ranges.{in_ranges}
 use Rattle.logos_graph.specs.declared.ranges.CharRange.{CharRange}
 use Rattle.logos_graph.specs.declared.table.Rest.{Rest}
-use Rattle.logos_graph.specs.declared.table.Table.{Table}
+use Rattle.logos_graph.specs.declared.char_table.Table.{Table}
 
 -- what a row stands for
 pub record Row : Type 0 where

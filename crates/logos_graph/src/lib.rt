@@ -3,9 +3,11 @@
 #![tactic(auto)]
 
 pub mod byte_class;
+mod char_table;
 mod exits;
 mod look;
 mod marks;
 mod node;
 mod ranges;
+mod step;
 mod table;

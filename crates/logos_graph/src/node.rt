@@ -4,7 +4,7 @@ ghost use Rattle.logos_graph.specs.Core as core;
 ghost use Rattle.logos_graph.specs.Node.{core_of, is_measured};
 ghost use Rattle.logos_graph.specs.Repeat.{count_of};
 
-use crate::table::Table;
+use crate::char_table::Table;
 use logos_pattern::pattern::{Look, Range};
 
 /// A tree whose parts and branches stand in pairs, with the numbers of their places beside them.

@@ -9,6 +9,7 @@ ghost use Rattle.logos_pattern.specs.Hir.{pairs};
 use std::alloc::{AllocError, Global};
 
 use crate::ranges::{CharRange, clip, scalars};
+use crate::char_table::Table;
 use indexmap::IndexSet;
 use logos_pattern::pattern::Range;
 
@@ -197,18 +198,6 @@ fn follow_cells(alloc: Global, rests: &mut IndexSet<Rest>) -> Result<Vec<Option<
     Ok(cells)
 }
 
-/// A class of characters as an automaton over the bytes of UTF-8. At row 0 a character is read whole; at each other row one is
-/// begun.
-#[derive(Drop)]
-pub struct Table {
-    /// How many rows there are.
-    pub rows: usize,
-    /// For each byte, the row after it.
-    pub first: Vec<Option<usize>>,
-    /// For each row and each of the 64 bytes that go on, the row after it.
-    pub follow: Vec<Option<usize>>,
-}
-
 /// The rows with the end alone.
 fn start(alloc: Global) -> Result<IndexSet<Rest>, AllocError>
     ensures rests { IfOk result (λ rests. table.AreRests rests.keys) }
@@ -223,9 +212,7 @@ fn start(alloc: Global) -> Result<IndexSet<Rest>, AllocError>
 
 /// The table of the characters of the ranges.
 fn build(alloc: Global, ranges: &[CharRange]) -> Result<Table, AllocError>
-    ensures reads { IfOk result (λ made. IsReaderOf (in_ranges ranges.now) (table.reader_of made)) }
-    ensures some { IfOk result (λ made. 0 < made.rows) }
-    ensures few { IfOk result (λ made. made.rows < 2 ^ 16) }
+    ensures { IfOk result (λ made. IsReaderOf (in_ranges ranges.now) (table.reader_of made)) }
 {
     let mut rests = start(alloc)?;
     let first = first_cells(alloc, &mut rests, ranges)?;
@@ -239,9 +226,7 @@ fn build(alloc: Global, ranges: &[CharRange]) -> Result<Table, AllocError>
 
 /// The table of the class of the characters of these ranges.
 pub fn table_of(alloc: Global, ranges: &[Range]) -> Result<Table, AllocError>
-    ensures reads { IfOk result (λ made. IsReaderOf (is_char_in (pairs ranges.now)) (table.reader_of made)) }
-    ensures some { IfOk result (λ made. 0 < made.rows) }
-    ensures few { IfOk result (λ made. made.rows < 2 ^ 16) }
+    ensures { IfOk result (λ made. IsReaderOf (is_char_in (pairs ranges.now)) (table.reader_of made)) }
 {
     let ranges = scalars(alloc, ranges)?;
     build(alloc, &ranges)

@@ -7,8 +7,8 @@ use Rattle.logos_graph.proofs.BuildLemmas.{is_reader}
 use Rattle.logos_graph.proofs.TableLemmas.{FindsFirst-grows}
 use Rattle.logos_graph.proofs.table.build.Goals as goal
 
-pub returns-clause-reads : goal.returns-clause-reads
-returns-clause-reads c =
+pub returns : goal.returns
+returns c =
     let long = c.in_ok-follow.ensures.long in
     let made = is_reader c.follow_cells.new.rests.keys (in_ranges c.args.ranges.now) c.in_ok-first.first.items c.in_ok-follow.follow.items
         c.in_ok-follow.ensures.rests (sym c.in_ok-first.first.ok.0 ∙ c.in_ok-first.ensures.long)
