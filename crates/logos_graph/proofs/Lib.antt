@@ -24,3 +24,5 @@ pub mod BuildLemmas
 pub mod LookLemmas
 pub mod NodeLemmas
 pub mod JumpLemmas
+pub mod CharStepLemmas
+pub mod OweLemmas

@@ -1,9 +1,11 @@
-// Sets of places, as rising lists.
-ghost use Rattle.std.specs.Prelude.{◌^◌, ◌≡◌, ℕ, ◌+◌, ◌*◌, ◌<◌, ◌≤◌, ◌↔◌, IsTrue, length};
+//! Sets of places, as rising lists.
+ghost use Rattle.std.specs.Prelude.{◌⊎◌, OnOk, ◌^◌, ◌≡◌, ℕ, ◌+◌, ◌*◌, ◌<◌, ◌≤◌, ◌↔◌, IsTrue, length};
 ghost use Rattle.logos_graph.specs.Marks.{IsRising, Has, IsFirstFrom};
 
+use std::alloc::AllocError;
+
 /// The index of the first place from `from` on.
-fn first_from(marks: &[usize], from: usize) -> usize
+pub fn first_from(marks: &[usize], from: usize) -> usize
     requires { IsRising marks.now }
     ensures { IsFirstFrom marks.now from result }
 {
@@ -71,4 +73,18 @@ pub fn next_copy(entered: bool, marks: &[usize], base: usize, each: usize, done:
     ensures unmarked { (q : ℕ) → each * done ≤ q → q < each * result → ¬ (Has marks.now (base + q)) }
 {
     done + empty_parts(entered, marks, base + each * done, each, count - done)
+}
+
+/// Adds the place, unless it is there.
+pub fn insert_mark(marks: &mut Vec<usize>, place: usize) -> Result<(), AllocError>
+    requires { IsRising marks.old.items }
+    ensures rising { OnOk result (IsRising marks.new.items) }
+    ensures has { OnOk result ((q : ℕ) → Has marks.new.items q ↔ (Has marks.old.items q ⊎ (q ≡ place))) }
+{
+    if has_mark(marks, place) {
+        return Ok(());
+    }
+    let i = first_from(marks, place);
+    marks.insert(i, place)?;
+    Ok(())
 }
