@@ -98,3 +98,118 @@ fn step_characters(table: &Table, byte: u8, marks: &[usize], base: usize, entere
     }
     Ok(left)
 }
+
+/// Adds the places of the tree, from `base` on, that read `byte` after `marks`, and says whether the tree can be left before that
+/// byte.
+#[cycle(step)]
+pub fn step(node: &Node, byte: u8, marks: &[usize], base: usize, entered: bool, at: Context, next: &mut Vec<usize>) -> Result<bool, AllocError>
+    requires fits { base + core.width (core_of node.now) < 2 ^ 64 }
+    requires measured { IsTrue (is_measured node.now) }
+    requires rising { IsRising marks.now }
+    requires set { IsSet next.old.items base }
+    ensures { IfOk result (λ left. Stepped (core_of node.now) (test_at at) byte marks.now next.old.items next.new.items base entered left) }
+{
+    if !entered && !any_mark(marks, base, width(node)) {
+        return Ok(false);
+    }
+    match node {
+        Node::Void => Ok(false),
+        Node::Empty => Ok(entered),
+        Node::Literal(text) => step_literal(text, byte, marks, base, entered, next),
+        Node::Bytes(ranges) => step_byte(has_byte(ranges, byte), byte, marks, base, entered, next),
+        Node::Characters(table) => step_characters(table, byte, marks, base, entered, next),
+        Node::Look(look) => Ok(entered && holds(*look, at)),
+        Node::Cat { split, first, second, .. } => {
+            let left = step(first, byte, marks, base, entered, at, next)?;
+            step(second, byte, marks, base + *split, left, at, next)
+        }
+        Node::Alt { split, first, second, .. } => {
+            let one = step(first, byte, marks, base, entered, at, next)?;
+            let other = step(second, byte, marks, base + *split, entered, at, next)?;
+            Ok(one | other)
+        }
+        Node::Repeat { least, most, each, body } => step_repeat(*least, *most, *each, body, byte, marks, base, entered, at, next),
+    }
+}
+
+/// The same for a repetition of a body of `each` places.
+#[cycle(step)]
+fn step_repeat(least: usize, most: Option<usize>, each: usize, body: &Node, byte: u8, marks: &[usize], base: usize, entered: bool, at: Context, next: &mut Vec<usize>) -> Result<bool, AllocError>
+    requires fits { base + each * count_of least most < 2 ^ 64 }
+    requires count { IsOrdered least most }
+    requires each { each ≡ core.width (core_of body.now) }
+    requires measured { IsTrue (is_measured body.now) }
+    requires rising { IsRising marks.now }
+    requires set { IsSet next.old.items base }
+    ensures { IfOk result (λ left. Stepped (repeated least most (core_of body.now)) (test_at at) byte marks.now next.old.items next.new.items base entered left) }
+{
+    match most {
+        Some(most) => {
+            let front = step_copies(body, each, least, byte, marks, base, entered, at, next)?;
+            step_up_to(body, each, most - least, byte, marks, base + each * least, front, at, next)
+        }
+        None => {
+            if least == 0 {
+                let last = step_plus(body, byte, marks, base, entered, at, next)?;
+                Ok(last | entered)
+            } else {
+                let front = step_copies(body, each, least - 1, byte, marks, base, entered, at, next)?;
+                step_plus(body, byte, marks, base + each * (least - 1), front, at, next)
+            }
+        }
+    }
+}
+
+/// The same for `count` copies of the body, before anything else.
+#[cycle(step)]
+fn step_copies(body: &Node, each: usize, count: usize, byte: u8, marks: &[usize], base: usize, entered: bool, at: Context, next: &mut Vec<usize>) -> Result<bool, AllocError>
+    requires fits { base + each * count < 2 ^ 64 }
+    requires each { each ≡ core.width (core_of body.now) }
+    requires measured { IsTrue (is_measured body.now) }
+    requires rising { IsRising marks.now }
+    requires set { IsSet next.old.items base }
+    ensures { IfOk result (λ left. (b : Core) → Owes (in_front count (core_of body.now) b) b (test_at at) byte marks.now next.old.items next.new.items base (base + each * count) entered left false) }
+{
+    let mut done = next_copy(entered, marks, base, each, 0, count);
+    let mut left = entered;
+    while done < count {
+        left = step(body, byte, marks, base + each * done, left, at, next)?;
+        done = next_copy(left, marks, base, each, done + 1, count);
+    }
+    Ok(left)
+}
+
+/// The same for at most `count` copies of the body.
+#[cycle(step)]
+fn step_up_to(body: &Node, each: usize, count: usize, byte: u8, marks: &[usize], base: usize, entered: bool, at: Context, next: &mut Vec<usize>) -> Result<bool, AllocError>
+    requires fits { base + each * count < 2 ^ 64 }
+    requires each { each ≡ core.width (core_of body.now) }
+    requires measured { IsTrue (is_measured body.now) }
+    requires rising { IsRising marks.now }
+    requires set { IsSet next.old.items base }
+    ensures { IfOk result (λ left. Stepped (up_to count (core_of body.now)) (test_at at) byte marks.now next.old.items next.new.items base entered left) }
+{
+    let mut done = next_copy(entered, marks, base, each, 0, count);
+    let mut left = entered;
+    let mut any = false;
+    while done < count {
+        any = any | left;
+        left = step(body, byte, marks, base + each * done, left, at, next)?;
+        done = next_copy(left, marks, base, each, done + 1, count);
+    }
+    Ok(any | left)
+}
+
+/// The same for one or more of the body.
+#[cycle(step)]
+fn step_plus(body: &Node, byte: u8, marks: &[usize], base: usize, entered: bool, at: Context, next: &mut Vec<usize>) -> Result<bool, AllocError>
+    requires fits { base + core.width (core_of body.now) < 2 ^ 64 }
+    requires measured { IsTrue (is_measured body.now) }
+    requires rising { IsRising marks.now }
+    requires set { IsSet next.old.items base }
+    ensures { IfOk result (λ left. Stepped (core.plus (core_of body.now)) (test_at at) byte marks.now next.old.items next.new.items base entered left) }
+{
+    let left = exits(body, marks, base, entered, at);
+    step(body, byte, marks, base, entered | left, at, next)?;
+    Ok(left)
+}
