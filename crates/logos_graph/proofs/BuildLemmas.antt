@@ -1,14 +1,13 @@
 -- The table's leaf is the one for the class.
-use Rattle.std.proofs.Common.{◌≡◌, ℕ, zero, suc, ◌+◌, ◌-◌, ◌*◌, ◌/◌, ◌%◌, slice_index_or, ◌<◌, ◌≤◌, ◌⊎◌, Bool, true, false, ◌&&◌, if◌then◌else◌, List, [], ◌∷◌, Option, Some, None, length, slice_get, refl, sym, ap, ◌∙◌, subst, inl, inr, ⊎_elim, nat_le, nat_lt, le-leb, lt-ltb, le-ltb, arith}
+use Rattle.std.proofs.Common.{◌≡◌, ℕ, suc, ◌+◌, ◌-◌, ◌*◌, ◌/◌, ◌%◌, slice_index_or, ◌<◌, ◌≤◌, ◌⊎◌, Bool, true, false, ◌&&◌, if◌then◌else◌, List, Option, Some, None, length, refl, sym, ap, ◌∙◌, subst, inl, inr, ⊎_elim, nat_le, nat_lt, le-leb, lt-ltb, le-ltb, arith}
 use Rattle.std.proofs.lemmas.Bool.{and_from, and_left, and_right, cases_lt}
 use Rattle.std.proofs.lemmas.Bool.Decides.{nat_tests}
 use Rattle.std.proofs.lemmas.List.{get_or_past}
 use Rattle.std.proofs.lemmas.Option.{slice_get_within}
-use Rattle.logos_graph.specs.Characters.{size, Lead, lead, after_lead, after_byte, IsOpen}
-use Rattle.logos_graph.specs.Core.{Reader}
-use Rattle.logos_graph.specs.Reader.{Remainder, IsRest, IsShut, LeadsTo, IsReaderOf}
+use Rattle.logos_graph.specs.Characters.{Lead, lead, after_lead, after_byte}
+use Rattle.logos_graph.specs.Reader.{Remainder, LeadsTo, IsReaderOf}
 use Rattle.logos_graph.specs.Ranges.{in_ranges}
-use Rattle.logos_graph.specs.Table.{Row, row_of, IsAt, AreRests, IsRowFor, Finds, FindsFirst, FindsNext, IsCell, rest_at, rest_of, reader_from}
+use Rattle.logos_graph.specs.Table.{Row, row_of, IsAt, AreRests, Finds, FindsFirst, FindsNext, IsCell, rest_at, rest_of, reader_from}
 use Rattle.logos_graph.specs.declared.table.Rest.{Rest}
 use Rattle.logos_graph.proofs.CharacterLemmas.{at_leads}
 use Rattle.logos_graph.proofs.TableLemmas.{got_at}
@@ -42,12 +41,14 @@ module _ (ks : List Rest) where
   leads n f None h = h
   leads n f (Some i) h =
       let lt : i < length ks = slice_get_within ks i h.at.key h.at.is in
-      let e = rest_is i h.row h.at in
-      (omega arith, record {
-        left = ap (λ r. r.left) e ∙ h.left;
-        same = λ o below. ap (λ r. r.has o) e ∙ h.same o below;
-        some = h.some;
-      })
+      let e = rest_is i h.row h.at in (
+        omega arith,
+        record {
+          left = ap (λ r. r.left) e ∙ h.left;
+          same = λ o below. ap (λ r. r.has o) e ∙ h.same o below;
+          some = h.some;
+        },
+      )
 
   module _ (c : ℕ → Bool) (first follow : List (Option ℕ)) (rests : AreRests ks) (long : length first ≡ 256)
       (firsts : (b : ℕ) → b < 256 → FindsFirst ks c (lead b) (slice_index_or first b None))
@@ -63,9 +64,11 @@ module _ (ks : List Rest) where
         let s = some_rows in
         let k = cells (q * 64 + (b - 0x80)) (omega arith) in
         let d : (q * 64 + (b - 0x80)) / 64 ≡ q = omega arith in
-        let m : 0x80 + (q * 64 + (b - 0x80)) % 64 ≡ b = omega arith in
-        (k.row, subst (λ x. IsAt ks x k.row) d k.at,
-        subst (λ x. FindsNext ks k.row k.row.left x (slice_index_or follow (q * 64 + (b - 0x80)) None)) m k.next)
+        let m : 0x80 + (q * 64 + (b - 0x80)) % 64 ≡ b = omega arith in (
+          k.row,
+          subst (λ x. IsAt ks x k.row) d k.at,
+          subst (λ x. FindsNext ks k.row k.row.left x (slice_index_or follow (q * 64 + (b - 0x80)) None)) m k.next,
+        )
 
     pub is_reader : IsReaderOf c (reader_from (length ks) first follow)
     is_reader = record {

@@ -1,10 +1,9 @@
 -- The step on a class of characters, mark by mark.
-use Rattle.std.proofs.Common.{◌≡◌, ℕ, zero, suc, ◌+◌, ◌-◌, ◌<◌, ◌≤◌, ◌↔◌, ◌⊎◌, Bool, true, false, IsTrue, List, length, slice_index, Option, Some, None, refl, sym, ap, ◌∙◌, subst, inl, inr, ⊎_elim, true≢false, arith}
-use Rattle.logos_graph.specs.Core.{Core, Reader, character, width, Exits, Steps}
+use Rattle.std.proofs.Common.{◌≡◌, ℕ, suc, ◌+◌, ◌-◌, ◌<◌, ◌≤◌, ◌↔◌, ◌⊎◌, Bool, IsTrue, List, length, slice_index, Some, sym, ap, ◌∙◌, subst, inl, inr, ⊎_elim, arith}
+use Rattle.logos_graph.specs.Core.{Reader, character}
 use Rattle.logos_graph.specs.Marks.{IsRising, Has, IsFirstFrom, IsSet}
 use Rattle.logos_graph.specs.Stepped.{Stepped}
 use Rattle.logos_pattern.specs.declared.pattern.hir.Look.{Look}
-use Rattle.logos_graph.proofs.StepLemmas.{iff_trans, iff_sym, iff_refl}
 
 -- every mark below the index is below `base`, or has been looked at
 pub record StartsFrom (xs : List ℕ) (base i : ℕ) : Type 0 where
@@ -41,7 +40,7 @@ module _ (r : Reader) (x : ℕ) (marks old : List ℕ) (base : ℕ) (entered : B
         (λ v. inr (v.0, v.1, ⊎_elim inl (λ w. inr (w.0, omega (arith, w.1), w.2, w.3, w.4, w.5)) v.2))
         ((before q).0 u))
         (λ u. let p : q - base ≡ u.0 = omega (arith, u.3) in
-            inr (omega (arith, u.3), omega (arith, u.1, u.3), inr (i, omega arith, inside, above, omega arith, u.2 ∙ ap Some (sym p))))
+        inr (omega (arith, u.3), omega (arith, u.1, u.3), inr (i, omega arith, inside, above, omega arith, u.2 ∙ ap Some (sym p))))
         ((step q).0 h),
     λ h. (step q).1 (⊎_elim
         (λ u. inl ((before q).1 (inl u)))
@@ -64,17 +63,33 @@ module _ (r : Reader) (x : ℕ) (marks old : List ℕ) (base : ℕ) (entered : B
     set = set;
     has = λ q. (
       λ h. ⊎_elim inl
-          (λ u. inr (u.0, (u.1, ⊎_elim inl
-          (λ v. inr (slice_index marks v.0 - base, v.4, record { at = v.0; within = v.2; is = omega (arith, v.3) }, v.5)) u.2)))
+          (λ u. inr (
+            u.0,
+            (
+              u.1,
+              ⊎_elim inl
+                  (λ v. inr (slice_index marks v.0 - base, v.4, record { at = v.0; within = v.2; is = omega (arith, v.3) }, v.5)) u.2,
+            ),
+          ))
           ((followed q).0 h),
       λ h. (followed q).1 (⊎_elim inl
-          (λ u. inr (u.0, u.1.0, ⊎_elim inl
-          (λ v.
-          let has = v.2 in
-          let is : slice_index marks has.at ≡ base + v.0 = has.is in
-          let same : slice_index marks has.at - base ≡ v.0 = omega arith in
-          inr (has.at, ⊎_elim (λ lt. lt) (λ ge. let far = past has.at ge has.within in absurd (omega (arith, v.1, far))) (lt_or_ge has.at i),
-          has.within, omega arith, omega (arith, v.1), ap (λ k. r.follow k x) same ∙ v.3)) u.1.1))
+          (λ u. inr (
+            u.0,
+            u.1.0,
+            ⊎_elim inl
+                (λ v.
+                let has = v.2 in
+                let is : slice_index marks has.at ≡ base + v.0 = has.is in
+                let same : slice_index marks has.at - base ≡ v.0 = omega arith in
+                inr (
+                  has.at,
+                  ⊎_elim (λ lt. lt) (λ ge. let far = past has.at ge has.within in absurd (omega (arith, v.1, far))) (lt_or_ge has.at i),
+                  has.within,
+                  omega arith,
+                  omega (arith, v.1),
+                  ap (λ k. r.follow k x) same ∙ v.3,
+                )) u.1.1,
+          ))
           h),
     );
     leaves = (λ t. subst (Has marks) (omega arith) (f.0 t), λ h. f.1 (subst (Has marks) (omega arith) h));

@@ -1,5 +1,5 @@
 -- The automaton of a class of characters reads its characters' bytes.
-use Rattle.std.proofs.Common.{◌≡◌, ℕ, zero, suc, ◌+◌, ◌-◌, ◌*◌, ◌/◌, ◌%◌, ◌<◌, ◌≤◌, ◌↔◌, ◌⊎◌, Bool, true, false, ◌&&◌, List, [], ◌∷◌, ◌++◌, length, Some, None, refl, sym, ap, ◌∙◌, subst, inl, inr, ⊎_elim, arith, length-append, lt-ltb, le-ltb, le-leb, append-nil, nat_le}
+use Rattle.std.proofs.Common.{◌≡◌, ℕ, zero, suc, ◌+◌, ◌-◌, ◌*◌, ◌/◌, ◌%◌, ◌<◌, ◌≤◌, ◌↔◌, Bool, true, List, [], ◌∷◌, ◌++◌, length, Some, None, refl, sym, ap, ◌∙◌, subst, ⊎_elim, arith, lt-ltb, le-ltb, le-leb, append-nil, nat_le}
 use Rattle.std.proofs.lemmas.Bool.Decides.{nat_tests}
 use Rattle.std.proofs.lemmas.Bool.{cases_lt, cond-true, cond-false, and_parts, and_from}
 use Rattle.std.proofs.lemmas.Option.{same_Some, none-some}
@@ -261,7 +261,7 @@ Reads-of_BeginsChar c (b ∷ bs) rest some w =
     let l = g.by in
     let floor : l.floor ≤ l.start + g.offset = omega (arith, g.floor, g.is) in
     let e : g.byte ∷ tail_of l.left g.offset ≡ b ∷ (bs ++ rest) =
-        sym (spelled_by_lead g.byte l g.leads g.offset g.below floor) ∙ ap encode_utf8 g.is ∙ w.spelled in
+    sym (spelled_by_lead g.byte l g.leads g.offset g.below floor) ∙ ap encode_utf8 g.is ∙ w.spelled in
     let first : g.byte ≡ b = cc in
     let tail : tail_of l.left g.offset ≡ bs ++ rest = cc in
     let within : c (l.start + g.offset) ≡ true = ap c g.is ∙ w.within in
@@ -281,7 +281,7 @@ not_empty c w =
     let g = begun w.char (small_scalar w.char w.scalar) in
     let l = g.by in
     let e : g.byte ∷ tail_of l.left g.offset ≡ [] =
-        sym (spelled_by_lead g.byte l g.leads g.offset g.below (omega (arith, g.floor, g.is))) ∙ ap encode_utf8 g.is ∙ w.spelled in
+    sym (spelled_by_lead g.byte l g.leads g.offset g.below (omega (arith, g.floor, g.is))) ∙ ap encode_utf8 g.is ∙ w.spelled in
     cc
 
 -- the bytes are a character of the class exactly if the automaton reads them to its end

@@ -1,10 +1,9 @@
 -- Which written-out pattern stands for a class of characters.
-use Rattle.std.proofs.Common.{◌≡◌, ℕ, zero, suc, ◌+◌, ◌-◌, ◌*◌, ◌^◌, ◌<◌, ◌≤◌, ◌↔◌, Bool, true, false, ◌&&◌, List, [], ◌∷◌, ◌++◌, length, take, drop, Option, Some, None, option_and_then, ◌⊎◌, inl, inr, ⊎_elim, refl, sym, ap, ◌∙◌, subst, arith, add-one, encode_utf8, if◌then◌else◌, ◌==◌, eqb-true, eq-eqb, slice_get, length-append}
+use Rattle.std.proofs.Common.{◌≡◌, ℕ, zero, suc, ◌+◌, ◌-◌, ◌^◌, ◌<◌, ◌≤◌, ◌↔◌, true, false, List, [], ◌∷◌, ◌++◌, length, take, drop, Option, Some, None, option_and_then, ◌⊎◌, inl, inr, ⊎_elim, refl, sym, ap, ◌∙◌, subst, arith, add-one, encode_utf8, ◌==◌, eq-eqb, slice_get, length-append}
 use Rattle.std.proofs.lemmas.List.{length-take, length-drop, take-append-drop}
-use Rattle.std.proofs.lemmas.Option.{same_Some, none-some}
+use Rattle.std.proofs.lemmas.Option.{same_Some}
 use Rattle.std.proofs.lemmas.Bool.{and_parts, and_from}
 use Rattle.std.proofs.lemmas.Bool.Decides.{nat_tests}
-use Rattle.std.specs.Char.{IsScalar}
 use lib.Utf8.{scalar}
 use Rattle.logos_pattern.specs.Tree as tree
 use Rattle.logos_pattern.specs.Text.{StandsAt}
@@ -12,11 +11,10 @@ use Rattle.logos_pattern.specs.Matches.{Matches}
 use Rattle.logos_pattern.proofs.Laws.{encoded}
 use Rattle.logos_graph.specs.Core as core
 use Rattle.logos_graph.specs.Core.{Core, At, Reader, Stands, width, IsFree}
-use Rattle.logos_graph.specs.Characters.{IsOfScalars, IsBeginningOf, IsCharOf}
+use Rattle.logos_graph.specs.Characters.{IsOfScalars, IsCharOf}
 use Rattle.logos_graph.specs.Graph.{is_in}
 use Rattle.logos_graph.specs.Places.{Place, byte_of, member, within, Reads, begun}
-use Rattle.logos_graph.specs.Reader.{is_char_in, Spells, IsReaderOf, IsCharAt, IsBegunAt}
-use Rattle.logos_graph.specs.Size.{size}
+use Rattle.logos_graph.specs.Reader.{is_char_in, Spells, IsReaderOf, IsBegunAt}
 use Rattle.logos_graph.specs.IsCore.{IsCoreOf}
 use Rattle.logos_graph.proofs.ReaderLemmas.{leaf_matches, leaf_begins}
 use Rattle.logos_graph.proofs.TextLemmas.{StandsAt-of_Spells, Spells-of_StandsAt, Spells-end, InRanges-of_is_in, is_in-of_InRanges}
@@ -135,9 +133,11 @@ module _ (ranges : List (ℕ × ℕ)) (r : Reader) (is : IsReaderOf (is_char_in 
       let n : suc (length text - 1) ≡ length text = omega arith in
       let all : take (length text - 1 + 1) text ≡ text = take_all (length text - 1 + 1) text (omega arith) in
       let stands : StandsAt (take (length text - 1 + 1) text) bytes i (at + 1) =
-      subst (λ t. StandsAt t bytes i (at + 1)) (sym all) (subst (λ k. StandsAt text bytes i k) (sym (add-one at)) m.3) in
-      (member [], (m.0, length text - 1, m.1, m.2, omega arith, omega (arith, m.3.end), ap member (sym (begun_whole (length text - 1) text n)), stands),
-      ap Some (sym e))
+      subst (λ t. StandsAt t bytes i (at + 1)) (sym all) (subst (λ k. StandsAt text bytes i k) (sym (add-one at)) m.3) in (
+        member [],
+        (m.0, length text - 1, m.1, m.2, omega arith, omega (arith, m.3.end), ap member (sym (begun_whole (length text - 1) text n)), stands),
+        ap Some (sym e),
+      )
 
   -- a character that is begun
   begun_read : 0 < p → p ≤ r.others → Stands r bytes i (suc at) p → ByPlace
@@ -157,10 +157,20 @@ module _ (ranges : List (ℕ × ℕ)) (r : Reader) (is : IsReaderOf (is_char_in 
       ap (λ k. take k (encode_utf8 w.char)) n ∙ ap (take (length read)) w.spelled ∙ take_front read b.beginning.rest in
       let stands : StandsAt (take (length read - 1 + 1) (encode_utf8 w.char)) bytes i (at + 1) =
       subst (λ t. StandsAt t bytes i (at + 1)) (sym (ap (λ k. take k (encode_utf8 w.char)) (add-one (length read - 1)) ∙ front))
-      (subst (λ k. StandsAt read bytes i k) (sym (add-one at)) (StandsAt-of_Spells bytes read i (suc at) b.spelled)) in
-      (member read, (w.char, length read - 1, w.scalar, InRanges-of_is_in ranges w.char q.1, omega (arith, part), omega (arith, end, n),
-      ap member (sym (begun_part (length read - 1) (encode_utf8 w.char) part ∙ front)), stands),
-      number_of_text r read some ∙ ap (read_all r) (sym same) ∙ s.2)
+      (subst (λ k. StandsAt read bytes i k) (sym (add-one at)) (StandsAt-of_Spells bytes read i (suc at) b.spelled)) in (
+        member read,
+        (
+          w.char,
+          length read - 1,
+          w.scalar,
+          InRanges-of_is_in ranges w.char q.1,
+          omega (arith, part),
+          omega (arith, end, n),
+          ap member (sym (begun_part (length read - 1) (encode_utf8 w.char) part ∙ front)),
+          stands,
+        ),
+        number_of_text r read some ∙ ap (read_all r) (sym same) ∙ s.2,
+      )
 
   read_place : ByPlace → Stands r bytes i (suc at) p
   read_place (place, (c, n, scalar_c, within_c, lt, is_at, is_place, stands), number) =
@@ -173,8 +183,12 @@ module _ (ranges : List (ℕ × ℕ)) (r : Reader) (is : IsReaderOf (is_char_in 
       Spells-of_StandsAt bytes text i (suc at) (subst (λ t. StandsAt t bytes i (suc at)) (ap (λ k. take k (encode_utf8 c)) (add-one n))
       (subst (λ k. StandsAt (take (n + 1) (encode_utf8 c)) bytes i k) (add-one at) stands)) in
       let whole : IsCharOf (is_char_in ranges) (text ++ drop (suc n) (encode_utf8 c)) =
-      record { char = c; scalar = scalar_c; within = and_from (scalar c) (is_in ranges c) scalar_c (is_in-of_InRanges ranges c within_c);
-      spelled = sym (take-append-drop (suc n) (encode_utf8 c)) } in
+      record {
+        char = c;
+        scalar = scalar_c;
+        within = and_from (scalar c) (is_in ranges c) scalar_c (is_in-of_InRanges ranges c within_c);
+        spelled = sym (take-append-drop (suc n) (encode_utf8 c));
+      } in
       let left = length-drop (suc n) (encode_utf8 c) in
       let b : IsBegunAt (is_char_in ranges) bytes i (suc at) =
       record { read = text; beginning = record { rest = drop (suc n) (encode_utf8 c); whole = whole; begun = omega (arith, size); unended = omega (arith, left, part) }; spelled = spelled } in

@@ -1,10 +1,9 @@
 -- The places of repetitions written out, by the copy that they lie in.
-use Rattle.std.proofs.Common.{◌≡◌, ℕ, zero, suc, ◌+◌, ◌-◌, ◌*◌, min, max, ◌<◌, ◌≤◌, ◌↔◌, List, Option, Some, None, IfSome, ◌⊎◌, inl, inr, ⊎_elim, refl, sym, ap, ◌∙◌, subst, arith}
+use Rattle.std.proofs.Common.{◌≡◌, ℕ, zero, suc, ◌+◌, ◌-◌, ◌*◌, min, ◌<◌, ◌≤◌, List, Option, Some, None, IfSome, ◌⊎◌, inl, inr, ⊎_elim, refl, sym, subst, arith}
 use Rattle.logos_pattern.specs.Matches.{Pieces}
 use Rattle.logos_graph.specs.Core as core
 use Rattle.logos_graph.specs.Core.{Core, At, Many, none, width, Matches, Leaves, Begins, Reads}
-use Rattle.logos_graph.specs.Repeat.{IsOrdered, count_of, in_front, up_to, at_least, repeated}
-use Rattle.logos_graph.proofs.PlaceLemmas.{Reads-map}
+use Rattle.logos_graph.specs.Repeat.{IsOrdered, count_of, in_front, up_to, repeated}
 use Rattle.logos_graph.proofs.ReadLemmas.{Reads-start, Reads-from, Reads-below}
 use Rattle.logos_graph.proofs.RepeatLemmas.{Pieces-of_Many, Many-add, Pieces-add, Pieces-split}
 
@@ -45,11 +44,17 @@ module _ (bytes : List ℕ) (a : Core) (m : ℕ) where
       let r = Reads-from bytes a (At i) cut q m (sym pieces) reads in
       inl (subst (λ x. x < width a) f (Reads-below bytes a (At i) q m r), subst (λ x. Reads bytes a (At i) x m) f r)
   copies-in_front (suc n) b i p (inl (suc k, q, lt, e, (cut, pieces, reads))) =
-      inr (omega (arith, e), Reads-from bytes (in_front n a b) (Leaves bytes a (At i)) pieces.0 (p - width a) m (i, refl, pieces.1)
-      (copies-in_front n b pieces.0 (p - width a) (inl (k, q, omega (arith, lt), omega (arith, e), (cut, pieces.2, reads)))))
+      inr (
+        omega (arith, e),
+        Reads-from bytes (in_front n a b) (Leaves bytes a (At i)) pieces.0 (p - width a) m (i, refl, pieces.1)
+            (copies-in_front n b pieces.0 (p - width a) (inl (k, q, omega (arith, lt), omega (arith, e), (cut, pieces.2, reads)))),
+      )
   copies-in_front (suc n) b i p (inr (q, e, (cut, pieces, reads))) =
-      inr (omega (arith, e), Reads-from bytes (in_front n a b) (Leaves bytes a (At i)) pieces.0 (p - width a) m (i, refl, pieces.1)
-      (copies-in_front n b pieces.0 (p - width a) (inr (q, omega (arith, e), (cut, pieces.2, reads)))))
+      inr (
+        omega (arith, e),
+        Reads-from bytes (in_front n a b) (Leaves bytes a (At i)) pieces.0 (p - width a) m (i, refl, pieces.1)
+            (copies-in_front n b pieces.0 (p - width a) (inr (q, omega (arith, e), (cut, pieces.2, reads)))),
+      )
 
   abbrev UpTo : ℕ → ℕ → ℕ → Type 0
   UpTo n i p = (k q : ℕ) × (k < n) × (p ≡ width a * k + q) × CopyReads i k q
@@ -78,8 +83,11 @@ module _ (bytes : List ℕ) (a : Core) (m : ℕ) where
           let r = Reads-from bytes a (At i) cut q m (sym pieces) reads in
           inl (subst (λ x. x < width a) f (Reads-below bytes a (At i) q m r), subst (λ x. Reads bytes a (At i) x m) f r)
       go later (suc k, q, lt, e, (cut, pieces, reads)) =
-          inr (omega (arith, e), Reads-from bytes (up_to n a) (Leaves bytes a (At i)) pieces.0 (p - width a) m (i, refl, pieces.1)
-          (later pieces.0 (p - width a) (k, q, omega (arith, lt), omega (arith, e), (cut, pieces.2, reads))))
+          inr (
+            omega (arith, e),
+            Reads-from bytes (up_to n a) (Leaves bytes a (At i)) pieces.0 (p - width a) m (i, refl, pieces.1)
+                (later pieces.0 (p - width a) (k, q, omega (arith, lt), omega (arith, e), (cut, pieces.2, reads))),
+          )
 
   plus-copies : (i q : ℕ) → Reads bytes (core.plus a) (At i) q m → (k : ℕ) × CopyReads i k q
   plus-copies i q h =
@@ -156,6 +164,14 @@ module _ (bytes : List ℕ) (a : Core) (m : ℕ) where
       let f : p ≡ width a * (least + (k - least)) + q = rw (← n) (rw e at is) in
       let u = Pieces-split (Matches bytes a) least (k - least) i reads.0 (subst (λ x. Pieces (Matches bytes a) x i reads.0) n reads.1) in
       copies-in_front least (up_to (most - least) a) i p
-      (inr (width a * (k - least) + q, omega (arith, f), (u.0, u.1, copies-up_to (most - least) u.0 (width a * (k - least) + q)
-      (k - least, q, omega (arith, o.0), refl, (reads.0, u.2, reads.2))))))
+      (inr (
+        width a * (k - least) + q,
+        omega (arith, f),
+        (
+          u.0,
+          u.1,
+          copies-up_to (most - least) u.0 (width a * (k - least) + q)
+              (k - least, q, omega (arith, o.0), refl, (reads.0, u.2, reads.2)),
+        ),
+      )))
       (lt_or_ge k least)

@@ -1,22 +1,20 @@
 -- Which written-out pattern stands for a tree, node by node.
-use Rattle.std.proofs.Common.{◌≡◌, ℕ, zero, suc, ◌+◌, ◌-◌, ◌*◌, ◌^◌, ◌<◌, ◌≤◌, ◌↔◌, Bool, true, false, ◌||◌, ◌==◌, List, [], ◌∷◌, length, take, drop, get_or, slice_get, slice_range, Option, Some, None, option_map, nat_lt, if◌then◌else◌, ◌⊎◌, inl, inr, ⊎_elim, eq-eqb, eqb-true, refl, sym, ap, ◌∙◌, subst, arith, add-one}
-use Rattle.std.proofs.Math.Nat.{mul-le-mul_left}
+use Rattle.std.proofs.Common.{◌≡◌, ℕ, zero, suc, ◌+◌, ◌-◌, ◌<◌, ◌↔◌, ◌==◌, List, [], ◌∷◌, length, take, slice_get, Option, Some, None, inl, inr, eq-eqb, eqb-true, refl, sym, ap, ◌∙◌, subst, arith, add-one}
 use Rattle.std.proofs.lemmas.List.{length-take}
-use Rattle.std.proofs.lemmas.Option.{same_Some, slice_get_within, get_or_from_slice_get}
+use Rattle.std.proofs.lemmas.Option.{same_Some}
 use Rattle.logos_pattern.specs.declared.pattern.hir.Look.{Look}
 use Rattle.logos_pattern.specs.Text.{StandsAt}
 use Rattle.logos_pattern.specs.Tree as tree
 use Rattle.logos_pattern.specs.Tree.{Tree, Trees, none, also}
-use Rattle.logos_pattern.specs.Matches.{Matches, MatchesInOrder, SomeMatches}
+use Rattle.logos_pattern.specs.Matches.{Matches}
 use Rattle.logos_graph.specs.Core as core
 use Rattle.logos_graph.specs.Core.{Core, At, IsIn, Leaves, width, IsFree}
 use Rattle.logos_graph.specs.Graph.{is_in}
-use Rattle.logos_graph.specs.Places.{Place, byte_of, member, within, Reads, ReadsInOrder, SomeReads, has_look, some_has_look}
+use Rattle.logos_graph.specs.Places.{Place, byte_of, member, within}
 use Rattle.logos_graph.specs.Reader.{Spells}
 use Rattle.logos_graph.specs.Repeat.{spelled}
-use Rattle.logos_graph.specs.Size.{size, sizes}
-use Rattle.logos_graph.specs.IsCore.{ReadsAs, IsCoreOf, IsCoreOfParts, IsCoreOfBranches}
-use Rattle.logos_graph.proofs.ReadLemmas.{Reads-start, Reads-from, Reads-below}
+use Rattle.logos_graph.specs.IsCore.{IsCoreOf}
+use Rattle.logos_graph.proofs.ReadLemmas.{Reads-start, Reads-from}
 use Rattle.logos_graph.proofs.TextLemmas.{StandsAt-of_Spells, Spells-of_StandsAt, Spells-end, InRanges-of_is_in, is_in-of_InRanges}
 
 pub core_empty : IsCoreOf tree.empty core.empty
@@ -58,8 +56,15 @@ core_bytes ranges = record {
   matches = λ bytes i j. byte_matches ranges bytes i j;
   number = class_number;
   reads = λ bytes i at p. (
-    λ h. (member [], (refl, subst (λ k. Matches (tree.byte_class ranges) bytes i k) (sym (add-one at))
-        ((byte_matches ranges bytes i (suc at)).0 (subst (λ k. core.Matches bytes (core.byte_in (is_in ranges)) k (suc at)) h.1.1 h.1.2))), ap Some (sym h.0)),
+    λ h. (
+      member [],
+      (
+        refl,
+        subst (λ k. Matches (tree.byte_class ranges) bytes i k) (sym (add-one at))
+            ((byte_matches ranges bytes i (suc at)).0 (subst (λ k. core.Matches bytes (core.byte_in (is_in ranges)) k (suc at)) h.1.1 h.1.2)),
+      ),
+      ap Some (sym h.0),
+    ),
     λ h. (sym (zero_of h.0 p h.1.0 h.2), (i, refl, (byte_matches ranges bytes i (suc at)).1 (subst (λ k. Matches (tree.byte_class ranges) bytes i k) (add-one at) h.1.1))),
   );
   free = λ e. tt;
@@ -104,9 +109,12 @@ module _ (bytes : List ℕ) where
   reads_spelled (b ∷ text) i zero m lt h = inl (omega arith, (refl, (i, refl, (record { byte = b; is = h.0; within = eq-eqb b b refl }, h.1))))
   reads_spelled (b ∷ text) i (suc p) m lt h =
       let back : p ≡ suc p - 1 = omega arith in
-      inr (omega arith, Reads-from bytes (spelled text) (Leaves bytes (core.byte_in (λ x. x == b)) (At i)) (suc i) (suc p - 1) m
-      (i, refl, (record { byte = b; is = h.0; within = eq-eqb b b refl }, refl))
-      (subst (λ k. core.Reads bytes (spelled text) (At (suc i)) k m) back (reads_spelled text (suc i) p m (omega arith) h.1)))
+      inr (
+        omega arith,
+        Reads-from bytes (spelled text) (Leaves bytes (core.byte_in (λ x. x == b)) (At i)) (suc i) (suc p - 1) m
+            (i, refl, (record { byte = b; is = h.0; within = eq-eqb b b refl }, refl))
+            (subst (λ k. core.Reads bytes (spelled text) (At (suc i)) k m) back (reads_spelled text (suc i) p m (omega arith) h.1)),
+      )
 
 pub spelled_width : (text : List ℕ) → width (spelled text) ≡ length text
 spelled_width [] = refl
@@ -129,10 +137,18 @@ core_literal text = record {
   reads = λ bytes i at p. (
     λ h. let u = spelled_reads bytes text i p (suc at) h in
         let end = Spells-end bytes (take (suc p) text) i (suc at) u.1 in
-        let n = length_taken p text u.0 in
-        (byte_of p, (p, u.0, refl, omega (arith, end, n),
-        subst (λ k. StandsAt (take k text) bytes i (at + 1)) (sym (add-one p))
-        (subst (λ k. StandsAt (take (suc p) text) bytes i k) (sym (add-one at)) (StandsAt-of_Spells bytes (take (suc p) text) i (suc at) u.1))), refl),
+        let n = length_taken p text u.0 in (
+          byte_of p,
+          (
+            p,
+            u.0,
+            refl,
+            omega (arith, end, n),
+            subst (λ k. StandsAt (take k text) bytes i (at + 1)) (sym (add-one p))
+                (subst (λ k. StandsAt (take (suc p) text) bytes i k) (sym (add-one at)) (StandsAt-of_Spells bytes (take (suc p) text) i (suc at) u.1)),
+          ),
+          refl,
+        ),
     λ h. let e : h.1.0 ≡ p = same_Some h.1.0 p (ap literal_number (sym h.1.2) ∙ h.2) in
         subst (λ k. core.Reads bytes (spelled text) (At i) k (suc at)) e
         (reads_spelled bytes text i h.1.0 (suc at) h.1.1

@@ -1,12 +1,12 @@
 -- Copies that are neither entered nor marked are passed.
-use Rattle.std.proofs.Common.{◌≡◌, ℕ, zero, suc, ◌+◌, ◌-◌, ◌*◌, ◌<◌, ◌≤◌, ◌↔◌, ◌⊎◌, ◌||◌, Bool, true, false, IsTrue, List, [], ◌∷◌, length, refl, sym, ap, ◌∙◌, subst, inl, inr, ⊎_elim, true≢false, arith}
+use Rattle.std.proofs.Common.{◌≡◌, ℕ, zero, suc, ◌+◌, ◌-◌, ◌*◌, ◌<◌, ◌≤◌, ◌↔◌, ◌⊎◌, ◌||◌, Bool, true, false, IsTrue, List, [], ◌∷◌, length, refl, sym, subst, true≢false, arith}
 use Rattle.std.proofs.Math.Nat.{mul-le-mul_left}
-use Rattle.logos_graph.specs.Core.{Core, cat, plus, width, Exits, Steps}
-use Rattle.logos_graph.specs.Marks.{IsRising, Has, IsSet}
-use Rattle.logos_graph.specs.Repeat.{in_front, up_to, at_least, repeated, spelled}
+use Rattle.logos_graph.specs.Core.{Core, width, Exits}
+use Rattle.logos_graph.specs.Marks.{Has}
+use Rattle.logos_graph.specs.Repeat.{in_front, up_to, spelled}
 use Rattle.logos_pattern.specs.declared.pattern.hir.Look.{Look}
 use Rattle.logos_graph.proofs.PlaceLemmas.{Exits-map}
-use Rattle.logos_graph.proofs.StepLemmas.{iff_trans, iff_sym, iff_refl, Exits-iff, Exits-from, Exits-past, Exits-past_up_to}
+use Rattle.logos_graph.proofs.StepLemmas.{iff_trans, iff_refl, Exits-from, Exits-past, Exits-past_up_to}
 use Rattle.logos_graph.proofs.SteppedLemmas.{Exits-void}
 
 out : IsTrue false → ⊥

@@ -26,3 +26,4 @@ pub mod NodeLemmas
 pub mod JumpLemmas
 pub mod CharStepLemmas
 pub mod OweLemmas
+pub mod PrepareLemmas

@@ -1,8 +1,8 @@
 -- The kind of the byte before decides the looks.
-use Rattle.std.proofs.Common.{◌≡◌, ℕ, Bool, true, false, not, ◌&&◌, ◌||◌, ◌==◌, List, Option, Some, None, is_none, refl, sym, ap, ◌∙◌, eqb-true, if◌then◌else◌}
+use Rattle.std.proofs.Common.{◌≡◌, ℕ, Bool, true, false, ◌==◌, List, Option, Some, None, is_none, refl, sym, ap, ◌∙◌, eqb-true, if◌then◌else◌}
 use Rattle.std.proofs.Math.Path.{fun_ext}
 use Rattle.logos_pattern.specs.Text.{byte_before, byte_after}
-use Rattle.logos_pattern.specs.Looks.{is_byte, is_word, differ, holds_between}
+use Rattle.logos_pattern.specs.Looks.{is_byte, is_word, holds_between}
 use Rattle.logos_pattern.specs.declared.pattern.hir.Look.{Look}
 use Rattle.logos_pattern.specs.declared.pattern.hir.Look.TheVariants.{Start, End, StartLF, EndLF, StartCRLF, EndCRLF, WordAscii, WordAsciiNegate}
 use Rattle.logos_graph.specs.Core.{holds_at}

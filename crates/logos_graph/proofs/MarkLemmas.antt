@@ -1,9 +1,9 @@
 -- Sets of places, as rising lists.
-use Rattle.std.proofs.Common.{[], ◌∷◌, ◌++◌, length-append, ◌≡◌, ℕ, zero, suc, ◌+◌, ◌-◌, ◌*◌, ◌/◌, min, ◌<◌, ◌≤◌, ◌↔◌, ◌⊎◌, IsTrue, ltb, List, length, slice_index, refl, sym, ap, ◌∙◌, subst, inl, inr, ⊎_elim, arith, ltb-true}
+use Rattle.std.proofs.Common.{[], ◌∷◌, ◌++◌, length-append, ◌≡◌, ℕ, suc, ◌+◌, ◌-◌, ◌*◌, ◌/◌, min, ◌<◌, ◌≤◌, ◌↔◌, ◌⊎◌, IsTrue, ltb, List, length, slice_index, refl, sym, ap, ◌∙◌, inl, inr, ⊎_elim, arith, ltb-true}
 use Rattle.std.specs.List.{insert}
 use Rattle.std.proofs.lemmas.List.Edits.{get_or-insert_at, get_or-insert_below, get_or-insert_above, length-insert}
 use Rattle.std.proofs.lemmas.Bool.{lt-ltb}
-use Rattle.std.proofs.lemmas.List.{get_or_append_left, get_or-append-add}
+use Rattle.std.proofs.lemmas.List.{get_or_append_left}
 use Rattle.std.proofs.Math.Nat.{mul-div-le, mul-le-mul_left}
 use Rattle.std.proofs.Math.Seq.{get_or-append_seam}
 use Rattle.logos_graph.specs.Marks.{IsRising, Has, IsFirstFrom, IsSet}
@@ -67,13 +67,15 @@ IsSet-push xs n h =
     let new : (k : ℕ) → k ≡ length xs → slice_index (xs ++ n ∷ []) k ≡ n =
     λ k e. ap (λ j. slice_index (xs ++ n ∷ []) j) e ∙ get_or-append_seam xs n [] 0 in
     record {
-      rising = record { rise = λ i j lt inside.
-          let front = old i (omega arith) in
-          let low = h.below i (omega arith) in
-          ⊎_elim
-          (λ before. let back = old j before in let up = h.rising.rise i j lt before in omega arith)
-          (λ after. let last : j ≡ length xs = omega arith in let back = new j last in omega arith)
-          (lt_or_ge j (length xs)) };
+      rising = record {
+        rise = λ i j lt inside.
+            let front = old i (omega arith) in
+            let low = h.below i (omega arith) in
+            ⊎_elim
+            (λ before. let back = old j before in let up = h.rising.rise i j lt before in omega arith)
+            (λ after. let last : j ≡ length xs = omega arith in let back = new j last in omega arith)
+            (lt_or_ge j (length xs));
+      };
       below = λ k inside.
           ⊎_elim
           (λ before. let back = old k before in let low = h.below k before in omega arith)
@@ -137,9 +139,11 @@ module _ (xs : List ℕ) (place i : ℕ) (rising : IsRising xs) (first : IsFirst
 
   pub IsRising-insert : (i < length xs → slice_index xs i ≡ place → ⊥) → IsRising (insert xs i place)
   unfolding inserted
-  IsRising-insert new = record { rise = λ j k lt inside.
-      let size = inserted_size in
-      go j k lt inside (inserted_cases j (omega arith)) (inserted_cases k inside) }
+  IsRising-insert new = record {
+    rise = λ j k lt inside.
+        let size = inserted_size in
+        go j k lt inside (inserted_cases j (omega arith)) (inserted_cases k inside);
+  }
     where
       go : (j k : ℕ) → j < k → k < length inserted →
           ((j < i) × (slice_index inserted j ≡ slice_index xs j)) ⊎ ((j ≡ i) × (slice_index inserted j ≡ place))
@@ -166,6 +170,7 @@ module _ (xs : List ℕ) (place i : ℕ) (rising : IsRising xs) (first : IsFirst
         where
           lt_of : (a : ℕ) → place ≤ a → (a ≡ place → ⊥) → place < a
           lt_of a le d = omega arith
+
           eq_or_less : (a b : ℕ) → a ≤ b → (a ≡ b) ⊎ (a < b)
           eq_or_less a b le = grind arith
       go j k lt inside (inr (inr u)) (inl v) = absurd (omega (arith, u.0, v.0))

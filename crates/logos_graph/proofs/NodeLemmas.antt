@@ -1,7 +1,7 @@
 -- What each form of a node stands for.
-use Rattle.std.proofs.Common.{◌≡◌, ℕ, ◌+◌, ◌<◌, ◌≤◌, Bool, true, false, ◌&&◌, ◌==◌, nat_lt, nat_le, Option, Some, None, Vec, Box, Global, IsTrue, sym, ap, ◌∙◌, subst, eqb-true, eq-eqb, refl}
+use Rattle.std.proofs.Common.{◌≡◌, ℕ, ◌+◌, ◌<◌, ◌≤◌, Bool, true, ◌&&◌, ◌==◌, nat_lt, nat_le, Option, Some, None, Vec, Box, Global, sym, ap, ◌∙◌, eqb-true}
 use Rattle.std.proofs.Common.{arith, suc, ◌-◌, ◌*◌, length}
-use Rattle.std.proofs.lemmas.Bool.{and_parts, and_from}
+use Rattle.std.proofs.lemmas.Bool.{and_parts}
 use Rattle.std.proofs.lemmas.Bool.Decides.{nat_tests}
 use Rattle.logos_pattern.specs.Hir.{pairs}
 use Rattle.logos_pattern.specs.declared.pattern.hir.Look as look_type
@@ -110,6 +110,7 @@ ordered_of least (Some most) h =
   where
     low : (a b : ℕ) → nat_le a b ≡ true → a ≤ b
     low a b e = grind (arith, nat_tests)
+
     some : (b : ℕ) → nat_lt 0 b ≡ true → 0 < b
     some b e = grind (arith, nat_tests)
 

@@ -1,12 +1,11 @@
 -- Steps on copies and on literals, with what is still to be made.
-use Rattle.std.proofs.Common.{◌≡◌, ℕ, zero, suc, ◌+◌, ◌-◌, ◌*◌, ◌<◌, ◌≤◌, ◌↔◌, ◌⊎◌, ◌||◌, ◌==◌, Bool, true, false, IsTrue, List, [], ◌∷◌, length, drop, get_or, drop-cons, add-one, refl, sym, ap, ◌∙◌, subst, inl, inr, ⊎_elim, true≢false, arith}
+use Rattle.std.proofs.Common.{◌≡◌, ℕ, zero, suc, ◌+◌, ◌-◌, ◌*◌, ◌<◌, ◌≤◌, ◌||◌, ◌==◌, Bool, true, false, IsTrue, List, length, drop, get_or, drop-cons, add-one, refl, sym, ap, ◌∙◌, subst, arith}
 use Rattle.std.proofs.Math.Nat.{mul-le-mul_left}
-use Rattle.logos_graph.specs.Core.{Core, byte_in, cat, plus, width, Exits, Steps}
-use Rattle.logos_graph.specs.Marks.{IsRising, Has, IsSet}
-use Rattle.logos_graph.specs.Repeat.{in_front, up_to, at_least, repeated, spelled}
+use Rattle.logos_graph.specs.Core.{Core, byte_in, cat, width}
+use Rattle.logos_graph.specs.Marks.{Has}
+use Rattle.logos_graph.specs.Repeat.{in_front, up_to, spelled}
 use Rattle.logos_graph.specs.Stepped.{Stepped, Owes}
 use Rattle.logos_pattern.specs.declared.pattern.hir.Look.{Look}
-use Rattle.logos_graph.proofs.StepLemmas.{iff_trans, iff_sym, iff_refl}
 use Rattle.logos_graph.proofs.SteppedLemmas.{stepped_nothing, owes_cat, owes_skip, owes_optional}
 
 or_false : (t : Bool) → (t || false) ≡ t
@@ -41,6 +40,7 @@ module _ (test : Look → Bool) (x : ℕ) (marks : List ℕ) (whole : Core) (old
       where
         split : (w d j base : ℕ) → base + w * (d + j) ≡ base + w * d + w * j
         split w d j base = omega arith
+
         bound : (q : ℕ) → q < width a * (next - done) → w * done + q < w * next
         bound q lt =
             let lt' : q < w * (next - done) = subst (λ n. q < n * (next - done)) (sym is) lt in
@@ -68,9 +68,9 @@ module _ (test : Look → Bool) (x : ℕ) (marks : List ℕ) (whole : Core) (old
         let e : done + suc j ≡ done + 1 + j = omega arith in
         let few : w * (done + 1) ≤ w * (done + suc j) = mul-le-mul_left w (omega arith) in
         let s = stepped_nothing test x marks a new (base + w * done) h.set
-            (λ q lt has. none (w * done + q) (omega arith) (omega (arith, few, is)) (subst (Has marks) (omega arith) has)) in
+        (λ q lt has. none (w * done + q) (omega arith) (omega (arith, few, is)) (subst (Has marks) (omega arith) has)) in
         let one = subst (λ t. Owes whole (up_to (count - (done + 1)) a) test x marks old new base (base + w * (done + 1)) entered false t) (or_false any)
-            (owes_up_to_step done count new new false false any (omega arith) h s) in
+        (owes_up_to_step done count new new false false any (omega arith) h s) in
         rw e (owes_up_to_pass j (done + 1) count new any (omega arith) (λ q lo hi has. none q (omega (arith, lo)) (rw (← e) at hi) has) one)
 
     pub owes_up_to_skip : (done next count : ℕ) (new : List ℕ) (left any : Bool) → done ≤ next → next ≤ count → (IsTrue left → next ≡ done) →
@@ -101,7 +101,7 @@ module _ (test : Look → Bool) (x : ℕ) (marks : List ℕ) (whole : Core) (old
   owes_spelled_pass text (suc j) done new any le none h =
       let e : done + suc j ≡ done + 1 + j = omega arith in
       let s = stepped_nothing test x marks (byte_in (λ y. y == get_or text done 0)) new (base + done) h.set
-          (λ q lt has. none (done + q) (omega arith) (omega arith) (subst (Has marks) (omega arith) has)) in
+      (λ q lt has. none (done + q) (omega arith) (omega arith) (subst (Has marks) (omega arith) has)) in
       rw e (owes_spelled_pass text j (done + 1) new any (omega arith) (λ q lo hi has. none q (omega (arith, lo)) (omega (arith, hi)) has)
       (owes_spelled_step text done new new false false any (omega arith) h s))
 

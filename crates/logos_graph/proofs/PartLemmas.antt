@@ -1,14 +1,14 @@
 -- Which written-out pattern stands for parts and for branches.
-use Rattle.std.proofs.Common.{◌≡◌, ℕ, zero, suc, ◌+◌, ◌-◌, ◌*◌, ◌^◌, ◌<◌, ◌≤◌, ◌↔◌, Bool, true, false, ◌||◌, List, [], ◌∷◌, Option, Some, None, option_map, nat_lt, if◌then◌else◌, ◌⊎◌, inl, inr, ⊎_elim, lt-ltb, le-ltb, refl, sym, ap, ◌∙◌, subst, arith, add-one}
+use Rattle.std.proofs.Common.{◌≡◌, ℕ, suc, ◌+◌, ◌-◌, ◌<◌, ◌≤◌, Bool, true, false, ◌||◌, List, Option, Some, None, option_map, nat_lt, if◌then◌else◌, ◌⊎◌, inl, inr, ⊎_elim, lt-ltb, le-ltb, refl, sym, ap, ◌∙◌, subst, arith}
 use Rattle.std.proofs.lemmas.Option.{same_Some}
 use Rattle.logos_pattern.specs.Tree as tree
 use Rattle.logos_pattern.specs.Tree.{Tree, Trees, none, also}
 use Rattle.logos_pattern.specs.Matches.{Matches, MatchesInOrder, SomeMatches}
 use Rattle.logos_graph.specs.Core as core
 use Rattle.logos_graph.specs.Core.{Core, At, Leaves, width, IsFree}
-use Rattle.logos_graph.specs.Places.{Place, byte_of, member, within, Reads, ReadsInOrder, SomeReads, has_look, some_has_look}
-use Rattle.logos_graph.specs.Size.{size, sizes}
-use Rattle.logos_graph.specs.IsCore.{ReadsAs, IsCoreOf, IsCoreOfParts, IsCoreOfBranches}
+use Rattle.logos_graph.specs.Places.{Place, byte_of, member, within, ReadsInOrder, SomeReads, has_look, some_has_look}
+use Rattle.logos_graph.specs.Size.{sizes}
+use Rattle.logos_graph.specs.IsCore.{IsCoreOf, IsCoreOfParts, IsCoreOfBranches}
 use Rattle.logos_graph.proofs.ReadLemmas.{Reads-start, Reads-from, Reads-below}
 use Rattle.logos_graph.proofs.TreesLemmas.{join_trees, count_trees}
 
@@ -205,24 +205,29 @@ parts_join ts us n k a b e f g = record {
   reads = λ bytes i at p. (
     λ r. ⊎_elim
         (λ u. let v = (f.reads bytes i at p).0 u.1 in
-            let l = subst (λ x. LiesIn n x v.0) (sym e) (parts_lie ts n bytes i at v.0 v.1) in
-            (v.0, reads_left us bytes ts n i at v.0 v.1, left_number k (width a) f.number g.number n v.0 l ∙ v.2))
+        let l = subst (λ x. LiesIn n x v.0) (sym e) (parts_lie ts n bytes i at v.0 v.1) in
+        (v.0, reads_left us bytes ts n i at v.0 v.1, left_number k (width a) f.number g.number n v.0 l ∙ v.2))
         (λ u. let s = Reads-start bytes b (Leaves bytes a (At i)) (p - width a) (suc at) u.1 in
-            let v = (g.reads bytes s.0 at (p - width a)).0 s.2 in
-            let l = parts_lie us k bytes s.0 at v.0 v.1 in
-            let m = (f.matches bytes i s.0).0 (subst (λ x. core.Matches bytes a x s.0) s.1.1 s.1.2) in
-            let same : width a + (p - width a) ≡ p = omega (arith, u.0) in
-            (v.0, reads_right us bytes ts n k i s.0 at v.0 e m v.1,
-            right_number k (width a) f.number g.number (k + count_trees us) v.0 l ∙ ap (option_map (λ q. width a + q)) v.2 ∙ ap Some same))
+        let v = (g.reads bytes s.0 at (p - width a)).0 s.2 in
+        let l = parts_lie us k bytes s.0 at v.0 v.1 in
+        let m = (f.matches bytes i s.0).0 (subst (λ x. core.Matches bytes a x s.0) s.1.1 s.1.2) in
+        let same : width a + (p - width a) ≡ p = omega (arith, u.0) in (
+          v.0,
+          reads_right us bytes ts n k i s.0 at v.0 e m v.1,
+          right_number k (width a) f.number g.number (k + count_trees us) v.0 l ∙ ap (option_map (λ q. width a + q)) v.2 ∙ ap Some same,
+        ))
         r,
     λ v. ⊎_elim
         (λ u. let l = subst (λ x. LiesIn n x v.0) (sym e) (parts_lie ts n bytes i at v.0 u) in
-            let r = (f.reads bytes i at p).1 (v.0, u, sym (left_number k (width a) f.number g.number n v.0 l) ∙ v.2) in
-            inl (Reads-below bytes a (At i) p (suc at) r, r))
+        let r = (f.reads bytes i at p).1 (v.0, u, sym (left_number k (width a) f.number g.number n v.0 l) ∙ v.2) in
+        inl (Reads-below bytes a (At i) p (suc at) r, r))
         (λ u. let l = parts_lie us k bytes u.0 at v.0 u.2 in
-            let s = shifted (width a) p (g.number v.0) (sym (right_number k (width a) f.number g.number (k + count_trees us) v.0 l) ∙ v.2) in
-            inr (s.0, Reads-from bytes b (Leaves bytes a (At i)) u.0 (p - width a) (suc at) (i, refl, (f.matches bytes i u.0).1 u.1)
-            ((g.reads bytes u.0 at (p - width a)).1 (v.0, u.2, s.1))))
+        let s = shifted (width a) p (g.number v.0) (sym (right_number k (width a) f.number g.number (k + count_trees us) v.0 l) ∙ v.2) in
+        inr (
+          s.0,
+          Reads-from bytes b (Leaves bytes a (At i)) u.0 (p - width a) (suc at) (i, refl, (f.matches bytes i u.0).1 u.1)
+              ((g.reads bytes u.0 at (p - width a)).1 (v.0, u.2, s.1)),
+        ))
         (reads_split us bytes ts n k i at v.0 e v.1),
   );
   free = λ h. let p = or_parts _ _ (sym (looks_joined ts us) ∙ h) in (f.free p.0, g.free p.1);
@@ -241,21 +246,23 @@ branches_join ts us n k a b e f g = record {
   reads = λ bytes i at p. (
     λ r. ⊎_elim
         (λ u. let v = (f.reads bytes i at p).0 u.1 in
-            let l = subst (λ x. LiesIn n x v.0) (sym e) (branches_lie ts n bytes i at v.0 v.1) in
-            (v.0, some_reads_left us bytes ts n i at v.0 v.1, left_number k (width a) f.number g.number n v.0 l ∙ v.2))
+        let l = subst (λ x. LiesIn n x v.0) (sym e) (branches_lie ts n bytes i at v.0 v.1) in
+        (v.0, some_reads_left us bytes ts n i at v.0 v.1, left_number k (width a) f.number g.number n v.0 l ∙ v.2))
         (λ u. let v = (g.reads bytes i at (p - width a)).0 u.1 in
-            let l = branches_lie us k bytes i at v.0 v.1 in
-            let same : width a + (p - width a) ≡ p = omega (arith, u.0) in
-            (v.0, some_reads_right us bytes ts n k i at v.0 e v.1,
-            right_number k (width a) f.number g.number (k + count_trees us) v.0 l ∙ ap (option_map (λ q. width a + q)) v.2 ∙ ap Some same))
+        let l = branches_lie us k bytes i at v.0 v.1 in
+        let same : width a + (p - width a) ≡ p = omega (arith, u.0) in (
+          v.0,
+          some_reads_right us bytes ts n k i at v.0 e v.1,
+          right_number k (width a) f.number g.number (k + count_trees us) v.0 l ∙ ap (option_map (λ q. width a + q)) v.2 ∙ ap Some same,
+        ))
         r,
     λ v. ⊎_elim
         (λ u. let l = subst (λ x. LiesIn n x v.0) (sym e) (branches_lie ts n bytes i at v.0 u) in
-            let r = (f.reads bytes i at p).1 (v.0, u, sym (left_number k (width a) f.number g.number n v.0 l) ∙ v.2) in
-            inl (Reads-below bytes a (At i) p (suc at) r, r))
+        let r = (f.reads bytes i at p).1 (v.0, u, sym (left_number k (width a) f.number g.number n v.0 l) ∙ v.2) in
+        inl (Reads-below bytes a (At i) p (suc at) r, r))
         (λ u. let l = branches_lie us k bytes i at v.0 u in
-            let s = shifted (width a) p (g.number v.0) (sym (right_number k (width a) f.number g.number (k + count_trees us) v.0 l) ∙ v.2) in
-            inr (s.0, (g.reads bytes i at (p - width a)).1 (v.0, u, s.1)))
+        let s = shifted (width a) p (g.number v.0) (sym (right_number k (width a) f.number g.number (k + count_trees us) v.0 l) ∙ v.2) in
+        inr (s.0, (g.reads bytes i at (p - width a)).1 (v.0, u, s.1)))
         (some_reads_split us bytes ts n k i at v.0 e v.1),
   );
   free = λ h. let p = or_parts _ _ (sym (looks_joined ts us) ∙ h) in (f.free p.0, g.free p.1);

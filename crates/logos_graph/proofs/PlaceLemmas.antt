@@ -1,7 +1,7 @@
 -- The places step as the pattern reads.
 use Rattle.std.proofs.Common.{◌≡◌, ℕ, zero, suc, ◌+◌, ◌-◌, ◌<◌, ◌≤◌, Bool, true, List, Some, ◌⊎◌, inl, inr, ⊎_elim, slice_get, refl, sym, ap, ◌∙◌, subst, arith}
 use Rattle.std.proofs.lemmas.Option.{same_Some}
-use Rattle.logos_graph.specs.Core.{Core, holds_at, Reader, void, character, Stands, empty, byte_in, look, cat, alt, plus, width, Many, none, more, IsIn, Matches, Leaves, Begins, Reads, Exits, Steps}
+use Rattle.logos_graph.specs.Core.{Core, holds_at, Reader, void, character, Stands, empty, byte_in, look, cat, alt, plus, width, Many, none, more, Matches, Leaves, Begins, Reads, Exits, Steps}
 use Rattle.logos_pattern.specs.declared.pattern.hir.Look.{Look}
 
 -- a larger set of places, entered where the smaller was, is left where the smaller was
@@ -45,8 +45,11 @@ Steps-map (character l) test x M N d e p f g h =
 Steps-map (look l) test x M N d e p f g h = h
 Steps-map (cat a b) test x M N d e p f g h =
     ⊎_elim (λ u. inl (u.0, Steps-map a test x M N d e p (λ q lt. f q (omega arith)) g u.1))
-    (λ u. inr (u.0, Steps-map b test x _ _ _ _ (p - width a) (λ q lt. f (width a + q) (omega arith))
-    (Exits-map a test M N d e (λ q lt. f q (omega arith)) g) u.1)) h
+    (λ u. inr (
+      u.0,
+      Steps-map b test x _ _ _ _ (p - width a) (λ q lt. f (width a + q) (omega arith))
+          (Exits-map a test M N d e (λ q lt. f q (omega arith)) g) u.1,
+    )) h
 Steps-map (alt a b) test x M N d e p f g h =
     ⊎_elim (λ u. inl (u.0, Steps-map a test x M N d e p (λ q lt. f q (omega arith)) g u.1))
     (λ u. inr (u.0, Steps-map b test x _ _ d e (p - width a) (λ q lt. f (width a + q) (omega arith)) g u.1)) h
@@ -214,24 +217,32 @@ module _ (bytes : List ℕ) where
       let same : found.byte ≡ x = same_Some _ _ (sym found.is ∙ ap (slice_get bytes) at ∙ is) in
       (h.0, subst S at h.1.1, ap c (sym same) ∙ found.within)
   Steps-of_Reads (character l) S m x p is h =
-      let same : h.2.0 ≡ x = same_Some _ _ (sym h.2.1 ∙ is) in
-      (h.2.2, ⊎_elim (λ u. inl (subst S u.0 h.1, ap l.first (sym same) ∙ u.1))
-      (λ u. inr (u.0, u.1, (h.0, h.1, u.2), ap (l.follow u.0) (sym same) ∙ u.3)) h.2.3)
+      let same : h.2.0 ≡ x = same_Some _ _ (sym h.2.1 ∙ is) in (
+        h.2.2,
+        ⊎_elim (λ u. inl (subst S u.0 h.1, ap l.first (sym same) ∙ u.1))
+            (λ u. inr (u.0, u.1, (h.0, h.1, u.2), ap (l.follow u.0) (sym same) ∙ u.3)) h.2.3,
+      )
   Steps-of_Reads (look l) S m x p is h = h
   Steps-of_Reads (cat a b) S m x p is h =
       ⊎_elim
       (λ u. inl (u.0, Steps-map a (holds_at bytes m) x _ _ _ _ p (λ q lt r. inl (lt, r)) (λ z. z) (Steps-of_Reads a S m x p is u.1)))
-      (λ u. inr (u.0, Steps-map b (holds_at bytes m) x _ _ _ _ (p - width a)
-      (λ q lt r. inr (omega arith, place_right (width a) q (λ k. Reads bytes b (Leaves bytes a S) k m) r))
-      (λ v. Exits-map a (holds_at bytes m) _ _ _ _ (λ q lt r. inl (lt, r)) (λ z. z) (Exits-of_Leaves a S m v))
-      (Steps-of_Reads b (Leaves bytes a S) m x (p - width a) is u.1)))
+      (λ u. inr (
+        u.0,
+        Steps-map b (holds_at bytes m) x _ _ _ _ (p - width a)
+            (λ q lt r. inr (omega arith, place_right (width a) q (λ k. Reads bytes b (Leaves bytes a S) k m) r))
+            (λ v. Exits-map a (holds_at bytes m) _ _ _ _ (λ q lt r. inl (lt, r)) (λ z. z) (Exits-of_Leaves a S m v))
+            (Steps-of_Reads b (Leaves bytes a S) m x (p - width a) is u.1),
+      ))
       h
   Steps-of_Reads (alt a b) S m x p is h =
       ⊎_elim
       (λ u. inl (u.0, Steps-map a (holds_at bytes m) x _ _ _ _ p (λ q lt r. inl (lt, r)) (λ z. z) (Steps-of_Reads a S m x p is u.1)))
-      (λ u. inr (u.0, Steps-map b (holds_at bytes m) x _ _ _ _ (p - width a)
-      (λ q lt r. inr (omega arith, place_right (width a) q (λ k. Reads bytes b S k m) r)) (λ z. z)
-      (Steps-of_Reads b S m x (p - width a) is u.1)))
+      (λ u. inr (
+        u.0,
+        Steps-map b (holds_at bytes m) x _ _ _ _ (p - width a)
+            (λ q lt r. inr (omega arith, place_right (width a) q (λ k. Reads bytes b S k m) r)) (λ z. z)
+            (Steps-of_Reads b S m x (p - width a) is u.1),
+      ))
       h
   Steps-of_Reads (plus a) S m x p is h =
       Steps-map a (holds_at bytes m) x _ _ _ _ p (λ q lt r. r) (Exits-of_Begins a S m)
@@ -248,22 +259,34 @@ module _ (bytes : List ℕ) where
   Reads-of_Steps (look l) S m x p is h = h
   Reads-of_Steps (cat a b) S m x p is h =
       ⊎_elim
-      (λ u. inl (u.0, Reads-of_Steps a S m x p is
-      (Steps-map a (holds_at bytes m) x _ _ _ _ p (λ q lt r. left_part _ _ _ _ lt r) (λ z. z) u.1)))
-      (λ u. inr (u.0, Reads-of_Steps b (Leaves bytes a S) m x (p - width a) is
-      (Steps-map b (holds_at bytes m) x _ _ _ _ (p - width a)
-      (λ q lt r. right_place (width a) q (λ k. Reads bytes b (Leaves bytes a S) k m) (right_part _ _ _ _ (omega arith) r))
-      (λ v. Leaves-of_Exits a S m (Exits-map a (holds_at bytes m) _ _ _ _ (λ q lt r. left_part _ _ _ _ lt r) (λ z. z) v))
-      u.1)))
+      (λ u. inl (
+        u.0,
+        Reads-of_Steps a S m x p is
+            (Steps-map a (holds_at bytes m) x _ _ _ _ p (λ q lt r. left_part _ _ _ _ lt r) (λ z. z) u.1),
+      ))
+      (λ u. inr (
+        u.0,
+        Reads-of_Steps b (Leaves bytes a S) m x (p - width a) is
+            (Steps-map b (holds_at bytes m) x _ _ _ _ (p - width a)
+            (λ q lt r. right_place (width a) q (λ k. Reads bytes b (Leaves bytes a S) k m) (right_part _ _ _ _ (omega arith) r))
+            (λ v. Leaves-of_Exits a S m (Exits-map a (holds_at bytes m) _ _ _ _ (λ q lt r. left_part _ _ _ _ lt r) (λ z. z) v))
+            u.1),
+      ))
       h
   Reads-of_Steps (alt a b) S m x p is h =
       ⊎_elim
-      (λ u. inl (u.0, Reads-of_Steps a S m x p is
-      (Steps-map a (holds_at bytes m) x _ _ _ _ p (λ q lt r. left_part _ _ _ _ lt r) (λ z. z) u.1)))
-      (λ u. inr (u.0, Reads-of_Steps b S m x (p - width a) is
-      (Steps-map b (holds_at bytes m) x _ _ _ _ (p - width a)
-      (λ q lt r. right_place (width a) q (λ k. Reads bytes b S k m) (right_part _ _ _ _ (omega arith) r)) (λ z. z)
-      u.1)))
+      (λ u. inl (
+        u.0,
+        Reads-of_Steps a S m x p is
+            (Steps-map a (holds_at bytes m) x _ _ _ _ p (λ q lt r. left_part _ _ _ _ lt r) (λ z. z) u.1),
+      ))
+      (λ u. inr (
+        u.0,
+        Reads-of_Steps b S m x (p - width a) is
+            (Steps-map b (holds_at bytes m) x _ _ _ _ (p - width a)
+            (λ q lt r. right_place (width a) q (λ k. Reads bytes b S k m) (right_part _ _ _ _ (omega arith) r)) (λ z. z)
+            u.1),
+      ))
       h
   Reads-of_Steps (plus a) S m x p is h =
       Reads-of_Steps a (Begins bytes a S) m x p is

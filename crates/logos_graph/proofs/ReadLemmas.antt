@@ -1,8 +1,8 @@
 -- The marked places are those that can have read the last byte, and tell a match one byte late.
-use Rattle.std.proofs.Common.{◌≡◌, ℕ, zero, suc, ◌+◌, ◌-◌, ◌<◌, ◌≤◌, ◌↔◌, List, Some, ◌⊎◌, inl, inr, ⊎_elim, slice_get, refl, sym, ap, ◌∙◌, subst, arith}
-use Rattle.logos_graph.specs.Core.{Core, At, holds_at, void, character, Stands, empty, byte_in, look, cat, alt, plus, width, Many, none, more, IsIn, Matches, Leaves, Begins, Reads, Exits, Steps}
+use Rattle.std.proofs.Common.{◌≡◌, ℕ, zero, suc, ◌-◌, ◌<◌, ◌↔◌, List, Some, inl, inr, ⊎_elim, slice_get, refl, sym, ap, ◌∙◌, subst, arith}
+use Rattle.logos_graph.specs.Core.{Core, At, holds_at, void, character, Stands, empty, byte_in, look, cat, alt, plus, width, Many, Matches, Leaves, Begins, Reads, Exits, Steps}
 use Rattle.logos_graph.specs.Run.{Marked}
-use Rattle.logos_graph.proofs.PlaceLemmas.{Exits-map, Steps-map, Matches-forward, Stands-after, Many-forward, Leaves-map, Begins-map, Reads-map, Exits-of_Leaves, Leaves-of_Exits, Steps-of_Reads, Reads-of_Steps}
+use Rattle.logos_graph.proofs.PlaceLemmas.{Exits-map, Steps-map, Matches-forward, Stands-after, Many-forward, Reads-map, Exits-of_Leaves, Leaves-of_Exits, Steps-of_Reads, Reads-of_Steps}
 
 module _ (bytes : List ℕ) where
   -- a place that was read was entered before
@@ -70,9 +70,12 @@ module _ (bytes : List ℕ) where
   Marked-iff t (suc m) q = (
     λ u. Reads-of_Steps bytes t (At 0) m u.0 q u.1
         (Steps-map t (holds_at bytes m) u.0 _ _ _ _ q (λ p below. (Marked-iff t m p).0) (λ e. e) u.2),
-    λ r. let x = Reads-byte t (At 0) q m r in
-        (x.0, x.1, Steps-map t (holds_at bytes m) x.0 _ _ _ _ q (λ p below. (Marked-iff t m p).1) (λ e. e)
-        (Steps-of_Reads bytes t (At 0) m x.0 q x.1 r)),
+    λ r. let x = Reads-byte t (At 0) q m r in (
+      x.0,
+      x.1,
+      Steps-map t (holds_at bytes m) x.0 _ _ _ _ q (λ p below. (Marked-iff t m p).1) (λ e. e)
+          (Steps-of_Reads bytes t (At 0) m x.0 q x.1 r),
+    ),
   )
 
   pub Marked-exits : (t : Core) (m : ℕ) → Matches bytes t 0 m ↔ Exits t (holds_at bytes m) (Marked t bytes m) (m ≡ 0)
@@ -92,16 +95,25 @@ module _ (bytes : List ℕ) where
   Reads-start (look l) S p m h = absurd h
   Reads-start (cat a b) S p m h =
       ⊎_elim (λ u. let v = Reads-start a S p m u.1 in (v.0, v.1, inl (u.0, v.2)))
-      (λ u. let v = Reads-start b (Leaves bytes a S) (p - width a) m u.1 in
-      (v.1.0, v.1.1, inr (u.0, Reads-map bytes b (At v.0) (Leaves bytes a (At v.1.0)) (p - width a) m
-      (λ k e. (v.1.0, refl, subst (λ x. Matches bytes a v.1.0 x) (sym e) v.1.2)) v.2))) h
+      (λ u. let v = Reads-start b (Leaves bytes a S) (p - width a) m u.1 in (
+        v.1.0,
+        v.1.1,
+        inr (
+          u.0,
+          Reads-map bytes b (At v.0) (Leaves bytes a (At v.1.0)) (p - width a) m
+              (λ k e. (v.1.0, refl, subst (λ x. Matches bytes a v.1.0 x) (sym e) v.1.2)) v.2,
+        ),
+      )) h
   Reads-start (alt a b) S p m h =
       ⊎_elim (λ u. let v = Reads-start a S p m u.1 in (v.0, v.1, inl (u.0, v.2)))
       (λ u. let v = Reads-start b S (p - width a) m u.1 in (v.0, v.1, inr (u.0, v.2))) h
   Reads-start (plus a) S p m h =
-      let v = Reads-start a (Begins bytes a S) p m h in
-      (v.1.0, v.1.1, Reads-map bytes a (At v.0) (Begins bytes a (At v.1.0)) p m
-      (λ k e. (v.1.0, refl, subst (λ x. Many (Matches bytes a) v.1.0 x) (sym e) v.1.2)) v.2)
+      let v = Reads-start a (Begins bytes a S) p m h in (
+        v.1.0,
+        v.1.1,
+        Reads-map bytes a (At v.0) (Begins bytes a (At v.1.0)) p m
+            (λ k e. (v.1.0, refl, subst (λ x. Many (Matches bytes a) v.1.0 x) (sym e) v.1.2)) v.2,
+      )
 
   pub Reads-from : (t : Core) (S : ℕ → Type 0) (i p m : ℕ) → S i → Reads bytes t (At i) p m → Reads bytes t S p m
   Reads-from t S i p m s h = Reads-map bytes t (At i) S p m (λ k e. subst S (sym e) s) h

@@ -1,12 +1,12 @@
 -- The reader of a class reads its characters.
-use Rattle.std.proofs.Common.{◌≡◌, ℕ, zero, suc, ◌+◌, ◌-◌, ◌*◌, ◌<◌, ◌≤◌, ◌↔◌, ◌⊎◌, Bool, true, false, true≢false, List, [], ◌∷◌, ◌++◌, length, Option, Some, None, refl, sym, ap, ◌∙◌, subst, inl, inr, ⊎_elim, arith, slice_get}
+use Rattle.std.proofs.Common.{◌≡◌, ℕ, zero, suc, ◌+◌, ◌-◌, ◌*◌, ◌<◌, ◌≤◌, ◌↔◌, ◌⊎◌, Bool, true≢false, List, [], ◌∷◌, ◌++◌, Option, Some, None, refl, sym, ap, ◌∙◌, subst, inl, inr, ⊎_elim, arith, slice_get}
 use Rattle.std.proofs.lemmas.Bool.{cases_lt}
 use Rattle.std.proofs.lemmas.Option.{same_Some, none-some, MatchOption-at_some, MatchOption-at_none}
 use Rattle.std.specs.Char.{encode_utf8}
-use Rattle.logos_graph.specs.Characters.{size, Lead, lead, after_lead, after_byte, After, Reads, IsOpen, IsWhole, IsBegun, IsCharOf, IsBeginningOf, IsOfScalars}
+use Rattle.logos_graph.specs.Characters.{size, Lead, lead, after_lead, after_byte, After, Reads, IsOpen, IsWhole, IsBegun, IsOfScalars}
 use Rattle.logos_graph.specs.Core.{Reader, Stands}
-use Rattle.logos_graph.specs.Reader.{Spells, IsCharAt, IsBegunAt, Remainder, Same, IsRest, IsShut, LeadsTo, IsReaderOf}
-use Rattle.logos_graph.proofs.CharacterLemmas.{part_bound, left_bound, lead_middle, Picks, Picks-of_After, IsOpenWith, open_of_whole, left_known, After-map, Reads-map, chars_are_read, beginnings_are_read}
+use Rattle.logos_graph.specs.Reader.{Spells, IsCharAt, IsBegunAt, Same, IsRest, IsShut, IsReaderOf}
+use Rattle.logos_graph.proofs.CharacterLemmas.{part_bound, left_bound, lead_middle, Picks-of_After, IsOpenWith, open_of_whole, left_known, Reads-map, chars_are_read, beginnings_are_read}
 
 option_cases : {A : Type 0} (o : Option A) → (o ≡ None) ⊎ ((x : A) × (o ≡ Some x))
 option_cases None = inl refl
@@ -59,15 +59,21 @@ module _ (c : ℕ → Bool) (l : Reader) (is : IsReaderOf c l) (bytes : List ℕ
   follow_for q x p e (suc n) f h =
       ⊎_elim (λ low. absurd (none-some p (sym (is.no_follow q x h.0 (inl low)) ∙ e)))
       (λ ge. ⊎_elim (λ lt.
-          let small : n < 3 = omega (arith, is.small q h.0, h.1.left) in
-          let to = MatchOption-at_some _ (λ r. (r ≤ l.others) × IsRest (is.rest r) n (after_byte n (is.rest q).has x)) p e
-              (is.follow q n x h.0 h.1.left ge lt) in
-          let same : Same n (after_byte n (is.rest q).has x) (after_byte n f x) = Same-after n (is.rest q).has f x small lt ge h.1.same in
-          (ge, lt, (to.0, record {
+      let small : n < 3 = omega (arith, is.small q h.0, h.1.left) in
+      let to = MatchOption-at_some _ (λ r. (r ≤ l.others) × IsRest (is.rest r) n (after_byte n (is.rest q).has x)) p e
+      (is.follow q n x h.0 h.1.left ge lt) in
+      let same : Same n (after_byte n (is.rest q).has x) (after_byte n f x) = Same-after n (is.rest q).has f x small lt ge h.1.same in (
+        ge,
+        lt,
+        (
+          to.0,
+          record {
             left = to.1.left;
             same = λ o below. to.1.same o below ∙ same o below;
             some = Open-same n _ _ same to.1.some;
-          })))
+          },
+        ),
+      ))
       (λ high. absurd (none-some p (sym (is.no_follow q x h.0 (inr high)) ∙ e)))
       (cases_lt x 0xC0)) (cases_lt x 0x80)
 
@@ -77,9 +83,11 @@ module _ (c : ℕ → Bool) (l : Reader) (is : IsReaderOf c l) (bytes : List ℕ
   Reads-of_Stands i (suc m) p h =
       ⊎_elim
       (λ u. (h.0 ∷ [], (subst (λ k. slice_get bytes k ≡ Some h.0) (sym u.0) h.1, ap suc (sym u.0)), first_for h.0 p (lead h.0) refl u.1))
-      (λ u. let r = Reads-of_Stands i m u.0 u.2 in
-      (r.0 ++ h.0 ∷ [], Spells-snoc bytes r.0 h.0 i m r.1 h.1,
-      Reads-snoc (For p) h.0 c r.0 (Reads-map (For u.0) (Next (For p) h.0) (follow_for u.0 h.0 p u.3) c r.0 r.2)))
+      (λ u. let r = Reads-of_Stands i m u.0 u.2 in (
+        r.0 ++ h.0 ∷ [],
+        Spells-snoc bytes r.0 h.0 i m r.1 h.1,
+        Reads-snoc (For p) h.0 c r.0 (Reads-map (For u.0) (Next (For p) h.0) (follow_for u.0 h.0 p u.3) c r.0 r.2),
+      ))
       h.3
 
   -- the reader stands somewhere with k bytes left
@@ -99,10 +107,10 @@ module _ (c : ℕ → Bool) (l : Reader) (is : IsReaderOf c l) (bytes : List ℕ
       (λ e. absurd (not_shut n _ (MatchOption-at_none (IsShut n (after_byte n (is.rest q).has b)) _ e to)
       (Open-same n _ _ (λ o below. sym (same o below)) some)))
       (λ u. let p = u.0 in
-          let r = MatchOption-at_some _ (λ r. (r ≤ l.others) × IsRest (is.rest r) n (after_byte n (is.rest q).has b)) p u.1 to in
-          walk k i j (suc m) p n (after_byte n f b) bs
-          (r.0, record { left = r.1.left; same = λ o below. r.1.same o below ∙ same o below; some = some })
-          (b, spells.0, r.0, inr (q, for.0, at, u.1)) spells.1 h.2)
+      let r = MatchOption-at_some _ (λ r. (r ≤ l.others) × IsRest (is.rest r) n (after_byte n (is.rest q).has b)) p u.1 to in
+      walk k i j (suc m) p n (after_byte n f b) bs
+      (r.0, record { left = r.1.left; same = λ o below. r.1.same o below ∙ same o below; some = some })
+      (b, spells.0, r.0, inr (q, for.0, at, u.1)) spells.1 h.2)
       (option_cases (l.follow q b))
 
   pub Stands-of_Reads : (k i j : ℕ) (bs : List ℕ) → Spells bytes bs i j → Reads (IsOpenWith k) c bs → StandsWith k i j
@@ -114,7 +122,7 @@ module _ (c : ℕ → Bool) (l : Reader) (is : IsReaderOf c l) (bytes : List ℕ
       ⊎_elim
       (λ e. absurd (not_shut by.left _ (MatchOption-at_none (IsShut by.left (after_lead c by)) _ e to) some))
       (λ u. let r = MatchOption-at_some _ (λ r. (r ≤ l.others) × IsRest (is.rest r) by.left (after_lead c by)) u.0 u.1 to in
-          walk k i j (suc i) u.0 by.left (after_lead c by) bs r (b, spells.0, r.0, inl (refl, u.1)) spells.1 h.2)
+      walk k i j (suc i) u.0 by.left (after_lead c by) bs r (b, spells.0, r.0, inl (refl, u.1)) spells.1 h.2)
       (option_cases (l.first b))
 
   -- the reader matches the characters of its class
@@ -122,11 +130,11 @@ module _ (c : ℕ → Bool) (l : Reader) (is : IsReaderOf c l) (bytes : List ℕ
   leaf_matches proper i j = (
     λ h. let r = Reads-of_Stands i j 0 h in
         let w = (chars_are_read c proper r.0).1
-            (Reads-map (For 0) IsWhole (λ n f u. whole n f u.1) c r.0 r.2) in
+        (Reads-map (For 0) IsWhole (λ n f u. whole n f u.1) c r.0 r.2) in
         record { char = w.char; scalar = w.scalar; within = w.within; spelled = subst (λ bs. Spells bytes bs i j) (sym w.spelled) r.1 },
     λ h. let s = Stands-of_Reads 0 i j (encode_utf8 h.char) h.spelled
-            (Reads-map IsWhole (IsOpenWith 0) open_of_whole c (encode_utf8 h.char)
-            ((chars_are_read c proper (encode_utf8 h.char)).0 (record { char = h.char; scalar = h.scalar; within = h.within; spelled = refl }))) in
+        (Reads-map IsWhole (IsOpenWith 0) open_of_whole c (encode_utf8 h.char)
+        ((chars_are_read c proper (encode_utf8 h.char)).0 (record { char = h.char; scalar = h.scalar; within = h.within; spelled = refl }))) in
         subst (Stands l bytes i j) (is.whole s.0 s.1 s.2) s.3,
   )
     where

@@ -1,9 +1,9 @@
 -- Repetitions and literals written out: what they match.
-use Rattle.std.proofs.Common.{◌≡◌, ℕ, zero, suc, ◌+◌, ◌-◌, ◌<◌, ◌≤◌, ◌↔◌, List, [], ◌∷◌, slice_get, eq-eqb, eqb-true, Option, Some, None, ◌⊎◌, inl, inr, ⊎_elim, refl, sym, ap, ◌∙◌, subst, arith}
+use Rattle.std.proofs.Common.{◌≡◌, ℕ, zero, suc, ◌+◌, ◌-◌, ◌≤◌, List, Option, Some, None, inl, inr, ⊎_elim, refl, sym, subst, arith}
 use Rattle.logos_pattern.specs.Matches.{Pieces, IsCount}
 use Rattle.logos_graph.specs.Core as core
 use Rattle.logos_graph.specs.Core.{Core, Many, none, more, Matches}
-use Rattle.logos_graph.specs.Repeat.{IsOrdered, in_front, up_to, at_least, repeated, spelled}
+use Rattle.logos_graph.specs.Repeat.{IsOrdered, in_front, up_to, at_least, repeated}
 
 pub Pieces-map : (R Q : ℕ → ℕ → Type 0) → ((i j : ℕ) → R i j → Q i j) → (n i j : ℕ) → Pieces R n i j → Pieces Q n i j
 Pieces-map R Q f zero i j h = h

@@ -1,14 +1,14 @@
 -- Which written-out pattern stands for a repetition.
-use Rattle.std.proofs.Common.{◌≡◌, ℕ, zero, suc, ◌+◌, ◌-◌, ◌*◌, ◌^◌, min, max, ◌<◌, ◌≤◌, ◌↔◌, Bool, true, false, List, [], ◌∷◌, Option, Some, None, option_map, IfSome, ◌⊎◌, inl, inr, ⊎_elim, refl, sym, ap, ◌∙◌, subst, arith}
+use Rattle.std.proofs.Common.{◌≡◌, ℕ, zero, suc, ◌+◌, ◌-◌, ◌*◌, ◌^◌, min, ◌<◌, ◌≤◌, Bool, List, Option, Some, None, option_map, IfSome, refl, sym, ap, ◌∙◌, arith}
 use Rattle.std.proofs.Math.Nat.{mul-le-mul_left}
 use Rattle.std.proofs.lemmas.Option.{same_Some}
 use Rattle.logos_pattern.specs.Tree as tree
 use Rattle.logos_pattern.specs.Tree.{Tree}
-use Rattle.logos_pattern.specs.Matches.{Matches, Pieces, IsCount}
+use Rattle.logos_pattern.specs.Matches.{Matches, Pieces}
 use Rattle.logos_graph.specs.Core as core
 use Rattle.logos_graph.specs.Core.{Core, At, width, IsFree}
-use Rattle.logos_graph.specs.Places.{Place, byte_of, member, within, Reads, copies, has_look}
-use Rattle.logos_graph.specs.Repeat.{IsOrdered, count_of, in_front, up_to, at_least, repeated}
+use Rattle.logos_graph.specs.Places.{Place, byte_of, member, within, copies}
+use Rattle.logos_graph.specs.Repeat.{IsOrdered, count_of, in_front, up_to, repeated}
 use Rattle.logos_graph.specs.Size.{size}
 use Rattle.logos_graph.specs.IsCore.{IsCoreOf}
 use Rattle.logos_graph.proofs.CopyLemmas.{TurnReads, repeated-turns, turns-repeated}
@@ -70,10 +70,11 @@ core_repetition least most greedy t c o h = record {
         let k = u.0 in
         let cut = u.4.0 in
         let v = (h.reads bytes cut at u.1).0 u.4.2 in
-        let e = same_copy least most k o u.2 in
-        (within (min (k + 1) (copies least most)) v.0,
-        (k, cut, v.0, u.2, Pieces-map (core.Matches bytes c) (Matches t bytes) (λ x y s. (h.matches bytes x y).0 s) k i cut u.4.1, v.1, refl),
-        rw (v.2, e) (ap Some (sym u.3))),
+        let e = same_copy least most k o u.2 in (
+          within (min (k + 1) (copies least most)) v.0,
+          (k, cut, v.0, u.2, Pieces-map (core.Matches bytes c) (Matches t bytes) (λ x y s. (h.matches bytes x y).0 s) k i cut u.4.1, v.1, refl),
+          rw (v.2, e) (ap Some (sym u.3)),
+        ),
     λ v. let k = v.1.0 in
         let cut = v.1.1 in
         let inner = v.1.2 in

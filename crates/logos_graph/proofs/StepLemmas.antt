@@ -1,12 +1,11 @@
 -- Steps over lists of places.
-use Rattle.std.proofs.Common.{◌≡◌, ℕ, zero, suc, ◌+◌, ◌-◌, ◌*◌, ◌<◌, ◌≤◌, ◌↔◌, ◌⊎◌, ◌||◌, Bool, true, false, IsTrue, List, refl, sym, ap, ◌∙◌, subst, inl, inr, ⊎_elim, arith}
+use Rattle.std.proofs.Common.{◌≡◌, ℕ, zero, suc, ◌+◌, ◌-◌, ◌*◌, ◌<◌, ◌↔◌, ◌⊎◌, ◌||◌, Bool, IsTrue, List, refl, sym, ap, subst, inl, inr, ⊎_elim, arith}
 use Rattle.std.proofs.lemmas.Bool.{or_cases, or_left, or_right}
-use Rattle.logos_graph.specs.Core.{Core, void, empty, byte_in, look, cat, alt, plus, width, Exits, Steps}
-use Rattle.logos_graph.specs.Marks.{IsRising, Has}
-use Rattle.logos_graph.specs.Repeat.{in_front, up_to, at_least, repeated, IsOrdered}
+use Rattle.logos_graph.specs.Core.{Core, empty, cat, alt, plus, width, Exits}
+use Rattle.logos_graph.specs.Marks.{Has}
+use Rattle.logos_graph.specs.Repeat.{in_front, up_to, at_least}
 use Rattle.logos_pattern.specs.declared.pattern.hir.Look.{Look}
-use Rattle.logos_graph.proofs.PlaceLemmas.{Exits-map, Exits-or, Steps-map}
-use Rattle.logos_graph.proofs.WidthLemmas.{width-in_front}
+use Rattle.logos_graph.proofs.PlaceLemmas.{Exits-map, Exits-or}
 
 pub iff_trans : {A B C : Type 0} → A ↔ B → B ↔ C → A ↔ C
 iff_trans f g = (λ a. g.0 (f.0 a), λ c. f.1 (g.1 c))

@@ -1,14 +1,14 @@
 -- How the steps of the parts of a pattern join.
 use Rattle.std.proofs.Common.{◌≡◌, ℕ, zero, suc, ◌+◌, ◌-◌, ◌*◌, ◌<◌, ◌≤◌, ◌↔◌, ◌⊎◌, ◌||◌, Bool, true, false, IsTrue, List, [], ◌∷◌, ◌++◌, refl, sym, ap, ◌∙◌, subst, inl, inr, ⊎_elim, true≢false, arith}
 use Rattle.std.proofs.lemmas.Bool.{or_cases, or_left, or_right}
-use Rattle.logos_graph.specs.Core.{Core, Reader, void, character, empty, byte_in, look, cat, alt, plus, width, Exits, Steps}
-use Rattle.logos_graph.specs.Marks.{IsRising, Has, IsSet}
-use Rattle.logos_graph.specs.Repeat.{in_front, up_to, at_least, repeated, IsOrdered}
+use Rattle.logos_graph.specs.Core.{Core, void, character, empty, byte_in, look, cat, alt, plus, width, Exits, Steps}
+use Rattle.logos_graph.specs.Marks.{Has, IsSet}
+use Rattle.logos_graph.specs.Repeat.{in_front, at_least}
 use Rattle.logos_graph.specs.Stepped.{Stepped, Owes}
 use Rattle.logos_pattern.specs.declared.pattern.hir.Look.{Look}
 use Rattle.logos_graph.proofs.PlaceLemmas.{Exits-map, Steps-map}
 use Rattle.logos_graph.proofs.MarkLemmas.{Has-push, IsSet-push, IsSet-more}
-use Rattle.logos_graph.proofs.StepLemmas.{iff_trans, iff_sym, iff_refl, Exits-iff, Exits-past, exits_cat, exits_alt}
+use Rattle.logos_graph.proofs.StepLemmas.{iff_trans, iff_refl, Exits-past, exits_alt}
 
 pub Steps-below : (t : Core) (test : Look → Bool) (x : ℕ) (M : ℕ → Type 0) (d : Type 0) (p : ℕ) → Steps t test x M d p → p < width t
 Steps-below void test x M d p h = absurd h
@@ -107,8 +107,11 @@ module _ (test : Look → Bool) (x : ℕ) (marks : List ℕ) where
       let out : IsTrue false → ⊥ = λ e. true≢false (sym e) in
       record {
         set = IsSet-more xs base _ (omega arith) set;
-        has = λ q. (λ h. inl h, λ h. ⊎_elim (λ u. u)
-            (λ u. absurd (Steps-void t test x (q - base) (Steps-map t test x _ _ _ ⊥ (q - base) none out u.1))) h);
+        has = λ q. (
+          λ h. inl h,
+          λ h. ⊎_elim (λ u. u)
+              (λ u. absurd (Steps-void t test x (q - base) (Steps-map t test x _ _ _ ⊥ (q - base) none out u.1))) h,
+        );
         leaves = (λ e. absurd (out e), λ h. absurd (Exits-void t test (Exits-map t test _ _ _ ⊥ none out h)));
       }
 
@@ -132,15 +135,24 @@ module _ (test : Look → Bool) (x : ℕ) (marks : List ℕ) where
           placed = omega (arith, h.placed);
           set = rw e s.set;
           has = λ q. iff_trans
-              ((λ u. ⊎_elim (λ v. ⊎_elim inl (λ k. inr (k.0, inl (Steps-below a test x _ _ (q - start) k.1, k.1))) ((s.has q).0 v))
-              (λ v. inr (omega (arith, v.0), inr (omega (arith, v.0),
-              (Steps-iff rest test x _ _ _ _ (q - (start + w)) (q - start - width a) (omega (arith, v.0))
-              (λ p lt. moved _ _ (omega arith)) s.leaves).0 v.1))) u,
-              λ u. ⊎_elim (λ v. inl ((s.has q).1 (inl v)))
-              (λ v. ⊎_elim (λ k. inl ((s.has q).1 (inr (v.0, k.1))))
-              (λ k. inr (omega (arith, v.0, k.0),
-              (Steps-iff rest test x _ _ _ _ (q - (start + w)) (q - start - width a) (omega (arith, v.0, k.0))
-              (λ p lt. moved _ _ (omega arith)) s.leaves).1 k.1)) v.1) u))
+              ((
+                λ u. ⊎_elim (λ v. ⊎_elim inl (λ k. inr (k.0, inl (Steps-below a test x _ _ (q - start) k.1, k.1))) ((s.has q).0 v))
+                    (λ v. inr (
+                      omega (arith, v.0),
+                      inr (
+                        omega (arith, v.0),
+                        (Steps-iff rest test x _ _ _ _ (q - (start + w)) (q - start - width a) (omega (arith, v.0))
+                            (λ p lt. moved _ _ (omega arith)) s.leaves).0 v.1,
+                      ),
+                    )) u,
+                λ u. ⊎_elim (λ v. inl ((s.has q).1 (inl v)))
+                    (λ v. ⊎_elim (λ k. inl ((s.has q).1 (inr (v.0, k.1))))
+                    (λ k. inr (
+                      omega (arith, v.0, k.0),
+                      (Steps-iff rest test x _ _ _ _ (q - (start + w)) (q - start - width a) (omega (arith, v.0, k.0))
+                          (λ p lt. moved _ _ (omega arith)) s.leaves).1 k.1,
+                    )) v.1) u,
+              ))
               (h.has q);
           leaves = iff_trans (or_iff_right (Exits-past test marks a rest start w (IsTrue left) next is s.leaves)) h.leaves;
         }
@@ -155,9 +167,10 @@ module _ (test : Look → Bool) (x : ℕ) (marks : List ℕ) where
       has = λ q. iff_trans
           (or_iff_right (λ u. (u.0, (Steps-optional rest test x _ _ (q - start)).1 u.1), λ u. (u.0, (Steps-optional rest test x _ _ (q - start)).0 u.1)))
           (h.has q);
-      leaves = iff_trans
-          (λ u. ⊎_elim (λ v. ⊎_elim inl (λ k. inr (inr k)) (or_cases any left v)) (λ v. inr (inl v)) u,
-          λ u. ⊎_elim (λ v. inl (or_left any left v)) (λ v. ⊎_elim inr (λ k. inl (or_right any left k)) v) u)
+      leaves = iff_trans (
+        λ u. ⊎_elim (λ v. ⊎_elim inl (λ k. inr (inr k)) (or_cases any left v)) (λ v. inr (inl v)) u,
+        λ u. ⊎_elim (λ v. inl (or_left any left v)) (λ v. ⊎_elim inr (λ k. inl (or_right any left k)) v) u,
+      )
           h.leaves;
     }
 
@@ -169,9 +182,10 @@ module _ (test : Look → Bool) (x : ℕ) (marks : List ℕ) where
     owes_done rest mid new start left next any h s = record {
       set = rw (← h.placed) s.set;
       has = λ q. iff_trans (s.has q) (h.has q);
-      leaves = iff_trans
-          (λ u. ⊎_elim inl (λ v. inr (s.leaves.0 v)) (or_cases any next u),
-          λ u. ⊎_elim (or_left any next) (λ v. or_right any next (s.leaves.1 v)) u)
+      leaves = iff_trans (
+        λ u. ⊎_elim inl (λ v. inr (s.leaves.0 v)) (or_cases any next u),
+        λ u. ⊎_elim (or_left any next) (λ v. or_right any next (s.leaves.1 v)) u,
+      )
           h.leaves;
     }
 
@@ -223,16 +237,25 @@ module _ (test : Look → Bool) (x : ℕ) (marks : List ℕ) where
   stepped_alt a b old mid new base w entered first second is s r = record {
     set = IsSet-more new _ _ (omega arith) r.set;
     has = λ q. iff_trans (r.has q)
-        ((λ u. ⊎_elim
-        (λ v. ⊎_elim inl (λ k. inr (k.0, inl (Steps-below a test x _ _ (q - base) k.1, k.1))) ((s.has q).0 v))
-        (λ v. inr (omega (arith, v.0), inr (omega (arith, v.0),
-        (Steps-iff b test x _ _ _ _ (q - (base + w)) (q - base - width a) (omega (arith, v.0))
-        (λ p lt. moved _ _ (omega arith)) (iff_refl _)).0 v.1))) u,
-        λ u. ⊎_elim (λ v. inl ((s.has q).1 (inl v)))
-        (λ v. ⊎_elim (λ k. inl ((s.has q).1 (inr (v.0, k.1))))
-        (λ k. inr (omega (arith, v.0, k.0),
-        (Steps-iff b test x _ _ _ _ (q - (base + w)) (q - base - width a) (omega (arith, v.0, k.0))
-        (λ p lt. moved _ _ (omega arith)) (iff_refl _)).1 k.1)) v.1) u));
+        ((
+          λ u. ⊎_elim
+              (λ v. ⊎_elim inl (λ k. inr (k.0, inl (Steps-below a test x _ _ (q - base) k.1, k.1))) ((s.has q).0 v))
+              (λ v. inr (
+                omega (arith, v.0),
+                inr (
+                  omega (arith, v.0),
+                  (Steps-iff b test x _ _ _ _ (q - (base + w)) (q - base - width a) (omega (arith, v.0))
+                      (λ p lt. moved _ _ (omega arith)) (iff_refl _)).0 v.1,
+                ),
+              )) u,
+          λ u. ⊎_elim (λ v. inl ((s.has q).1 (inl v)))
+              (λ v. ⊎_elim (λ k. inl ((s.has q).1 (inr (v.0, k.1))))
+              (λ k. inr (
+                omega (arith, v.0, k.0),
+                (Steps-iff b test x _ _ _ _ (q - (base + w)) (q - base - width a) (omega (arith, v.0, k.0))
+                    (λ p lt. moved _ _ (omega arith)) (iff_refl _)).1 k.1,
+              )) v.1) u,
+        ));
     leaves = exits_alt test marks a b base w (IsTrue entered) first second is s.leaves r.leaves;
   }
 

@@ -1,16 +1,15 @@
 -- Rows of the table.
-use Rattle.std.proofs.Common.{◌≡◌, ℕ, zero, suc, ◌+◌, ◌-◌, ◌*◌, ◌/◌, ◌%◌, slice_index, slice_index_or, ◌<◌, ◌≤◌, ◌⊎◌, Bool, true, false, ◌&&◌, ◌||◌, if◌then◌else◌, List, [], ◌∷◌, ◌++◌, Option, Some, None, length, get_or, slice_get, refl, sym, ap, ◌∙◌, subst, inl, inr, ⊎_elim, true≢false, rules, arith}
+use Rattle.std.proofs.Common.{◌≡◌, ℕ, zero, suc, ◌+◌, ◌-◌, ◌*◌, ◌/◌, ◌%◌, slice_index_or, ◌<◌, ◌≤◌, ◌⊎◌, Bool, true, false, ◌&&◌, ◌||◌, if◌then◌else◌, List, [], ◌∷◌, ◌++◌, Option, Some, None, length, get_or, slice_get, refl, sym, ap, ◌∙◌, subst, inl, inr, ⊎_elim, arith}
 use Rattle.std.proofs.lemmas.Bool.{and_parts, and_from}
 use Rattle.std.proofs.lemmas.Option.{same_Some, get_or_from_slice_get}
 use Rattle.std.proofs.lemmas.List.Sums.{sum_by-drop_more, sum_by-cons}
 use Rattle.std.specs.List.{list_any}
 use Rattle.std.proofs.lemmas.List.{get_or_append_left}
 use Rattle.std.proofs.Math.Seq.{get_or-append_seam}
-use lib.Pointwise.{pointwise, pointwise_decides, bytes_decides}
+use lib.Pointwise.{pointwise, pointwise_decides}
 use lib.Dec.{eqb}
 use Rattle.std.proofs.lemmas.Bool.Decides.{nat_tests}
-use Rattle.logos_graph.specs.Characters.{size, Lead, lead, after_lead, after_byte, IsOpen}
-use Rattle.logos_graph.specs.Reader.{IsShut}
+use Rattle.logos_graph.specs.Characters.{size, Lead, lead, after_lead, after_byte}
 use Rattle.logos_graph.specs.Ranges.{in_ranges, AreParts, from_floor}
 use Rattle.logos_graph.specs.Table.{Row, row_of, IsAt, Grows, AreRests, IsRowFor, Finds, FindsFirst, FindsNext, IsCell, weight, led_to}
 use Rattle.logos_graph.specs.declared.ranges.CharRange.{CharRange}
@@ -232,8 +231,12 @@ one_row : (y : Rest) (x : CharRange) → y.left ≡ 0 → y.offsets.items ≡ x 
 one_row y x e f z = record {
   small = λ i r at. small i r at.key at.is at.same;
   whole = λ i r at l. whole i at.key at.is;
-  end = (row_of y, record { key = y; is = refl; same = refl }, e,
-      ap (λ xs. in_ranges xs 0) f ∙ has_zero x z);
+  end = (
+    row_of y,
+    record { key = y; is = refl; same = refl },
+    e,
+    ap (λ xs. in_ranges xs 0) f ∙ has_zero x z,
+  );
 }
   where
     small : (i : ℕ) (r : Row) (k : Rest) → slice_get (y ∷ []) i ≡ Some k → row_of k ≡ r → r.left ≤ 3

@@ -1,8 +1,7 @@
 -- Texts within bytes, byte by byte.
-use Rattle.std.proofs.Common.{◌≡◌, ℕ, zero, suc, ◌+◌, ◌-◌, ◌<◌, ◌≤◌, ◌↔◌, Bool, true, false, ◌&&◌, List, [], ◌∷◌, length, take, drop, get_or, slice_get, slice_range, Option, Some, None, nat_le, refl, sym, ap, ◌∙◌, subst, arith, add-one, drop-cons}
+use Rattle.std.proofs.Common.{◌≡◌, ℕ, zero, suc, ◌+◌, ◌-◌, ◌≤◌, true, ◌&&◌, List, [], ◌∷◌, length, take, drop, slice_get, slice_range, Some, nat_le, sym, ap, ◌∙◌, subst, arith, drop-cons}
 use Rattle.std.proofs.Math.Seq.{drop-nil}
-use Rattle.std.proofs.lemmas.Option.{slice_get_within, get_or_from_slice_get, slice_get-get_or, same_Some}
-use Rattle.std.proofs.lemmas.List.{length-drop, get_or-drop}
+use Rattle.std.proofs.lemmas.Option.{slice_get_within, get_or_from_slice_get}
 use Rattle.std.proofs.lemmas.List.Folds.{Any-from_list_any, list_any-from_Any}
 use Rattle.std.proofs.lemmas.Bool.{and_parts, and_from}
 use Rattle.std.proofs.lemmas.Bool.Decides.{nat_tests}
@@ -40,6 +39,7 @@ Spells-of_StandsAt bytes text i j h = go text i j h.end h.here
     front : (n : ℕ) (xs : List ℕ) (b : ℕ) (text : List ℕ) → take (suc n) xs ≡ b ∷ text → (rest : List ℕ) × (xs ≡ b ∷ rest) × (take n rest ≡ text)
     front n [] b text e = absurd (cc)
     front n (x ∷ xs) b text e = (xs, cc, cc)
+
     go : (text : List ℕ) (i j : ℕ) → j ≡ i + length text → slice_range bytes i j ≡ text → Spells bytes text i j
     go [] i j e h = omega (arith, e)
     go (b ∷ text) i j e h =

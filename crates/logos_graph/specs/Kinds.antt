@@ -1,5 +1,5 @@
 -- The kind of a byte decides the looks after it.
-use Rattle.std.specs.Prelude.{ℕ, Bool, ◌||◌, ◌==◌, if◌then◌else◌, List, Option, Some, None, slice_get}
+use Rattle.std.specs.Prelude.{ℕ, Bool, ◌||◌, ◌==◌, if◌then◌else◌, List, Option, Some, None}
 use Rattle.std.specs.Char.{is_ascii_alphanumeric}
 use Rattle.logos_pattern.specs.Text.{byte_before, byte_after}
 use Rattle.logos_pattern.specs.Looks.{holds_between}

@@ -19,5 +19,6 @@ pub mod Ranges
 pub mod Table
 pub mod Node
 pub mod IsCore
+pub mod Joined
 pub mod Run
 pub mod View

@@ -1,5 +1,5 @@
 -- What a tree that was made ready stands for.
-use Rattle.std.specs.Prelude.{ℕ, ◌+◌, Bool, true, false, ◌&&◌, ◌==◌, nat_lt, nat_le, List, Option, Some, None}
+use Rattle.std.specs.Prelude.{ℕ, ◌+◌, Bool, true, ◌&&◌, ◌==◌, nat_lt, nat_le, IsTrue, List, [], ◌∷◌, Option, Some, None}
 use Rattle.logos_pattern.specs.Hir.{pairs}
 use Rattle.logos_graph.specs.Graph.{is_in}
 use Rattle.logos_graph.specs.Core as core
@@ -49,3 +49,7 @@ core_of node = (sized_of node).written
 
 abbrev pub is_measured : Node → Bool
 is_measured node = (sized_of node).measured
+
+abbrev pub AreMeasured : List Node → Type 0
+AreMeasured [] = Unit {0}
+AreMeasured (node ∷ nodes) = IsTrue (is_measured node) × AreMeasured nodes

@@ -1,5 +1,5 @@
 -- Ranges of characters, or of offsets in a block.
-use Rattle.std.specs.Prelude.{◌≡◌, ℕ, ◌+◌, ◌<◌, ◌≤◌, Bool, true, false, ◌&&◌, ◌||◌, List, [], ◌∷◌, Option, nat_le}
+use Rattle.std.specs.Prelude.{◌≡◌, ℕ, ◌+◌, ◌<◌, ◌≤◌, Bool, false, ◌&&◌, ◌||◌, List, [], ◌∷◌, Option, nat_le}
 use Rattle.std.specs.Option.{MatchOption}
 use Rattle.logos_graph.specs.declared.ranges.CharRange.{CharRange}
 

@@ -1,10 +1,10 @@
 -- The reader of a character of a class.
-use Rattle.std.specs.Prelude.{◌≡◌, ℕ, zero, suc, ◌+◌, ◌-◌, ◌*◌, ◌<◌, ◌≤◌, ◌⊎◌, Bool, true, false, ◌&&◌, List, [], ◌∷◌, Option, Some, None, slice_get}
+use Rattle.std.specs.Prelude.{◌≡◌, ℕ, suc, ◌<◌, ◌≤◌, ◌⊎◌, Bool, true, false, ◌&&◌, List, [], ◌∷◌, Option, Some, None, slice_get}
 use Rattle.std.specs.Char.{encode_utf8, IsScalar}
 use Rattle.std.specs.Option.{MatchOption}
 use lib.Utf8.{scalar}
 use Rattle.logos_graph.specs.Graph.{is_in}
-use Rattle.logos_graph.specs.Core.{Reader, Stands}
+use Rattle.logos_graph.specs.Core.{Reader}
 use Rattle.logos_graph.specs.Characters.{size, Lead, lead, after_lead, after_byte, IsOpen, IsBeginningOf}
 
 -- the characters of the ranges

@@ -1,5 +1,5 @@
 -- What a step over a list of places does.
-use Rattle.std.specs.Prelude.{◌≡◌, ℕ, ◌+◌, ◌-◌, ◌<◌, ◌≤◌, ◌⊎◌, ◌↔◌, Bool, IsTrue, List}
+use Rattle.std.specs.Prelude.{◌≡◌, ℕ, ◌+◌, ◌-◌, ◌≤◌, ◌⊎◌, ◌↔◌, Bool, IsTrue, List}
 use Rattle.logos_graph.specs.Core.{Core, width, Exits, Steps}
 use Rattle.logos_graph.specs.Marks.{Has, IsSet}
 use Rattle.logos_pattern.specs.declared.pattern.hir.Look.{Look}

@@ -1,8 +1,8 @@
 -- The table of a reader.
-use Rattle.std.specs.Prelude.{◌≡◌, ℕ, zero, suc, ◌+◌, ◌-◌, min, drop, ◌*◌, ◌/◌, ◌%◌, ◌<◌, ◌≤◌, ◌⊎◌, Bool, true, false, ◌&&◌, ◌||◌, if◌then◌else◌, nat_lt, nat_le, List, [], ◌∷◌, Option, Some, None, length, slice_get, slice_index_or}
+use Rattle.std.specs.Prelude.{◌≡◌, ℕ, zero, suc, ◌+◌, ◌-◌, min, drop, ◌*◌, ◌/◌, ◌%◌, ◌<◌, ◌≤◌, Bool, true, false, ◌&&◌, if◌then◌else◌, nat_lt, nat_le, List, Option, Some, None, slice_get, slice_index_or}
 use Rattle.std.specs.List.{sum_by}
 use Rattle.std.specs.Option.{MatchOption}
-use Rattle.logos_graph.specs.Characters.{size, Lead, lead, after_lead, after_byte, IsOpen}
+use Rattle.logos_graph.specs.Characters.{size, Lead, after_lead, after_byte, IsOpen}
 use Rattle.logos_graph.specs.Core.{Reader}
 use Rattle.logos_graph.specs.Reader.{IsShut, Remainder}
 use Rattle.logos_graph.specs.Ranges.{in_ranges}

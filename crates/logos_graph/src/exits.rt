@@ -30,16 +30,31 @@ pub fn exits(node: &Node, marks: &[usize], base: usize, entered: bool, at: Conte
         Node::Bytes(_) => has_mark(marks, base),
         Node::Characters(_) => has_mark(marks, base),
         Node::Look(look) => entered && holds(*look, at),
-        Node::Cat { split, first, second, .. } => {
+        Node::Cat {
+            split,
+            first,
+            second,
+            ..
+        } => {
             let left = exits(first, marks, base, entered, at);
             exits(second, marks, base + *split, left, at)
         }
-        Node::Alt { split, first, second, .. } => {
+        Node::Alt {
+            split,
+            first,
+            second,
+            ..
+        } => {
             let one = exits(first, marks, base, entered, at);
             let other = exits(second, marks, base + *split, entered, at);
             one | other
         }
-        Node::Repeat { least, most, each, body } => exits_repeat(*least, *most, *each, body, marks, base, entered, at),
+        Node::Repeat {
+            least,
+            most,
+            each,
+            body,
+        } => exits_repeat(*least, *most, *each, body, marks, base, entered, at),
     }
 }
 
@@ -57,7 +72,16 @@ fn exits_literal(text: &[u8], marks: &[usize], base: usize, entered: bool) -> bo
 
 /// The same for a repetition of a body of `each` places.
 #[cycle(exits)]
-fn exits_repeat(least: usize, most: Option<usize>, each: usize, body: &Node, marks: &[usize], base: usize, entered: bool, at: Context) -> bool
+fn exits_repeat(
+    least: usize,
+    most: Option<usize>,
+    each: usize,
+    body: &Node,
+    marks: &[usize],
+    base: usize,
+    entered: bool,
+    at: Context,
+) -> bool
     requires fits { base + each * count_of least most < 2 ^ 64 }
     requires count { IsOrdered least most }
     requires each { each ≡ core.width (core_of body.now) }
@@ -68,7 +92,15 @@ fn exits_repeat(least: usize, most: Option<usize>, each: usize, body: &Node, mar
     match most {
         Some(most) => {
             let front = exits_copies(body, each, least, marks, base, entered, at);
-            exits_up_to(body, each, most - least, marks, base + each * least, front, at)
+            exits_up_to(
+                body,
+                each,
+                most - least,
+                marks,
+                base + each * least,
+                front,
+                at,
+            )
         }
         None => {
             if least == 0 {
@@ -84,7 +116,15 @@ fn exits_repeat(least: usize, most: Option<usize>, each: usize, body: &Node, mar
 
 /// The same for `count` copies of the body, before anything else.
 #[cycle(exits)]
-fn exits_copies(body: &Node, each: usize, count: usize, marks: &[usize], base: usize, entered: bool, at: Context) -> bool
+fn exits_copies(
+    body: &Node,
+    each: usize,
+    count: usize,
+    marks: &[usize],
+    base: usize,
+    entered: bool,
+    at: Context,
+) -> bool
     requires fits { base + each * count < 2 ^ 64 }
     requires each { each ≡ core.width (core_of body.now) }
     requires measured { IsTrue (is_measured body.now) }
@@ -103,7 +143,15 @@ fn exits_copies(body: &Node, each: usize, count: usize, marks: &[usize], base: u
 
 /// The same for at most `count` copies of the body.
 #[cycle(exits)]
-fn exits_up_to(body: &Node, each: usize, count: usize, marks: &[usize], base: usize, entered: bool, at: Context) -> bool
+fn exits_up_to(
+    body: &Node,
+    each: usize,
+    count: usize,
+    marks: &[usize],
+    base: usize,
+    entered: bool,
+    at: Context,
+) -> bool
     requires fits { base + each * count < 2 ^ 64 }
     requires each { each ≡ core.width (core_of body.now) }
     requires measured { IsTrue (is_measured body.now) }

@@ -8,6 +8,7 @@ mod exits;
 mod look;
 mod marks;
 mod node;
+mod prepare;
 mod ranges;
 mod step;
 mod table;

@@ -1,7 +1,6 @@
 //! Where a look holds, by what is kept of the byte before.
 ghost use Rattle.std.specs.Prelude.{◌≡◌, Some, is_none};
 ghost use Rattle.logos_graph.specs.Kinds.{side_before, kind_of_byte, test_at, is_word_byte};
-
 ghost use Rattle.logos_pattern.specs.Looks as looks;
 ghost use Rattle.logos_pattern.specs.Looks.{is_byte};
 
@@ -106,8 +105,12 @@ pub fn holds(look: Look, at: Context) -> bool
         Look::End => at.after.is_none(),
         Look::StartLF => is_start(at.before) | is_lf(at.before),
         Look::EndLF => at.after.is_none() | is_this(at.after, b'\n'),
-        Look::StartCRLF => is_start(at.before) | is_lf(at.before) | (is_cr(at.before) & !is_this(at.after, b'\n')),
-        Look::EndCRLF => at.after.is_none() | is_this(at.after, b'\r') | (is_this(at.after, b'\n') & !is_cr(at.before)),
+        Look::StartCRLF => is_start(at.before)
+            | is_lf(at.before)
+            | (is_cr(at.before) & !is_this(at.after, b'\n')),
+        Look::EndCRLF => at.after.is_none()
+            | is_this(at.after, b'\r')
+            | (is_this(at.after, b'\n') & !is_cr(at.before)),
         Look::WordAscii => is_word_before(at.before) != is_word_after(at.after),
         Look::WordAsciiNegate => is_word_before(at.before) == is_word_after(at.after),
     }

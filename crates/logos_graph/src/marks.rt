@@ -63,7 +63,14 @@ fn empty_parts(entered: bool, marks: &[usize], start: usize, each: usize, most: 
 
 /// The first of the copies from `done` on that is entered or holds a mark, of `count` copies of `each` places; `count` if there is
 /// none. The copies begin at `base`, and the one numbered `done` is entered or not.
-pub fn next_copy(entered: bool, marks: &[usize], base: usize, each: usize, done: usize, count: usize) -> usize
+pub fn next_copy(
+    entered: bool,
+    marks: &[usize],
+    base: usize,
+    each: usize,
+    done: usize,
+    count: usize,
+) -> usize
     requires rising { IsRising marks.now }
     requires fits { base + each * count < 2 ^ 64 }
     requires within { done ≤ count }

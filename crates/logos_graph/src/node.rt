@@ -71,6 +71,11 @@ pub fn width(node: &Node) -> usize
         Node::Characters(table) => table.rows,
         Node::Cat { width, .. } => *width,
         Node::Alt { width, .. } => *width,
-        Node::Repeat { least, most, each, .. } => *each * copy_count(*least, *most),
+        Node::Repeat {
+            least,
+            most,
+            each,
+            ..
+        } => *each * copy_count(*least, *most),
     }
 }

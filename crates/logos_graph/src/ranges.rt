@@ -6,9 +6,8 @@ ghost use Rattle.logos_graph.specs.Graph.{is_in};
 ghost use Rattle.logos_graph.specs.Reader.{is_char_in};
 ghost use Rattle.logos_graph.specs.Ranges.{in_range, in_ranges, from_floor, ClipsTo, AreParts};
 
-use std::alloc::{AllocError, Global};
-
 use logos_pattern::pattern::Range;
+use std::alloc::{AllocError, Global};
 
 /// The numbers from `first` to `last`.
 #[derive(Clone, Copy, PartialEq, Eq, Hash)]
@@ -35,7 +34,13 @@ fn clip_range(range: CharRange, floor: u32, start: u32, size: u32) -> Option<Cha
 }
 
 /// Adds the offsets of one range.
-fn push_clip(out: &mut Vec<CharRange>, range: CharRange, floor: u32, start: u32, size: u32) -> Result<(), AllocError>
+fn push_clip(
+    out: &mut Vec<CharRange>,
+    range: CharRange,
+    floor: u32,
+    start: u32,
+    size: u32,
+) -> Result<(), AllocError>
     requires fits { start + size < 2 ^ 32 }
     requires some { 0 < size }
     ensures members { OnOk result ((o : ℕ) → o < size → in_ranges out.new.items o ≡ (in_ranges out.old.items o || from_floor (in_range range) floor start o)) }
@@ -51,7 +56,13 @@ fn push_clip(out: &mut Vec<CharRange>, range: CharRange, floor: u32, start: u32,
 }
 
 /// The offsets of each range.
-pub fn clip(alloc: Global, ranges: &[CharRange], floor: u32, start: u32, size: u32) -> Result<Vec<CharRange>, AllocError>
+pub fn clip(
+    alloc: Global,
+    ranges: &[CharRange],
+    floor: u32,
+    start: u32,
+    size: u32,
+) -> Result<Vec<CharRange>, AllocError>
     requires fits { start + size < 2 ^ 32 }
     requires some { 0 < size }
     ensures members { IfOk result (λ out. (o : ℕ) → o < size → in_ranges out.items o ≡ from_floor (in_ranges ranges.now) floor start o) }

@@ -34,7 +34,14 @@ fn has_byte(ranges: &[Range], byte: u8) -> bool
 }
 
 /// The step on one place that reads one byte of a class, where `fits` says that the class has the byte that comes.
-fn step_byte(fits: bool, byte: u8, marks: &[usize], base: usize, entered: bool, next: &mut Vec<usize>) -> Result<bool, AllocError>
+fn step_byte(
+    fits: bool,
+    byte: u8,
+    marks: &[usize],
+    base: usize,
+    entered: bool,
+    next: &mut Vec<usize>,
+) -> Result<bool, AllocError>
     requires rising { IsRising marks.now }
     requires set { IsSet next.old.items base }
     ensures { IfOk result (λ left. (c : ℕ → Bool) (test : Look → Bool) → c byte ≡ fits →
@@ -49,7 +56,14 @@ fn step_byte(fits: bool, byte: u8, marks: &[usize], base: usize, entered: bool, 
 }
 
 /// The step on a literal.
-fn step_literal(text: &[u8], byte: u8, marks: &[usize], base: usize, entered: bool, next: &mut Vec<usize>) -> Result<bool, AllocError>
+fn step_literal(
+    text: &[u8],
+    byte: u8,
+    marks: &[usize],
+    base: usize,
+    entered: bool,
+    next: &mut Vec<usize>,
+) -> Result<bool, AllocError>
     requires fits { base + length text.now < 2 ^ 64 }
     requires rising { IsRising marks.now }
     requires set { IsSet next.old.items base }
@@ -65,7 +79,12 @@ fn step_literal(text: &[u8], byte: u8, marks: &[usize], base: usize, entered: bo
 }
 
 /// Adds the place of the row, if there is one, of a class whose places begin at `base`.
-fn insert_row(row: Option<usize>, rows: usize, base: usize, next: &mut Vec<usize>) -> Result<(), AllocError>
+fn insert_row(
+    row: Option<usize>,
+    rows: usize,
+    base: usize,
+    next: &mut Vec<usize>,
+) -> Result<(), AllocError>
     requires fits { base + rows < 2 ^ 64 }
     requires set { IsSet next.old.items (base + rows) }
     ensures set { OnOk result (IsSet next.new.items (base + rows)) }
@@ -81,7 +100,14 @@ fn insert_row(row: Option<usize>, rows: usize, base: usize, next: &mut Vec<usize
 }
 
 /// The step on a class of characters.
-fn step_characters(table: &Table, byte: u8, marks: &[usize], base: usize, entered: bool, next: &mut Vec<usize>) -> Result<bool, AllocError>
+fn step_characters(
+    table: &Table,
+    byte: u8,
+    marks: &[usize],
+    base: usize,
+    entered: bool,
+    next: &mut Vec<usize>,
+) -> Result<bool, AllocError>
     requires fits { base + table.now.rows < 2 ^ 64 }
     requires rising { IsRising marks.now }
     requires set { IsSet next.old.items base }
@@ -102,7 +128,15 @@ fn step_characters(table: &Table, byte: u8, marks: &[usize], base: usize, entere
 /// Adds the places of the tree, from `base` on, that read `byte` after `marks`, and says whether the tree can be left before that
 /// byte.
 #[cycle(step)]
-pub fn step(node: &Node, byte: u8, marks: &[usize], base: usize, entered: bool, at: Context, next: &mut Vec<usize>) -> Result<bool, AllocError>
+pub fn step(
+    node: &Node,
+    byte: u8,
+    marks: &[usize],
+    base: usize,
+    entered: bool,
+    at: Context,
+    next: &mut Vec<usize>,
+) -> Result<bool, AllocError>
     requires fits { base + core.width (core_of node.now) < 2 ^ 64 }
     requires measured { IsTrue (is_measured node.now) }
     requires rising { IsRising marks.now }
@@ -119,22 +153,50 @@ pub fn step(node: &Node, byte: u8, marks: &[usize], base: usize, entered: bool, 
         Node::Bytes(ranges) => step_byte(has_byte(ranges, byte), byte, marks, base, entered, next),
         Node::Characters(table) => step_characters(table, byte, marks, base, entered, next),
         Node::Look(look) => Ok(entered && holds(*look, at)),
-        Node::Cat { split, first, second, .. } => {
+        Node::Cat {
+            split,
+            first,
+            second,
+            ..
+        } => {
             let left = step(first, byte, marks, base, entered, at, next)?;
             step(second, byte, marks, base + *split, left, at, next)
         }
-        Node::Alt { split, first, second, .. } => {
+        Node::Alt {
+            split,
+            first,
+            second,
+            ..
+        } => {
             let one = step(first, byte, marks, base, entered, at, next)?;
             let other = step(second, byte, marks, base + *split, entered, at, next)?;
             Ok(one | other)
         }
-        Node::Repeat { least, most, each, body } => step_repeat(*least, *most, *each, body, byte, marks, base, entered, at, next),
+        Node::Repeat {
+            least,
+            most,
+            each,
+            body,
+        } => step_repeat(
+            *least, *most, *each, body, byte, marks, base, entered, at, next,
+        ),
     }
 }
 
 /// The same for a repetition of a body of `each` places.
 #[cycle(step)]
-fn step_repeat(least: usize, most: Option<usize>, each: usize, body: &Node, byte: u8, marks: &[usize], base: usize, entered: bool, at: Context, next: &mut Vec<usize>) -> Result<bool, AllocError>
+fn step_repeat(
+    least: usize,
+    most: Option<usize>,
+    each: usize,
+    body: &Node,
+    byte: u8,
+    marks: &[usize],
+    base: usize,
+    entered: bool,
+    at: Context,
+    next: &mut Vec<usize>,
+) -> Result<bool, AllocError>
     requires fits { base + each * count_of least most < 2 ^ 64 }
     requires count { IsOrdered least most }
     requires each { each ≡ core.width (core_of body.now) }
@@ -146,15 +208,43 @@ fn step_repeat(least: usize, most: Option<usize>, each: usize, body: &Node, byte
     match most {
         Some(most) => {
             let front = step_copies(body, each, least, byte, marks, base, entered, at, next)?;
-            step_up_to(body, each, most - least, byte, marks, base + each * least, front, at, next)
+            step_up_to(
+                body,
+                each,
+                most - least,
+                byte,
+                marks,
+                base + each * least,
+                front,
+                at,
+                next,
+            )
         }
         None => {
             if least == 0 {
                 let last = step_plus(body, byte, marks, base, entered, at, next)?;
                 Ok(last | entered)
             } else {
-                let front = step_copies(body, each, least - 1, byte, marks, base, entered, at, next)?;
-                step_plus(body, byte, marks, base + each * (least - 1), front, at, next)
+                let front = step_copies(
+                    body,
+                    each,
+                    least - 1,
+                    byte,
+                    marks,
+                    base,
+                    entered,
+                    at,
+                    next,
+                )?;
+                step_plus(
+                    body,
+                    byte,
+                    marks,
+                    base + each * (least - 1),
+                    front,
+                    at,
+                    next,
+                )
             }
         }
     }
@@ -162,7 +252,17 @@ fn step_repeat(least: usize, most: Option<usize>, each: usize, body: &Node, byte
 
 /// The same for `count` copies of the body, before anything else.
 #[cycle(step)]
-fn step_copies(body: &Node, each: usize, count: usize, byte: u8, marks: &[usize], base: usize, entered: bool, at: Context, next: &mut Vec<usize>) -> Result<bool, AllocError>
+fn step_copies(
+    body: &Node,
+    each: usize,
+    count: usize,
+    byte: u8,
+    marks: &[usize],
+    base: usize,
+    entered: bool,
+    at: Context,
+    next: &mut Vec<usize>,
+) -> Result<bool, AllocError>
     requires fits { base + each * count < 2 ^ 64 }
     requires each { each ≡ core.width (core_of body.now) }
     requires measured { IsTrue (is_measured body.now) }
@@ -181,7 +281,17 @@ fn step_copies(body: &Node, each: usize, count: usize, byte: u8, marks: &[usize]
 
 /// The same for at most `count` copies of the body.
 #[cycle(step)]
-fn step_up_to(body: &Node, each: usize, count: usize, byte: u8, marks: &[usize], base: usize, entered: bool, at: Context, next: &mut Vec<usize>) -> Result<bool, AllocError>
+fn step_up_to(
+    body: &Node,
+    each: usize,
+    count: usize,
+    byte: u8,
+    marks: &[usize],
+    base: usize,
+    entered: bool,
+    at: Context,
+    next: &mut Vec<usize>,
+) -> Result<bool, AllocError>
     requires fits { base + each * count < 2 ^ 64 }
     requires each { each ≡ core.width (core_of body.now) }
     requires measured { IsTrue (is_measured body.now) }
@@ -202,7 +312,15 @@ fn step_up_to(body: &Node, each: usize, count: usize, byte: u8, marks: &[usize],
 
 /// The same for one or more of the body.
 #[cycle(step)]
-fn step_plus(body: &Node, byte: u8, marks: &[usize], base: usize, entered: bool, at: Context, next: &mut Vec<usize>) -> Result<bool, AllocError>
+fn step_plus(
+    body: &Node,
+    byte: u8,
+    marks: &[usize],
+    base: usize,
+    entered: bool,
+    at: Context,
+    next: &mut Vec<usize>,
+) -> Result<bool, AllocError>
     requires fits { base + core.width (core_of body.now) < 2 ^ 64 }
     requires measured { IsTrue (is_measured body.now) }
     requires rising { IsRising marks.now }

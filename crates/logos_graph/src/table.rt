@@ -6,12 +6,11 @@ ghost use Rattle.logos_graph.specs.Table as table;
 ghost use Rattle.logos_graph.specs.Reader.{is_char_in, IsReaderOf};
 ghost use Rattle.logos_pattern.specs.Hir.{pairs};
 
-use std::alloc::{AllocError, Global};
-
-use crate::ranges::{CharRange, clip, scalars};
 use crate::char_table::Table;
+use crate::ranges::{CharRange, clip, scalars};
 use indexmap::IndexSet;
 use logos_pattern::pattern::Range;
+use std::alloc::{AllocError, Global};
 
 /// What is left of a character that is begun: so many bytes, and the offsets in the block that they pick from.
 #[derive(PartialEq, Eq, Hash, Drop)]
@@ -33,7 +32,11 @@ fn number_of(rests: &mut IndexSet<Rest>, rest: Rest) -> Result<usize, AllocError
 }
 
 /// The row for these offsets, if there are any.
-fn place(rests: &mut IndexSet<Rest>, left: u8, offsets: Vec<CharRange>) -> Result<Option<usize>, AllocError>
+fn place(
+    rests: &mut IndexSet<Rest>,
+    left: u8,
+    offsets: Vec<CharRange>,
+) -> Result<Option<usize>, AllocError>
     requires small { left ≤ 3 }
     requires parts { AreParts (size left) offsets.items }
     requires rests { table.AreRests rests.old.keys }
@@ -54,7 +57,14 @@ fn place(rests: &mut IndexSet<Rest>, left: u8, offsets: Vec<CharRange>) -> Resul
 }
 
 /// The row for the members from `floor` on in a block from `start` on, if there is any.
-fn row_for(alloc: Global, rests: &mut IndexSet<Rest>, left: u8, ranges: &[CharRange], floor: u32, start: u32) -> Result<Option<usize>, AllocError>
+fn row_for(
+    alloc: Global,
+    rests: &mut IndexSet<Rest>,
+    left: u8,
+    ranges: &[CharRange],
+    floor: u32,
+    start: u32,
+) -> Result<Option<usize>, AllocError>
     requires small { left ≤ 3 }
     requires fits { start + size left < 2 ^ 32 }
     requires rests { table.AreRests rests.old.keys }
@@ -69,7 +79,12 @@ fn row_for(alloc: Global, rests: &mut IndexSet<Rest>, left: u8, ranges: &[CharRa
 }
 
 /// The row after a first byte, if there is any.
-fn first_for(alloc: Global, rests: &mut IndexSet<Rest>, ranges: &[CharRange], byte: u8) -> Result<Option<usize>, AllocError>
+fn first_for(
+    alloc: Global,
+    rests: &mut IndexSet<Rest>,
+    ranges: &[CharRange],
+    byte: u8,
+) -> Result<Option<usize>, AllocError>
     requires rests { table.AreRests rests.old.keys }
     ensures grows { OnOk result (table.Grows rests.old.keys rests.new.keys) }
     ensures longer { OnOk result (length rests.old.keys ≤ length rests.new.keys) }
@@ -108,7 +123,12 @@ fn after(alloc: Global, rest: &Rest, left: u8, part: u32) -> Result<Vec<CharRang
 }
 
 /// The row after the byte at `part` of the 64, if there is any.
-fn next_for(alloc: Global, rests: &mut IndexSet<Rest>, row: usize, part: u32) -> Result<Option<usize>, AllocError>
+fn next_for(
+    alloc: Global,
+    rests: &mut IndexSet<Rest>,
+    row: usize,
+    part: u32,
+) -> Result<Option<usize>, AllocError>
     requires rests { table.AreRests rests.old.keys }
     requires part { part < 64 }
     ensures grows { OnOk result (table.Grows rests.old.keys rests.new.keys) }
@@ -143,7 +163,11 @@ fn block_size(left: u8) -> u32
 }
 
 /// The rows after all first bytes.
-fn first_cells(alloc: Global, rests: &mut IndexSet<Rest>, ranges: &[CharRange]) -> Result<Vec<Option<usize>>, AllocError>
+fn first_cells(
+    alloc: Global,
+    rests: &mut IndexSet<Rest>,
+    ranges: &[CharRange],
+) -> Result<Vec<Option<usize>>, AllocError>
     requires rests { table.AreRests rests.old.keys }
     ensures rests { OnOk result (table.AreRests rests.new.keys) }
     ensures long { IfOk result (λ cells. vec_len cells ≡ 256) }
@@ -159,7 +183,12 @@ fn first_cells(alloc: Global, rests: &mut IndexSet<Rest>, ranges: &[CharRange]) 
 }
 
 /// Adds the rows after one row and each byte that goes on.
-fn follow_row(alloc: Global, rests: &mut IndexSet<Rest>, row: usize, cells: &mut Vec<Option<usize>>) -> Result<(), AllocError>
+fn follow_row(
+    alloc: Global,
+    rests: &mut IndexSet<Rest>,
+    row: usize,
+    cells: &mut Vec<Option<usize>>,
+) -> Result<(), AllocError>
     requires rests { table.AreRests rests.old.keys }
     requires there { row < length rests.old.keys }
     requires long { vec_len cells.old ≡ 64 * row }

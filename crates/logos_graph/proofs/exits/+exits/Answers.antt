@@ -1,13 +1,11 @@
-use Rattle.std.proofs.Common.{◌≡◌, ℕ, suc, ◌+◌, ◌-◌, ◌*◌, ◌<◌, ◌≤◌, ◌^◌, ◌↔◌, inr, ⊎_elim, IsTrue, true, false, true≢false, refl, sym, ap, ap₂, ◌∙◌, subst, arith, rules}
+use Rattle.std.proofs.Common.{◌≡◌, ◌+◌, ◌-◌, ◌*◌, inr, ⊎_elim, IsTrue, false, true≢false, sym, ap, ◌∙◌, arith, rules}
 use Rattle.logos_graph.specs.Core as core
 use Rattle.logos_graph.specs.Core.{Core, width, Exits}
 use Rattle.logos_graph.specs.Kinds.{test_at}
-use Rattle.logos_graph.specs.Marks.{Has}
-use Rattle.logos_graph.specs.Node.{core_of, is_measured}
-use Rattle.logos_graph.specs.Repeat.{IsOrdered, count_of, in_front, up_to, repeated}
+use Rattle.logos_graph.specs.Node.{core_of}
 use Rattle.logos_graph.specs.declared.node.Node.{the_lemmas}
 use Rattle.logos_graph.proofs.NodeLemmas.{core-Literal, core-Cat, core-Alt, core-Repeat, width-Literal, width-Cat, width-Alt, pair-Cat, pair-Alt, repeat-Repeat, width-Repeat}
-use Rattle.logos_graph.proofs.StepLemmas.{iff_trans, iff_sym, iff_refl, exits_cat, exits_alt, exits_star}
+use Rattle.logos_graph.proofs.StepLemmas.{iff_trans, exits_cat, exits_alt}
 use Rattle.logos_graph.proofs.SteppedLemmas.{at_least-some}
 use Rattle.logos_graph.proofs.JumpLemmas.{exits_nothing, front_step, front_skip, up_to_step, up_to_skip}
 use Rattle.logos_graph.proofs.exits.+exits.Goals as goal

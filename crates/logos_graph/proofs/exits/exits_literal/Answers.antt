@@ -1,9 +1,7 @@
-use Rattle.std.proofs.Common.{◌≡◌, ℕ, ◌+◌, ◌-◌, ◌<◌, ◌==◌, Bool, true, false, IsTrue, List, [], ◌∷◌, length, sym, ap, ◌∙◌, subst, arith, eqb-true}
+use Rattle.std.proofs.Common.{◌≡◌, ℕ, ◌+◌, ◌-◌, ◌<◌, ◌==◌, false, IsTrue, [], length, sym, ◌∙◌, arith, eqb-true}
 use Rattle.std.proofs.lemmas.List.{nil_from_length}
 use Rattle.std.proofs.lemmas.Bool.Decides.{nat_tests}
-use Rattle.logos_graph.specs.Core.{Exits}
 use Rattle.logos_graph.specs.Marks.{Has}
-use Rattle.logos_graph.specs.Repeat.{spelled}
 use Rattle.logos_graph.proofs.StepLemmas.{iff_trans, iff_refl}
 use Rattle.logos_graph.proofs.JumpLemmas.{exits_spelled}
 use Rattle.logos_graph.proofs.exits.exits_literal.Goals as goal

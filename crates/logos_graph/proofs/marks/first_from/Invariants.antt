@@ -6,7 +6,7 @@ invariant-loop-low l = record {
   order : l.low ≤ l.high;
   within : l.high ≤ length l.marks;
   below : (k : ℕ) → k < l.low → get_or l.marks k 0 < l.from;
-  above : (k : ℕ) → l.high ≤ k → k < length l.marks → l.from ≤ get_or l.marks k 0
+  above : (k : ℕ) → l.high ≤ k → k < length l.marks → l.from ≤ get_or l.marks k 0;
 }
 
 abbrev pub decreases-loop-low : goal.decreases-loop-low

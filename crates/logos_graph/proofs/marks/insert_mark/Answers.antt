@@ -1,5 +1,4 @@
-use Rattle.std.proofs.Common.{◌≡◌, ℕ, ◌<◌, ◌↔◌, ◌⊎◌, IsTrue, true, length, slice_index, sym, ap, ◌∙◌, subst, true≢false}
-use Rattle.logos_graph.specs.Marks.{IsRising, IsFirstFrom, Has}
+use Rattle.std.proofs.Common.{sym, ◌∙◌, true≢false}
 use Rattle.logos_graph.proofs.MarkLemmas.{IsRising-insert, Has-insert, Has-there}
 use Rattle.logos_graph.proofs.marks.insert_mark.Goals as goal
 

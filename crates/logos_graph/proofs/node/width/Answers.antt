@@ -1,7 +1,5 @@
-use Rattle.std.proofs.Common.{◌≡◌, ◌*◌, ◌<◌, ◌^◌, ap, sym, ◌∙◌, arith}
-use Rattle.logos_graph.specs.Core as core
-use Rattle.logos_graph.specs.Node.{core_of}
-use Rattle.logos_graph.proofs.NodeLemmas.{width-Literal, width-Characters, width-Cat, width-Alt, width-Repeat}
+use Rattle.std.proofs.Common.{◌∙◌, arith}
+use Rattle.logos_graph.proofs.NodeLemmas.{width-Literal, width-Cat, width-Alt, width-Repeat}
 use Rattle.logos_graph.proofs.node.width.Goals as goal
 
 pub overflow_mul-result : goal.overflow_mul-result

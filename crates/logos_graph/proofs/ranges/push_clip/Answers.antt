@@ -1,5 +1,5 @@
-use Rattle.std.proofs.Common.{◌≡◌, ℕ, ◌||◌, List, refl, sym, ap, ◌∙◌}
-use Rattle.logos_graph.specs.Ranges.{in_range, in_ranges, from_floor, AreParts}
+use Rattle.std.proofs.Common.{◌||◌, ap, ◌∙◌}
+use Rattle.logos_graph.specs.Ranges.{in_ranges}
 use Rattle.logos_graph.proofs.RangeLemmas.{in_ranges-push, AreParts-push}
 use Rattle.logos_graph.proofs.ranges.push_clip.Goals as goal
 

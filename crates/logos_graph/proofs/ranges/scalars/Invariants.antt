@@ -1,7 +1,5 @@
-use Rattle.std.proofs.Common.{◌≡◌, ℕ, ◌&&◌, ◌||◌, drop}
-use lib.Utf8.{scalar}
+use Rattle.std.proofs.Common.{◌≡◌, ℕ, ◌||◌, drop}
 use Rattle.logos_pattern.specs.Hir.{pairs}
-use Rattle.logos_graph.specs.Graph.{is_in}
 use Rattle.logos_graph.specs.Reader.{is_char_in}
 use Rattle.logos_graph.specs.Ranges.{in_ranges}
 use Rattle.logos_graph.proofs.ranges.scalars.Given as goal

@@ -1,4 +1,4 @@
-use Rattle.std.proofs.Common.{Bool, ◌≡◌, ℕ, suc, ◌+◌, ◌-◌, ◌*◌, ◌<◌, ◌≤◌, ◌^◌, ◌||◌, IsTrue, true, false, true≢false, refl, sym, ap, ◌∙◌, subst, arith, rules}
+use Rattle.std.proofs.Common.{Bool, ◌≡◌, ℕ, ◌+◌, ◌-◌, ◌*◌, ◌≤◌, false, true≢false, sym, ap, ◌∙◌, arith, rules}
 use Rattle.std.proofs.Math.Nat.{mul-le-mul_left}
 use Rattle.std.proofs.lemmas.Result.{IfOk-weaker}
 use Rattle.logos_pattern.specs.Hir.{pairs}
@@ -7,14 +7,14 @@ use Rattle.logos_graph.specs.Graph.{is_in}
 use Rattle.logos_graph.specs.Core as core
 use Rattle.logos_graph.specs.Core.{Core, width}
 use Rattle.logos_graph.specs.Kinds.{test_at}
-use Rattle.logos_graph.specs.Node.{core_of, is_measured}
-use Rattle.logos_graph.specs.Repeat.{IsOrdered, spelled, count_of, in_front, up_to, repeated}
-use Rattle.logos_graph.specs.Stepped.{Stepped, Owes}
+use Rattle.logos_graph.specs.Node.{core_of}
+use Rattle.logos_graph.specs.Repeat.{in_front, up_to}
+use Rattle.logos_graph.specs.Stepped.{Stepped}
 use Rattle.logos_graph.specs.Table.{reader_of}
 use Rattle.logos_graph.specs.declared.node.Node.{the_lemmas}
-use Rattle.logos_graph.proofs.NodeLemmas.{core-Literal, core-Bytes, core-Characters, core-Cat, core-Alt, core-Repeat, width-Literal, width-Cat, width-Alt, pair-Cat, pair-Alt, repeat-Repeat, width-Repeat}
+use Rattle.logos_graph.proofs.NodeLemmas.{core-Bytes, core-Characters, core-Cat, core-Alt, width-Literal, pair-Cat, pair-Alt, repeat-Repeat, width-Repeat}
 use Rattle.logos_graph.proofs.StepLemmas.{again_iff}
-use Rattle.logos_graph.proofs.SteppedLemmas.{stepped_nothing, stepped_empty, stepped_cat, stepped_alt, stepped_plus, owes_all, owes_done, at_least-some}
+use Rattle.logos_graph.proofs.SteppedLemmas.{stepped_nothing, stepped_cat, stepped_alt, stepped_plus, owes_all, owes_done, at_least-some}
 use Rattle.logos_graph.proofs.OweLemmas.{owes_front_step, owes_front_skip, owes_up_to_step, owes_up_to_skip}
 use Rattle.logos_graph.proofs.step.+step.Goals as goal
 

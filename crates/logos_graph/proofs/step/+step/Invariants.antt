@@ -1,4 +1,4 @@
-use Rattle.std.proofs.Common.{◌≡◌, ℕ, ◌+◌, ◌-◌, ◌*◌, ◌<◌, ◌≤◌, ◌↔◌, ◌⊎◌, false, IsTrue}
+use Rattle.std.proofs.Common.{◌+◌, ◌-◌, ◌*◌, ◌≤◌, false}
 use Rattle.logos_graph.specs.Core.{Core}
 use Rattle.logos_graph.specs.Kinds.{test_at}
 use Rattle.logos_graph.specs.Node.{core_of}
@@ -10,14 +10,14 @@ abbrev pub invariant-step_copies-loop-done : goal.invariant-step_copies-loop-don
 invariant-step_copies-loop-done l = record {
   within : l.done ≤ l.count;
   owes : (b : Core) → Owes (in_front l.count (core_of l.body) b) (in_front (l.count - l.done) (core_of l.body) b)
-      (test_at l.at) l.byte l.marks l.initial.next.items l.next.items l.base (l.base + l.each * l.done) l.entered l.left false
+      (test_at l.at) l.byte l.marks l.initial.next.items l.next.items l.base (l.base + l.each * l.done) l.entered l.left false;
 }
 
 abbrev pub invariant-step_up_to-loop-done : goal.invariant-step_up_to-loop-done
 invariant-step_up_to-loop-done l = record {
   within : l.done ≤ l.count;
   owes : Owes (up_to l.count (core_of l.body)) (up_to (l.count - l.done) (core_of l.body))
-      (test_at l.at) l.byte l.marks l.initial.next.items l.next.items l.base (l.base + l.each * l.done) l.entered l.left l.any
+      (test_at l.at) l.byte l.marks l.initial.next.items l.next.items l.base (l.base + l.each * l.done) l.entered l.left l.any;
 }
 
 abbrev pub decreases-step_copies-loop-done : goal.decreases-step_copies-loop-done

@@ -1,6 +1,4 @@
-use Rattle.std.proofs.Common.{◌≡◌, ℕ, suc, ◌+◌, ◌-◌, ◌<◌, ◌≤◌, List, length, slice_index, refl, sym, ap, ◌∙◌, subst, arith, rules}
-use Rattle.logos_graph.specs.Core.{Reader}
-use Rattle.logos_graph.specs.Marks.{IsFirstFrom}
+use Rattle.std.proofs.Common.{◌≡◌, ℕ, suc, ◌+◌, ◌-◌, ◌<◌, ◌≤◌, List, length, slice_index, arith}
 use Rattle.logos_graph.specs.Table.{reader_of}
 use Rattle.logos_graph.proofs.CharStepLemmas.{StartsFrom, followed_more, followed_all, marks_past}
 use Rattle.logos_graph.proofs.step.step_characters.Goals as goal

@@ -1,10 +1,8 @@
-use Rattle.std.proofs.Common.{◌≡◌, ℕ, ◌+◌, ◌-◌, ◌*◌, ◌<◌, ◌≤◌, ◌==◌, ◌||◌, Bool, false, length, drop, get_or, [], ◌∷◌, List, refl, sym, ap, ◌∙◌, subst, arith, rules}
+use Rattle.std.proofs.Common.{◌≡◌, ◌+◌, ◌==◌, false, drop, get_or, [], refl, arith}
 use Rattle.std.proofs.Math.ListN.{drop_of_length-le}
-use Rattle.std.proofs.lemmas.Bool.Decides.{nat_tests}
 use Rattle.logos_graph.specs.Core.{empty}
 use Rattle.logos_graph.specs.Repeat.{spelled}
 use Rattle.logos_graph.specs.Stepped.{Owes}
-use Rattle.logos_pattern.specs.declared.pattern.hir.Look.{Look}
 use Rattle.logos_graph.proofs.SteppedLemmas.{owes_all, owes_done, stepped_empty}
 use Rattle.logos_graph.proofs.OweLemmas.{owes_spelled_step, owes_spelled_skip}
 use Rattle.logos_graph.proofs.step.step_literal.Goals as goal
@@ -22,7 +20,6 @@ loop-done-init c =
 
 pub step_byte-requires-clause-set : goal.step_byte-requires-clause-set
 step_byte-requires-clause-set c = (c.loop-done.invariant.owes (λ l. false)).set
-
 
 pub loop-done-preserved : goal.loop-done-preserved
 loop-done-preserved c =

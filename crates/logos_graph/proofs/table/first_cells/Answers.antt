@@ -1,4 +1,4 @@
-use Rattle.std.proofs.Common.{◌≡◌, ℕ, ◌<◌, sym, ap, ◌∙◌, refl, rules, arith}
+use Rattle.std.proofs.Common.{sym, ◌∙◌, arith}
 use Rattle.logos_graph.specs.Ranges.{in_ranges}
 use Rattle.logos_graph.proofs.TableLemmas.{first_more}
 use Rattle.logos_graph.proofs.table.first_cells.Goals as goal

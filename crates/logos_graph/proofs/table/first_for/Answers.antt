@@ -1,6 +1,6 @@
-use Rattle.std.proofs.Common.{ℕ, ◌+◌, ◌≤◌, arith}
+use Rattle.std.proofs.Common.{◌+◌, ◌≤◌, arith}
 use Rattle.std.proofs.lemmas.Result.{on_ok_weaker}
-use Rattle.logos_graph.specs.Table.{weight, first_weight}
+use Rattle.logos_graph.specs.Table.{weight}
 use Rattle.logos_graph.proofs.table.first_for.Goals as goal
 
 pub returns-then-value-lt128-clause-weight : goal.returns-then-value-lt128-clause-weight

@@ -1,5 +1,4 @@
-use Rattle.std.proofs.Common.{◌≡◌, ℕ, ◌+◌, ◌*◌, ◌<◌, ◌≤◌, length, vec_len, sym, ap, ◌∙◌, refl, rules, arith}
-use Rattle.logos_graph.specs.Table as table
+use Rattle.std.proofs.Common.{arith}
 use Rattle.logos_graph.proofs.TableLemmas.{Grows-then}
 use Rattle.logos_graph.proofs.table.follow_cells.Goals as goal
 

@@ -1,4 +1,4 @@
-use Rattle.std.proofs.Common.{◌≡◌, ℕ, ◌+◌, ◌-◌, ◌*◌, ◌<◌, ◌≤◌, length, vec_len}
+use Rattle.std.proofs.Common.{◌≡◌, ℕ, ◌+◌, ◌*◌, ◌<◌, ◌≤◌, length, vec_len}
 use Rattle.logos_graph.specs.Table as table
 use Rattle.logos_graph.proofs.table.follow_cells.Given as goal
 
@@ -9,7 +9,7 @@ invariant-loop-row l = record {
   rests : table.AreRests l.rests.keys;
   grows : table.Grows l.fn.rests.keys l.rests.keys;
   cells : (j : ℕ) → j < 64 * l.row → table.IsCell l.rests.keys l.cells.items j;
-  weight : l.row + table.weight l.row l.rests.keys ≤ 34_361
+  weight : l.row + table.weight l.row l.rests.keys ≤ 34_361;
 }
 
 abbrev pub decreases-loop-row : goal.decreases-loop-row

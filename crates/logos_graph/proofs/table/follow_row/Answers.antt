@@ -1,4 +1,4 @@
-use Rattle.std.proofs.Common.{◌≡◌, ℕ, ◌+◌, ◌-◌, ◌*◌, ◌/◌, ◌%◌, ◌<◌, ◌≤◌, length, vec_len, sym, ap, ◌∙◌, subst, refl, rules, arith}
+use Rattle.std.proofs.Common.{◌≡◌, ℕ, ◌+◌, ◌-◌, ◌*◌, ◌/◌, ◌%◌, ◌<◌, ◌≤◌, length, vec_len, sym, subst, arith}
 use Rattle.logos_graph.specs.Table as table
 use Rattle.logos_graph.proofs.TableLemmas.{cells_at, Grows-then, row_weight}
 use Rattle.logos_graph.proofs.table.follow_row.Goals as goal
@@ -22,7 +22,7 @@ loop-part-preserved c =
           (cells_at c.loop-part.rests.keys _ c.loop-part.cells.items (vec_len c.loop-part.cells) (64 * row + part) c.in_ok-to.to
           (sym i.long) c.loop-part.cells.ok.0 there c.in_ok-to.ensures.grows i.cells
           (λ r at. let at' : table.IsAt c.loop-part.rests.keys row r = subst (λ k. table.IsAt c.loop-part.rests.keys k r) (sym e.0) at in
-              subst (λ k. table.FindsNext c.next_for.new.rests.keys r r.left (0x80 + k) c.in_ok-to.to) e.1 (c.in_ok-to.ensures.finds r at')));
+          subst (λ k. table.FindsNext c.next_for.new.rests.keys r r.left (0x80 + k) c.in_ok-to.to) e.1 (c.in_ok-to.ensures.finds r at')));
       weight = λ r at. let f = c.in_ok-to.ensures.weight r (i.grows.keeps row r at) (row + 1) in let g = i.weight r at in omega (arith, f, g);
     }
 

@@ -10,5 +10,5 @@ invariant-loop-part l = record {
   grows : table.Grows l.fn.rests.keys l.rests.keys;
   cells : (j : ℕ) → j < vec_len l.cells → table.IsCell l.rests.keys l.cells.items j;
   weight : (r : table.Row) → table.IsAt l.fn.rests.keys l.row r →
-      table.weight (l.row + 1) l.rests.keys ≤ table.weight (l.row + 1) l.fn.rests.keys + l.part * table.led_to (r.left - 1)
+      table.weight (l.row + 1) l.rests.keys ≤ table.weight (l.row + 1) l.fn.rests.keys + l.part * table.led_to (r.left - 1);
 }

@@ -1,4 +1,4 @@
-use Rattle.std.proofs.Common.{OnOk, ◌≡◌, ℕ, suc, ◌+◌, ◌-◌, ◌<◌, ◌≤◌, length, Some, sym, ap, ◌∙◌, subst, refl, rules, arith}
+use Rattle.std.proofs.Common.{OnOk, ◌≡◌, suc, ◌+◌, ◌-◌, ◌≤◌, sym, ap, ◌∙◌, subst, refl, arith}
 use Rattle.std.proofs.lemmas.Option.{same_Some}
 use Rattle.std.proofs.lemmas.Result.{IfOk-weaker}
 use Rattle.logos_graph.specs.Table as table

@@ -1,4 +1,3 @@
-use Rattle.std.proofs.Common.{◌≡◌, Some, sym, ap, ◌∙◌, rules, arith}
 use Rattle.logos_graph.proofs.TableLemmas.{same_row, grows, stay_rests}
 use Rattle.logos_graph.proofs.table.number_of.Goals as goal
 

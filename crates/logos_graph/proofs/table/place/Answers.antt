@@ -1,4 +1,4 @@
-use Rattle.std.proofs.Common.{◌≡◌, ℕ, ◌<◌, length, sym, ap, ◌∙◌, subst, refl, rules, arith}
+use Rattle.std.proofs.Common.{sym, ◌∙◌, refl}
 use Rattle.logos_graph.proofs.TableLemmas.{row_is, end_is, some_items}
 use Rattle.logos_graph.proofs.table.place.Goals as goal
 

@@ -1,4 +1,4 @@
-use Rattle.std.proofs.Common.{◌≡◌, List, [], ◌∷◌, ◌++◌, sym, ap, ◌∙◌, refl, rules, arith}
+use Rattle.std.proofs.Common.{List, [], ◌∷◌, ◌++◌, ap, ◌∙◌, refl}
 use Rattle.logos_graph.specs.declared.ranges.CharRange.{CharRange}
 use Rattle.logos_graph.proofs.TableLemmas.{start_rows, start_weight}
 use Rattle.logos_graph.proofs.table.start.Goals as goal
