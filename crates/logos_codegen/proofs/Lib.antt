@@ -1,0 +1,12 @@
+pub mod ApartLemmas
+pub mod LeafLemmas
+pub mod Listing
+pub mod LiteralLemmas
+pub mod LongestLemmas
+pub mod PickLemmas
+pub mod RunLemmas
+pub mod StopLemmas
+pub mod RefusalLemmas
+pub mod AcceptLemmas
+pub mod FaultLemmas
+pub mod SetLemmas

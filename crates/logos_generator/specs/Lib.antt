@@ -4,3 +4,4 @@ pub mod Runs
 pub mod Items
 pub mod Headline
 pub mod LexerValue
+pub mod Order

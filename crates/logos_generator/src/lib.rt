@@ -2,4 +2,6 @@
 
 #![tactic(auto)]
 
+pub mod generator;
+pub mod laws;
 pub mod machine;

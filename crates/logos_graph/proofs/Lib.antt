@@ -27,3 +27,5 @@ pub mod JumpLemmas
 pub mod CharStepLemmas
 pub mod OweLemmas
 pub mod PrepareLemmas
+pub mod SameMembers
+pub mod OneFaults

@@ -22,3 +22,4 @@ pub mod IsCore
 pub mod Joined
 pub mod Run
 pub mod View
+pub mod Errors

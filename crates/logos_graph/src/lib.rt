@@ -5,6 +5,8 @@
 pub mod byte_class;
 mod char_table;
 mod exits;
+pub mod graph;
+pub mod laws;
 mod look;
 mod marks;
 mod node;

@@ -1,0 +1,4 @@
+pub mod Enum
+pub mod Expected
+pub mod ReadErrors
+pub mod Values

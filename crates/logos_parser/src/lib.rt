@@ -1,3 +1,5 @@
 //! The enum of a lexer, as its tokens say it.
 
 #![tactic(auto)]
+
+pub mod parser;

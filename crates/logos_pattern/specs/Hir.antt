@@ -1,5 +1,5 @@
 -- The tree that a `Hir` holds.
-use Rattle.std.specs.Prelude.{ℕ, List, map}
+use Rattle.std.specs.Prelude.{ℕ, List, [], ◌∷◌, map}
 use Rattle.logos_pattern.specs.declared.pattern.hir.Range.{Range}
 use Rattle.logos_pattern.specs.declared.pattern.hir.Class.{Class}
 use Rattle.logos_pattern.specs.declared.pattern.hir.Class.TheVariants.{Bytes, Characters}
@@ -29,3 +29,8 @@ node_tree (Hir-F.Alternation branches) = alternation (trees branches.items)
 
 abbrev pub tree_of : Hir → Tree
 tree_of = fold-Hir Tree node_tree
+
+-- the tree that matches these bytes
+abbrev pub literal_tree : List ℕ → Tree
+literal_tree [] = empty
+literal_tree (b ∷ bytes) = literal (b ∷ bytes)

@@ -1,8 +1,9 @@
 -- What a leaf's fields say.
-use Rattle.std.specs.Prelude.{Bool, true, false}
+use Rattle.std.specs.Prelude.{ℕ, ◌-◌, ◌*◌, Bool, true, false, List, ◌++◌, length, slice_range, codes, if◌then◌else◌}
 use Rattle.logos_pattern.specs.Tree.{Tree}
 use Rattle.logos_pattern.specs.Hir.{tree_of}
 use Rattle.logos_pattern.specs.declared.pattern.Pattern.{Pattern}
+use Rattle.logos_pattern.specs.declared.leaf.Leaf.{Leaf}
 use Rattle.logos_pattern.specs.declared.leaf.VariantKind.{VariantKind}
 use Rattle.logos_pattern.specs.declared.leaf.VariantKind.TheVariants.{Unit as UnitVariant, Skip}
 
@@ -10,7 +11,36 @@ use Rattle.logos_pattern.specs.declared.leaf.VariantKind.TheVariants.{Unit as Un
 abbrev pub pattern_tree : Pattern → Tree
 pattern_tree pattern = tree_of pattern.hir
 
+-- the text that a pattern was read from
+abbrev pub source_of : Pattern → List ℕ
+source_of pattern = pattern.source.now
+
+-- the pattern is a token's
+abbrev pub is_token : Pattern → Bool
+is_token pattern = pattern.is_literal
+
 -- matches are left out
 abbrev pub is_skip : VariantKind → Bool
 is_skip (UnitVariant name) = false
 is_skip Skip = true
+
+-- the bytes between the quotes of a plain string literal: all but the first and the last one
+abbrev pub inner_text : List ℕ → List ℕ
+inner_text text = slice_range text 1 (length text - 1)
+
+-- the priority of a token by default
+abbrev pub token_value : List ℕ → ℕ
+token_value text = 2 * length (inner_text text)
+
+-- how a pattern prints
+abbrev pub pattern_text : Pattern → List ℕ
+pattern_text pattern = codes "#[" ++ (if is_token pattern then codes "token" else codes "regex") ++ codes "(" ++ source_of pattern ++ codes ")]"
+
+-- how what a match gives prints
+abbrev pub kind_text : VariantKind → List ℕ
+kind_text (UnitVariant name) = codes "::" ++ name.text.now
+kind_text Skip = codes "::<skip>"
+
+-- how a leaf prints
+abbrev pub leaf_text : Leaf → List ℕ
+leaf_text leaf = pattern_text leaf.pattern ++ codes " " ++ kind_text leaf.kind

@@ -1,5 +1,27 @@
-//! The program `logos`.
+//! The program `logos`: it lexes a file by the enum in another.
 
 #![tactic(auto)]
 
-fn main() {}
+mod disk;
+mod run;
+
+use disk::Disk;
+use std::process::ExitCode;
+use std::{env, io};
+
+fn main(rt: HostRuntime) -> io::Result<ExitCode> {
+    let alloc = rt.alloc();
+    let mut words = Vec::new(alloc);
+    for word in env::args(&rt)?.skip(1) {
+        words.push(word)?;
+    }
+    let mut files = Disk { rt: &rt };
+    let status = run::run(
+        alloc,
+        words.as_slice(),
+        &mut files,
+        &mut rt.stdout(),
+        &mut rt.stderr(),
+    );
+    Ok(ExitCode::from(status))
+}

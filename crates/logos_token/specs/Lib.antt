@@ -1,1 +1,10 @@
 pub mod Tokens
+pub mod Lexemes
+pub mod Flat
+pub mod Views
+pub mod Spelling
+pub mod Reading
+pub mod Refusals
+pub mod FaultNames
+pub mod Faults
+pub mod FaultView

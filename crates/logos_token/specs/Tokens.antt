@@ -1,5 +1,5 @@
 -- Token trees: tokens, and groups with the tokens inside them.
-use Rattle.std.specs.Prelude.{ℕ, List, Option, Some, None}
+use Rattle.std.specs.Prelude.{◌≡◌, ℕ, ◌+◌, max, List, Option, Some, None}
 use Rattle.logos_token.specs.declared.token.Span.{Span}
 use Rattle.logos_token.specs.declared.token.Spacing.{Spacing}
 use Rattle.logos_token.specs.declared.token.Delimiter.{Delimiter}
@@ -44,3 +44,41 @@ end_of token (also next rest) = end_of next rest
 abbrev pub run_span : TokenList → Span
 run_span none = record { from = 0; to = 0 }
 run_span (also token rest) = record { from = (span_of token).from; to = end_of token rest }
+
+abbrev mutual
+  -- how many tokens there are in a token, itself and those inside it
+  pub token_count : Token → ℕ
+  token_count (identifier text span) = 1
+  token_count (punctuation character spacing span) = 1
+  token_count (literal text span) = 1
+  token_count (doc text span) = 1
+  token_count (group delimiter span inside) = 1 + count_of inside
+
+  -- how many tokens there are in a run, those inside groups too
+  pub count_of : TokenList → ℕ
+  count_of none = 0
+  count_of (also token rest) = token_count token + count_of rest
+
+-- one run behind another
+abbrev pub append : TokenList → TokenList → TokenList
+append none more = more
+append (also token rest) more = also token (append rest more)
+
+-- the second run is what is left of the first one behind some tokens
+pub record IsRestOf (run rest : TokenList) : Type 0 where
+  pub front : TokenList
+  pub is : run ≡ append front rest
+
+abbrev mutual
+  -- how many groups stand inside one another in a token, itself counted
+  pub token_depth : Token → ℕ
+  token_depth (identifier text span) = 0
+  token_depth (punctuation character spacing span) = 0
+  token_depth (literal text span) = 0
+  token_depth (doc text span) = 0
+  token_depth (group delimiter span inside) = 1 + depth_of inside
+
+  -- how many groups stand inside one another in a run
+  pub depth_of : TokenList → ℕ
+  depth_of none = 0
+  depth_of (also token rest) = max (token_depth token) (depth_of rest)

@@ -2,4 +2,5 @@
 
 #![tactic(auto)]
 
+pub mod error;
 pub mod token;

@@ -1,5 +1,17 @@
 //! Tokens of a source text.
 
+mod entry;
+pub mod lexeme;
+mod literal_text;
+mod reader;
+#[cfg(test)]
+mod tests;
+mod views;
+
+pub use lexeme::LexicalKind;
+pub use reader::{TokenError, spells_once, tokenize};
+pub use views::{Group, TokenIter, TokenStream, TokenTree, Tokens};
+
 /// The bytes of the source from `from` up to `to`, which it leaves out.
 #[derive(Clone, Copy, Debug, PartialEq, Eq)]
 pub struct Span {

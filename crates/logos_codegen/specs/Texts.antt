@@ -1,0 +1,57 @@
+-- The faults that a graph's faults are listed as, with their texts.
+use Rattle.std.specs.Prelude.{ℕ, List, [], ◌∷◌, ◌++◌, codes, flat_map, None, slice_get, if◌then◌else◌, ◌==◌}
+use Rattle.std.specs.Option.{option_map_or}
+use Rattle.std.specs.Fmt.{decimal}
+use Rattle.logos_token.specs.declared.token.Span.{Span}
+use Rattle.logos_token.specs.declared.error.fault_code.FaultCode.{FaultCode}
+use Rattle.logos_token.specs.declared.error.fault_code.FaultCode.TheVariants.{EmptyMatch, Disambiguation, NoUniversalStart}
+use Rattle.logos_token.specs.Faults.{Fault as ListedFault}
+use Rattle.logos_pattern.specs.Leaf.{leaf_text}
+use Rattle.logos_pattern.specs.declared.leaf.Leaf.{Leaf}
+use Rattle.logos_graph.specs.Faults.{Fault, no_universal_start, empty_match, disambiguation}
+
+-- a leaf as a fault names it: its pattern and what it gives, its literal's span, and its priority
+pub record NamedLeaf : Type 0 where
+  pub text : List ℕ
+  pub span : Span
+  pub priority : ℕ
+
+abbrev pub named_leaf : Leaf → NamedLeaf
+named_leaf leaf = record { text = leaf_text leaf; span = leaf.span; priority = leaf.priority }
+
+abbrev pub fault_at : FaultCode → List ℕ → Span → ListedFault
+fault_at code message span = record { code = code; message = message; span = span; also = None }
+
+abbrev pub empty_match_text : NamedLeaf → List ℕ
+empty_match_text leaf = codes "The pattern " ++ leaf.text ++ codes " can match the empty string, which is unsupported by logos."
+
+abbrev pub empty_match_faults : NamedLeaf → List ListedFault
+empty_match_faults leaf = fault_at EmptyMatch (empty_match_text leaf) leaf.span ∷ []
+
+-- the leaf on a line of its own, behind two spaces
+abbrev pub line_of : NamedLeaf → List ℕ
+line_of leaf = codes "\n  " ++ leaf.text
+
+abbrev pub start_text : List ℕ
+start_text = codes "The state machine implementing this lexer is missing a universal start state,which is unsupported by logos. This is most likely do to a lookbehind assertion at the start of the regex."
+
+module _ (leaves : List NamedLeaf) where
+  -- the lines of the leaves of the set without this one
+  abbrev pub other_lines : ℕ → List ℕ → List ℕ
+  other_lines leaf set = flat_map (λ other. if other == leaf then [] else option_map_or line_of (slice_get leaves other) []) set
+
+  abbrev pub disambiguation_text : List ℕ → ℕ → NamedLeaf → List ℕ
+  disambiguation_text set number leaf =
+      codes "The pattern " ++ leaf.text ++ codes " can match simultaneously with the following variants:"
+      ++ other_lines number set ++ (codes "\n\n(all at the priority " ++ decimal leaf.priority ++ codes ")")
+
+  abbrev pub disambiguation_faults : List ℕ → ℕ → List ListedFault
+  disambiguation_faults set number =
+      option_map_or (λ leaf. fault_at Disambiguation (disambiguation_text set number leaf) leaf.span ∷ []) (slice_get leaves number) []
+
+  -- The faults listed for one of the graph: one for an empty match, and one for each leaf of an ambiguous set.
+  -- A missing universal start stands at the item.
+  abbrev pub listed_of : Span → Fault → List ListedFault
+  listed_of item no_universal_start = fault_at NoUniversalStart start_text item ∷ []
+  listed_of item (empty_match leaf) = option_map_or empty_match_faults (slice_get leaves leaf) []
+  listed_of item (disambiguation set) = flat_map (disambiguation_faults set) set

@@ -1,0 +1,47 @@
+-- Items are in order.
+use Rattle.std.proofs.Common.{ℕ, ◌<◌, ◌≤◌, Bool, true, false, List, [], ◌∷◌, ◌++◌, length, map, slice_range, if◌then◌else◌, arith}
+use Rattle.std.proofs.lemmas.List.{length-drop}
+use Rattle.std.proofs.lemmas.Str.{IsCharBoundary-end}
+use Rattle.logos_graph.specs.Munch.{Use, Rule, IsBest, IsStop}
+use Rattle.logos_graph.proofs.Unique.{rule_within}
+use Rattle.logos_generator.specs.declared.machine.Action.{Action}
+use Rattle.logos_generator.specs.declared.machine.Action.TheVariants.{Emit, Skip, Error}
+use Rattle.logos_generator.specs.Items.{Callback, Item, token, error, items_of, over, match, fault, Items}
+use Rattle.logos_generator.specs.Order.{AreInOrder}
+
+-- what is in order from a place on is so from an earlier one on
+pub in_order_earlier : (end at before : ℕ) (items : List Item) → before ≤ at → AreInOrder end at items → AreInOrder end before items
+in_order_earlier end at before [] l o = omega (arith, l, o)
+in_order_earlier end at before (token leaf from to slice ∷ rest) l o = (omega (arith, l, o.0), o.1, o.2)
+in_order_earlier end at before (error leaf from to slice ∷ rest) l o = (omega (arith, l, o.0), o.1, o.2)
+
+-- a match ends in the input
+pub best_within : (rules : List Rule) (bytes : List ℕ) (from to leaf : ℕ) → from ≤ length bytes → IsBest rules bytes from to leaf → to ≤ length bytes
+best_within rules bytes from to leaf inside best = rule_within rules leaf bytes from to best.matches inside
+
+-- an error ends in the input
+pub stop_within : (rules : List Rule) (utf8 : Bool) (bytes : List ℕ) (from to : ℕ) → from < length bytes → IsStop rules utf8 bytes from to → to ≤ length bytes
+stop_within rules utf8 bytes from to inside stop = stop.least (length bytes) record {
+  nonempty = inside;
+  covers = λ n h g. let e = length-drop from bytes in omega (arith, e, h);
+  boundary = λ t. IsCharBoundary-end bytes;
+}
+
+module _ (uses : List Use) (callback : Callback) (bytes : List ℕ) (end from to leaf : ℕ) (rest : List Item) (ahead : from < to) (after : AreInOrder end to rest) where
+  emitted : (skips : Bool) → AreInOrder end from ((if skips then [] else token leaf from to (slice_range bytes from to) ∷ []) ++ rest)
+  emitted true = in_order_earlier end to from rest (omega arith) after
+  emitted false = (omega arith, ahead, after)
+
+  match_in_order : (answer : Action) → AreInOrder end from (items_of uses callback bytes answer leaf from to ++ rest)
+  match_in_order Emit = emitted _
+  match_in_order Skip = in_order_earlier end to from rest (omega arith) after
+  match_in_order Error = (omega arith, ahead, after)
+
+module _ (rules : List Rule) (callback : Callback) (utf8 : Bool) (bytes : List ℕ) where
+  pub in_order : {from : ℕ} {items : List Item} → from ≤ length bytes → Items rules callback utf8 bytes from items → AreInOrder (length bytes) from items
+  in_order inside (over from s) = inside
+  in_order inside (match from to leaf answer rest s a l) =
+      match_in_order (map (λ rule. rule.use_of) rules) callback bytes (length bytes) from to leaf rest s.nonempty
+      (in_order (best_within rules bytes from to leaf inside s) l) answer
+  in_order inside (fault from to rest s l) =
+      (omega arith, s.2.may_stop.nonempty, in_order (stop_within rules utf8 bytes from to s.0 s.2) l)

@@ -1,0 +1,10 @@
+-- The faults behind what is kept.
+use Rattle.std.specs.Prelude.{List, map, string_bytes}
+use Rattle.logos_token.specs.declared.error.SpannedError.{SpannedError}
+use Rattle.logos_token.specs.Faults.{Fault}
+
+abbrev pub fault_of : SpannedError → Fault
+fault_of e = record { code = e.code; message = string_bytes e.message; span = e.span; also = e.also }
+
+abbrev pub faults_of : List SpannedError → List Fault
+faults_of errors = map fault_of errors

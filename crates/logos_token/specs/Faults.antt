@@ -1,0 +1,11 @@
+-- A fault, as a reader sees it.
+use Rattle.std.specs.Prelude.{ℕ, List, Option}
+use Rattle.logos_token.specs.declared.token.Span.{Span}
+use Rattle.logos_token.specs.declared.error.fault_code.FaultCode.{FaultCode}
+
+pub record Fault : Type 0 where
+  pub code : FaultCode
+  pub message : List ℕ
+  pub span : Span
+  -- a second place that the fault speaks of
+  pub also : Option Span

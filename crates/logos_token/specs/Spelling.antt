@@ -1,0 +1,133 @@
+-- The tokens that a source spells: it is pieces in turn, and these are the lexemes of the tokens.
+use Rattle.std.specs.Prelude.{◌≡◌, ℕ, ◌+◌, ◌-◌, ◌<◌, ◌≤◌, max, Bool, true, false, List, [], ◌∷◌, ◌++◌, length, slice_index, slice_range, Option, Some, None, if◌then◌else◌}
+use Rattle.logos_token.specs.declared.token.Span.{Span}
+use Rattle.logos_token.specs.declared.token.Delimiter.{Delimiter}
+use Rattle.logos_token.specs.declared.token.Delimiter.TheVariants.{Parenthesis, Bracket, Brace}
+use Rattle.logos_token.specs.declared.token.lexeme.Kind.{Kind}
+use Rattle.logos_token.specs.declared.token.lexeme.Kind.TheVariants.{Gap, Identifier, Literal, Doc, Punctuation, Opening, Closing}
+use Rattle.logos_token.specs.declared.token.lexeme.LexicalKind.{LexicalKind}
+use Rattle.logos_token.specs.declared.token.lexeme.LexicalKind.TheVariants.{Unbalanced}
+use Rattle.logos_token.specs.Tokens.{Token, identifier, punctuation, literal, doc, group, TokenList, none, also}
+use Rattle.logos_token.specs.Lexemes.{IsNext, IsStuck}
+
+-- a piece of a source
+pub record Piece : Type 0 where
+  pub kind : Kind
+  pub span : Span
+
+-- the source has these pieces, one after another, from one place to another
+abbrev pub Pieces : List ℕ → ℕ → List Piece → ℕ → Type 0
+Pieces bytes from [] to = from ≡ to
+Pieces bytes from (piece ∷ rest) to = (piece.span.from ≡ from) × IsNext bytes from piece.kind piece.span.to × Pieces bytes piece.span.to rest to
+
+-- what a piece is to the tokens: one without others inside, the beginning of a group, or the end of one
+pub data Lexeme : Type 0 where
+  leaf : (token : Token) → Lexeme
+  opens : (delimiter : Delimiter) (from : ℕ) → Lexeme
+  closes : (delimiter : Delimiter) (to : ℕ) → Lexeme
+
+-- the lexeme of a piece of this kind; a gap has none
+abbrev pub lexeme_of : List ℕ → Kind → Span → List Lexeme
+lexeme_of bytes Gap span = []
+lexeme_of bytes Identifier span = leaf (identifier (slice_range bytes span.from span.to) span) ∷ []
+lexeme_of bytes Literal span = leaf (literal (slice_range bytes span.from span.to) span) ∷ []
+lexeme_of bytes Doc span = leaf (doc (slice_range bytes span.from span.to) span) ∷ []
+lexeme_of bytes (Punctuation spacing) span = leaf (punctuation (slice_index bytes span.from) spacing span) ∷ []
+lexeme_of bytes (Opening delimiter) span = opens delimiter span.from ∷ []
+lexeme_of bytes (Closing delimiter) span = closes delimiter span.to ∷ []
+
+-- the lexemes of pieces
+abbrev pub seen : List ℕ → List Piece → List Lexeme
+seen bytes [] = []
+seen bytes (piece ∷ rest) = lexeme_of bytes piece.kind piece.span ++ seen bytes rest
+
+abbrev mutual
+  -- the lexemes of a token
+  pub token_lexemes : Token → List Lexeme
+  token_lexemes (identifier text span) = leaf (identifier text span) ∷ []
+  token_lexemes (punctuation character spacing span) = leaf (punctuation character spacing span) ∷ []
+  token_lexemes (literal text span) = leaf (literal text span) ∷ []
+  token_lexemes (doc text span) = leaf (doc text span) ∷ []
+  token_lexemes (group delimiter span inside) = opens delimiter span.from ∷ (lexemes inside ++ closes delimiter span.to ∷ [])
+
+  -- the lexemes of a run
+  pub lexemes : TokenList → List Lexeme
+  lexemes none = []
+  lexemes (also token rest) = token_lexemes token ++ lexemes rest
+
+-- the whole source is pieces, whose lexemes are those of the tokens
+pub record Spells (bytes : List ℕ) (tokens : TokenList) : Type 0 where
+  pub pieces : List Piece
+  pub filled : Pieces bytes 0 pieces (length bytes)
+  pub nested : lexemes tokens ≡ seen bytes pieces
+
+-- whether the second delimiter closes the first
+abbrev pub is_partner : Delimiter → Delimiter → Bool
+is_partner Parenthesis Parenthesis = true
+is_partner Bracket Bracket = true
+is_partner Brace Brace = true
+is_partner Parenthesis Bracket = false
+is_partner Parenthesis Brace = false
+is_partner Bracket Parenthesis = false
+is_partner Bracket Brace = false
+is_partner Brace Parenthesis = false
+is_partner Brace Bracket = false
+
+-- the delimiters that are open behind the lexemes where these are in front of them, innermost first, with their places; None where one closes what is not its partner
+abbrev pub opened : List (Delimiter × ℕ) → List Lexeme → Option (List (Delimiter × ℕ))
+opened around [] = Some around
+opened around (leaf token ∷ rest) = opened around rest
+opened around (opens delimiter from ∷ rest) = opened ((delimiter, from) ∷ around) rest
+opened [] (closes delimiter to ∷ rest) = None
+opened (innermost ∷ around) (closes delimiter to ∷ rest) = if is_partner innermost.0 delimiter then opened around rest else None
+
+-- how many delimiters are open at once, at most, where so many are in front
+abbrev pub most_open : ℕ → List Lexeme → ℕ
+most_open n [] = n
+most_open n (leaf token ∷ rest) = most_open n rest
+most_open n (opens delimiter from ∷ rest) = most_open (n + 1) rest
+most_open n (closes delimiter to ∷ rest) = max n (most_open (n - 1) rest)
+
+-- the source is pieces up to there, these delimiters are open, and no fault and no limit was met
+pub record IsFront (bytes : List ℕ) (to : ℕ) (around : List (Delimiter × ℕ)) : Type 0 where
+  pub pieces : List Piece
+  pub filled : Pieces bytes 0 pieces to
+  pub nested : opened [] (seen bytes pieces) ≡ Some around
+  pub shallow : most_open 0 (seen bytes pieces) ≤ 128
+
+-- behind a front no piece begins
+pub record IsBroken (bytes : List ℕ) (kind : LexicalKind) (span : Span) : Type 0 where
+  pub at : ℕ
+  pub around : List (Delimiter × ℕ)
+  pub front : IsFront bytes at around
+  pub inside : at < length bytes
+  pub stuck : IsStuck bytes at kind span
+
+-- behind a front a delimiter closes what is not its partner, or nothing
+pub record IsUnmatched (bytes : List ℕ) (span : Span) : Type 0 where
+  pub around : List (Delimiter × ℕ)
+  pub delimiter : Delimiter
+  pub front : IsFront bytes span.from around
+  pub piece : IsNext bytes span.from (Closing delimiter) span.to
+  pub apart : opened around (closes delimiter span.to ∷ []) ≡ None
+
+-- at the end of the source a delimiter is open, and this is the innermost one
+pub record IsUnclosed (bytes : List ℕ) (span : Span) : Type 0 where
+  pub around : List (Delimiter × ℕ)
+  pub delimiter : Delimiter
+  pub front : IsFront bytes (length bytes) ((delimiter, span.from) ∷ around)
+  pub piece : IsNext bytes span.from (Opening delimiter) span.to
+
+-- this is the first fault of the source from the left
+pub data IsUnreadable (bytes : List ℕ) : LexicalKind → Span → Type 0 where
+  broken : {kind : LexicalKind} {span : Span} → IsBroken bytes kind span → IsUnreadable bytes kind span
+  unmatched : {span : Span} → IsUnmatched bytes span → IsUnreadable bytes Unbalanced span
+  unclosed : {span : Span} → IsUnclosed bytes span → IsUnreadable bytes Unbalanced span
+
+-- behind a front with as many open delimiters as may be another one opens
+pub record IsTooDeep (bytes : List ℕ) (span : Span) : Type 0 where
+  pub around : List (Delimiter × ℕ)
+  pub delimiter : Delimiter
+  pub front : IsFront bytes span.from around
+  pub full : length around ≡ 128
+  pub piece : IsNext bytes span.from (Opening delimiter) span.to

@@ -1,0 +1,130 @@
+//! Faults, in order of collection.
+ghost use Rattle.std.specs.Prelude.{◌≡◌, ◌++◌, ◌∷◌, [], List, OnOk, OnErr, Some, None};
+ghost use Rattle.logos_token.specs.Faults.{Fault};
+
+mod fault_code;
+#[cfg(test)]
+mod tests;
+
+use crate::token::Span;
+pub use fault_code::FaultCode;
+use std::alloc::{AllocError, AllocFailed, Global};
+use std::error::Error;
+use std::fmt;
+use std::marker::Model;
+
+/// Want of memory.
+#[derive(Clone, Copy, Debug, PartialEq, Eq)]
+pub struct Memory;
+
+impl From<AllocError> for Memory {
+    fn from(_error: AllocError) -> Memory {
+        Memory
+    }
+}
+
+impl<T: Drop> From<AllocFailed<T>> for Memory {
+    fn from(_error: AllocFailed<T>) -> Memory {
+        Memory
+    }
+}
+
+impl fmt::Display for Memory {
+    fn fmt<W: fmt::Write>(&self, f: &mut fmt::Formatter<W>) -> fmt::Result {
+        f.write_str("out of memory")
+    }
+}
+
+impl Error for Memory {}
+
+/// A fault at its place.
+#[derive(Debug, Drop)]
+pub struct SpannedError {
+    pub code: FaultCode,
+    pub message: String,
+    pub span: Span,
+    /// A second place that the fault speaks of.
+    pub also: Option<Span>,
+}
+
+/// The faults collected so far.
+#[derive(Debug, Drop)]
+pub struct Errors {
+    collected: Vec<SpannedError>,
+    alloc: Global,
+}
+
+impl Model for Errors {
+    ghost use Rattle.std.specs.Prelude.{List};
+    ghost use Rattle.logos_token.specs.Faults.{Fault};
+
+    ghost Value = { List Fault };
+
+    ghost use Rattle.logos_token.specs.FaultView.{faults_of};
+
+    ghost view = { λ errors. faults_of errors.collected.items };
+}
+
+impl Errors {
+    ghost use Rattle.std.specs.Prelude.{◌≡◌, ◌++◌, ◌∷◌, [], OnOk, OnErr, Some, None};
+    ghost use Rattle.logos_token.specs.FaultView.{faults_of};
+
+    /// No faults. What is collected later takes memory from `alloc`.
+    pub fn new(alloc: Global) -> Errors
+        ensures { result ≡ [] }
+    {
+        Errors {
+            collected: Vec::new(alloc),
+            alloc,
+        }
+    }
+
+    /// Adds a fault at the end. After an error the faults are as before.
+    pub fn err(&mut self, code: FaultCode, message: &str, span: Span) -> Result<(), Memory>
+        ensures ok { OnOk result (self.new ≡ self.old ++ (record { code = code; message = message.now; span = span; also = None }) ∷ []) }
+        ensures err { OnErr result (self.new ≡ self.old) }
+    {
+        self.add(code, message, span, None)
+    }
+
+    /// Adds a fault that speaks of two places, at the end. After an error the faults are as before.
+    pub fn err_also(
+        &mut self,
+        code: FaultCode,
+        message: &str,
+        span: Span,
+        also: Span,
+    ) -> Result<(), Memory>
+        ensures ok { OnOk result (self.new ≡ self.old ++ (record { code = code; message = message.now; span = span; also = Some also }) ∷ []) }
+        ensures err { OnErr result (self.new ≡ self.old) }
+    {
+        self.add(code, message, span, Some(also))
+    }
+
+    /// The faults, in order of collection.
+    pub fn list(&self) -> &[SpannedError]
+        ensures { faults_of result.now ≡ self.now }
+    {
+        &self.collected
+    }
+
+    fn add(
+        &mut self,
+        code: FaultCode,
+        message: &str,
+        span: Span,
+        also: Option<Span>,
+    ) -> Result<(), Memory>
+        ensures ok { OnOk result (self.new ≡ self.old ++ (record { code = code; message = message.now; span = span; also = also }) ∷ []) }
+        ensures err { OnErr result (self.new ≡ self.old) }
+    {
+        let message = String::from_str(self.alloc, message)?;
+        self.collected.push(SpannedError {
+            code,
+            message,
+            span,
+            also,
+        })?;
+        Ok(())
+    }
+}

@@ -1,0 +1,256 @@
+//! What can be wrong with a source.
+ghost use Rattle.std.specs.Prelude.{◌≡◌};
+ghost use Rattle.logos_token.specs.FaultNames.{name_of};
+
+use std::fmt;
+
+/// What is wrong.
+#[derive(Clone, Copy, Debug, PartialEq, Eq)]
+pub enum FaultCode {
+    /// The source has no tokens here.
+    Lexical,
+    /// The source is no enum.
+    NotAnEnum,
+    /// The enum is not well formed.
+    Grammar,
+    /// A type that Rust has and a lexer cannot hold.
+    TypeUnsupported,
+    /// No type.
+    TypeSyntax,
+    /// The source has more bytes than the limit.
+    LimitSource,
+    /// More delimiters are open than the limit.
+    LimitTokenNesting,
+    /// More types stand inside one another than the limit.
+    LimitTypeNesting,
+    /// More groups, brackets and repetitions stand around a place than the limit.
+    LimitPatternNesting,
+    /// All trees together are larger than the limit.
+    LimitSize,
+    /// The automaton has more states than the limit.
+    LimitStates,
+    /// A second lifetime parameter.
+    ManyLifetimes,
+    /// A constant parameter.
+    ConstGeneric,
+    /// A type is given to what is no type parameter.
+    NotTypeParameter,
+    /// A second type for a type parameter.
+    TypeTwice,
+    /// A type parameter without a type.
+    NoConcreteType,
+    /// A type parameter whose type leads back to it.
+    TypeHoldsItself,
+    /// `logos` without its parentheses.
+    LogosForm,
+    /// A part of `logos(..)` that no rule fits.
+    InvalidNested,
+    /// An unknown name in `logos(..)`.
+    UnknownLogos,
+    /// `crate` in another form than `crate = path`.
+    CrateForm,
+    /// A second error type.
+    ErrorTwice,
+    /// A second export path.
+    ExportTwice,
+    /// A second type of extras.
+    ExtrasTwice,
+    /// A second UTF-8 mode.
+    Utf8Twice,
+    /// `error()` without a type.
+    ErrorEmpty,
+    /// `error` in an unknown form.
+    ErrorForm,
+    /// The export path is no text.
+    ExportBytes,
+    /// `export_dir` in an unknown form.
+    ExportForm,
+    /// `extras` in an unknown form.
+    ExtrasForm,
+    /// `skip` in an unknown form.
+    SkipForm,
+    /// `skip(..)` without a literal in front.
+    SkipGroup,
+    /// The attribute `source`, which is no longer supported.
+    SourceOld,
+    /// `subpattern` in an unknown form.
+    SubpatternForm,
+    /// `type` in an unknown form.
+    TypeForm,
+    /// The UTF-8 mode is neither `true` nor `false`.
+    Utf8Value,
+    /// `utf8` in an unknown form.
+    Utf8Form,
+    /// No literal where one is expected.
+    LiteralSyntax,
+    /// A literal that is neither a text nor a byte string.
+    NotText,
+    /// Tokens behind an argument.
+    UnexpectedToken,
+    /// An argument without a name where only named ones may stand.
+    NamedExpected,
+    /// The priority is no number that fits.
+    PriorityValue,
+    /// A second priority.
+    PriorityTwice,
+    /// A second `allow_greedy`.
+    GreedyTwice,
+    /// `priority` in an unknown form.
+    PriorityForm,
+    /// `allow_greedy` is neither `true` nor `false`.
+    GreedyValue,
+    /// `allow_greedy` in an unknown form.
+    GreedyForm,
+    /// No callback.
+    CallbackValue,
+    /// An inline callback without exactly one parameter.
+    CallbackClosure,
+    /// An inline callback without a body.
+    CallbackBody,
+    /// A second callback.
+    CallbackTwice,
+    /// `callback` in an unknown form.
+    CallbackForm,
+    /// `ignore` in an unknown form.
+    IgnoreForm,
+    /// The flag `ascii_case`, which is no longer supported.
+    IgnoreAscii,
+    /// An unknown flag.
+    IgnoreUnknown,
+    /// `ignore()` without a flag.
+    IgnoreEmpty,
+    /// A token between flags that is no comma.
+    IgnoreToken,
+    /// An unknown name among the arguments.
+    UnknownNested,
+    /// A variant with another number of fields than one.
+    VariantFields,
+    /// A variant with named fields.
+    NamedFields,
+    /// The attribute `error`, which is no longer required.
+    ErrorVariant,
+    /// `token` in an unknown form.
+    TokenForm,
+    /// `regex` in an unknown form.
+    RegexForm,
+    /// A text that is no pattern.
+    Regex,
+    /// The default priority does not fit.
+    PriorityOverflow,
+    /// A text that is no name of a subpattern.
+    SubpatternName,
+    /// A subpattern that is not defined before its use.
+    SubpatternMissing,
+    /// A second subpattern of one name.
+    SubpatternTwice,
+    /// A pattern that matches what is no UTF-8, in UTF-8 mode.
+    Utf8Pattern,
+    /// A subpattern that matches what is no UTF-8, in UTF-8 mode.
+    Utf8Subpattern,
+    /// A pattern that matches without a byte.
+    EmptyMatch,
+    /// Patterns of one priority that match the same bytes.
+    Disambiguation,
+    /// A pattern that looks at its surroundings before its first byte.
+    NoUniversalStart,
+    /// A pattern that repeats any character without a bound, greedily.
+    GreedyDot,
+    /// The former place that another fault speaks of.
+    Previous,
+}
+
+impl FaultCode {
+    /// The name of the code, as it is printed.
+    pub fn name(self) -> &'static str
+        ensures { result.now ≡ name_of self }
+    {
+        match self {
+            FaultCode::Lexical => "Lexical",
+            FaultCode::NotAnEnum => "NotAnEnum",
+            FaultCode::Grammar => "Grammar",
+            FaultCode::TypeUnsupported => "TypeUnsupported",
+            FaultCode::TypeSyntax => "TypeSyntax",
+            FaultCode::LimitSource => "LimitSource",
+            FaultCode::LimitTokenNesting => "LimitTokenNesting",
+            FaultCode::LimitTypeNesting => "LimitTypeNesting",
+            FaultCode::LimitPatternNesting => "LimitPatternNesting",
+            FaultCode::LimitSize => "LimitSize",
+            FaultCode::LimitStates => "LimitStates",
+            FaultCode::ManyLifetimes => "ManyLifetimes",
+            FaultCode::ConstGeneric => "ConstGeneric",
+            FaultCode::NotTypeParameter => "NotTypeParameter",
+            FaultCode::TypeTwice => "TypeTwice",
+            FaultCode::NoConcreteType => "NoConcreteType",
+            FaultCode::TypeHoldsItself => "TypeHoldsItself",
+            FaultCode::LogosForm => "LogosForm",
+            FaultCode::InvalidNested => "InvalidNested",
+            FaultCode::UnknownLogos => "UnknownLogos",
+            FaultCode::CrateForm => "CrateForm",
+            FaultCode::ErrorTwice => "ErrorTwice",
+            FaultCode::ExportTwice => "ExportTwice",
+            FaultCode::ExtrasTwice => "ExtrasTwice",
+            FaultCode::Utf8Twice => "Utf8Twice",
+            FaultCode::ErrorEmpty => "ErrorEmpty",
+            FaultCode::ErrorForm => "ErrorForm",
+            FaultCode::ExportBytes => "ExportBytes",
+            FaultCode::ExportForm => "ExportForm",
+            FaultCode::ExtrasForm => "ExtrasForm",
+            FaultCode::SkipForm => "SkipForm",
+            FaultCode::SkipGroup => "SkipGroup",
+            FaultCode::SourceOld => "SourceOld",
+            FaultCode::SubpatternForm => "SubpatternForm",
+            FaultCode::TypeForm => "TypeForm",
+            FaultCode::Utf8Value => "Utf8Value",
+            FaultCode::Utf8Form => "Utf8Form",
+            FaultCode::LiteralSyntax => "LiteralSyntax",
+            FaultCode::NotText => "NotText",
+            FaultCode::UnexpectedToken => "UnexpectedToken",
+            FaultCode::NamedExpected => "NamedExpected",
+            FaultCode::PriorityValue => "PriorityValue",
+            FaultCode::PriorityTwice => "PriorityTwice",
+            FaultCode::GreedyTwice => "GreedyTwice",
+            FaultCode::PriorityForm => "PriorityForm",
+            FaultCode::GreedyValue => "GreedyValue",
+            FaultCode::GreedyForm => "GreedyForm",
+            FaultCode::CallbackValue => "CallbackValue",
+            FaultCode::CallbackClosure => "CallbackClosure",
+            FaultCode::CallbackBody => "CallbackBody",
+            FaultCode::CallbackTwice => "CallbackTwice",
+            FaultCode::CallbackForm => "CallbackForm",
+            FaultCode::IgnoreForm => "IgnoreForm",
+            FaultCode::IgnoreAscii => "IgnoreAscii",
+            FaultCode::IgnoreUnknown => "IgnoreUnknown",
+            FaultCode::IgnoreEmpty => "IgnoreEmpty",
+            FaultCode::IgnoreToken => "IgnoreToken",
+            FaultCode::UnknownNested => "UnknownNested",
+            FaultCode::VariantFields => "VariantFields",
+            FaultCode::NamedFields => "NamedFields",
+            FaultCode::ErrorVariant => "ErrorVariant",
+            FaultCode::TokenForm => "TokenForm",
+            FaultCode::RegexForm => "RegexForm",
+            FaultCode::Regex => "Regex",
+            FaultCode::PriorityOverflow => "PriorityOverflow",
+            FaultCode::SubpatternName => "SubpatternName",
+            FaultCode::SubpatternMissing => "SubpatternMissing",
+            FaultCode::SubpatternTwice => "SubpatternTwice",
+            FaultCode::Utf8Pattern => "Utf8Pattern",
+            FaultCode::Utf8Subpattern => "Utf8Subpattern",
+            FaultCode::EmptyMatch => "EmptyMatch",
+            FaultCode::Disambiguation => "Disambiguation",
+            FaultCode::NoUniversalStart => "NoUniversalStart",
+            FaultCode::GreedyDot => "GreedyDot",
+            FaultCode::Previous => "Previous",
+        }
+    }
+}
+
+impl fmt::Display for FaultCode {
+    ghost use Rattle.std.specs.Prelude.{Some};
+    ghost use Rattle.logos_token.specs.FaultNames.{name_of};
+
+    ghost output = { λ code. Some (name_of code) };
+
+    fn fmt<W: fmt::Write>(&self, f: &mut fmt::Formatter<W>) -> fmt::Result {
+        f.write_str(self.name())
+    }
+}

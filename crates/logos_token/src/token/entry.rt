@@ -1,0 +1,33 @@
+//! The entries of a token buffer.
+
+use crate::token::{Delimiter, Doc, Ident, Literal, Punct, Span};
+
+/// A token without the tokens inside it, which follow it.
+#[derive(Clone, Copy, Debug)]
+pub enum Entry<'s> {
+    Ident(Ident<'s>),
+    Punct(Punct),
+    Literal(Literal<'s>),
+    Doc(Doc<'s>),
+    /// A group, with the number of entries inside it, which are the next ones.
+    Group {
+        delimiter: Delimiter,
+        span: Span,
+        size: usize,
+    },
+}
+
+impl Entry<'_> {
+    ghost use Rattle.std.specs.Prelude.{◌≡◌};
+    ghost use Rattle.logos_token.specs.Flat.{size_of};
+
+    /// How many of the entries behind this one belong to it.
+    pub fn size(&self) -> usize
+        ensures { result ≡ size_of self.now }
+    {
+        match self {
+            Entry::Group { size, .. } => *size,
+            _ => 0,
+        }
+    }
+}

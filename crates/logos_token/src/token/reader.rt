@@ -1,0 +1,234 @@
+//! Reading a source into tokens.
+ghost use Rattle.std.specs.Prelude.{◌≡◌, ℕ, ◌<◌, ◌≤◌, ◌↔◌, List, [], ◌∷◌, ◌++◌, map, length, IfOk, IfErr, OnOk, MatchResult, IsTrue};
+ghost use Rattle.std.specs.Str.{IsCharBoundary};
+ghost use Rattle.logos_token.specs.Lexemes.{IsNext};
+ghost use Rattle.logos_token.specs.Tokens.{TokenList, depth_of};
+ghost use Rattle.logos_token.specs.Flat.{value_of};
+ghost use Rattle.logos_token.specs.Views.{stream_tokens};
+ghost use Rattle.logos_token.specs.Spelling.{Spells};
+ghost use Rattle.logos_token.specs.Reading.{IsRead};
+ghost use Rattle.logos_token.specs.Refusals.{IsRefusal, SpellsNothing, IsErrOf};
+
+use crate::token::entry::Entry;
+use crate::token::lexeme::{Kind, LexicalKind, lexeme_at};
+use crate::token::views::TokenStream;
+use crate::token::{Delimiter, Doc, Ident, Literal, Punct, Span};
+use std::alloc::{AllocError, AllocFailed, Global};
+
+/// The most bytes that a source may have.
+const MAX_SOURCE: usize = 16_777_216;
+
+/// The most delimiters that may be open at one place.
+const MAX_NESTING: usize = 128;
+
+/// Why a source gives no tokens.
+#[derive(Clone, Copy, Debug, PartialEq, Eq)]
+pub enum TokenError {
+    /// The source is not well formed: its first fault from the left.
+    Lexical { kind: LexicalKind, span: Span },
+    /// The source has more than 16,777,216 bytes.
+    LimitSource,
+    /// At this opening delimiter more than 128 would be open.
+    LimitTokenNesting { span: Span },
+    /// There is no memory for the tokens.
+    Memory,
+}
+
+impl From<AllocError> for TokenError {
+    ghost use Rattle.std.specs.Prelude.{◌≡◌};
+    ghost use Rattle.logos_token.specs.declared.token.reader.TokenError.TheVariants.{Memory};
+
+    ghost from_gives = { λ _ error. error ≡ Memory };
+
+    fn from(_error: AllocError) -> TokenError {
+        TokenError::Memory
+    }
+}
+
+impl<T: Drop> From<AllocFailed<T>> for TokenError {
+    ghost use Rattle.std.specs.Prelude.{◌≡◌};
+    ghost use Rattle.logos_token.specs.declared.token.reader.TokenError.TheVariants.{Memory};
+
+    ghost from_gives = { λ _ error. error ≡ Memory };
+
+    fn from(_error: AllocFailed<T>) -> TokenError {
+        TokenError::Memory
+    }
+}
+
+/// A group without its closing delimiter.
+#[derive(Clone, Copy, Debug)]
+struct Begun {
+    delimiter: Delimiter,
+    /// The opening delimiter.
+    span: Span,
+    /// The place of the group among the entries.
+    place: usize,
+}
+
+/// Whether the closing delimiter is of the opening one's kind.
+fn is_partner(opening: Delimiter, closing: Delimiter) -> bool
+    ensures { IsTrue result ↔ (opening ≡ closing) }
+{
+    opening == closing
+}
+
+/// Adds an opening delimiter.
+fn begin_group(
+    entries: &mut Vec<Entry<'_>>,
+    begun: &mut Vec<Begun>,
+    delimiter: Delimiter,
+    span: Span,
+) -> Result<(), TokenError>
+    ensures ok { (bytes : List ℕ) → IsNext bytes span.from (Kind.Opening delimiter) span.to → IsRead bytes span.from (map value_of entries.old.items) begun.old.items → OnOk result (IsRead bytes span.to (map value_of entries.new.items) begun.new.items) }
+    ensures err { (bytes : List ℕ) → IsNext bytes span.from (Kind.Opening delimiter) span.to → IsRead bytes span.from (map value_of entries.old.items) begun.old.items → IfErr result (IsRefusal bytes) }
+{
+    if begun.len() >= MAX_NESTING {
+        return Err(TokenError::LimitTokenNesting { span });
+    }
+    begun.push(Begun {
+        delimiter,
+        span,
+        place: entries.len(),
+    })?;
+    entries.push(Entry::Group {
+        delimiter,
+        span,
+        size: 0,
+    })?;
+    Ok(())
+}
+
+/// Adds a closing delimiter.
+fn end_group(
+    entries: &mut Vec<Entry<'_>>,
+    begun: &mut Vec<Begun>,
+    delimiter: Delimiter,
+    span: Span,
+) -> Result<(), TokenError>
+    requires { (bytes : List ℕ) × IsRead bytes span.from (map value_of entries.old.items) begun.old.items }
+    ensures ok { (bytes : List ℕ) → IsNext bytes span.from (Kind.Closing delimiter) span.to → IsRead bytes span.from (map value_of entries.old.items) begun.old.items → OnOk result (IsRead bytes span.to (map value_of entries.new.items) begun.new.items) }
+    ensures err { (bytes : List ℕ) → IsNext bytes span.from (Kind.Closing delimiter) span.to → IsRead bytes span.from (map value_of entries.old.items) begun.old.items → IfErr result (IsRefusal bytes) }
+{
+    let unbalanced = TokenError::Lexical {
+        kind: LexicalKind::Unbalanced,
+        span,
+    };
+    let Some(group) = begun.pop() else {
+        return Err(unbalanced);
+    };
+    if !is_partner(group.delimiter, delimiter) {
+        return Err(unbalanced);
+    }
+    let size = entries.len() - group.place - 1;
+    entries[group.place] = Entry::Group {
+        delimiter,
+        span: Span {
+            from: group.span.from,
+            to: span.to,
+        },
+        size,
+    };
+    Ok(())
+}
+
+/// Adds a token without others inside.
+fn push<'s>(entries: &mut Vec<Entry<'s>>, entry: Entry<'s>) -> Result<(), TokenError>
+    ensures ok { OnOk result (entries.new.items ≡ entries.old.items ++ entry.entry ∷ []) }
+    ensures err { IfErr result (λ error. error ≡ TokenError.Memory) }
+{
+    entries.push(entry)?;
+    Ok(())
+}
+
+/// Adds a piece of the source.
+fn add<'s>(
+    entries: &mut Vec<Entry<'s>>,
+    begun: &mut Vec<Begun>,
+    source: &'s str,
+    kind: Kind,
+    span: Span,
+) -> Result<(), TokenError>
+    requires from_boundary { IsCharBoundary source.now span.from }
+    requires to_boundary { IsCharBoundary source.now span.to }
+    requires next { IsNext source.now span.from kind span.to }
+    requires read { IsRead source.now span.from (map value_of entries.old.items) begun.old.items }
+    ensures ok { OnOk result (IsRead source.now span.to (map value_of entries.new.items) begun.new.items) }
+    ensures err { IfErr result (IsRefusal source.now) }
+{
+    match kind {
+        Kind::Gap => Ok(()),
+        Kind::Opening(delimiter) => begin_group(entries, begun, delimiter, span),
+        Kind::Closing(delimiter) => end_group(entries, begun, delimiter, span),
+        Kind::Identifier => {
+            let text = &source[span.from..span.to];
+            push(entries, Entry::Ident(Ident { text, span }))
+        }
+        Kind::Literal => {
+            let text = &source[span.from..span.to];
+            push(entries, Entry::Literal(Literal { text, span }))
+        }
+        Kind::Doc => {
+            let text = &source[span.from..span.to];
+            push(entries, Entry::Doc(Doc { text, span }))
+        }
+        Kind::Punctuation(spacing) => {
+            let character = char::from(source.as_bytes()[span.from]);
+            push(
+                entries,
+                Entry::Punct(Punct {
+                    character,
+                    spacing,
+                    span,
+                }),
+            )
+        }
+    }
+}
+
+/// The tokens of a source that is read to its end.
+fn finish<'s>(entries: Vec<Entry<'s>>, mut begun: Vec<Begun>) -> Result<TokenStream<'s>, TokenError>
+    requires { (bytes : List ℕ) × IsRead bytes (length bytes) (map value_of entries.items) begun.items }
+    ensures ok { (bytes : List ℕ) → IsRead bytes (length bytes) (map value_of entries.entry.items) begun.items → IfOk result (λ stream. Spells bytes (stream_tokens stream) × (depth_of (stream_tokens stream) ≤ 128)) }
+    ensures err { (bytes : List ℕ) → IsRead bytes (length bytes) (map value_of entries.entry.items) begun.items → IfErr result (IsRefusal bytes) }
+{
+    match begun.pop() {
+        Some(group) => Err(TokenError::Lexical {
+            kind: LexicalKind::Unbalanced,
+            span: group.span,
+        }),
+        None => Ok(TokenStream::from_entries(entries)),
+    }
+}
+
+/// The tokens of a source. Its length is tested first; then it is read from the left, and the first
+/// fault is named. A delimiter that stays open is met at the end of the source.
+pub fn tokenize<'s>(alloc: Global, src: &'s str) -> Result<TokenStream<'s>, TokenError>
+    ensures ok { IfOk result (λ stream. Spells src.now (stream_tokens stream)) }
+    ensures shallow { IfOk result (λ stream. depth_of (stream_tokens stream) ≤ 128) }
+    ensures limit { IsErrOf result TokenError.LimitSource ↔ (16777216 < length src.now) }
+    ensures err { IfErr result (IsRefusal src.now) }
+    ensures only { IfErr result (SpellsNothing src.now) }
+    ensures complete { (tokens : TokenList) → Spells src.now tokens → length src.now ≤ 16777216 → depth_of tokens ≤ 128 → MatchResult result (λ stream. stream_tokens stream ≡ tokens) (λ error. error ≡ TokenError.Memory) }
+{
+    if src.len() > MAX_SOURCE {
+        return Err(TokenError::LimitSource);
+    }
+    let mut entries = Vec::new(alloc);
+    let mut begun = Vec::new(alloc);
+    let mut from = 0;
+    while from < src.len() {
+        let (kind, to) = match lexeme_at(src, from) {
+            Ok(next) => next,
+            Err((kind, span)) => return Err(TokenError::Lexical { kind, span }),
+        };
+        add(&mut entries, &mut begun, src, kind, Span { from, to })?;
+        from = to;
+    }
+    finish(entries, begun)
+}
+
+/// A source spells one run of tokens at most.
+pub fn spells_once()
+    ensures { (bytes : List ℕ) (tokens other : TokenList) → Spells bytes tokens → Spells bytes other → tokens ≡ other }
+{}

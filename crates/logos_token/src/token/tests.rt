@@ -1,0 +1,179 @@
+use super::lexeme::LexicalKind;
+use super::{Spacing, Span, TokenError, TokenTree, Tokens, tokenize};
+use std::alloc::{AllocError, Global};
+use std::test::Fail;
+
+fn at(from: usize, to: usize) -> Span {
+    Span { from, to }
+}
+
+/// The tokens inside a group.
+fn inside<'t, 's>(tree: Option<TokenTree<'t, 's>>) -> Option<Tokens<'t, 's>> {
+    match tree? {
+        TokenTree::Group(group) => Some(group.run()),
+        _ => None,
+    }
+}
+
+fn span_of(tree: Option<TokenTree<'_, '_>>) -> Option<Span> {
+    Some(tree?.span())
+}
+
+/// So many pairs of parentheses inside one another.
+fn nested(alloc: Global, depth: usize) -> Result<String, AllocError> {
+    let mut text = String::new(alloc);
+    for _ in 0..depth {
+        text.push_str("(")?;
+    }
+    for _ in 0..depth {
+        text.push_str(")")?;
+    }
+    Ok(text)
+}
+
+fn refusal(alloc: Global, src: &str) -> Option<TokenError> {
+    tokenize(alloc, src).err()
+}
+
+#[test]
+fn spans_of_an_enum(rt: HostRuntime) -> Result<(), Fail> {
+    let stream = tokenize(rt.alloc(), "enum T { #[token(\"a\")] A }")?;
+    let run = stream.run();
+    assert_eq!(rt; run.span(), at(0, 26));
+    assert_eq!(rt; span_of(run.first()), Some(at(0, 4)));
+    let run = run.rest();
+    assert_eq!(rt; span_of(run.first()), Some(at(5, 6)));
+    let run = run.rest();
+    assert_eq!(rt; span_of(run.first()), Some(at(7, 26)));
+    assert!(rt; run.rest().is_empty());
+    let run = inside(run.first()).ok_or("a group")?;
+    assert_eq!(rt; span_of(run.first()), Some(at(9, 10)));
+    assert_eq!(rt; span_of(run.rest().first()), Some(at(10, 22)));
+    assert_eq!(rt; span_of(run.rest().rest().first()), Some(at(23, 24)));
+    let run = inside(run.rest().first()).ok_or("a group")?;
+    assert_eq!(rt; span_of(run.first()), Some(at(11, 16)));
+    let run = inside(run.rest().first()).ok_or("a group")?;
+    assert_eq!(rt; span_of(run.first()), Some(at(17, 20)));
+    Ok(())
+}
+
+/// The text of a tree that has one, with its quotes left out.
+fn text_of<'s>(tree: TokenTree<'_, 's>) -> &'s str {
+    match tree {
+        TokenTree::Ident(ident) => ident.text,
+        TokenTree::Literal(literal) => literal.text_value(),
+        _ => "",
+    }
+}
+
+fn is_joint(tree: TokenTree<'_, '_>) -> bool {
+    match tree {
+        TokenTree::Punct(punct) => punct.character == ':' && punct.spacing == Spacing::Joint,
+        _ => false,
+    }
+}
+
+#[test]
+fn texts_and_spacing(rt: HostRuntime) -> Result<(), Fail> {
+    let stream = tokenize(rt.alloc(), "a :: \"b\"")?;
+    let run = stream.run();
+    let mut trees = 0usize;
+    let mut bytes = 0usize;
+    let mut joint = 0usize;
+    for tree in run.iter() {
+        trees = trees.saturating_add(1);
+        bytes = bytes.saturating_add(text_of(tree).len());
+        if is_joint(tree) {
+            joint = joint.saturating_add(1);
+        }
+    }
+    assert_eq!(rt; trees, 4);
+    assert_eq!(rt; bytes, 2);
+    assert_eq!(rt; joint, 1);
+    Ok(())
+}
+
+#[test]
+fn fronts_of_runs(rt: HostRuntime) -> Result<(), Fail> {
+    let stream = tokenize(rt.alloc(), "a (b) c")?;
+    let run = stream.run();
+    assert_eq!(rt; run.before(run.rest()).span(), at(0, 1));
+    assert_eq!(rt; run.before(run.rest().rest()).span(), at(0, 5));
+    assert!(rt; run.before(run).is_empty());
+    Ok(())
+}
+
+#[test]
+fn empty_sources(rt: HostRuntime) -> Result<(), Fail> {
+    let stream = tokenize(rt.alloc(), "")?;
+    assert!(rt; stream.run().is_empty());
+    assert_eq!(rt; stream.run().span(), at(0, 0));
+    let stream = tokenize(rt.alloc(), " \t\r\n")?;
+    assert!(rt; stream.run().first().is_none());
+    Ok(())
+}
+
+#[test]
+fn delimiters_without_partners(rt: HostRuntime) {
+    let unbalanced = |from, to| {
+        Some(TokenError::Lexical {
+            kind: LexicalKind::Unbalanced,
+            span: at(from, to),
+        })
+    };
+    assert_eq!(rt; refusal(rt.alloc(), "enum E {"), unbalanced(7, 8));
+    assert_eq!(rt; refusal(rt.alloc(), ")"), unbalanced(0, 1));
+    assert_eq!(rt; refusal(rt.alloc(), "( ]"), unbalanced(2, 3));
+    assert_eq!(rt; refusal(rt.alloc(), "([()"), unbalanced(1, 2));
+}
+
+#[test]
+fn unreadable_sources(rt: HostRuntime) {
+    let lexical = |kind, from, to| {
+        Some(TokenError::Lexical {
+            kind,
+            span: at(from, to),
+        })
+    };
+    assert_eq!(rt;
+        refusal(rt.alloc(), "a \"bc"),
+        lexical(LexicalKind::Unterminated, 2, 5)
+    );
+    assert_eq!(rt;
+        refusal(rt.alloc(), "( 7"),
+        lexical(LexicalKind::BadCharacter, 2, 3)
+    );
+    assert_eq!(rt;
+        refusal(rt.alloc(), "a é"),
+        lexical(LexicalKind::BadCharacter, 2, 4)
+    );
+    assert_eq!(rt;
+        refusal(rt.alloc(), "\"a\\b\" c"),
+        lexical(LexicalKind::BadLiteral, 0, 5)
+    );
+}
+
+#[test]
+fn nesting(rt: HostRuntime) -> Result<(), Fail> {
+    let text = nested(rt.alloc(), 128)?;
+    assert!(rt; tokenize(rt.alloc(), text.as_str()).is_ok());
+    let text = nested(rt.alloc(), 129)?;
+    let limit = TokenError::LimitTokenNesting { span: at(128, 129) };
+    assert_eq!(rt; refusal(rt.alloc(), text.as_str()), Some(limit));
+    Ok(())
+}
+
+#[test]
+fn length_of_sources(rt: HostRuntime) -> Result<(), Fail> {
+    let mut text = String::new(rt.alloc());
+    for _ in 0..16_777_216 {
+        text.push(' ')?;
+    }
+    assert!(rt; tokenize(rt.alloc(), text.as_str()).is_ok());
+    text.push(' ')?;
+    assert_eq!(rt;
+        refusal(rt.alloc(), text.as_str()),
+        Some(TokenError::LimitSource)
+    );
+    Ok(())
+}

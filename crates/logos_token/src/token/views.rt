@@ -1,0 +1,200 @@
+//! A buffer of tokens, and views of the runs in it.
+ghost use Rattle.std.specs.Prelude.{◌≡◌};
+ghost use Rattle.std.proofs.Props.{props};
+ghost use Rattle.logos_token.specs.Flat.{IsFlat};
+
+use crate::token::entry::Entry;
+use crate::token::{Delimiter, Doc, Ident, Literal, Punct, Span};
+
+/// All tokens of a source.
+#[derive(Debug, Drop)]
+pub struct TokenStream<'s> {
+    entries: Vec<Entry<'s>>,
+    ghost nested: { IsFlat entries.items } by { Prim.hlevel props },
+}
+
+/// A run of neighbouring token trees. It is a view of a buffer and copies nothing.
+#[derive(Clone, Copy, Debug)]
+pub struct Tokens<'t, 's> {
+    entries: &'t [Entry<'s>],
+    ghost nested: { IsFlat entries.now } by { Prim.hlevel props },
+}
+
+/// A delimiter, its partner, and what stands between them.
+#[derive(Clone, Copy, Debug)]
+pub struct Group<'t, 's> {
+    pub delimiter: Delimiter,
+    /// From the opening delimiter to the closing one.
+    pub span: Span,
+    inside: Tokens<'t, 's>,
+}
+
+/// A token, or a group with the tokens inside it.
+#[derive(Clone, Copy, Debug)]
+pub enum TokenTree<'t, 's> {
+    Ident(Ident<'s>),
+    Punct(Punct),
+    Literal(Literal<'s>),
+    Doc(Doc<'s>),
+    Group(Group<'t, 's>),
+}
+
+/// The trees of a run, one after another.
+#[derive(Clone, Copy, Debug)]
+pub struct TokenIter<'t, 's> {
+    rest: Tokens<'t, 's>,
+}
+
+impl<'s> TokenStream<'s> {
+    ghost use Rattle.std.specs.Prelude.{◌≡◌};
+    ghost use Rattle.logos_token.specs.Flat.{IsFlat, tokens_in};
+    ghost use Rattle.logos_token.specs.Views.{stream_tokens, tokens_of};
+
+    /// The tokens of these entries.
+    pub(super) fn from_entries(entries: Vec<Entry<'s>>) -> TokenStream<'s>
+        requires { IsFlat entries.items }
+        ensures { stream_tokens result ≡ tokens_in entries.entry.items }
+    {
+        TokenStream { entries }
+    }
+
+    /// All trees.
+    pub fn run(&self) -> Tokens<'_, 's>
+        ensures { tokens_of result ≡ stream_tokens self.now }
+    {
+        Tokens {
+            entries: self.entries.as_slice(),
+        }
+    }
+}
+
+impl<'t, 's> Tokens<'t, 's> {
+    ghost use Rattle.std.specs.Prelude.{◌≡◌, ◌↔◌, IsTrue, MatchOption, option_map};
+    ghost use Rattle.logos_token.specs.Tokens.{none, also, IsRestOf, first_of, rest_of, run_span};
+    ghost use Rattle.logos_token.specs.Views.{tokens_of, tree_of, iter_rest, listed};
+
+    /// Whether there is no tree.
+    pub fn is_empty(self) -> bool
+        ensures { IsTrue result ↔ (tokens_of self.entry ≡ none) }
+    {
+        self.entries.is_empty()
+    }
+
+    /// The first tree, if there is one.
+    pub fn first(self) -> Option<TokenTree<'t, 's>>
+        ensures value { option_map tree_of result ≡ first_of (tokens_of self.entry) }
+        ensures cases { MatchOption result (tokens_of self.entry ≡ none) (λ tree. tokens_of self.entry ≡ also (tree_of tree) (rest_of (tokens_of self.entry))) }
+    {
+        let (entry, after) = self.entries.split_first()?;
+        match entry {
+            Entry::Ident(ident) => Some(TokenTree::Ident(*ident)),
+            Entry::Punct(punct) => Some(TokenTree::Punct(*punct)),
+            Entry::Literal(literal) => Some(TokenTree::Literal(*literal)),
+            Entry::Doc(doc) => Some(TokenTree::Doc(*doc)),
+            Entry::Group {
+                delimiter,
+                span,
+                size,
+            } => Some(TokenTree::Group(Group {
+                delimiter: *delimiter,
+                span: *span,
+                inside: Tokens {
+                    entries: &after[..*size],
+                },
+            })),
+        }
+    }
+
+    /// The trees behind the first one; none where there are none.
+    pub fn rest(self) -> Tokens<'t, 's>
+        ensures { tokens_of result ≡ rest_of (tokens_of self.entry) }
+    {
+        let Some((entry, after)) = self.entries.split_first() else {
+            return self;
+        };
+        Tokens {
+            entries: &after[entry.size()..],
+        }
+    }
+
+    /// The trees in front of `rest`, which is what is left of this run behind some of its trees.
+    pub fn before(self, rest: Tokens<'t, 's>) -> Tokens<'t, 's>
+        requires { IsRestOf (tokens_of self) (tokens_of rest) }
+        ensures { (split : IsRestOf (tokens_of self.entry) (tokens_of rest.entry)) → tokens_of result ≡ split.front }
+    {
+        Tokens {
+            entries: &self.entries[..self.entries.len() - rest.entries.len()],
+        }
+    }
+
+    /// From the first tree to the last; `0..0` where there is none.
+    pub fn span(self) -> Span
+        ensures { result ≡ run_span (tokens_of self.entry) }
+    {
+        let Some(first) = self.first() else {
+            return Span { from: 0, to: 0 };
+        };
+        let Span { from, mut to } = first.span();
+        let mut rest = self.rest();
+        while let Some(next) = rest.first() {
+            to = next.span().to;
+            rest = rest.rest();
+        }
+        Span { from, to }
+    }
+
+    /// The trees, one after another.
+    pub fn iter(self) -> TokenIter<'t, 's>
+        ensures { iter_rest result ≡ listed (tokens_of self.entry) }
+    {
+        TokenIter { rest: self }
+    }
+}
+
+impl<'t, 's> Group<'t, 's> {
+    ghost use Rattle.std.specs.Prelude.{◌≡◌};
+    ghost use Rattle.logos_token.specs.Views.{tokens_of, inside_of};
+
+    /// The trees between the delimiters.
+    pub fn run(self) -> Tokens<'t, 's>
+        ensures { tokens_of result ≡ inside_of self.entry }
+    {
+        self.inside
+    }
+}
+
+impl TokenTree<'_, '_> {
+    ghost use Rattle.std.specs.Prelude.{◌≡◌};
+    ghost use Rattle.logos_token.specs.Tokens.{span_of};
+    ghost use Rattle.logos_token.specs.Views.{tree_of};
+
+    /// Where it stands in the source.
+    pub fn span(self) -> Span
+        ensures { result ≡ span_of (tree_of self.entry) }
+    {
+        match self {
+            TokenTree::Ident(ident) => ident.span,
+            TokenTree::Punct(punct) => punct.span,
+            TokenTree::Literal(literal) => literal.span,
+            TokenTree::Doc(doc) => doc.span,
+            TokenTree::Group(group) => group.span,
+        }
+    }
+}
+
+impl<'t, 's> Iterator for TokenIter<'t, 's> {
+    type Item = TokenTree<'t, 's>;
+
+    ghost use Rattle.std.specs.Iterator.{YieldsFirstBy, item_count};
+    ghost use Rattle.logos_token.specs.Views.{tree_of, iter_rest};
+
+    ghost next_gives = { YieldsFirstBy tree_of iter_rest };
+
+    ghost remaining = { item_count iter_rest };
+
+    fn next(&mut self) -> Option<TokenTree<'t, 's>> {
+        let tree = self.rest.first()?;
+        self.rest = self.rest.rest();
+        Some(tree)
+    }
+}
