@@ -3,5 +3,14 @@
 #![tactic(auto)]
 
 pub mod byte_class;
+mod char_table;
+mod exits;
 pub mod graph;
 pub mod laws;
+mod look;
+mod marks;
+mod node;
+mod prepare;
+mod ranges;
+mod step;
+mod table;
