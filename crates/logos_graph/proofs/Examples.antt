@@ -1,5 +1,5 @@
 -- The definitions at small inputs.
-use Rattle.std.proofs.Common.{◌≡◌, ◌≢◌, ℕ, zero, suc, ◌+◌, ◌≤◌, ◌<◌, true, false, List, [], ◌∷◌, ◌++◌, take, drop, max, IsTrue, length, None, Some, refl, arith}
+use Rattle.std.proofs.Common.{◌≡◌, ◌≢◌, ℕ, zero, suc, ◌+◌, ◌≤◌, ◌<◌, true, false, List, [], ◌∷◌, take, drop, max, IsTrue, length, None, Some, refl, arith}
 use Rattle.logos_pattern.specs.Tree.{Tree, literal, char_class, repetition, capture, concat, none, also}
 use Rattle.logos_pattern.specs.Matches.{Matches}
 use Rattle.logos_pattern.specs.Text.{StandsAt, IsBytes}

@@ -1,3 +1,14 @@
 pub mod Unique
 pub mod Window
 pub mod Examples
+pub mod JoinLemmas
+pub mod PlaceLemmas
+pub mod ReadLemmas
+pub mod RepeatLemmas
+pub mod CopyLemmas
+pub mod CharacterLemmas
+pub mod ReaderLemmas
+pub mod TextLemmas
+pub mod IsCoreLemmas
+pub mod TreesLemmas
+pub mod PartLemmas

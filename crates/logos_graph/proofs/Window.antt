@@ -1,12 +1,11 @@
 -- A match depends on the bytes of its span and on the byte after them; on the byte before them only where a look leads.
-use Rattle.std.proofs.Common.{◌≡◌, ◌≢◌, ◌↔◌, ℕ, zero, suc, ◌+◌, ◌-◌, ◌≤◌, ◌<◌, ◌⊎◌, inl, inr, Bool, true, false, ◌&&◌, ◌||◌, List, [], ◌∷◌, ◌++◌, length, take, drop, slice_get, slice_range, ◌==◌, Option, None, Some, IsTrue, IsFalse, refl, sym, ◌∙◌, ap, subst, arith, encode_utf8, length-append, append_assoc, append-nil}
+use Rattle.std.proofs.Common.{◌≡◌, ◌↔◌, ℕ, zero, suc, ◌+◌, ◌-◌, ◌≤◌, ◌<◌, ◌⊎◌, inl, inr, Bool, true, false, ◌&&◌, ◌||◌, List, [], ◌∷◌, ◌++◌, length, drop, slice_get, slice_range, ◌==◌, IsTrue, IsFalse, refl, sym, ◌∙◌, ap, subst, arith, encode_utf8, length-append, append-nil}
 use Rattle.std.proofs.lemmas.List.{drop-append-le, take-append-le, length-drop}
-use Rattle.std.proofs.lemmas.Option.{slice_get_past}
 use Rattle.std.proofs.lemmas.Bool.Decides.{nat_tests}
 use Rattle.std.proofs.Math.Seq.{drop-append-add}
 use Rattle.logos_pattern.specs.Text.{StandsAt, byte_before, byte_after}
 use Rattle.logos_pattern.specs.Tree.{Tree, empty, literal, byte_class, char_class, look, repetition, capture, concat, alternation, Trees, none, also}
-use Rattle.logos_pattern.specs.Looks.{Holds, holds_between}
+use Rattle.logos_pattern.specs.Looks.{holds_between}
 use Rattle.logos_pattern.specs.Matches.{Matches, MatchesInOrder, SomeMatches, Pieces}
 use Rattle.logos_pattern.specs.Priority.{passable, leads, leads_in_order, some_leads}
 use Rattle.logos_pattern.proofs.Bounds.{Within, pieces_within, matches_within, parts_within}
@@ -26,7 +25,8 @@ alike_back a b d e k h = record {
   spans = λ i j l m. sym (h.spans i j l m);
   bytes = λ i l. sym (h.bytes i l);
   inside = h.inside_too;
-  inside_too = h.inside }
+  inside_too = h.inside;
+}
 
 before_at : (xs : List ℕ) (n : ℕ) → byte_before xs (suc n) ≡ slice_get xs n
 before_at xs n = rw (not_zero n) (ap (slice_get xs) (omega arith))
@@ -58,6 +58,7 @@ shift_pieces R Q d e k size leading within fits each (suc n) i j l m f (cut, fir
     later : (c : ℕ) → i ≤ c → Free i leading → Free c leading
     later c l (inl x) = inl (omega arith)
     later c l (inr x) = inr x
+
     go : (c : ℕ) → cut ≡ d + c → i ≤ c → c ≤ j →
         ((i j : ℕ) → i ≤ j → j ≤ k → Free i leading → Pieces R n (d + i) (d + j) → Pieces Q n (e + i) (e + j)) → Pieces Q (suc n) (e + i) (e + j)
     go c q lo hi ih = (e + c, each i c lo (omega arith) f (subst (λ x. R (d + i) x) q first), ih c j hi m (later c lo f) (subst (λ x. Pieces R n x (d + j)) q rest))
@@ -79,9 +80,11 @@ module _ (a b : List ℕ) (d e k : ℕ) (h : AreAlike a b d e k) where
     shift (literal text) i j l m f x = shift_text text i j l m x
     shift (byte_class ranges) i j l m f x = (x.0, x.1, shift_text (x.0 ∷ []) i j l m x.2)
     shift (char_class ranges) i j l m f x = (x.0, x.1, x.2, shift_text (encode_utf8 x.0) i j l m x.3)
-    shift (look kind) i j l m (inl f) x =
-        (omega (arith, x.0), subst (λ o. IsTrue (holds_between kind o (byte_after b (e + i)))) (same_before i f (omega arith))
-            (subst (λ o. IsTrue (holds_between kind (byte_before a (d + i)) o)) (h.bytes i (omega arith)) x.1))
+    shift (look kind) i j l m (inl f) x = (
+      omega (arith, x.0),
+      subst (λ o. IsTrue (holds_between kind o (byte_after b (e + i)))) (same_before i f (omega arith))
+          (subst (λ o. IsTrue (holds_between kind (byte_before a (d + i)) o)) (h.bytes i (omega arith)) x.1),
+    )
     shift (look kind) i j l m (inr f) x = absurd (cc)
     shift (repetition least most greedy body) i j l m f x =
         (x.0, x.1, shift_pieces (Matches body a) (Matches body b) d e k (length a) (leads body) (matches_within body a) h.inside (shift body) x.0 i j l m f x.2)
@@ -105,9 +108,11 @@ module _ (a b : List ℕ) (d e k : ℕ) (h : AreAlike a b d e k) where
           where
             at_first : Matches t a (d + i) (d + c)
             at_first = subst (λ x. Matches t a (d + i) x) q first
+
             one : Free i (leads t || (passable t && leads_in_order ts)) → Free i (leads t)
             one (inl x) = inl x
             one (inr x) = inr (or_false _ _ x).0
+
             two : (n : ℕ) → n ≡ c → Free i (leads t || (passable t && leads_in_order ts)) → Free c (leads_in_order ts)
             two n z (inl x) = inl (omega arith)
             two (suc n) z (inr x) = inl (omega arith)
@@ -145,14 +150,17 @@ alike_within pre w post k f = record {
   spans = λ i j l m. same_span i j l (le f j m);
   bytes = λ i l. get_after pre (w ++ post) i ∙ same_byte i l f ∙ ap (slice_get w) (omega arith);
   inside = let n = length-append pre (w ++ post) in let n' = length-append w post in let q = le f k (omega arith) in omega arith;
-  inside_too = let q = le f k (omega arith) in omega arith }
+  inside_too = let q = le f k (omega arith) in omega arith;
+}
   where
     le : (k < length w) ⊎ ((k ≡ length w) × (post ≡ [])) → (j : ℕ) → j ≤ k → j ≤ length w
     le (inl f) j m = omega arith
     le (inr f) j m = omega (arith, f.0)
+
     same_byte : (i : ℕ) → i ≤ k → (k < length w) ⊎ ((k ≡ length w) × (post ≡ [])) → slice_get (w ++ post) i ≡ slice_get w i
     same_byte i l (inl f) = get_within w post i (omega arith)
     same_byte i l (inr f) = ap (λ x. slice_get (w ++ x) i) f.1 ∙ ap (λ x. slice_get x i) (append-nil w)
+
     same_span : (i j : ℕ) → i ≤ j → j ≤ length w → slice_range (pre ++ (w ++ post)) (length pre + i) (length pre + j) ≡ slice_range w (0 + i) (0 + j)
     same_span i j l m =
         let p : length pre + j - (length pre + i) ≡ j - i = omega arith in
@@ -175,7 +183,8 @@ pub rule_within_text : (rules : List Rule) (leaf : ℕ) (pre w post : List ℕ) 
 rule_within_text rules leaf pre w post k f l =
     let h = alike_within pre w post k l in
     let x : length pre + 0 ≡ length pre = omega arith in
-    let y : 0 + k ≡ k = omega arith in
-    (λ m. subst (λ (z : ℕ). RuleMatches rules leaf w 0 z) y (rules_shift rules leaf _ w (length pre) 0 k h f (subst (λ (z : ℕ). RuleMatches rules leaf (pre ++ (w ++ post)) z (length pre + k)) (sym x) m)),
-    λ m. subst (λ (z : ℕ). RuleMatches rules leaf (pre ++ (w ++ post)) z (length pre + k)) x
-        (rules_shift rules leaf w (pre ++ (w ++ post)) 0 (length pre) k (alike_back _ _ _ _ _ h) f (subst (λ (z : ℕ). RuleMatches rules leaf w 0 z) (sym y) m)))
+    let y : 0 + k ≡ k = omega arith in (
+      λ m. subst (λ (z : ℕ). RuleMatches rules leaf w 0 z) y (rules_shift rules leaf _ w (length pre) 0 k h f (subst (λ (z : ℕ). RuleMatches rules leaf (pre ++ (w ++ post)) z (length pre + k)) (sym x) m)),
+      λ m. subst (λ (z : ℕ). RuleMatches rules leaf (pre ++ (w ++ post)) z (length pre + k)) x
+          (rules_shift rules leaf w (pre ++ (w ++ post)) 0 (length pre) k (alike_back _ _ _ _ _ h) f (subst (λ (z : ℕ). RuleMatches rules leaf w 0 z) (sym y) m)),
+    )

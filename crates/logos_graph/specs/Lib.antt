@@ -7,4 +7,11 @@ pub mod Found
 pub mod Faults
 pub mod Reduced
 pub mod Least
+pub mod Bytes
+pub mod Core
+pub mod Repeat
+pub mod Characters
+pub mod Reader
+pub mod IsCore
+pub mod Run
 pub mod View

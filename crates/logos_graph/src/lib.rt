@@ -1,3 +1,5 @@
 //! The automaton of a lexer, and its graph.
 
 #![tactic(auto)]
+
+pub mod byte_class;
