@@ -12,3 +12,14 @@ pub mod TextLemmas
 pub mod IsCoreLemmas
 pub mod TreesLemmas
 pub mod PartLemmas
+pub mod Steps
+pub mod Raw
+pub mod First
+pub mod Settled
+pub mod Pruned
+pub mod Maps
+pub mod Longest
+pub mod Automaton
+pub mod Whole
+pub mod Useful
+pub mod WalkExamples

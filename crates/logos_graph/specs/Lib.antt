@@ -15,3 +15,5 @@ pub mod Reader
 pub mod IsCore
 pub mod Run
 pub mod View
+pub mod First
+pub mod Walk
