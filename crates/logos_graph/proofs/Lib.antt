@@ -23,3 +23,6 @@ pub mod Automaton
 pub mod Whole
 pub mod Useful
 pub mod WalkExamples
+pub mod RowLemmas
+pub mod PushLemmas
+pub mod MarkFacts

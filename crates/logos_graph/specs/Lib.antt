@@ -17,3 +17,6 @@ pub mod Run
 pub mod View
 pub mod First
 pub mod Walk
+pub mod Rows
+pub mod RowsKept
+pub mod Reduce

@@ -3,3 +3,4 @@
 #![tactic(auto)]
 
 pub mod byte_class;
+mod reduce;
