@@ -26,3 +26,8 @@ pub mod WalkExamples
 pub mod RowLemmas
 pub mod PushLemmas
 pub mod MarkFacts
+pub mod ListLemmas
+pub mod CountLemmas
+pub mod OrderLemmas
+pub mod EdgeFacts
+pub mod PruneLemmas

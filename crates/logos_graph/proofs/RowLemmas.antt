@@ -78,3 +78,7 @@ source_below rows s k t e = go (cases_lt s (length rows))
     go : (s < length rows) ⊎ (length rows ≤ s) → s < length rows
     go (inl l) = l
     go (inr l) = let z : target_in rows s k ≡ None = ap (λ r. target_by r k) (get_or_past rows s [] l) in absurd (cc)
+
+-- no other state has an edge
+pub no_source : (rows : List (List ℕ)) (s k : ℕ) → length rows ≤ s → target_in rows s k ≡ None
+no_source rows s k l = ap (λ r. target_by r k) (get_or_past rows s [] l)

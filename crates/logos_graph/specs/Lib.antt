@@ -20,3 +20,5 @@ pub mod Walk
 pub mod Rows
 pub mod RowsKept
 pub mod Reduce
+pub mod MergeLists
+pub mod ReduceOrder

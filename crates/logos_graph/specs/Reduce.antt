@@ -3,7 +3,9 @@ use Rattle.std.specs.Prelude.{◌≡◌, ◌≢◌, ◌<◌, ◌↔◌, ◌⊎�
 use Rattle.logos_graph.specs.Graph.{StateType}
 use Rattle.logos_graph.specs.Rows.{target_in}
 use Rattle.logos_graph.specs.RowsKept.{rows_of}
-use Rattle.logos_graph.specs.Walk.{Edges}
+use Rattle.logos_graph.specs.ReduceOrder.{IsMet}
+use Rattle.logos_graph.specs.Reduced.{IsMarked}
+use Rattle.logos_graph.specs.Walk.{Edges, Leads}
 use Rattle.logos_graph.specs.declared.reduce.table.Mark.{Mark}
 use Rattle.logos_graph.specs.declared.reduce.table.Table.{Table}
 
@@ -82,3 +84,22 @@ pub record IsSettled (old new : Table) : Type 0 where
   pub states : size new ≡ size old
   pub early : (s : ℕ) → s < size old → IsCommon old s (mark new s).early
   pub late : (t : ℕ) → t < size old → IsKeptOrSpare old new t
+
+-- the state has a mark, or leads to one by the end
+abbrev pub IsSeed : Table → ℕ → Type 0
+IsSeed table s = IsMarked (type_of (mark table s)) ⊎ ((t : ℕ) × (to table s 256 ≡ Some t) × IsMarked (type_of (mark table t)))
+
+-- the state has a mark, or leads to one
+abbrev pub IsOfUse : Table → ℕ → Type 0
+IsOfUse table s = IsMarked (type_of (mark table s)) ⊎ Leads (edges table) s
+
+-- in the order are just the states that have a mark or lead to one
+abbrev pub AreUseful : Table → List ℕ → Type 0
+AreUseful table numbers = (s : ℕ) → s < size table → IsMet numbers s ↔ IsOfUse table s
+
+-- The new table has the marks of the old one, and just the edges to states that have a mark or lead to one.
+pub record IsPrunedTable (old new : Table) : Type 0 where
+  pub marks : new.marks ≡ old.marks
+  pub kept : (s k t : ℕ) → to old s k ≡ Some t → IsOfUse old t → to new s k ≡ Some t
+  pub left_out : (s k t : ℕ) → to old s k ≡ Some t → (IsOfUse old t → ⊥) → to new s k ≡ None
+  pub none : (s k : ℕ) → to old s k ≡ None → to new s k ≡ None

@@ -1,5 +1,8 @@
 //! The reductions that make an automaton a graph.
 
+mod lists;
 mod marks;
+mod order;
+mod prune;
 mod rows;
 mod table;
