@@ -31,3 +31,4 @@ pub mod CountLemmas
 pub mod OrderLemmas
 pub mod EdgeFacts
 pub mod PruneLemmas
+pub mod KindLemmas

@@ -22,3 +22,4 @@ pub mod RowsKept
 pub mod Reduce
 pub mod MergeLists
 pub mod ReduceOrder
+pub mod Merge

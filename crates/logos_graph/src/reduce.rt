@@ -1,5 +1,6 @@
 //! The reductions that make an automaton a graph.
 
+mod blocks;
 mod lists;
 mod marks;
 mod order;
