@@ -32,3 +32,4 @@ pub mod OrderLemmas
 pub mod EdgeFacts
 pub mod PruneLemmas
 pub mod KindLemmas
+pub mod TwinLemmas

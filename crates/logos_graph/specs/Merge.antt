@@ -1,5 +1,5 @@
 -- States in blocks, and how blocks were split.
-use Rattle.std.specs.Prelude.{◌≡◌, ◌≢◌, ◌+◌, ◌<◌, ◌≤◌, ◌⊎◌, ℕ, List, [], ◌∷◌, Option, Some, None, option_map, length, slice_get, slice_index, slice_index_or}
+use Rattle.std.specs.Prelude.{◌≡◌, ◌≢◌, ◌+◌, ◌<◌, ◌≤◌, ◌⊎◌, ℕ, List, [], ◌∷◌, nat_lt, if◌then◌else◌, Option, Some, None, option_map, length, slice_get, slice_index, slice_index_or}
 use Rattle.logos_graph.specs.Reduce.{size, to, mark}
 use Rattle.logos_graph.specs.declared.reduce.blocks.Split.{Split}
 use Rattle.logos_graph.specs.declared.reduce.table.Mark.{Mark}
@@ -86,3 +86,16 @@ key_of m = (tagged m.accept).0 ∷ (tagged m.accept).1 ∷ (tagged m.early).0 �
 pub record AreKinds (table : Table) (n : ℕ) (blocks : List ℕ) (keys : List (List ℕ)) : Type 0 where
   pub keyed : (s : ℕ) → s < n → slice_get keys (slice_index blocks s) ≡ Some (key_of (mark table s))
   pub distinct : (i j : ℕ) (key : List ℕ) → slice_get keys i ≡ Some key → slice_get keys j ≡ Some key → i ≡ j
+
+-- the block that a block was parted from, if it is not one of the first ones
+abbrev pub block_before : List Split → ℕ → ℕ → ℕ
+block_before splits fresh c = if nat_lt c fresh then c else (split_at splits c).parent
+
+-- The new blocks are the old ones, of which some states have left some, for reasons that are told.
+pub record IsExtension (table : Table) (splits more : List Split) (old new : ℕ → ℕ) : Type 0 where
+  pub goes_on : Continues splits more
+  pub within : IsWithin (size table) new (length more)
+  pub before : (s : ℕ) → s < size table → old s ≡ block_before more (length splits) (new s)
+  pub older : (j : ℕ) → length splits ≤ j → j < length more → (split_at more j).parent < length splits
+  pub parted : (j s t : ℕ) → length splits ≤ j → j < length more → s < size table → t < size table → new s ≡ j → new t ≢ j → old t ≡ (split_at more j).parent →
+      ArePartedBy table old (split_at more j).symbol s t
