@@ -23,3 +23,11 @@ pub mod Joined
 pub mod Run
 pub mod View
 pub mod Errors
+pub mod First
+pub mod Walk
+pub mod Rows
+pub mod RowsKept
+pub mod Reduce
+pub mod MergeLists
+pub mod ReduceOrder
+pub mod Merge

@@ -12,5 +12,6 @@ mod marks;
 mod node;
 mod prepare;
 mod ranges;
+mod reduce;
 mod step;
 mod table;

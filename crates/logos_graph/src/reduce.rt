@@ -1,0 +1,11 @@
+//! The reductions that make an automaton a graph.
+
+mod blocks;
+mod hints;
+mod lists;
+mod marks;
+mod order;
+mod prune;
+mod rows;
+mod table;
+mod twins;

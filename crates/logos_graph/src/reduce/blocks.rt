@@ -1,0 +1,71 @@
+// States in blocks.
+ghost use Rattle.std.specs.Prelude.{None, ◌≡◌, ◌≢◌, ℕ, ◌+◌, ◌<◌, ◌≤◌, IfOk, length, vec_len, slice_index, slice_index_or};
+ghost use Rattle.logos_graph.specs.Merge as merge;
+ghost use Rattle.logos_graph.specs.Reduce.{size};
+
+use std::alloc::{AllocError, Global};
+
+use super::table::{Mark, Table};
+use indexmap::IndexSet;
+
+/// How a block came to be: it was parted from another one, by a symbol or by the marks of states.
+#[derive(Clone, Copy, Drop)]
+pub struct Split {
+    pub parent: usize,
+    pub symbol: Option<usize>,
+}
+
+/// The block of each state, and how each block came to be.
+#[derive(Drop)]
+pub struct Blocks {
+    pub of: Vec<usize>,
+    /// For each block but 0 how it was parted from one with a lower number.
+    pub splits: Vec<Split>,
+    ghost within: { (s : ℕ) → s < vec_len of → slice_index of.items s < vec_len splits },
+}
+
+/// A mark as a key.
+fn key_of(mark: Mark) -> [usize; 4]
+    ensures { result ≡ merge.key_of mark }
+{
+    let (accepts, accept) = tagged(mark.accept);
+    let (is_early, early) = tagged(mark.early);
+    [accepts, accept, is_early, early]
+}
+
+/// Whether there is a leaf, and its number.
+fn tagged(leaf: Option<usize>) -> (usize, usize)
+    ensures { result ≡ merge.tagged leaf }
+{
+    match leaf {
+        Some(leaf) => (1, leaf),
+        None => (0, 0),
+    }
+}
+
+/// So many blocks, parted by the marks of states.
+fn parted_by_marks(alloc: Global, count: usize) -> Result<Vec<Split>, AllocError>
+    ensures len { IfOk result (λ v. vec_len v ≡ count) }
+    ensures splits { IfOk result (λ v. (j : ℕ) → merge.split_at v.items j ≡ record { parent = 0; symbol = None }) }
+{
+    let mut splits = Vec::new(alloc);
+    for _i in 0..count {
+        splits.push(Split { parent: 0, symbol: None })?;
+    }
+    Ok(splits)
+}
+
+/// The states in blocks by their marks.
+pub fn by_marks(alloc: Global, table: &Table) -> Result<Blocks, AllocError>
+    ensures len { IfOk result (λ b. vec_len b.of ≡ size table.now) }
+    ensures sound { IfOk result (λ b. merge.IsSound table.now b.splits.items (slice_index b.of.items)) }
+{
+    let mut keys = IndexSet::new(alloc);
+    let mut of = Vec::new(alloc);
+    for s in 0..table.len() {
+        let (kind, _) = keys.insert_full(key_of(table.mark(s)))?;
+        of.push(kind)?;
+    }
+    let splits = parted_by_marks(alloc, keys.len())?;
+    Ok(Blocks { of, splits })
+}
