@@ -67,15 +67,19 @@ pub kinds_more : (table : Table) (s : ℕ) (blocks blocks' : List ℕ) (keys key
     slice_get keys' kind ≡ Some stored → pointwise nat_eq (key_of (mark table s)) stored ≡ true → AreKinds table (s + 1) blocks' keys'
 kinds_more table s blocks blocks' keys keys' kind stored h len e grown at like = record {
   keyed = λ t l. keyed t l (cases_lt t s);
-  distinct = λ i j k p q. distinct_added (list_any (pointwise nat_eq y) keys) refl i j k (rw grown at p) (rw grown at q) }
+  distinct = λ i j k p q. distinct_added (list_any (pointwise nat_eq y) keys) refl i j k (rw grown at p) (rw grown at q);
+}
   where
     y : List ℕ
     y = key_of (mark table s)
+
     kept : (b : Bool) (i : ℕ) (k : List ℕ) → slice_get keys i ≡ Some k → slice_get (if b then keys else keys ++ y ∷ []) i ≡ Some k
     kept true i k g = g
     kept false i k g = got_front keys (y ∷ []) i k g
+
     one : y ≡ stored
     one = (bytes_decides y stored).0 like
+
     keyed : (t : ℕ) → t < s + 1 → (t < s) ⊎ (s ≤ t) → slice_get keys' (slice_index blocks' t) ≡ Some (key_of (mark table t))
     keyed t l (inl m) =
         let old : slice_index blocks' t ≡ slice_index blocks t = ap (λ xs. slice_index xs t) e ∙ get_or_append_left blocks (kind ∷ []) 0 t (omega arith) in
@@ -84,6 +88,7 @@ kinds_more table s blocks blocks' keys keys' kind stored h len e grown at like =
         let same : t ≡ s = omega arith in
         let new : slice_index blocks' t ≡ kind = ap (λ xs. slice_index xs t) e ∙ ap (slice_index (blocks ++ kind ∷ [])) same ∙ get_or_push blocks kind 0 s len in
         ap (slice_get keys') new ∙ at ∙ ap Some (sym one) ∙ ap (λ t. Some (key_of (mark table t))) (sym same)
+
     distinct_added : (b : Bool) → list_any (pointwise nat_eq y) keys ≡ b → (i j : ℕ) (k : List ℕ) →
         slice_get (if b then keys else keys ++ y ∷ []) i ≡ Some k → slice_get (if b then keys else keys ++ y ∷ []) j ≡ Some k → i ≡ j
     distinct_added true none i j k p q = h.distinct i j k p q
@@ -122,8 +127,10 @@ module _ (table : Table) (blocks : List ℕ) (keys : List (List ℕ)) (h : AreKi
       last = λ s l. let m = within s l in let t : nat_lt (slice_index blocks s) (length splits) ≡ true = grind (arith, nat_tests) in rw t refl;
       below = λ j s some few l. below j s some (cases_lt (slice_index blocks s) j);
       step = λ j s some few l. step j s some (cases_lt (slice_index blocks s) j) (cases_lt (slice_index blocks s) (j + 1));
-      parted = λ j s t some few hs ht e q. parted j s t some hs ht e q };
-    marks = kind_marks }
+      parted = λ j s t some few hs ht e q. parted j s t some hs ht e q;
+    };
+    marks = kind_marks;
+  }
     where
       is_new : (j s : ℕ) → early_block (j + 1) s ≡ j → 0 < j → slice_index blocks s ≡ j
       is_new j s e l = go (cases_lt (slice_index blocks s) (j + 1))
@@ -131,9 +138,11 @@ module _ (table : Table) (blocks : List ℕ) (keys : List (List ℕ)) (h : AreKi
           go : (slice_index blocks s < j + 1) ⊎ (j + 1 ≤ slice_index blocks s) → slice_index blocks s ≡ j
           go (inl m) = let t : nat_lt (slice_index blocks s) (j + 1) ≡ true = grind (arith, nat_tests) in rw t at e
           go (inr m) = let t : nat_lt (slice_index blocks s) (j + 1) ≡ false = grind (arith, nat_tests) in let q : 0 ≡ j = rw t at e in absurd (omega arith)
+
       below : (j s : ℕ) → 0 < j → (slice_index blocks s < j) ⊎ (j ≤ slice_index blocks s) → early_block j s < j
       below j s l (inl m) = let t : nat_lt (slice_index blocks s) j ≡ true = grind (arith, nat_tests) in rw t m
       below j s l (inr m) = let t : nat_lt (slice_index blocks s) j ≡ false = grind (arith, nat_tests) in rw t l
+
       step : (j s : ℕ) → 0 < j → (slice_index blocks s < j) ⊎ (j ≤ slice_index blocks s) → (slice_index blocks s < j + 1) ⊎ (j + 1 ≤ slice_index blocks s) →
           (early_block (j + 1) s ≡ early_block j s) ⊎ ((early_block (j + 1) s ≡ j) × (early_block j s ≡ (split_at splits j).parent))
       step j s l (inl m) n =
@@ -149,6 +158,7 @@ module _ (table : Table) (blocks : List ℕ) (keys : List (List ℕ)) (h : AreKi
           let t : nat_lt (slice_index blocks s) j ≡ false = grind (arith, nat_tests) in
           let u : nat_lt (slice_index blocks s) (j + 1) ≡ false = grind (arith, nat_tests) in
           inl (rw (t, u) refl)
+
       parted : (j s t : ℕ) → 0 < j → s < size table → t < size table → early_block (j + 1) s ≡ j → early_block (j + 1) t ≡ (split_at splits j).parent →
           ArePartedBy table (early_block j) (split_at splits j).symbol s t
       parted j s t l hs ht e q =

@@ -29,6 +29,7 @@ has-push_only xs y t h = go (or_cases (has xs t) (eqb t y || false) (sym (list_a
         go' (inl x) = x.1
         go' (inr x) = absurd (cc (x.0))
     one false q e = absurd (cc)
+
     go : (has xs t ≡ true) ⊎ ((eqb t y || false) ≡ true) → (has xs t ≡ true) ⊎ (t ≡ y)
     go (inl x) = inl x
     go (inr x) = inr (one (eqb t y) refl x)
@@ -82,8 +83,9 @@ has-append_right xs ys s h = list_any-append (λ x. eqb s x) xs ys ∙ ap (λ (b
 pub has_index : (xs : List ℕ) (s : ℕ) → has xs s ≡ true → (j : ℕ) × (j < length xs) × (slice_index xs j ≡ s)
 has_index [] s h = absurd (cc)
 has_index (x ∷ xs) s h = elim (eqb_tells s x) [
-    inl e ↦ (0, omega arith, sym e.1)
-  | inr d ↦ let h' : has xs s ≡ true = sym (ap (λ (b : Bool). b || has xs s) d.0) ∙ h in let p = has_index xs s h' in (suc p.0, omega (arith, p.1), p.2) ]
+  | inl e ↦ (0, omega arith, sym e.1)
+  | inr d ↦ let h' : has xs s ≡ true = sym (ap (λ (b : Bool). b || has xs s) d.0) ∙ h in let p = has_index xs s h' in (suc p.0, omega (arith, p.1), p.2)
+]
 
 -- an empty list more
 pub has_in-push_empty : (lists : List (Vec ℕ Global)) (v : Vec ℕ Global) (b s : ℕ) → v.items ≡ [] → has_in (lists ++ v ∷ []) b s ≡ true → has_in lists b s ≡ true

@@ -10,18 +10,21 @@ pub order_more : (numbers states : List ℕ) (s : ℕ) → IsOrder numbers state
     IsOrder (slice_set numbers s (length states + 1)) (states ++ s ∷ [])
 order_more numbers states s h room free = record {
   placed = λ i l. elim (eqb_tells i (length states)) [
-      inl e ↦ (grind (arith, common_steps, e.1), grind (arith, common_steps, e.1))
+    | inl e ↦ (grind (arith, common_steps, e.1), grind (arith, common_steps, e.1))
     | inr d ↦
         let lt : i < length states = grind (arith, common_steps, d.1) in
         let p = h.placed i lt in
         let ne : slice_index states i ≢ s = (λ e. let q : slice_index numbers (slice_index states i) ≡ slice_index numbers s = ap (slice_index numbers) e in omega (arith, p.1, q, free)) in
-        (grind (arith, common_steps), grind (arith, common_steps)) ];
+        (grind (arith, common_steps), grind (arith, common_steps))
+  ];
   named = λ t i e. elim (eqb_tells t s) [
-      inl q ↦ (grind (arith, common_steps, q.1), grind (arith, common_steps, q.1))
+    | inl q ↦ (grind (arith, common_steps, q.1), grind (arith, common_steps, q.1))
     | inr d ↦
         let e' : slice_index numbers t ≡ i + 1 = grind (arith, common_steps, d.1) in
         let p = h.named t i e' in
-        (grind (arith, common_steps), grind (arith, common_steps)) ] }
+        (grind (arith, common_steps), grind (arith, common_steps))
+  ];
+}
 
 pub grows_same : (numbers : List ℕ) → Grows numbers numbers
 grows_same numbers = record { keeps = λ t i e. e }

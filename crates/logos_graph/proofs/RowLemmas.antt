@@ -66,6 +66,7 @@ symbol_below rows wide s k t e = go (cases_lt k 257) (cases_lt s (length rows))
     none row q l =
         let z : target_in rows s k ≡ None = ap (λ r. target_by r k) q ∙ ap target_of (past row k l) in
         absurd (cc)
+
     go : (k < 257) ⊎ (257 ≤ k) → (s < length rows) ⊎ (length rows ≤ s) → k < 257
     go (inl l) m = l
     go (inr l) (inl m) = let w = wide s m in none (slice_index_or rows s []) refl (omega arith)

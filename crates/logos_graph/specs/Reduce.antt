@@ -32,7 +32,8 @@ abbrev pub edges : Table → Edges ℕ
 edges table = record {
   type_of = λ s. type_of (mark table s);
   next = to table;
-  at_end = λ s. to table s 256 }
+  at_end = λ s. to table s 256;
+}
 
 -- the leaf that is accepted where a symbol leads
 abbrev pub accepted : Table → ℕ → ℕ → Option ℕ

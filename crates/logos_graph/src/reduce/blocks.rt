@@ -3,10 +3,9 @@ ghost use Rattle.std.specs.Prelude.{None, ◌≡◌, ◌≢◌, ℕ, ◌+◌, �
 ghost use Rattle.logos_graph.specs.Merge as merge;
 ghost use Rattle.logos_graph.specs.Reduce.{size};
 
-use std::alloc::{AllocError, Global};
-
 use super::table::{Mark, Table};
 use indexmap::IndexSet;
+use std::alloc::{AllocError, Global};
 
 /// How a block came to be: it was parted from another one, by a symbol or by the marks of states.
 #[derive(Clone, Copy, Drop)]
@@ -50,7 +49,10 @@ fn parted_by_marks(alloc: Global, count: usize) -> Result<Vec<Split>, AllocError
 {
     let mut splits = Vec::new(alloc);
     for _i in 0..count {
-        splits.push(Split { parent: 0, symbol: None })?;
+        splits.push(Split {
+            parent: 0,
+            symbol: None,
+        })?;
     }
     Ok(splits)
 }

@@ -17,7 +17,12 @@ pub struct Hints {
 
 impl Hints {
     /// Each of the first `count` blocks is to be looked at.
-    pub fn new(alloc: Global, blocks: &Vec<usize>, count: usize, room: usize) -> Result<Hints, AllocError>
+    pub fn new(
+        alloc: Global,
+        blocks: &Vec<usize>,
+        count: usize,
+        room: usize,
+    ) -> Result<Hints, AllocError>
         requires within { (s : ℕ) → s < vec_len blocks.now → slice_index blocks.now.items s < room }
         requires count_in { count ≤ room }
         ensures { IfOk result (λ h. vec_len h.sizes ≡ room) }
@@ -33,7 +38,12 @@ impl Hints {
         for b in 0..count {
             todo.push(b)?;
         }
-        Ok(Hints { counts, sizes, pending, todo })
+        Ok(Hints {
+            counts,
+            sizes,
+            pending,
+            todo,
+        })
     }
 
     /// One more hit of the block.
@@ -64,7 +74,11 @@ impl Hints {
         self.counts[block] = 0;
         self.sizes[block] = rest;
         self.sizes[twin] = hits;
-        let next = if self.pending[block] || hits <= rest { twin } else { block };
+        let next = if self.pending[block] || hits <= rest {
+            twin
+        } else {
+            block
+        };
         self.pending[next] = true;
         self.todo.push(next)?;
         Ok(())

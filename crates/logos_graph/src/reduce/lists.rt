@@ -4,10 +4,9 @@ ghost use Rattle.logos_graph.specs.MergeLists.{has, has_in, ArePredecessors};
 ghost use Rattle.logos_graph.specs.Reduce.{size, to};
 ghost use Rattle.logos_graph.specs.Rows.{target_by};
 
-use std::alloc::{AllocError, Global};
-
 use super::rows::Row;
 use super::table::{Table, target_at};
+use std::alloc::{AllocError, Global};
 
 /// As many empty lists.
 pub fn empty_lists(alloc: Global, len: usize) -> Result<Vec<Vec<usize>>, AllocError>
@@ -47,7 +46,12 @@ pub fn file(lists: &mut Vec<Vec<usize>>, b: usize, s: usize) -> Result<(), Alloc
 }
 
 /// Adds a state to the list of each of its targets by the first symbols.
-fn file_row(lists: &mut Vec<Vec<usize>>, row: &Row, s: usize, width: usize) -> Result<(), AllocError>
+fn file_row(
+    lists: &mut Vec<Vec<usize>>,
+    row: &Row,
+    s: usize,
+    width: usize,
+) -> Result<(), AllocError>
     requires width { width ≤ 257 }
     requires inside { (k t : ℕ) → target_by row.now k ≡ Some t → t < vec_len lists.old }
     ensures len { vec_len lists.new ≡ vec_len lists.old }
@@ -65,7 +69,11 @@ fn file_row(lists: &mut Vec<Vec<usize>>, row: &Row, s: usize, width: usize) -> R
 }
 
 /// For each state, the states that lead to it by one of the first symbols.
-pub fn predecessors(alloc: Global, table: &Table, width: usize) -> Result<Vec<Vec<usize>>, AllocError>
+pub fn predecessors(
+    alloc: Global,
+    table: &Table,
+    width: usize,
+) -> Result<Vec<Vec<usize>>, AllocError>
     requires { width ≤ 257 }
     ensures len { IfOk result (λ v. vec_len v ≡ size table.now) }
     ensures lists { IfOk result (λ v. ArePredecessors (size table.now) width (to table.now) v.items) }

@@ -2,10 +2,9 @@
 ghost use Rattle.std.specs.Prelude.{◌≡◌, ◌≢◌, ℕ, ◌+◌, ◌<◌, ◌↔◌, ◌⊎◌, None, Some, IfOk, length, vec_len, slice_index_or, if◌then◌else◌};
 ghost use Rattle.logos_graph.specs.Reduce.{size, to, mark, accepted, IsCommon, AreCommon, IsSet, IsNeeded, IsSpare, AreNeeded, IsMarkedBy, IsSettled, mark_in};
 
-use std::alloc::{AllocError, Global};
-
 use super::rows::{END, WIDTH};
 use super::table::{Mark, Table};
+use std::alloc::{AllocError, Global};
 
 /// The leaf that is accepted where a symbol leads.
 fn accepted_by(table: &Table, s: usize, k: usize) -> Option<usize>
@@ -76,7 +75,11 @@ fn note_targets(table: &Table, s: usize, early: Option<usize>, needed: &mut Vec<
 }
 
 /// For each state whether its late mark is needed.
-fn needed_marks(alloc: Global, table: &Table, early: &Vec<Option<usize>>) -> Result<Vec<bool>, AllocError>
+fn needed_marks(
+    alloc: Global,
+    table: &Table,
+    early: &Vec<Option<usize>>,
+) -> Result<Vec<bool>, AllocError>
     requires { vec_len early.now ≡ size table.now }
     ensures len { IfOk result (λ v. vec_len v ≡ size table.now) }
     ensures needed { IfOk result (λ v. AreNeeded table.now early.now.items (size table.now) v.items) }
@@ -93,11 +96,19 @@ fn settled_mark(mark: Mark, early: Option<usize>, needed: bool) -> Mark
     ensures early { result.early ≡ early }
     ensures accept { result.accept ≡ (if needed then mark.accept else None) }
 {
-    Mark { accept: if needed { mark.accept } else { None }, early }
+    Mark {
+        accept: if needed { mark.accept } else { None },
+        early,
+    }
 }
 
 /// The marks of all states, once their early marks are known.
-fn settled_marks(alloc: Global, table: &Table, early: &Vec<Option<usize>>, needed: &Vec<bool>) -> Result<Vec<Mark>, AllocError>
+fn settled_marks(
+    alloc: Global,
+    table: &Table,
+    early: &Vec<Option<usize>>,
+    needed: &Vec<bool>,
+) -> Result<Vec<Mark>, AllocError>
     requires early { vec_len early.now ≡ size table.now }
     requires needed { vec_len needed.now ≡ size table.now }
     ensures len { IfOk result (λ v. vec_len v ≡ size table.now) }

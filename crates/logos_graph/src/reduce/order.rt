@@ -21,7 +21,10 @@ impl Order {
         ensures none { IfOk result (λ o. (s : ℕ) → IsMet o.numbers.items s → ⊥) }
     {
         let numbers = vec![in alloc; 0; len]?;
-        Ok(Order { numbers, states: Vec::new(alloc) })
+        Ok(Order {
+            numbers,
+            states: Vec::new(alloc),
+        })
     }
 
     /// Puts a state at the end of the order, if it is not there yet.

@@ -7,12 +7,11 @@ ghost use Rattle.logos_graph.specs.Reduced.{IsMarked};
 ghost use Rattle.logos_graph.specs.Rows.{target_by, target_of, target_in};
 ghost use Rattle.logos_graph.specs.RowsKept.{rows_of};
 
-use std::alloc::{AllocError, Global};
-
 use super::lists::predecessors;
 use super::order::Order;
 use super::rows::{END, Row, Rows, WIDTH};
 use super::table::{Mark, Table, target_at};
+use std::alloc::{AllocError, Global};
 
 /// Whether there is a mark.
 fn is_marked(mark: Mark) -> bool
@@ -122,5 +121,8 @@ pub fn prune(alloc: Global, table: Table) -> Result<Table, AllocError>
     let order = useful_states(alloc, &table)?;
     let pruned = pruned_rows(alloc, &table, &order)?;
     let Table { marks, rows: _ } = table;
-    Ok(Table { marks, rows: pruned })
+    Ok(Table {
+        marks,
+        rows: pruned,
+    })
 }

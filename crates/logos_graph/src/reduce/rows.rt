@@ -2,9 +2,8 @@
 ghost use Rattle.std.specs.Prelude.{◌≡◌, ℕ, ◌<◌, ◌++◌, ◌∷◌, [], OnOk, length, vec_len, slice_index, slice_index_or};
 ghost use Rattle.logos_graph.specs.Rows.{rows_at, AreWide};
 
-use std::alloc::{AllocError, Global};
-
 use indexmap::IndexSet;
+use std::alloc::{AllocError, Global};
 
 /// How many symbols there are: the bytes, and the end.
 pub const WIDTH: usize = 257;
@@ -29,7 +28,10 @@ impl Rows {
     pub fn new(alloc: Global) -> Rows
         ensures { rows_at result.places.items result.kept.keys ≡ [] }
     {
-        Rows { places: Vec::new(alloc), kept: IndexSet::new(alloc) }
+        Rows {
+            places: Vec::new(alloc),
+            kept: IndexSet::new(alloc),
+        }
     }
 
     /// How many rows the list has.

@@ -3,14 +3,18 @@ ghost use Rattle.std.specs.Prelude.{true, ◌≡◌, ◌≢◌, ℕ, ◌+◌, �
 ghost use Rattle.logos_graph.specs.Merge.{AreTwins, Continues};
 ghost use Rattle.logos_graph.specs.MergeLists.{has_in, AreFiled, landing, HaveMoved};
 
-use std::alloc::{AllocError, Global};
-
 use super::blocks::Split;
 use super::hints::Hints;
 use super::lists::file;
+use std::alloc::{AllocError, Global};
 
 /// The blocks of the hit states.
-fn homes_of(alloc: Global, hints: &mut Hints, blocks: &Vec<usize>, hits: &Vec<usize>) -> Result<Vec<usize>, AllocError>
+fn homes_of(
+    alloc: Global,
+    hints: &mut Hints,
+    blocks: &Vec<usize>,
+    hits: &Vec<usize>,
+) -> Result<Vec<usize>, AllocError>
     requires hits_in { (i : ℕ) → i < vec_len hits.now → slice_index hits.now.items i < vec_len blocks.now }
     requires within { (s : ℕ) → s < vec_len blocks.now → slice_index blocks.now.items s < vec_len hints.old.sizes }
     ensures todo { vec_len hints.new.todo ≡ vec_len hints.old.todo }
@@ -28,7 +32,14 @@ fn homes_of(alloc: Global, hints: &mut Hints, blocks: &Vec<usize>, hits: &Vec<us
 }
 
 /// A new block for a block, if it is cut and has none yet.
-fn choose_twin(hints: &mut Hints, twins: &mut Vec<usize>, splits: &mut Vec<Split>, fresh: usize, block: usize, symbol: usize) -> Result<(), AllocError>
+fn choose_twin(
+    hints: &mut Hints,
+    twins: &mut Vec<usize>,
+    splits: &mut Vec<Split>,
+    fresh: usize,
+    block: usize,
+    symbol: usize,
+) -> Result<(), AllocError>
     requires room { vec_len twins.old ≡ vec_len hints.old.sizes }
     requires fits { vec_len splits.old ≤ vec_len twins.old }
     requires older { fresh ≤ vec_len splits.old }
@@ -46,14 +57,23 @@ fn choose_twin(hints: &mut Hints, twins: &mut Vec<usize>, splits: &mut Vec<Split
     let twin = splits.len();
     if twin < twins.len() && twins[block] < fresh && hints.is_cut(block) {
         hints.part(block, twin)?;
-        splits.push(Split { parent: block, symbol: Some(symbol) })?;
+        splits.push(Split {
+            parent: block,
+            symbol: Some(symbol),
+        })?;
         twins[block] = twin;
     }
     Ok(())
 }
 
 /// New blocks for the blocks that are cut.
-fn choose_twins(hints: &mut Hints, twins: &mut Vec<usize>, splits: &mut Vec<Split>, homes: &Vec<usize>, symbol: usize) -> Result<(), AllocError>
+fn choose_twins(
+    hints: &mut Hints,
+    twins: &mut Vec<usize>,
+    splits: &mut Vec<Split>,
+    homes: &Vec<usize>,
+    symbol: usize,
+) -> Result<(), AllocError>
     requires room { vec_len twins.old ≡ vec_len hints.old.sizes }
     requires fits { vec_len splits.old ≤ vec_len twins.old }
     requires homes_in { (i : ℕ) → i < vec_len homes.now → slice_index homes.now.items i < vec_len splits.old }
@@ -74,7 +94,13 @@ fn choose_twins(hints: &mut Hints, twins: &mut Vec<usize>, splits: &mut Vec<Spli
 }
 
 /// Moves a hit to the block that it goes to.
-fn move_hit(blocks: &mut Vec<usize>, lists: &mut Vec<Vec<usize>>, twins: &Vec<usize>, fresh: usize, s: usize) -> Result<(), AllocError>
+fn move_hit(
+    blocks: &mut Vec<usize>,
+    lists: &mut Vec<Vec<usize>>,
+    twins: &Vec<usize>,
+    fresh: usize,
+    s: usize,
+) -> Result<(), AllocError>
     requires s_in { s < vec_len blocks.old }
     requires room { fresh ≤ vec_len twins.now }
     requires twins_in { (c : ℕ) → slice_index twins.now.items c < vec_len lists.old }
@@ -99,7 +125,13 @@ fn move_hit(blocks: &mut Vec<usize>, lists: &mut Vec<Vec<usize>>, twins: &Vec<us
 }
 
 /// Moves the hits to the blocks that they go to.
-fn move_hits(blocks: &mut Vec<usize>, lists: &mut Vec<Vec<usize>>, twins: &Vec<usize>, fresh: usize, hits: &Vec<usize>) -> Result<(), AllocError>
+fn move_hits(
+    blocks: &mut Vec<usize>,
+    lists: &mut Vec<Vec<usize>>,
+    twins: &Vec<usize>,
+    fresh: usize,
+    hits: &Vec<usize>,
+) -> Result<(), AllocError>
     requires hits_in { (i : ℕ) → i < vec_len hits.now → slice_index hits.now.items i < vec_len blocks.old }
     requires homes_in { (s : ℕ) → s < vec_len blocks.old → slice_index blocks.old.items s < fresh }
     requires room { fresh ≤ vec_len twins.now }
@@ -132,7 +164,12 @@ pub struct Work {
 }
 
 /// Splits the blocks by the hits, which are told by the symbol.
-pub fn split_on(alloc: Global, work: Work, hits: &Vec<usize>, symbol: usize) -> Result<Work, AllocError>
+pub fn split_on(
+    alloc: Global,
+    work: Work,
+    hits: &Vec<usize>,
+    symbol: usize,
+) -> Result<Work, AllocError>
     requires hits_in { (i : ℕ) → i < vec_len hits.now → slice_index hits.now.items i < vec_len work.blocks }
     ensures len { IfOk result (λ w. vec_len w.blocks ≡ vec_len work.blocks) }
     ensures lists_len { IfOk result (λ w. vec_len w.lists ≡ vec_len work.lists) }
@@ -141,7 +178,13 @@ pub fn split_on(alloc: Global, work: Work, hits: &Vec<usize>, symbol: usize) -> 
     ensures goes_on { IfOk result (λ w. Continues work.splits.items w.splits.items) }
     ensures falls { IfOk result (λ w. 2 * (vec_len w.lists - vec_len w.splits) + vec_len w.hints.todo ≤ 2 * (vec_len work.lists - vec_len work.splits) + vec_len work.hints.todo) }
 {
-    let Work { mut blocks, mut lists, mut twins, mut splits, mut hints } = work;
+    let Work {
+        mut blocks,
+        mut lists,
+        mut twins,
+        mut splits,
+        mut hints,
+    } = work;
     let fresh = splits.len();
     let homes = homes_of(alloc, &mut hints, &blocks, hits)?;
     choose_twins(&mut hints, &mut twins, &mut splits, &homes, symbol)?;
@@ -149,5 +192,11 @@ pub fn split_on(alloc: Global, work: Work, hits: &Vec<usize>, symbol: usize) -> 
         hints.forget(*home);
     }
     move_hits(&mut blocks, &mut lists, &twins, fresh, hits)?;
-    Ok(Work { blocks, lists, twins, splits, hints })
+    Ok(Work {
+        blocks,
+        lists,
+        twins,
+        splits,
+        hints,
+    })
 }

@@ -8,16 +8,18 @@ pub loop-s-preserved : goal.loop-s-preserved
 loop-s-preserved c =
     let h = c.in_ok-kind.ensures in
     let at = h.stored in
-    let key : c.key_of.result ≡ key_of (mark c.args.table.now c.loop-s.s) = c.key_of.ensures ∙ ap key_of c.mark.ensures in
-    (omega (arith, c.in_ok-push.ensures.len),
-    kinds_more c.args.table.now c.loop-s.s c.loop-s.of.items c.push.new.self.items c.loop-s.keys.keys c.insert_full.new.self.keys c.in_ok-kind.kind at.0
-    c.loop-s.invariant.1 (omega arith) c.in_ok-push.ensures.items (rw key at h.keys) at.1 (rw key at at.2))
+    let key : c.key_of.result ≡ key_of (mark c.args.table.now c.loop-s.s) = c.key_of.ensures ∙ ap key_of c.mark.ensures in (
+      omega (arith, c.in_ok-push.ensures.len),
+      kinds_more c.args.table.now c.loop-s.s c.loop-s.of.items c.push.new.self.items c.loop-s.keys.keys c.insert_full.new.self.keys c.in_ok-kind.kind at.0
+          c.loop-s.invariant.1 (omega arith) c.in_ok-push.ensures.items (rw key at h.keys) at.1 (rw key at at.2),
+    )
 
 pub invariant_of-result : goal.invariant_of-result
 invariant_of-result c = record {
   within = λ s l.
       let b = got_below c.loop-s.keys.keys _ _ (c.loop-s.invariant.1.keyed s (omega arith)) in
-      omega (arith, b, c.len.ensures.len, c.in_ok-splits.ensures.len) }
+      omega (arith, b, c.len.ensures.len, c.in_ok-splits.ensures.len);
+}
 
 pub returns-clause-sound : goal.returns-clause-sound
 returns-clause-sound c =

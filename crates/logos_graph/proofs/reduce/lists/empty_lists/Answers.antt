@@ -4,7 +4,8 @@ use Rattle.logos_graph.proofs.ListLemmas.{has_in-push_empty}
 use Rattle.logos_graph.proofs.reduce.lists.empty_lists.Goals as goal
 
 pub loop-i-preserved : goal.loop-i-preserved
-loop-i-preserved c =
-    (omega (arith, c.in_ok-push.ensures.len),
-    λ b s h. c.loop-i.invariant.1 b s
-    (has_in-push_empty c.loop-i.lists.items c.new.result b s c.new.ensures.items (ap (λ (xs : List (Vec ℕ Global)). has_in xs b s) (sym c.in_ok-push.ensures.items) ∙ h)))
+loop-i-preserved c = (
+  omega (arith, c.in_ok-push.ensures.len),
+  λ b s h. c.loop-i.invariant.1 b s
+      (has_in-push_empty c.loop-i.lists.items c.new.result b s c.new.ensures.items (ap (λ (xs : List (Vec ℕ Global)). has_in xs b s) (sym c.in_ok-push.ensures.items) ∙ h)),
+)

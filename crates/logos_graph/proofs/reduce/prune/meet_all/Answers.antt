@@ -17,12 +17,14 @@ returns-in_err-meet-clause-grows c = grows_on _ _ _ c.loop-s.invariant.1 c.meet.
 
 pub loop-s-preserved : goal.loop-s-preserved
 loop-s-preserved c =
-    let same = c.deref-s-items.ensures.value in
-    (omega arith, grows_on _ _ _ c.loop-s.invariant.1 c.meet.ensures.grows,
-    met_more c.args.list.now.items c.loop-s.order.numbers.items c.meet.new.self.numbers.items c.loop-s.s-index c.meet.ensures.grows c.loop-s.invariant.2
-    (rw same at c.in_ok-meet.ensures.met),
-    met_of c.args.list.now.items c.args.order.now.numbers.items c.loop-s.order.numbers.items c.meet.new.self.numbers.items c.loop-s.s-index (omega arith)
-    c.loop-s.invariant.3 (rw same at c.meet.ensures.only))
+    let same = c.deref-s-items.ensures.value in (
+      omega arith,
+      grows_on _ _ _ c.loop-s.invariant.1 c.meet.ensures.grows,
+      met_more c.args.list.now.items c.loop-s.order.numbers.items c.meet.new.self.numbers.items c.loop-s.s-index c.meet.ensures.grows c.loop-s.invariant.2
+          (rw same at c.in_ok-meet.ensures.met),
+      met_of c.args.list.now.items c.args.order.now.numbers.items c.loop-s.order.numbers.items c.meet.new.self.numbers.items c.loop-s.s-index (omega arith)
+          c.loop-s.invariant.3 (rw same at c.meet.ensures.only),
+    )
 
 pub returns-clause-all : goal.returns-clause-all
 returns-clause-all c = λ s h.

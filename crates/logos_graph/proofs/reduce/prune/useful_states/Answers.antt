@@ -11,7 +11,8 @@ loop-i-init c = record {
   sound = λ s m. seed_of_use c.args.table.now s (c.in_ok-order.ensures.only s m);
   seeds = c.in_ok-order.ensures.all;
   closed = λ j s b l. absurd (omega arith);
-  passed = omega arith }
+  passed = omega arith;
+}
 
 pub meet_all-requires : goal.meet_all-requires
 meet_all-requires c = λ s h.
@@ -44,10 +45,12 @@ loop-i-preserved c =
       seeds = λ s l k. met_kept o.numbers.items n.numbers.items c.meet_all.ensures.grows s (c.loop-i.invariant.seeds s l k);
       closed = closed_more table c.in_ok-from.from.items c.in_ok-from.ensures.lists from_len c.index-t.result.now here c.index.result.now c.index.ensures
           o.numbers.items o.states.items n.numbers.items n.states.items o.in_order n.in_order c.meet_all.ensures.grows i (omega arith) (sym e) c.loop-i.invariant.closed c.in_ok-meet_all.ensures.all;
-      passed = let q = (place_kept o.numbers.items o.states.items n.numbers.items n.states.items o.in_order n.in_order c.meet_all.ensures.grows i (omega arith)).0 in omega (arith, q) }
+      passed = let q = (place_kept o.numbers.items o.states.items n.numbers.items n.states.items o.in_order n.in_order c.meet_all.ensures.grows i (omega arith)).0 in omega (arith, q);
+    }
 
 pub returns-clause-useful : goal.returns-clause-useful
 returns-clause-useful c = λ s l.
-    let o = c.loop-i.order in
-    (c.loop-i.invariant.sound s,
-    all_of_use c.args.table.now o.numbers.items o.states.items o.in_order c.loop-i.invariant.seeds (λ j s b k. c.loop-i.invariant.closed j s b (omega arith)) s l)
+    let o = c.loop-i.order in (
+      c.loop-i.invariant.sound s,
+      all_of_use c.args.table.now o.numbers.items o.states.items o.in_order c.loop-i.invariant.seeds (λ j s b k. c.loop-i.invariant.closed j s b (omega arith)) s l,
+    )

@@ -9,7 +9,7 @@ invariant-loop-i l = record {
   sound : (s : ℕ) → IsMet l.order.numbers.items s → IsOfUse l.table s;
   seeds : (s : ℕ) → s < size l.table → IsSeed l.table s → IsMet l.order.numbers.items s;
   closed : (j s b : ℕ) → j < l.i → b < 256 → to l.table s b ≡ Some (slice_index l.order.states.items j) → IsMet l.order.numbers.items s;
-  passed : l.i ≤ vec_len l.order.states
+  passed : l.i ≤ vec_len l.order.states;
 }
 
 abbrev pub decreases-loop-i : goal.decreases-loop-i

@@ -10,5 +10,5 @@ invariant-loop-home l = record {
   todo : vec_len l.hints.todo + vec_len l.initial.splits ≤ vec_len l.initial.hints.todo + vec_len l.splits;
   below : (c : ℕ) → slice_index l.twins.items c < vec_len l.splits;
   twins : AreTwins (vec_len l.initial.splits) l.symbol l.twins.items l.splits.items;
-  goes_on : Continues l.initial.splits.items l.splits.items
+  goes_on : Continues l.initial.splits.items l.splits.items;
 }

@@ -14,4 +14,5 @@ invariant_of-self-2 c =
     let h = c.in_ok-place.ensures in
     record {
       wide = wide_kept c.args.self.now.kept.keys c.args.row.now _ _ h.keys (omega arith) c.args.self.now.wide;
-      placed = search rules }
+      placed = search rules;
+    }
