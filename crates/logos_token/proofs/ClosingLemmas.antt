@@ -1,5 +1,5 @@
 -- What is held while a source is read, at closing delimiters and at the end.
-use Rattle.std.proofs.Common.{◌≡◌, ℕ, suc, ◌+◌, ◌-◌, ◌<◌, ◌≤◌, max, Bool, true, false, cond, List, [], ◌∷◌, ◌++◌, length, set, Option, Some, None, arith, sym, ◌∙◌, subst, ap, refl, append_assoc, length-append}
+use Rattle.std.proofs.Common.{◌≡◌, ℕ, ◌+◌, ◌-◌, ◌≤◌, false, List, [], ◌∷◌, ◌++◌, length, set, arith, sym, ◌∙◌, subst, ap, refl, append_assoc, length-append}
 use Rattle.std.proofs.lemmas.List.{append-nil, same_from_push, set_at, length_push}
 use Rattle.logos_token.specs.declared.token.Span.{Span}
 use Rattle.logos_token.specs.declared.token.Delimiter.{Delimiter}
@@ -7,13 +7,12 @@ use Rattle.logos_token.specs.declared.token.Delimiter.TheVariants.{Parenthesis, 
 use Rattle.logos_token.specs.declared.token.lexeme.Kind.TheVariants.{Opening, Closing}
 use Rattle.logos_token.specs.declared.token.lexeme.LexicalKind.TheVariants.{Unbalanced}
 use Rattle.logos_token.specs.declared.token.reader.Begun.{Begun}
-use Rattle.logos_token.specs.Tokens.{Token, group, TokenList, none, also, append, depth_of}
+use Rattle.logos_token.specs.Tokens.{Token, group, none, also, append}
 use Rattle.logos_token.specs.Flat.{EntryValue, group_entry, flat, flat_token}
 use Rattle.logos_token.specs.Lexemes.{IsNext}
-use Rattle.logos_token.specs.Spelling.{Lexeme, opens, closes, seen, lexemes, token_lexemes, is_partner, opened, most_open, Spells, IsUnmatched, IsUnclosed, IsFront, IsUnreadable, unmatched, unclosed}
+use Rattle.logos_token.specs.Spelling.{opens, closes, lexemes, token_lexemes, is_partner, IsUnreadable, unmatched, unclosed}
 use Rattle.logos_token.specs.Reading.{Frame, frame_lexemes, frame_entries, frame_places, AreOpenings, IsRead}
-use Rattle.logos_token.proofs.NestingLemmas.{most_open-lexemes}
-use Rattle.logos_token.proofs.ReadingLemmas.{marks, marks-length, frame_lexemes-append, frame_entries-append, read-front, read-count, read-shallow, read-more}
+use Rattle.logos_token.proofs.ReadingLemmas.{marks, frame_lexemes-append, frame_entries-append, read-front, read-shallow, read-more}
 
 place_of : Frame → List Frame → Begun
 place_of f rest = record { delimiter = f.delimiter; span = f.span; place = length (frame_entries rest f.before) }

@@ -1,8 +1,8 @@
--- Measures of runs.
-use Rattle.std.proofs.Common.{◌≡◌, ℕ, ◌+◌, ◌<◌, ◌≤◌, arith, refl, ap, sym, ◌∙◌}
+-- Measures and fronts of runs.
+use Rattle.std.proofs.Common.{◌≡◌, ℕ, ◌<◌, arith, refl, ap, sym, ◌∙◌}
 use Rattle.logos_token.specs.declared.token.Span.{Span}
 use Rattle.logos_token.specs.declared.token.Delimiter.{Delimiter}
-use Rattle.logos_token.specs.Tokens.{Token, identifier, punctuation, literal, doc, group, TokenList, none, also, append, span_of, end_of, rest_of, token_count, count_of}
+use Rattle.logos_token.specs.Tokens.{Token, identifier, punctuation, literal, doc, group, TokenList, none, also, append, IsRestOf, span_of, end_of, rest_of, token_count, count_of}
 
 pub token_count-positive : (token : Token) → 0 < token_count token
 token_count-positive (identifier text span) = omega arith
@@ -27,3 +27,16 @@ run_end end (also token rest) = run_end (span_of token).to rest
 pub end_of-run_end : (token : Token) (rest : TokenList) → end_of token rest ≡ run_end (span_of token).to rest
 end_of-run_end token none = refl
 end_of-run_end token (also next rest) = end_of-run_end next rest
+
+-- a run is left of itself behind no tokens
+pub IsRestOf-self : (run : TokenList) → IsRestOf run run
+IsRestOf-self run = record { front = none; is = refl }
+
+pub append-also : (front : TokenList) (token : Token) (back : TokenList) → append (append front (also token none)) back ≡ append front (also token back)
+append-also none token back = refl
+append-also (also first front) token back = ap (also first) (append-also front token back)
+
+-- what is left behind one token more
+pub IsRestOf-rest : (run rest : TokenList) → IsRestOf run rest → IsRestOf run (rest_of rest)
+IsRestOf-rest run none r = r
+IsRestOf-rest run (also token rest) r = record { front = append r.front (also token none); is = r.is ∙ sym (append-also r.front token rest) }

@@ -1,7 +1,7 @@
 -- Tokens and their flat form determine each other.
-use Rattle.std.proofs.Common.{◌≡◌, ℕ, zero, suc, ◌+◌, ◌-◌, ◌≤◌, List, [], ◌∷◌, ◌++◌, length, map, take, drop, arith, sym, ◌∙◌, ap, subst, refl, length-append, append_assoc}
+use Rattle.std.proofs.Common.{◌≡◌, ℕ, zero, suc, ◌+◌, ◌-◌, ◌≤◌, List, ◌∷◌, ◌++◌, length, take, drop, arith, sym, ◌∙◌, ap, subst, refl, length-append, append_assoc}
 use Rattle.std.proofs.Math.Seq.{take-append_seam, drop-append_seam}
-use Rattle.logos_token.specs.Tokens.{Token, identifier, punctuation, literal, doc, group, TokenList, none, also, append}
+use Rattle.logos_token.specs.Tokens.{identifier, punctuation, literal, doc, group, TokenList, none, also, append}
 use Rattle.logos_token.specs.declared.token.Span.{Span}
 use Rattle.logos_token.specs.declared.token.Delimiter.{Delimiter}
 use Rattle.logos_token.specs.Flat.{EntryValue, group_entry, flat, flat_token, trees_of}

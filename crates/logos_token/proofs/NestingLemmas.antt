@@ -1,10 +1,11 @@
 -- Delimiters in the lexemes of tokens.
-use Rattle.std.proofs.Common.{◌≡◌, ℕ, zero, suc, ◌+◌, ◌-◌, ◌<◌, ◌≤◌, max, Bool, true, false, cond, List, [], ◌∷◌, ◌++◌, length, Option, Some, None, arith, sym, ◌∙◌, subst, ap, refl, append_assoc}
+use Rattle.std.proofs.Common.{◌≡◌, ℕ, suc, ◌+◌, ◌-◌, ◌≤◌, max, Bool, true, false, cond, List, [], ◌∷◌, ◌++◌, length, Option, Some, None, arith, sym, ◌∙◌, subst, ap, refl, append_assoc}
 use Rattle.std.proofs.lemmas.List.{append-nil}
 use Rattle.logos_token.specs.declared.token.Span.{Span}
 use Rattle.logos_token.specs.declared.token.Delimiter.{Delimiter}
 use Rattle.logos_token.specs.declared.token.Delimiter.TheVariants.{Parenthesis, Bracket, Brace}
-use Rattle.logos_token.specs.Tokens.{Token, identifier, punctuation, literal, doc, group, TokenList, none, also, append, depth_of}
+use Rattle.logos_token.specs.Tokens.{identifier, punctuation, literal, doc, group, TokenList, none, also, append, depth_of}
+use Rattle.logos_token.proofs.CountLemmas.{append-also}
 use Rattle.logos_token.specs.Spelling.{Lexeme, leaf, opens, closes, lexemes, token_lexemes, is_partner, opened, most_open}
 
 pub is_partner-self : (delimiter : Delimiter) → is_partner delimiter delimiter ≡ true
@@ -106,10 +107,6 @@ grown (b ∷ begun) current (closes delimiter to ∷ rest) = grown begun (append
 pub append-none : (tokens : TokenList) → append tokens none ≡ tokens
 append-none none = refl
 append-none (also token rest) = ap (also token) (append-none rest)
-
-pub append-also : (front : TokenList) (token : Token) (back : TokenList) → append (append front (also token none)) back ≡ append front (also token back)
-append-also none token back = refl
-append-also (also first front) token back = ap (also first) (append-also front token back)
 
 grown-lexemes : (tokens : TokenList) (begun : List Begun) (current : TokenList) (more : List Lexeme) → grown begun current (lexemes tokens ++ more) ≡ grown begun (append current tokens) more
 grown-lexemes none begun current more = ap (λ c. grown begun c more) (sym (append-none current))

@@ -1,12 +1,12 @@
 -- Pieces of a source, one after another.
-use Rattle.std.proofs.Common.{◌≡◌, ℕ, ◌+◌, ◌-◌, ◌<◌, ◌≤◌, List, [], ◌∷◌, ◌++◌, length, arith, sym, ◌∙◌, subst, ap, refl, IsUtf8, append_assoc}
+use Rattle.std.proofs.Common.{◌≡◌, ℕ, ◌<◌, ◌≤◌, List, [], ◌∷◌, ◌++◌, length, arith, sym, ◌∙◌, subst, ap, refl, IsUtf8, append_assoc}
 use Rattle.std.proofs.lemmas.List.{append-nil}
 use Rattle.std.specs.Str.{IsCharBoundary}
 use Rattle.logos_token.specs.declared.token.Span.{Span}
 use Rattle.logos_token.specs.declared.token.lexeme.Kind.{Kind}
 use Rattle.logos_token.specs.declared.token.lexeme.LexicalKind.{LexicalKind}
 use Rattle.logos_token.specs.Lexemes.{IsNext, IsStuck}
-use Rattle.logos_token.specs.Spelling.{Piece, Pieces, Lexeme, lexeme_of, seen}
+use Rattle.logos_token.specs.Spelling.{Piece, Pieces, lexeme_of, seen}
 use Rattle.logos_token.proofs.LexemeLaws.{next_advances, next_boundary, next_one, stuck_excludes}
 
 -- the laws of pieces, with their arguments

@@ -1,21 +1,20 @@
 -- What is held while a source is read, piece by piece.
-use Rattle.std.proofs.Common.{◌≡◌, ℕ, suc, ◌+◌, ◌-◌, ◌<◌, ◌≤◌, max, Bool, true, false, cond, List, [], ◌∷◌, ◌++◌, length, set, Option, Some, None, arith, sym, ◌∙◌, subst, ap, refl, append_assoc, length-append}
-use Rattle.std.proofs.lemmas.List.{append-nil, same_from_push, set_at, length_push}
+use Rattle.std.proofs.Common.{◌≡◌, ℕ, ◌+◌, ◌<◌, ◌≤◌, max, List, [], ◌∷◌, ◌++◌, length, Some, arith, sym, ◌∙◌, ap, refl, append_assoc}
+use Rattle.std.proofs.lemmas.List.{append-nil, length_push}
 use Rattle.logos_token.specs.declared.token.Span.{Span}
 use Rattle.logos_token.specs.declared.token.Delimiter.{Delimiter}
-use Rattle.logos_token.specs.declared.token.Delimiter.TheVariants.{Parenthesis, Bracket, Brace}
 use Rattle.logos_token.specs.declared.token.lexeme.Kind.{Kind}
 use Rattle.logos_token.specs.declared.token.lexeme.Kind.TheVariants.{Gap, Opening, Closing}
 use Rattle.logos_token.specs.declared.token.lexeme.LexicalKind.TheVariants.{Unbalanced}
 use Rattle.logos_token.specs.declared.token.reader.Begun.{Begun}
-use Rattle.logos_token.specs.Tokens.{Token, group, TokenList, none, also, append, depth_of}
+use Rattle.logos_token.specs.Tokens.{Token, TokenList, none, also, append, depth_of}
 use Rattle.logos_token.specs.Flat.{EntryValue, group_entry, flat, flat_token}
 use Rattle.logos_token.specs.Lexemes.{IsNext}
-use Rattle.logos_token.specs.Spelling.{Piece, Pieces, Lexeme, leaf, opens, closes, lexeme_of, seen, lexemes, token_lexemes, is_partner, opened, most_open, Spells, IsFront, IsUnmatched, IsUnclosed, IsUnreadable, unmatched, unclosed, IsTooDeep}
+use Rattle.logos_token.specs.Spelling.{Piece, leaf, opens, lexeme_of, seen, lexemes, token_lexemes, opened, most_open, Spells, IsFront, IsUnreadable, unmatched, IsTooDeep}
 use Rattle.logos_token.specs.Reading.{Frame, frame_lexemes, frame_entries, frame_places, AreOpenings, IsRead}
 use Rattle.logos_token.proofs.FlatLemmas.{flat-append}
 use Rattle.logos_token.proofs.PieceLemmas.{Pieces-push, seen-append}
-use Rattle.logos_token.proofs.NestingLemmas.{opened-lexemes, opened-append, most_open-lexemes, most_open-append, most_open-least}
+use Rattle.logos_token.proofs.NestingLemmas.{opened-lexemes, opened-append, most_open-lexemes, most_open-append}
 
 -- the open delimiters of groups that are begun
 abbrev pub marks : List Frame → List (Delimiter × ℕ)

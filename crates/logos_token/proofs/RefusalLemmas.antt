@@ -1,5 +1,5 @@
 -- A refused source spells no tokens within the limits.
-use Rattle.std.proofs.Common.{◌≡◌, ℕ, ◌<◌, ◌≤◌, List, length, Result, Ok, Err, IfOk, IfErr, MatchResult, arith, refl}
+use Rattle.std.proofs.Common.{◌≡◌, ℕ, ◌≤◌, List, length, Result, Ok, Err, IfOk, IfErr, MatchResult, arith, refl}
 use Rattle.logos_token.specs.declared.token.views.TokenStream.{TokenStream}
 use Rattle.logos_token.specs.declared.token.reader.TokenError.{TokenError}
 use Rattle.logos_token.specs.declared.token.reader.TokenError.TheVariants.{Lexical, LimitSource, LimitTokenNesting, Memory}

@@ -1,13 +1,13 @@
 -- The parts of a run.
-use Rattle.std.proofs.Common.{◌≡◌, ℕ, zero, suc, ◌+◌, ◌-◌, ◌≤◌, List, [], ◌∷◌, ◌++◌, length, map, take, drop, arith, sym, ◌∙◌, ap, subst, refl, length-append, length-drop}
+use Rattle.std.proofs.Common.{◌≡◌, ℕ, ◌+◌, ◌-◌, ◌≤◌, List, ◌∷◌, ◌++◌, length, map, take, drop, arith, sym, ◌∙◌, ap, refl, length-append, length-drop}
 use Rattle.std.proofs.Math.Seq.{take-append_seam}
 use Rattle.std.proofs.lemmas.List.{length-map, length-take-le, take-map, drop-map}
 use Rattle.logos_token.specs.declared.token.Span.{Span}
 use Rattle.logos_token.specs.declared.token.Delimiter.{Delimiter}
 use Rattle.logos_token.specs.declared.token.entry.Entry.{Entry}
 use Rattle.logos_token.specs.declared.token.entry.Entry.TheVariants.{Ident, Punct, Literal, Doc, Group}
-use Rattle.logos_token.specs.Tokens.{Token, group, TokenList, none, also, append, rest_of}
-use Rattle.logos_token.specs.Flat.{EntryValue, group_entry, flat, trees_of, value_of, tokens_in, size_of, IsFlat}
+use Rattle.logos_token.specs.Tokens.{group, TokenList, also, append, rest_of}
+use Rattle.logos_token.specs.Flat.{flat, value_of, tokens_in, size_of, IsFlat}
 use Rattle.logos_token.proofs.FlatLemmas.{OpensRun, opens-run, flat-from_flat, tokens-from_flat, flat-append}
 
 module _ (delimiter : Delimiter) (span : Span) (size : ℕ) (after : List Entry) where

@@ -1,5 +1,5 @@
 -- A source spells one list of tokens at most, and none where it is unreadable.
-use Rattle.std.proofs.Common.{◌≡◌, ℕ, ◌+◌, ◌<◌, ◌≤◌, max, Bool, true, false, cond, List, [], ◌∷◌, ◌++◌, length, Option, Some, None, arith, sym, ◌∙◌, subst, ap, refl}
+use Rattle.std.proofs.Common.{◌≡◌, ℕ, ◌+◌, ◌<◌, max, Bool, true, false, cond, List, [], ◌∷◌, ◌++◌, length, Some, None, arith, sym, ◌∙◌, ap, refl}
 use Rattle.std.proofs.lemmas.List.{append-nil}
 use Rattle.logos_token.specs.declared.token.Span.{Span}
 use Rattle.logos_token.specs.declared.token.Delimiter.{Delimiter}
@@ -8,7 +8,7 @@ use Rattle.logos_token.specs.declared.token.lexeme.Kind.TheVariants.{Opening, Cl
 use Rattle.logos_token.specs.declared.token.lexeme.LexicalKind.{LexicalKind}
 use Rattle.logos_token.specs.Lexemes.{IsNext, IsStuck}
 use Rattle.logos_token.specs.Tokens.{TokenList, depth_of}
-use Rattle.logos_token.specs.Spelling.{Piece, Pieces, Lexeme, opens, closes, lexeme_of, seen, lexemes, is_partner, opened, most_open, Spells, IsFront, IsBroken, IsUnmatched, IsUnclosed, IsUnreadable, broken, unmatched, unclosed, IsTooDeep}
+use Rattle.logos_token.specs.Spelling.{Piece, Pieces, Lexeme, closes, lexeme_of, seen, lexemes, is_partner, opened, most_open, Spells, IsFront, IsUnreadable, broken, unmatched, unclosed, IsTooDeep}
 use Rattle.logos_token.proofs.PieceLemmas.{piece-advances, piece-one, no-piece, seen-append, IsFrontOf, pieces-front, pieces-one}
 use Rattle.logos_token.proofs.NestingLemmas.{opened-lexemes, opened-append, most_open-lexemes, most_open-append, most_open-least, lexemes-one}
 

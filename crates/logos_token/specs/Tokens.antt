@@ -1,5 +1,5 @@
 -- Token trees: tokens, and groups with the tokens inside them.
-use Rattle.std.specs.Prelude.{ℕ, ◌+◌, max, List, Option, Some, None}
+use Rattle.std.specs.Prelude.{◌≡◌, ℕ, ◌+◌, max, List, Option, Some, None}
 use Rattle.logos_token.specs.declared.token.Span.{Span}
 use Rattle.logos_token.specs.declared.token.Spacing.{Spacing}
 use Rattle.logos_token.specs.declared.token.Delimiter.{Delimiter}
@@ -63,6 +63,11 @@ abbrev mutual
 abbrev pub append : TokenList → TokenList → TokenList
 append none more = more
 append (also token rest) more = also token (append rest more)
+
+-- the second run is what is left of the first one behind some tokens
+pub record IsRestOf (run rest : TokenList) : Type 0 where
+  pub front : TokenList
+  pub is : run ≡ append front rest
 
 abbrev mutual
   -- how many groups stand inside one another in a token, itself counted

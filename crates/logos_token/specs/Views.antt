@@ -1,5 +1,5 @@
 -- The tokens that the views show.
-use Rattle.std.specs.Prelude.{ℕ, suc, ◌+◌, List, [], ◌∷◌}
+use Rattle.std.specs.Prelude.{List, [], ◌∷◌}
 use Rattle.logos_token.specs.declared.token.views.TokenStream.{TokenStream}
 use Rattle.logos_token.specs.declared.token.views.Tokens.{Tokens}
 use Rattle.logos_token.specs.declared.token.views.TokenIter.{TokenIter}

@@ -3,6 +3,8 @@ ghost use Rattle.std.specs.Prelude.{◌≡◌, ◌++◌, ◌∷◌, [], List, On
 ghost use Rattle.logos_token.specs.Faults.{Fault};
 
 mod fault_code;
+#[cfg(test)]
+mod tests;
 
 use crate::token::Span;
 pub use fault_code::FaultCode;

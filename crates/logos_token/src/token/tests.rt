@@ -57,29 +57,49 @@ fn spans_of_an_enum(rt: HostRuntime) -> Result<(), Fail> {
     Ok(())
 }
 
+/// The text of a tree that has one, with its quotes left out.
+fn text_of<'s>(tree: TokenTree<'_, 's>) -> &'s str {
+    match tree {
+        TokenTree::Ident(ident) => ident.text,
+        TokenTree::Literal(literal) => literal.text_value(),
+        _ => "",
+    }
+}
+
+fn is_joint(tree: TokenTree<'_, '_>) -> bool {
+    match tree {
+        TokenTree::Punct(punct) => punct.character == ':' && punct.spacing == Spacing::Joint,
+        _ => false,
+    }
+}
+
 #[test]
 fn texts_and_spacing(rt: HostRuntime) -> Result<(), Fail> {
     let stream = tokenize(rt.alloc(), "a :: \"b\"")?;
     let run = stream.run();
-    let mut texts = 0usize;
+    let mut trees = 0usize;
+    let mut bytes = 0usize;
+    let mut joint = 0usize;
     for tree in run.iter() {
-        match tree {
-            TokenTree::Ident(ident) => assert_eq!(rt; ident.text, "a"),
-            TokenTree::Literal(literal) => {
-                assert_eq!(rt; literal.text, "\"b\"");
-                assert_eq!(rt; literal.text_value(), "b");
-            }
-            TokenTree::Punct(punct) => {
-                assert_eq!(rt; punct.character, ':');
-                let joint = punct.span == at(2, 3);
-                assert_eq!(rt; punct.spacing == Spacing::Joint, joint);
-            }
-            _ => texts = 100,
+        trees = trees.saturating_add(1);
+        bytes = bytes.saturating_add(text_of(tree).len());
+        if is_joint(tree) {
+            joint = joint.saturating_add(1);
         }
-        texts = texts.saturating_add(1);
     }
-    assert_eq!(rt; texts, 4);
-    assert!(rt; run.rest().before(run.rest()).is_empty());
+    assert_eq!(rt; trees, 4);
+    assert_eq!(rt; bytes, 2);
+    assert_eq!(rt; joint, 1);
+    Ok(())
+}
+
+#[test]
+fn fronts_of_runs(rt: HostRuntime) -> Result<(), Fail> {
+    let stream = tokenize(rt.alloc(), "a (b) c")?;
+    let run = stream.run();
+    assert_eq!(rt; run.before(run.rest()).span(), at(0, 1));
+    assert_eq!(rt; run.before(run.rest().rest()).span(), at(0, 5));
+    assert!(rt; run.before(run).is_empty());
     Ok(())
 }
 
@@ -140,5 +160,20 @@ fn nesting(rt: HostRuntime) -> Result<(), Fail> {
     let text = nested(rt.alloc(), 129)?;
     let limit = TokenError::LimitTokenNesting { span: at(128, 129) };
     assert_eq!(rt; refusal(rt.alloc(), text.as_str()), Some(limit));
+    Ok(())
+}
+
+#[test]
+fn length_of_sources(rt: HostRuntime) -> Result<(), Fail> {
+    let mut text = String::new(rt.alloc());
+    for _ in 0..16_777_216 {
+        text.push(' ')?;
+    }
+    assert!(rt; tokenize(rt.alloc(), text.as_str()).is_ok());
+    text.push(' ')?;
+    assert_eq!(rt;
+        refusal(rt.alloc(), text.as_str()),
+        Some(TokenError::LimitSource)
+    );
     Ok(())
 }

@@ -70,7 +70,7 @@ impl<'s> TokenStream<'s> {
 
 impl<'t, 's> Tokens<'t, 's> {
     ghost use Rattle.std.specs.Prelude.{◌≡◌, ◌↔◌, IsTrue, MatchOption, option_map};
-    ghost use Rattle.logos_token.specs.Tokens.{TokenList, none, also, append, first_of, rest_of, run_span};
+    ghost use Rattle.logos_token.specs.Tokens.{none, also, IsRestOf, first_of, rest_of, run_span};
     ghost use Rattle.logos_token.specs.Views.{tokens_of, tree_of, iter_rest, listed};
 
     /// Whether there is no tree.
@@ -119,8 +119,8 @@ impl<'t, 's> Tokens<'t, 's> {
 
     /// The trees in front of `rest`, which is what is left of this run behind some of its trees.
     pub fn before(self, rest: Tokens<'t, 's>) -> Tokens<'t, 's>
-        requires { (front : TokenList) × (tokens_of self ≡ append front (tokens_of rest)) }
-        ensures { (front : TokenList) → tokens_of self.entry ≡ append front (tokens_of rest.entry) → tokens_of result ≡ front }
+        requires { IsRestOf (tokens_of self) (tokens_of rest) }
+        ensures { (split : IsRestOf (tokens_of self.entry) (tokens_of rest.entry)) → tokens_of result ≡ split.front }
     {
         Tokens {
             entries: &self.entries[..self.entries.len() - rest.entries.len()],

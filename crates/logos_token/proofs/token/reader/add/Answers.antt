@@ -1,4 +1,4 @@
-use Rattle.std.proofs.Common.{◌≡◌, ℕ, List, [], ◌∷◌, ◌++◌, map, refl, sym, ◌∙◌, ap, slice_index, slice_range, arith}
+use Rattle.std.proofs.Common.{◌≡◌, ℕ, List, [], ◌∷◌, ◌++◌, map, refl, ◌∙◌, ap, slice_index, slice_range, arith}
 use Rattle.std.proofs.lemmas.List.{map_push}
 use Rattle.std.proofs.lemmas.Result.{on_ok_weaker}
 use Rattle.logos_token.specs.declared.token.Span.{Span}
@@ -6,29 +6,28 @@ use Rattle.logos_token.specs.declared.token.reader.Begun.{Begun}
 use Rattle.logos_token.specs.declared.token.entry.Entry.{Entry}
 use Rattle.logos_token.specs.declared.token.entry.Entry.TheVariants.{Ident, Punct, Literal, Doc}
 use Rattle.logos_token.specs.declared.token.lexeme.Kind.{Kind}
-use Rattle.logos_token.specs.declared.token.lexeme.Kind.TheVariants.{Identifier, Literal as LiteralKind, Doc as DocKind, Punctuation}
 use Rattle.logos_token.specs.Tokens.{Token, identifier, punctuation, literal, doc}
 use Rattle.logos_token.specs.Flat.{value_of, flat_token}
 use Rattle.logos_token.specs.Lexemes.{IsNext}
 use Rattle.logos_token.specs.Spelling.{leaf, lexeme_of, token_lexemes}
 use Rattle.logos_token.specs.Reading.{IsRead}
+use Rattle.logos_token.proofs.PieceLemmas.{piece-advances}
 use Rattle.logos_token.proofs.ReadingLemmas.{read-gap, read-leaf}
-use Rattle.logos_token.proofs.LexemeLaws.{next_advances}
 use Rattle.logos_token.proofs.token.reader.add.Goals as goal
 
--- a piece is not empty, and stands in the source
-
 pub range-text-requires-clause-start_le_end : goal.range-text-requires-clause-start_le_end
-range-text-requires-clause-start_le_end c = omega (arith, (next_advances c.requires.next).0)
+range-text-requires-clause-start_le_end c = let a = piece-advances c.args.source.now c.args.span.from c.args.kind c.args.span.to c.requires.next in omega (arith, a.0)
 
 pub range-text-requires-in-Literal-clause-start_le_end : goal.range-text-requires-in-Literal-clause-start_le_end
-range-text-requires-in-Literal-clause-start_le_end c = omega (arith, (next_advances c.requires.next).0)
+range-text-requires-in-Literal-clause-start_le_end c = let a = piece-advances c.args.source.now c.args.span.from c.args.kind c.args.span.to c.requires.next in omega (arith, a.0)
 
 pub range-text-requires-in-Doc-clause-start_le_end : goal.range-text-requires-in-Doc-clause-start_le_end
-range-text-requires-in-Doc-clause-start_le_end c = omega (arith, (next_advances c.requires.next).0)
+range-text-requires-in-Doc-clause-start_le_end c = let a = piece-advances c.args.source.now c.args.span.from c.args.kind c.args.span.to c.requires.next in omega (arith, a.0)
 
 pub bounds-as_bytes-span : goal.bounds-as_bytes-span
-bounds-as_bytes-span c = let advances = next_advances c.requires.next in omega (arith, advances.0, advances.1, c.as_bytes.ensures.len)
+bounds-as_bytes-span c =
+    let a = piece-advances c.args.source.now c.args.span.from c.args.kind c.args.span.to c.requires.next in
+    rw c.as_bytes.ensures.value (omega (arith, a.0, a.1))
 
 pub returns-in-Gap-clause-ok : goal.returns-in-Gap-clause-ok
 returns-in-Gap-clause-ok c = read-gap c.args.source.now c.args.span _ _ c.requires.read (rw c.in-Gap.is at c.requires.next)

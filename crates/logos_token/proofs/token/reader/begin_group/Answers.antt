@@ -1,7 +1,6 @@
-use Rattle.std.proofs.Common.{◌≡◌, ◌<◌, ◌≤◌, length, map, arith, sym, ◌∙◌, ap}
+use Rattle.std.proofs.Common.{◌≡◌, ◌<◌, ◌≤◌, length, map, arith, ◌∙◌}
 use Rattle.std.proofs.lemmas.List.{map_push, length-map}
 use Rattle.logos_token.specs.Flat.{value_of}
-use Rattle.logos_token.specs.declared.token.entry.Entry.TheVariants.{Group}
 use Rattle.logos_token.proofs.ReadingLemmas.{read-opening, read-too_deep}
 use Rattle.logos_token.proofs.token.reader.begin_group.Goals as goal
 

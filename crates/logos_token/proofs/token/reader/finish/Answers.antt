@@ -1,9 +1,5 @@
-use Rattle.std.proofs.Common.{◌≡◌, ◌∙◌, sym, ap, List, [], ◌≤◌, arith}
+use Rattle.std.proofs.Common.{◌≡◌, ◌∙◌, [], arith}
 use Rattle.std.proofs.lemmas.List.{nil_from_length}
-use Rattle.logos_token.specs.declared.token.reader.Begun.{Begun}
-use Rattle.logos_token.specs.Flat.{value_of, tokens_in, IsFlat}
-use Rattle.logos_token.specs.Tokens.{TokenList, depth_of}
-use Rattle.logos_token.specs.Spelling.{Spells}
 use Rattle.logos_token.proofs.RunLemmas.{IsFlat-from_flat, tokens_in-from_flat}
 use Rattle.logos_token.proofs.ReadingLemmas.{read-whole}
 use Rattle.logos_token.proofs.ClosingLemmas.{read-unclosed}

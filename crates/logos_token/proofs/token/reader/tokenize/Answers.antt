@@ -1,8 +1,7 @@
-use Rattle.std.proofs.Common.{◌≡◌, ℕ, ◌<◌, ◌≤◌, subst, length, map, arith, sym, ◌∙◌, ap, refl, Result, IfOk, IfErr}
+use Rattle.std.proofs.Common.{◌≡◌, ℕ, subst, length, map, arith}
 use Rattle.std.proofs.lemmas.Str.{IsCharBoundary-start}
 use Rattle.std.proofs.lemmas.Result.{err_from_is_err_and, IfOk-weaker}
 use Rattle.logos_token.specs.Flat.{value_of}
-use Rattle.logos_token.specs.Refusals.{IsRefusal}
 use Rattle.logos_token.specs.Views.{stream_tokens}
 use Rattle.logos_token.specs.Reading.{IsRead}
 use Rattle.logos_token.specs.Spelling.{Spells, IsUnreadable, broken}

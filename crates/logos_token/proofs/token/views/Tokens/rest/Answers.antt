@@ -1,6 +1,6 @@
-use Rattle.std.proofs.Common.{◌≡◌, sym, ◌∙◌, ap, ◌∷◌}
+use Rattle.std.proofs.Common.{sym, ◌∙◌, ap}
 use Rattle.std.proofs.lemmas.List.{take_rest}
-use Rattle.logos_token.specs.Flat.{IsFlat, tokens_in, size_of}
+use Rattle.logos_token.specs.Flat.{tokens_in}
 use Rattle.logos_token.specs.Tokens.{rest_of}
 use Rattle.logos_token.proofs.RunLemmas.{BeginsRun, begins-run}
 use Rattle.logos_token.proofs.token.views.Tokens.rest.Goals as goal

@@ -1,8 +1,7 @@
-use Rattle.std.proofs.Common.{◌≡◌, sym, ◌∙◌, ap, refl}
-use Rattle.logos_token.specs.declared.token.Span.{Span}
-use Rattle.logos_token.specs.Tokens.{span_of, run_span, also}
-use Rattle.logos_token.specs.Views.{tokens_of, tree_of}
-use Rattle.logos_token.proofs.CountLemmas.{run_end, end_of-run_end}
+use Rattle.std.proofs.Common.{ap}
+use Rattle.logos_token.specs.Tokens.{span_of}
+use Rattle.logos_token.specs.Views.{tree_of}
+use Rattle.logos_token.proofs.CountLemmas.{end_of-run_end}
 use Rattle.logos_token.proofs.token.views.Tokens.span.Goals as goal
 
 pub returns : goal.returns
