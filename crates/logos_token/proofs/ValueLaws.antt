@@ -9,11 +9,11 @@ use Rattle.std.proofs.lemmas.Bool.Decides.{nat_tests}
 use Rattle.std.proofs.lemmas.Str.{encode_ascii, length-encode}
 use Rattle.std.proofs.Math.Nat.{eq-or-lt_of_le}
 use Rattle.logos_token.specs.LiteralBodies.{is_simple, simple_value, is_hex, hex_value, digits_between, is_blank, IsEscape, simple, hex, unicode, IsContinuation, Says, plain, return, escape, continuation, Holds, none, more}
-use Rattle.logos_token.specs.LiteralReads.{IsRest, IsAdded, bytes_of, IsAscii}
+use Rattle.logos_token.specs.LiteralReads.{IsRest, bytes_of, IsAscii}
 use Rattle.logos_token.specs.declared.token.lexeme.bodies.Piece.{Piece}
 use Rattle.logos_token.specs.declared.token.lexeme.bodies.Piece.TheVariants.{Nothing, Byte, Character}
 use Rattle.logos_token.specs.declared.token.lexeme.openings.Content.{Content}
-use Rattle.logos_token.specs.declared.token.lexeme.openings.Content.TheVariants.{Text, Bytes, C, Text as Characters, Bytes as Octets}
+use Rattle.logos_token.specs.declared.token.lexeme.openings.Content.TheVariants.{Text, Text as Characters, Bytes as Octets}
 use Rattle.logos_token.specs.declared.token.lexeme.openings.Opening.{Opening}
 use Rattle.logos_token.specs.declared.token.value.LiteralValue.{LiteralValue}
 use Rattle.logos_token.specs.declared.token.value.LiteralValue.TheVariants.{Text as TextValue, Bytes as BytesValue}

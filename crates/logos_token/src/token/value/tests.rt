@@ -13,25 +13,33 @@ fn value_of(alloc: Global, text: &str) -> Result<Option<LiteralValue>, Memory> {
     Literal { text, span }.value(alloc)
 }
 
+/// The text of a value that is a text.
+fn text_in(value: &Option<LiteralValue>) -> Option<&str> {
+    match value {
+        Some(LiteralValue::Text(text)) => Some(text.as_str()),
+        _ => None,
+    }
+}
+
+/// The bytes of a value that is bytes.
+fn bytes_in(value: &Option<LiteralValue>) -> Option<&[u8]> {
+    match value {
+        Some(LiteralValue::Bytes(bytes)) => Some(bytes.as_slice()),
+        _ => None,
+    }
+}
+
 /// The literal is a string of this text.
 fn is_text<R: Abort>(rt: &R, alloc: Global, literal: &str, text: &str) -> Result<(), Memory> {
-    match value_of(alloc, literal)? {
-        Some(LiteralValue::Text(value)) => {
-            assert_eq!(rt; value.as_str(), text, "another text: {literal}");
-        }
-        _ => assert!(rt; false, "no text: {literal}"),
-    }
+    let value = value_of(alloc, literal)?;
+    assert_eq!(rt; text_in(&value), Some(text), "another text: {literal}");
     Ok(())
 }
 
 /// The literal is a byte string of these bytes.
 fn is_bytes<R: Abort>(rt: &R, alloc: Global, literal: &str, bytes: &[u8]) -> Result<(), Memory> {
-    match value_of(alloc, literal)? {
-        Some(LiteralValue::Bytes(value)) => {
-            assert_eq!(rt; value.as_slice(), bytes, "other bytes: {literal}");
-        }
-        _ => assert!(rt; false, "no bytes: {literal}"),
-    }
+    let value = value_of(alloc, literal)?;
+    assert_eq!(rt; bytes_in(&value), Some(bytes), "other bytes: {literal}");
     Ok(())
 }
 

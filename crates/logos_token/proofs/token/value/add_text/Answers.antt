@@ -1,5 +1,4 @@
-use Rattle.std.proofs.Common.{◌≡◌, ◌<◌, ◌⊎◌, get_or, inl, inr, sym, ◌∙◌, arith}
-use Rattle.std.proofs.Math.Nat.{eq-or-lt_of_le}
+use Rattle.std.proofs.Common.{◌≡◌, ◌⊎◌, get_or, arith}
 use Rattle.logos_token.specs.LiteralReads.{bytes_of}
 use Rattle.logos_token.specs.declared.token.lexeme.openings.Content.TheVariants.{Text}
 use Rattle.logos_token.proofs.ValueLaws.{rest-stuck, rest-piece, ascii_piece, says-boundary, special_ascii}

@@ -1,4 +1,4 @@
-use Rattle.std.proofs.Common.{◌≡◌, ◌≢◌, ◌==◌, ◌&&◌, ◌||◌, Bool, ℕ, inl, inr, false, true, get_or, sym, ◌∙◌, ap, arith}
+use Rattle.std.proofs.Common.{◌≡◌, ◌≢◌, ◌==◌, ◌&&◌, ◌||◌, Bool, ℕ, inl, inr, false, true, get_or, sym, ◌∙◌, arith}
 use Rattle.std.proofs.lemmas.Bool.{or_parts, and_cases, eq-eqb, false≢true}
 use Rattle.logos_token.proofs.ValueLaws.{rest-plain, rest-start}
 use Rattle.logos_token.proofs.token.value.plain_end.Goals as goal

@@ -1,4 +1,4 @@
-use Rattle.std.proofs.Common.{◌≡◌, ◌+◌, ◌-◌, true, false, get_or, sym, ◌∙◌, ap, refl, arith, zero-add}
+use Rattle.std.proofs.Common.{◌≡◌, ◌+◌, ◌-◌, true, false, sym, ◌∙◌, refl, arith, zero-add}
 use Rattle.std.proofs.lemmas.Str.{IsCharBoundary-start}
 use Rattle.logos_token.specs.LexemeOpenings.{prefix_of}
 use Rattle.logos_token.specs.declared.token.lexeme.openings.Opening.TheVariants.{Quotes, Raw}
