@@ -5,3 +5,9 @@ pub mod Matches
 pub mod Priority
 pub mod Hir
 pub mod Leaf
+pub mod Bracket
+pub mod Flags
+pub mod Token
+pub mod TokenEscape
+pub mod TokenGroup
+pub mod Spelling

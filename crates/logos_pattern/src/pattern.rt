@@ -1,7 +1,14 @@
 //! Patterns.
 
+pub mod error;
 pub mod hir;
+mod bracket_token;
+mod token;
+mod token_escape;
+mod token_group;
+mod token_number;
 
+pub use error::{Kind, PatternError};
 pub use hir::{Class, Hir, Look, Range};
 
 /// A pattern: its tree, and the text that it was read from.
