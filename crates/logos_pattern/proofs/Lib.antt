@@ -4,3 +4,6 @@ pub mod Laws
 pub mod Numbers
 pub mod Cutting
 pub mod Hex
+pub mod Picks
+pub mod Counted
+pub mod EscapeLemmas

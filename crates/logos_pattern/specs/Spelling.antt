@@ -2,12 +2,11 @@
 use Rattle.std.specs.Prelude.{◌≡◌, ℕ, ◌+◌, ◌*◌, ◌-◌, ◌^◌, ◌<◌, ◌≤◌, ◌≢◌, Bool, true, false, [], ◌∷◌, ◌++◌, length, Option, Some, None, if◌then◌else◌}
 use Rattle.ucd_sets.specs.declared.set.Set.{Set}
 use Rattle.logos_pattern.specs.declared.pattern.token.Change.{Change}
-use Rattle.logos_pattern.specs.declared.pattern.token.Perl.{Perl}
 use Rattle.logos_pattern.specs.declared.pattern.token.Atom.{Atom}
-use Rattle.logos_pattern.specs.declared.pattern.token.Atom.TheVariants.{Character, Byte, Dot, Caret, Dollar, TextStart, TextEnd, Boundary, Perl as PerlClass, Property}
+use Rattle.logos_pattern.specs.declared.pattern.token.Atom.TheVariants.{Character, Byte, Dot, Caret, Dollar, Boundary, Property}
 use Rattle.logos_pattern.specs.Flags.{no_change, Settings}
-use Rattle.logos_pattern.specs.Token.{Text, Token, atom, bar, opens, closes, sets, repeats, capturing, named, plain, is_among, is_meta, is_digit, is_escapable, control_of, perl_of, hex_from, scalar_of}
-use Rattle.logos_pattern.specs.TokenEscape.{property_named}
+use Rattle.logos_pattern.specs.Token.{Text, Token, atom, bar, opens, closes, sets, repeats, capturing, named, plain, is_among, is_meta, is_digit, hex_from, scalar_of}
+use Rattle.logos_pattern.specs.TokenEscape.{single_of, property_named}
 use Rattle.logos_pattern.specs.TokenGroup.{is_name}
 
 -- the text does not begin with the character
@@ -55,9 +54,7 @@ property_letter negated = if negated then 80 else 112
 
 -- The text, which stands behind a backslash, begins with the rest of an escape, and rest follows it.
 pub data Escapes : Atom → Text → Text → Type 0 where
-  itself : (c : ℕ) (rest : Text) → is_escapable c ≡ true → Escapes (Character c) (c ∷ rest) rest
-  control : (c d : ℕ) (rest : Text) → control_of c ≡ Some d → Escapes (Character d) (c ∷ rest) rest
-  perl : (c : ℕ) (class : Perl) (negated : Bool) (rest : Text) → perl_of c ≡ Some (class, negated) → Escapes (PerlClass class negated) (c ∷ rest) rest
+  single : (c : ℕ) (a : Atom) (rest : Text) → single_of c ≡ Some a → Escapes a (c ∷ rest) rest
   -- `\xHH`, `\uHHHH`, `\UHHHHHHHH`
   two_digits : (digits rest : Text) (n : ℕ) → length digits ≡ 2 → hex_from 0 digits ≡ Some n → Escapes (Byte n) (120 ∷ digits ++ rest) rest
   four_digits : (digits rest : Text) (n : ℕ) → length digits ≡ 4 → scalar_of digits ≡ Some n → Escapes (Character n) (117 ∷ digits ++ rest) rest
@@ -65,12 +62,8 @@ pub data Escapes : Atom → Text → Text → Type 0 where
   -- `\x{H..}`, `\u{H..}`, `\U{H..}`
   any_digits : (letter : ℕ) (digits rest : Text) (n : ℕ) → is_among letter (120 ∷ 117 ∷ 85 ∷ []) ≡ true → 0 < length digits → scalar_of digits ≡ Some n →
       Escapes (Character n) (letter ∷ 123 ∷ digits ++ 125 ∷ rest) rest
-  -- `\A`, `\z`
-  text_start : (rest : Text) → Escapes TextStart (65 ∷ rest) rest
-  text_end : (rest : Text) → Escapes TextEnd (122 ∷ rest) rest
-  -- `\b`, `\B`
+  -- `\b`, with no brace behind it
   boundary : (rest : Text) → NotBegins 123 rest → Escapes (Boundary false) (98 ∷ rest) rest
-  no_boundary : (rest : Text) → Escapes (Boundary true) (66 ∷ rest) rest
   -- `\pX`, `\p{name}`
   property : (negated : Bool) (c : ℕ) (rest : Text) (set : Set) → c ≢ 123 → property_named (c ∷ []) ≡ Some set →
       Escapes (Property set negated) (property_letter negated ∷ c ∷ rest) rest

@@ -1,14 +1,12 @@
 -- The tokens of a pattern outside brackets, and how they are read from the front.
-use Rattle.std.specs.Prelude.{◌≡◌, ℕ, ◌+◌, ◌*◌, ◌-◌, ◌^◌, Bool, true, false, not, ◌||◌, ◌&&◌, nat_lt, nat_le, ◌==◌, List, [], ◌∷◌, Option, Some, None, Result, Ok, Err, option_map, option_and_then, if◌then◌else◌}
+use Rattle.std.specs.Prelude.{◌≡◌, ℕ, ◌+◌, ◌*◌, ◌-◌, ◌^◌, Bool, true, false, ◌&&◌, nat_lt, nat_le, ◌==◌, List, [], ◌∷◌, Option, Some, None, Result, Ok, Err, option_map, option_and_then, if◌then◌else◌}
 use Rattle.std.specs.List.{list_any}
-use Rattle.std.specs.Char.{digit_value, is_ascii_alphanumeric}
+use Rattle.std.specs.Char.{digit_value}
 use lib.Utf8.{scalar}
 use Rattle.logos_pattern.specs.declared.pattern.error.Fault.{Fault}
 use Rattle.logos_pattern.specs.declared.pattern.error.Fault.TheVariants as faults
 use Rattle.logos_pattern.specs.declared.pattern.token.Change.{Change}
 use Rattle.logos_pattern.specs.declared.pattern.token.Operator.{Operator}
-use Rattle.logos_pattern.specs.declared.pattern.token.Perl.{Perl}
-use Rattle.logos_pattern.specs.declared.pattern.token.Perl.TheVariants.{Digit, Space, Word}
 use Rattle.logos_pattern.specs.declared.pattern.token.Atom.{Atom}
 use Rattle.logos_pattern.specs.declared.pattern.token.Opening.{Opening as OpeningValue}
 use Rattle.logos_pattern.specs.declared.pattern.token.Opening.TheVariants.{Capture, Named, Plain}
@@ -75,32 +73,6 @@ is_meta c = is_among c (92 ∷ 46 ∷ 43 ∷ 42 ∷ 63 ∷ 40 ∷ 41 ∷ 124 ∷
 
 abbrev pub is_digit : ℕ → Bool
 is_digit c = nat_le 48 c && nat_le c 57
-
--- ASCII but `[0-9A-Za-z<>]`: an escape of it is the character itself
-abbrev pub is_escapable : ℕ → Bool
-is_escapable c = nat_lt c 128 && not (is_ascii_alphanumeric c || is_among c (60 ∷ 62 ∷ []))
-
--- `\a \f \t \n \r \v`
-abbrev pub control_of : ℕ → Option ℕ
-control_of c =
-    if c == 97 then Some 7
-    else if c == 102 then Some 12
-    else if c == 116 then Some 9
-    else if c == 110 then Some 10
-    else if c == 114 then Some 13
-    else if c == 118 then Some 11
-    else None
-
--- the class of `\d \s \w`, and of `\D \S \W`, which are negated
-abbrev pub perl_of : ℕ → Option (Perl × Bool)
-perl_of c =
-    if c == 100 then Some (Digit, false)
-    else if c == 115 then Some (Space, false)
-    else if c == 119 then Some (Word, false)
-    else if c == 68 then Some (Digit, true)
-    else if c == 83 then Some (Space, true)
-    else if c == 87 then Some (Word, true)
-    else None
 
 -- ---- numbers
 

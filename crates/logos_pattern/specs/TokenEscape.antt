@@ -1,13 +1,40 @@
 -- What stands behind a backslash, read from the front.
-use Rattle.std.specs.Prelude.{ℕ, Bool, true, false, ◌||◌, nat_le, ◌==◌, [], ◌∷◌, length, take, drop, Option, Some, None, option_map, if◌then◌else◌}
-use Rattle.std.specs.Option.{option_or}
+use Rattle.std.specs.Prelude.{ℕ, Bool, true, false, not, ◌||◌, ◌&&◌, nat_le, nat_lt, ◌==◌, [], ◌∷◌, length, take, drop, Option, Some, None, option_map, if◌then◌else◌}
+use Rattle.std.specs.Char.{is_ascii_alphanumeric}
 use Rattle.unicode.specs.Loose.{normalize}
 use Rattle.unicode.specs.Lookup.{by_name}
 use Rattle.ucd_sets.specs.declared.set.Set.{Set}
+use Rattle.logos_pattern.specs.declared.pattern.token.Perl.TheVariants.{Digit, Space, Word}
 use Rattle.logos_pattern.specs.declared.pattern.token.Atom.{Atom}
 use Rattle.logos_pattern.specs.declared.pattern.token.Atom.TheVariants.{Character, Byte, TextStart, TextEnd, Boundary, Perl as PerlClass, Property}
-use Rattle.logos_pattern.specs.Token.{Text, ◌>>=◌, is_among, is_escapable, control_of, perl_of, hex_from, scalar_of, cut_at}
+use Rattle.logos_pattern.specs.Token.{Text, ◌>>=◌, is_among, hex_from, scalar_of, cut_at}
 
+-- ASCII but `[0-9A-Za-z<>]`: an escape of it is the character itself
+abbrev pub is_escapable : ℕ → Bool
+is_escapable c = nat_lt c 128 && not (is_ascii_alphanumeric c || is_among c (60 ∷ 62 ∷ []))
+
+-- The escapes of one character: it is itself, or one of `\a \f \t \n \r \v`, `\d \s \w \D \S \W`, `\A \z \B`.
+abbrev pub single_of : ℕ → Option Atom
+single_of c =
+    if is_escapable c then Some (Character c)
+    else if c == 97 then Some (Character 7)
+    else if c == 102 then Some (Character 12)
+    else if c == 116 then Some (Character 9)
+    else if c == 110 then Some (Character 10)
+    else if c == 114 then Some (Character 13)
+    else if c == 118 then Some (Character 11)
+    else if c == 100 then Some (PerlClass Digit false)
+    else if c == 115 then Some (PerlClass Space false)
+    else if c == 119 then Some (PerlClass Word false)
+    else if c == 68 then Some (PerlClass Digit true)
+    else if c == 83 then Some (PerlClass Space true)
+    else if c == 87 then Some (PerlClass Word true)
+    else if c == 65 then Some TextStart
+    else if c == 122 then Some TextEnd
+    else if c == 66 then Some (Boundary true)
+    else None
+
+-- the text begins with the character
 abbrev pub begins : ℕ → Text → Bool
 begins d [] = false
 begins d (c ∷ rest) = c == d
@@ -56,27 +83,16 @@ hex_at letter (c ∷ rest) =
 unfoldable pub boundary_at : Text → Option (Atom × Text)
 boundary_at text = if begins 123 text then None else Some (Boundary false, text)
 
--- a class by its letter
-unfoldable pub perl_at : ℕ → Text → Option (Atom × Text)
-perl_at c rest = option_map (λ p. (PerlClass p.0 p.1, rest)) (perl_of c)
-
 -- a character that is escaped, or a class by its letter
-unfoldable pub letter_at : ℕ → Text → Option (Atom × Text)
-letter_at c rest =
-    if is_escapable c then Some (Character c, rest)
-    else option_or (option_map (λ d. (Character d, rest)) (control_of c)) (perl_at c rest)
+unfoldable pub single_at : ℕ → Text → Option (Atom × Text)
+single_at c rest = option_map (λ a. (a, rest)) (single_of c)
 
 -- after a backslash
 unfoldable pub escape_at : Text → Option (Atom × Text)
 escape_at [] = None
 escape_at (c ∷ rest) =
-    if c == 120 then hex_at 120 rest
-    else if c == 117 then hex_at 117 rest
-    else if c == 85 then hex_at 85 rest
+    if is_among c (120 ∷ 117 ∷ 85 ∷ []) then hex_at c rest
     else if c == 112 then property_at false rest
     else if c == 80 then property_at true rest
     else if c == 98 then boundary_at rest
-    else if c == 66 then Some (Boundary true, rest)
-    else if c == 65 then Some (TextStart, rest)
-    else if c == 122 then Some (TextEnd, rest)
-    else letter_at c rest
+    else single_at c rest

@@ -1,8 +1,8 @@
 //! What stands behind a backslash.
 
 ghost use Rattle.std.specs.Prelude.{◌≡◌, MatchResult};
-ghost use Rattle.logos_pattern.specs.Token.{Gives, is_among, is_escapable, control_of, perl_of};
-ghost use Rattle.logos_pattern.specs.TokenEscape.{begins, is_form, property_named, property_of, property_at, braced_at, fixed_at, byte_at, hex_at, boundary_at, perl_at, letter_at, escape_at};
+ghost use Rattle.logos_pattern.specs.Token.{Gives, is_among};
+ghost use Rattle.logos_pattern.specs.TokenEscape.{is_escapable, single_of, begins, is_form, property_named, property_of, property_at, braced_at, fixed_at, byte_at, hex_at, boundary_at, single_at, escape_at};
 
 use crate::pattern::error::{Fault, Kind};
 use crate::pattern::token::{Atom, Perl};
@@ -16,30 +16,29 @@ fn is_escapable(c: char) -> bool
     c.is_ascii() && !(c.is_ascii_alphanumeric() || c == '<' || c == '>')
 }
 
-fn control_of(c: char) -> Option<char>
-    ensures { result ≡ control_of c }
+/// The escapes of one character: itself, another character, or a class.
+fn single_of(c: char) -> Option<Atom>
+    ensures { result ≡ single_of c }
 {
-    match c {
-        'a' => Some('\x07'),
-        'f' => Some('\x0C'),
-        't' => Some('\t'),
-        'n' => Some('\n'),
-        'r' => Some('\r'),
-        'v' => Some('\x0B'),
-        _ => None,
+    if is_escapable(c) {
+        return Some(Atom::Character(c));
     }
-}
-
-fn perl_of(c: char) -> Option<(Perl, bool)>
-    ensures { result ≡ perl_of c }
-{
     match c {
-        'd' => Some((Perl::Digit, false)),
-        's' => Some((Perl::Space, false)),
-        'w' => Some((Perl::Word, false)),
-        'D' => Some((Perl::Digit, true)),
-        'S' => Some((Perl::Space, true)),
-        'W' => Some((Perl::Word, true)),
+        'a' => Some(Atom::Character('\x07')),
+        'f' => Some(Atom::Character('\x0C')),
+        't' => Some(Atom::Character('\t')),
+        'n' => Some(Atom::Character('\n')),
+        'r' => Some(Atom::Character('\r')),
+        'v' => Some(Atom::Character('\x0B')),
+        'd' => Some(Atom::Perl(Perl::Digit, false)),
+        's' => Some(Atom::Perl(Perl::Space, false)),
+        'w' => Some(Atom::Perl(Perl::Word, false)),
+        'D' => Some(Atom::Perl(Perl::Digit, true)),
+        'S' => Some(Atom::Perl(Perl::Space, true)),
+        'W' => Some(Atom::Perl(Perl::Word, true)),
+        'A' => Some(Atom::TextStart),
+        'z' => Some(Atom::TextEnd),
+        'B' => Some(Atom::Boundary(true)),
         _ => None,
     }
 }
@@ -174,17 +173,6 @@ fn boundary_at(text: &[char]) -> Result<(Atom, &[char]), Fault>
     }
 }
 
-/// A class by its letter.
-#[tactic(auto, unfolding(crate::specs::TokenEscape::perl_at))]
-fn perl_at(c: char, rest: &[char]) -> Result<(Atom, &[char]), Fault>
-    ensures { Gives (λ x. (x.0, x.1.now)) result (perl_at c rest.now) }
-{
-    match perl_of(c) {
-        Some((class, negated)) => Ok((Atom::Perl(class, negated), rest)),
-        None => Err(Fault::Syntax(no_escape(c))),
-    }
-}
-
 /// What is wrong with an escape of this character.
 fn no_escape(c: char) -> Kind {
     match c {
@@ -194,16 +182,13 @@ fn no_escape(c: char) -> Kind {
 }
 
 /// A character that is escaped, or a class by its letter.
-#[tactic(auto, unfolding(crate::specs::TokenEscape::letter_at))]
-fn letter_at(c: char, rest: &[char]) -> Result<(Atom, &[char]), Fault>
-    ensures { Gives (λ x. (x.0, x.1.now)) result (letter_at c rest.now) }
+#[tactic(auto, unfolding(crate::specs::TokenEscape::single_at))]
+fn single_at(c: char, rest: &[char]) -> Result<(Atom, &[char]), Fault>
+    ensures { Gives (λ x. (x.0, x.1.now)) result (single_at c rest.now) }
 {
-    if is_escapable(c) {
-        return Ok((Atom::Character(c), rest));
-    }
-    match control_of(c) {
-        Some(d) => Ok((Atom::Character(d), rest)),
-        None => perl_at(c, rest),
+    match single_of(c) {
+        Some(atom) => Ok((atom, rest)),
+        None => Err(Fault::Syntax(no_escape(c))),
     }
 }
 
@@ -216,15 +201,10 @@ pub(crate) fn escape_at(alloc: Global, text: &[char]) -> Result<(Atom, &[char]),
         return Err(Fault::Syntax(Kind::EscapeUnknown));
     };
     match *c {
-        'x' => hex_at('x', rest),
-        'u' => hex_at('u', rest),
-        'U' => hex_at('U', rest),
+        'x' | 'u' | 'U' => hex_at(*c, rest),
         'p' => property_at(alloc, false, rest),
         'P' => property_at(alloc, true, rest),
         'b' => boundary_at(rest),
-        'B' => Ok((Atom::Boundary(true), rest)),
-        'A' => Ok((Atom::TextStart, rest)),
-        'z' => Ok((Atom::TextEnd, rest)),
-        c => letter_at(c, rest),
+        _ => single_at(*c, rest),
     }
 }
