@@ -7,3 +7,5 @@ pub mod Hex
 pub mod Picks
 pub mod Counted
 pub mod EscapeLemmas
+pub mod LetterLemmas
+pub mod TokenLemmas

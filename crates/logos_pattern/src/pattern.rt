@@ -1,8 +1,8 @@
 //! Patterns.
 
+mod bracket_token;
 pub mod error;
 pub mod hir;
-mod bracket_token;
 mod token;
 mod token_escape;
 mod token_group;

@@ -71,7 +71,12 @@ fn property_named(alloc: Global, name: &[char]) -> Result<Set, Fault>
 }
 
 #[tactic(auto, unfolding(crate::specs::TokenEscape::property_of))]
-fn property_of<'t>(alloc: Global, negated: bool, name: &[char], rest: &'t [char]) -> Result<(Atom, &'t [char]), Fault>
+fn property_of<'t>(
+    alloc: Global,
+    negated: bool,
+    name: &[char],
+    rest: &'t [char],
+) -> Result<(Atom, &'t [char]), Fault>
     ensures { Gives (λ x. (x.0, x.1.now)) result (property_of negated name.now rest.now) }
 {
     let set = property_named(alloc, name)?;

@@ -158,7 +158,11 @@ fn next_letter(letters: Letters, c: char) -> Result<Letters, Fault>
 }
 
 #[tactic(auto, unfolding(crate::specs::TokenGroup::ended))]
-fn ended<'t>(letters: Letters, token: Token<'t>, rest: &'t [char]) -> Result<(Token<'t>, &'t [char]), Fault>
+fn ended<'t>(
+    letters: Letters,
+    token: Token<'t>,
+    rest: &'t [char],
+) -> Result<(Token<'t>, &'t [char]), Fault>
     ensures { Gives (λ x. (token_view x.0, x.1.now)) result (ended letters (token_view token.entry) rest.now) }
 {
     if letters.pending {

@@ -94,7 +94,11 @@ fn number_at(text: &[char]) -> Result<(u32, &[char]), Fault>
 
 /// An operator with these counts, which a `?` behind it makes lazy.
 #[tactic(auto, unfolding(crate::specs::Token::lazy_at))]
-pub(crate) fn lazy_at<'t>(least: u32, most: Option<u32>, text: &'t [char]) -> (Token<'t>, &'t [char])
+pub(crate) fn lazy_at<'t>(
+    least: u32,
+    most: Option<u32>,
+    text: &'t [char],
+) -> (Token<'t>, &'t [char])
     ensures token { token_view result.0 ≡ (lazy_at least most text.now).0 }
     ensures rest { result.1.now ≡ (lazy_at least most text.now).1 }
 {
@@ -120,7 +124,11 @@ pub(crate) fn lazy_at<'t>(least: u32, most: Option<u32>, text: &'t [char]) -> (T
 
 /// The brace after the counts.
 #[tactic(auto, unfolding(crate::specs::Token::counted_at))]
-fn counted_at<'t>(least: u32, most: Option<u32>, text: &'t [char]) -> Result<(Token<'t>, &'t [char]), Fault>
+fn counted_at<'t>(
+    least: u32,
+    most: Option<u32>,
+    text: &'t [char],
+) -> Result<(Token<'t>, &'t [char]), Fault>
     ensures { Gives (λ x. (token_view x.0, x.1.now)) result (counted_at least most text.now) }
 {
     match text {
