@@ -1,3 +1,5 @@
 pub mod Bounds
 pub mod Order
 pub mod Laws
+pub mod ClassLemmas
+pub mod ClassSame

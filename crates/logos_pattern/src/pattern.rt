@@ -1,5 +1,6 @@
 //! Patterns.
 
+mod class;
 pub mod hir;
 
 pub use hir::{Class, Hir, Look, Range};
