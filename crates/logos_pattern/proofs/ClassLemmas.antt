@@ -324,3 +324,14 @@ symmetric_by_differences a b = fun_ext (λ c. at (a c) (b c))
     at true false = refl
     at false true = refl
     at false false = refl
+
+pub bytes_by_complements : (xs : List (ℕ × ℕ)) → complement 255 (complement 0x10_FFFF (members xs)) ≡ intersection (members xs) (in_range (0, 255))
+bytes_by_complements xs = fun_ext (λ c. at c (scalar c) refl)
+  where
+    twice : (c : ℕ) (b : Bool) → (nat_le c 255 && not (not b)) ≡ (b && (nat_le 0 c && nat_le c 255))
+    twice c true = grind (arith, nat_tests)
+    twice c false = grind (arith, nat_tests)
+
+    at : (c : ℕ) (b : Bool) → scalar c ≡ b → complement 255 (complement 0x10_FFFF (members xs)) c ≡ intersection (members xs) (in_range (0, 255)) c
+    at c true e = rw (e, le-leb c 0x10_FFFF (char_bound c e)) (twice c (in_ranges xs c))
+    at c false e = rw e refl

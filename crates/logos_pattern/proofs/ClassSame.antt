@@ -1,10 +1,12 @@
 -- Canonical ranges with the same members are the same, and they are those that `ranges_from` lists.
-use Rattle.std.proofs.Common.{◌≡◌, ℕ, zero, suc, ◌+◌, ◌<◌, ◌≤◌, Bool, true, false, cond, not, ◌&&◌, ◌||◌, ◌==◌, ◌⊎◌, nat_le, List, [], ◌∷◌, refl, sym, ap, ap₂, ◌∙◌, arith, inl, inr, ⊎_elim}
+use Rattle.std.proofs.Common.{◌≡◌, ℕ, zero, suc, ◌+◌, ◌<◌, ◌≤◌, Bool, true, false, cond, not, ◌&&◌, ◌||◌, ◌==◌, ◌⊎◌, nat_le, List, [], ◌∷◌, Some, None, refl, sym, ap, ap₂, ◌∙◌, arith, inl, inr, ⊎_elim}
 use Rattle.std.proofs.lemmas.Bool.{and_parts, and_from, both_ways, cases_lt, leb-true, le-leb, lt-leb, or_cases, cases_Bool, true≢false, eqb-true}
 use Rattle.std.proofs.lemmas.Bool.Decides.{nat_tests}
 use lib.Utf8.{scalar, scalar_cases}
-use Rattle.logos_pattern.specs.Class.{Set, only_chars, members, in_range, in_ranges, next, is_range, rises_from, AreCanonical, with_number, ranges_from, char_ranges, byte_ranges}
-use Rattle.logos_pattern.proofs.ClassLemmas.{next_le, next_above, char_bound, is_range_parts, is_range_from, rises_parts, rises_from_parts, same_chars}
+use Rattle.logos_pattern.specs.Class.{Set, only_chars, members, intersection, in_range, in_ranges, next, is_range, rises_from, AreCanonical, with_number, ranges_from, char_ranges, byte_ranges}
+use Rattle.logos_pattern.proofs.ClassLemmas.{next_le, next_above, char_bound, is_range_parts, is_range_from, rises_parts, rises_from_parts, same_chars, only_chars_members}
+use Rattle.logos_pattern.specs.Build.{sole}
+use Rattle.std.proofs.Math.Path.{fun_ext}
 
 -- ---- one list for one set
 
@@ -198,3 +200,68 @@ ranges_from_has c (suc n) set d chars hd =
         ∙ ap (λ b. (d == c) || b) h
         ∙ one_more c n d (set d) (λ same. ap set same ∙ e)
     at false e h rises = h ∙ no_more c n d (set d) (λ same. ap set same ∙ e)
+
+are_chars : (set : Set) (d : ℕ) → only_chars set d ≡ true → scalar d ≡ true
+are_chars set d h = (and_parts (scalar d) (set d) h).0
+
+-- the ranges of a set are canonical, and have its characters as their members
+pub char_ranges_canonical : (set : Set) → AreCanonical (char_ranges set)
+unfolding char_ranges
+char_ranges_canonical set = ranges_from_rises 0 0x11_0000 (only_chars set) (are_chars set)
+
+pub char_ranges_members : (set : Set) → members (char_ranges set) ≡ only_chars set
+unfolding char_ranges
+char_ranges_members set =
+    same_chars (in_ranges (ranges_from 0 0x11_0000 (only_chars set))) set
+    (λ d hd.
+    ranges_from_has 0 0x11_0000 (only_chars set) d (are_chars set) hd
+    ∙ ap (λ b. b && (scalar d && set d)) (all_within d hd)
+    ∙ ap (λ b. b && set d) hd)
+  where
+    all_within : (d : ℕ) → scalar d ≡ true → (nat_le 0 d && nat_le (d + 1) (0 + 0x11_0000)) ≡ true
+    all_within d hd = let p = char_bound d hd in grind (arith, nat_tests)
+
+-- likewise of bytes
+pub byte_ranges_canonical : (set : Set) → AreCanonical (byte_ranges set)
+unfolding byte_ranges
+byte_ranges_canonical set = ranges_from_rises 0 256 (only_chars set) (are_chars set)
+
+pub byte_ranges_members : (set : Set) → members (byte_ranges set) ≡ only_chars (intersection set (in_range (0, 255)))
+unfolding byte_ranges
+byte_ranges_members set =
+    same_chars (in_ranges (ranges_from 0 256 (only_chars set))) (intersection set (in_range (0, 255)))
+    (λ d hd.
+    ranges_from_has 0 256 (only_chars set) d (are_chars set) hd
+    ∙ ap (λ b. (nat_le 0 d && nat_le (d + 1) (0 + 256)) && (b && set d)) hd
+    ∙ within d (set d))
+  where
+    within : (d : ℕ) (b : Bool) → ((nat_le 0 d && nat_le (d + 1) (0 + 256)) && b) ≡ (b && in_range (0, 255) d)
+    within d true = grind (arith, nat_tests)
+    within d false = grind (arith, nat_tests)
+
+-- so canonical ranges are those of their members
+pub char_ranges_same : (xs : List (ℕ × ℕ)) → AreCanonical xs → char_ranges (members xs) ≡ xs
+char_ranges_same xs h =
+    same_ranges (char_ranges (members xs)) xs (char_ranges_canonical (members xs)) h (char_ranges_members (members xs) ∙ only_chars_members xs)
+
+pub byte_ranges_same : (ys xs : List (ℕ × ℕ)) → AreCanonical xs → members xs ≡ intersection (members ys) (in_range (0, 255)) → byte_ranges (members ys) ≡ xs
+byte_ranges_same ys xs h e =
+    same_ranges (byte_ranges (members ys)) xs (byte_ranges_canonical (members ys)) h
+    (byte_ranges_members (members ys)
+    ∙ same_chars (intersection (members ys) (in_range (0, 255))) (intersection (in_ranges ys) (in_range (0, 255))) (λ d hd. ap (λ b. (b && in_ranges ys d) && in_range (0, 255) d) hd)
+    ∙ fun_ext (λ d. assoc (scalar d) (in_ranges ys d) (in_range (0, 255) d))
+    ∙ sym e)
+  where
+    assoc : (a b c : Bool) → (a && (b && c)) ≡ ((a && b) && c)
+    assoc true b c = refl
+    assoc false b c = refl
+
+-- the only member is one
+pub sole_is_member : (xs : List (ℕ × ℕ)) (c : ℕ) → AreCanonical xs → sole xs ≡ Some c → members xs c ≡ true
+sole_is_member [] c h e = cc
+sole_is_member (r ∷ []) c h e = at (r.0 == r.1) refl e
+  where
+    at : (b : Bool) → (r.0 == r.1) ≡ b → cond b (Some r.0) None ≡ Some c → members (r ∷ []) c ≡ true
+    at true same e = let start : r.0 ≡ c = cc in rw (← start) (first_is_member 0 r [] h)
+    at false same e = cc
+sole_is_member (r ∷ s ∷ rest) c h e = cc

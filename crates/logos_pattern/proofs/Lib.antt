@@ -3,3 +3,5 @@ pub mod Order
 pub mod Laws
 pub mod ClassLemmas
 pub mod ClassSame
+pub mod TreeViews
+pub mod BuildLemmas

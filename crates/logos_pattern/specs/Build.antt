@@ -1,7 +1,7 @@
 -- Trees in their simplest form: how characters, classes, parts, branches and repetitions are put together.
-use Rattle.std.specs.Prelude.{ℕ, min, Bool, true, false, ◌&&◌, ◌==◌, List, [], ◌∷◌, ◌++◌, Option, Some, None, option_map, option_and_then, flat_map, length, if◌then◌else◌, encode_utf8, chars}
+use Rattle.std.specs.Prelude.{ℕ, min, Bool, true, false, ◌&&◌, ◌==◌, List, [], ◌∷◌, ◌++◌, Option, Some, None, unwrap_or, option_map, option_and_then, flat_map, length, if◌then◌else◌, encode_utf8, chars}
 use Rattle.std.specs.Str.{is_utf8}
-use Rattle.logos_pattern.specs.Class.{Set, in_ranges, char_ranges, byte_ranges}
+use Rattle.logos_pattern.specs.Class.{Set, members, char_ranges, byte_ranges}
 use Rattle.logos_pattern.specs.Tree.{Tree, empty, literal, byte_class, char_class, look, repetition, capture, concat, alternation, Trees, none, also, trees}
 
 abbrev pub list_of : Trees → List Tree
@@ -15,17 +15,19 @@ abbrev pub literal_of : List ℕ → Tree
 literal_of [] = empty
 literal_of (b ∷ rest) = literal (b ∷ rest)
 
+-- the only member of the ranges, if there is just one
+abbrev pub sole : List (ℕ × ℕ) → Option ℕ
+sole [] = None
+sole (r ∷ []) = if r.0 == r.1 then Some r.0 else None
+sole (r ∷ s ∷ rest) = None
+
 -- a class of characters by its ranges; of one member, a literal
 abbrev pub char_tree : List (ℕ × ℕ) → Tree
-char_tree [] = char_class []
-char_tree ((a, b) ∷ []) = if a == b then literal (encode_utf8 a) else char_class ((a, b) ∷ [])
-char_tree (r ∷ s ∷ rest) = char_class (r ∷ s ∷ rest)
+char_tree ranges = unwrap_or (option_map (λ c. literal (encode_utf8 c)) (sole ranges)) (char_class ranges)
 
 -- a class of bytes by its ranges; of one member, a literal
 abbrev pub byte_tree : List (ℕ × ℕ) → Tree
-byte_tree [] = byte_class []
-byte_tree ((a, b) ∷ []) = if a == b then literal (a ∷ []) else byte_class ((a, b) ∷ [])
-byte_tree (r ∷ s ∷ rest) = byte_class (r ∷ s ∷ rest)
+byte_tree ranges = unwrap_or (option_map (λ b. literal (b ∷ [])) (sole ranges)) (byte_class ranges)
 
 -- one character of the set
 abbrev pub one_char_of : Set → Tree
@@ -54,19 +56,26 @@ abbrev mutual
   all_byteless none = true
   all_byteless (also t rest) = is_byteless t && all_byteless rest
 
+-- the greatest count is this one
+abbrev pub is_most : ℕ → Option ℕ → Bool
+is_most n None = false
+is_most n (Some most) = most == n
+
+-- a greatest count cut to at most 1
+abbrev pub cut : Option ℕ → Option ℕ
+cut None = Some 1
+cut (Some most) = Some (min most 1)
+
 -- once is the body itself
 abbrev pub times : ℕ → Option ℕ → Bool → Tree → Tree
-times least None greedy body = repetition least None greedy body
-times least (Some most) greedy body = if least == 1 && most == 1 then body else repetition least (Some most) greedy body
+times least most greedy body = if least == 1 && is_most 1 most then body else repetition least most greedy body
 
 -- A repetition. Never is `Empty`, and of a tree that matches no byte both counts are at most 1.
 abbrev pub repetition_of : ℕ → Option ℕ → Bool → Tree → Tree
-repetition_of least None greedy body =
-    if is_byteless body then times (min least 1) (Some 1) greedy body else times least None greedy body
-repetition_of least (Some most) greedy body =
-    if most == 0 then empty
-    else if is_byteless body then times (min least 1) (Some (min most 1)) greedy body
-    else times least (Some most) greedy body
+repetition_of least most greedy body =
+    if is_most 0 most then empty
+    else if is_byteless body then times (min least 1) (cut most) greedy body
+    else times least most greedy body
 
 -- ---- concatenations
 
@@ -137,20 +146,20 @@ branches_of t = t ∷ []
 
 -- one byte of these ranges if there are some, else one of the branches
 abbrev pub bytes_or : List Tree → Option (List (ℕ × ℕ)) → Tree
-bytes_or branches (Some ranges) = one_byte_of (in_ranges ranges)
+bytes_or branches (Some ranges) = one_byte_of (members ranges)
 bytes_or branches None = alternation (trees branches)
 
 -- one character of these ranges if there are some, else bytes or branches
 abbrev pub chars_or : List Tree → Option (List (ℕ × ℕ)) → Tree
-chars_or branches (Some ranges) = one_char_of (in_ranges ranges)
+chars_or branches (Some ranges) = one_char_of (members ranges)
 chars_or branches None = bytes_or branches (all_ranges byte_ranges_of branches)
 
 -- one branch is itself, characters alone make a class, bytes alone make a class
-abbrev pub choice : List Tree → Tree
-choice [] = chars_or [] (Some [])
-choice (t ∷ []) = t
-choice (t ∷ u ∷ rest) = chars_or (t ∷ u ∷ rest) (all_ranges char_ranges_of (t ∷ u ∷ rest))
+abbrev pub choice_of : List Tree → Tree
+choice_of [] = chars_or [] (all_ranges char_ranges_of [])
+choice_of (t ∷ []) = t
+choice_of (t ∷ u ∷ rest) = chars_or (t ∷ u ∷ rest) (all_ranges char_ranges_of (t ∷ u ∷ rest))
 
 -- an alternation, flattened
 abbrev pub alternation_of : List Tree → Tree
-alternation_of branches = choice (flat_map branches_of branches)
+alternation_of branches = choice_of (flat_map branches_of branches)

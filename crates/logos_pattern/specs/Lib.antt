@@ -8,6 +8,7 @@ pub mod Class
 pub mod ClassSteps
 pub mod ClassSet
 pub mod Build
+pub mod BuildSteps
 pub mod Fold
 pub mod Property
 pub mod Measure

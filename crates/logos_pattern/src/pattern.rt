@@ -1,5 +1,6 @@
 //! Patterns.
 
+mod build;
 mod class;
 pub mod hir;
 

@@ -127,7 +127,8 @@ impl RangeSet {
     ghost use Rattle.std.specs.Prelude.{◌≡◌, ℕ, ◌≤◌, true, IfOk, MatchBool};
     ghost use lib.Utf8.{scalar};
     ghost use Rattle.logos_pattern.specs.Hir.{pairs};
-    ghost use Rattle.logos_pattern.specs.Class.{Set, members, union, intersection, difference, symmetric_difference, complement};
+    ghost use Rattle.logos_pattern.specs.Class.{Set, members, union, intersection, difference, symmetric_difference, complement, in_range};
+    ghost use Rattle.logos_pattern.specs.Build.{sole};
     ghost use Rattle.logos_pattern.specs.ClassSet.{set_of};
 
     /// The characters in the ranges. These may come in any order, overlap, and hold numbers that are
@@ -148,6 +149,31 @@ impl RangeSet {
     {
         let ranges = gaps(*self.ranges.allocator(), &self.ranges, last as u32)?;
         Ok(RangeSet { ranges })
+    }
+
+    /// The members up to U+00FF, which are bytes.
+    pub(crate) fn bytes(&self) -> Result<RangeSet, AllocError>
+        ensures { IfOk result (λ set. set_of set ≡ intersection (set_of self.now) (in_range (0, 255))) }
+    {
+        self.complement(char::MAX)?.complement('\u{FF}')
+    }
+
+    /// The only member, if there is just one.
+    pub(crate) fn sole(&self) -> Option<char>
+        ensures { result ≡ sole (pairs self.now.ranges.items) }
+    {
+        match self.ranges.as_slice() {
+            [range] if range.first == range.last => char::from_u32(range.first),
+            _ => None,
+        }
+    }
+
+    /// The ranges, in ascending order.
+    pub(crate) fn into_ranges(self) -> Vec<Range>
+        ensures { result ≡ self.ranges }
+    {
+        let RangeSet { ranges } = self;
+        ranges
     }
 
     /// The members of either set.
