@@ -9,3 +9,7 @@ pub mod Counted
 pub mod EscapeLemmas
 pub mod LetterLemmas
 pub mod TokenLemmas
+pub mod ClassLemmas
+pub mod ClassSame
+pub mod TreeViews
+pub mod BuildLemmas

@@ -4,6 +4,14 @@ pub mod Looks
 pub mod Matches
 pub mod Priority
 pub mod Hir
+pub mod Class
+pub mod ClassSteps
+pub mod ClassSet
+pub mod Build
+pub mod BuildSteps
+pub mod Fold
+pub mod Property
+pub mod Measure
 pub mod Leaf
 pub mod Bracket
 pub mod Flags

@@ -2,6 +2,8 @@
 
 mod bracket_token;
 pub mod error;
+mod build;
+mod class;
 pub mod hir;
 mod token;
 mod token_escape;
