@@ -13,3 +13,5 @@ pub mod ClassLemmas
 pub mod ClassSame
 pub mod TreeViews
 pub mod BuildLemmas
+pub mod Levels
+pub mod Reading

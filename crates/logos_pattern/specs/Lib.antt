@@ -19,3 +19,8 @@ pub mod Token
 pub mod TokenEscape
 pub mod TokenGroup
 pub mod Spelling
+pub mod BracketSpelling
+pub mod BracketSet
+pub mod Written
+pub mod Grammar
+pub mod Machine

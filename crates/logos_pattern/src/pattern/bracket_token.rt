@@ -64,3 +64,14 @@ pub(crate) enum Lead {
     /// One `]`.
     Bracket,
 }
+
+/// A token inside brackets.
+#[derive(Clone, Copy)]
+pub(crate) enum BracketToken {
+    Item(Item),
+    /// `[` or `[^`, and the literals behind it.
+    Open(bool, Lead),
+    Operator(SetOperator),
+    /// `]`
+    Close,
+}
