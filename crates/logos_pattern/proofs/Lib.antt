@@ -5,3 +5,4 @@ pub mod ClassLemmas
 pub mod ClassSame
 pub mod TreeViews
 pub mod BuildLemmas
+pub mod MeasureLemmas

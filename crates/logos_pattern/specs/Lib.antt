@@ -12,4 +12,5 @@ pub mod BuildSteps
 pub mod Fold
 pub mod Property
 pub mod Measure
+pub mod MeasureSteps
 pub mod Leaf

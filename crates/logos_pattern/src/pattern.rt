@@ -3,6 +3,7 @@
 mod build;
 mod class;
 pub mod hir;
+mod measure;
 
 pub use hir::{Class, Hir, Look, Range};
 
