@@ -6,3 +6,4 @@ pub mod ClassSame
 pub mod TreeViews
 pub mod BuildLemmas
 pub mod MeasureLemmas
+pub mod PropertyLemmas

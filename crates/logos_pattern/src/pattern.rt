@@ -4,6 +4,7 @@ mod build;
 mod class;
 pub mod hir;
 mod measure;
+mod property;
 
 pub use hir::{Class, Hir, Look, Range};
 
