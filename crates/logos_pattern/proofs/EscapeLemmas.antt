@@ -2,19 +2,19 @@
 use Rattle.std.proofs.Common.{◌≡◌, ◌≢◌, ℕ, suc, ◌+◌, ◌*◌, ◌<◌, ◌≤◌, Bool, true, false, ◌||◌, cond, eqb, leb, List, [], ◌∷◌, ◌++◌, length, take, drop, Option, Some, None, option_map, refl, sym, ap, subst, ◌∙◌, arith, length-append, length-take, IfSome, leb-true, le-leb, ne_eqb}
 use Rattle.std.proofs.lemmas.Bool.{eqb-true, eqb-false}
 use Rattle.std.proofs.lemmas.List.{take-append-drop, take_at, drop_at}
-use Rattle.ucd_sets.specs.declared.set.Set.{Set}
+use Rattle.unicode.specs.declared.sets.Set.{Set}
 use Rattle.logos_pattern.specs.declared.pattern.token.Atom.{Atom}
 use Rattle.logos_pattern.specs.declared.pattern.token.Atom.TheVariants.{Character, Byte, Boundary, Property}
 use Rattle.logos_pattern.specs.Token.{Text, ◌>>=◌, is_among, hex_digit, hex_from, scalar_of, only_scalar, cut_at}
-use Rattle.logos_pattern.specs.TokenEscape.{single_of, begins, property_named, property_of, property_at, braced_at, fixed_at, byte_at, hex_at, boundary_at, single_at, escape_at}
+use Rattle.logos_pattern.specs.TokenEscape.{single_of, begins, formed_property, property_of, property_at, braced_at, fixed_at, byte_at, hex_at, boundary_at, single_at, escape_at}
 use Rattle.logos_pattern.specs.Spelling.{NotBegins, Lacks, property_letter, Escapes, single, two_digits, four_digits, eight_digits, any_digits, boundary, property, named_property}
 use Rattle.logos_pattern.proofs.Picks.{IsTaken, pick, pick_is, bind_taken, map_taken, outside, apart, cut_found, cut_there, eqb_same}
 
 -- ---- what is read is written there
 
-property_of_taken : (text : Text) (negated : Bool) (name rest : Text) → ((set : Set) → property_named name ≡ Some set → Escapes (Property set negated) text rest) → IsTaken Escapes text (property_of negated name rest)
+property_of_taken : (text : Text) (negated : Bool) (name rest : Text) → ((set : Set) → formed_property name ≡ Some set → Escapes (Property set negated) text rest) → IsTaken Escapes text (property_of negated name rest)
 unfolding property_of
-property_of_taken text negated name rest h = map_taken Escapes text (property_named name) (λ set. (Property set negated, rest)) h
+property_of_taken text negated name rest h = map_taken Escapes text (formed_property name) (λ set. (Property set negated, rest)) h
 
 property_taken : (negated : Bool) (t : Text) → IsTaken Escapes (property_letter negated ∷ t) (property_at negated t)
 unfolding property_at
@@ -146,15 +146,15 @@ braced_is digits rest n some is =
     let size : eqb (length digits) 0 ≡ false = ne_eqb (length digits) 0 (λ e. omega arith) in
     rw (found, size, is) refl
 
-property_is : (negated : Bool) (name rest : Text) (set : Set) → property_named name ≡ Some set → property_of negated name rest ≡ Some (Property set negated, rest)
+property_is : (negated : Bool) (name rest : Text) (set : Set) → formed_property name ≡ Some set → property_of negated name rest ≡ Some (Property set negated, rest)
 unfolding property_of
 property_is negated name rest set is = rw is refl
 
-one_property : (negated : Bool) (c : ℕ) (rest : Text) (set : Set) → c ≢ 123 → property_named (c ∷ []) ≡ Some set → property_at negated (c ∷ rest) ≡ Some (Property set negated, rest)
+one_property : (negated : Bool) (c : ℕ) (rest : Text) (set : Set) → c ≢ 123 → formed_property (c ∷ []) ≡ Some set → property_at negated (c ∷ rest) ≡ Some (Property set negated, rest)
 unfolding property_at
 one_property negated c rest set ne is = let other : eqb c 123 ≡ false = ne_eqb c 123 ne in rw other (property_is negated (c ∷ []) rest set is)
 
-braced_property : (negated : Bool) (name rest : Text) (set : Set) → Lacks 125 name → property_named name ≡ Some set → property_at negated (123 ∷ name ++ 125 ∷ rest) ≡ Some (Property set negated, rest)
+braced_property : (negated : Bool) (name rest : Text) (set : Set) → Lacks 125 name → formed_property name ≡ Some set → property_at negated (123 ∷ name ++ 125 ∷ rest) ≡ Some (Property set negated, rest)
 unfolding property_at
 braced_property negated name rest set lacks is = rw (cut_there 125 name rest lacks) (property_is negated name rest set is)
 

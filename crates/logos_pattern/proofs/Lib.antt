@@ -15,3 +15,5 @@ pub mod TreeViews
 pub mod BuildLemmas
 pub mod Levels
 pub mod Reading
+pub mod MeasureLemmas
+pub mod PropertyLemmas

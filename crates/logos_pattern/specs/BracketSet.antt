@@ -1,25 +1,22 @@
 -- What a bracket stands for: a set of characters, or of bytes.
 use Rattle.std.specs.Prelude.{◌≡◌, ℕ, ◌+◌, max, Bool, true, false, not, ◌||◌, ◌&&◌, ◌==◌, nat_lt, nat_le, List, [], ◌∷◌, if◌then◌else◌}
-use Rattle.std.specs.Char.{is_ascii_digit, is_ascii_alphanumeric, is_ascii_alphabetic, is_ascii_lowercase, is_ascii_uppercase, is_ascii_hexdigit}
 use Rattle.logos_pattern.specs.declared.pattern.token.Flags.{Flags}
-use Rattle.logos_pattern.specs.declared.pattern.token.Perl.{Perl}
-use Rattle.logos_pattern.specs.declared.pattern.token.Perl.TheVariants.{Digit, Space, Word}
 use Rattle.logos_pattern.specs.declared.pattern.bracket_token.Symbol.{Symbol}
 use Rattle.logos_pattern.specs.declared.pattern.bracket_token.Symbol.TheVariants.{Character, Byte}
-use Rattle.logos_pattern.specs.declared.pattern.bracket_token.Ascii.{Ascii}
-use Rattle.logos_pattern.specs.declared.pattern.bracket_token.Ascii.TheVariants as names
 use Rattle.logos_pattern.specs.declared.pattern.bracket_token.Item.{Item}
 use Rattle.logos_pattern.specs.declared.pattern.bracket_token.Item.TheVariants as items
 use Rattle.logos_pattern.specs.declared.pattern.bracket_token.SetOperator.{SetOperator}
 use Rattle.logos_pattern.specs.declared.pattern.bracket_token.SetOperator.TheVariants.{Intersection, Difference, SymmetricDifference}
 use Rattle.logos_pattern.specs.declared.pattern.bracket_token.Lead.{Lead}
 use Rattle.logos_pattern.specs.declared.pattern.bracket_token.Lead.TheVariants.{Dashes, Bracket as LoneBracket}
-use Rattle.unicode.specs.Perl.{is_digit_char, is_space_char, is_word_char, is_word_byte}
+use Rattle.logos_pattern.specs.declared.pattern.bracket_token.BracketToken.{BracketToken}
+use Rattle.logos_pattern.specs.declared.pattern.bracket_token.BracketToken.TheVariants as tokens
 use Rattle.unicode.specs.Sets.{in_set}
-use Rattle.logos_pattern.specs.Class.{Set, only_chars, union, intersection, difference, symmetric_difference, complement, in_range, in_ranges}
+use Rattle.logos_pattern.specs.Class.{Set, only_chars, union, intersection, difference, symmetric_difference, complement, in_range}
+use Rattle.logos_pattern.specs.Property.{ascii_set, perl_set}
 use Rattle.logos_pattern.specs.Fold.{fold_case, fold_ascii}
 use Rattle.logos_pattern.specs.Bracket.{Bracket, bracket, Operands, lone, joined, Members, nobody, member, nested}
-use Rattle.logos_pattern.specs.BracketSpelling.{code_of}
+use Rattle.logos_pattern.specs.BracketSpelling.{code_of, bracket_tokens}
 
 -- the last character, or the last byte
 abbrev pub last_of : Flags → ℕ
@@ -33,43 +30,20 @@ folded flags set = if flags.ignore_case then (if flags.unicode then fold_case se
 abbrev pub turned : Flags → Bool → Set → Set
 turned flags negated set = if negated then complement (last_of flags) set else set
 
--- `\d`, `\s`, `\w`
-abbrev pub perl_test : Flags → Perl → Set
-perl_test flags Digit = if flags.unicode then is_digit_char else is_ascii_digit
-perl_test flags Space = if flags.unicode then is_space_char else in_ranges ((9, 13) ∷ (32, 32) ∷ [])
-perl_test flags Word = if flags.unicode then is_word_char else is_word_byte
-
--- the classes of ASCII characters
-abbrev pub ascii_test : Ascii → Set
-ascii_test names.Alnum = is_ascii_alphanumeric
-ascii_test names.Alpha = is_ascii_alphabetic
-ascii_test names.Ascii = in_range (0, 127)
-ascii_test names.Blank = in_ranges ((9, 9) ∷ (32, 32) ∷ [])
-ascii_test names.Cntrl = in_ranges ((0, 31) ∷ (127, 127) ∷ [])
-ascii_test names.Digit = is_ascii_digit
-ascii_test names.Graph = in_range (33, 126)
-ascii_test names.Lower = is_ascii_lowercase
-ascii_test names.Print = in_range (32, 126)
-ascii_test names.Punct = in_ranges ((33, 47) ∷ (58, 64) ∷ (91, 96) ∷ (123, 126) ∷ [])
-ascii_test names.Space = in_ranges ((9, 13) ∷ (32, 32) ∷ [])
-ascii_test names.Upper = is_ascii_uppercase
-ascii_test names.Word = is_word_byte
-ascii_test names.Xdigit = is_ascii_hexdigit
-
 -- the set of an item without its negation, before the flags
 abbrev pub item_test : Flags → Item → Set
 item_test flags (items.One s) = λ c. c == code_of s
 item_test flags (items.Range a b) = in_range (code_of a, code_of b)
-item_test flags (items.Perl class negated) = perl_test flags class
+item_test flags (items.Perl kind negated) = perl_set kind flags.unicode
 item_test flags (items.Property set negated) = in_set set
-item_test flags (items.Ascii name negated) = ascii_test name
+item_test flags (items.Ascii kind negated) = ascii_set kind
 
 abbrev pub is_negated : Item → Bool
 is_negated (items.One s) = false
 is_negated (items.Range a b) = false
-is_negated (items.Perl class negated) = negated
+is_negated (items.Perl kind negated) = negated
 is_negated (items.Property set negated) = negated
-is_negated (items.Ascii name negated) = negated
+is_negated (items.Ascii kind negated) = negated
 
 abbrev pub item_set : Flags → Item → Set
 item_set flags item = turned flags (is_negated item) (folded flags (only_chars (item_test flags item)))
@@ -90,13 +64,14 @@ abbrev mutual
 
   -- operators are read from the left
   pub operands_set : Flags → Lead → Operands → Set
-  operands_set flags lead (lone ms) = union (lead_set lead) (members_set flags ms)
-  operands_set flags lead (joined os op ms) = combined op (operands_set flags lead os) (members_set flags ms)
+  operands_set flags lead (lone ms) = members_set flags (lead_set lead) ms
+  operands_set flags lead (joined os op ms) = combined op (operands_set flags lead os) (members_set flags (λ c. false) ms)
 
-  pub members_set : Flags → Members → Set
-  members_set flags nobody = λ c. false
-  members_set flags (member ms item) = union (members_set flags ms) (item_set flags item)
-  members_set flags (nested ms b) = union (members_set flags ms) (bracket_set flags b)
+  -- the members together with those before them
+  pub members_set : Flags → Set → Members → Set
+  members_set flags before nobody = before
+  members_set flags before (member ms item) = union (members_set flags before ms) (item_set flags item)
+  members_set flags before (nested ms b) = union (members_set flags before ms) (bracket_set flags b)
 
 -- ---- what may stand under the flags
 
@@ -109,22 +84,19 @@ symbol_fits flags (Byte b) = true
 abbrev pub item_fits : Flags → Item → Bool
 item_fits flags (items.One s) = symbol_fits flags s
 item_fits flags (items.Range a b) = symbol_fits flags a && symbol_fits flags b
-item_fits flags (items.Perl class negated) = true
+item_fits flags (items.Perl kind negated) = true
 item_fits flags (items.Property set negated) = flags.unicode
-item_fits flags (items.Ascii name negated) = true
+item_fits flags (items.Ascii kind negated) = true
 
-abbrev mutual
-  pub BracketFits : Flags → Bracket → Type 0
-  BracketFits flags (bracket negated lead inside) = OperandsFit flags inside
+abbrev pub TokensFit : Flags → List BracketToken → Type 0
+TokensFit flags [] = Unit {0}
+TokensFit flags (tokens.Item item ∷ others) = (item_fits flags item ≡ true) × TokensFit flags others
+TokensFit flags (tokens.Open negated lead ∷ others) = TokensFit flags others
+TokensFit flags (tokens.Operator op ∷ others) = TokensFit flags others
+TokensFit flags (tokens.Close ∷ others) = TokensFit flags others
 
-  pub OperandsFit : Flags → Operands → Type 0
-  OperandsFit flags (lone ms) = MembersFit flags ms
-  OperandsFit flags (joined os op ms) = OperandsFit flags os × MembersFit flags ms
-
-  pub MembersFit : Flags → Members → Type 0
-  MembersFit flags nobody = Unit {0}
-  MembersFit flags (member ms item) = MembersFit flags ms × (item_fits flags item ≡ true)
-  MembersFit flags (nested ms b) = MembersFit flags ms × BracketFits flags b
+abbrev pub BracketFits : Flags → Bracket → Type 0
+BracketFits flags b = TokensFit flags (bracket_tokens b)
 
 -- ---- how deep brackets stand in each other
 

@@ -1,12 +1,11 @@
 -- How a bracket is written.
-use Rattle.std.specs.Prelude.{◌≡◌, ◌≢◌, ℕ, ◌≤◌, Bool, true, false, not, ◌&&◌, ◌||◌, ◌==◌, List, [], ◌∷◌, ◌++◌, replicate, Option, Some, None, if◌then◌else◌, codes}
-use Rattle.ucd_sets.specs.declared.set.Set.{Set}
-use Rattle.logos_pattern.specs.declared.pattern.token.Perl.{Perl}
+use Rattle.std.specs.Prelude.{◌≡◌, ◌≢◌, ℕ, ◌≤◌, Bool, true, false, not, ◌&&◌, ◌||◌, ◌==◌, List, [], ◌∷◌, ◌++◌, replicate, Option, Some, None, if◌then◌else◌}
+use Rattle.unicode.specs.declared.sets.Set.{Set}
+use Rattle.logos_pattern.specs.declared.pattern.property.AsciiKind.{AsciiKind}
+use Rattle.logos_pattern.specs.declared.pattern.property.PerlKind.{PerlKind}
 use Rattle.logos_pattern.specs.declared.pattern.token.Atom.TheVariants as atoms
 use Rattle.logos_pattern.specs.declared.pattern.bracket_token.Symbol.{Symbol}
 use Rattle.logos_pattern.specs.declared.pattern.bracket_token.Symbol.TheVariants.{Character, Byte}
-use Rattle.logos_pattern.specs.declared.pattern.bracket_token.Ascii.{Ascii}
-use Rattle.logos_pattern.specs.declared.pattern.bracket_token.Ascii.TheVariants as names
 use Rattle.logos_pattern.specs.declared.pattern.bracket_token.Item.{Item}
 use Rattle.logos_pattern.specs.declared.pattern.bracket_token.Item.TheVariants as items
 use Rattle.logos_pattern.specs.declared.pattern.bracket_token.SetOperator.{SetOperator}
@@ -17,7 +16,8 @@ use Rattle.logos_pattern.specs.declared.pattern.bracket_token.BracketToken.{Brac
 use Rattle.logos_pattern.specs.declared.pattern.bracket_token.BracketToken.TheVariants as tokens
 use Rattle.logos_pattern.specs.Bracket.{Bracket, bracket, Operands, lone, joined, Members, nobody, member, nested}
 use Rattle.logos_pattern.specs.Token.{Text}
-use Rattle.logos_pattern.specs.Spelling.{NotBegins, Escapes}
+use Rattle.logos_pattern.specs.Spelling.{NotBegins, Lacks, Escapes}
+use Rattle.logos_pattern.specs.Property.{ascii_named}
 
 -- ---- the tokens of a bracket
 
@@ -70,29 +70,17 @@ begins_range (c ∷ d ∷ rest) = (c == 45) && not ((d == 93) || (d == 45))
 
 -- ---- classes of ASCII characters
 
-abbrev pub name_text : Ascii → Text
-name_text names.Alnum = codes "alnum"
-name_text names.Alpha = codes "alpha"
-name_text names.Ascii = codes "ascii"
-name_text names.Blank = codes "blank"
-name_text names.Cntrl = codes "cntrl"
-name_text names.Digit = codes "digit"
-name_text names.Graph = codes "graph"
-name_text names.Lower = codes "lower"
-name_text names.Print = codes "print"
-name_text names.Punct = codes "punct"
-name_text names.Space = codes "space"
-name_text names.Upper = codes "upper"
-name_text names.Word = codes "word"
-name_text names.Xdigit = codes "xdigit"
+-- `:name:]`, or `:^name:]` for the complement
+abbrev pub class_text : Text → Bool → Text
+class_text name negated = 58 ∷ (if negated then 94 ∷ [] else []) ++ name ++ 58 ∷ 93 ∷ []
 
--- `[:name:]`, or `[:^name:]` for the complement, without the first bracket
-abbrev pub class_text : Ascii → Bool → Text
-class_text name negated = 58 ∷ (if negated then 94 ∷ [] else []) ++ name_text name ++ 58 ∷ 93 ∷ []
+-- the name of a class; no such name has a `:`
+abbrev pub IsClass : Text → AsciiKind → Type 0
+IsClass name kind = Lacks 58 name × (ascii_named name ≡ Some kind)
 
--- the text does not begin with such a class
+-- the text, which stands behind a bracket, does not make it the front of such a class
 abbrev pub NoClass : Text → Type 0
-NoClass text = (name : Ascii) (negated : Bool) (rest : Text) → text ≢ class_text name negated ++ rest
+NoClass text = (name : Text) (kind : AsciiKind) (negated : Bool) (rest : Text) → IsClass name kind → text ≢ class_text name negated ++ rest
 
 -- ---- openings
 
@@ -112,13 +100,13 @@ pub data Opens : Bool → Lead → Text → Text → Type 0 where
 pub data BracketTakes : BracketToken → Text → Text → Type 0 where
   closes : (rest : Text) → BracketTakes tokens.Close (93 ∷ rest) rest
   operator : (op : SetOperator) (rest : Text) → BracketTakes (tokens.Operator op) (operator_letter op ∷ operator_letter op ∷ rest) rest
-  class : (name : Ascii) (negated : Bool) (rest : Text) → BracketTakes (tokens.Item (items.Ascii name negated)) (91 ∷ class_text name negated ++ rest) rest
+  class : (name : Text) (kind : AsciiKind) (negated : Bool) (rest : Text) → IsClass name kind → BracketTakes (tokens.Item (items.Ascii kind negated)) (91 ∷ class_text name negated ++ rest) rest
   opens : (negated : Bool) (lead : Lead) (text rest : Text) → NoClass text → Opens negated lead text rest → BracketTakes (tokens.Open negated lead) (91 ∷ text) rest
   one : (s : Symbol) (text rest : Text) → begins_item text ≡ true → Symbols s text rest → begins_range rest ≡ false → BracketTakes (tokens.Item (items.One s)) text rest
   range : (a b : Symbol) (text after rest : Text) → begins_item text ≡ true → Symbols a text (45 ∷ after) → begins_range (45 ∷ after) ≡ true → Symbols b after rest →
       code_of a ≤ code_of b → BracketTakes (tokens.Item (items.Range a b)) text rest
-  perl : (class : Perl) (negated : Bool) (text rest : Text) → Escapes (atoms.Perl class negated) text rest → begins_range rest ≡ false →
-      BracketTakes (tokens.Item (items.Perl class negated)) (92 ∷ text) rest
+  perl : (kind : PerlKind) (negated : Bool) (text rest : Text) → Escapes (atoms.Perl kind negated) text rest → begins_range rest ≡ false →
+      BracketTakes (tokens.Item (items.Perl kind negated)) (92 ∷ text) rest
   property : (set : Set) (negated : Bool) (text rest : Text) → Escapes (atoms.Property set negated) text rest → begins_range rest ≡ false →
       BracketTakes (tokens.Item (items.Property set negated)) (92 ∷ text) rest
 

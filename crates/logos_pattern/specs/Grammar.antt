@@ -11,8 +11,9 @@ use Rattle.logos_pattern.specs.Tree.{Tree, literal, look, capture}
 use Rattle.logos_pattern.specs.Class.{Set, only_chars}
 use Rattle.logos_pattern.specs.Build.{one_char_of, one_byte_of, repetition_of, concat_of, alternation_of}
 use Rattle.logos_pattern.specs.Token.{Text, Opening, capturing, named, plain, Token, atom, bracketed}
+use Rattle.logos_pattern.specs.Property.{perl_set}
 use Rattle.logos_pattern.specs.Bracket.{Bracket}
-use Rattle.logos_pattern.specs.BracketSet.{folded, turned, perl_test, bracket_set, BracketFits, bracket_depth}
+use Rattle.logos_pattern.specs.BracketSet.{folded, turned, bracket_set, BracketFits, bracket_depth}
 use Rattle.logos_pattern.specs.Written.{Branches, first, next, Items, nothing, piece, setting, Piece, simple, class, group, repeated, branches_tokens, Cuts, NamesDiffer, items_flags, branches_flags, inner_flags}
 
 -- ---- atoms
@@ -56,7 +57,7 @@ atom_tree flags Dollar = look (end_look flags)
 atom_tree flags TextStart = look Start
 atom_tree flags TextEnd = look End
 atom_tree flags (Boundary negated) = look (if negated then WordAsciiNegate else WordAscii)
-atom_tree flags (Perl letter negated) = one_of flags (turned flags negated (folded flags (only_chars (perl_test flags letter))))
+atom_tree flags (Perl kind negated) = one_of flags (turned flags negated (folded flags (only_chars (perl_set kind flags.unicode))))
 atom_tree flags (Property set negated) = one_of flags (turned flags negated (folded flags (only_chars (in_set set))))
 
 -- word boundaries where bytes are matched, properties where characters are
@@ -69,7 +70,7 @@ atom_fits flags Dollar = true
 atom_fits flags TextStart = true
 atom_fits flags TextEnd = true
 atom_fits flags (Boundary negated) = not flags.unicode
-atom_fits flags (Perl letter negated) = true
+atom_fits flags (Perl kind negated) = true
 atom_fits flags (Property set negated) = flags.unicode
 
 -- a token that may stand where these flags hold

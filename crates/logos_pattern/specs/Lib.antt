@@ -12,6 +12,7 @@ pub mod BuildSteps
 pub mod Fold
 pub mod Property
 pub mod Measure
+pub mod MeasureSteps
 pub mod Leaf
 pub mod Bracket
 pub mod Flags

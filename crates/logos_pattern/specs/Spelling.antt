@@ -1,12 +1,12 @@
 -- How a token outside brackets is written.
 use Rattle.std.specs.Prelude.{◌≡◌, ℕ, ◌+◌, ◌*◌, ◌-◌, ◌^◌, ◌<◌, ◌≤◌, ◌≢◌, Bool, true, false, [], ◌∷◌, ◌++◌, length, Option, Some, None, if◌then◌else◌}
-use Rattle.ucd_sets.specs.declared.set.Set.{Set}
+use Rattle.unicode.specs.declared.sets.Set.{Set}
 use Rattle.logos_pattern.specs.declared.pattern.token.Change.{Change}
 use Rattle.logos_pattern.specs.declared.pattern.token.Atom.{Atom}
 use Rattle.logos_pattern.specs.declared.pattern.token.Atom.TheVariants.{Character, Byte, Dot, Caret, Dollar, Boundary, Property}
 use Rattle.logos_pattern.specs.Flags.{no_change, Settings}
 use Rattle.logos_pattern.specs.Token.{Text, Token, atom, bar, opens, closes, sets, repeats, capturing, named, plain, is_among, is_meta, is_digit, hex_from, scalar_of}
-use Rattle.logos_pattern.specs.TokenEscape.{single_of, property_named}
+use Rattle.logos_pattern.specs.TokenEscape.{single_of, formed_property}
 use Rattle.logos_pattern.specs.TokenGroup.{is_name}
 
 -- the text does not begin with the character
@@ -65,9 +65,9 @@ pub data Escapes : Atom → Text → Text → Type 0 where
   -- `\b`, with no brace behind it
   boundary : (rest : Text) → NotBegins 123 rest → Escapes (Boundary false) (98 ∷ rest) rest
   -- `\pX`, `\p{name}`
-  property : (negated : Bool) (c : ℕ) (rest : Text) (set : Set) → c ≢ 123 → property_named (c ∷ []) ≡ Some set →
+  property : (negated : Bool) (c : ℕ) (rest : Text) (set : Set) → c ≢ 123 → formed_property (c ∷ []) ≡ Some set →
       Escapes (Property set negated) (property_letter negated ∷ c ∷ rest) rest
-  named_property : (negated : Bool) (name rest : Text) (set : Set) → Lacks 125 name → property_named name ≡ Some set →
+  named_property : (negated : Bool) (name rest : Text) (set : Set) → Lacks 125 name → formed_property name ≡ Some set →
       Escapes (Property set negated) (property_letter negated ∷ 123 ∷ name ++ 125 ∷ rest) rest
 
 -- ---- tokens

@@ -1,10 +1,9 @@
 -- What stands behind a backslash, read from the front.
 use Rattle.std.specs.Prelude.{ℕ, Bool, true, false, not, ◌||◌, ◌&&◌, nat_le, nat_lt, ◌==◌, [], ◌∷◌, length, take, drop, Option, Some, None, option_map, if◌then◌else◌}
 use Rattle.std.specs.Char.{is_ascii_alphanumeric}
-use Rattle.unicode.specs.Loose.{normalize}
-use Rattle.unicode.specs.Lookup.{by_name}
-use Rattle.ucd_sets.specs.declared.set.Set.{Set}
-use Rattle.logos_pattern.specs.declared.pattern.token.Perl.TheVariants.{Digit, Space, Word}
+use Rattle.unicode.specs.declared.sets.Set.{Set}
+use Rattle.logos_pattern.specs.declared.pattern.property.PerlKind.TheVariants.{Digit, Space, Word}
+use Rattle.logos_pattern.specs.Property.{property_named}
 use Rattle.logos_pattern.specs.declared.pattern.token.Atom.{Atom}
 use Rattle.logos_pattern.specs.declared.pattern.token.Atom.TheVariants.{Character, Byte, TextStart, TextEnd, Boundary, Perl as PerlClass, Property}
 use Rattle.logos_pattern.specs.Token.{Text, ◌>>=◌, is_among, hex_from, scalar_of, cut_at}
@@ -43,12 +42,12 @@ begins d (c ∷ rest) = c == d
 abbrev pub is_form : Text → Bool
 is_form name = is_among 61 name || is_among 58 name || begins 94 name
 
--- The set of a property's name, compared loosely: a binary property, a general category (`any`, `ascii` and `assigned` among them), or a script.
-unfoldable pub property_named : Text → Option Set
-property_named name = if is_form name then None else by_name (normalize name)
+-- the set of a property's name
+unfoldable pub formed_property : Text → Option Set
+formed_property name = if is_form name then None else property_named name
 
 unfoldable pub property_of : Bool → Text → Text → Option (Atom × Text)
-property_of negated name rest = option_map (λ set. (Property set negated, rest)) (property_named name)
+property_of negated name rest = option_map (λ set. (Property set negated, rest)) (formed_property name)
 
 -- `{name}`, or one character
 unfoldable pub property_at : Bool → Text → Option (Atom × Text)

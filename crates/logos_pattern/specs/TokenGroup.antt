@@ -4,7 +4,7 @@ use Rattle.std.specs.List.{list_all}
 use Rattle.unicode.specs.Binary.{is_alphabetic}
 use Rattle.unicode.specs.GeneralCategory.{general_category}
 use Rattle.unicode.specs.GeneralCategoryGroup.{in_group}
-use Rattle.ucd_category.specs.declared.GeneralCategoryGroup.TheVariants.{Number}
+use Rattle.unicode.specs.declared.properties.GeneralCategoryGroup.TheVariants.{Number}
 use Rattle.logos_pattern.specs.declared.pattern.token.Atom.TheVariants.{Character, Dot, Caret, Dollar}
 use Rattle.logos_pattern.specs.declared.pattern.token_group.Letters.{Letters}
 use Rattle.logos_pattern.specs.Flags.{no_change, with_letter}

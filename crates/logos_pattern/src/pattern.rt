@@ -9,6 +9,8 @@ mod token;
 mod token_escape;
 mod token_group;
 mod token_number;
+mod measure;
+mod property;
 
 pub use error::{Kind, PatternError};
 pub use hir::{Class, Hir, Look, Range};

@@ -1,6 +1,6 @@
 //! The tokens inside brackets.
 
-use crate::pattern::token::Perl;
+use crate::pattern::property::{AsciiKind, PerlKind};
 use unicode::sets::Set;
 
 /// A character in a bracket.
@@ -12,25 +12,6 @@ pub(crate) enum Symbol {
     Byte(u8),
 }
 
-/// The classes of ASCII characters with a name.
-#[derive(Clone, Copy)]
-pub(crate) enum Ascii {
-    Alnum,
-    Alpha,
-    Ascii,
-    Blank,
-    Cntrl,
-    Digit,
-    Graph,
-    Lower,
-    Print,
-    Punct,
-    Space,
-    Upper,
-    Word,
-    Xdigit,
-}
-
 /// A part of an operand without a bracket of its own. A `bool` says whether it is negated.
 #[derive(Clone, Copy)]
 pub(crate) enum Item {
@@ -38,11 +19,11 @@ pub(crate) enum Item {
     /// `a-z`
     Range(Symbol, Symbol),
     /// `\d`, `\D` and so on
-    Perl(Perl, bool),
+    Perl(PerlKind, bool),
     /// `\p{..}`, `\P{..}`
     Property(Set, bool),
     /// `[:name:]`, `[:^name:]`
-    Ascii(Ascii, bool),
+    Ascii(AsciiKind, bool),
 }
 
 /// What parts the operands of a bracket.

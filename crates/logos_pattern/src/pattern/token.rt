@@ -1,5 +1,6 @@
 //! The tokens of a pattern outside brackets, and what they are made of.
 
+use crate::pattern::property::PerlKind;
 use unicode::sets::Set;
 
 /// The flags that hold at a place of a pattern.
@@ -38,17 +39,6 @@ pub(crate) struct Operator {
     pub lazy: bool,
 }
 
-/// The classes with a letter.
-#[derive(Clone, Copy)]
-pub(crate) enum Perl {
-    /// `\d`
-    Digit,
-    /// `\s`
-    Space,
-    /// `\w`
-    Word,
-}
-
 /// What can be repeated and has no parts. A `bool` says whether it is negated.
 #[derive(Clone, Copy)]
 pub(crate) enum Atom {
@@ -69,7 +59,7 @@ pub(crate) enum Atom {
     /// `\b`, `\B`
     Boundary(bool),
     /// `\d`, `\D` and so on
-    Perl(Perl, bool),
+    Perl(PerlKind, bool),
     /// `\p{..}`, `\P{..}`
     Property(Set, bool),
 }

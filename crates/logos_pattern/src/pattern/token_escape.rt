@@ -2,13 +2,14 @@
 
 ghost use Rattle.std.specs.Prelude.{◌≡◌, MatchResult};
 ghost use Rattle.logos_pattern.specs.Token.{Gives, is_among};
-ghost use Rattle.logos_pattern.specs.TokenEscape.{is_escapable, single_of, begins, is_form, property_named, property_of, property_at, braced_at, fixed_at, byte_at, hex_at, boundary_at, single_at, escape_at};
+ghost use Rattle.logos_pattern.specs.TokenEscape.{is_escapable, single_of, begins, is_form, formed_property, property_of, property_at, braced_at, fixed_at, byte_at, hex_at, boundary_at, single_at, escape_at};
 
 use crate::pattern::error::{Fault, Kind};
-use crate::pattern::token::{Atom, Perl};
+use crate::pattern::property::{PerlKind, property_named};
+use crate::pattern::token::Atom;
 use crate::pattern::token_number::{cut_at, hex_digit, scalar_of};
 use std::alloc::Global;
-use unicode::sets::{self, Set};
+use unicode::sets::Set;
 
 fn is_escapable(c: char) -> bool
     ensures { result ≡ is_escapable c }
@@ -30,12 +31,12 @@ fn single_of(c: char) -> Option<Atom>
         'n' => Some(Atom::Character('\n')),
         'r' => Some(Atom::Character('\r')),
         'v' => Some(Atom::Character('\x0B')),
-        'd' => Some(Atom::Perl(Perl::Digit, false)),
-        's' => Some(Atom::Perl(Perl::Space, false)),
-        'w' => Some(Atom::Perl(Perl::Word, false)),
-        'D' => Some(Atom::Perl(Perl::Digit, true)),
-        'S' => Some(Atom::Perl(Perl::Space, true)),
-        'W' => Some(Atom::Perl(Perl::Word, true)),
+        'd' => Some(Atom::Perl(PerlKind::Digit, false)),
+        's' => Some(Atom::Perl(PerlKind::Space, false)),
+        'w' => Some(Atom::Perl(PerlKind::Word, false)),
+        'D' => Some(Atom::Perl(PerlKind::Digit, true)),
+        'S' => Some(Atom::Perl(PerlKind::Space, true)),
+        'W' => Some(Atom::Perl(PerlKind::Word, true)),
         'A' => Some(Atom::TextStart),
         'z' => Some(Atom::TextEnd),
         'B' => Some(Atom::Boundary(true)),
@@ -56,17 +57,16 @@ fn is_form(name: &[char]) -> bool
 }
 
 /// The set of a property's name.
-#[tactic(auto, unfolding(crate::specs::TokenEscape::property_named))]
-fn property_named(alloc: Global, name: &[char]) -> Result<Set, Fault>
-    ensures { Gives (λ set. set) result (property_named name.now) }
+#[tactic(auto, unfolding(crate::specs::TokenEscape::formed_property))]
+fn formed_property(alloc: Global, name: &[char]) -> Result<Set, Fault>
+    ensures { Gives (λ set. set) result (formed_property name.now) }
 {
     if is_form(name) {
         return Err(Fault::Syntax(Kind::PropertyForm));
     }
-    let normal = sets::normalize(alloc, name)?;
-    match sets::by_name(&normal) {
-        Ok(set) => Ok(set),
-        Err(_) => Err(Fault::Syntax(Kind::UnknownProperty)),
+    match property_named(alloc, name)? {
+        Some(set) => Ok(set),
+        None => Err(Fault::Syntax(Kind::UnknownProperty)),
     }
 }
 
@@ -79,7 +79,7 @@ fn property_of<'t>(
 ) -> Result<(Atom, &'t [char]), Fault>
     ensures { Gives (λ x. (x.0, x.1.now)) result (property_of negated name.now rest.now) }
 {
-    let set = property_named(alloc, name)?;
+    let set = formed_property(alloc, name)?;
     Ok((Atom::Property(set, negated), rest))
 }
 
