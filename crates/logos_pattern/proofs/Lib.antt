@@ -17,3 +17,4 @@ pub mod Levels
 pub mod Reading
 pub mod MeasureLemmas
 pub mod PropertyLemmas
+pub mod BracketTokens

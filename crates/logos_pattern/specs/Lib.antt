@@ -25,3 +25,4 @@ pub mod BracketSet
 pub mod Written
 pub mod Grammar
 pub mod Machine
+pub mod BracketRead

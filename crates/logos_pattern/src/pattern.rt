@@ -1,5 +1,6 @@
 //! Patterns.
 
+mod bracket_read;
 mod bracket_token;
 pub mod error;
 mod build;
