@@ -18,3 +18,4 @@ pub mod Reading
 pub mod MeasureLemmas
 pub mod PropertyLemmas
 pub mod BracketTokens
+pub mod BracketLevels

@@ -26,3 +26,4 @@ pub mod Written
 pub mod Grammar
 pub mod Machine
 pub mod BracketRead
+pub mod BracketMachine
