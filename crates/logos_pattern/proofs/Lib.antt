@@ -19,3 +19,4 @@ pub mod MeasureLemmas
 pub mod PropertyLemmas
 pub mod BracketTokens
 pub mod BracketLevels
+pub mod BracketTexts
