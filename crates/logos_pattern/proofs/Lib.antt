@@ -7,3 +7,4 @@ pub mod TreeViews
 pub mod BuildLemmas
 pub mod MeasureLemmas
 pub mod PropertyLemmas
+pub mod FoldLemmas

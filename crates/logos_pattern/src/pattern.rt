@@ -2,6 +2,7 @@
 
 mod build;
 mod class;
+mod fold;
 pub mod hir;
 mod measure;
 mod property;

@@ -169,6 +169,13 @@ impl RangeSet {
     }
 
     /// The ranges, in ascending order.
+    pub(crate) fn ranges(&self) -> &[Range]
+        ensures { result.now ≡ self.now.ranges.items }
+    {
+        &self.ranges
+    }
+
+    /// The ranges, in ascending order.
     pub(crate) fn into_ranges(self) -> Vec<Range>
         ensures { result ≡ self.ranges }
     {
