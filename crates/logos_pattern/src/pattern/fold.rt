@@ -28,7 +28,10 @@ fn push_values(out: &mut Vec<Range>, table: &[(u32, u32)]) -> Result<(), AllocEr
     ensures { OnOk result ((c : ℕ) → in_ranges (pairs out.new.items) c ≡ (in_ranges (pairs out.old.items) c || in_values table.now c)) }
 {
     for (_, value) in table {
-        out.push(Range { first: *value, last: *value })?;
+        out.push(Range {
+            first: *value,
+            last: *value,
+        })?;
     }
     Ok(())
 }
@@ -54,7 +57,13 @@ pub(crate) fn fold_case(alloc: Global, set: &RangeSet) -> Result<RangeSet, Alloc
 }
 
 /// Adds the numbers of the range from `first` to `last`, moved so that `first` becomes `to`.
-fn push_moved(out: &mut Vec<Range>, range: Range, first: u32, last: u32, to: u32) -> Result<(), AllocError>
+fn push_moved(
+    out: &mut Vec<Range>,
+    range: Range,
+    first: u32,
+    last: u32,
+    to: u32,
+) -> Result<(), AllocError>
     requires order { first ≤ last }
     requires small { last + to < 2 ^ 32 }
     ensures { OnOk result ((c : ℕ) → in_ranges (pairs out.new.items) c ≡ (in_ranges (pairs out.old.items) c || moved first last to (in_range (range.first, range.last)) c)) }
@@ -91,3 +100,6 @@ pub(crate) fn fold_ascii(alloc: Global, set: &RangeSet) -> Result<RangeSet, Allo
     push_cases(&mut ranges, set.ranges())?;
     RangeSet::from_ranges(alloc, &ranges)
 }
+
+#[cfg(test)]
+mod tests;
