@@ -16,29 +16,29 @@ use Rattle.std.proofs.lemmas.Str.{IsUtf8-from_is_utf8, is_utf8-from_IsUtf8}
 use lib.Utf8.{scalar}
 use Rattle.logos_pattern.specs.Tree.{Tree, empty, literal, byte_class, char_class, look, repetition, capture, concat, alternation, Trees, trees}
 use Rattle.logos_pattern.specs.Class.{Set, members, intersection, in_range, AreCanonical, char_ranges, byte_ranges}
-use Rattle.logos_pattern.specs.Build.{only, only_char, chars_or, choice_of, all_ranges, char_ranges_of, list_of, branches_of, join, with_text, joined, in_a_row, sole, char_tree, byte_tree, one_char_of, one_byte_of}
+use Rattle.logos_pattern.specs.Build.{sole_item, sole_char, chars_or, choice_of, all_ranges, char_ranges_of, list_of, branches_of, join, with_text, joined, in_a_row, sole_member, char_tree, byte_tree, one_char_of, one_byte_of}
 use Rattle.logos_pattern.specs.BuildSteps.{part_text, add_text, add_part, add_parts, IsAdded}
-use Rattle.logos_pattern.proofs.ClassSame.{char_ranges_same, byte_ranges_same, sole_is_member}
+use Rattle.logos_pattern.proofs.ClassSame.{char_ranges_same, byte_ranges_same, sole_member_is_member}
 
 -- ---- classes
 
-char_tree-is : (xs : List (ℕ × ℕ)) (o : Option ℕ) → sole xs ≡ o → char_tree xs ≡ unwrap_or (option_map (λ c. literal (encode_utf8 c)) o) (char_class xs)
+char_tree-is : (xs : List (ℕ × ℕ)) (o : Option ℕ) → sole_member xs ≡ o → char_tree xs ≡ unwrap_or (option_map (λ c. literal (encode_utf8 c)) o) (char_class xs)
 char_tree-is xs o e = ap (λ o. unwrap_or (option_map (λ c. literal (encode_utf8 c)) o) (char_class xs)) e
 
-byte_tree-is : (xs : List (ℕ × ℕ)) (o : Option ℕ) → sole xs ≡ o → byte_tree xs ≡ unwrap_or (option_map (λ b. literal (b ∷ [])) o) (byte_class xs)
+byte_tree-is : (xs : List (ℕ × ℕ)) (o : Option ℕ) → sole_member xs ≡ o → byte_tree xs ≡ unwrap_or (option_map (λ b. literal (b ∷ [])) o) (byte_class xs)
 byte_tree-is xs o e = ap (λ o. unwrap_or (option_map (λ b. literal (b ∷ [])) o) (byte_class xs)) e
 
-pub one_char-is : (xs : List (ℕ × ℕ)) (o : Option ℕ) → AreCanonical xs → sole xs ≡ o →
+pub one_char-is : (xs : List (ℕ × ℕ)) (o : Option ℕ) → AreCanonical xs → sole_member xs ≡ o →
     one_char_of (members xs) ≡ unwrap_or (option_map (λ c. literal (encode_utf8 c)) o) (char_class xs)
 one_char-is xs o h e = ap char_tree (char_ranges_same xs h) ∙ char_tree-is xs o e
 
-pub one_byte-is : (ys xs : List (ℕ × ℕ)) (o : Option ℕ) → AreCanonical xs → members xs ≡ intersection (members ys) (in_range (0, 255)) → sole xs ≡ o →
+pub one_byte-is : (ys xs : List (ℕ × ℕ)) (o : Option ℕ) → AreCanonical xs → members xs ≡ intersection (members ys) (in_range (0, 255)) → sole_member xs ≡ o →
     one_byte_of (members ys) ≡ unwrap_or (option_map (λ b. literal (b ∷ [])) o) (byte_class xs)
 one_byte-is ys xs o h same e = ap byte_tree (byte_ranges_same ys xs h same) ∙ byte_tree-is xs o e
 
-pub sole_is_byte : (ys xs : List (ℕ × ℕ)) (c : ℕ) → AreCanonical xs → members xs ≡ intersection (members ys) (in_range (0, 255)) → sole xs ≡ Some c → c < 256
+pub sole_is_byte : (ys xs : List (ℕ × ℕ)) (c : ℕ) → AreCanonical xs → members xs ≡ intersection (members ys) (in_range (0, 255)) → sole_member xs ≡ Some c → c < 256
 sole_is_byte ys xs c h same e =
-    let there : intersection (members ys) (in_range (0, 255)) c ≡ true = sym (ap (λ (s : Set). s c) same) ∙ sole_is_member xs c h e in
+    let there : intersection (members ys) (in_range (0, 255)) c ≡ true = sym (ap (λ (s : Set). s c) same) ∙ sole_member_is_member xs c h e in
     let within = and_parts (members ys c) (in_range (0, 255) c) there in
     omega (arith, leb-true c 255 (and_parts _ _ within.1).1)
 
@@ -174,26 +174,26 @@ one_branch ts t e = ap choice_of e
 
 -- ---- the character that is a text
 
-pub no_text : (text : List ℕ) → (IsUtf8 text → ⊥) → None ≡ only_char text
+pub no_text : (text : List ℕ) → (IsUtf8 text → ⊥) → None ≡ sole_char text
 no_text text h = at (is_utf8 text) refl
   where
-    at : (b : Bool) → is_utf8 text ≡ b → None ≡ cond b (only (chars text)) None
+    at : (b : Bool) → is_utf8 text ≡ b → None ≡ cond b (sole_item (chars text)) None
     at true e = absurd (h (IsUtf8-from_is_utf8 text e))
     at false e = refl
 
-pub of_text : (text : List ℕ) → IsUtf8 text → only (chars text) ≡ only_char text
+pub of_text : (text : List ℕ) → IsUtf8 text → sole_item (chars text) ≡ sole_char text
 of_text text h = at (is_utf8 text) refl
   where
-    at : (b : Bool) → is_utf8 text ≡ b → only (chars text) ≡ cond b (only (chars text)) None
+    at : (b : Bool) → is_utf8 text ≡ b → sole_item (chars text) ≡ cond b (sole_item (chars text)) None
     at true e = refl
     at false e = absurd (both_ways _ e (is_utf8-from_IsUtf8 text h))
 
-pub only-one : (cs : List ℕ) (d : ℕ) → length cs ≡ 1 → Some (get_or cs 0 d) ≡ only cs
-only-one [] d h = absurd (omega arith)
-only-one (c ∷ []) d h = refl
-only-one (c ∷ e ∷ cs) d h = absurd (omega arith)
+pub sole_item-one : (cs : List ℕ) (d : ℕ) → length cs ≡ 1 → Some (get_or cs 0 d) ≡ sole_item cs
+sole_item-one [] d h = absurd (omega arith)
+sole_item-one (c ∷ []) d h = refl
+sole_item-one (c ∷ e ∷ cs) d h = absurd (omega arith)
 
-pub only-others : (cs : List ℕ) → (length cs ≡ 1 → ⊥) → None ≡ only cs
-only-others [] h = refl
-only-others (c ∷ []) h = absurd (h refl)
-only-others (c ∷ d ∷ cs) h = refl
+pub sole_item-others : (cs : List ℕ) → (length cs ≡ 1 → ⊥) → None ≡ sole_item cs
+sole_item-others [] h = refl
+sole_item-others (c ∷ []) h = absurd (h refl)
+sole_item-others (c ∷ d ∷ cs) h = refl

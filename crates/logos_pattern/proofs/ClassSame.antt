@@ -5,7 +5,7 @@ use Rattle.std.proofs.lemmas.Bool.Decides.{nat_tests}
 use lib.Utf8.{scalar, scalar_cases}
 use Rattle.logos_pattern.specs.Class.{Set, only_chars, members, intersection, in_range, in_ranges, next, is_range, rises_from, AreCanonical, with_number, ranges_from, char_ranges, byte_ranges}
 use Rattle.logos_pattern.proofs.ClassLemmas.{next_le, next_above, char_bound, is_range_parts, is_range_from, rises_parts, rises_from_parts, same_chars, only_chars_members}
-use Rattle.logos_pattern.specs.Build.{sole}
+use Rattle.logos_pattern.specs.Build.{sole_member}
 use Rattle.std.proofs.Math.Path.{fun_ext}
 
 -- ---- one list for one set
@@ -257,11 +257,11 @@ byte_ranges_same ys xs h e =
     assoc false b c = refl
 
 -- the only member is one
-pub sole_is_member : (xs : List (ℕ × ℕ)) (c : ℕ) → AreCanonical xs → sole xs ≡ Some c → members xs c ≡ true
-sole_is_member [] c h e = cc
-sole_is_member (r ∷ []) c h e = at (r.0 == r.1) refl e
+pub sole_member_is_member : (xs : List (ℕ × ℕ)) (c : ℕ) → AreCanonical xs → sole_member xs ≡ Some c → members xs c ≡ true
+sole_member_is_member [] c h e = cc
+sole_member_is_member (r ∷ []) c h e = at (r.0 == r.1) refl e
   where
     at : (b : Bool) → (r.0 == r.1) ≡ b → cond b (Some r.0) None ≡ Some c → members (r ∷ []) c ≡ true
     at true same e = let start : r.0 ≡ c = cc in rw (← start) (first_is_member 0 r [] h)
     at false same e = cc
-sole_is_member (r ∷ s ∷ rest) c h e = cc
+sole_member_is_member (r ∷ s ∷ rest) c h e = cc

@@ -20,3 +20,4 @@ pub mod PropertyLemmas
 pub mod BracketTokens
 pub mod BracketLevels
 pub mod BracketTexts
+pub mod FoldLemmas

@@ -15,19 +15,19 @@ abbrev pub literal_of : List ℕ → Tree
 literal_of [] = empty
 literal_of (b ∷ rest) = literal (b ∷ rest)
 
--- the only member of the ranges, if there is just one
-abbrev pub sole : List (ℕ × ℕ) → Option ℕ
-sole [] = None
-sole (r ∷ []) = if r.0 == r.1 then Some r.0 else None
-sole (r ∷ s ∷ rest) = None
+-- the member of the ranges, if there is just one
+abbrev pub sole_member : List (ℕ × ℕ) → Option ℕ
+sole_member [] = None
+sole_member (r ∷ []) = if r.0 == r.1 then Some r.0 else None
+sole_member (r ∷ s ∷ rest) = None
 
 -- a class of characters by its ranges; of one member, a literal
 abbrev pub char_tree : List (ℕ × ℕ) → Tree
-char_tree ranges = unwrap_or (option_map (λ c. literal (encode_utf8 c)) (sole ranges)) (char_class ranges)
+char_tree ranges = unwrap_or (option_map (λ c. literal (encode_utf8 c)) (sole_member ranges)) (char_class ranges)
 
 -- a class of bytes by its ranges; of one member, a literal
 abbrev pub byte_tree : List (ℕ × ℕ) → Tree
-byte_tree ranges = unwrap_or (option_map (λ b. literal (b ∷ [])) (sole ranges)) (byte_class ranges)
+byte_tree ranges = unwrap_or (option_map (λ b. literal (b ∷ [])) (sole_member ranges)) (byte_class ranges)
 
 -- one character of the set
 abbrev pub one_char_of : Set → Tree
@@ -112,25 +112,26 @@ concat_of parts = in_a_row (joined (flat_map parts_of parts))
 
 -- ---- alternations
 
--- the character that is the whole text, if it is one
-abbrev pub only : List ℕ → Option ℕ
-only [] = None
-only (c ∷ []) = Some c
-only (c ∷ d ∷ rest) = None
+-- the element, if there is just one
+abbrev pub sole_item : List ℕ → Option ℕ
+sole_item [] = None
+sole_item (c ∷ []) = Some c
+sole_item (c ∷ d ∷ rest) = None
 
-abbrev pub only_char : List ℕ → Option ℕ
-only_char text = if is_utf8 text then only (chars text) else None
+-- the character that is the whole text, if there is just one
+abbrev pub sole_char : List ℕ → Option ℕ
+sole_char text = if is_utf8 text then sole_item (chars text) else None
 
 -- the ranges of a class of characters, or of a literal of one character
 abbrev pub char_ranges_of : Tree → Option (List (ℕ × ℕ))
 char_ranges_of (char_class ranges) = Some ranges
-char_ranges_of (literal text) = option_map (λ c. (c, c) ∷ []) (only_char text)
+char_ranges_of (literal text) = option_map (λ c. (c, c) ∷ []) (sole_char text)
 char_ranges_of t = None
 
 -- the ranges of a class of bytes, or of a literal of one byte
 abbrev pub byte_ranges_of : Tree → Option (List (ℕ × ℕ))
 byte_ranges_of (byte_class ranges) = Some ranges
-byte_ranges_of (literal text) = option_map (λ b. (b, b) ∷ []) (only text)
+byte_ranges_of (literal text) = option_map (λ b. (b, b) ∷ []) (sole_item text)
 byte_ranges_of t = None
 
 -- the ranges of all trees, if each has some

@@ -10,6 +10,7 @@ pub mod ClassSet
 pub mod Build
 pub mod BuildSteps
 pub mod Fold
+pub mod FoldSteps
 pub mod Property
 pub mod Measure
 pub mod MeasureSteps

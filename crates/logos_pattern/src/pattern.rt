@@ -5,6 +5,7 @@ mod bracket_token;
 pub mod error;
 mod build;
 mod class;
+mod fold;
 pub mod hir;
 mod token;
 mod token_escape;

@@ -5,7 +5,7 @@ ghost use Rattle.std.specs.Str.{chars};
 ghost use Rattle.logos_pattern.specs.Tree.{look, capture};
 ghost use Rattle.logos_pattern.specs.Hir.{pairs, tree_of};
 ghost use Rattle.logos_pattern.specs.ClassSet.{set_of};
-ghost use Rattle.logos_pattern.specs.Build.{literal_of, one_char_of, one_byte_of, is_byteless, is_most, cut, times, repetition_of, parts_of, concat_of, only_char, char_ranges_of, byte_ranges_of, all_ranges, branches_of, bytes_or, chars_or, choice_of, alternation_of};
+ghost use Rattle.logos_pattern.specs.Build.{literal_of, one_char_of, one_byte_of, is_byteless, is_most, cut, times, repetition_of, parts_of, concat_of, sole_char, char_ranges_of, byte_ranges_of, all_ranges, branches_of, bytes_or, chars_or, choice_of, alternation_of};
 ghost use Rattle.logos_pattern.specs.BuildSteps.{part_text, add_text, add_part, add_parts, IsAdded};
 
 use super::class::RangeSet;
@@ -40,7 +40,7 @@ pub(crate) fn capture(alloc: Global, body: Hir) -> Result<Hir, AllocError>
 pub(crate) fn char_class(alloc: Global, set: RangeSet) -> Result<Hir, AllocError>
     ensures { IfOk result (λ hir. tree_of hir ≡ one_char_of (set_of set)) }
 {
-    match set.sole() {
+    match set.sole_member() {
         Some(c) => {
             let mut buffer = [0; 4];
             let bytes = c.encode_utf8(&mut buffer).as_bytes();
@@ -51,13 +51,13 @@ pub(crate) fn char_class(alloc: Global, set: RangeSet) -> Result<Hir, AllocError
 }
 
 /// One byte of the set; of one member a literal. Members above U+00FF are left out.
-pub(crate) fn byte_class(alloc: Global, set: &RangeSet) -> Result<Hir, AllocError>
-    ensures { IfOk result (λ hir. tree_of hir ≡ one_byte_of (set_of set.now)) }
+pub(crate) fn byte_class(alloc: Global, set: RangeSet) -> Result<Hir, AllocError>
+    ensures { IfOk result (λ hir. tree_of hir ≡ one_byte_of (set_of set)) }
 {
-    let set = set.bytes()?;
-    match set.sole() {
+    let bytes = set.bytes()?;
+    match bytes.sole_member() {
         Some(c) => Ok(Hir::Literal(Vec::from_slice(alloc, &[c as u8])?)),
-        None => Ok(Hir::Class(Class::Bytes(set.into_ranges()))),
+        None => Ok(Hir::Class(Class::Bytes(bytes.into_ranges()))),
     }
 }
 
@@ -100,7 +100,13 @@ fn cut(max: Option<u32>) -> u32
 }
 
 /// A repetition; once is the body itself.
-fn times(alloc: Global, min: u32, max: Option<u32>, greedy: bool, body: Hir) -> Result<Hir, AllocError>
+fn times(
+    alloc: Global,
+    min: u32,
+    max: Option<u32>,
+    greedy: bool,
+    body: Hir,
+) -> Result<Hir, AllocError>
     ensures { IfOk result (λ hir. tree_of hir ≡ times min max greedy (tree_of body)) }
 {
     if min == 1 && is_most(1, max) {
@@ -116,7 +122,13 @@ fn times(alloc: Global, min: u32, max: Option<u32>, greedy: bool, body: Hir) -> 
 
 /// A repetition. Never is `Empty`, of a tree that matches no byte both counts are cut to at most 1,
 /// and then once is the body itself.
-pub(crate) fn repetition(alloc: Global, min: u32, max: Option<u32>, greedy: bool, body: Hir) -> Result<Hir, AllocError>
+pub(crate) fn repetition(
+    alloc: Global,
+    min: u32,
+    max: Option<u32>,
+    greedy: bool,
+    body: Hir,
+) -> Result<Hir, AllocError>
     ensures { IfOk result (λ hir. tree_of hir ≡ repetition_of min max greedy (tree_of body)) }
 {
     if is_most(0, max) {
@@ -203,8 +215,8 @@ pub(crate) fn concat(all: Vec<Hir>) -> Result<Hir, AllocError>
 }
 
 /// The character that is the whole text, if it is one.
-fn only_char(alloc: Global, bytes: &[u8]) -> Result<Option<char>, AllocError>
-    ensures { IfOk result (λ c. c ≡ only_char bytes.now) }
+fn sole_char(alloc: Global, bytes: &[u8]) -> Result<Option<char>, AllocError>
+    ensures { IfOk result (λ c. c ≡ sole_char bytes.now) }
 {
     let Ok(text) = str::from_utf8(bytes) else {
         return Ok(None);
@@ -231,9 +243,12 @@ fn push_char_ranges(out: &mut Vec<Range>, branch: &Hir) -> Result<bool, AllocErr
             out.extend_from_slice(ranges)?;
             Ok(true)
         }
-        Hir::Literal(bytes) => match only_char(*out.allocator(), bytes)? {
+        Hir::Literal(bytes) => match sole_char(*out.allocator(), bytes)? {
             Some(c) => {
-                out.push(Range { first: c as u32, last: c as u32 })?;
+                out.push(Range {
+                    first: c as u32,
+                    last: c as u32,
+                })?;
                 Ok(true)
             }
             None => Ok(false),
@@ -253,7 +268,10 @@ fn push_byte_ranges(out: &mut Vec<Range>, branch: &Hir) -> Result<bool, AllocErr
         }
         Hir::Literal(bytes) => match bytes.as_slice() {
             [b] => {
-                out.push(Range { first: *b as u32, last: *b as u32 })?;
+                out.push(Range {
+                    first: *b as u32,
+                    last: *b as u32,
+                })?;
                 Ok(true)
             }
             _ => Ok(false),
@@ -303,7 +321,7 @@ fn bytes_or(alloc: Global, branches: Vec<Hir>) -> Result<Hir, AllocError>
     ensures { IfOk result (λ hir. tree_of hir ≡ bytes_or (map tree_of branches.items) (all_ranges byte_ranges_of (map tree_of branches.items))) }
 {
     match byte_ranges(alloc, &branches)? {
-        Some(ranges) => byte_class(alloc, &RangeSet::from_ranges(alloc, &ranges)?),
+        Some(ranges) => byte_class(alloc, RangeSet::from_ranges(alloc, &ranges)?),
         None => Ok(Hir::Alternation(branches)),
     }
 }
@@ -343,3 +361,6 @@ pub(crate) fn alternation(all: Vec<Hir>) -> Result<Hir, AllocError>
     }
     choice(branches)
 }
+
+#[cfg(test)]
+mod tests;

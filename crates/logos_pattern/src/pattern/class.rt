@@ -85,7 +85,11 @@ fn first_char(c: u32) -> u32
     ensures same { (d : ℕ) → scalar d ≡ true → nat_le result d ≡ nat_le c d }
     ensures char { result ≤ 0x10_FFFF → scalar result ≡ true }
 {
-    if matches!(c, 0xD800..=0xDFFF) { 0xE000 } else { c }
+    if matches!(c, 0xD800..=0xDFFF) {
+        0xE000
+    } else {
+        c
+    }
 }
 
 /// The last character that is not behind `c`.
@@ -93,7 +97,11 @@ fn last_char(c: u32) -> u32
     ensures same { (d : ℕ) → scalar d ≡ true → nat_le d result ≡ nat_le d c }
     ensures char { scalar result ≡ true }
 {
-    if matches!(c, 0xD800..=0xDFFF) { 0xD7FF } else { c.min(LAST_CHAR) }
+    if matches!(c, 0xD800..=0xDFFF) {
+        0xD7FF
+    } else {
+        c.min(LAST_CHAR)
+    }
 }
 
 /// Adds the characters of a range.
@@ -128,7 +136,7 @@ impl RangeSet {
     ghost use lib.Utf8.{scalar};
     ghost use Rattle.logos_pattern.specs.Hir.{pairs};
     ghost use Rattle.logos_pattern.specs.Class.{Set, members, union, intersection, difference, symmetric_difference, complement, in_range};
-    ghost use Rattle.logos_pattern.specs.Build.{sole};
+    ghost use Rattle.logos_pattern.specs.Build.{sole_member};
     ghost use Rattle.logos_pattern.specs.ClassSet.{set_of};
 
     /// The characters in the ranges. These may come in any order, overlap, and hold numbers that are
@@ -141,6 +149,18 @@ impl RangeSet {
         let outside = gaps(alloc, &parts, LAST_CHAR)?;
         let ranges = gaps(alloc, &outside, LAST_CHAR)?;
         Ok(RangeSet { ranges })
+    }
+
+    /// Whether the character is a member.
+    pub(crate) fn contains(&self, c: char) -> bool
+        ensures { result ≡ set_of self.now c }
+    {
+        for range in &self.ranges {
+            if range.first <= c as u32 && c as u32 <= range.last {
+                return true;
+            }
+        }
+        false
     }
 
     /// The characters up to `last` that are no members.
@@ -159,13 +179,20 @@ impl RangeSet {
     }
 
     /// The only member, if there is just one.
-    pub(crate) fn sole(&self) -> Option<char>
-        ensures { result ≡ sole (pairs self.now.ranges.items) }
+    pub(crate) fn sole_member(&self) -> Option<char>
+        ensures { result ≡ sole_member (pairs self.now.ranges.items) }
     {
         match self.ranges.as_slice() {
             [range] if range.first == range.last => char::from_u32(range.first),
             _ => None,
         }
+    }
+
+    /// The ranges, in ascending order.
+    pub(crate) fn ranges(&self) -> &[Range]
+        ensures { result.now ≡ self.now.ranges.items }
+    {
+        &self.ranges
     }
 
     /// The ranges, in ascending order.
@@ -210,3 +237,7 @@ impl RangeSet {
         self.difference(other)?.union(&other.difference(self)?)
     }
 }
+
+mod laws;
+#[cfg(test)]
+mod tests;

@@ -147,8 +147,21 @@ fn is_all(last: u32, ranges: &[Range]) -> bool
     ensures { result ≡ is_all last (pairs ranges.now) }
 {
     same(ranges, &[Range { first: 0, last }])
-        | same(ranges, &[Range { first: 0, last: 9 }, Range { first: 11, last }])
-        | same(ranges, &[Range { first: 0, last: 9 }, Range { first: 11, last: 12 }, Range { first: 14, last }])
+        | same(
+            ranges,
+            &[Range { first: 0, last: 9 }, Range { first: 11, last }],
+        )
+        | same(
+            ranges,
+            &[
+                Range { first: 0, last: 9 },
+                Range {
+                    first: 11,
+                    last: 12,
+                },
+                Range { first: 14, last },
+            ],
+        )
 }
 
 fn is_dot(hir: &Hir) -> bool
@@ -169,7 +182,12 @@ pub(crate) fn check_for_greedy_all(hir: &Hir) -> bool
 {
     match hir {
         Hir::Empty | Hir::Look(_) | Hir::Literal(_) | Hir::Class(_) => false,
-        Hir::Repetition { max, greedy, sub, .. } => max.is_none() && *greedy && is_dot(sub),
+        Hir::Repetition {
+            max,
+            greedy,
+            sub,
+            ..
+        } => max.is_none() && *greedy && is_dot(sub),
         Hir::Capture(sub) => check_for_greedy_all(sub),
         Hir::Concat(parts) | Hir::Alternation(parts) => {
             for part in parts {
@@ -181,3 +199,6 @@ pub(crate) fn check_for_greedy_all(hir: &Hir) -> bool
         }
     }
 }
+
+#[cfg(test)]
+mod tests;

@@ -47,36 +47,123 @@ fn ascii_ranges(kind: AsciiKind) -> &'static [Range]
 {
     match kind {
         AsciiKind::Alnum => &[
-            Range { first: 48, last: 57 },
-            Range { first: 65, last: 90 },
-            Range { first: 97, last: 122 },
+            Range {
+                first: 48,
+                last: 57,
+            },
+            Range {
+                first: 65,
+                last: 90,
+            },
+            Range {
+                first: 97,
+                last: 122,
+            },
         ],
-        AsciiKind::Alpha => &[Range { first: 65, last: 90 }, Range { first: 97, last: 122 }],
-        AsciiKind::Ascii => &[Range { first: 0, last: 127 }],
-        AsciiKind::Blank => &[Range { first: 9, last: 9 }, Range { first: 32, last: 32 }],
-        AsciiKind::Cntrl => &[Range { first: 0, last: 31 }, Range { first: 127, last: 127 }],
-        AsciiKind::Digit => &[Range { first: 48, last: 57 }],
-        AsciiKind::Graph => &[Range { first: 33, last: 126 }],
-        AsciiKind::Lower => &[Range { first: 97, last: 122 }],
-        AsciiKind::Print => &[Range { first: 32, last: 126 }],
+        AsciiKind::Alpha => &[
+            Range {
+                first: 65,
+                last: 90,
+            },
+            Range {
+                first: 97,
+                last: 122,
+            },
+        ],
+        AsciiKind::Ascii => &[Range {
+            first: 0,
+            last: 127,
+        }],
+        AsciiKind::Blank => &[
+            Range { first: 9, last: 9 },
+            Range {
+                first: 32,
+                last: 32,
+            },
+        ],
+        AsciiKind::Cntrl => &[
+            Range { first: 0, last: 31 },
+            Range {
+                first: 127,
+                last: 127,
+            },
+        ],
+        AsciiKind::Digit => &[Range {
+            first: 48,
+            last: 57,
+        }],
+        AsciiKind::Graph => &[Range {
+            first: 33,
+            last: 126,
+        }],
+        AsciiKind::Lower => &[Range {
+            first: 97,
+            last: 122,
+        }],
+        AsciiKind::Print => &[Range {
+            first: 32,
+            last: 126,
+        }],
         AsciiKind::Punct => &[
-            Range { first: 33, last: 47 },
-            Range { first: 58, last: 64 },
-            Range { first: 91, last: 96 },
-            Range { first: 123, last: 126 },
+            Range {
+                first: 33,
+                last: 47,
+            },
+            Range {
+                first: 58,
+                last: 64,
+            },
+            Range {
+                first: 91,
+                last: 96,
+            },
+            Range {
+                first: 123,
+                last: 126,
+            },
         ],
-        AsciiKind::Space => &[Range { first: 9, last: 13 }, Range { first: 32, last: 32 }],
-        AsciiKind::Upper => &[Range { first: 65, last: 90 }],
+        AsciiKind::Space => &[
+            Range { first: 9, last: 13 },
+            Range {
+                first: 32,
+                last: 32,
+            },
+        ],
+        AsciiKind::Upper => &[Range {
+            first: 65,
+            last: 90,
+        }],
         AsciiKind::Word => &[
-            Range { first: 48, last: 57 },
-            Range { first: 65, last: 90 },
-            Range { first: 95, last: 95 },
-            Range { first: 97, last: 122 },
+            Range {
+                first: 48,
+                last: 57,
+            },
+            Range {
+                first: 65,
+                last: 90,
+            },
+            Range {
+                first: 95,
+                last: 95,
+            },
+            Range {
+                first: 97,
+                last: 122,
+            },
         ],
         AsciiKind::Xdigit => &[
-            Range { first: 48, last: 57 },
-            Range { first: 65, last: 70 },
-            Range { first: 97, last: 102 },
+            Range {
+                first: 48,
+                last: 57,
+            },
+            Range {
+                first: 65,
+                last: 70,
+            },
+            Range {
+                first: 97,
+                last: 102,
+            },
         ],
     }
 }
@@ -157,7 +244,10 @@ fn ranges_of(alloc: Global, runs: &[(u32, u32)]) -> Result<Vec<Range>, AllocErro
 {
     let mut ranges = Vec::new(alloc);
     for (first, last) in runs {
-        ranges.push(Range { first: *first, last: *last })?;
+        ranges.push(Range {
+            first: *first,
+            last: *last,
+        })?;
     }
     Ok(ranges)
 }
@@ -212,3 +302,6 @@ pub(crate) fn property_set(alloc: Global, set: Set) -> Result<RangeSet, AllocErr
 {
     from_runs(alloc, &set.ranges(alloc)?)
 }
+
+#[cfg(test)]
+mod tests;

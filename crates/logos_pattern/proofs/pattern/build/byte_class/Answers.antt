@@ -8,17 +8,17 @@ use Rattle.logos_pattern.proofs.pattern.build.byte_class.Goals as goal
 
 pub overflow_cast-c : goal.overflow_cast-c
 overflow_cast-c c =
-    let small = sole_is_byte (pairs c.args.set.now.ranges.items) (pairs c.in_ok-set.set.ranges.items) c.in-Some.c c.in_ok-set.set.canonical c.in_ok-set.ensures (sym c.sole.ensures ∙ c.in-Some.is) in
+    let small = sole_is_byte (pairs c.args.set.ranges.items) (pairs c.in_ok-bytes.bytes.ranges.items) c.in-Some.c c.in_ok-bytes.bytes.canonical c.in_ok-bytes.ensures (sym c.sole_member.ensures ∙ c.in-Some.is) in
     search rules
 
-pub returns-in_ok-from_slice-in-Some : goal.returns-in_ok-from_slice-in-Some
-returns-in_ok-from_slice-in-Some c =
+pub returns-in-Some : goal.returns-in-Some
+returns-in-Some c =
     tree-Literal c.in_ok-from_slice-in-Some.field-0
     ∙ ap literal c.in_ok-from_slice-in-Some.ensures.items
-    ∙ sym (one_byte-is (pairs c.args.set.now.ranges.items) (pairs c.in_ok-set.set.ranges.items) (Some c.in-Some.c) c.in_ok-set.set.canonical c.in_ok-set.ensures (sym c.sole.ensures ∙ c.in-Some.is))
+    ∙ sym (one_byte-is (pairs c.args.set.ranges.items) (pairs c.in_ok-bytes.bytes.ranges.items) (Some c.in-Some.c) c.in_ok-bytes.bytes.canonical c.in_ok-bytes.ensures (sym c.sole_member.ensures ∙ c.in-Some.is))
 
-pub returns-in-None : goal.returns-in-None
-returns-in-None c =
+pub returns : goal.returns
+returns c =
     tree-Class (Bytes c.into_ranges.result)
     ∙ ap (λ v. byte_class (pairs v.items)) c.into_ranges.ensures
-    ∙ sym (one_byte-is (pairs c.args.set.now.ranges.items) (pairs c.in_ok-set.set.ranges.items) None c.in_ok-set.set.canonical c.in_ok-set.ensures (sym c.sole.ensures ∙ c.in-None.is))
+    ∙ sym (one_byte-is (pairs c.args.set.ranges.items) (pairs c.in_ok-bytes.bytes.ranges.items) None c.in_ok-bytes.bytes.canonical c.in_ok-bytes.ensures (sym c.sole_member.ensures ∙ c.in-None.is))

@@ -9,5 +9,5 @@ use Rattle.logos_pattern.proofs.pattern.class.chars_of.Given as goal
 abbrev pub invariant-loop-range : goal.invariant-loop-range
 invariant-loop-range l = record {
   ranges : AreRanges (pairs l.out.items);
-  members : (c : ℕ) → scalar c ≡ true → (in_ranges (pairs l.out.items) c || in_ranges (pairs (drop l.range-index l.ranges)) c) ≡ in_ranges (pairs l.ranges) c
+  members : (c : ℕ) → scalar c ≡ true → (in_ranges (pairs l.out.items) c || in_ranges (pairs (drop l.range-index l.ranges)) c) ≡ in_ranges (pairs l.ranges) c;
 }

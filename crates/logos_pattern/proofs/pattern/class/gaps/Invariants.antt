@@ -13,5 +13,5 @@ invariant-loop-range l = record {
   free : free_from 0 (pairs l.out.items) ≤ l.first;
   members : (c : ℕ) → scalar c ≡ true →
       (in_ranges (pairs l.out.items) c || (nat_le l.first c && (nat_le c l.last && not (in_ranges (pairs (drop l.range-index l.ranges)) c))))
-      ≡ (nat_le c l.last && not (in_ranges (pairs l.ranges) c))
+      ≡ (nat_le c l.last && not (in_ranges (pairs l.ranges) c));
 }

@@ -17,7 +17,7 @@ pub sum_of_priorities-loop-part-preserved : goal.sum_of_priorities-loop-part-pre
 sum_of_priorities-loop-part-preserved t c =
     let v = value (tree_of c.part-item.result) in
     let left : sum_of_values (trees (map tree_of (drop c.loop-part.part-index c.args.parts.now)))
-        ≡ v + sum_of_values (trees (map tree_of (drop (c.loop-part.part-index + 1) c.args.parts.now))) =
+    ≡ v + sum_of_values (trees (map tree_of (drop (c.loop-part.part-index + 1) c.args.parts.now))) =
     at_drop_more (λ hs. sum_of_values (trees (map tree_of hs))) c.args.parts.now c.loop-part.part-index c.part-item.result c.loop-part-test.true
     ∙ ap (λ h. value (tree_of h) + sum_of_values (trees (map tree_of (drop (c.loop-part.part-index + 1) c.args.parts.now)))) (sym c.part-item.is) in (
       c.loop-part.invariant.0 + v,

@@ -8,5 +8,5 @@ use Rattle.logos_pattern.proofs.pattern.class.RangeSet.difference.Goals as goal
 pub returns : goal.returns
 returns c =
     let same = ap (intersection (set_of c.args.self.now)) c.in_ok-complement.ensures
-        ∙ difference_by_complement (pairs c.args.self.now.ranges.items) (pairs c.args.other.now.ranges.items) in
+    ∙ difference_by_complement (pairs c.args.self.now.ranges.items) (pairs c.args.other.now.ranges.items) in
     subst (λ (s : Set). IfOk c.intersection.result (λ set. set_of set ≡ s)) same c.intersection.ensures
