@@ -21,3 +21,4 @@ pub mod BracketTokens
 pub mod BracketLevels
 pub mod BracketTexts
 pub mod FoldLemmas
+pub mod SetLemmas

@@ -28,3 +28,4 @@ pub mod Grammar
 pub mod Machine
 pub mod BracketRead
 pub mod BracketMachine
+pub mod BracketView

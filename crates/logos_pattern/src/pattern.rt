@@ -1,6 +1,8 @@
 //! Patterns.
 
+mod bracket;
 mod bracket_read;
+mod bracket_set;
 mod bracket_token;
 pub mod error;
 mod build;
