@@ -4,8 +4,23 @@ ghost use Rattle.std.specs.Prelude.{◌≡◌, ◌++◌, IfOk, IsTrue, Some};
 ghost use Rattle.logos_pattern.specs.Hir.{tree_of, literal_tree};
 ghost use Rattle.logos_pattern.specs.Leaf.{pattern_tree, source_of, is_token, inner_text, pattern_text, token_value};
 
+mod bracket;
+mod bracket_read;
+mod bracket_set;
+mod bracket_token;
+pub mod error;
+mod build;
+mod class;
+mod fold;
 pub mod hir;
+mod token;
+mod token_escape;
+mod token_group;
+mod token_number;
+mod measure;
+mod property;
 
+pub use error::{Kind, PatternError};
 pub use hir::{Class, Hir, Look, Range};
 use logos_token::token::Literal;
 use std::alloc::{AllocError, Global};
