@@ -15,6 +15,8 @@ pub mod Property
 pub mod Measure
 pub mod MeasureSteps
 pub mod Leaf
+pub mod Escaping
+pub mod Literals
 pub mod Bracket
 pub mod Flags
 pub mod Token

@@ -107,7 +107,7 @@ impl fmt::Display for Leaf<'_> {
 #[cfg(test)]
 mod tests {
     use super::*;
-    use crate::pattern::token_priority;
+    use crate::pattern::plain_token_priority;
     use logos_token::token::Literal;
     use std::test::Fail;
 
@@ -119,7 +119,7 @@ mod tests {
             text: "\"ab\"",
             span: NOWHERE,
         };
-        let pattern = Pattern::compile_lit(rt.alloc(), &literal)?;
+        let pattern = Pattern::compile_plain(rt.alloc(), &literal)?;
         assert_eq!(rt; pattern.source(), "\"ab\"");
         assert!(rt; pattern.is_literal());
         let leaf = Leaf::new(NOWHERE, pattern);
@@ -132,7 +132,7 @@ mod tests {
             span: NOWHERE,
         };
         let leaf = leaf
-            .priority(token_priority(&literal))
+            .priority(plain_token_priority(&literal))
             .variant_kind(VariantKind::Unit(name));
         assert_eq!(rt; leaf.priority, 4);
         assert_eq!(rt;
