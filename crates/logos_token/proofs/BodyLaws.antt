@@ -1,5 +1,5 @@
 -- Pieces of literals: each is one, and the digits that are read in them.
-use Rattle.std.proofs.Common.{◌≡◌, ◌≢◌, ℕ, suc, zero, ◌+◌, ◌-◌, ◌*◌, ◌^◌, ◌<◌, ◌≤◌, ◌==◌, ◌||◌, inl, inr, Bool, true, false, leb, Option, Some, None, MatchOption, List, [], ◌∷◌, ◌++◌, length, get_or, slice_range, filter, cond, refl, sym, ◌∙◌, ap, arith, add-one, add-zero}
+use Rattle.std.proofs.Common.{◌≡◌, ◌≢◌, ℕ, suc, zero, ◌+◌, ◌-◌, ◌*◌, ◌^◌, ◌<◌, ◌≤◌, ◌==◌, ◌||◌, inl, inr, Bool, true, false, leb, Option, Some, None, MatchOption, List, [], ◌∷◌, ◌++◌, length, get_or, slice_range, filter, cond, refl, sym, ◌∙◌, ap, arith, add-one, add-zero, encode_utf8}
 use Rattle.std.proofs.lemmas.Bool.{cases_lt, cases_order, cases_Bool, false≢true, ltb-true, leb-true, le-leb}
 use Rattle.std.proofs.lemmas.List.{length_push, append-nil}
 use Rattle.std.proofs.lemmas.List.Edits.{between_more, between_none}
@@ -8,8 +8,9 @@ use Rattle.std.proofs.lemmas.List.Sums.{fold_push}
 use Rattle.std.proofs.Math.Nat.{pow-succ'}
 use Rattle.std.specs.Char.{digit_value}
 use Rattle.logos_token.specs.LexemeRuns.{IsFirst}
-use Rattle.logos_token.specs.LiteralBodies.{is_simple, is_hex, hex_value, greatest_of, digits_between, BreaksLine, IsHexEscape, IsUnicodeEscape, IsEscape, simple, hex, unicode, IsStringPiece, plain, return, escape, continuation, IsRawPiece, IsCharacterPiece}
-use Rattle.logos_token.specs.LiteralReads.{HasRead, ReadsByte}
+use Rattle.logos_token.specs.LiteralBodies.{is_simple, is_hex, hex_value, greatest_of, digits_between, BreaksLine, IsHexEscape, IsUnicodeEscape, IsEscape, simple, hex, unicode, Says, plain, return, escape, continuation, IsPiece, IsCharacterPiece, unescaped, escaped}
+use Rattle.logos_token.specs.LiteralReads.{HasRead, ReadsByte, bytes_of, IsPlain, itself, break}
+use Rattle.logos_token.specs.declared.token.lexeme.bodies.Piece.{Piece}
 use Rattle.logos_token.specs.declared.token.lexeme.openings.Content.{Content}
 use Rattle.logos_token.proofs.CharacterLaws.{inside_from_byte}
 use Rattle.logos_token.proofs.RunLaws.{IsFirst-one}
@@ -55,112 +56,104 @@ module _ (bytes : List ℕ) (at : ℕ) where
   no_return = refl
 
   module _ (content : Content) where
-    pub IsEscape-one : (m n : ℕ) → IsEscape content bytes at m → IsEscape content bytes at n → m ≡ n
-    IsEscape-one m n (simple e s v) (simple f t w) = v ∙ sym w
-    IsEscape-one m n (simple e s v) (hex h w) = absurd (no_letter 120 h.letter no_x s)
-    IsEscape-one m n (simple e s v) (unicode c u w) = absurd (no_letter 117 u.letter no_u s)
-    IsEscape-one m n (hex h v) (simple f t w) = absurd (no_letter 120 h.letter no_x t)
-    IsEscape-one m n (hex h v) (hex i w) = v ∙ sym w
-    IsEscape-one m n (hex h v) (unicode c u w) = absurd (let e = h.letter in let f = u.letter in omega arith)
-    IsEscape-one m n (unicode c u v) (simple f t w) = absurd (no_letter 117 u.letter no_u t)
-    IsEscape-one m n (unicode c u v) (hex h w) = absurd (let e = h.letter in let f = u.letter in omega arith)
-    IsEscape-one m n (unicode {brace = a} c u v) (unicode {brace = b} d t w) = v ∙ ap (λ k. k + 1) (brace-one a b u t) ∙ sym w
+    pub IsEscape-one : (m n : ℕ) (xs ys : List ℕ) → IsEscape content bytes at m xs → IsEscape content bytes at n ys → (m ≡ n) × (xs ≡ ys)
+    IsEscape-one m n xs ys (simple e s v) (simple f t w) = (v ∙ sym w, refl)
+    IsEscape-one m n xs ys (simple e s v) (hex h w) = absurd (no_letter 120 h.letter no_x s)
+    IsEscape-one m n xs ys (simple e s v) (unicode c u w) = absurd (no_letter 117 u.letter no_u s)
+    IsEscape-one m n xs ys (hex h v) (simple f t w) = absurd (no_letter 120 h.letter no_x t)
+    IsEscape-one m n xs ys (hex h v) (hex i w) = (v ∙ sym w, refl)
+    IsEscape-one m n xs ys (hex h v) (unicode c u w) = absurd (let e = h.letter in let f = u.letter in omega arith)
+    IsEscape-one m n xs ys (unicode c u v) (simple f t w) = absurd (no_letter 117 u.letter no_u t)
+    IsEscape-one m n xs ys (unicode c u v) (hex h w) = absurd (let e = h.letter in let f = u.letter in omega arith)
+    IsEscape-one m n xs ys (unicode {brace = a} c u v) (unicode {brace = b} d t w) =
+        let same = brace-one a b u t in (v ∙ ap (λ k. k + 1) same ∙ sym w, ap (λ k. encode_utf8 (hex_value (digits_between bytes (at + 3) k))) same)
 
-    pub escape-backslash : (next : ℕ) → IsEscape content bytes at next → get_or bytes at 0 ≡ 92
-    escape-backslash next (simple e s v) = e
-    escape-backslash next (hex h v) = h.backslash
-    escape-backslash next (unicode c u v) = u.backslash
+    pub escape-backslash : (next : ℕ) (held : List ℕ) → IsEscape content bytes at next held → get_or bytes at 0 ≡ 92
+    escape-backslash next held (simple e s v) = e
+    escape-backslash next held (hex h v) = h.backslash
+    escape-backslash next held (unicode c u v) = u.backslash
 
-    pub escape-moves : (next : ℕ) → IsEscape content bytes at next → at < next
-    escape-moves next (simple e s v) = omega arith
-    escape-moves next (hex h v) = omega arith
-    escape-moves next (unicode c u v) = let b = u.begun in omega arith
+    pub escape-moves : (next : ℕ) (held : List ℕ) → IsEscape content bytes at next held → at < next
+    escape-moves next held (simple e s v) = omega arith
+    escape-moves next held (hex h v) = omega arith
+    escape-moves next held (unicode c u v) = let b = u.begun in omega arith
 
-    pub no_break : (next : ℕ) → IsEscape content bytes at next → BreaksLine bytes (at + 1) → ⊥
-    no_break next (simple e s v) (inl f) = no_letter 10 f no_feed s
-    no_break next (simple e s v) (inr f) = no_letter 13 f.0 no_return s
-    no_break next (hex h v) (inl f) = let e = h.letter in omega arith
-    no_break next (hex h v) (inr f) = let e = h.letter in let g = f.0 in omega arith
-    no_break next (unicode c u v) (inl f) = let e = u.letter in omega arith
-    no_break next (unicode c u v) (inr f) = let e = u.letter in let g = f.0 in omega arith
+    pub no_break : (next : ℕ) (held : List ℕ) → IsEscape content bytes at next held → BreaksLine bytes (at + 1) → ⊥
+    no_break next held (simple e s v) (inl f) = no_letter 10 f no_feed s
+    no_break next held (simple e s v) (inr f) = no_letter 13 f.0 no_return s
+    no_break next held (hex h v) (inl f) = let e = h.letter in omega arith
+    no_break next held (hex h v) (inr f) = let e = h.letter in let g = f.0 in omega arith
+    no_break next held (unicode c u v) (inl f) = let e = u.letter in omega arith
+    no_break next held (unicode c u v) (inr f) = let e = u.letter in let g = f.0 in omega arith
 
-module _ (content : Content) (bytes : List ℕ) where
-  pub raw-one : (at m n : ℕ) → IsRawPiece content bytes at m → IsRawPiece content bytes at n → m ≡ n
-  raw-one at m n (plain a v) (plain b w) = v ∙ sym w
-  raw-one at m n (plain a v) (return r) = absurd (a.no_return r.0)
-  raw-one at m n (return r) (plain b w) = absurd (b.no_return r.0)
-  raw-one at m n (return r) (return s) = r.2 ∙ sym s.2
+module _ (escapes : Bool) (content : Content) (bytes : List ℕ) where
+  pub Says-one : (at m n : ℕ) (xs ys : List ℕ) → Says escapes content bytes at m xs → Says escapes content bytes at n ys → (m ≡ n) × (xs ≡ ys)
+  Says-one at m n xs ys (plain e a v) (plain f b w) = (v ∙ sym w, refl)
+  Says-one at m n xs ys (plain e a v) (return r) = absurd (a.no_return r.0)
+  Says-one at m n xs ys (plain e a v) (escape t f) = absurd (e t (escape-backslash bytes at content n ys f))
+  Says-one at m n xs ys (plain e a v) (continuation t k) = absurd (e t k.backslash)
+  Says-one at m n xs ys (return r) (plain f b w) = absurd (b.no_return r.0)
+  Says-one at m n xs ys (return r) (return s) = (r.2 ∙ sym s.2, refl)
+  Says-one at m n xs ys (return r) (escape t f) = absurd (let e = escape-backslash bytes at content n ys f in let g = r.0 in omega arith)
+  Says-one at m n xs ys (return r) (continuation t k) = absurd (let e = k.backslash in let g = r.0 in omega arith)
+  Says-one at m n xs ys (escape t e) (plain f b w) = absurd (f t (escape-backslash bytes at content m xs e))
+  Says-one at m n xs ys (escape t e) (return r) = absurd (let f = escape-backslash bytes at content m xs e in let g = r.0 in omega arith)
+  Says-one at m n xs ys (escape t e) (escape u f) = IsEscape-one bytes at content m n xs ys e f
+  Says-one at m n xs ys (escape t e) (continuation u k) = absurd (no_break bytes at content m xs e k.breaks)
+  Says-one at m n xs ys (continuation t k) (plain f b w) = absurd (f t k.backslash)
+  Says-one at m n xs ys (continuation t k) (return r) = absurd (let e = k.backslash in let g = r.0 in omega arith)
+  Says-one at m n xs ys (continuation t k) (escape u f) = absurd (no_break bytes at content n ys f k.breaks)
+  Says-one at m n xs ys (continuation t k) (continuation u l) = (IsFirst-one k.blanks l.blanks, refl)
 
-  pub raw-moves : (at next : ℕ) → IsRawPiece content bytes at next → at < next
-  raw-moves at next (plain a v) = omega arith
-  raw-moves at next (return r) = omega (arith, r.2)
+  pub Says-moves : (at next : ℕ) (held : List ℕ) → Says escapes content bytes at next held → at < next
+  Says-moves at next held (plain e a v) = omega arith
+  Says-moves at next held (return r) = omega (arith, r.2)
+  Says-moves at next held (escape t e) = escape-moves bytes at content next held e
+  Says-moves at next held (continuation t k) = let b = k.blanks.begun in omega arith
 
-  pub string-one : (at m n : ℕ) → IsStringPiece content bytes at m → IsStringPiece content bytes at n → m ≡ n
-  string-one at m n (plain e a v) (plain f b w) = v ∙ sym w
-  string-one at m n (plain e a v) (return r) = absurd (a.no_return r.0)
-  string-one at m n (plain e a v) (escape f) = absurd (e (escape-backslash bytes at content n f))
-  string-one at m n (plain e a v) (continuation k) = absurd (e k.backslash)
-  string-one at m n (return r) (plain f b w) = absurd (b.no_return r.0)
-  string-one at m n (return r) (return s) = r.2 ∙ sym s.2
-  string-one at m n (return r) (escape f) = absurd (let e = escape-backslash bytes at content n f in let g = r.0 in omega arith)
-  string-one at m n (return r) (continuation k) = absurd (let e = k.backslash in let g = r.0 in omega arith)
-  string-one at m n (escape e) (plain f b w) = absurd (f (escape-backslash bytes at content m e))
-  string-one at m n (escape e) (return r) = absurd (let f = escape-backslash bytes at content m e in let g = r.0 in omega arith)
-  string-one at m n (escape e) (escape f) = IsEscape-one bytes at content m n e f
-  string-one at m n (escape e) (continuation k) = absurd (no_break bytes at content m e k.breaks)
-  string-one at m n (continuation k) (plain f b w) = absurd (f k.backslash)
-  string-one at m n (continuation k) (return r) = absurd (let e = k.backslash in let g = r.0 in omega arith)
-  string-one at m n (continuation k) (escape f) = absurd (no_break bytes at content n f k.breaks)
-  string-one at m n (continuation k) (continuation l) = IsFirst-one k.blanks l.blanks
+  pub piece-one : (at m n : ℕ) → IsPiece escapes content bytes at m → IsPiece escapes content bytes at n → m ≡ n
+  piece-one at m n p q = (Says-one at m n p.0 q.0 p.1 q.1).0
 
-  pub string-moves : (at next : ℕ) → IsStringPiece content bytes at next → at < next
-  string-moves at next (plain e a v) = omega arith
-  string-moves at next (return r) = omega (arith, r.2)
-  string-moves at next (escape e) = escape-moves bytes at content next e
-  string-moves at next (continuation k) = let b = k.blanks.begun in omega arith
-
-  pub character-one : (at m n : ℕ) → IsCharacterPiece content bytes at m → IsCharacterPiece content bytes at n → m ≡ n
-  character-one at m n (plain e a v) (plain f b w) = v ∙ sym w
-  character-one at m n (plain e a v) (escape f) = absurd (e (escape-backslash bytes at content n f))
-  character-one at m n (escape e) (plain f b w) = absurd (f (escape-backslash bytes at content m e))
-  character-one at m n (escape e) (escape f) = IsEscape-one bytes at content m n e f
+  pub piece-moves : (at next : ℕ) → IsPiece escapes content bytes at next → at < next
+  piece-moves at next p = Says-moves at next p.0 p.1
 
 module _ (content : Content) (bytes : List ℕ) (at : ℕ) where
-  -- behind a backslash a piece is an escape, or goes on with the next line
+  pub character-one : (m n : ℕ) → IsCharacterPiece content bytes at m → IsCharacterPiece content bytes at n → m ≡ n
+  character-one m n (unescaped e a v) (unescaped f b w) = v ∙ sym w
+  character-one m n (unescaped e a v) (escaped {held} f) = absurd (e (escape-backslash bytes at content n held f))
+  character-one m n (escaped {held} e) (unescaped f b w) = absurd (f (escape-backslash bytes at content m held e))
+  character-one m n (escaped {held = xs} e) (escaped {held = ys} f) = (IsEscape-one bytes at content m n xs ys e f).0
 
-  character-by_escape : get_or bytes at 0 ≡ 92 → (next : ℕ) → IsCharacterPiece content bytes at next → IsEscape content bytes at next
-  character-by_escape e next (plain f a v) = absurd (f e)
-  character-by_escape e next (escape f) = f
+  -- a piece of a string is an escape behind a backslash that no line break follows, and else stands for itself
 
-  pub character_at_backslash : (found : Option ℕ) → get_or bytes at 0 ≡ 92 → MatchOption found ((next : ℕ) → IsEscape content bytes at next → ⊥) (IsEscape content bytes at) → MatchOption found ((next : ℕ) → IsCharacterPiece content bytes at next → ⊥) (IsCharacterPiece content bytes at)
-  character_at_backslash None e h = λ next p. h next (character-by_escape e next p)
-  character_at_backslash (Some next) e h = escape h
+  module _ (escapes : Bool) where
+    says-escape : escapes ≡ true → get_or bytes at 0 ≡ 92 → (BreaksLine bytes (at + 1) → ⊥) → (next : ℕ) (held : List ℕ) → Says escapes content bytes at next held → IsEscape content bytes at next held
+    says-escape t e b next held (plain f a v) = absurd (f t e)
+    says-escape t e b next held (return r) = absurd (let f = r.0 in omega arith)
+    says-escape t e b next held (escape u f) = f
+    says-escape t e b next held (continuation u k) = absurd (b k.breaks)
 
-  string-by_escape : get_or bytes at 0 ≡ 92 → (BreaksLine bytes (at + 1) → ⊥) → (next : ℕ) → IsStringPiece content bytes at next → IsEscape content bytes at next
-  string-by_escape e b next (plain f a v) = absurd (f e)
-  string-by_escape e b next (return r) = absurd (let f = r.0 in omega arith)
-  string-by_escape e b next (escape f) = f
-  string-by_escape e b next (continuation k) = absurd (b k.breaks)
+    pub says_at_backslash : (found : Option (Piece × ℕ)) → escapes ≡ true → get_or bytes at 0 ≡ 92 → (BreaksLine bytes (at + 1) → ⊥) →
+        MatchOption found ((next : ℕ) (held : List ℕ) → IsEscape content bytes at next held → ⊥) (λ f. IsEscape content bytes at f.1 (bytes_of f.0)) →
+        MatchOption found ((next : ℕ) (held : List ℕ) → Says escapes content bytes at next held → ⊥) (λ f. Says escapes content bytes at f.1 (bytes_of f.0))
+    says_at_backslash None t e b h = λ next held s. h next held (says-escape t e b next held s)
+    says_at_backslash (Some f) t e b h = escape t h
 
-  pub string_at_backslash : (found : Option ℕ) → get_or bytes at 0 ≡ 92 → (BreaksLine bytes (at + 1) → ⊥) → MatchOption found ((next : ℕ) → IsEscape content bytes at next → ⊥) (IsEscape content bytes at) → MatchOption found ((next : ℕ) → IsStringPiece content bytes at next → ⊥) (IsStringPiece content bytes at)
-  string_at_backslash None e b h = λ next p. h next (string-by_escape e b next p)
-  string_at_backslash (Some next) e b h = escape h
+    says-plain : (escapes ≡ true → get_or bytes at 0 ≢ 92) → (next : ℕ) (held : List ℕ) → Says escapes content bytes at next held → IsPlain content bytes at next held
+    says-plain f next held (plain g a v) = itself a v
+    says-plain f next held (return r) = break r
+    says-plain f next held (escape t e) = absurd (f t (escape-backslash bytes at content next held e))
+    says-plain f next held (continuation t k) = absurd (f t k.backslash)
 
-  -- any other byte stands in a string as it does in a raw one
+    plain-says : (escapes ≡ true → get_or bytes at 0 ≢ 92) → (next : ℕ) (held : List ℕ) → IsPlain content bytes at next held → Says escapes content bytes at next held
+    plain-says f next held (itself a v) = plain f a v
+    plain-says f next held (break r) = return r
 
-  string-by_raw : get_or bytes at 0 ≢ 92 → (next : ℕ) → IsStringPiece content bytes at next → IsRawPiece content bytes at next
-  string-by_raw f next (plain g a v) = plain a v
-  string-by_raw f next (return r) = return r
-  string-by_raw f next (escape e) = absurd (f (escape-backslash bytes at content next e))
-  string-by_raw f next (continuation k) = absurd (f k.backslash)
-
-  raw-by_string : get_or bytes at 0 ≢ 92 → (next : ℕ) → IsRawPiece content bytes at next → IsStringPiece content bytes at next
-  raw-by_string f next (plain a v) = plain f a v
-  raw-by_string f next (return r) = return r
-
-  pub string_at_other : (found : Option ℕ) → get_or bytes at 0 ≢ 92 → MatchOption found ((next : ℕ) → IsRawPiece content bytes at next → ⊥) (IsRawPiece content bytes at) → MatchOption found ((next : ℕ) → IsStringPiece content bytes at next → ⊥) (IsStringPiece content bytes at)
-  string_at_other None f h = λ next p. h next (string-by_raw f next p)
-  string_at_other (Some next) f h = raw-by_string f next h
+    pub says_at_other : (found : Option (Piece × ℕ)) → (escapes ≡ true → get_or bytes at 0 ≢ 92) →
+        MatchOption found ((next : ℕ) (held : List ℕ) → IsPlain content bytes at next held → ⊥) (λ f. IsPlain content bytes at f.1 (bytes_of f.0)) →
+        MatchOption found ((next : ℕ) (held : List ℕ) → Says escapes content bytes at next held → ⊥) (λ f. Says escapes content bytes at f.1 (bytes_of f.0))
+    says_at_other None f h = λ next held s. h next held (says-plain f next held s)
+    says_at_other (Some g) f h = plain-says f g.1 (bytes_of g.0) h
 
 -- digits that are read
 
@@ -242,16 +235,26 @@ module _ (bytes : List ℕ) (at : ℕ) (first : is_hex (get_or bytes (at + 2) 0)
   pub IsHexEscape-small : (content : Content) → IsHexEscape content bytes at → digit_value (get_or bytes (at + 2) 0) * 16 + digit_value (get_or bytes (at + 3) 0) ≤ greatest_of content
   IsHexEscape-small content h = rw (← two_value) h.small
 
--- two digits decide whether an escape stands here
-pub hex-decided : (content : Content) (bytes : List ℕ) (at : ℕ) → get_or bytes at 0 ≡ 92 → get_or bytes (at + 1) 0 ≡ 120 → (x y first second greatest : ℕ) → x ≡ get_or bytes (at + 2) 0 → y ≡ get_or bytes (at + 3) 0 → is_hex x ≡ true → first ≡ digit_value x → is_hex y ≡ true → second ≡ digit_value y → greatest ≡ greatest_of content →
-    (leb (first * 16 + second) greatest ≡ true → IsHexEscape content bytes at) × (IsHexEscape content bytes at → leb (first * 16 + second) greatest ≡ true)
-hex-decided content bytes at backslash letter x y first second greatest e f hx ex hy ey eg =
+-- two digits write a byte
+pub hex-written : (content : Content) (bytes : List ℕ) (at : ℕ) → get_or bytes at 0 ≡ 92 → get_or bytes (at + 1) 0 ≡ 120 → (x y first second greatest : ℕ) → x ≡ get_or bytes (at + 2) 0 → y ≡ get_or bytes (at + 3) 0 → is_hex x ≡ true → first ≡ digit_value x → is_hex y ≡ true → second ≡ digit_value y → greatest ≡ greatest_of content → first * 16 + second ≤ greatest →
+    IsHexEscape content bytes at × (first * 16 + second ≡ hex_value (slice_range bytes (at + 2) (at + 4)))
+hex-written content bytes at backslash letter x y first second greatest e f hx ex hy ey eg le =
     let one : is_hex (get_or bytes (at + 2) 0) ≡ true = ap is_hex (sym e) ∙ hx in
     let two : is_hex (get_or bytes (at + 3) 0) ≡ true = ap is_hex (sym f) ∙ hy in
-    let sum : first * 16 + second ≡ digit_value (get_or bytes (at + 2) 0) * 16 + digit_value (get_or bytes (at + 3) 0) = omega (arith, ex, ey, ap digit_value e, ap digit_value f) in (
-      λ t. IsHexEscape-from bytes at one two content backslash letter (omega (arith, leb-true (first * 16 + second) greatest t, eg, sum)),
-      λ h. le-leb (first * 16 + second) greatest (omega (arith, IsHexEscape-small bytes at one two content h, eg, sum)),
-    )
+    let sum : first * 16 + second ≡ digit_value (get_or bytes (at + 2) 0) * 16 + digit_value (get_or bytes (at + 3) 0) = omega (arith, ex, ey, ap digit_value e, ap digit_value f) in
+    (IsHexEscape-from bytes at one two content backslash letter (omega (arith, le, eg, sum)), sum ∙ sym (two_value bytes at one two))
+
+-- no escape by another letter
+module _ (content : Content) (bytes : List ℕ) (at : ℕ) where
+  pub no_hex : get_or bytes (at + 1) 0 ≡ 120 → (IsHexEscape content bytes at → ⊥) → (next : ℕ) (held : List ℕ) → IsEscape content bytes at next held → ⊥
+  no_hex e other next held (simple f s v) = no_letter bytes at 120 e (no_x bytes at) s
+  no_hex e other next held (hex h v) = other h
+  no_hex e other next held (unicode c u v) = let f = u.letter in omega arith
+
+  pub no_unicode : get_or bytes (at + 1) 0 ≡ 117 → ((brace : ℕ) → IsUnicodeEscape bytes at brace → ⊥) → (next : ℕ) (held : List ℕ) → IsEscape content bytes at next held → ⊥
+  no_unicode e other next held (simple f s v) = no_letter bytes at 117 e (no_u bytes at) s
+  no_unicode e other next held (hex h v) = let f = h.letter in omega arith
+  no_unicode e other next held (unicode {brace} c u v) = other brace u
 
 -- where digits end that no brace follows, no brace follows digits
 pub no_brace : (bytes : List ℕ) (at end : ℕ) → IsFirst (λ i. (is_hex (get_or bytes i 0) || (get_or bytes i 0 == 95)) ≡ false) (at + 3) end → get_or bytes end 0 ≢ 125 → (brace : ℕ) → IsUnicodeEscape bytes at brace → ⊥

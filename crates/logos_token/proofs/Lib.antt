@@ -15,3 +15,4 @@ pub mod OpeningLaws
 pub mod BodyLaws
 pub mod PrintingLemmas
 pub mod OrderLemmas
+pub mod ValueLaws

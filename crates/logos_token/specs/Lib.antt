@@ -1,3 +1,11 @@
+pub mod LexemeCharacters
+pub mod LexemeEnds
+pub mod LexemeOpenings
+pub mod LexemeRuns
+pub mod Lexemes
+pub mod LiteralBodies
+pub mod LiteralReads
+pub mod LiteralValues
 pub mod Tokens
 pub mod Flat
 pub mod Views
@@ -11,11 +19,4 @@ pub mod Refusals
 pub mod FaultNames
 pub mod Faults
 pub mod FaultView
-pub mod LexemeCharacters
-pub mod LexemeEnds
-pub mod LexemeOpenings
-pub mod LexemeRuns
-pub mod LiteralBodies
-pub mod LiteralReads
-pub mod Lexemes
 pub mod Rendering

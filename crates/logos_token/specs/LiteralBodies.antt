@@ -1,5 +1,5 @@
 -- What stands inside literals.
-use Rattle.std.specs.Prelude.{◌≡◌, ◌≢◌, ℕ, ◌+◌, ◌-◌, ◌*◌, ◌<◌, ◌≤◌, ◌==◌, ◌||◌, ◌⊎◌, Bool, List, [], ◌∷◌, length, slice_index, slice_range, fold, filter, IsTrue, IsFalse}
+use Rattle.std.specs.Prelude.{◌≡◌, ◌≢◌, ℕ, ◌+◌, ◌-◌, ◌*◌, ◌<◌, ◌≤◌, ◌==◌, ◌||◌, ◌⊎◌, Bool, true, false, if◌then◌else◌, List, [], ◌∷◌, ◌++◌, length, slice_index, slice_range, fold, filter, encode_utf8, IsTrue, IsFalse}
 use Rattle.std.specs.Char.{is_digit, digit_value, IsScalar}
 use Rattle.std.specs.List.{list_any}
 use Rattle.logos_token.specs.LexemeRuns.{Steps, IsFirst}
@@ -51,11 +51,20 @@ pub record IsUnicodeEscape (bytes : List ℕ) (at brace : ℕ) : Type 0 where
   pub few : length (digits_between bytes (at + 3) brace) ≤ 6
   pub scalar : IsScalar (hex_value (digits_between bytes (at + 3) brace))
 
--- an escape
-pub data IsEscape (content : Content) (bytes : List ℕ) (at next : ℕ) : Type 0 where
-  simple : slice_index bytes at ≡ 92 → IsTrue (is_simple (slice_index bytes (at + 1))) → next ≡ at + 2 → IsEscape content bytes at next
-  hex : IsHexEscape content bytes at → next ≡ at + 4 → IsEscape content bytes at next
-  unicode : {brace : ℕ} → content ≢ Bytes → IsUnicodeEscape bytes at brace → next ≡ brace + 1 → IsEscape content bytes at next
+-- the byte that a letter behind a backslash writes
+unfoldable pub simple_value : ℕ → ℕ
+simple_value letter =
+    if letter == 110 then 10
+    else (if letter == 114 then 13
+    else (if letter == 116 then 9
+    else (if letter == 48 then 0
+    else letter)))
+
+-- an escape, and the bytes that it holds
+pub data IsEscape (content : Content) (bytes : List ℕ) (at next : ℕ) : List ℕ → Type 0 where
+  simple : slice_index bytes at ≡ 92 → IsTrue (is_simple (slice_index bytes (at + 1))) → next ≡ at + 2 → IsEscape content bytes at next (simple_value (slice_index bytes (at + 1)) ∷ [])
+  hex : IsHexEscape content bytes at → next ≡ at + 4 → IsEscape content bytes at next (hex_value (slice_range bytes (at + 2) (at + 4)) ∷ [])
+  unicode : {brace : ℕ} → content ≢ Bytes → IsUnicodeEscape bytes at brace → next ≡ brace + 1 → IsEscape content bytes at next (encode_utf8 (hex_value (digits_between bytes (at + 3) brace)))
 
 -- space, tab, LF and CR
 unfoldable pub is_blank : ℕ → Bool
@@ -80,27 +89,31 @@ pub record IsAllowed (content : Content) (byte : ℕ) : Type 0 where
 abbrev pub IsReturn : List ℕ → ℕ → ℕ → Type 0
 IsReturn bytes at next = (slice_index bytes at ≡ 13) × (slice_index bytes (at + 1) ≡ 10) × (next ≡ at + 2)
 
--- a piece of a string
-pub data IsStringPiece (content : Content) (bytes : List ℕ) (at next : ℕ) : Type 0 where
-  plain : slice_index bytes at ≢ 92 → IsAllowed content (slice_index bytes at) → next ≡ at + 1 → IsStringPiece content bytes at next
-  return : IsReturn bytes at next → IsStringPiece content bytes at next
-  escape : IsEscape content bytes at next → IsStringPiece content bytes at next
-  continuation : IsContinuation bytes at next → IsStringPiece content bytes at next
+-- a piece of a string, and the bytes that it holds; `escapes` says whether the string has escapes
+pub data Says (escapes : Bool) (content : Content) (bytes : List ℕ) (at next : ℕ) : List ℕ → Type 0 where
+  plain : (escapes ≡ true → slice_index bytes at ≢ 92) → IsAllowed content (slice_index bytes at) → next ≡ at + 1 → Says escapes content bytes at next (slice_index bytes at ∷ [])
+  return : IsReturn bytes at next → Says escapes content bytes at next (10 ∷ [])
+  escape : {held : List ℕ} → escapes ≡ true → IsEscape content bytes at next held → Says escapes content bytes at next held
+  continuation : escapes ≡ true → IsContinuation bytes at next → Says escapes content bytes at next []
 
--- a piece of a raw string
-pub data IsRawPiece (content : Content) (bytes : List ℕ) (at next : ℕ) : Type 0 where
-  plain : IsAllowed content (slice_index bytes at) → next ≡ at + 1 → IsRawPiece content bytes at next
-  return : IsReturn bytes at next → IsRawPiece content bytes at next
+-- a piece of a string, whatever it holds
+abbrev pub IsPiece : Bool → Content → List ℕ → ℕ → ℕ → Type 0
+IsPiece escapes content bytes at next = (held : List ℕ) × Says escapes content bytes at next held
+
+-- pieces fill the span from one place to another, and hold these bytes, one behind another
+pub data Holds (escapes : Bool) (content : Content) (bytes : List ℕ) : (at to : ℕ) → List ℕ → Type 0 where
+  none : {at : ℕ} → Holds escapes content bytes at at []
+  more : {at mid to : ℕ} {said rest held : List ℕ} → Says escapes content bytes at mid said → Holds escapes content bytes mid to rest → held ≡ said ++ rest → Holds escapes content bytes at to held
 
 -- what stands between apostrophes
 pub data IsCharacterPiece (content : Content) (bytes : List ℕ) (at next : ℕ) : Type 0 where
-  plain : slice_index bytes at ≢ 92 → IsAllowed content (slice_index bytes at) → next ≡ at + 1 → IsCharacterPiece content bytes at next
-  escape : IsEscape content bytes at next → IsCharacterPiece content bytes at next
+  unescaped : slice_index bytes at ≢ 92 → IsAllowed content (slice_index bytes at) → next ≡ at + 1 → IsCharacterPiece content bytes at next
+  escaped : {held : List ℕ} → IsEscape content bytes at next held → IsCharacterPiece content bytes at next
 
 -- what a literal that opens at `from` and ends at `to` holds keeps to the rules; anything else is sound
 abbrev pub IsSound : List ℕ → ℕ → Opening → ℕ → Type 0
-IsSound bytes from (Quotes content) to = Steps (IsStringPiece content bytes) (body_of (Quotes content) from) (to - 1)
-IsSound bytes from (Raw content count) to = Steps (IsRawPiece content bytes) (body_of (Raw content count) from) (to - 1 - count)
+IsSound bytes from (Quotes content) to = Steps (IsPiece true content bytes) (body_of (Quotes content) from) (to - 1)
+IsSound bytes from (Raw content count) to = Steps (IsPiece false content bytes) (body_of (Raw content count) from) (to - 1 - count)
 IsSound bytes from (Apostrophes content) to = IsCharacterPiece content bytes (body_of (Apostrophes content) from) (to - 1)
 IsSound bytes from Character to = slice_index bytes (from + 1) ≢ 13
 IsSound bytes from _ to = Unit {0}

@@ -7,11 +7,13 @@ mod printing;
 mod reader;
 #[cfg(test)]
 mod tests;
+mod value;
 mod views;
 
 pub use lexeme::LexicalKind;
 pub use printing::print;
 pub use reader::{TokenError, spelled_in_order, spells_once, tokenize};
+pub use value::LiteralValue;
 pub use views::{Group, TokenIter, TokenStream, TokenTree, Tokens};
 
 /// The bytes of the source from `from` up to `to`, which it leaves out.

@@ -7,10 +7,10 @@ ghost use Rattle.std.specs.Prelude.{◌<◌, length, IfOk, IfErr};
 ghost use Rattle.std.specs.Str.{IsCharBoundary};
 ghost use Rattle.logos_token.specs.Lexemes.{IsNext, IsStuck};
 
-mod bodies;
-mod characters;
-mod ends;
-mod openings;
+pub(crate) mod bodies;
+pub(crate) mod characters;
+pub(crate) mod ends;
+pub(crate) mod openings;
 #[cfg(test)]
 mod tests;
 

@@ -1,15 +1,26 @@
 //! What stands inside literals.
 
-ghost use Rattle.std.specs.Prelude.{◌≡◌, ◌≢◌, ℕ, ◌+◌, ◌^◌, ◌<◌, ◌≤◌, ◌↔◌, ◌==◌, ◌||◌, IsTrue, IsFalse, length, slice_index, MatchOption};
+ghost use Rattle.std.specs.Prelude.{◌≡◌, ℕ, ◌+◌, ◌^◌, ◌<◌, ◌≤◌, ◌↔◌, ◌==◌, ◌||◌, Bool, true, List, IsTrue, IsFalse, length, slice_index, slice_range, MatchOption};
 ghost use Rattle.std.specs.Char.{digit_value};
 ghost use Rattle.logos_token.specs.LexemeRuns.{IsFirst, Steps};
 ghost use Rattle.logos_token.specs.LexemeEnds.{Ends};
-ghost use Rattle.logos_token.specs.LiteralBodies.{is_simple, is_hex, hex_value, greatest_of, digits_between, is_blank, BreaksLine, IsEscape, IsHexEscape, IsUnicodeEscape, IsStringPiece, IsRawPiece, IsCharacterPiece, IsSound};
-ghost use Rattle.logos_token.specs.LiteralReads.{ReadsByte};
+ghost use Rattle.logos_token.specs.LiteralBodies.{is_simple, simple_value, is_hex, hex_value, greatest_of, digits_between, is_blank, BreaksLine, IsEscape, IsHexEscape, IsUnicodeEscape, IsAllowed, Says, IsPiece, IsCharacterPiece, IsSound};
+ghost use Rattle.logos_token.specs.LiteralReads.{ReadsByte, bytes_of, IsPlain};
 
 use crate::token::lexeme::characters::byte_at;
 use crate::token::lexeme::ends::prefix_of;
 use crate::token::lexeme::openings::{Content, Opening};
+
+/// What a piece of a string holds.
+#[derive(Clone, Copy, Debug)]
+pub enum Piece {
+    /// Nothing.
+    Nothing,
+    /// A byte.
+    Byte(u8),
+    /// A character.
+    Character(char),
+}
 
 /// Whether a backslash and this letter are an escape.
 #[tactic(auto, unfolding(crate::specs::LiteralBodies::is_simple))]
@@ -17,6 +28,26 @@ fn is_simple(letter: u8) -> bool
     ensures { result ≡ is_simple letter }
 {
     b"nrt\\0'\"".contains(&letter)
+}
+
+/// The byte that a letter behind a backslash writes.
+#[tactic(auto, unfolding(crate::specs::LiteralBodies::simple_value))]
+fn simple_value(letter: u8) -> u8
+    ensures { result ≡ simple_value letter }
+{
+    if letter == b'n' {
+        return b'\n';
+    }
+    if letter == b'r' {
+        return b'\r';
+    }
+    if letter == b't' {
+        return b'\t';
+    }
+    if letter == b'0' {
+        return 0;
+    }
+    letter
 }
 
 /// Whether a byte is blank: space, tab, LF or CR.
@@ -46,20 +77,22 @@ fn greatest_of(content: Content) -> u32
     }
 }
 
-/// Whether `\xNN` stands here.
-fn is_hex_escape(source: &str, content: Content, at: usize) -> bool
+/// The byte that `\xNN` writes.
+fn hex_escape(source: &str, content: Content, at: usize) -> Option<u8>
     requires within { at ≤ length source.now }
     requires backslash { slice_index source.now at ≡ 92 }
     requires letter { slice_index source.now (at + 1) ≡ 120 }
-    ensures { IsTrue result ↔ IsHexEscape content source.now at }
+    ensures { MatchOption result
+        (IsHexEscape content source.now at → ⊥)
+        (λ value. IsHexEscape content source.now at × (value ≡ hex_value (slice_range source.now (at + 2) (at + 4)))) }
 {
-    let Some(first) = digit_of(byte_at(source, at + 2)) else {
-        return false;
-    };
-    let Some(second) = digit_of(byte_at(source, at + 3)) else {
-        return false;
-    };
-    first * 16 + second <= greatest_of(content)
+    let first = digit_of(byte_at(source, at + 2))?;
+    let second = digit_of(byte_at(source, at + 3))?;
+    let value = first * 16 + second;
+    if value > greatest_of(content) {
+        return None;
+    }
+    Some(value as u8)
 }
 
 /// Whether a byte may stand among the digits of `\u{..}`.
@@ -125,14 +158,14 @@ fn number_between(source: &str, from: usize, to: usize) -> Option<u32>
     Some(digits.value)
 }
 
-/// `\u{..}`, from its backslash on: where its closing brace stands.
-fn unicode_brace(source: &str, at: usize) -> Option<usize>
+/// The character that `\u{..}` writes, and where its closing brace stands.
+fn unicode_escape(source: &str, at: usize) -> Option<(char, usize)>
     requires within { at ≤ length source.now }
     requires backslash { slice_index source.now at ≡ 92 }
     requires letter { slice_index source.now (at + 1) ≡ 117 }
     ensures { MatchOption result
         ((brace : ℕ) → IsUnicodeEscape source.now at brace → ⊥)
-        (IsUnicodeEscape source.now at) }
+        (λ found. IsUnicodeEscape source.now at found.1 × (found.0 ≡ hex_value (digits_between source.now (at + 3) found.1))) }
 {
     if byte_at(source, at + 2) != b'{' {
         return None;
@@ -143,33 +176,34 @@ fn unicode_brace(source: &str, at: usize) -> Option<usize>
         return None;
     }
     let number = number_between(source, at + 3, brace)?;
-    char::from_u32(number)?;
-    Some(brace)
+    let character = char::from_u32(number)?;
+    Some((character, brace))
 }
 
-/// An escape, from its backslash on: where it ends.
-fn escape_end(source: &str, content: Content, at: usize) -> Option<usize>
+/// An escape, from its backslash on: what it holds, and where it ends.
+fn escape_at(source: &str, content: Content, at: usize) -> Option<(Piece, usize)>
     requires { at ≤ length source.now }
     ensures { MatchOption result
-        ((next : ℕ) → IsEscape content source.now at next → ⊥)
-        (IsEscape content source.now at) }
+        ((next : ℕ) (held : List ℕ) → IsEscape content source.now at next held → ⊥)
+        (λ found. IsEscape content source.now at found.1 (bytes_of found.0)) }
 {
     if byte_at(source, at) != b'\\' {
         return None;
     }
     let letter = byte_at(source, at + 1);
     if is_simple(letter) {
-        return Some(at + 2);
+        return Some((Piece::Byte(simple_value(letter)), at + 2));
     }
-    if letter == b'x' && is_hex_escape(source, content, at) {
-        return Some(at + 4);
+    if letter == b'x' {
+        let byte = hex_escape(source, content, at)?;
+        return Some((Piece::Byte(byte), at + 4));
     }
     if letter == b'u' {
         if content == Content::Bytes {
             return None;
         }
-        let brace = unicode_brace(source, at)?;
-        return Some(brace + 1);
+        let (character, brace) = unicode_escape(source, at)?;
+        return Some((Piece::Character(character), brace + 1));
     }
     None
 }
@@ -198,65 +232,68 @@ fn blanks_end(source: &str, from: usize) -> usize
     end
 }
 
-/// A piece of a raw string: where it ends.
-fn raw_piece_end(source: &str, content: Content, at: usize) -> Option<usize>
-    requires { at ≤ length source.now }
-    ensures { MatchOption result
-        ((next : ℕ) → IsRawPiece content source.now at next → ⊥)
-        (IsRawPiece content source.now at) }
+/// Whether a byte may stand for itself, or for a part of a character.
+fn is_allowed(content: Content, byte: u8) -> bool
+    ensures { IsTrue result ↔ IsAllowed content byte }
 {
-    let byte = byte_at(source, at);
-    if byte == b'\r' && byte_at(source, at + 1) == b'\n' {
-        return Some(at + 2);
-    }
     if byte == b'\r' {
-        return None;
+        return false;
     }
-    if content == Content::Bytes && byte >= 128 {
-        return None;
+    match content {
+        Content::Bytes => byte < 128,
+        Content::Text | Content::C => true,
     }
-    Some(at + 1)
 }
 
-/// A piece of a string: where it ends.
-fn string_piece_end(source: &str, content: Content, at: usize) -> Option<usize>
+/// A byte that stands for itself, or a line break of CR and LF: what it holds, and where it ends.
+fn plain_at(source: &str, content: Content, at: usize) -> Option<(Piece, usize)>
     requires { at ≤ length source.now }
     ensures { MatchOption result
-        ((next : ℕ) → IsStringPiece content source.now at next → ⊥)
-        (IsStringPiece content source.now at) }
+        ((next : ℕ) (held : List ℕ) → IsPlain content source.now at next held → ⊥)
+        (λ found. IsPlain content source.now at found.1 (bytes_of found.0)) }
 {
+    let byte = byte_at(source, at);
+    if is_allowed(content, byte) {
+        return Some((Piece::Byte(byte), at + 1));
+    }
+    if byte == b'\r' && byte_at(source, at + 1) == b'\n' {
+        return Some((Piece::Byte(b'\n'), at + 2));
+    }
+    None
+}
+
+/// A piece of a string: what it holds, and where it ends.
+pub(crate) fn piece_at(
+    source: &str,
+    escapes: bool,
+    content: Content,
+    at: usize,
+) -> Option<(Piece, usize)>
+    requires { at ≤ length source.now }
+    ensures { MatchOption result
+        ((next : ℕ) (held : List ℕ) → Says escapes content source.now at next held → ⊥)
+        (λ found. Says escapes content source.now at found.1 (bytes_of found.0)) }
+{
+    if !escapes {
+        return plain_at(source, content, at);
+    }
     if byte_at(source, at) != b'\\' {
-        return raw_piece_end(source, content, at);
+        return plain_at(source, content, at);
     }
     if breaks_line(source, at + 1) {
-        return Some(blanks_end(source, at + 1));
+        return Some((Piece::Nothing, blanks_end(source, at + 1)));
     }
-    escape_end(source, content, at)
+    escape_at(source, content, at)
 }
 
 /// Whether pieces of a string fill the span.
-fn is_string(source: &str, content: Content, from: usize, to: usize) -> bool
+fn is_filled(source: &str, escapes: bool, content: Content, from: usize, to: usize) -> bool
     requires { to ≤ length source.now }
-    ensures { IsTrue result ↔ Steps (IsStringPiece content source.now) from to }
+    ensures { IsTrue result ↔ Steps (IsPiece escapes content source.now) from to }
 {
     let mut at = from;
     while at < to {
-        let Some(next) = string_piece_end(source, content, at) else {
-            return false;
-        };
-        at = next;
-    }
-    at == to
-}
-
-/// Whether pieces of a raw string fill the span.
-fn is_raw_string(source: &str, content: Content, from: usize, to: usize) -> bool
-    requires { to ≤ length source.now }
-    ensures { IsTrue result ↔ Steps (IsRawPiece content source.now) from to }
-{
-    let mut at = from;
-    while at < to {
-        let Some(next) = raw_piece_end(source, content, at) else {
+        let Some((_, next)) = piece_at(source, escapes, content, at) else {
             return false;
         };
         at = next;
@@ -273,15 +310,13 @@ fn character_piece_end(source: &str, content: Content, at: usize) -> Option<usiz
 {
     let byte = byte_at(source, at);
     if byte == b'\\' {
-        return escape_end(source, content, at);
+        let (_, next) = escape_at(source, content, at)?;
+        return Some(next);
     }
-    if byte == b'\r' {
-        return None;
+    if is_allowed(content, byte) {
+        return Some(at + 1);
     }
-    if content == Content::Bytes && byte >= 128 {
-        return None;
-    }
-    Some(at + 1)
+    None
 }
 
 /// Whether what stands between apostrophes fills the span.
@@ -297,7 +332,7 @@ fn is_character(source: &str, content: Content, from: usize, to: usize) -> bool
 
 /// Whether a literal that opens at `from` and ends at `end`, its suffix left out, keeps to its
 /// rules; anything else does.
-pub(super) fn is_sound(source: &str, from: usize, opens: Opening, end: usize) -> bool
+pub(crate) fn is_sound(source: &str, from: usize, opens: Opening, end: usize) -> bool
     requires inside { from < length source.now }
     requires ends { Ends source.now from opens end }
     requires within { end ≤ length source.now }
@@ -305,12 +340,18 @@ pub(super) fn is_sound(source: &str, from: usize, opens: Opening, end: usize) ->
 {
     match opens {
         Opening::Quotes(content) => {
-            is_string(source, content, from + prefix_of(content) + 1, end - 1)
+            is_filled(
+                source,
+                true,
+                content,
+                from + prefix_of(content) + 1,
+                end - 1,
+            )
         }
         Opening::Raw(content, count) => {
             let hashes = count as usize;
             let body = from + prefix_of(content) + 1 + hashes + 1;
-            is_raw_string(source, content, body, end - 1 - hashes)
+            is_filled(source, false, content, body, end - 1 - hashes)
         }
         Opening::Apostrophes(content) => {
             is_character(source, content, from + prefix_of(content) + 1, end - 1)

@@ -5,7 +5,7 @@ ghost use Rattle.std.specs.Str.{IsCharBoundary};
 ghost use Rattle.logos_token.specs.LexemeCharacters.{character, past, is_space, is_start, is_continuing, is_mark};
 
 /// The byte at a place, and 0 past the end.
-pub(super) fn byte_at(source: &str, at: usize) -> u8
+pub(crate) fn byte_at(source: &str, at: usize) -> u8
     ensures { result ≡ slice_index source.now at }
 {
     let bytes = source.as_bytes();
@@ -13,7 +13,7 @@ pub(super) fn byte_at(source: &str, at: usize) -> u8
 }
 
 /// The character that begins at a place, and NUL at the end.
-pub(super) fn char_at(source: &str, at: usize) -> char
+pub(crate) fn char_at(source: &str, at: usize) -> char
     requires { IsCharBoundary source.now at }
     ensures { result ≡ character source.now at }
 {
@@ -21,7 +21,7 @@ pub(super) fn char_at(source: &str, at: usize) -> char
 }
 
 /// The place behind the character that begins at a place.
-pub(super) fn past(source: &str, at: usize) -> usize
+pub(crate) fn past(source: &str, at: usize) -> usize
     requires inside { at < length source.now }
     requires boundary { IsCharBoundary source.now at }
     ensures value { result ≡ past source.now at }
@@ -31,7 +31,7 @@ pub(super) fn past(source: &str, at: usize) -> usize
 }
 
 /// Whether a character is one of Pattern_White_Space.
-pub(super) fn is_space(c: char) -> bool
+pub(crate) fn is_space(c: char) -> bool
     ensures { result ≡ is_space c }
 {
     (('\t' <= c) & (c <= '\r'))
@@ -42,21 +42,21 @@ pub(super) fn is_space(c: char) -> bool
 }
 
 /// Whether a character can begin an identifier.
-pub(super) fn is_start(c: char) -> bool
+pub(crate) fn is_start(c: char) -> bool
     ensures { result ≡ is_start c }
 {
     unicode_ident::is_xid_start(c) | (c == '_')
 }
 
 /// Whether a character can go on with an identifier.
-pub(super) fn is_continuing(c: char) -> bool
+pub(crate) fn is_continuing(c: char) -> bool
     ensures { result ≡ is_continuing c }
 {
     unicode_ident::is_xid_continue(c)
 }
 
 /// Whether a character is one of punctuation.
-pub(super) fn is_mark(c: char) -> bool
+pub(crate) fn is_mark(c: char) -> bool
     ensures { result ≡ is_mark c }
 {
     [

@@ -230,7 +230,7 @@ fn name_end(source: &str, at: usize) -> Option<usize>
 }
 
 /// Where the suffix of a literal ends; it may be none.
-pub(super) fn suffix_end(source: &str, at: usize) -> usize
+pub(crate) fn suffix_end(source: &str, at: usize) -> usize
     requires { IsCharBoundary source.now at }
     ensures suffix { IsSuffix source.now at result }
     ensures within { result ≤ length source.now }
@@ -242,7 +242,7 @@ pub(super) fn suffix_end(source: &str, at: usize) -> usize
 }
 
 /// How many bytes stand in front of a literal's `r`, `'` or quote.
-pub(super) fn prefix_of(content: Content) -> usize
+pub(crate) fn prefix_of(content: Content) -> usize
     ensures { result ≡ prefix_of content }
 {
     match content {
@@ -252,7 +252,7 @@ pub(super) fn prefix_of(content: Content) -> usize
 }
 
 /// Where what opens at `from` ends, the suffix of a literal left out; `None` where it has no end.
-pub(super) fn end_of(source: &str, from: usize, opens: Opening) -> Option<usize>
+pub(crate) fn end_of(source: &str, from: usize, opens: Opening) -> Option<usize>
     requires inside { from < length source.now }
     requires boundary { IsCharBoundary source.now from }
     requires found { opens ≡ opening_at source.now from }

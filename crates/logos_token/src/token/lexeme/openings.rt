@@ -193,7 +193,7 @@ fn comment_opening(source: &str, at: usize) -> Option<Opening>
 
 /// Where the name of an identifier begins, if one stands here: behind its `r#`, or at once.
 #[tactic(auto, unfolding(crate::specs::LexemeOpenings::name_at))]
-pub(super) fn name_at(source: &str, at: usize) -> Option<usize>
+pub(crate) fn name_at(source: &str, at: usize) -> Option<usize>
     requires { IsCharBoundary source.now at }
     ensures value { result ≡ name_at source.now at }
 {
@@ -294,7 +294,7 @@ fn other_opening(source: &str, at: usize) -> Opening
 /// What opens at a place: a literal wherever one opens, else a comment, else what the character
 /// can begin.
 #[tactic(auto, unfolding(crate::specs::LexemeOpenings::opening_at))]
-pub(super) fn opening_at(source: &str, at: usize) -> Opening
+pub(crate) fn opening_at(source: &str, at: usize) -> Opening
     requires inside { at < length source.now }
     requires boundary { IsCharBoundary source.now at }
     ensures { result ≡ opening_at source.now at }
@@ -309,7 +309,7 @@ pub(super) fn opening_at(source: &str, at: usize) -> Opening
 }
 
 /// What a lexeme is that opens so.
-pub(super) fn kind_of(opens: Opening) -> Kind
+pub(crate) fn kind_of(opens: Opening) -> Kind
     ensures { result ≡ kind_of opens }
 {
     match opens {

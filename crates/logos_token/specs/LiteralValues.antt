@@ -1,0 +1,35 @@
+-- What string literals hold.
+use Rattle.std.specs.Prelude.{◌≡◌, ◌≢◌, ℕ, ◌-◌, Bool, true, false, List, Option, Some, None, string_bytes}
+use Rattle.logos_token.specs.LexemeOpenings.{opening_at}
+use Rattle.logos_token.specs.LexemeEnds.{Ends, body_of}
+use Rattle.logos_token.specs.LiteralBodies.{Holds}
+use Rattle.logos_token.specs.declared.token.lexeme.openings.Content.{Content}
+use Rattle.logos_token.specs.declared.token.lexeme.openings.Content.TheVariants.{Text as Characters, Bytes as Octets, C}
+use Rattle.logos_token.specs.declared.token.lexeme.openings.Opening.{Opening}
+use Rattle.logos_token.specs.declared.token.lexeme.openings.Opening.TheVariants.{Quotes, Raw}
+use Rattle.logos_token.specs.declared.token.value.LiteralValue.{LiteralValue}
+use Rattle.logos_token.specs.declared.token.value.LiteralValue.TheVariants.{Text, Bytes}
+
+-- the string that opens so at the start of a text and ends at `end` has this content and holds these bytes
+abbrev pub HoldsIn : List ℕ → Opening → ℕ → Content → List ℕ → Type 0
+HoldsIn text (Quotes content) end other held = (content ≡ other) × Holds true content text (body_of (Quotes content) 0) (end - 1) held
+HoldsIn text (Raw content count) end other held = (content ≡ other) × Holds false content text (body_of (Raw content count) 0) (end - 1 - count) held
+HoldsIn text _ end other held = ⊥
+
+-- a text begins with a string of this content, which holds these bytes
+pub record BeginsWithString (text : List ℕ) (content : Content) (held : List ℕ) : Type 0 where
+  pub end : ℕ
+  pub ends : Ends text 0 (opening_at text 0) end
+  pub holds : HoldsIn text (opening_at text 0) end content held
+
+-- the value of a string whose pieces fill this span, if it has one; a C string has none here
+abbrev pub IsHeld : Bool → Content → List ℕ → ℕ → ℕ → Option LiteralValue → Type 0
+IsHeld escapes content bytes from to None = content ≢ C → (held : List ℕ) → Holds escapes content bytes from to held → ⊥
+IsHeld escapes content bytes from to (Some (Text value)) = (content ≡ Characters) × Holds escapes Characters bytes from to (string_bytes value)
+IsHeld escapes content bytes from to (Some (Bytes value)) = (content ≡ Octets) × Holds escapes Octets bytes from to value.items
+
+-- the text of a string or the bytes of a byte string, with which a text begins, if it does
+abbrev pub IsValue : List ℕ → Option LiteralValue → Type 0
+IsValue text None = ((held : List ℕ) → BeginsWithString text Characters held → ⊥) × ((held : List ℕ) → BeginsWithString text Octets held → ⊥)
+IsValue text (Some (Text value)) = BeginsWithString text Characters (string_bytes value)
+IsValue text (Some (Bytes value)) = BeginsWithString text Octets value.items

@@ -1,0 +1,222 @@
+//! What string literals hold.
+
+ghost use Rattle.std.specs.Prelude.{◌≡◌, ℕ, ◌+◌, ◌<◌, ◌≤◌, ◌++◌, ◌⊎◌, ◌==◌, ◌&&◌, ◌||◌, List, length, slice_index, slice_range, string_bytes, IfOk, OnOk, MatchOption};
+ghost use Rattle.std.specs.Str.{IsCharBoundary};
+ghost use Rattle.logos_token.specs.LiteralBodies.{Holds};
+ghost use Rattle.logos_token.specs.LiteralReads.{bytes_of, IsRest, IsAdded, IsAscii};
+ghost use Rattle.logos_token.specs.LiteralValues.{IsHeld, IsValue};
+
+#[cfg(test)]
+mod tests;
+
+use crate::error::Memory;
+use crate::token::Literal;
+use crate::token::lexeme::bodies::{Piece, piece_at};
+use crate::token::lexeme::characters::byte_at;
+use crate::token::lexeme::ends::{end_of, prefix_of};
+use crate::token::lexeme::openings::{Content, Opening, opening_at};
+use std::alloc::{AllocError, Global};
+
+/// What a string literal holds.
+#[derive(Debug, Drop)]
+pub enum LiteralValue {
+    /// The text of a string.
+    Text(String),
+    /// The bytes of a byte string.
+    Bytes(Vec<u8>),
+}
+
+/// Whether a byte of a string's text does not stand for itself.
+fn is_special(escapes: bool, byte: u8) -> bool
+    ensures { result ≡ ((byte == 13) || (escapes && (byte == 92))) }
+{
+    (byte == b'\r') | (escapes & (byte == b'\\'))
+}
+
+/// Where a run of bytes of a string's text ends that stand for themselves.
+fn plain_end(source: &str, escapes: bool, from: usize, to: usize) -> usize
+    requires inside { from ≤ to }
+    requires within { to ≤ length source.now }
+    ensures begun { from ≤ result }
+    ensures ended { result ≤ to }
+    ensures stops { result < to → (slice_index source.now result ≡ 13) ⊎ (slice_index source.now result ≡ 92) }
+    ensures rest { IsRest escapes Content.Text source.now from result to (slice_range source.now from result) }
+{
+    let mut end = from;
+    while end < to && !is_special(escapes, byte_at(source, end)) {
+        end += 1;
+    }
+    end
+}
+
+/// Adds what a piece holds to a text.
+fn push_text(value: &mut String, piece: Piece) -> Result<(), AllocError>
+    requires { IsAscii piece }
+    ensures { OnOk result (string_bytes value.new ≡ string_bytes value.old ++ bytes_of piece) }
+{
+    match piece {
+        Piece::Nothing => Ok(()),
+        Piece::Byte(byte) => value.push(char::from(byte)),
+        Piece::Character(character) => value.push(character),
+    }
+}
+
+/// Adds the next run or piece of a string to a text: where it ends; `None` where no piece stands.
+fn add_text(
+    value: &mut String,
+    source: &str,
+    escapes: bool,
+    at: usize,
+    to: usize,
+) -> Result<Option<usize>, AllocError>
+    requires before { at < to }
+    requires boundary { IsCharBoundary source.now at }
+    requires end_boundary { IsCharBoundary source.now to }
+    ensures { IfOk result (λ next. MatchOption next
+        ((held : List ℕ) → Holds escapes Content.Text source.now at to held → ⊥)
+        (λ next. IsAdded escapes source.now at next to (string_bytes value.old) (string_bytes value.new))) }
+{
+    let end = plain_end(source, escapes, at, to);
+    if at < end {
+        value.push_str(&source[at..end])?;
+        return Ok(Some(end));
+    }
+    let Some((piece, next)) = piece_at(source, escapes, Content::Text, at) else {
+        return Ok(None);
+    };
+    push_text(value, piece)?;
+    Ok(Some(next))
+}
+
+/// The text that the pieces of a string hold that fill a span; `None` where none do.
+fn text_between(
+    alloc: Global,
+    source: &str,
+    escapes: bool,
+    from: usize,
+    to: usize,
+) -> Result<Option<String>, AllocError>
+    requires boundary { IsCharBoundary source.now from }
+    requires end_boundary { IsCharBoundary source.now to }
+    ensures { IfOk result (λ value. MatchOption value
+        ((held : List ℕ) → Holds escapes Content.Text source.now from to held → ⊥)
+        (λ value. Holds escapes Content.Text source.now from to (string_bytes value))) }
+{
+    let mut value = String::new(alloc);
+    let mut at = from;
+    while at < to {
+        let Some(next) = add_text(&mut value, source, escapes, at, to)? else {
+            return Ok(None);
+        };
+        at = next;
+    }
+    if at != to {
+        return Ok(None);
+    }
+    Ok(Some(value))
+}
+
+/// Adds what a piece holds to bytes.
+fn push_bytes(value: &mut Vec<u8>, piece: Piece) -> Result<(), AllocError>
+    ensures { OnOk result (value.new.items ≡ value.old.items ++ bytes_of piece) }
+{
+    match piece {
+        Piece::Nothing => Ok(()),
+        Piece::Byte(byte) => value.extend_from_slice(&[byte]),
+        Piece::Character(character) => {
+            let mut room = [0; 4];
+            value.extend_from_slice(character.encode_utf8(&mut room).as_bytes())
+        }
+    }
+}
+
+/// The bytes that the pieces of a byte string hold that fill a span; `None` where none do.
+fn bytes_between(
+    alloc: Global,
+    source: &str,
+    escapes: bool,
+    from: usize,
+    to: usize,
+) -> Result<Option<Vec<u8>>, AllocError>
+    requires { to ≤ length source.now }
+    ensures { IfOk result (λ value. MatchOption value
+        ((held : List ℕ) → Holds escapes Content.Bytes source.now from to held → ⊥)
+        (λ value. Holds escapes Content.Bytes source.now from to value.items)) }
+{
+    let mut value = Vec::new(alloc);
+    let mut at = from;
+    while at < to {
+        let Some((piece, next)) = piece_at(source, escapes, Content::Bytes, at) else {
+            return Ok(None);
+        };
+        push_bytes(&mut value, piece)?;
+        at = next;
+    }
+    if at != to {
+        return Ok(None);
+    }
+    Ok(Some(value))
+}
+
+/// The value of a string whose pieces fill a span.
+fn value_between(
+    alloc: Global,
+    source: &str,
+    escapes: bool,
+    content: Content,
+    from: usize,
+    to: usize,
+) -> Result<Option<LiteralValue>, AllocError>
+    requires boundary { IsCharBoundary source.now from }
+    requires end_boundary { IsCharBoundary source.now to }
+    ensures { IfOk result (λ value. IsHeld escapes content source.now from to value) }
+{
+    match content {
+        Content::Text => match text_between(alloc, source, escapes, from, to)? {
+            Some(text) => Ok(Some(LiteralValue::Text(text))),
+            None => Ok(None),
+        },
+        Content::Bytes => match bytes_between(alloc, source, escapes, from, to)? {
+            Some(bytes) => Ok(Some(LiteralValue::Bytes(bytes))),
+            None => Ok(None),
+        },
+        Content::C => Ok(None),
+    }
+}
+
+/// The value of the string with which a text begins; `None` where it begins with none.
+fn string_value(alloc: Global, text: &str) -> Result<Option<LiteralValue>, AllocError>
+    ensures { IfOk result (λ value. IsValue text.now value) }
+{
+    if text.is_empty() {
+        return Ok(None);
+    }
+    let opens = opening_at(text, 0);
+    let Some(end) = end_of(text, 0, opens) else {
+        return Ok(None);
+    };
+    match opens {
+        Opening::Quotes(content) => {
+            let from = prefix_of(content) + 1;
+            value_between(alloc, text, true, content, from, end - 1)
+        }
+        Opening::Raw(content, count) => {
+            let hashes = count as usize;
+            let from = prefix_of(content) + 1 + hashes + 1;
+            let to = end - 1 - hashes;
+            value_between(alloc, text, false, content, from, to)
+        }
+        _ => Ok(None),
+    }
+}
+
+impl Literal<'_> {
+    /// What the literal holds: the text of a string or the bytes of a byte string, with its escapes
+    /// read and each CR LF as LF; its suffix is left out. `None` where the literal is no such
+    /// string, or breaks its rules. `Memory` where there is none for the value.
+    pub fn value(&self, alloc: Global) -> Result<Option<LiteralValue>, Memory>
+        ensures { IfOk result (λ value. IsValue self.now.text.now value) }
+    {
+        Ok(string_value(alloc, self.text)?)
+    }
+}
