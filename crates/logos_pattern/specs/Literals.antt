@@ -1,6 +1,8 @@
 -- What the literal of a `token`, `regex` or `skip` says.
 use Rattle.std.specs.Prelude.{ℕ, ◌*◌, Bool, true, false, List, length, string_bytes}
-use Rattle.logos_token.specs.declared.token.Span.{Span}
+use Rattle.logos_token.specs.declared.token.Literal.{Literal as LiteralToken}
+use Rattle.logos_token.specs.declared.token.value.LiteralValue.{LiteralValue}
+use Rattle.logos_token.specs.declared.token.value.LiteralValue.TheVariants.{Text as TextValue, Bytes as BytesValue}
 use Rattle.logos_pattern.specs.declared.pattern.literal.Literal.{Literal}
 use Rattle.logos_pattern.specs.declared.pattern.literal.Literal.TheVariants.{Utf8, Bytes}
 use Rattle.logos_pattern.specs.Escaping.{escaped_text, escaped_bytes}
@@ -10,15 +12,15 @@ abbrev pub is_unicode : Literal → Bool
 is_unicode (Utf8 string) = true
 is_unicode (Bytes bytes) = false
 
--- the literal as it stands in the source
-abbrev pub literal_text : Literal → List ℕ
-literal_text (Utf8 string) = string.token.text.now
-literal_text (Bytes bytes) = bytes.token.text.now
+-- the token that it is
+abbrev pub token_of : Literal → LiteralToken
+token_of (Utf8 string) = string.token
+token_of (Bytes bytes) = bytes.token
 
--- where it stands
-abbrev pub literal_span : Literal → Span
-literal_span (Utf8 string) = string.token.span
-literal_span (Bytes bytes) = bytes.token.span
+-- its value
+abbrev pub held_value : Literal → LiteralValue
+held_value (Utf8 string) = TextValue string.value
+held_value (Bytes bytes) = BytesValue bytes.value
 
 -- the bytes that it holds
 abbrev pub held_bytes : Literal → List ℕ

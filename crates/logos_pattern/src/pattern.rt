@@ -3,7 +3,7 @@
 ghost use Rattle.std.specs.Prelude.{◌≡◌, ◌++◌, IfOk, IsTrue, Some};
 ghost use Rattle.logos_pattern.specs.Hir.{tree_of, literal_tree};
 ghost use Rattle.logos_pattern.specs.Leaf.{pattern_tree, source_of, is_token, inner_text, pattern_text, token_value};
-ghost use Rattle.logos_pattern.specs.Literals.{literal_text, held_bytes, literal_value};
+ghost use Rattle.logos_pattern.specs.Literals.{token_of, held_bytes, literal_value};
 ghost use Rattle.logos_pattern.specs.Priority.{value};
 ghost use Rattle.logos_pattern.specs.Measure.{fitted, is_text, has_greedy_dot};
 
@@ -45,7 +45,7 @@ impl<'s> Pattern<'s> {
     /// It fails only where there is no memory.
     pub fn compile_lit(alloc: Global, literal: &Literal<'s>) -> Result<Pattern<'s>, Memory>
         ensures tree { IfOk result (λ pattern. pattern_tree pattern ≡ literal_tree (held_bytes literal.now)) }
-        ensures source { IfOk result (λ pattern. source_of pattern ≡ literal_text literal.now) }
+        ensures source { IfOk result (λ pattern. source_of pattern ≡ (token_of literal.now).text.now) }
         ensures literal { IfOk result (λ pattern. IsTrue (is_token pattern)) }
     {
         let hir = literal_hir(alloc, literal.value())?;

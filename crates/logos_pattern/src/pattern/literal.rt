@@ -7,7 +7,7 @@ ghost use Rattle.logos_pattern.specs.Escaping.{is_metacharacter, escaped_charact
 
 use logos_token::error::Memory;
 use logos_token::token;
-use logos_token::token::Span;
+use logos_token::token::{LiteralValue, Span};
 use std::alloc::{AllocError, Global};
 
 /// A string and its value.
@@ -99,27 +99,31 @@ fn push_bytes(text: &mut String, literal: bool, value: &[u8]) -> Result<(), Allo
 }
 
 impl<'s> Literal<'s> {
-    ghost use Rattle.std.specs.Prelude.{◌≡◌, IfOk, string_bytes};
-    ghost use Rattle.logos_pattern.specs.Literals.{is_unicode, literal_text, literal_span, held_bytes, escaped};
+    ghost use Rattle.std.specs.Prelude.{◌≡◌, IfOk, IfSome, option_map, string_bytes};
+    ghost use Rattle.logos_token.specs.LiteralValues.{IsValue};
+    ghost use Rattle.logos_pattern.specs.Literals.{token_of, held_value, is_unicode, held_bytes, escaped};
 
-    /// The string token of this value.
-    pub fn utf8(token: token::Literal<'s>, value: String) -> Literal<'s>
-        ensures { result ≡ Literal.Utf8 (record { token = token.entry; value = value }) }
+    /// The string or byte string that a token is, with its value. `None` where it is another
+    /// literal. A suffix is left to the caller. It fails only where there is no memory.
+    pub fn read(alloc: Global, token: &token::Literal<'s>) -> Result<Option<Literal<'s>>, Memory>
+        ensures token { IfOk result (λ read. IfSome read (λ literal. token_of literal ≡ token.now)) }
+        ensures value { IfOk result (λ read. IsValue token.now.text.now (option_map held_value read)) }
     {
-        Literal::Utf8(StringLiteral { token, value })
-    }
-
-    /// The byte string token of this value.
-    pub fn bytes(token: token::Literal<'s>, value: Vec<u8>) -> Literal<'s>
-        ensures { result ≡ Literal.Bytes (record { token = token.entry; value = value }) }
-    {
-        Literal::Bytes(ByteStringLiteral { token, value })
+        let token = *token;
+        match token.value(alloc)? {
+            Some(LiteralValue::Text(value)) => {
+                Ok(Some(Literal::Utf8(StringLiteral { token, value })))
+            }
+            Some(LiteralValue::Bytes(value)) => {
+                Ok(Some(Literal::Bytes(ByteStringLiteral { token, value })))
+            }
+            None => Ok(None),
+        }
     }
 
     /// The token as it stands in the source.
     pub fn token(&self) -> token::Literal<'s>
-        ensures text { result.text.now ≡ literal_text self.now }
-        ensures span { result.span ≡ literal_span self.now }
+        ensures { result ≡ token_of self.now }
     {
         match self {
             Literal::Utf8(string) => string.token,
@@ -139,7 +143,7 @@ impl<'s> Literal<'s> {
 
     /// Where it stands in the source.
     pub fn span(&self) -> Span
-        ensures { result ≡ literal_span self.now }
+        ensures { result ≡ (token_of self.now).span }
     {
         self.token().span
     }

@@ -16,14 +16,28 @@ fn of_tree(hir: Hir) -> Pattern<'static> {
     }
 }
 
-fn string<'s>(alloc: Global, source: &'s str, value: &str) -> Result<Literal<'s>, AllocError> {
-    let mut held = String::new(alloc);
-    held.push_str(value)?;
+/// The literal of a text, if it is a string.
+fn string<'s>(alloc: Global, text: &'s str) -> Result<Option<Literal<'s>>, Memory> {
     let token = LiteralToken {
-        text: source,
+        text,
         span: Span { from: 0, to: 0 },
     };
-    Ok(Literal::utf8(token, held))
+    Literal::read(alloc, &token)
+}
+
+fn token_value(alloc: Global, text: &str) -> Result<Option<usize>, Memory> {
+    match string(alloc, text)? {
+        Some(literal) => Ok(Some(token_priority(&literal))),
+        None => Ok(None),
+    }
+}
+
+/// The pattern of a `token`; an empty one where its text is no string.
+fn of_literal<'s>(alloc: Global, text: &'s str) -> Result<Pattern<'s>, Memory> {
+    match string(alloc, text)? {
+        Some(literal) => Pattern::compile_lit(alloc, &literal),
+        None => Ok(of_tree(Hir::Empty)),
+    }
 }
 
 /// `(?:(?:a{4294967295}){4294967295}){4294967295}`
@@ -52,8 +66,8 @@ fn priorities(rt: HostRuntime) -> Result<(), Fail> {
     let alloc = rt.alloc();
     assert_eq!(rt; of_tree(text(alloc, "rope")?).priority(), Some(8));
     assert_eq!(rt; of_tree(text(alloc, "\u{E9}")?).priority(), Some(2));
-    assert_eq!(rt; token_priority(&string(alloc, "\"\u{E9}\"", "\u{E9}")?), 4);
-    assert_eq!(rt; token_priority(&string(alloc, "\"\\n\"", "\n")?), 2);
+    assert_eq!(rt; token_value(alloc, "\"\u{E9}\"")?, Some(4));
+    assert_eq!(rt; token_value(alloc, "\"\\n\"")?, Some(2));
     assert_eq!(rt; of_tree(huge(alloc)?).priority(), None);
     let branches = vec![in alloc; text(alloc, "x")?, huge(alloc)?]?;
     assert_eq!(rt; of_tree(alternation(branches)?).priority(), Some(2));
@@ -87,14 +101,16 @@ fn utf8(rt: HostRuntime) -> Result<(), Fail> {
 #[test]
 fn literals(rt: HostRuntime) -> Result<(), Fail> {
     let alloc = rt.alloc();
-    let pattern = Pattern::compile_lit(alloc, &string(alloc, "\"\\x2E\"", ".")?)?;
+    let pattern = of_literal(alloc, "\"\\x2E\"")?;
     assert!(rt; pattern.is_literal());
     assert_eq!(rt; pattern.source(), "\"\\x2E\"");
     assert_eq!(rt; pattern.to_string(alloc)?.as_str(), "#[token(\"\\x2E\")]");
     assert!(rt;
         matches!(pattern.hir(), Hir::Literal(bytes) if bytes.as_slice() == b".".as_slice())
     );
-    let empty = Pattern::compile_lit(alloc, &string(alloc, "r\"\"", "")?)?;
+    let empty = of_literal(alloc, "r\"\"")?;
+    assert!(rt; empty.is_literal());
+    assert_eq!(rt; empty.source(), "r\"\"");
     assert!(rt; matches!(empty.hir(), Hir::Empty));
     assert_eq!(rt; empty.priority(), Some(0));
     Ok(())

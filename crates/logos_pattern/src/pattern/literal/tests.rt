@@ -1,62 +1,71 @@
 use super::*;
 use std::test::Fail;
 
-fn token(text: &str) -> token::Literal<'_> {
-    token::Literal {
+fn literal<'s>(alloc: Global, text: &'s str) -> Result<Option<Literal<'s>>, Memory> {
+    let token = token::Literal {
         text,
-        span: Span { from: 0, to: 0 },
+        span: Span {
+            from: 3,
+            to: 3 + text.len(),
+        },
+    };
+    Literal::read(alloc, &token)
+}
+
+/// The text of the pattern of a literal.
+fn escaped(alloc: Global, text: &str, as_literal: bool) -> Result<Option<String>, Memory> {
+    match literal(alloc, text)? {
+        Some(literal) => Ok(Some(literal.escape(alloc, as_literal)?)),
+        None => Ok(None),
     }
 }
 
-fn string<'s>(alloc: Global, text: &'s str, value: &str) -> Result<Literal<'s>, AllocError> {
-    let mut held = String::new(alloc);
-    held.push_str(value)?;
-    Ok(Literal::utf8(token(text), held))
-}
-
-fn byte_string<'s>(alloc: Global, text: &'s str, value: &[u8]) -> Result<Literal<'s>, AllocError> {
-    Ok(Literal::bytes(token(text), Vec::from_slice(alloc, value)?))
+fn is(text: &Option<String>, expected: &str) -> bool {
+    match text {
+        Some(text) => text.as_str() == expected,
+        None => false,
+    }
 }
 
 #[test]
 fn escapes_bytes(rt: HostRuntime) -> Result<(), Fail> {
     let alloc = rt.alloc();
-    let literal = byte_string(alloc, "b\"\\xFF.\"", b"\xFF.")?;
-    assert_eq!(rt; literal.escape(alloc, true)?.as_str(), "\\xFF\\.");
-    assert_eq!(rt; literal.escape(alloc, false)?.as_str(), "\\xFF.");
-    let literal = byte_string(alloc, "b\"\\x80\\n\\x7F\"", b"\x80\n\x7F")?;
-    assert_eq!(rt; literal.escape(alloc, true)?.as_str(), "\\x80\n\x7F");
-    assert!(rt; !literal.unicode());
-    assert!(rt; literal.value() == b"\x80\n\x7F".as_slice());
+    assert!(rt; is(&escaped(alloc, "b\"\\xFF.\"", true)?, "\\xFF\\."));
+    assert!(rt; is(&escaped(alloc, "b\"\\xFF.\"", false)?, "\\xFF."));
+    assert!(rt; is(&escaped(alloc, "b\"\\x80\\n\\x7F\"", true)?, "\\x80\n\x7F"));
     Ok(())
 }
 
 #[test]
 fn escapes_text(rt: HostRuntime) -> Result<(), Fail> {
     let alloc = rt.alloc();
-    let all = "\\.+*?()|[]{}^$#&-~";
-    let literal = string(alloc, "r\"..\"", all)?;
-    assert_eq!(rt;
-        literal.escape(alloc, true)?.as_str(),
-        "\\\\\\.\\+\\*\\?\\(\\)\\|\\[\\]\\{\\}\\^\\$\\#\\&\\-\\~"
+    let all = "r\"\\.+*?()|[]{}^$#&-~\"";
+    let marked = "\\\\\\.\\+\\*\\?\\(\\)\\|\\[\\]\\{\\}\\^\\$\\#\\&\\-\\~";
+    assert!(rt; is(&escaped(alloc, all, true)?, marked));
+    assert!(rt; is(&escaped(alloc, all, false)?, "\\.+*?()|[]{}^$#&-~"));
+    let others = "aZ0_ !%',/:;<=>@`\n\u{E9}";
+    assert!(rt;
+        is(
+            &escaped(alloc, "\"aZ0_ !%',/:;<=>@`\\n\u{E9}\"", true)?,
+            others
+        )
     );
-    assert_eq!(rt; literal.escape(alloc, false)?.as_str(), all);
-    let others = "aZ0_ !\"%',/:;<=>@`\n\u{E9}";
-    let literal = string(alloc, "\"..\"", others)?;
-    assert_eq!(rt; literal.escape(alloc, true)?.as_str(), others);
-    assert!(rt; literal.unicode());
-    assert!(rt; literal.value() == others.as_bytes());
     Ok(())
 }
 
 #[test]
 fn keeps_its_token(rt: HostRuntime) -> Result<(), Fail> {
-    let token = token::Literal {
-        text: "b\"a\"",
-        span: Span { from: 3, to: 7 },
-    };
-    let literal = Literal::bytes(token, Vec::from_slice(rt.alloc(), b"a")?);
-    assert_eq!(rt; literal.token().text, "b\"a\"");
-    assert_eq!(rt; literal.span(), Span { from: 3, to: 7 });
+    let alloc = rt.alloc();
+    match literal(alloc, "b\"\\n\"")? {
+        Some(bytes) => {
+            assert_eq!(rt; bytes.token().text, "b\"\\n\"");
+            assert_eq!(rt; bytes.span(), Span { from: 3, to: 8 });
+            assert!(rt; !bytes.unicode());
+            assert!(rt; bytes.value() == b"\n".as_slice());
+        }
+        None => assert!(rt; false, "no byte string"),
+    }
+    assert!(rt; literal(alloc, "5")?.is_none());
+    assert!(rt; literal(alloc, "c\"a\"")?.is_none());
     Ok(())
 }
