@@ -10,7 +10,7 @@ ghost use Rattle.logos_codegen.specs.Rules.{definition_leaf, definition_rule, ru
 
 use logos_parser::parser::{Definition, ItemEnum};
 use logos_pattern::leaf::{Leaf, VariantKind};
-use logos_pattern::pattern::{Pattern, token_priority};
+use logos_pattern::pattern::{Pattern, plain_token_priority};
 use std::alloc::{AllocError, Global};
 
 // The leaf of a `#[token(..)]`.
@@ -19,8 +19,8 @@ fn leaf_of<'s>(alloc: Global, definition: &Definition<'s>) -> Result<Leaf<'s>, A
     ensures rule { IfOk result (λ leaf. rule_of leaf ≡ definition_rule (definition_value definition.now)) }
     ensures literal { IfOk result (λ leaf. IsLiteral (pattern_tree leaf.pattern)) }
 {
-    let pattern = Pattern::compile_lit(alloc, &definition.literal)?;
-    let priority = token_priority(&definition.literal);
+    let pattern = Pattern::compile_plain(alloc, &definition.literal)?;
+    let priority = plain_token_priority(&definition.literal);
     let kind = VariantKind::Unit(definition.variant);
     Ok(
         Leaf::new(definition.literal.span, pattern)

@@ -1,7 +1,7 @@
 -- What contracts see of a graph, of the automaton it was made from, and of leaves.
-use Rattle.std.specs.Prelude.{◌≡◌, ℕ, ◌↔◌, Bool, false, List, [], ◌∷◌, ◌++◌, map, length, Option, Some, IsFalse, Contains, slice_get, option_and_then}
+use Rattle.std.specs.Prelude.{◌≡◌, ℕ, ◌↔◌, Bool, List, [], ◌∷◌, ◌++◌, map, length, Option, Some, IsFalse, Contains, slice_get, option_and_then}
 use Rattle.std.specs.List.Sorted.{IsStrictlyIncreasing}
-use Rattle.logos_pattern.specs.Leaf.{pattern_tree, is_skip}
+use Rattle.logos_pattern.specs.Leaf.{pattern_tree, is_skip, asks}
 use Rattle.logos_pattern.specs.Text.{IsBytes}
 use Rattle.logos_graph.specs.Munch.{Rule, RuleMatches}
 use Rattle.logos_graph.specs.Graph.{GraphState}
@@ -10,7 +10,7 @@ use Rattle.logos_pattern.specs.declared.leaf.Leaf.{Leaf}
 
 -- the rule that a leaf stands for
 abbrev pub rule_of : Leaf → Rule
-rule_of leaf = record { tree = pattern_tree leaf.pattern; priority = leaf.priority; use_of = record { skips = is_skip leaf.kind; asks = false } }
+rule_of leaf = record { tree = pattern_tree leaf.pattern; priority = leaf.priority; use_of = record { skips = is_skip leaf.kind; asks = asks leaf } }
 
 abbrev pub rules_of : List Leaf → List Rule
 rules_of = map rule_of

@@ -1,9 +1,14 @@
 -- What a leaf's fields say.
-use Rattle.std.specs.Prelude.{ℕ, ◌-◌, ◌*◌, Bool, true, false, List, ◌++◌, length, slice_range, codes, if◌then◌else◌}
+use Rattle.std.specs.Prelude.{ℕ, ◌-◌, ◌*◌, Bool, true, false, List, ◌++◌, length, slice_range, codes, is_some, if◌then◌else◌}
 use Rattle.logos_pattern.specs.Tree.{Tree}
 use Rattle.logos_pattern.specs.Hir.{tree_of}
 use Rattle.logos_pattern.specs.declared.pattern.Pattern.{Pattern}
+use Rattle.logos_token.specs.declared.token.Span.{Span}
+use Rattle.logos_token.specs.Tokens.{run_span}
+use Rattle.logos_token.specs.Views.{stream_tokens}
 use Rattle.logos_pattern.specs.declared.leaf.Leaf.{Leaf}
+use Rattle.logos_pattern.specs.declared.leaf.Callback.{Callback}
+use Rattle.logos_pattern.specs.declared.leaf.Callback.TheVariants.{Label, Inline}
 use Rattle.logos_pattern.specs.declared.leaf.VariantKind.{VariantKind}
 use Rattle.logos_pattern.specs.declared.leaf.VariantKind.TheVariants.{Unit as UnitVariant, Skip}
 
@@ -23,6 +28,15 @@ is_token pattern = pattern.is_literal
 abbrev pub is_skip : VariantKind → Bool
 is_skip (UnitVariant name) = false
 is_skip Skip = true
+
+-- where a callback stands: from its first token to its last
+abbrev pub callback_span : Callback → Span
+callback_span (Label tokens) = run_span (stream_tokens tokens)
+callback_span (Inline inline) = inline.span
+
+-- it is asked what becomes of a match
+abbrev pub asks : Leaf → Bool
+asks leaf = is_some leaf.callback
 
 -- the bytes between the quotes of a plain string literal: all but the first and the last one
 abbrev pub inner_text : List ℕ → List ℕ

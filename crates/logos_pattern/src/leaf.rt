@@ -1,10 +1,11 @@
 //! Leaves of a lexer: a pattern, its priority, and what becomes of its matches.
 
 ghost use Rattle.std.specs.Prelude.{◌≡◌, Some};
-ghost use Rattle.logos_pattern.specs.Leaf.{kind_text, leaf_text};
+ghost use Rattle.logos_pattern.specs.Leaf.{kind_text, leaf_text, callback_span};
+ghost use Rattle.logos_pattern.specs.declared.leaf.Callback.TheVariants as callbacks;
 
 use crate::pattern::Pattern;
-use logos_token::token::{Ident, Span};
+use logos_token::token::{Ident, Span, TokenStream};
 use std::fmt;
 
 /// The number of a leaf.
@@ -20,7 +21,47 @@ pub enum VariantKind<'s> {
     Skip,
 }
 
-/// A pattern with its priority and what a match of it gives.
+/// What is called on a match.
+#[derive(Debug, Drop)]
+pub enum Callback<'s> {
+    /// Tokens that name a function.
+    Label(TokenStream<'s>),
+    /// A body with a parameter.
+    Inline(InlineCallback<'s>),
+}
+
+/// A callback that is written out, as `|lex| body`.
+#[derive(Debug, Drop)]
+pub struct InlineCallback<'s> {
+    /// The parameter.
+    pub arg: Ident<'s>,
+    pub body: TokenStream<'s>,
+    /// The whole callback in the source.
+    pub span: Span,
+}
+
+impl<'s> Callback<'s> {
+    /// Where it stands in the source: a label from its first token to its last, and 0..0 if it has
+    /// no token.
+    pub fn span(&self) -> Span
+        ensures { result ≡ callback_span self.now }
+    {
+        match self {
+            Callback::Label(tokens) => tokens.run().span(),
+            Callback::Inline(inline) => inline.span,
+        }
+    }
+}
+
+impl<'s> From<InlineCallback<'s>> for Callback<'s> {
+    ghost from_gives = { λ inline callback. callback ≡ callbacks.Inline inline };
+
+    fn from(inline: InlineCallback<'s>) -> Callback<'s> {
+        Callback::Inline(inline)
+    }
+}
+
+/// A pattern with its priority and what becomes of its matches.
 #[derive(Drop)]
 pub struct Leaf<'s> {
     pub pattern: Pattern<'s>,
@@ -28,18 +69,21 @@ pub struct Leaf<'s> {
     pub span: Span,
     pub priority: usize,
     pub kind: VariantKind<'s>,
+    /// What is called on a match, if anything is.
+    pub callback: Option<Callback<'s>>,
 }
 
 impl<'s> Leaf<'s> {
-    /// A leaf that skips, of priority 0.
+    /// A leaf that skips, of priority 0 and without a callback.
     pub fn new(span: Span, pattern: Pattern<'s>) -> Leaf<'s>
-        ensures { result ≡ record { pattern = pattern.entry; span = span; priority = 0; kind = VariantKind.Skip } }
+        ensures { result ≡ record { pattern = pattern.entry; span = span; priority = 0; kind = VariantKind.Skip; callback = None } }
     {
         Leaf {
             pattern,
             span,
             priority: 0,
             kind: VariantKind::Skip,
+            callback: None,
         }
     }
 
@@ -52,12 +96,14 @@ impl<'s> Leaf<'s> {
             span,
             priority: _,
             kind,
+            callback,
         } = self;
         Leaf {
             pattern,
             span,
             priority,
             kind,
+            callback,
         }
     }
 
@@ -70,12 +116,34 @@ impl<'s> Leaf<'s> {
             span,
             priority,
             kind: _,
+            callback,
         } = self;
         Leaf {
             pattern,
             span,
             priority,
             kind,
+            callback,
+        }
+    }
+
+    /// The leaf whose matches this is called on.
+    pub fn callback(self, callback: Option<Callback<'s>>) -> Leaf<'s>
+        ensures { result ≡ record self.entry { callback = callback.entry } }
+    {
+        let Leaf {
+            pattern,
+            span,
+            priority,
+            kind,
+            callback: _,
+        } = self;
+        Leaf {
+            pattern,
+            span,
+            priority,
+            kind,
+            callback,
         }
     }
 }
@@ -107,8 +175,9 @@ impl fmt::Display for Leaf<'_> {
 #[cfg(test)]
 mod tests {
     use super::*;
-    use crate::pattern::token_priority;
-    use logos_token::token::Literal;
+    use crate::pattern::plain_token_priority;
+    use logos_token::token::{Literal, TokenError, tokenize};
+    use std::alloc::Global;
     use std::test::Fail;
 
     const NOWHERE: Span = Span { from: 0, to: 0 };
@@ -119,7 +188,7 @@ mod tests {
             text: "\"ab\"",
             span: NOWHERE,
         };
-        let pattern = Pattern::compile_lit(rt.alloc(), &literal)?;
+        let pattern = Pattern::compile_plain(rt.alloc(), &literal)?;
         assert_eq!(rt; pattern.source(), "\"ab\"");
         assert!(rt; pattern.is_literal());
         let leaf = Leaf::new(NOWHERE, pattern);
@@ -132,13 +201,48 @@ mod tests {
             span: NOWHERE,
         };
         let leaf = leaf
-            .priority(token_priority(&literal))
+            .priority(plain_token_priority(&literal))
             .variant_kind(VariantKind::Unit(name));
         assert_eq!(rt; leaf.priority, 4);
         assert_eq!(rt;
             leaf.to_string(rt.alloc())?.as_str(),
             "#[token(\"ab\")] ::A"
         );
+        Ok(())
+    }
+
+    fn stream<'s>(alloc: Global, text: &'s str) -> Result<TokenStream<'s>, TokenError> {
+        tokenize(alloc, text)
+    }
+
+    #[test]
+    fn keeps_callbacks(rt: HostRuntime) -> Result<(), Fail> {
+        let alloc = rt.alloc();
+        let label = Callback::Label(stream(alloc, "  a::b ")?);
+        assert_eq!(rt; label.span(), Span { from: 2, to: 6 });
+        let empty = Callback::Label(stream(alloc, " ")?);
+        assert_eq!(rt; empty.span(), NOWHERE);
+        let inline = Callback::from(InlineCallback {
+            arg: Ident {
+                text: "lex",
+                span: Span { from: 1, to: 4 },
+            },
+            body: stream(alloc, "lex.bump(1)")?,
+            span: Span { from: 0, to: 17 },
+        });
+        assert_eq!(rt; inline.span(), Span { from: 0, to: 17 });
+        let literal = Literal {
+            text: "\"ab\"",
+            span: NOWHERE,
+        };
+        let pattern = Pattern::compile_plain(alloc, &literal)?;
+        let leaf = Leaf::new(NOWHERE, pattern).priority(7);
+        assert!(rt; leaf.callback.is_none());
+        let leaf = leaf.callback(Some(label));
+        assert!(rt; matches!(&leaf.callback, Some(Callback::Label(_))));
+        assert_eq!(rt; leaf.priority, 7);
+        assert_eq!(rt; leaf.pattern.source(), "\"ab\"");
+        assert!(rt; leaf.callback(None).callback.is_none());
         Ok(())
     }
 }

@@ -35,11 +35,11 @@ fn skips(kind: VariantKind<'_>) -> bool
     }
 }
 
-// Whether the callback is asked for the leaf's matches. Leaves have none.
-fn asks(_leaf: &Leaf<'_>) -> bool
-    ensures { result ≡ (rule_of _leaf.now).use_of.asks }
+// Whether the callback is asked for the leaf's matches.
+fn asks(leaf: &Leaf<'_>) -> bool
+    ensures { result ≡ (rule_of leaf.now).use_of.asks }
 {
-    false
+    leaf.callback.is_some()
 }
 
 // What is answered to a match: a leaf for which nobody is asked emits.

@@ -6,7 +6,7 @@ use super::run::lex_literals;
 use logos_generator::machine::{Action, Item};
 use logos_graph::graph::GraphError;
 use logos_pattern::leaf::{Leaf, VariantKind};
-use logos_pattern::pattern::{Pattern, token_priority};
+use logos_pattern::pattern::{Pattern, plain_token_priority};
 use logos_token::token::{Ident, Literal, Span};
 use std::alloc::{AllocError, Global};
 use std::test::Fail;
@@ -24,10 +24,10 @@ fn token(alloc: Global, text: &'static str) -> Result<Leaf<'static>, AllocError>
         text,
         span: NOWHERE,
     };
-    let pattern = Pattern::compile_lit(alloc, &literal)?;
+    let pattern = Pattern::compile_plain(alloc, &literal)?;
     Ok(
         Leaf::new(NOWHERE, pattern)
-            .priority(token_priority(&literal))
+            .priority(plain_token_priority(&literal))
             .variant_kind(VariantKind::Unit(NAME)),
     )
 }

@@ -1,0 +1,68 @@
+-- What the values of the bracket reader stand for, and what its functions promise.
+use Rattle.std.specs.Prelude.{◌≡◌, ℕ, ◌+◌, ◌<◌, ◌≤◌, Bool, true, false, List, [], ◌∷◌, map, reverse, length, Option, Some, None, Result, Ok, Err}
+use Rattle.std.specs.Option.{option_map}
+use Rattle.logos_pattern.specs.declared.pattern.error.Stop.{Stop}
+use Rattle.logos_pattern.specs.declared.pattern.error.Stop.TheVariants as stops
+use Rattle.logos_pattern.specs.declared.pattern.token.Flags.{Flags}
+use Rattle.logos_pattern.specs.declared.pattern.bracket_token.BracketToken.{BracketToken}
+use Rattle.logos_pattern.specs.declared.pattern.bracket_token.BracketToken.TheVariants.{Item, Open, Operator, Close}
+use Rattle.logos_pattern.specs.declared.pattern.bracket.Frame.{Frame as FrameValue}
+use Rattle.logos_pattern.specs.declared.pattern.bracket.Frames.{Frames as FramesValue}
+use Rattle.logos_pattern.specs.declared.pattern.bracket.Found.{Found}
+use Rattle.logos_pattern.specs.Hir.{pairs}
+use Rattle.logos_pattern.specs.Class.{members}
+use Rattle.logos_pattern.specs.ClassSet.{set_of}
+use Rattle.logos_pattern.specs.Token.{Text}
+use Rattle.logos_pattern.specs.Bracket.{Bracket}
+use Rattle.logos_pattern.specs.BracketSpelling.{Encloses}
+use Rattle.logos_pattern.specs.BracketSet.{bracket_set, item_fits, BracketFits, bracket_depth}
+use Rattle.logos_pattern.specs.BracketMachine.{Frame, Frames, bracket_step, whole}
+
+abbrev pub frame_view : FrameValue → Frame
+frame_view f = record {
+  negated = f.negated;
+  before = option_map (λ b. (set_of b.0, b.1)) f.before;
+  here = members (pairs f.ranges.items);
+  inner = f.inner;
+}
+
+abbrev pub frames_view : FramesValue → Frames
+frames_view m = record { top = frame_view m.top; below = reverse (map frame_view m.below.items) }
+
+-- the token makes no step: an item that may not stand here, or the end of the whole bracket
+abbrev pub NoStep : Flags → Frames → BracketToken → Type 0
+NoStep flags s (Item item) = item_fits flags item ≡ false
+NoStep flags s (Open negated lead) = ⊥
+NoStep flags s (Operator op) = ⊥
+NoStep flags s Close = s.below ≡ []
+
+-- the token opens a bracket that is too deep
+abbrev pub TooDeep : ℕ → Frames → BracketToken → Type 0
+TooDeep base s (Open negated lead) = 250 < base + length s.below + 2
+TooDeep base s _ = ⊥
+
+-- the token may stand where the flags hold
+abbrev pub MayStand : Flags → BracketToken → Type 0
+MayStand flags (Item item) = item_fits flags item ≡ true
+MayStand flags _ = Unit {0}
+
+abbrev pub BracketSteps : Flags → ℕ → Frames → BracketToken → Result (Unit {0}) Stop → Frames → Type 0
+BracketSteps flags base old token (Ok _) new = MayStand flags token × (bracket_step flags base old token ≡ Some new)
+BracketSteps flags base old token (Err (stops.Syntax kind left)) new = NoStep flags old token
+BracketSteps flags base old token (Err stops.LimitPatternNesting) new = TooDeep base old token
+BracketSteps flags base old token (Err stops.Memory) new = Unit {0}
+
+-- the set, and how deep it is, of a bracket that stands at the text
+pub record IsFound (flags : Flags) (base : ℕ) (text : Text) (found : Found) (rest : Text) : Type 0 where
+  pub written : Bracket
+  pub encloses : Encloses written text rest
+  pub fits : BracketFits flags written
+  pub is_set : set_of found.set ≡ bracket_set flags written
+  pub is_depth : found.depth ≡ base + bracket_depth written
+  pub shallow : found.depth ≤ 250
+
+-- what is said of each bracket at the text
+abbrev pub NoBracket : Flags → ℕ → Text → Stop → Type 0
+NoBracket flags base text (stops.Syntax kind left) = (b : Bracket) (rest : Text) → Encloses b text rest → BracketFits flags b → ⊥
+NoBracket flags base text stops.LimitPatternNesting = (b : Bracket) (rest : Text) → Encloses b text rest → 250 < base + bracket_depth b
+NoBracket flags base text stops.Memory = Unit {0}

@@ -1,0 +1,178 @@
+//! String literals with their values.
+
+ghost use Rattle.std.specs.Prelude.{◌≡◌, ◌<◌, ◌++◌, OnOk, IfOk, string_bytes};
+ghost use Rattle.std.specs.List.{flat_map};
+ghost use Rattle.std.specs.Str.{chars};
+ghost use Rattle.logos_pattern.specs.Escaping.{is_metacharacter, escaped_character, upper_digit, escaped_byte, escaped_bytes};
+
+use logos_token::error::Memory;
+use logos_token::token;
+use logos_token::token::{LiteralValue, Span};
+use std::alloc::{AllocError, Global};
+
+/// A string and its value.
+#[derive(Debug, Drop)]
+pub struct StringLiteral<'s> {
+    token: token::Literal<'s>,
+    value: String,
+}
+
+/// A byte string and its value.
+#[derive(Debug, Drop)]
+pub struct ByteStringLiteral<'s> {
+    token: token::Literal<'s>,
+    value: Vec<u8>,
+}
+
+/// The literal of a `token`, `regex` or `skip`.
+#[derive(Debug, Drop)]
+pub enum Literal<'s> {
+    /// A string, which speaks of characters.
+    Utf8(StringLiteral<'s>),
+    /// A byte string, which speaks of bytes.
+    Bytes(ByteStringLiteral<'s>),
+}
+
+fn is_metacharacter(character: char) -> bool
+    ensures { result ≡ is_metacharacter character }
+{
+    [
+        '\\', '.', '+', '*', '?', '(', ')', '|', '[', ']', '{', '}', '^', '$', '#', '&', '-', '~',
+    ]
+    .contains(&character)
+}
+
+/// A hexadecimal digit.
+fn upper_digit(value: u8) -> char
+    requires { value < 16 }
+    ensures { result ≡ upper_digit value }
+{
+    if value < 10 {
+        return char::from(b'0' + value);
+    }
+    char::from(b'A' + (value - 10))
+}
+
+/// Adds a character that is to stand for itself.
+fn push_character(text: &mut String, character: char) -> Result<(), AllocError>
+    ensures { OnOk result (string_bytes text.new ≡ string_bytes text.old ++ escaped_character character) }
+{
+    if is_metacharacter(character) {
+        text.push('\\')?;
+    }
+    text.push(character)
+}
+
+/// Adds the characters of a string, which are to stand for themselves.
+fn push_text(text: &mut String, value: &str) -> Result<(), AllocError>
+    ensures { OnOk result (string_bytes text.new ≡ string_bytes text.old ++ flat_map escaped_character (chars value.now)) }
+{
+    for character in value.chars() {
+        push_character(text, character)?;
+    }
+    Ok(())
+}
+
+/// Adds a byte of a byte string.
+fn push_byte(text: &mut String, literal: bool, byte: u8) -> Result<(), AllocError>
+    ensures { OnOk result (string_bytes text.new ≡ string_bytes text.old ++ escaped_byte literal byte) }
+{
+    if byte >= 128 {
+        text.push_str("\\x")?;
+        text.push(upper_digit(byte / 16))?;
+        return text.push(upper_digit(byte % 16));
+    }
+    if literal {
+        return push_character(text, char::from(byte));
+    }
+    text.push(char::from(byte))
+}
+
+/// Adds the bytes of a byte string.
+fn push_bytes(text: &mut String, literal: bool, value: &[u8]) -> Result<(), AllocError>
+    ensures { OnOk result (string_bytes text.new ≡ string_bytes text.old ++ escaped_bytes literal value.now) }
+{
+    for byte in value {
+        push_byte(text, literal, *byte)?;
+    }
+    Ok(())
+}
+
+impl<'s> Literal<'s> {
+    ghost use Rattle.std.specs.Prelude.{◌≡◌, IfOk, IfSome, option_map, string_bytes};
+    ghost use Rattle.logos_token.specs.LiteralValues.{IsValue};
+    ghost use Rattle.logos_pattern.specs.Literals.{token_of, held_value, is_unicode, held_bytes, escaped};
+
+    /// The string or byte string that a token is, with its value. `None` where it is another
+    /// literal. A suffix is left to the caller. It fails only where there is no memory.
+    pub fn read(alloc: Global, token: &token::Literal<'s>) -> Result<Option<Literal<'s>>, Memory>
+        ensures token { IfOk result (λ read. IfSome read (λ literal. token_of literal ≡ token.now)) }
+        ensures value { IfOk result (λ read. IsValue token.now.text.now (option_map held_value read)) }
+    {
+        let token = *token;
+        match token.value(alloc)? {
+            Some(LiteralValue::Text(value)) => {
+                Ok(Some(Literal::Utf8(StringLiteral { token, value })))
+            }
+            Some(LiteralValue::Bytes(value)) => {
+                Ok(Some(Literal::Bytes(ByteStringLiteral { token, value })))
+            }
+            None => Ok(None),
+        }
+    }
+
+    /// The token as it stands in the source.
+    pub fn token(&self) -> token::Literal<'s>
+        ensures { result ≡ token_of self.now }
+    {
+        match self {
+            Literal::Utf8(string) => string.token,
+            Literal::Bytes(bytes) => bytes.token,
+        }
+    }
+
+    /// Whether it is a string, and no byte string.
+    pub fn unicode(&self) -> bool
+        ensures { result ≡ is_unicode self.now }
+    {
+        match self {
+            Literal::Utf8(_) => true,
+            Literal::Bytes(_) => false,
+        }
+    }
+
+    /// Where it stands in the source.
+    pub fn span(&self) -> Span
+        ensures { result ≡ (token_of self.now).span }
+    {
+        self.token().span
+    }
+
+    /// The bytes that it holds: of a string the UTF-8 of its value.
+    pub fn value(&self) -> &[u8]
+        ensures { result.now ≡ held_bytes self.now }
+    {
+        match self {
+            Literal::Utf8(string) => string.value.as_bytes(),
+            Literal::Bytes(bytes) => bytes.value.as_slice(),
+        }
+    }
+
+    /// The value as the text of a pattern: of a byte string each byte above 7F stands as `\xNN`.
+    /// With `literal` a `\` stands before each of ``\ . + * ? ( ) | [ ] { } ^ $ # & - ~``, so that
+    /// the pattern matches the value and nothing else. It fails only where there is no memory.
+    pub fn escape(&self, alloc: Global, literal: bool) -> Result<String, Memory>
+        ensures { IfOk result (λ text. string_bytes text ≡ escaped self.now literal) }
+    {
+        let mut text = String::new(alloc);
+        match self {
+            Literal::Utf8(string) if literal => push_text(&mut text, string.value.as_str())?,
+            Literal::Utf8(string) => text.push_str(string.value.as_str())?,
+            Literal::Bytes(bytes) => push_bytes(&mut text, literal, bytes.value.as_slice())?,
+        }
+        Ok(text)
+    }
+}
+
+#[cfg(test)]
+mod tests;

@@ -1,0 +1,307 @@
+//! Sets that a pattern names.
+
+ghost use Rattle.std.specs.Prelude.{◌≡◌, ℕ, Bool, IfOk, bytes_eq};
+ghost use Rattle.logos_pattern.specs.Hir.{pairs};
+ghost use Rattle.logos_pattern.specs.Class.{only_chars, in_ranges};
+ghost use Rattle.logos_pattern.specs.ClassSet.{set_of};
+ghost use Rattle.logos_pattern.specs.Property.{ascii_set, ascii_named, perl_set, property_named, property_normalized};
+ghost use Rattle.unicode.specs.Rows.{HasExactly};
+ghost use Rattle.unicode.specs.Sets.{in_set};
+
+use super::class::RangeSet;
+use super::hir::Range;
+use std::alloc::{AllocError, Global};
+use unicode::perl;
+use unicode::sets::{self, Set};
+
+/// One of the classes `[:alnum:]` to `[:xdigit:]`.
+#[derive(Clone, Copy, Debug, PartialEq, Eq)]
+pub(crate) enum AsciiKind {
+    Alnum,
+    Alpha,
+    Ascii,
+    Blank,
+    Cntrl,
+    Digit,
+    Graph,
+    Lower,
+    Print,
+    Punct,
+    Space,
+    Upper,
+    Word,
+    Xdigit,
+}
+
+/// One of the classes `\d`, `\s` and `\w`.
+#[derive(Clone, Copy, Debug, PartialEq, Eq)]
+pub(crate) enum PerlKind {
+    Digit,
+    Space,
+    Word,
+}
+
+#[tactic(auto, using(std::proofs::lemmas::Bool::Decides::nat_tests))]
+fn ascii_ranges(kind: AsciiKind) -> &'static [Range]
+    ensures { (c : ℕ) → in_ranges (pairs result.now) c ≡ ascii_set kind c }
+{
+    match kind {
+        AsciiKind::Alnum => &[
+            Range {
+                first: 48,
+                last: 57,
+            },
+            Range {
+                first: 65,
+                last: 90,
+            },
+            Range {
+                first: 97,
+                last: 122,
+            },
+        ],
+        AsciiKind::Alpha => &[
+            Range {
+                first: 65,
+                last: 90,
+            },
+            Range {
+                first: 97,
+                last: 122,
+            },
+        ],
+        AsciiKind::Ascii => &[Range {
+            first: 0,
+            last: 127,
+        }],
+        AsciiKind::Blank => &[
+            Range { first: 9, last: 9 },
+            Range {
+                first: 32,
+                last: 32,
+            },
+        ],
+        AsciiKind::Cntrl => &[
+            Range { first: 0, last: 31 },
+            Range {
+                first: 127,
+                last: 127,
+            },
+        ],
+        AsciiKind::Digit => &[Range {
+            first: 48,
+            last: 57,
+        }],
+        AsciiKind::Graph => &[Range {
+            first: 33,
+            last: 126,
+        }],
+        AsciiKind::Lower => &[Range {
+            first: 97,
+            last: 122,
+        }],
+        AsciiKind::Print => &[Range {
+            first: 32,
+            last: 126,
+        }],
+        AsciiKind::Punct => &[
+            Range {
+                first: 33,
+                last: 47,
+            },
+            Range {
+                first: 58,
+                last: 64,
+            },
+            Range {
+                first: 91,
+                last: 96,
+            },
+            Range {
+                first: 123,
+                last: 126,
+            },
+        ],
+        AsciiKind::Space => &[
+            Range { first: 9, last: 13 },
+            Range {
+                first: 32,
+                last: 32,
+            },
+        ],
+        AsciiKind::Upper => &[Range {
+            first: 65,
+            last: 90,
+        }],
+        AsciiKind::Word => &[
+            Range {
+                first: 48,
+                last: 57,
+            },
+            Range {
+                first: 65,
+                last: 90,
+            },
+            Range {
+                first: 95,
+                last: 95,
+            },
+            Range {
+                first: 97,
+                last: 122,
+            },
+        ],
+        AsciiKind::Xdigit => &[
+            Range {
+                first: 48,
+                last: 57,
+            },
+            Range {
+                first: 65,
+                last: 70,
+            },
+            Range {
+                first: 97,
+                last: 102,
+            },
+        ],
+    }
+}
+
+/// Whether the characters are those of the ASCII word.
+fn spells(name: &[char], word: &[u8]) -> bool
+    ensures { result ≡ bytes_eq name.now word.now }
+{
+    if name.len() != word.len() {
+        return false;
+    }
+    for i in 0..name.len() {
+        if name[i] as u32 != word[i] as u32 {
+            return false;
+        }
+    }
+    true
+}
+
+impl AsciiKind {
+    /// The class with the name in `[:name:]`.
+    pub(crate) fn from_name(name: &[char]) -> Option<AsciiKind>
+        ensures { result ≡ ascii_named name.now }
+    {
+        if spells(name, b"alnum") {
+            return Some(AsciiKind::Alnum);
+        }
+        if spells(name, b"alpha") {
+            return Some(AsciiKind::Alpha);
+        }
+        if spells(name, b"ascii") {
+            return Some(AsciiKind::Ascii);
+        }
+        if spells(name, b"blank") {
+            return Some(AsciiKind::Blank);
+        }
+        if spells(name, b"cntrl") {
+            return Some(AsciiKind::Cntrl);
+        }
+        if spells(name, b"digit") {
+            return Some(AsciiKind::Digit);
+        }
+        if spells(name, b"graph") {
+            return Some(AsciiKind::Graph);
+        }
+        if spells(name, b"lower") {
+            return Some(AsciiKind::Lower);
+        }
+        if spells(name, b"print") {
+            return Some(AsciiKind::Print);
+        }
+        if spells(name, b"punct") {
+            return Some(AsciiKind::Punct);
+        }
+        if spells(name, b"space") {
+            return Some(AsciiKind::Space);
+        }
+        if spells(name, b"upper") {
+            return Some(AsciiKind::Upper);
+        }
+        if spells(name, b"word") {
+            return Some(AsciiKind::Word);
+        }
+        spells(name, b"xdigit").then_some(AsciiKind::Xdigit)
+    }
+}
+
+/// The members of an ASCII class.
+pub(crate) fn ascii_set(alloc: Global, kind: AsciiKind) -> Result<RangeSet, AllocError>
+    ensures { IfOk result (λ set. set_of set ≡ only_chars (ascii_set kind)) }
+{
+    RangeSet::from_ranges(alloc, ascii_ranges(kind))
+}
+
+/// The runs as ranges.
+fn ranges_of(alloc: Global, runs: &[(u32, u32)]) -> Result<Vec<Range>, AllocError>
+    ensures { IfOk result (λ v. pairs v.items ≡ runs.now) }
+{
+    let mut ranges = Vec::new(alloc);
+    for (first, last) in runs {
+        ranges.push(Range {
+            first: *first,
+            last: *last,
+        })?;
+    }
+    Ok(ranges)
+}
+
+/// The characters of the runs, which may hold surrogates.
+fn from_runs(alloc: Global, runs: &[(u32, u32)]) -> Result<RangeSet, AllocError>
+    ensures { (p : ℕ → Bool) → HasExactly runs.now p → IfOk result (λ set. set_of set ≡ only_chars p) }
+{
+    RangeSet::from_ranges(alloc, &ranges_of(alloc, runs)?)
+}
+
+/// The members of `\d`, `\s` or `\w`: of characters as Unicode has them, of bytes ASCII alone.
+pub(crate) fn perl_set(alloc: Global, kind: PerlKind, unicode: bool) -> Result<RangeSet, AllocError>
+    ensures { IfOk result (λ set. set_of set ≡ only_chars (perl_set kind unicode)) }
+{
+    match (kind, unicode) {
+        (PerlKind::Digit, true) => from_runs(alloc, &perl::digit_ranges(alloc)?),
+        (PerlKind::Space, true) => from_runs(alloc, &perl::space_ranges(alloc)?),
+        (PerlKind::Word, true) => from_runs(alloc, &perl::word_ranges(alloc)?),
+        (PerlKind::Digit, false) => ascii_set(alloc, AsciiKind::Digit),
+        (PerlKind::Space, false) => ascii_set(alloc, AsciiKind::Space),
+        (PerlKind::Word, false) => ascii_set(alloc, AsciiKind::Word),
+    }
+}
+
+/// The set of a property by its name, which is compared loosely.
+pub(crate) fn property_named(alloc: Global, name: &[char]) -> Result<Option<Set>, AllocError>
+    ensures { IfOk result (λ set. set ≡ property_named name.now) }
+{
+    let name = sets::normalize(alloc, name)?;
+    Ok(property_normalized(&name))
+}
+
+fn property_normalized(name: &[u8]) -> Option<Set>
+    ensures { result ≡ property_normalized name.now }
+{
+    if name == b"any".as_slice() {
+        return Some(Set::Any);
+    }
+    if name == b"ascii".as_slice() {
+        return Some(Set::Ascii);
+    }
+    if name == b"assigned".as_slice() {
+        return Some(Set::Assigned);
+    }
+    sets::by_name(name).ok()
+}
+
+/// The characters of a property's set.
+pub(crate) fn property_set(alloc: Global, set: Set) -> Result<RangeSet, AllocError>
+    ensures { IfOk result (λ chars. set_of chars ≡ only_chars (in_set set)) }
+{
+    from_runs(alloc, &set.ranges(alloc)?)
+}
+
+#[cfg(test)]
+mod tests;
