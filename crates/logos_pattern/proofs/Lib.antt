@@ -16,6 +16,7 @@ pub mod BuildLemmas
 pub mod Levels
 pub mod Reading
 pub mod MeasureLemmas
+pub mod PassableRows
 pub mod PropertyLemmas
 pub mod BracketTokens
 pub mod BracketLevels

@@ -1,6 +1,6 @@
 //! String literals with their values.
 
-ghost use Rattle.std.specs.Prelude.{◌≡◌, ◌<◌, ◌++◌, OnOk, IfOk, string_bytes};
+ghost use Rattle.std.specs.Prelude.{◌≡◌, ◌<◌, ◌++◌, OnOk, string_bytes};
 ghost use Rattle.std.specs.List.{flat_map};
 ghost use Rattle.std.specs.Str.{chars};
 ghost use Rattle.logos_pattern.specs.Escaping.{is_metacharacter, escaped_character, upper_digit, escaped_byte, escaped_bytes};
