@@ -27,5 +27,6 @@ pub mod JumpLemmas
 pub mod CharStepLemmas
 pub mod OweLemmas
 pub mod PrepareLemmas
+pub mod SeveralLemmas
 pub mod SameMembers
 pub mod OneFaults

@@ -21,5 +21,6 @@ pub mod Node
 pub mod IsCore
 pub mod Joined
 pub mod Run
+pub mod Several
 pub mod View
 pub mod Errors

@@ -12,5 +12,6 @@ mod marks;
 mod node;
 mod prepare;
 mod ranges;
+mod several;
 mod step;
 mod table;
