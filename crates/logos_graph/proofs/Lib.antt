@@ -50,3 +50,4 @@ pub mod EdgeFacts
 pub mod PruneLemmas
 pub mod KindLemmas
 pub mod TwinLemmas
+pub mod SeveralLemmas

@@ -21,6 +21,7 @@ pub mod Node
 pub mod IsCore
 pub mod Joined
 pub mod Run
+pub mod Several
 pub mod View
 pub mod Errors
 pub mod First

@@ -13,5 +13,6 @@ mod node;
 mod prepare;
 mod ranges;
 mod reduce;
+mod several;
 mod step;
 mod table;

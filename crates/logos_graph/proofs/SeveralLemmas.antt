@@ -1,0 +1,206 @@
+-- Steps on several patterns.
+use Rattle.std.proofs.Common.{◌≡◌, ℕ, zero, suc, ◌+◌, ◌-◌, ◌<◌, ◌≤◌, ◌↔◌, ◌⊎◌, Bool, true, false, IsTrue, List, [], ◌∷◌, ◌++◌, length, if◌then◌else◌, refl, sym, ap, ◌∙◌, subst, inl, inr, ⊎_elim, true≢false, arith}
+use Rattle.logos_graph.specs.Core.{Core, width, Exits, Steps}
+use Rattle.logos_graph.specs.Marks.{Has, IsSet, IsRising}
+use Rattle.logos_graph.specs.Run.{width_of, StepsIn, ExitsIn}
+use Rattle.logos_graph.specs.Several.{ReadBy, LeftBy, OwesPlaces, OwesNumbers}
+use Rattle.logos_graph.specs.Stepped.{Stepped}
+use Rattle.logos_pattern.specs.declared.pattern.hir.Look.{Look}
+use Rattle.std.proofs.Common.{get_or, drop, map, drop-cons, add-one}
+use Rattle.logos_graph.specs.Node.{core_of, is_measured, AreMeasured}
+use Rattle.logos_graph.specs.declared.node.Node.{Node}
+use Rattle.logos_graph.proofs.PlaceLemmas.{Exits-map, Steps-map}
+use Rattle.logos_graph.proofs.MarkLemmas.{Has-push, IsSet-push, IsSet-more}
+use Rattle.logos_graph.proofs.StepLemmas.{iff_trans, iff_sym, iff_refl, Exits-iff}
+use Rattle.logos_graph.proofs.SteppedLemmas.{Steps-below}
+
+pub StepsIn-map : (ts : List Core) (test : Look → Bool) (x : ℕ) (M N : ℕ → Type 0) (d e : Type 0) (p : ℕ) →
+    ((q : ℕ) → q < width_of ts → M q → N q) → (d → e) → StepsIn ts test x M d p → StepsIn ts test x N e p
+StepsIn-map [] test x M N d e p f g h = h
+StepsIn-map (t ∷ ts) test x M N d e p f g h =
+    ⊎_elim
+    (λ u. inl (u.0, Steps-map t test x M N d e p (λ q lt. f q (omega arith)) g u.1))
+    (λ u. inr (u.0, StepsIn-map ts test x (λ q. M (width t + q)) (λ q. N (width t + q)) d e (p - width t) (λ q lt. f (width t + q) (omega arith)) g u.1))
+    h
+
+pub ExitsIn-map : (ts : List Core) (k : ℕ) (test : Look → Bool) (M N : ℕ → Type 0) (d e : Type 0) →
+    ((q : ℕ) → q < width_of ts → M q → N q) → (d → e) → ExitsIn ts k test M d → ExitsIn ts k test N e
+ExitsIn-map [] k test M N d e f g h = h
+ExitsIn-map (t ∷ ts) zero test M N d e f g h = Exits-map t test M N d e (λ q lt. f q (omega arith)) g h
+ExitsIn-map (t ∷ ts) (suc k) test M N d e f g h =
+    ExitsIn-map ts k test (λ q. M (width t + q)) (λ q. N (width t + q)) d e (λ q lt. f (width t + q) (omega arith)) g h
+
+pub StepsIn-below : (ts : List Core) (test : Look → Bool) (x : ℕ) (M : ℕ → Type 0) (d : Type 0) (p : ℕ) → StepsIn ts test x M d p → p < width_of ts
+StepsIn-below [] test x M d p h = absurd h
+StepsIn-below (t ∷ ts) test x M d p h =
+    ⊎_elim (λ u. omega (arith, u.0)) (λ u. omega (arith, u.0, StepsIn-below ts test x _ d (p - width t) u.1)) h
+
+no_places : IsSet [] 0
+no_places = record {
+  rising = record { rise = λ i j lt inside. absurd (omega (arith, inside)) };
+  below = λ k inside. absurd (omega (arith, inside));
+}
+
+none_there : (q : ℕ) → Has [] q → ⊥
+none_there q h = let w = h.within in omega arith
+
+-- the numbers with one more, if it is one of them
+noted : List ℕ → ℕ → Bool → List ℕ
+noted numbers n is = if is then numbers ++ n ∷ [] else numbers
+
+noted_set : (numbers : List ℕ) (n : ℕ) (is : Bool) → IsSet numbers n → IsSet (noted numbers n is) (n + 1)
+unfolding noted
+noted_set numbers n true h = IsSet-push numbers n h
+noted_set numbers n false h = IsSet-more numbers n (n + 1) (omega arith) h
+
+noted_has : (numbers : List ℕ) (n : ℕ) (is : Bool) (k : ℕ) → Has (noted numbers n is) k ↔ (Has numbers k ⊎ ((k ≡ n) × IsTrue is))
+unfolding noted
+noted_has numbers n true k = (
+  λ h. ⊎_elim inl (λ e. inr (e, refl)) ((Has-push numbers n k).0 h),
+  λ s. (Has-push numbers n k).1 (⊎_elim inl (λ u. inr u.0) s),
+)
+noted_has numbers n false k = (inl, λ s. ⊎_elim (λ h. h) (λ u. absurd (true≢false (sym u.1))) s)
+
+module _ (test : Look → Bool) (M : ℕ → Type 0) (d : Type 0) where
+  pub owes_places_all : (ts : List Core) (x : ℕ) → OwesPlaces ts ts test x M d 0 []
+  owes_places_all ts x = record {
+    placed = omega arith;
+    set = no_places;
+    has = λ q. (
+      λ s. ⊎_elim (λ h. absurd (none_there q h)) (λ u. out q u.1) s,
+      λ h. inr (omega arith, into q h),
+    );
+  }
+    where
+      out : (q : ℕ) → StepsIn ts test x (λ p. M (0 + p)) d (q - 0) → StepsIn ts test x M d q
+      out q h = let z : q - 0 ≡ q = omega arith in subst (StepsIn ts test x M d) z (StepsIn-map ts test x (λ p. M (0 + p)) M d d (q - 0) (λ p lt. subst M (omega arith)) (λ u. u) h)
+
+      into : (q : ℕ) → StepsIn ts test x M d q → StepsIn ts test x (λ p. M (0 + p)) d (q - 0)
+      into q h = let z : q ≡ q - 0 = omega arith in subst (StepsIn ts test x (λ p. M (0 + p)) d) z (StepsIn-map ts test x M (λ p. M (0 + p)) d d q (λ p lt. subst M (omega arith)) (λ u. u) h)
+
+  pub owes_numbers_all : (ts : List Core) → OwesNumbers ts ts test M d 0 0 []
+  owes_numbers_all ts = record {
+    count = omega arith;
+    set = no_places;
+    has = λ k. (
+      λ s. ⊎_elim (λ h. absurd (none_there k h)) (λ u. out k u.1) s,
+      λ h. inr (omega arith, into k h),
+    );
+  }
+    where
+      out : (k : ℕ) → ExitsIn ts (k - 0) test (λ p. M (0 + p)) d → ExitsIn ts k test M d
+      out k h = let z : k - 0 ≡ k = omega arith in subst (λ j. ExitsIn ts j test M d) z (ExitsIn-map ts (k - 0) test (λ p. M (0 + p)) M d d (λ p lt. subst M (omega arith)) (λ u. u) h)
+
+      into : (k : ℕ) → ExitsIn ts k test M d → ExitsIn ts (k - 0) test (λ p. M (0 + p)) d
+      into k h = let z : k ≡ k - 0 = omega arith in subst (λ j. ExitsIn ts j test (λ p. M (0 + p)) d) z (ExitsIn-map ts k test M (λ p. M (0 + p)) d d (λ p lt. subst M (omega arith)) (λ u. u) h)
+
+  pub owes_places_none : (ts : List Core) (x base : ℕ) (places : List ℕ) → OwesPlaces ts [] test x M d base places → ReadBy ts test x M d places
+  owes_places_none ts x base places o = record {
+    set = IsSet-more places base (width_of ts) (omega (arith, o.placed)) o.set;
+    has = λ q. (λ h. (o.has q).0 (inl h), λ h. ⊎_elim (λ u. u) (λ u. absurd u.1) ((o.has q).1 h));
+  }
+
+  pub owes_numbers_none : (ts : List Core) (base n : ℕ) (numbers : List ℕ) → OwesNumbers ts [] test M d base n numbers → LeftBy ts test M d numbers
+  owes_numbers_none ts base n numbers o = record {
+    set = IsSet-more numbers n (length ts) (omega (arith, o.count)) o.set;
+    has = λ k. (λ h. (o.has k).0 (inl h), λ h. ⊎_elim (λ u. u) (λ u. absurd u.1) ((o.has k).1 h));
+  }
+
+  -- one more pattern is asked
+  pub owes_numbers_step : (ts rest : List Core) (t : Core) (base n : ℕ) (numbers new : List ℕ) (left : Bool) →
+      OwesNumbers ts (t ∷ rest) test M d base n numbers → IsTrue left ↔ Exits t test (λ p. M (base + p)) d →
+      new ≡ (if left then numbers ++ n ∷ [] else numbers) → OwesNumbers ts rest test M d (base + width t) (n + 1) new
+  unfolding noted
+  owes_numbers_step ts rest t base n numbers new left o leaves is = record {
+    count = omega (arith, o.count);
+    set = rw is (noted_set numbers n left o.set);
+    has = λ k. (
+      λ s. (o.has k).0 (⊎_elim
+          (λ h. ⊎_elim inl (λ u. inr (omega (arith, u.0), first k u.0 (leaves.0 u.1))) ((noted_has numbers n left k).0 (rw is at h)))
+          (λ u. inr (omega (arith, u.0), later k u.0 u.1)) s),
+      λ h. ⊎_elim
+          (λ u. inl (rw is ((noted_has numbers n left k).1 (inl u))))
+          (λ u. back k u.0 u.1)
+          ((o.has k).1 h),
+    );
+  }
+    where
+      first : (k : ℕ) → k ≡ n → Exits t test (λ p. M (base + p)) d → ExitsIn (t ∷ rest) (k - n) test (λ p. M (base + p)) d
+      first k e h = let z : 0 ≡ k - n = omega (arith, e) in subst (λ j. ExitsIn (t ∷ rest) j test (λ p. M (base + p)) d) z h
+
+      later : (k : ℕ) → n + 1 ≤ k → ExitsIn rest (k - (n + 1)) test (λ p. M (base + width t + p)) d → ExitsIn (t ∷ rest) (k - n) test (λ p. M (base + p)) d
+      later k le h =
+          let z : suc (k - (n + 1)) ≡ k - n = omega (arith, le) in
+          subst (λ j. ExitsIn (t ∷ rest) j test (λ p. M (base + p)) d) z
+          (ExitsIn-map rest (k - (n + 1)) test (λ p. M (base + width t + p)) (λ p. M (base + (width t + p))) d d (λ q lt. subst M (omega arith)) (λ u. u) h)
+
+      back : (k : ℕ) → n ≤ k → ExitsIn (t ∷ rest) (k - n) test (λ p. M (base + p)) d →
+          Has new k ⊎ ((n + 1 ≤ k) × ExitsIn rest (k - (n + 1)) test (λ p. M (base + width t + p)) d)
+      back k le h = go (k - n) refl h
+        where
+          go : (j : ℕ) → k - n ≡ j → ExitsIn (t ∷ rest) j test (λ p. M (base + p)) d → Has new k ⊎ ((n + 1 ≤ k) × ExitsIn rest (k - (n + 1)) test (λ p. M (base + width t + p)) d)
+          go zero e h = inl (rw is ((noted_has numbers n left k).1 (inr (omega (arith, e, le), leaves.1 h))))
+          go (suc j) e h =
+              let z : j ≡ k - (n + 1) = omega (arith, e) in
+              inr (omega (arith, e), subst (λ j. ExitsIn rest j test (λ p. M (base + width t + p)) d) z
+              (ExitsIn-map rest j test (λ p. M (base + (width t + p))) (λ p. M (base + width t + p)) d d (λ q lt. subst M (omega arith)) (λ u. u) h))
+
+-- one more pattern reads
+pub owes_places_step : (test : Look → Bool) (marks : List ℕ) (entered left : Bool) (ts rest : List Core) (t : Core) (x base : ℕ) (places new : List ℕ) →
+    OwesPlaces ts (t ∷ rest) test x (Has marks) (IsTrue entered) base places → Stepped t test x marks places new base entered left →
+    OwesPlaces ts rest test x (Has marks) (IsTrue entered) (base + width t) new
+owes_places_step test marks entered left ts rest t x base places new o s = record {
+  placed = omega (arith, o.placed);
+  set = s.set;
+  has = λ q. (
+    λ u. (o.has q).0 (⊎_elim
+        (λ h. ⊎_elim inl (λ v. inr (v.0, inl (below q v.0 v.1, v.1))) ((s.has q).0 h))
+        (λ v. inr (omega (arith, v.0), inr (omega (arith, v.0), later q v.0 v.1))) u),
+    λ h. ⊎_elim
+        (λ v. inl ((s.has q).1 (inl v)))
+        (λ v. ⊎_elim
+        (λ w. inl ((s.has q).1 (inr (v.0, w.1))))
+        (λ w. inr (omega (arith, v.0, w.0), back q v.0 w.0 w.1)) v.1)
+        ((o.has q).1 h),
+  );
+}
+  where
+    M : ℕ → Type 0
+    M = Has marks
+
+    below : (q : ℕ) → base ≤ q → Steps t test x (λ p. Has marks (base + p)) (IsTrue entered) (q - base) → q - base < width t
+    below q le h = Steps-below t test x (λ p. Has marks (base + p)) (IsTrue entered) (q - base) h
+
+    later : (q : ℕ) → base + width t ≤ q → StepsIn rest test x (λ p. Has marks (base + width t + p)) (IsTrue entered) (q - (base + width t)) →
+        StepsIn rest test x (λ p. Has marks (base + (width t + p))) (IsTrue entered) (q - base - width t)
+    later q le h =
+        let z : q - (base + width t) ≡ q - base - width t = omega arith in
+        subst (StepsIn rest test x (λ p. Has marks (base + (width t + p))) (IsTrue entered)) z
+        (StepsIn-map rest test x (λ p. Has marks (base + width t + p)) (λ p. Has marks (base + (width t + p))) (IsTrue entered) (IsTrue entered) (q - (base + width t))
+        (λ q lt. subst (Has marks) (omega arith)) (λ u. u) h)
+
+    back : (q : ℕ) → base ≤ q → width t ≤ q - base → StepsIn rest test x (λ p. Has marks (base + (width t + p))) (IsTrue entered) (q - base - width t) →
+        StepsIn rest test x (λ p. Has marks (base + width t + p)) (IsTrue entered) (q - (base + width t))
+    back q le more h =
+        let z : q - base - width t ≡ q - (base + width t) = omega arith in
+        subst (StepsIn rest test x (λ p. Has marks (base + width t + p)) (IsTrue entered)) z
+        (StepsIn-map rest test x (λ p. Has marks (base + (width t + p))) (λ p. Has marks (base + width t + p)) (IsTrue entered) (IsTrue entered) (q - base - width t)
+        (λ q lt. subst (Has marks) (omega arith)) (λ u. u) h)
+
+-- the first of the nodes that are left
+module _ (nodes : List Node) (i : ℕ) (node : Node) (lt : i < length nodes) (is : node ≡ get_or nodes i node) where
+  next_node : drop i nodes ≡ node ∷ drop (i + 1) nodes
+  next_node =
+      let e : drop i nodes ≡ get_or nodes i node ∷ drop (i + 1) nodes = drop-cons nodes i node lt ∙ ap (λ k. get_or nodes i node ∷ drop k nodes) (sym (add-one i)) in
+      e ∙ ap (λ n. n ∷ drop (i + 1) nodes) (sym is)
+
+  pub next_core : map core_of (drop i nodes) ≡ core_of node ∷ map core_of (drop (i + 1) nodes)
+  next_core = ap (map core_of) next_node
+
+  pub next_measured : AreMeasured nodes → IsTrue (is_measured node)
+  next_measured h = go nodes i lt is h
+    where
+      go : (nodes : List Node) (i : ℕ) → i < length nodes → node ≡ get_or nodes i node → AreMeasured nodes → IsTrue (is_measured node)
+      go [] i lt is h = absurd (omega (arith, lt))
+      go (n ∷ nodes) zero lt is h = subst (λ n. IsTrue (is_measured n)) (sym is) h.0
+      go (n ∷ nodes) (suc i) lt is h = go nodes i (omega (arith, lt)) is h.1
