@@ -33,3 +33,5 @@ pub mod EdgeFacts
 pub mod PruneLemmas
 pub mod KindLemmas
 pub mod TwinLemmas
+pub mod HistoryLemmas
+pub mod HitLemmas

@@ -6,6 +6,7 @@ mod lists;
 mod marks;
 mod order;
 mod prune;
+mod refine;
 mod rows;
 mod table;
 mod twins;
