@@ -35,3 +35,4 @@ pub mod KindLemmas
 pub mod TwinLemmas
 pub mod HistoryLemmas
 pub mod HitLemmas
+pub mod MergeLemmas

@@ -4,6 +4,7 @@ mod blocks;
 mod hints;
 mod lists;
 mod marks;
+mod merge;
 mod order;
 mod prune;
 mod refine;
