@@ -36,3 +36,4 @@ pub mod TwinLemmas
 pub mod HistoryLemmas
 pub mod HitLemmas
 pub mod MergeLemmas
+pub mod NumberLemmas

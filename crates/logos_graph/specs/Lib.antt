@@ -23,3 +23,4 @@ pub mod Reduce
 pub mod MergeLists
 pub mod ReduceOrder
 pub mod Merge
+pub mod ReduceNumber

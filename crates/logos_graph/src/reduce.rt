@@ -5,6 +5,7 @@ mod hints;
 mod lists;
 mod marks;
 mod merge;
+mod number;
 mod order;
 mod prune;
 mod refine;
