@@ -1,5 +1,6 @@
 -- Where the edges of a table are.
-use Rattle.std.proofs.Common.{◌≡◌, ℕ, ◌<◌, ◌≤◌, length, Option, None, Some, arith}
+use Rattle.std.proofs.Common.{◌≡◌, ℕ, ◌<◌, ◌≤◌, length, Option, None, Some, option_map, refl, arith}
+use Rattle.logos_graph.specs.Merge.{led}
 use Rattle.logos_graph.specs.Reduce.{size, to}
 use Rattle.logos_graph.specs.RowsKept.{rows_of}
 use Rattle.logos_graph.specs.declared.reduce.table.Table.{Table}
@@ -18,3 +19,18 @@ edge_symbol table s k t e =
 
 pub no_edge : (table : Table) (s k : ℕ) → size table ≤ s → to table s k ≡ None
 no_edge table s k l = let n = table.same_len in no_source (rows_of table.rows) s k (omega arith)
+
+-- the block of a target
+pub led_symbol : (table : Table) (block : ℕ → ℕ) (s k b : ℕ) → led table block s k ≡ Some b → k < 257
+led_symbol table block s k b e = go (to table s k) refl e
+  where
+    go : (o : Option ℕ) → to table s k ≡ o → option_map block o ≡ Some b → k < 257
+    go None q e = absurd (cc)
+    go (Some t) q e = edge_symbol table s k t q
+
+pub led_target : (table : Table) (block : ℕ → ℕ) (s k b : ℕ) → led table block s k ≡ Some b → (t : ℕ) × (to table s k ≡ Some t) × (t < size table) × (block t ≡ b)
+led_target table block s k b e = go (to table s k) refl e
+  where
+    go : (o : Option ℕ) → to table s k ≡ o → option_map block o ≡ Some b → (t : ℕ) × (to table s k ≡ Some t) × (t < size table) × (block t ≡ b)
+    go None q e = absurd (cc)
+    go (Some t) q e = (t, q, (edge_within table s k t q).1, let same : block t ≡ b = cc in same)

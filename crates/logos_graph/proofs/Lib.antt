@@ -51,3 +51,7 @@ pub mod PruneLemmas
 pub mod KindLemmas
 pub mod TwinLemmas
 pub mod SeveralLemmas
+pub mod HistoryLemmas
+pub mod HitLemmas
+pub mod MergeLemmas
+pub mod NumberLemmas

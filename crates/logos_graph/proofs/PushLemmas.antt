@@ -1,5 +1,5 @@
 -- Lists that a loop fills.
-use Rattle.std.proofs.Common.{◌≡◌, ℕ, ◌+◌, ◌<◌, ◌≤◌, ◌⊎◌, inl, inr, List, [], ◌∷◌, ◌++◌, length, slice_index_or, slice_set, refl, sym, ◌∙◌, ap, subst, arith, get_or-set_same, get_or-set_other}
+use Rattle.std.proofs.Common.{◌≡◌, ℕ, ◌+◌, ◌<◌, ◌≤◌, ◌⊎◌, inl, inr, List, [], ◌∷◌, ◌++◌, length, slice_index_or, slice_set, refl, sym, ◌∙◌, ap, subst, arith, length-append}
 use Rattle.std.proofs.lemmas.List.{get_or_append_left, get_or_push, get_or_past, get_or-replicate, length-replicate}
 use Rattle.std.proofs.Math.ListN.{replicate}
 use Rattle.std.proofs.lemmas.Bool.{cases_lt}
@@ -23,3 +23,6 @@ filled n i x = go (cases_lt i n)
     go : (i < n) ⊎ (n ≤ i) → slice_index_or (replicate n x) i x ≡ x
     go (inl l) = get_or-replicate n i x x l
     go (inr l) = get_or_past (replicate n x) i x (let e = length-replicate n x in omega arith)
+
+pub length_pushed : {A : Type 0} (xs ys : List A) (x : A) (n : ℕ) → ys ≡ xs ++ x ∷ [] → length xs ≡ n → length ys ≡ n + 1
+length_pushed xs ys x n e l = ap length e ∙ length-append xs (x ∷ []) ∙ ap (λ m. m + 1) l

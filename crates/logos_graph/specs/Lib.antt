@@ -32,3 +32,4 @@ pub mod Reduce
 pub mod MergeLists
 pub mod ReduceOrder
 pub mod Merge
+pub mod ReduceNumber

@@ -1,5 +1,5 @@
 -- States in blocks, and how blocks were split.
-use Rattle.std.specs.Prelude.{◌≡◌, ◌≢◌, ◌+◌, ◌<◌, ◌≤◌, ◌⊎◌, ℕ, List, [], ◌∷◌, nat_lt, if◌then◌else◌, Option, Some, None, option_map, length, slice_get, slice_index, slice_index_or}
+use Rattle.std.specs.Prelude.{◌≡◌, ◌≢◌, ◌+◌, ◌<◌, ◌≤◌, ◌⊎◌, ℕ, List, [], ◌∷◌, zero, suc, ◌==◌, nat_lt, if◌then◌else◌, Option, Some, None, option_map, length, slice_get, slice_index, slice_index_or}
 use Rattle.logos_graph.specs.Reduce.{size, to, mark}
 use Rattle.logos_graph.specs.declared.reduce.blocks.Split.{Split}
 use Rattle.logos_graph.specs.declared.reduce.table.Mark.{Mark}
@@ -99,3 +99,26 @@ pub record IsExtension (table : Table) (splits more : List Split) (old new : ℕ
   pub older : (j : ℕ) → length splits ≤ j → j < length more → (split_at more j).parent < length splits
   pub parted : (j s t : ℕ) → length splits ≤ j → j < length more → s < size table → t < size table → new s ≡ j → new t ≢ j → old t ≡ (split_at more j).parent →
       ArePartedBy table old (split_at more j).symbol s t
+
+-- each state's block has a leader in it
+abbrev pub AreLeaders : ℕ → (ℕ → ℕ) → (ℕ → ℕ) → Type 0
+AreLeaders n block leader = (s : ℕ) → s < n → (leader (block s) < n) × (block (leader (block s)) ≡ block s)
+
+-- a state is alone in a new block, with those of its block that lead where it leads, or stays where it was
+abbrev pub IsHalf : ℕ → Option ℕ → ℕ → ℕ → Option ℕ → ℕ → Type 0
+IsHalf home to fresh block led new = ((block ≡ home) × (led ≡ to) × (new ≡ fresh)) ⊎ (((block ≢ home) ⊎ (led ≢ to)) × (new ≡ block))
+
+-- The blocks are sound, and each state leads by each symbol to the block to which the leader of its block does.
+pub record IsMerged (table : Table) (splits : List Split) (block leader : ℕ → ℕ) : Type 0 where
+  pub sound : IsSound table splits block
+  pub leaders : AreLeaders (size table) block leader
+  pub alike : (s k : ℕ) → s < size table → led table block s k ≡ led table block (leader (block s)) k
+
+-- the sum of a function at the first numbers
+abbrev pub sum_below : ℕ → (ℕ → ℕ) → ℕ
+sum_below zero f = 0
+sum_below (suc n) f = f n + sum_below n f
+
+-- how many pairs of states are in one block
+abbrev pub pairs_together : ℕ → (ℕ → ℕ) → ℕ
+pairs_together n block = sum_below n (λ s. sum_below n (λ t. if block s == block t then 1 else 0))

@@ -30,7 +30,19 @@ fn ends_with(list: &Vec<usize>, s: usize) -> bool
     }
 }
 
-/// Adds a state to a list, unless it is the last one there.
+/// Adds a number to a list, unless it is the last one there.
+pub fn add(list: &mut Vec<usize>, s: usize) -> Result<(), AllocError>
+    ensures has { OnOk result (has list.new.items s ≡ true) }
+    ensures kept { (t : ℕ) → has list.old.items t ≡ true → has list.new.items t ≡ true }
+    ensures only { (t : ℕ) → has list.new.items t ≡ true → (has list.old.items t ≡ true) ⊎ (t ≡ s) }
+{
+    if !ends_with(list, s) {
+        list.push(s)?;
+    }
+    Ok(())
+}
+
+/// Adds a state to the list at an index, unless it is the last one there.
 pub fn file(lists: &mut Vec<Vec<usize>>, b: usize, s: usize) -> Result<(), AllocError>
     requires { b < vec_len lists.old }
     ensures len { vec_len lists.new ≡ vec_len lists.old }
@@ -38,10 +50,7 @@ pub fn file(lists: &mut Vec<Vec<usize>>, b: usize, s: usize) -> Result<(), Alloc
     ensures kept { (c t : ℕ) → has_in lists.old.items c t ≡ true → has_in lists.new.items c t ≡ true }
     ensures only { (c t : ℕ) → has_in lists.new.items c t ≡ true → (has_in lists.old.items c t ≡ true) ⊎ ((c ≡ b) × (t ≡ s)) }
 {
-    if ends_with(&lists[b], s) {
-        return Ok(());
-    }
-    lists[b].push(s)?;
+    add(&mut lists[b], s)?;
     Ok(())
 }
 

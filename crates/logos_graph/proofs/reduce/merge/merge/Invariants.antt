@@ -1,0 +1,10 @@
+use Rattle.std.proofs.Common.{◌≡◌, vec_len, slice_index}
+use Rattle.logos_graph.specs.Merge.{IsSound, pairs_together}
+use Rattle.logos_graph.specs.Reduce.{size}
+use Rattle.logos_graph.proofs.reduce.merge.merge.Given as goal
+
+abbrev pub invariant-loop-blocks : goal.invariant-loop-blocks
+invariant-loop-blocks l = (vec_len l.blocks.of ≡ size l.table) × IsSound l.table l.blocks.splits.items (slice_index l.blocks.of.items)
+
+abbrev pub decreases-loop-blocks : goal.decreases-loop-blocks
+decreases-loop-blocks l = pairs_together (size l.table) (slice_index l.blocks.of.items)
