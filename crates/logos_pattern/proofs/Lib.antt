@@ -22,3 +22,5 @@ pub mod BracketLevels
 pub mod BracketTexts
 pub mod FoldLemmas
 pub mod SetLemmas
+pub mod Shorter
+pub mod BracketAnswers

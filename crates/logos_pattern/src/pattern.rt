@@ -2,6 +2,7 @@
 
 mod bracket;
 mod bracket_read;
+mod bracket_reading;
 mod bracket_set;
 mod bracket_token;
 pub mod error;
