@@ -24,3 +24,4 @@ pub mod FoldLemmas
 pub mod SetLemmas
 pub mod Shorter
 pub mod BracketAnswers
+pub mod Depth

@@ -29,3 +29,4 @@ pub mod Machine
 pub mod BracketRead
 pub mod BracketMachine
 pub mod BracketView
+pub mod MachineView

@@ -14,6 +14,8 @@ mod token;
 mod token_escape;
 mod token_group;
 mod token_number;
+mod machine;
+mod machine_atom;
 mod measure;
 mod property;
 
