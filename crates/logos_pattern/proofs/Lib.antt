@@ -25,3 +25,5 @@ pub mod SetLemmas
 pub mod Shorter
 pub mod BracketAnswers
 pub mod Depth
+pub mod NameLemmas
+pub mod Texts

@@ -4,10 +4,12 @@ use Rattle.logos_pattern.specs.declared.pattern.token.Atom.{Atom}
 use Rattle.logos_pattern.specs.declared.pattern.bracket_token.Symbol.{Symbol}
 use Rattle.logos_pattern.specs.declared.pattern.bracket_token.Lead.{Lead}
 use Rattle.logos_pattern.specs.declared.pattern.bracket_token.BracketToken.{BracketToken}
+use Rattle.logos_pattern.specs.declared.pattern.bracket_token.BracketToken.TheVariants.{Close}
+use Rattle.logos_pattern.specs.Bracket.{Bracket, bracket}
 use Rattle.logos_pattern.specs.Token.{Text, Token, token_view}
 use Rattle.logos_pattern.specs.TokenGroup.{token_at}
 use Rattle.logos_pattern.specs.Spelling.{Escapes, single, two_digits, four_digits, eight_digits, any_digits, boundary, property, named_property, Counts, star, plus, question, exactly, at_least, between, Takes, bare, escaped, dot, caret, dollar, branch, open_capture, open_named, open_python, open_plain, open_flags, setting, close_group, greedy, lazy}
-use Rattle.logos_pattern.specs.BracketSpelling.{Symbols, plain, escaped as escaped_symbol, escaped_byte, class_text, Leads, dashes, one_bracket, Opens, positive, negative, BracketTakes, closes, operator, class, opens, one, range, perl, property as property_item}
+use Rattle.logos_pattern.specs.BracketSpelling.{Symbols, plain, escaped as escaped_symbol, escaped_byte, class_text, Leads, dashes, one_bracket, Opens, positive, negative, BracketTakes, BracketCuts, Encloses, operands_tokens, closes, operator, class, opens, one, range, perl, property as property_item}
 use Rattle.logos_pattern.specs.BracketRead.{bracket_token_at}
 use Rattle.logos_pattern.proofs.Picks.{IsTaken}
 use Rattle.logos_pattern.proofs.TokenLemmas.{is_taken}
@@ -57,7 +59,7 @@ some_count s least most (exactly ds n w) = omega arith
 some_count s least most (at_least ds n w) = omega arith
 some_count s least most (between ds es n m w v le) = omega arith
 
-takes_some : (t : Token) (text rest : Text) → Takes t text rest → length rest < length text
+pub takes_some : (t : Token) (text rest : Text) → Takes t text rest → length rest < length text
 takes_some t text rest (bare c tail e) = omega arith
 takes_some t text rest (escaped a inner tail e) = let h = escapes_some a inner tail e in omega arith
 takes_some t text rest (dot tail) = omega arith
@@ -76,3 +78,13 @@ takes_some t text rest (lazy s tail least most k) = omega (arith, some_count s l
 
 pub shorter : (text rest : Text) (t : Token) → token_at text ≡ Some (t, rest) → length rest < length text
 shorter text rest t e = let h = subst (IsTaken Takes text) e (is_taken text) in takes_some t text rest h
+
+cuts_some : (ts : List BracketToken) (text rest : Text) → BracketCuts text ts rest → length rest ≤ length text
+cuts_some [] text rest same = let e = ap length same in omega arith
+cuts_some (t ∷ ts) text rest h = let k = bracket_some t text h.0 h.1 in let l = cuts_some ts h.0 rest h.2 in omega arith
+
+pub encloses_some : (b : Bracket) (text rest : Text) → Encloses b text rest → length rest ≤ length text
+encloses_some (bracket negated lead inside) text rest h =
+    let k = opens_some negated lead text h.0 h.1 in
+    let l = cuts_some (operands_tokens inside ++ Close ∷ []) h.0 rest h.2 in
+    omega arith

@@ -30,3 +30,5 @@ pub mod BracketRead
 pub mod BracketMachine
 pub mod BracketView
 pub mod MachineView
+pub mod MachineNames
+pub mod MachineReading

@@ -18,6 +18,8 @@ mod machine;
 mod machine_atom;
 mod measure;
 mod property;
+mod reading;
+mod reading_names;
 
 pub use error::{Kind, PatternError};
 pub use hir::{Class, Hir, Look, Range};
