@@ -13,9 +13,10 @@ use Rattle.logos_pattern.specs.BracketSpelling.{operands_tokens, BracketTakes, B
 use Rattle.logos_pattern.specs.BracketSet.{bracket_set, item_fits, TokensFit, BracketFits, bracket_depth, operands_depth}
 use Rattle.logos_pattern.specs.BracketRead.{open_at, bracket_token_at}
 use Rattle.logos_pattern.specs.BracketMachine.{Frame, Frames, whole, close, bracket_step, opened}
+use Rattle.logos_pattern.specs.BracketView.{MayStand}
 use Rattle.logos_pattern.proofs.Picks.{IsTaken}
 use Rattle.logos_pattern.proofs.BracketTokens.{open_is, bracket_token_taken, bracket_token_is}
-use Rattle.logos_pattern.proofs.BracketLevels.{Level, Stack, bottom, over, Place, frames_of, size, starting, advance, walk, walk_more, walked, tokens_at, outermost, level_inside, level_bracket, inside_depth, depth_inside, place_of, inside-place_of, operands_walk, step_is, whole_of}
+use Rattle.logos_pattern.proofs.BracketLevels.{Level, Stack, bottom, over, Place, frames_of, size, starting, advance, walk, walk_more, Walked, walked, tokens_at, outermost, level_inside, level_bracket, inside_depth, depth_inside, place_of, inside-place_of, operands_walk, step_is, whole_of}
 
 -- ---- lists
 
@@ -278,3 +279,74 @@ too_deep flags base negated lead text here after p n d h e deep inside rest k =
 
 pub too_deep_at_once : (base : ℕ) (b : Bracket) → 250 ≤ base → 250 < base + bracket_depth b
 too_deep_at_once base (bracket n d os) h = omega arith
+
+-- ---- what a reader has read
+
+-- the inside of the bracket up to a place, and the frames there
+pub record InBracket (flags : Flags) (base : ℕ) (negated : Bool) (lead : Lead) (text here : Text) (s : Frames) : Type 0 where
+  pub place : Place
+  pub walked_to : HasWalked negated lead text here place
+  pub fits : TokensFit flags walked_to.tokens
+  pub frames : s ≡ frames_of flags base place
+
+pub at_opening : (flags : Flags) (base : ℕ) (negated : Bool) (lead : Lead) (text : Text) (s : Frames) → s ≡ record { top = opened negated lead (base + 1); below = [] } → InBracket flags base negated lead text text s
+at_opening flags base negated lead text s e = record {
+  place = starting negated lead bottom;
+  walked_to = record { tokens = []; cut = refl; walks = refl };
+  fits = tt;
+  frames = e ∙ ap (λ (n : ℕ). record { top = opened negated lead n; below = [] }) (let m : base + 1 ≡ base + 0 + 1 + 0 = omega arith in m);
+}
+
+fits_more : (flags : Flags) (ts : List BracketToken) (t : BracketToken) → TokensFit flags ts → MayStand flags t → TokensFit flags (ts ++ t ∷ [])
+fits_more flags [] (Item item) f m = (m, tt)
+fits_more flags [] (Open n d) f m = tt
+fits_more flags [] (Operator op) f m = tt
+fits_more flags [] Close f m = tt
+fits_more flags (Item item ∷ ts) t f m = (f.0, fits_more flags ts t f.1 m)
+fits_more flags (Open n d ∷ ts) t f m = fits_more flags ts t f m
+fits_more flags (Operator op ∷ ts) t f m = fits_more flags ts t f m
+fits_more flags (Close ∷ ts) t f m = fits_more flags ts t f m
+
+pub one_step : (flags : Flags) (base : ℕ) (negated : Bool) (lead : Lead) (text here after : Text) (s u : Frames) (t : BracketToken) → InBracket flags base negated lead text here s → bracket_token_at here ≡ Some (t, after) →
+    MayStand flags t → bracket_step flags base s t ≡ Some u → InBracket flags base negated lead text after u
+one_step flags base negated lead text here after s u t r e may moves =
+    from (advance r.place t) refl (sym (step_is flags base r.place t) ∙ ap (λ (x : Frames). bracket_step flags base x t) (sym r.frames) ∙ moves)
+  where
+    from : (o : Option Place) → advance r.place t ≡ o → option_map (frames_of flags base) o ≡ Some u → InBracket flags base negated lead text after u
+    from None is h = absurd cc
+    from (Some q) is h = record {
+      place = q;
+      walked_to = record {
+        tokens = r.walked_to.tokens ++ t ∷ [];
+        cut = cuts_more text r.walked_to.tokens here t after r.walked_to.cut (taken here after t e);
+        walks = walk_more (starting negated lead bottom) r.walked_to.tokens (t ∷ []) ∙ ap (option_and_then (λ x. walk x (t ∷ []))) r.walked_to.walks ∙ ap (option_and_then (λ x. walk x [])) is;
+      };
+      fits = fits_more flags r.walked_to.tokens t r.fits may;
+      frames = (let same : frames_of flags base q ≡ u = cc in sym same);
+    }
+
+-- the end of the whole bracket
+pub record Closed (flags : Flags) (base : ℕ) (negated : Bool) (lead : Lead) (text after : Text) (s : Frames) : Type 0 where
+  pub inside : Operands
+  pub cut : BracketCuts text (operands_tokens inside ++ Close ∷ []) after
+  pub fits : BracketFits flags (bracket negated lead inside)
+  pub is_set : whole flags s.top ≡ bracket_set flags (bracket negated lead inside)
+  pub is_depth : s.top.inner ≡ base + bracket_depth (bracket negated lead inside)
+
+pub closed : (flags : Flags) (base : ℕ) (negated : Bool) (lead : Lead) (text here after : Text) (s : Frames) → InBracket flags base negated lead text here s → s.below ≡ [] → bracket_token_at here ≡ Some (Close, after) → Closed flags base negated lead text after s
+closed flags base negated lead text here after s r last e = from r.place.level r.place.stack r.frames (walked (starting negated lead bottom) r.walked_to.tokens r.place r.walked_to.walks) refl refl
+  where
+    from : (l : Level) (k : Stack) → s ≡ frames_of flags base (record { level = l; stack = k }) → Walked (starting negated lead bottom) r.walked_to.tokens r.place → r.place.level ≡ l → r.place.stack ≡ k → Closed flags base negated lead text after s
+    from l (over k outer) frames w el ek = let h = ap (λ (x : Frames). x.below) frames in absurd cc
+    from l bottom frames w el ek =
+        let tokens : operands_tokens (level_inside l) ≡ r.walked_to.tokens = ap (λ (x : Level). tokens_at x bottom) (sym el) ∙ ap (tokens_at r.place.level) (sym ek) ∙ w.tokens in
+        let same : ◌≡◌ {A = Bool × Lead} (l.negated, l.lead) (negated, lead) = ap (λ (x : Level). outermost x bottom) (sym el) ∙ ap (outermost r.place.level) (sym ek) ∙ w.same in
+        let b : bracket l.negated l.lead (level_inside l) ≡ bracket negated lead (level_inside l) = ap (λ (x : Bool × Lead). bracket x.0 x.1 (level_inside l)) same in
+        record {
+          inside = level_inside l;
+          cut = subst (λ x. BracketCuts text (x ++ Close ∷ []) after) (sym tokens) (cuts_more text r.walked_to.tokens here Close after r.walked_to.cut (taken here after Close e));
+          fits = subst (TokensFit flags) (ap (λ (x : List BracketToken). x ++ Close ∷ []) (sym tokens)) (fits_more flags r.walked_to.tokens Close r.fits tt);
+          is_set = ap (λ (x : Frames). whole flags x.top) frames ∙ whole_of flags (base + 0 + 1) l ∙ ap (bracket_set flags) b;
+          is_depth = ap (λ (x : Frames). x.top.inner) frames ∙ (let d = depth_inside l.before l.members in omega arith);
+        }
+

@@ -1,5 +1,5 @@
 -- What the builders build, step by step.
-use Rattle.std.proofs.Common.{◌≡◌, ℕ, ◌<◌, ◌≤◌, Bool, true, false, cond, List, [], ◌∷◌, ◌++◌, map, length, Option, Some, None, unwrap_or, option_map, flat_map, encode_utf8, refl, sym, ap, ap₂, ◌∙◌, append_assoc, append-nil, arith}
+use Rattle.std.proofs.Common.{◌≡◌, ℕ, ◌<◌, Bool, true, false, cond, List, [], ◌∷◌, ◌++◌, map, length, Option, Some, None, unwrap_or, option_map, flat_map, encode_utf8, refl, sym, ap, ◌∙◌, append_assoc, append-nil, arith}
 use Rattle.std.proofs.lemmas.Bool.{leb-true, and_parts, both_ways}
 use Rattle.std.proofs.Common.{Vec, Global}
 use Rattle.std.proofs.lemmas.List.{map_push}
@@ -8,16 +8,15 @@ use Rattle.std.proofs.lemmas.Grind.{flat_map-append}
 use Rattle.logos_pattern.specs.declared.pattern.hir.Hir.{Hir}
 use Rattle.logos_pattern.specs.declared.pattern.hir.Hir.TheVariants.{Alternation}
 use Rattle.logos_pattern.specs.declared.pattern.hir.Class.TheVariants.{Bytes, Characters}
-use Rattle.logos_pattern.specs.Hir.{tree_of, pairs}
+use Rattle.logos_pattern.specs.Hir.{tree_of}
 use Rattle.logos_pattern.proofs.TreeViews.{Kind, kind, is_empty, is_literal, is_class, is_look, is_repetition, is_capture, is_concat, is_alternation, tree-Empty, tree-Literal, tree-Class, tree-Look, tree-Repetition, tree-Capture, tree-Concat}
 use Rattle.std.proofs.Common.{get_or, chars}
 use Rattle.std.specs.Str.{is_utf8, IsUtf8}
 use Rattle.std.proofs.lemmas.Str.{IsUtf8-from_is_utf8, is_utf8-from_IsUtf8}
-use lib.Utf8.{scalar}
-use Rattle.logos_pattern.specs.Tree.{Tree, empty, literal, byte_class, char_class, look, repetition, capture, concat, alternation, Trees, trees}
-use Rattle.logos_pattern.specs.Class.{Set, members, intersection, in_range, AreCanonical, char_ranges, byte_ranges}
+use Rattle.logos_pattern.specs.Tree.{Tree, empty, literal, byte_class, char_class, look, repetition, capture, concat, alternation, trees}
+use Rattle.logos_pattern.specs.Class.{Set, members, intersection, in_range, AreCanonical}
 use Rattle.logos_pattern.specs.Build.{sole_item, sole_char, chars_or, choice_of, all_ranges, char_ranges_of, list_of, branches_of, join, with_text, joined, in_a_row, sole_member, char_tree, byte_tree, one_char_of, one_byte_of}
-use Rattle.logos_pattern.specs.BuildSteps.{part_text, add_text, add_part, add_parts, IsAdded}
+use Rattle.logos_pattern.specs.BuildSteps.{part_text, add_text, add_part, add_parts}
 use Rattle.logos_pattern.proofs.ClassSame.{char_ranges_same, byte_ranges_same, sole_member_is_member}
 
 -- ---- classes

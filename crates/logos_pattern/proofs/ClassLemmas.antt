@@ -1,5 +1,5 @@
 -- Ranges of characters: pushing one, and what lies between two.
-use Rattle.std.proofs.Common.{◌≡◌, ℕ, zero, suc, ◌+◌, ◌<◌, ◌≤◌, max, min, Bool, true, false, cond, not, ◌&&◌, ◌||◌, ◌==◌, ◌⊎◌, nat_le, nat_lt, List, [], ◌∷◌, ◌++◌, map, length, get_or, drop, refl, sym, ap, ap₂, ◌∙◌, arith, inl, inr, ⊎_elim}
+use Rattle.std.proofs.Common.{◌≡◌, ℕ, zero, suc, ◌+◌, ◌<◌, ◌≤◌, max, min, Bool, true, false, cond, not, ◌&&◌, ◌||◌, ◌==◌, ◌⊎◌, nat_le, nat_lt, List, [], ◌∷◌, ◌++◌, length, get_or, drop, refl, sym, ap, ap₂, ◌∙◌, arith, inl, inr, ⊎_elim}
 use Rattle.std.proofs.lemmas.Bool.{and_from, and_parts, both_ways, cases_lt, leb-true, lt-ltb, le-leb, or_cases}
 use Rattle.std.proofs.lemmas.Bool.Decides.{nat_tests}
 use Rattle.std.proofs.lemmas.List.{map_push, get_or-drop, get_or_default, length-drop, at_drop_more}
@@ -11,6 +11,7 @@ use Rattle.std.specs.List.Sorted.{IsNonDecreasingBy, IsPermutation}
 use lib.Utf8.{scalar, scalar_cases}
 use Rattle.logos_pattern.specs.declared.pattern.hir.Range.{Range}
 use Rattle.logos_pattern.specs.Hir.{pairs}
+use Rattle.logos_pattern.specs.Text.{InRanges}
 use Rattle.logos_pattern.specs.Class.{Set, only_chars, members, union, intersection, difference, symmetric_difference, complement, in_range, in_ranges, next, is_range, rises_from, AreCanonical}
 use Rattle.logos_pattern.specs.ClassSteps.{IsPlace, AreRanges, free_from, in_gap}
 
@@ -335,3 +336,27 @@ bytes_by_complements xs = fun_ext (λ c. at c (scalar c) refl)
     at : (c : ℕ) (b : Bool) → scalar c ≡ b → complement 255 (complement 0x10_FFFF (members xs)) c ≡ intersection (members xs) (in_range (0, 255)) c
     at c true e = rw (e, le-leb c 0x10_FFFF (char_bound c e)) (twice c (in_ranges xs c))
     at c false e = rw e refl
+
+-- ---- the test of membership, and the fact
+
+pub InRanges-from_test : (xs : List (ℕ × ℕ)) (c : ℕ) → in_ranges xs c ≡ true → InRanges xs c
+InRanges-from_test [] c h = absurd (both_ways false refl h)
+InRanges-from_test (x ∷ xs) c h =
+    ⊎_elim
+    (λ here.
+    let p = and_parts (nat_le x.0 c) (nat_le c x.1) here in
+    (0, x, omega arith, refl, (leb-true x.0 c p.0, leb-true c x.1 p.1)))
+    (λ later. let w = InRanges-from_test xs c later in (suc w.0, w.1, omega (arith, w.2), w.3, w.4))
+    (or_cases (in_range x c) (in_ranges xs c) h)
+
+pub in_ranges-from_fact : (xs : List (ℕ × ℕ)) (c : ℕ) → InRanges xs c → in_ranges xs c ≡ true
+in_ranges-from_fact [] c (k, r, lt, at, h) = absurd (omega arith)
+in_ranges-from_fact (x ∷ xs) c (zero, r, lt, at, h) =
+    ap (λ s. in_range s c || in_ranges xs c) at
+    ∙ ap (λ b. b || in_ranges xs c) (and_from (nat_le r.0 c) (nat_le c r.1) (le-leb r.0 c h.0) (le-leb c r.1 h.1))
+in_ranges-from_fact (x ∷ xs) c (suc k, r, lt, at, h) =
+    ap (λ b. in_range x c || b) (in_ranges-from_fact xs c (k, r, omega arith, at, h)) ∙ or_true (in_range x c)
+  where
+    or_true : (b : Bool) → (b || true) ≡ true
+    or_true true = refl
+    or_true false = refl

@@ -1,10 +1,10 @@
 -- Canonical ranges with the same members are the same, and they are those that `ranges_from` lists.
-use Rattle.std.proofs.Common.{◌≡◌, ℕ, zero, suc, ◌+◌, ◌<◌, ◌≤◌, Bool, true, false, cond, not, ◌&&◌, ◌||◌, ◌==◌, ◌⊎◌, nat_le, List, [], ◌∷◌, Some, None, refl, sym, ap, ap₂, ◌∙◌, arith, inl, inr, ⊎_elim}
-use Rattle.std.proofs.lemmas.Bool.{and_parts, and_from, both_ways, cases_lt, leb-true, le-leb, lt-leb, or_cases, cases_Bool, true≢false, eqb-true}
+use Rattle.std.proofs.Common.{◌≡◌, ℕ, zero, suc, ◌+◌, ◌<◌, ◌≤◌, Bool, true, false, cond, ◌&&◌, ◌||◌, ◌==◌, nat_le, List, [], ◌∷◌, Some, None, refl, sym, ap, ap₂, ◌∙◌, arith, ⊎_elim}
+use Rattle.std.proofs.lemmas.Bool.{and_parts, and_from, both_ways, cases_lt, eqb-true}
 use Rattle.std.proofs.lemmas.Bool.Decides.{nat_tests}
 use lib.Utf8.{scalar, scalar_cases}
 use Rattle.logos_pattern.specs.Class.{Set, only_chars, members, intersection, in_range, in_ranges, next, is_range, rises_from, AreCanonical, with_number, ranges_from, char_ranges, byte_ranges}
-use Rattle.logos_pattern.proofs.ClassLemmas.{next_le, next_above, char_bound, is_range_parts, is_range_from, rises_parts, rises_from_parts, same_chars, only_chars_members}
+use Rattle.logos_pattern.proofs.ClassLemmas.{next_above, char_bound, is_range_parts, is_range_from, rises_parts, rises_from_parts, same_chars, only_chars_members}
 use Rattle.logos_pattern.specs.Build.{sole_member}
 use Rattle.std.proofs.Math.Path.{fun_ext}
 

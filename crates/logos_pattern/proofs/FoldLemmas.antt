@@ -1,6 +1,6 @@
 -- Folding by the table of pairs.
-use Rattle.std.proofs.Common.{◌≡◌, ◌≢◌, ℕ, zero, suc, ◌+◌, ◌-◌, ◌<◌, ◌≤◌, max, min, Bool, true, false, ◌&&◌, ◌||◌, ◌==◌, ◌⊎◌, ◌↔◌, nat_le, nat_lt, leb, ltb, List, [], ◌∷◌, ◌++◌, length, get_or, take, drop, refl, sym, ap, ap₂, ◌∙◌, subst, arith, inl, inr, ⊎_elim, Contains, slice_index_or}
-use Rattle.std.proofs.lemmas.Bool.{and_parts, and_from, or_cases, both_ways, cases_lt, cases_eq, leb-true, leb-false, ltb-true, ltb-false, le-leb, lt-leb, eqb-true, eq-eqb, cases_Bool}
+use Rattle.std.proofs.Common.{◌≡◌, ◌≢◌, ℕ, zero, suc, ◌+◌, ◌-◌, ◌<◌, ◌≤◌, max, min, Bool, true, false, ◌&&◌, ◌||◌, ◌==◌, ◌⊎◌, nat_le, nat_lt, leb, ltb, List, [], ◌∷◌, length, get_or, take, drop, refl, sym, ap, ap₂, ◌∙◌, arith, inl, inr, ⊎_elim, Contains, slice_index_or}
+use Rattle.std.proofs.lemmas.Bool.{and_parts, and_from, or_cases, both_ways, cases_lt, cases_eq, leb-true, leb-false, ltb-true, ltb-false, le-leb, lt-leb, eqb-true, eq-eqb}
 use Rattle.std.proofs.lemmas.Bool.Decides.{nat_tests}
 use Rattle.std.proofs.Math.Path.{fun_ext}
 use Rattle.std.specs.List.{list_any, list_all}
@@ -8,7 +8,7 @@ use Rattle.std.specs.List.Sorted.{IsNonDecreasingBy, IsPartitionPoint}
 use Rattle.std.proofs.lemmas.List.{take_rest, get_or-drop, length-drop}
 use Rattle.std.specs.Char.{to_ascii_lowercase, to_ascii_uppercase}
 use lib.Utf8.{scalar}
-use Rattle.unicode.specs.CaseFolding.{simple_folding, simple_fold, fold_pairs, IsFoldPairs}
+use Rattle.unicode.specs.CaseFolding.{simple_folding, simple_fold, fold_pairs}
 use Rattle.unicode.proofs.BoundLemmas.{pairs_rise, pairs_rise-fold_pairs}
 use Rattle.unicode.proofs.FoldPairsLemmas.{IsFoldPairs-fold_pairs}
 use Rattle.unicode.proofs.CaseFoldingLemmas.{simple_folding_stepped}

@@ -23,3 +23,8 @@ pub mod BracketLevels
 pub mod BracketTexts
 pub mod FoldLemmas
 pub mod SetLemmas
+pub mod Shorter
+pub mod BracketAnswers
+pub mod Depth
+pub mod NameLemmas
+pub mod Texts

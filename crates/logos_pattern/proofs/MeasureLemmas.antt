@@ -1,5 +1,5 @@
 -- Sizes of texts, and least values.
-use Rattle.std.proofs.Common.{◌≡◌, ℕ, min, Bool, true, false, cond, ◌&&◌, List, [], ◌∷◌, length, chars, refl, sym, ap, ap₂, ◌∙◌, arith}
+use Rattle.std.proofs.Common.{◌≡◌, ℕ, min, Bool, false, cond, ◌&&◌, List, [], ◌∷◌, length, chars, refl, sym, ap, ap₂, ◌∙◌, arith}
 use Rattle.std.specs.Cmp.Lexicographic.{pointwise}
 use Rattle.logos_pattern.specs.declared.pattern.hir.Range.{Range}
 use Rattle.logos_pattern.specs.Hir.{pairs}

@@ -1,9 +1,8 @@
 -- The runs of the tables of Unicode.
 use Rattle.std.proofs.Common.{◌≡◌, ℕ, Bool, List, [], ◌∷◌, ◌||◌, refl, sym, ap, ◌∙◌}
-use lib.Utf8.{scalar}
 use Rattle.unicode.specs.Rows.{HasExactly}
 use Rattle.unicode.specs.Rows.{in_ranges as in_runs}
-use Rattle.logos_pattern.specs.Class.{Set, members, only_chars, in_range, in_ranges}
+use Rattle.logos_pattern.specs.Class.{members, only_chars, in_range, in_ranges}
 use Rattle.logos_pattern.proofs.ClassLemmas.{same_chars, char_bound}
 
 in_runs-ranges : (runs : List (ℕ × ℕ)) (c : ℕ) → in_runs runs c ≡ in_ranges runs c

@@ -1,11 +1,10 @@
 -- The tree of each form of a `Hir`.
-use Rattle.std.proofs.Common.{◌≡◌, ℕ, Bool, List, map, Option, Vec, Box, Global, refl, sym, ap, ◌∙◌}
+use Rattle.std.proofs.Common.{◌≡◌, ℕ, Bool, map, Option, Vec, Box, Global, sym, ap, ◌∙◌}
 use Rattle.logos_pattern.specs.declared.pattern.hir.Look.{Look as LookType}
 use Rattle.logos_pattern.specs.declared.pattern.hir.Class.{Class as ClassType}
-use Rattle.logos_pattern.specs.declared.pattern.hir.Class.TheVariants.{Bytes, Characters}
 use Rattle.logos_pattern.specs.declared.pattern.hir.Hir.{Hir, Hir-F, out-Hir, roll-Hir, fold-roll-Hir, roll-out-Hir}
 use Rattle.logos_pattern.specs.declared.pattern.hir.Hir.TheVariants.{Empty, Literal, Class, Look, Repetition, Capture, Concat, Alternation, rolls-Empty, rolls-Literal, rolls-Class, rolls-Look, rolls-Repetition, rolls-Capture, rolls-Concat, rolls-Alternation}
-use Rattle.logos_pattern.specs.Tree.{Tree, empty, literal, byte_class, char_class, look, repetition, capture, concat, alternation, trees}
+use Rattle.logos_pattern.specs.Tree.{Tree, empty, literal, look, repetition, capture, concat, alternation, trees}
 use Rattle.logos_pattern.specs.Hir.{tree_of, node_tree, class_tree}
 
 pub tree-Empty : tree_of Empty ≡ empty

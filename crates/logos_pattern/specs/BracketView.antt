@@ -1,5 +1,5 @@
 -- What the values of the bracket reader stand for, and what its functions promise.
-use Rattle.std.specs.Prelude.{◌≡◌, ℕ, ◌+◌, ◌<◌, ◌≤◌, Bool, true, false, List, [], ◌∷◌, map, reverse, length, Option, Some, None, Result, Ok, Err}
+use Rattle.std.specs.Prelude.{◌≡◌, ℕ, ◌+◌, ◌<◌, ◌≤◌, Bool, true, false, List, [], ◌∷◌, ◌++◌, map, reverse, length, Option, Some, None, Result, Ok, Err}
 use Rattle.std.specs.Option.{option_map}
 use Rattle.logos_pattern.specs.declared.pattern.error.Stop.{Stop}
 use Rattle.logos_pattern.specs.declared.pattern.error.Stop.TheVariants as stops
@@ -13,8 +13,12 @@ use Rattle.logos_pattern.specs.Hir.{pairs}
 use Rattle.logos_pattern.specs.Class.{members}
 use Rattle.logos_pattern.specs.ClassSet.{set_of}
 use Rattle.logos_pattern.specs.Token.{Text}
-use Rattle.logos_pattern.specs.Bracket.{Bracket}
-use Rattle.logos_pattern.specs.BracketSpelling.{Encloses}
+use Rattle.std.specs.Borrow.{Bor}
+use Rattle.logos_pattern.specs.declared.pattern.error.Fault.{Fault}
+use Rattle.logos_pattern.specs.declared.pattern.error.Fault.TheVariants as faults
+use Rattle.logos_pattern.specs.declared.pattern.bracket_token.Lead.{Lead}
+use Rattle.logos_pattern.specs.Bracket.{Bracket, bracket, Operands}
+use Rattle.logos_pattern.specs.BracketSpelling.{operands_tokens, BracketCuts, Encloses}
 use Rattle.logos_pattern.specs.BracketSet.{bracket_set, item_fits, BracketFits, bracket_depth}
 use Rattle.logos_pattern.specs.BracketMachine.{Frame, Frames, bracket_step, whole}
 
@@ -52,7 +56,26 @@ BracketSteps flags base old token (Err (stops.Syntax kind left)) new = NoStep fl
 BracketSteps flags base old token (Err stops.LimitPatternNesting) new = TooDeep base old token
 BracketSteps flags base old token (Err stops.Memory) new = Unit {0}
 
--- the set, and how deep it is, of a bracket that stands at the text
+-- the set, and how deep it is, of a bracket whose inside stands at the text
+pub record IsInside (flags : Flags) (base : ℕ) (negated : Bool) (lead : Lead) (text : Text) (found : Found) (rest : Text) : Type 0 where
+  pub inside : Operands
+  pub cut : BracketCuts text (operands_tokens inside ++ Close ∷ []) rest
+  pub fits : BracketFits flags (bracket negated lead inside)
+  pub is_set : set_of found.set ≡ bracket_set flags (bracket negated lead inside)
+  pub is_depth : found.depth ≡ base + bracket_depth (bracket negated lead inside)
+  pub shallow : found.depth ≤ 250
+
+-- what a reader that stopped says of a bracket
+abbrev pub Denies : Flags → ℕ → Stop → Bracket → Type 0
+Denies flags base (stops.Syntax kind left) b = BracketFits flags b → ⊥
+Denies flags base stops.LimitPatternNesting b = 250 < base + bracket_depth b
+Denies flags base stops.Memory b = Unit {0}
+
+abbrev pub ReadsInside : Flags → ℕ → Bool → Lead → Text → Result (Found × Bor Text) Stop → Type 0
+ReadsInside flags base negated lead text (Ok x) = IsInside flags base negated lead text x.0 x.1.now
+ReadsInside flags base negated lead text (Err e) = (inside : Operands) (rest : Text) → BracketCuts text (operands_tokens inside ++ Close ∷ []) rest → Denies flags base e (bracket negated lead inside)
+
+-- the set, and how deep it is, of a bracket that stands at the text, behind `[`
 pub record IsFound (flags : Flags) (base : ℕ) (text : Text) (found : Found) (rest : Text) : Type 0 where
   pub written : Bracket
   pub encloses : Encloses written text rest
@@ -61,8 +84,13 @@ pub record IsFound (flags : Flags) (base : ℕ) (text : Text) (found : Found) (r
   pub is_depth : found.depth ≡ base + bracket_depth written
   pub shallow : found.depth ≤ 250
 
--- what is said of each bracket at the text
-abbrev pub NoBracket : Flags → ℕ → Text → Stop → Type 0
-NoBracket flags base text (stops.Syntax kind left) = (b : Bracket) (rest : Text) → Encloses b text rest → BracketFits flags b → ⊥
-NoBracket flags base text stops.LimitPatternNesting = (b : Bracket) (rest : Text) → Encloses b text rest → 250 < base + bracket_depth b
-NoBracket flags base text stops.Memory = Unit {0}
+abbrev pub ReadsBracket : Flags → ℕ → Text → Result (Found × Bor Text) Stop → Type 0
+ReadsBracket flags base text (Ok x) = IsFound flags base text x.0 x.1.now
+ReadsBracket flags base text (Err e) = (b : Bracket) (rest : Text) → Encloses b text rest → Denies flags base e b
+
+-- a fault as a stop
+abbrev pub IsStopOf : Fault → Stop → Type 0
+IsStopOf (faults.Syntax kind) (stops.Syntax other left) = Unit {0}
+IsStopOf (faults.Syntax kind) _ = ⊥
+IsStopOf faults.Memory (stops.Memory) = Unit {0}
+IsStopOf faults.Memory _ = ⊥

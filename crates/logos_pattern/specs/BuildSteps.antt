@@ -1,6 +1,6 @@
 -- Words for the steps of the builders, which add parts from the left.
 use Rattle.std.specs.Prelude.{◌≡◌, ℕ, Bool, true, false, List, [], ◌∷◌, ◌++◌, Option, Some, None}
-use Rattle.logos_pattern.specs.Tree.{Tree, empty, literal, byte_class, char_class, look, repetition, capture, concat, alternation}
+use Rattle.logos_pattern.specs.Tree.{Tree, literal}
 
 -- bytes behind a part: a literal takes them in
 abbrev pub part_text : Tree → List ℕ → List Tree

@@ -31,3 +31,6 @@ pub mod Machine
 pub mod BracketRead
 pub mod BracketMachine
 pub mod BracketView
+pub mod MachineView
+pub mod MachineNames
+pub mod MachineReading

@@ -1,6 +1,6 @@
 -- Words for the steps of the measures.
 use Rattle.std.specs.Prelude.{ℕ, min}
-use Rattle.logos_pattern.specs.Tree.{Tree, Trees, none, also}
+use Rattle.logos_pattern.specs.Tree.{Trees, none, also}
 use Rattle.logos_pattern.specs.Priority.{value}
 
 -- the least of a number and the values of trees

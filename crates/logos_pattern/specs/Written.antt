@@ -1,5 +1,6 @@
 -- A pattern as it is written, from the left: each front of a group's inside is the inside of a group.
-use Rattle.std.specs.Prelude.{◌≡◌, ℕ, ◌+◌, max, Bool, true, false, List, [], ◌∷◌, ◌++◌, Contains}
+use Rattle.std.specs.Prelude.{◌≡◌, ℕ, ◌+◌, max, Bool, true, false, List, [], ◌∷◌, ◌++◌, bytes_eq}
+use Rattle.std.specs.List.{list_any}
 use Rattle.logos_pattern.specs.declared.pattern.token.Flags.{Flags}
 use Rattle.logos_pattern.specs.declared.pattern.token.Change.{Change}
 use Rattle.logos_pattern.specs.declared.pattern.token.Operator.{Operator}
@@ -62,7 +63,7 @@ Cuts text (token ∷ tokens) rest = (after : Text) × Starts token text after ×
 
 -- the name of a group is none of those before it
 abbrev pub IsNew : List Text → Token → Type 0
-IsNew seen (opens (named name)) = Contains seen name → ⊥
+IsNew seen (opens (named name)) = list_any (bytes_eq name) seen ≡ false
 IsNew seen _ = Unit {0}
 
 abbrev pub with_name : List Text → Token → List Text

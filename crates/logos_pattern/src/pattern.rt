@@ -9,6 +9,7 @@ ghost use Rattle.logos_pattern.specs.Measure.{fitted, is_text, has_greedy_dot};
 
 mod bracket;
 mod bracket_read;
+mod bracket_reading;
 mod bracket_set;
 mod bracket_token;
 mod build;
@@ -23,6 +24,10 @@ mod token;
 mod token_escape;
 mod token_group;
 mod token_number;
+mod machine;
+mod machine_atom;
+mod reading;
+mod reading_names;
 
 pub use error::{Kind, PatternError};
 pub use hir::{Class, Hir, Look, Range};

@@ -1,14 +1,13 @@
 //! Reads a bracket, with the brackets that are open in it on a stack.
 
-ghost use Rattle.std.specs.Prelude.{◌≡◌, ◌+◌, ◌≤◌, ◌<◌, [], IfOk, OnOk, vec_len, length};
+ghost use Rattle.std.specs.Prelude.{◌≡◌, ◌+◌, ◌≤◌, ◌<◌, [], IfOk, OnOk, MatchBool, vec_len, length};
 ghost use Rattle.logos_pattern.specs.Hir.{pairs};
 ghost use Rattle.logos_pattern.specs.Class.{members};
 
-use crate::pattern::bracket_read::{bracket_token_at, open_at};
 use crate::pattern::bracket_set::{combined, item_fits, lead_ranges, push_item, push_set, turned};
 use crate::pattern::bracket_token::{BracketToken, Item, Lead, SetOperator};
 use crate::pattern::class::RangeSet;
-use crate::pattern::error::{Fault, Kind, Stop};
+use crate::pattern::error::{Kind, Stop};
 use crate::pattern::hir::Range;
 use crate::pattern::token::Flags;
 use std::alloc::{AllocError, Global};
@@ -90,13 +89,39 @@ impl Frames {
     ghost use Rattle.logos_pattern.specs.BracketMachine.{opened, whole};
     ghost use Rattle.logos_pattern.specs.BracketView.{frame_view, frames_view, BracketSteps};
 
-    fn new(alloc: Global, negated: bool, lead: Lead, level: usize, left: usize) -> Result<Frames, AllocError>
+    pub(crate) fn new(alloc: Global, negated: bool, lead: Lead, level: usize, left: usize) -> Result<Frames, AllocError>
         requires { level ≤ 250 }
         ensures { IfOk result (λ m. frames_view m ≡ record { top = opened negated lead level; below = [] }) }
     {
         Ok(Frames {
             top: Frame::new(alloc, negated, lead, level, left)?,
             below: Vec::new(alloc),
+        })
+    }
+
+    /// The token ends the outermost bracket.
+    pub(crate) fn ends_by(&self, token: BracketToken) -> bool
+        ensures { MatchBool result ((token ≡ BracketToken.Close) × ((frames_view self.now).below ≡ [])) (token ≡ BracketToken.Close → (frames_view self.now).below ≡ [] → ⊥) }
+    {
+        match token {
+            BracketToken::Close => self.below.is_empty(),
+            _ => false,
+        }
+    }
+
+    /// The number of characters from the innermost opening on.
+    pub(crate) fn left(&self) -> usize {
+        self.top.left
+    }
+
+    /// The whole bracket, once it is closed.
+    pub(crate) fn finish(&self, alloc: Global, flags: Flags) -> Result<Found, AllocError>
+        ensures { IfOk result (λ found. (set_of found.set ≡ whole flags (frames_view self.now).top) × (found.depth ≡ (frames_view self.now).top.inner) × (found.depth ≤ 250)) }
+    {
+        let set = self.top.whole(alloc, flags)?;
+        Ok(Found {
+            set,
+            depth: self.top.inner,
         })
     }
 
@@ -152,7 +177,7 @@ impl Frames {
         Ok(())
     }
 
-    fn step(&mut self, alloc: Global, flags: Flags, base: usize, token: BracketToken, left: usize) -> Result<(), Stop>
+    pub(crate) fn step(&mut self, alloc: Global, flags: Flags, base: usize, token: BracketToken, left: usize) -> Result<(), Stop>
         requires { base ≤ 250 }
         ensures { BracketSteps flags base (frames_view self.old) token result (frames_view self.new) }
     {

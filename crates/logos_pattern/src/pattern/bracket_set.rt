@@ -53,10 +53,10 @@ fn range_set(alloc: Global, first: u32, last: u32) -> Result<RangeSet, AllocErro
     RangeSet::from_ranges(alloc, &[Range { first, last }])
 }
 
-fn symbol_set(alloc: Global, symbol: Symbol) -> Result<RangeSet, AllocError>
-    ensures { IfOk result (λ set. set_of set ≡ only_chars (λ c. c == code_of symbol)) }
+/// Just this number.
+pub(crate) fn number_set(alloc: Global, code: u32) -> Result<RangeSet, AllocError>
+    ensures { IfOk result (λ set. set_of set ≡ only_chars (λ c. c == code)) }
 {
-    let code = code_of(symbol);
     range_set(alloc, code, code)
 }
 
@@ -71,7 +71,7 @@ fn item_test(alloc: Global, flags: Flags, item: Item) -> Result<RangeSet, AllocE
     ensures { IfOk result (λ set. set_of set ≡ only_chars (item_test flags item)) }
 {
     match item {
-        Item::One(s) => symbol_set(alloc, s),
+        Item::One(s) => number_set(alloc, code_of(s)),
         Item::Range(a, b) => symbols_set(alloc, a, b),
         Item::Perl(kind, _) => perl_set(alloc, kind, flags.unicode),
         Item::Property(set, _) => property_set(alloc, set),

@@ -1,6 +1,5 @@
-use Rattle.std.proofs.Common.{◌<◌, map, flat_map, ap, ◌∙◌, sym, length, rules, arith, map-id, [], ◌∷◌}
-use Rattle.std.proofs.lemmas.List.{map_push, length-map}
-use Rattle.std.proofs.lemmas.Grind.{flat_map-append}
+use Rattle.std.proofs.Common.{◌<◌, map, flat_map, ap, ◌∙◌, sym, length, rules, arith, map-id}
+use Rattle.std.proofs.lemmas.List.{length-map}
 use Rattle.std.proofs.lemmas.Iterator.Consumers.{YieldsList-end}
 use Rattle.std.proofs.lemmas.Iterator.Adapters.{YieldsList-from_vec}
 use Rattle.logos_pattern.specs.Hir.{tree_of}

@@ -1,7 +1,6 @@
 use Rattle.std.proofs.Common.{◌≡◌, map, ap, ◌∙◌}
 use Rattle.logos_pattern.specs.Hir.{tree_of}
 use Rattle.logos_pattern.specs.Build.{parts_of}
-use Rattle.logos_pattern.specs.BuildSteps.{add_parts}
 use Rattle.logos_pattern.proofs.TreeViews.{tree-Concat}
 use Rattle.logos_pattern.proofs.BuildLemmas.{list_of-trees}
 use Rattle.logos_pattern.proofs.pattern.build.push_flat.Goals as goal

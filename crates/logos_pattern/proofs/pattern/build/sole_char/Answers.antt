@@ -1,5 +1,5 @@
 use Rattle.logos_pattern.proofs.BuildLemmas.{no_text, of_text, sole_item-one}
-use Rattle.std.proofs.Common.{Some, ap, sym, ◌∙◌, arith, get_or, length, ◌≡◌}
+use Rattle.std.proofs.Common.{Some, ap, ◌∙◌, arith, length, ◌≡◌}
 use Rattle.std.specs.Str.{chars}
 use Rattle.logos_pattern.specs.Build.{sole_item}
 use Rattle.logos_pattern.proofs.pattern.build.sole_char.Goals as goal

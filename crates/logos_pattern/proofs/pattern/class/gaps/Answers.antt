@@ -1,6 +1,5 @@
-use Rattle.std.proofs.Common.{arith, ◌≡◌, ap, sym, ◌∙◌, max, get_or}
+use Rattle.std.proofs.Common.{arith, ap, ◌∙◌, max, get_or}
 use Rattle.logos_pattern.specs.Class.{next}
-use Rattle.logos_pattern.specs.ClassSteps.{IsPlace}
 use Rattle.logos_pattern.proofs.ClassLemmas.{range_at, char_bound, char_place, next_place, next_above, max_place, gaps_step}
 use Rattle.logos_pattern.proofs.pattern.class.gaps.Goals as goal
 

@@ -1,9 +1,8 @@
 use Rattle.std.proofs.Common.{◌≡◌, ◌||◌, IfOk, ap, ap₂, subst, ◌∙◌}
-use Rattle.unicode.specs.CaseFolding.{fold_pairs}
 use Rattle.logos_pattern.specs.Hir.{pairs}
 use Rattle.logos_pattern.specs.Class.{Set, members, in_ranges}
 use Rattle.logos_pattern.specs.ClassSet.{set_of}
-use Rattle.logos_pattern.specs.FoldSteps.{in_image, moved}
+use Rattle.logos_pattern.specs.FoldSteps.{moved}
 use Rattle.logos_pattern.proofs.FoldLemmas.{cased_members}
 use Rattle.logos_pattern.proofs.pattern.fold.fold_ascii.Goals as goal
 

@@ -3,7 +3,7 @@ use Rattle.unicode.specs.CaseFolding.{fold_pairs}
 use Rattle.logos_pattern.specs.Hir.{pairs}
 use Rattle.logos_pattern.specs.Class.{Set, members, in_ranges}
 use Rattle.logos_pattern.specs.ClassSet.{set_of}
-use Rattle.logos_pattern.specs.FoldSteps.{in_image, moved}
+use Rattle.logos_pattern.specs.FoldSteps.{in_image}
 use Rattle.logos_pattern.proofs.FoldLemmas.{folded_members}
 use Rattle.logos_pattern.proofs.pattern.fold.fold_case.Goals as goal
 

@@ -1,4 +1,4 @@
-use Rattle.std.proofs.Common.{◌||◌, ◌+◌, ◌∙◌, ap, sym, drop, get_or, []}
+use Rattle.std.proofs.Common.{◌||◌, ◌+◌, ◌∙◌, ap, sym, drop, get_or}
 use Rattle.std.proofs.lemmas.List.{at_drop_more, at_drop_all}
 use Rattle.unicode.specs.CaseFolding.{fold_pairs}
 use Rattle.logos_pattern.specs.Hir.{pairs}

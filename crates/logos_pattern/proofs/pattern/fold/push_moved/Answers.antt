@@ -1,4 +1,4 @@
-use Rattle.std.proofs.Common.{◌||◌, ◌∙◌, ap, arith}
+use Rattle.std.proofs.Common.{◌||◌, ◌∙◌, ap}
 use Rattle.logos_pattern.specs.Hir.{pairs}
 use Rattle.logos_pattern.specs.Class.{in_ranges}
 use Rattle.logos_pattern.proofs.ClassLemmas.{pairs-push, in_ranges-push}

@@ -1,6 +1,6 @@
 use Rattle.std.proofs.Common.{◌≡◌, IfOk, ap, subst, ◌∙◌}
 use Rattle.logos_pattern.specs.Hir.{pairs}
-use Rattle.logos_pattern.specs.Class.{Set, members, only_chars}
+use Rattle.logos_pattern.specs.Class.{Set, members}
 use Rattle.logos_pattern.specs.ClassSet.{set_of}
 use Rattle.logos_pattern.proofs.PropertyLemmas.{members_of_runs}
 use Rattle.logos_pattern.proofs.pattern.property.from_runs.Goals as goal

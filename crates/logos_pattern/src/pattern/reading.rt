@@ -1,0 +1,227 @@
+//! Reads a whole pattern.
+
+ghost use Rattle.std.specs.Prelude.{◌≡◌, ◌≤◌, ℕ, List, ◌∷◌, [], chars, IfOk, IfErr, MatchResult};
+ghost use Rattle.logos_pattern.specs.declared.pattern.token.Flags.{Flags as FlagsValue};
+ghost use Rattle.logos_pattern.specs.declared.pattern.error.Fault.TheVariants as faults;
+ghost use Rattle.logos_pattern.specs.declared.pattern.error.PatternError.TheVariants.{Memory};
+ghost use Rattle.logos_pattern.specs.Token.{Text};
+ghost use Rattle.logos_pattern.specs.Tree.{Tree};
+ghost use Rattle.logos_pattern.specs.Hir.{tree_of};
+ghost use Rattle.logos_pattern.specs.Grammar.{Spells, IsSpelled};
+ghost use Rattle.logos_pattern.specs.MachineReading.{IsFound, Stopped, Refuses, first_flags};
+
+use crate::pattern::Pattern;
+use crate::pattern::bracket_reading::{read_bracket, stop_for};
+use crate::pattern::error::{Fault, Kind, PatternError, Stop};
+use crate::pattern::hir::Hir;
+use crate::pattern::machine::Machine;
+use crate::pattern::reading_names::Names;
+use crate::pattern::token::Flags;
+use crate::pattern::token_group::token_at;
+use std::alloc::{AllocError, Global};
+
+/// A pattern that is being read.
+#[derive(Drop)]
+pub(crate) struct Reader {
+    machine: Machine,
+    names: Names,
+}
+
+impl Reader {
+    ghost use Rattle.logos_pattern.specs.MachineNames.{HasNames};
+    ghost use Rattle.logos_pattern.specs.MachineView.{state_view};
+    ghost use Rattle.logos_pattern.specs.BracketView.{IsStopOf};
+    ghost use Rattle.logos_pattern.specs.Machine.{start};
+    ghost use Rattle.logos_pattern.specs.MachineReading.{ReadsToken, ReadsTaken};
+
+    fn new(alloc: Global, flags: Flags, left: usize) -> Reader
+        ensures machine { state_view result.machine ≡ start flags }
+        ensures names { HasNames result.names [] }
+    {
+        Reader {
+            machine: Machine::new(alloc, flags, left),
+            names: Names::new(alloc),
+        }
+    }
+
+    /// The place of a fault at the front of the text.
+    fn stop(&self, fault: Fault, text: &[char]) -> Stop
+        ensures { IsStopOf fault result }
+    {
+        match (fault, text) {
+            (Fault::Syntax(kind), ['(', ..]) => Stop::Syntax {
+                kind,
+                left: text.len(),
+            },
+            (Fault::Syntax(kind), ['{', ..]) => self.count_stop(kind, text.len()),
+            (fault, _) => stop_for(self.machine.flags(), fault, text),
+        }
+    }
+
+    /// The place of a fault of counts: that of what they would repeat.
+    fn count_stop(&self, kind: Kind, left: usize) -> Stop
+        ensures { IsStopOf (faults.Syntax kind) result }
+    {
+        match (kind, self.machine.repeated()) {
+            (Kind::Unclosed, _) => Stop::Syntax { kind, left },
+            (_, Some(left)) => Stop::Syntax { kind, left },
+            (_, None) => Stop::Syntax {
+                kind: Kind::NothingToRepeat,
+                left,
+            },
+        }
+    }
+
+    /// Reads a bracket from behind its first character.
+    fn bracket<'t>(&mut self, alloc: Global, inside: &'t [char]) -> Result<&'t [char], Stop>
+        ensures { (seen : List Text) → HasNames self.old.names seen → ReadsToken (state_view self.old.machine) seen (91 ∷ inside.now) result (state_view self.new.machine) self.new.names }
+    {
+        let left = inside.len().saturating_add(1);
+        let flags = self.machine.flags();
+        let (found, rest) = match read_bracket(alloc, flags, self.machine.depth(), inside) {
+            Ok(found) => found,
+            Err(stop) => return Err(stop),
+        };
+        self.machine.class(alloc, found, left)?;
+        Ok(rest)
+    }
+
+    /// Reads a token that is no bracket.
+    fn simple<'t>(&mut self, alloc: Global, text: &'t [char]) -> Result<&'t [char], Stop>
+        ensures { (seen : List Text) → HasNames self.old.names seen → ReadsTaken (state_view self.old.machine) seen text.now result (state_view self.new.machine) self.new.names }
+    {
+        let (token, rest) = match token_at(alloc, text) {
+            Ok(found) => found,
+            Err(fault) => return Err(self.stop(fault, text)),
+        };
+        if !self.names.admit(alloc, token)? {
+            return Err(Stop::Syntax {
+                kind: Kind::GroupSyntax,
+                left: text.len(),
+            });
+        }
+        if let Err(stop) = self.machine.step(alloc, token, text.len()) {
+            return Err(stop);
+        }
+        Ok(rest)
+    }
+
+    fn token<'t>(&mut self, alloc: Global, text: &'t [char]) -> Result<&'t [char], Stop>
+        ensures { (seen : List Text) → HasNames self.old.names seen → ReadsToken (state_view self.old.machine) seen text.now result (state_view self.new.machine) self.new.names }
+    {
+        let [c, inside @ ..] = text else {
+            return self.simple(alloc, text);
+        };
+        if *c == '[' {
+            return self.bracket(alloc, inside);
+        }
+        self.simple(alloc, text)
+    }
+}
+
+/// Reads the whole text.
+fn run(alloc: Global, flags: Flags, text: &[char]) -> Result<Hir, Stop>
+    ensures found { IfOk result (λ hir. IsFound flags text.now (tree_of hir)) }
+    ensures stopped { IfErr result (Stopped flags text.now) }
+{
+    let mut reader = Reader::new(alloc, flags, text.len());
+    let mut rest = text;
+    while !rest.is_empty() {
+        rest = match reader.token(alloc, rest) {
+            Ok(after) => after,
+            Err(stop) => return Err(stop),
+        };
+    }
+    reader.machine.finish(alloc)
+}
+
+/// The number of bytes of the characters.
+fn byte_len(text: &[char]) -> usize {
+    let mut len: usize = 0;
+    for c in text {
+        len = len.saturating_add(c.len_utf8());
+    }
+    len
+}
+
+/// The error of a stop, by the place where it is.
+fn located(text: &[char], stop: Stop) -> PatternError
+    ensures { (flags : FlagsValue) (t : Text) → Stopped flags t stop → Refuses flags t result }
+{
+    match stop {
+        Stop::Syntax { kind, left } => {
+            let before = text.len().saturating_sub(left);
+            PatternError::Syntax {
+                kind,
+                at: byte_len(&text[..before]),
+            }
+        }
+        Stop::LimitPatternNesting => PatternError::LimitPatternNesting,
+        Stop::Memory => PatternError::Memory,
+    }
+}
+
+fn characters(alloc: Global, regex: &str) -> Result<Vec<char>, AllocError>
+    ensures { IfOk result (λ v. v.items ≡ chars regex.now) }
+{
+    regex.chars().collect(alloc)
+}
+
+fn read(alloc: Global, flags: Flags, regex: &str) -> Result<Hir, PatternError>
+    ensures found { IfOk result (λ hir. IsFound flags (chars regex.now) (tree_of hir)) }
+    ensures refused { IfErr result (Refuses flags (chars regex.now)) }
+{
+    let text = characters(alloc, regex)?;
+    match run(alloc, flags, &text) {
+        Ok(hir) => Ok(hir),
+        Err(stop) => Err(located(&text, stop)),
+    }
+}
+
+impl<'s> Pattern<'s> {
+    /// Reads a pattern. It begins with the flag `u` as `unicode` says, with the flag `i` as
+    /// `ignore_case` says, and with all others off. `source` is the literal that the pattern was
+    /// written as, which `is_literal` says to be no regular expression.
+    ///
+    /// Groups, brackets and operators may nest 250 deep; above that the answer is
+    /// `LimitPatternNesting`. What the grammar does not allow is `Syntax`.
+    pub fn compile(
+        alloc: Global,
+        is_literal: bool,
+        regex: &str,
+        source: &'s str,
+        unicode: bool,
+        ignore_case: bool,
+    ) -> Result<Pattern<'s>, PatternError>
+        // What is read is spelled so.
+        ensures found { IfOk result (λ p. IsFound (first_flags unicode ignore_case) (chars regex.now) (tree_of p.hir)) }
+        // What is refused has no tree, or only one that is nested too deep, or memory ran out.
+        ensures refused { IfErr result (Refuses (first_flags unicode ignore_case) (chars regex.now)) }
+        // What has a tree within the limit is read.
+        ensures complete { (depth : ℕ) → depth ≤ 250 → IsSpelled (first_flags unicode ignore_case) (chars regex.now) depth → IfErr result (λ e. e ≡ Memory) }
+        ensures kept { IfOk result (λ p. (p.is_literal ≡ is_literal) × (p.source.now ≡ source.now)) }
+    {
+        let flags = Flags {
+            unicode,
+            ignore_case,
+            multi_line: false,
+            dot_all: false,
+            swap_greed: false,
+            crlf: false,
+        };
+        let hir = match read(alloc, flags, regex) {
+            Ok(hir) => hir,
+            Err(error) => return Err(error),
+        };
+        Ok(Pattern {
+            is_literal,
+            hir,
+            source,
+        })
+    }
+}
+
+/// A text has at most one tree.
+pub fn one_tree()
+    ensures { (flags : FlagsValue) (text : Text) (a b : Tree) (m n : ℕ) → Spells flags text a m → Spells flags text b n → (a ≡ b) × (m ≡ n) }
+{}
