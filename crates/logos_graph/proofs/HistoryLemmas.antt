@@ -91,15 +91,18 @@ module _ (table : Table) (splits more : List Split) (old new : ℕ → ℕ) (x :
       where
         last : (s : ℕ) → s < size table → at_time (length more) s ≡ new s
         last s l = at_mid (length more) s x.goes_on.longer l ∙ mid_new (length more) s (x.within s l)
+
         below : (j s : ℕ) → 0 < j → j ≤ length more → s < size table → at_time j s < j
         below j s p m l = go (cases_lt (length splits) j)
           where
             late : (new s < j) ⊎ (j ≤ new s) → length splits < j → mid j s < j
             late (inl n) q = let e = mid_new j s n in omega arith
             late (inr n) q = let e = mid_old j s n in let w = old_within s l in omega arith
+
             go : (length splits < j) ⊎ (j ≤ length splits) → at_time j s < j
             go (inl n) = let e = at_mid j s (omega arith) l in let b = late (cases_lt (new s) j) n in omega arith
             go (inr n) = let e = ap (λ (f : ℕ → ℕ). f s) (at_first j n) in let b = h.below j s p n l in omega arith
+
         step : (j s : ℕ) → 0 < j → j < length more → s < size table → (at_time (j + 1) s ≡ at_time j s) ⊎ ((at_time (j + 1) s ≡ j) × (at_time j s ≡ (split_at more j).parent))
         step j s p m l = go (cases_lt j (length splits))
           where
@@ -110,19 +113,25 @@ module _ (table : Table) (splits more : List Split) (old new : ℕ → ℕ) (x :
                 let e : new s ≡ j = omega arith in
                 inr (mid_new (j + 1) s r ∙ e, mid_old j s n ∙ old_left s l (omega arith) ∙ ap (λ (c : ℕ). (split_at more c).parent) e)
             late q (inr n) (inr r) = inl (mid_old (j + 1) s r ∙ sym (mid_old j s n))
+
             back : length splits ≤ j → (mid (j + 1) s ≡ mid j s) ⊎ ((mid (j + 1) s ≡ j) × (mid j s ≡ (split_at more j).parent)) →
                 (at_time (j + 1) s ≡ at_time j s) ⊎ ((at_time (j + 1) s ≡ j) × (at_time j s ≡ (split_at more j).parent))
             back q (inl e) = inl (at_mid (j + 1) s (omega arith) l ∙ e ∙ sym (at_mid j s q l))
             back q (inr e) = inr (at_mid (j + 1) s (omega arith) l ∙ e.0, at_mid j s q l ∙ e.1)
+
             early : j < length splits → (h.at (j + 1) s ≡ h.at j s) ⊎ ((h.at (j + 1) s ≡ j) × (h.at j s ≡ (split_at splits j).parent)) →
                 (at_time (j + 1) s ≡ at_time j s) ⊎ ((at_time (j + 1) s ≡ j) × (at_time j s ≡ (split_at more j).parent))
             early q (inl e) = inl (ap (λ (f : ℕ → ℕ). f s) (at_first (j + 1) (omega arith)) ∙ e ∙ sym (ap (λ (f : ℕ → ℕ). f s) (at_first j (omega arith))))
             early q (inr e) =
-                inr (ap (λ (f : ℕ → ℕ). f s) (at_first (j + 1) (omega arith)) ∙ e.0,
-                ap (λ (f : ℕ → ℕ). f s) (at_first j (omega arith)) ∙ e.1 ∙ ap (λ (c : Split). c.parent) (sym (x.goes_on.same j q)))
+                inr (
+                  ap (λ (f : ℕ → ℕ). f s) (at_first (j + 1) (omega arith)) ∙ e.0,
+                  ap (λ (f : ℕ → ℕ). f s) (at_first j (omega arith)) ∙ e.1 ∙ ap (λ (c : Split). c.parent) (sym (x.goes_on.same j q)),
+                )
+
             go : (j < length splits) ⊎ (length splits ≤ j) → (at_time (j + 1) s ≡ at_time j s) ⊎ ((at_time (j + 1) s ≡ j) × (at_time j s ≡ (split_at more j).parent))
             go (inl n) = early n (h.step j s p n l)
             go (inr n) = back n (late n (cases_lt (new s) j) (cases_lt (new s) (j + 1)))
+
         parted : (j s t : ℕ) → 0 < j → j < length more → s < size table → t < size table → at_time (j + 1) s ≡ j → at_time (j + 1) t ≡ (split_at more j).parent →
             ArePartedBy table (at_time j) (split_at more j).symbol s t
         parted j s t p m hs ht e q = go (cases_lt j (length splits))
@@ -135,6 +144,7 @@ module _ (table : Table) (splits more : List Split) (old new : ℕ → ℕ) (x :
                 let a = h.parted j s t p n hs ht e' q' in
                 let b : ArePartedBy table (h.at j) (split_at more j).symbol s t = subst (λ (c : Split). ArePartedBy table (h.at j) c.symbol s t) (sym same) a in
                 subst (λ (f : ℕ → ℕ). ArePartedBy table f (split_at more j).symbol s t) (sym (at_first j (omega arith))) b
+
             late : length splits ≤ j → ArePartedBy table (at_time j) (split_at more j).symbol s t
             late n =
                 let older = x.older j n m in
@@ -149,12 +159,14 @@ module _ (table : Table) (splits more : List Split) (old new : ℕ → ℕ) (x :
                 is_new : mid (j + 1) s ≡ j → (new s < j + 1) ⊎ (j + 1 ≤ new s) → new s ≡ j
                 is_new e (inl l) = sym (mid_new (j + 1) s l) ∙ e
                 is_new e (inr l) = let w = old_within s hs in let z = mid_old (j + 1) s l in absurd (omega arith)
+
                 is_old : mid (j + 1) t ≡ (split_at more j).parent → (split_at more j).parent < length splits → (new t < j + 1) ⊎ (j + 1 ≤ new t) → (new t ≢ j) × (old t ≡ (split_at more j).parent)
                 is_old q o (inl l) =
                     let z = mid_new (j + 1) t l in
                     let small : new t < length splits = omega arith in
                     (λ w. omega arith, old_stays t ht small ∙ sym z ∙ q)
                 is_old q o (inr l) = (λ w. omega arith, sym (mid_old (j + 1) t l) ∙ q)
+
             go : (j < length splits) ⊎ (length splits ≤ j) → ArePartedBy table (at_time j) (split_at more j).symbol s t
             go (inl n) = early n
             go (inr n) = late n
@@ -163,4 +175,5 @@ module _ (table : Table) (splits more : List Split) (old new : ℕ → ℕ) (x :
 pub sound-extended : (table : Table) (splits more : List Split) (old new : ℕ → ℕ) → 0 < length splits → IsSound table splits old → IsExtension table splits more old new → IsSound table more new
 sound-extended table splits more old new some h x = record {
   history = history-extended table splits more old new x h.history some;
-  marks = λ s t hs ht e. h.marks s t hs ht (finer-extended table splits more old new x s t hs ht e) }
+  marks = λ s t hs ht e. h.marks s t hs ht (finer-extended table splits more old new x s t hs ht e);
+}

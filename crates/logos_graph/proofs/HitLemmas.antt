@@ -24,13 +24,15 @@ pub hits-taken : (n i : ℕ) (led : ℕ → ℕ → Option ℕ) (sources hits hi
 hits-taken n i led sources hits hits' b k h p e =
     let s : ℕ = slice_index sources i in
     let at : (j : ℕ) → j < length hits' → ((j < length hits) × (slice_index hits' j ≡ slice_index hits j)) ⊎ (slice_index hits' j ≡ s) =
-      (λ j l. elim (cases_lt j (length hits)) [ inl x ↦ inl (x, grind (arith, common_steps)) | inr g ↦ inr (grind (arith, common_steps)) ]) in
+    (λ j l. elim (cases_lt j (length hits)) [ inl x ↦ inl (x, grind (arith, common_steps)) | inr g ↦ inr (grind (arith, common_steps)) ]) in
     record {
       inside = λ j l. elim (at j l) [ inl x ↦ let y = h.inside j x.0 in omega (arith, x.1) | inr x ↦ omega (arith, x, p.0) ];
       lead_in = λ j l. elim (at j l) [ inl x ↦ ap (λ (v : ℕ). led v k) x.1 ∙ h.lead_in j x.0 | inr x ↦ ap (λ (v : ℕ). led v k) x ∙ p.1 ];
       all = λ j l m q. elim (eqb_tells j i) [
-          inl x ↦ rw e (rw x.1 (has-push_at hits s))
-        | inr d ↦ rw e (has-push hits s (slice_index sources j) (h.all j (omega (arith, d.1)) m q)) ] }
+        | inl x ↦ rw e (rw x.1 (has-push_at hits s))
+        | inr d ↦ rw e (has-push hits s (slice_index sources j) (h.all j (omega (arith, d.1)) m q))
+      ];
+    }
 
 pub hits-skipped : (n i : ℕ) (led : ℕ → ℕ → Option ℕ) (sources hits hits' : List ℕ) (b k : ℕ) → HitsSoFar n i led sources hits b k →
     ((slice_index sources i < n) × (led (slice_index sources i) k ≡ Some b) → ⊥) → hits' ≡ hits → HitsSoFar n (i + 1) led sources hits' b k
@@ -38,17 +40,20 @@ hits-skipped n i led sources hits hits' b k h p e = record {
   inside = λ j l. rw e (h.inside j (rw e at l));
   lead_in = λ j l. rw e (h.lead_in j (rw e at l));
   all = λ j l m q. elim (eqb_tells j i) [
-      inl x ↦ absurd (p (rw x.1 at m, rw x.1 at q))
-    | inr d ↦ rw e (h.all j (omega (arith, d.1)) m q) ] }
+    | inl x ↦ absurd (p (rw x.1 at m, rw x.1 at q))
+    | inr d ↦ rw e (h.all j (omega (arith, d.1)) m q)
+  ];
+}
 
 pub hits-all : (n : ℕ) (led : ℕ → ℕ → Option ℕ) (sources hits : List ℕ) (b k : ℕ) → HitsSoFar n (length sources) led sources hits b k → AreHits n led sources hits b k
 hits-all n led sources hits b k h = record {
   inside = h.inside;
   lead_in = h.lead_in;
   all = λ s l e q. let p = has_index sources s e in
-    let m : slice_index sources p.0 < n = rw p.2 l in
-    let r : led (slice_index sources p.0) k ≡ Some b = rw p.2 q in
-    ap (has hits) (sym p.2) ∙ h.all p.0 p.1 m r }
+      let m : slice_index sources p.0 < n = rw p.2 l in
+      let r : led (slice_index sources p.0) k ≡ Some b = rw p.2 q in
+      ap (has hits) (sym p.2) ∙ h.all p.0 p.1 m r;
+}
 
 -- the predecessors of the states of a block are its sources
 pub sources-found : (table : Table) (block : ℕ → ℕ) (from : List (Vec ℕ Global)) (sources : List ℕ) (b : ℕ) → ArePredecessors (size table) 257 (to table) from →
@@ -86,16 +91,19 @@ module _ (table : Table) (splits more : List Split) (old new twins hits sources 
   -- where a state was is known from where it is
   was : (s : ℕ) → s < size table → slice_index old s ≡ block_before more (length splits) (slice_index new s)
   was s hs = elim (h.kept s hs) [
-      inl e ↦ sym (ap (block_before more (length splits)) e ∙ before_old more (length splits) (slice_index old s) (within_old s hs))
+    | inl e ↦ sym (ap (block_before more (length splits)) e ∙ before_old more (length splits) (slice_index old s) (within_old s hs))
     | inr p ↦ elim (twin_cases twins (length splits) (slice_index old s)) [
-          inl q ↦ sym (ap (block_before more (length splits)) (p.1 ∙ q.1) ∙ before_new more (length splits) (slice_index twins (slice_index old s)) q.0 ∙ (tw.named (slice_index old s) q.0).1)
-        | inr q ↦ sym (ap (block_before more (length splits)) (p.1 ∙ q.1) ∙ before_old more (length splits) (slice_index old s) (within_old s hs)) ] ]
+      | inl q ↦ sym (ap (block_before more (length splits)) (p.1 ∙ q.1) ∙ before_new more (length splits) (slice_index twins (slice_index old s)) q.0 ∙ (tw.named (slice_index old s) q.0).1)
+      | inr q ↦ sym (ap (block_before more (length splits)) (p.1 ∙ q.1) ∙ before_old more (length splits) (slice_index old s) (within_old s hs))
+    ]
+  ]
 
   -- a state of a new block is hit
   is_hit : (j s : ℕ) → length splits ≤ j → s < size table → slice_index new s ≡ j → has hits s ≡ true
   is_hit j s l hs e = elim (h.kept s hs) [
-      inl q ↦ absurd (let w = within_old s hs in omega (arith, q))
-    | inr p ↦ p.0 ]
+    | inl q ↦ absurd (let w = within_old s hs in omega (arith, q))
+    | inr p ↦ p.0
+  ]
 
   -- and one that has not left for it is not
   not_hit : (j t : ℕ) → length splits ≤ j → j < length more → slice_index new t ≢ j → slice_index old t ≡ (split_at more j).parent → has hits t ≡ true → ⊥
@@ -103,8 +111,9 @@ module _ (table : Table) (splits more : List Split) (old new twins hits sources 
       let p = tw.paired j l m in
       let q : slice_index twins (slice_index old t) ≡ j = ap (slice_index twins) e ∙ p in
       elim (twin_cases twins (length splits) (slice_index old t)) [
-        inl z ↦ ne (at_hit t hit ∙ z.1 ∙ q)
-      | inr z ↦ omega (arith, z.0, q) ]
+        | inl z ↦ ne (at_hit t hit ∙ z.1 ∙ q)
+        | inr z ↦ omega (arith, z.0, q)
+      ]
 
   pub extension-hits : IsExtension table splits more (slice_index old) (slice_index new)
   extension-hits = record {
@@ -112,7 +121,8 @@ module _ (table : Table) (splits more : List Split) (old new twins hits sources 
     within = within;
     before = was;
     older = tw.older;
-    parted = parted }
+    parted = parted;
+  }
     where
       parted : (j s t : ℕ) → length splits ≤ j → j < length more → s < size table → t < size table → slice_index new s ≡ j → slice_index new t ≢ j → slice_index old t ≡ (split_at more j).parent →
           ArePartedBy table (slice_index old) (split_at more j).symbol s t

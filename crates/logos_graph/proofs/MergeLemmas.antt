@@ -27,6 +27,7 @@ fewer_pairs n fine block s t finer hs ht e d =
     one : (b : Bool) → (if b then 1 else 0) ≤ 1
     one true = omega arith
     one false = omega arith
+
     pair : (u v : ℕ) → u < n → v < n → (if nat_eq (fine u) (fine v) then 1 else 0) ≤ (if nat_eq (block u) (block v) then 1 else 0)
     pair u v hu hv = go (eqb_tells (fine u) (fine v))
       where
@@ -37,6 +38,7 @@ fewer_pairs n fine block s t finer hs ht e d =
             let w : nat_eq (block u) (block v) ≡ true = grind (arith, nat_tests) in
             rw w (one (nat_eq (fine u) (fine v)))
         go (inr q) = rw q.0 (omega arith)
+
     parted : (if nat_eq (fine s) (fine t) then 1 else 0) < (if nat_eq (block s) (block t) then 1 else 0)
     parted =
         let w : nat_eq (block s) (block t) ≡ true = grind (arith, nat_tests) in

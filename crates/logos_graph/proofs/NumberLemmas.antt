@@ -36,7 +36,8 @@ module _ (edge : ℕ → ℕ → Option ℕ) (numbers states numbers' states' : 
     symbol = h.symbol;
     first = rw e (λ j p l. h.first j p l);
     passed = λ j p l. before_grows (h.place j) (h.symbol j) i k (h.passed j p (rw e at l));
-    rises = λ j g p l m. h.rises j g p l (rw e at m) }
+    rises = λ j g p l m. h.rises j g p l (rw e at m);
+  }
     where
       was : (r l b : ℕ) → r < length states → ComesBefore r l i k ⊎ ((r ≡ i) × (l ≡ k)) → edge (slice_index states r) l ≡ Some b → IsMet numbers' b
       was r l b m (inl c) q = met_kept numbers numbers' grows b (h.met r l b m c q)
@@ -82,7 +83,8 @@ module _ (edge : ℕ → ℕ → Option ℕ) (numbers states numbers' states' : 
     first_old j m r l f = record {
       lower = f.lower;
       enters = let w = f.lower in ap (λ (x : ℕ). edge x l) (front r (omega arith)) ∙ f.enters ∙ ap Some (sym (front j m));
-      none = λ s g c q. f.none s g c (old_edge s g (slice_index states j) (source s c) (q ∙ ap Some (front j m))) }
+      none = λ s g c q. f.none s g c (old_edge s g (slice_index states j) (source s c) (q ∙ ap Some (front j m)));
+    }
       where
         source : (s : ℕ) {g : ℕ} → ComesBefore s g r l → s < length states
         source s (inl x) = let w = f.lower in omega arith
@@ -92,7 +94,8 @@ module _ (edge : ℕ → ℕ → Option ℕ) (numbers states numbers' states' : 
     first_new = record {
       lower = place;
       enters = ap (λ (x : ℕ). edge x k) (front i place) ∙ new ∙ ap Some (sym back);
-      none = λ s g c q. let m = h.met s g b (source s c) c (old_edge s g b (source s c) (q ∙ ap Some back)) in omega arith }
+      none = λ s g c q. let m = h.met s g b (source s c) c (old_edge s g b (source s c) (q ∙ ap Some back)) in omega arith;
+    }
       where
         source : (s : ℕ) {g : ℕ} → ComesBefore s g i k → s < length states
         source s (inl x) = omega arith
@@ -105,7 +108,8 @@ module _ (edge : ℕ → ℕ → Option ℕ) (numbers states numbers' states' : 
       symbol = new_symbol;
       first = λ j p l. first j p (cases_lt j (length states)) l;
       passed = λ j p l. passed j p (cases_lt j (length states)) l;
-      rises = λ j g p l m. rises j g p l (cases_lt g (length states)) m }
+      rises = λ j g p l m. rises j g p l (cases_lt g (length states)) m;
+    }
       where
         was : (r l c : ℕ) → r < length states' → ComesBefore r l i k ⊎ ((r ≡ i) × (l ≡ k)) → edge (slice_index states' r) l ≡ Some c → IsMet numbers' c
         was r l c m (inl (inl x)) q = met_kept numbers numbers' grows c (h.met r l c (omega arith) (inl x) (old_edge r l c (omega arith) q))
@@ -116,18 +120,21 @@ module _ (edge : ℕ → ℕ → Option ℕ) (numbers states numbers' states' : 
             let z = x.0 in
             let q' = old_edge r l c (omega arith) q in
             met c (sym (ap (λ (y : ℕ). edge (slice_index states y) k) x.0) ∙ sym (ap (λ (y : ℕ). edge (slice_index states r) y) x.1) ∙ q')
+
         first : (j : ℕ) → 0 < j → (j < length states) ⊎ (length states ≤ j) → j < length states' → IsFirstInto edge states' j (new_place j) (new_symbol j)
         first j p (inl m) l = rw (place_old j m, symbol_old j m) (first_old j m (h.place j) (h.symbol j) (h.first j p m))
         first j p (inr m) l =
             let z = longer in
             let at : length states ≡ j = omega arith in
             subst (λ (j : ℕ). IsFirstInto edge states' j (new_place j) (new_symbol j)) at (rw (place_new, symbol_new) first_new)
+
         passed : (j : ℕ) → 0 < j → (j < length states) ⊎ (length states ≤ j) → j < length states' → ComesBefore (new_place j) (new_symbol j) i (k + 1)
         passed j p (inl m) l = rw (place_old j m, symbol_old j m) (before_grows (h.place j) (h.symbol j) i k (h.passed j p m))
         passed j p (inr m) l =
             let z = longer in
             let at : length states ≡ j = omega arith in
             subst (λ (j : ℕ). ComesBefore (new_place j) (new_symbol j) i (k + 1)) at (rw (place_new, symbol_new) (inr (refl, omega arith)))
+
         rises : (j g : ℕ) → 0 < j → j < g → (g < length states) ⊎ (length states ≤ g) → g < length states' → ComesBefore (new_place j) (new_symbol j) (new_place g) (new_symbol g)
         rises j g p l (inl m) n =
             let a = h.rises j g p l m in
@@ -153,7 +160,8 @@ turn_next edge wide numbers states i h = record {
   symbol = h.symbol;
   first = h.first;
   passed = λ j p l. up (h.place j) (h.symbol j) (h.passed j p l);
-  rises = h.rises }
+  rises = h.rises;
+}
   where
     down : (r l : ℕ) → ComesBefore r l (i + 1) 0 → l < 257 → ComesBefore r l i 257
     down r l (inl x) w = go (cases_lt r i)
@@ -162,6 +170,7 @@ turn_next edge wide numbers states i h = record {
         go (inl y) = inl y
         go (inr y) = inr (omega arith, w)
     down r l (inr x) w = let z = x.1 in absurd (omega arith)
+
     up : (r l : ℕ) → ComesBefore r l i 257 → ComesBefore r l (i + 1) 0
     up r l (inl x) = inl (omega arith)
     up r l (inr x) = let z = x.0 in inl (omega arith)
@@ -174,7 +183,8 @@ turn_first edge numbers states l = record {
   symbol = λ j. 0;
   first = λ j p m. absurd (omega arith);
   passed = λ j p m. absurd (omega arith);
-  rises = λ j g p m n. absurd (omega arith) }
+  rises = λ j g p m n. absurd (omega arith);
+}
   where
     none : (r k : ℕ) → ComesBefore r k 0 0 → ⊥
     none r k (inl x) = omega arith

@@ -142,8 +142,11 @@ module _ (test : Look → Bool) (M : ℕ → Type 0) (d : Type 0) where
           go zero e h = inl (rw is ((noted_has numbers n left k).1 (inr (omega (arith, e, le), leaves.1 h))))
           go (suc j) e h =
               let z : j ≡ k - (n + 1) = omega (arith, e) in
-              inr (omega (arith, e), subst (λ j. ExitsIn rest j test (λ p. M (base + width t + p)) d) z
-              (ExitsIn-map rest j test (λ p. M (base + (width t + p))) (λ p. M (base + width t + p)) d d (λ q lt. subst M (omega arith)) (λ u. u) h))
+              inr (
+                omega (arith, e),
+                subst (λ j. ExitsIn rest j test (λ p. M (base + width t + p)) d) z
+                    (ExitsIn-map rest j test (λ p. M (base + (width t + p))) (λ p. M (base + width t + p)) d d (λ q lt. subst M (omega arith)) (λ u. u) h),
+              )
 
 -- one more pattern reads
 pub owes_places_step : (test : Look → Bool) (marks : List ℕ) (entered left : Bool) (ts rest : List Core) (t : Core) (x base : ℕ) (places new : List ℕ) →

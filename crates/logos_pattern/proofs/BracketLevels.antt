@@ -207,7 +207,7 @@ close_adds l (over k outer) q e =
     let made : Level = with_members outer (nested outer.members x) in
     adds_at (record { level = l; stack = over k outer }) Close (record { level = made; stack = k }) q (record {
       tokens = level_more outer made k (bracket_tokens x) refl refl (inside_more outer.before outer.members (nested outer.members x) (bracket_tokens x) refl)
-      ∙ sym (append_assoc (tokens_at outer k) (Open l.negated l.lead ∷ operands_tokens (level_inside l)) (Close ∷ []));
+          ∙ sym (append_assoc (tokens_at outer k) (Open l.negated l.lead ∷ operands_tokens (level_inside l)) (Close ∷ []));
       same = same_outermost outer made k refl refl;
     }) e
 

@@ -349,4 +349,3 @@ closed flags base negated lead text here after s r last e = from r.place.level r
           is_set = ap (λ (x : Frames). whole flags x.top) frames ∙ whole_of flags (base + 0 + 1) l ∙ ap (bracket_set flags) b;
           is_depth = ap (λ (x : Frames). x.top.inner) frames ∙ (let d = depth_inside l.before l.members in omega arith);
         }
-

@@ -105,7 +105,7 @@ close_adds flags l (over k outer opening) z e =
     let q : Place = record { level = outer; stack = k } in
     adds_at flags (record { level = l; stack = over k outer opening }) closes (put_piece q x) z (record {
       tokens = tokens_more q (with_piece outer x) (opens opening ∷ mid ++ closes ∷ []) (inside_more outer.before outer.items (piece outer.items x) (opens opening ∷ mid ++ closes ∷ []) refl)
-      ∙ sym (append_assoc (tokens_of q) (opens opening ∷ []) (mid ++ closes ∷ [])) ∙ sym (append_assoc (tokens_of q ++ opens opening ∷ []) mid (closes ∷ []));
+          ∙ sym (append_assoc (tokens_of q) (opens opening ∷ []) (mid ++ closes ∷ [])) ∙ sym (append_assoc (tokens_of q ++ opens opening ∷ []) mid (closes ∷ []));
       fits = λ f h. (f.0.0, piece_fits (front_flags flags k) outer x f.1 f.0.1);
     }) e
 

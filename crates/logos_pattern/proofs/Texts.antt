@@ -180,15 +180,18 @@ still_open flags text s names r opened depth spelled =
 
 pub found : (flags : Flags) (text : Text) (s : State) (names : Names) (tree : Tree) → HasRead flags text [] s names → s.below ≡ [] → tree ≡ finished s.top → s.top.inner ≤ 250 → IsFound flags text tree
 found flags text s names tree r ended is shallow =
-    let w = is_whole flags r.tokens s ended (is_read flags r.tokens s r.run) in
-    (s.top.inner, shallow, record {
-      written = w.branches;
-      cut = subst (λ x. Cuts text x []) (sym w.tokens) r.cut;
-      fit = w.fits;
-      names = subst (NamesDiffer []) (sym w.tokens) r.differ;
-      is_tree = sym (is ∙ w.tree);
-      is_depth = sym w.depth;
-    })
+    let w = is_whole flags r.tokens s ended (is_read flags r.tokens s r.run) in (
+      s.top.inner,
+      shallow,
+      record {
+        written = w.branches;
+        cut = subst (λ x. Cuts text x []) (sym w.tokens) r.cut;
+        fit = w.fits;
+        names = subst (NamesDiffer []) (sym w.tokens) r.differ;
+        is_tree = sym (is ∙ w.tree);
+        is_depth = sym w.depth;
+      },
+    )
 
 -- ---- a text has one tree
 

@@ -4,12 +4,11 @@ ghost use Rattle.logos_graph.specs.Merge.{led, IsSound, IsFiner, IsExtension, Ar
 ghost use Rattle.logos_graph.specs.Reduce.{size, to};
 ghost use Rattle.logos_graph.specs.Rows.{target_by};
 
-use std::alloc::{AllocError, Global};
-
 use super::blocks::{Blocks, Split, by_marks};
 use super::refine::{block_of, refine};
 use super::rows::{Row, WIDTH};
 use super::table::{Table, target_at};
+use std::alloc::{AllocError, Global};
 
 /// For each block one of its states.
 fn leaders_of(alloc: Global, blocks: &Blocks) -> Result<Vec<usize>, AllocError>
@@ -30,7 +29,7 @@ fn first_difference(row: &Row, other: &Row, blocks: &Vec<usize>) -> Option<usize
     ensures { MatchOption result
         ((k : ℕ) → option_map (slice_index blocks.now.items) (target_by row.now k) ≡ option_map (slice_index blocks.now.items) (target_by other.now k))
         (λ k. (k < 257)
-            × (option_map (slice_index blocks.now.items) (target_by row.now k) ≢ option_map (slice_index blocks.now.items) (target_by other.now k))) }
+        × (option_map (slice_index blocks.now.items) (target_by row.now k) ≢ option_map (slice_index blocks.now.items) (target_by other.now k))) }
 {
     for k in 0..WIDTH {
         if block_of(target_at(row, k), blocks) != block_of(target_at(other, k), blocks) {
@@ -47,11 +46,11 @@ fn find_fault(table: &Table, blocks: &Vec<usize>, leaders: &Vec<usize>) -> Optio
     requires leaders { AreLeaders (size table.now) (slice_index blocks.now.items) (slice_index leaders.now.items) }
     ensures { MatchOption result
         ((s k : ℕ) → s < size table.now →
-            led table.now (slice_index blocks.now.items) s k
-                ≡ led table.now (slice_index blocks.now.items) (slice_index leaders.now.items (slice_index blocks.now.items s)) k)
+        led table.now (slice_index blocks.now.items) s k
+        ≡ led table.now (slice_index blocks.now.items) (slice_index leaders.now.items (slice_index blocks.now.items s)) k)
         (λ p. (p.0 < size table.now) × (p.1 < 257)
-            × (led table.now (slice_index blocks.now.items) p.0 p.1
-                ≢ led table.now (slice_index blocks.now.items) (slice_index leaders.now.items (slice_index blocks.now.items p.0)) p.1)) }
+        × (led table.now (slice_index blocks.now.items) p.0 p.1
+        ≢ led table.now (slice_index blocks.now.items) (slice_index leaders.now.items (slice_index blocks.now.items p.0)) p.1)) }
 {
     for s in 0..table.len() {
         let leader = leaders[blocks[s]];
@@ -63,7 +62,15 @@ fn find_fault(table: &Table, blocks: &Vec<usize>, leaders: &Vec<usize>) -> Optio
 }
 
 /// The block of a state once those of a block that lead to one place are in a new one.
-fn half_of(table: &Table, blocks: &Vec<usize>, t: usize, k: usize, home: usize, to: Option<usize>, fresh: usize) -> usize
+fn half_of(
+    table: &Table,
+    blocks: &Vec<usize>,
+    t: usize,
+    k: usize,
+    home: usize,
+    to: Option<usize>,
+    fresh: usize,
+) -> usize
     requires len { vec_len blocks.now ≡ size table.now }
     requires t_in { t < size table.now }
     requires k_in { k < 257 }
@@ -79,7 +86,15 @@ fn half_of(table: &Table, blocks: &Vec<usize>, t: usize, k: usize, home: usize, 
 }
 
 /// The blocks, once those states of a block that lead to one place by a symbol are in a new one.
-fn halves(alloc: Global, table: &Table, blocks: &Vec<usize>, k: usize, home: usize, to: Option<usize>, fresh: usize) -> Result<Vec<usize>, AllocError>
+fn halves(
+    alloc: Global,
+    table: &Table,
+    blocks: &Vec<usize>,
+    k: usize,
+    home: usize,
+    to: Option<usize>,
+    fresh: usize,
+) -> Result<Vec<usize>, AllocError>
     requires len { vec_len blocks.now ≡ size table.now }
     requires k_in { k < 257 }
     ensures len { IfOk result (λ v. vec_len v ≡ size table.now) }
@@ -94,7 +109,14 @@ fn halves(alloc: Global, table: &Table, blocks: &Vec<usize>, k: usize, home: usi
 }
 
 /// Parts a state and those like it from the leader of its block, who leads elsewhere.
-fn split_off(alloc: Global, table: &Table, blocks: Blocks, leader: usize, s: usize, k: usize) -> Result<Blocks, AllocError>
+fn split_off(
+    alloc: Global,
+    table: &Table,
+    blocks: Blocks,
+    leader: usize,
+    s: usize,
+    k: usize,
+) -> Result<Blocks, AllocError>
     requires len { vec_len blocks.of ≡ size table.now }
     requires s_in { s < size table.now }
     requires leader_in { leader < size table.now }
@@ -109,7 +131,10 @@ fn split_off(alloc: Global, table: &Table, blocks: Blocks, leader: usize, s: usi
     let home = of[s];
     let to = block_of(table.target(s, k), &of);
     let halves = halves(alloc, table, &of, k, home, to, splits.len())?;
-    splits.push(Split { parent: home, symbol: Some(k) })?;
+    splits.push(Split {
+        parent: home,
+        symbol: Some(k),
+    })?;
     Ok(Blocks { of: halves, splits })
 }
 

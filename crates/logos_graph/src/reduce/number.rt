@@ -7,12 +7,11 @@ ghost use Rattle.logos_graph.specs.ReduceOrder.{IsMet, Grows};
 ghost use Rattle.logos_graph.specs.Rows.{target_by, target_in, target_of};
 ghost use Rattle.logos_graph.specs.RowsKept.{rows_of};
 
-use std::alloc::{AllocError, Global};
-
 use super::order::Order;
 use super::refine::block_of;
 use super::rows::{Row, Rows, WIDTH};
 use super::table::{Mark, Table, target_at};
+use std::alloc::{AllocError, Global};
 
 /// Meets a block, if there is one.
 fn meet_target(order: &mut Order, target: Option<usize>) -> Result<(), AllocError>
@@ -30,7 +29,13 @@ fn meet_target(order: &mut Order, target: Option<usize>) -> Result<(), AllocErro
 }
 
 /// Meets the blocks to which a block leads.
-fn meet_targets(order: &mut Order, table: &Table, blocks: &Vec<usize>, leaders: &Vec<usize>, i: usize) -> Result<(), AllocError>
+fn meet_targets(
+    order: &mut Order,
+    table: &Table,
+    blocks: &Vec<usize>,
+    leaders: &Vec<usize>,
+    i: usize,
+) -> Result<(), AllocError>
     requires place { i < vec_len order.old.states }
     requires len { vec_len blocks.now ≡ size table.now }
     requires room { vec_len leaders.now ≡ vec_len order.old.numbers }
@@ -51,7 +56,13 @@ fn meet_targets(order: &mut Order, table: &Table, blocks: &Vec<usize>, leaders: 
 }
 
 /// The blocks in the order of first visits, breadth first from the block of the root.
-fn breadth_first(alloc: Global, table: &Table, blocks: &Vec<usize>, leaders: &Vec<usize>, root: usize) -> Result<Order, AllocError>
+fn breadth_first(
+    alloc: Global,
+    table: &Table,
+    blocks: &Vec<usize>,
+    leaders: &Vec<usize>,
+    root: usize,
+) -> Result<Order, AllocError>
     requires root_in { root < size table.now }
     requires len { vec_len blocks.now ≡ size table.now }
     requires within { (s : ℕ) → s < size table.now → slice_index blocks.now.items s < vec_len leaders.now }
@@ -90,7 +101,13 @@ fn numbered_row(row: &Row, blocks: &Vec<usize>, numbers: &Vec<usize>) -> Row
 }
 
 /// The rows of the blocks, in their order.
-fn numbered_rows(alloc: Global, table: &Table, blocks: &Vec<usize>, leaders: &Vec<usize>, order: &Order) -> Result<Rows, AllocError>
+fn numbered_rows(
+    alloc: Global,
+    table: &Table,
+    blocks: &Vec<usize>,
+    leaders: &Vec<usize>,
+    order: &Order,
+) -> Result<Rows, AllocError>
     requires len { vec_len blocks.now ≡ size table.now }
     requires room { vec_len leaders.now ≡ vec_len order.now.numbers }
     requires within { (s : ℕ) → s < size table.now → slice_index blocks.now.items s < vec_len leaders.now }
@@ -99,7 +116,7 @@ fn numbered_rows(alloc: Global, table: &Table, blocks: &Vec<usize>, leaders: &Ve
     ensures len { IfOk result (λ r. length (rows_of r) ≡ vec_len order.now.states) }
     ensures rows { IfOk result (λ r. (i k : ℕ) → i < vec_len order.now.states → target_in (rows_of r) i k
         ≡ option_and_then (λ b. target_of (slice_index order.now.numbers.items b))
-            (led table.now (slice_index blocks.now.items) (slice_index leaders.now.items (slice_index order.now.states.items i)) k)) }
+        (led table.now (slice_index blocks.now.items) (slice_index leaders.now.items (slice_index order.now.states.items i)) k)) }
 {
     let mut rows = Rows::new(alloc);
     for block in &order.states {
@@ -110,7 +127,12 @@ fn numbered_rows(alloc: Global, table: &Table, blocks: &Vec<usize>, leaders: &Ve
 }
 
 /// The marks of the blocks, in their order.
-fn numbered_marks(alloc: Global, table: &Table, leaders: &Vec<usize>, order: &Order) -> Result<Vec<Mark>, AllocError>
+fn numbered_marks(
+    alloc: Global,
+    table: &Table,
+    leaders: &Vec<usize>,
+    order: &Order,
+) -> Result<Vec<Mark>, AllocError>
     requires room { vec_len leaders.now ≡ vec_len order.now.numbers }
     requires leaders { (i : ℕ) → i < vec_len order.now.states → slice_index leaders.now.items (slice_index order.now.states.items i) < size table.now }
     ensures len { IfOk result (λ v. vec_len v ≡ vec_len order.now.states) }
@@ -131,7 +153,13 @@ pub struct Numbered {
 }
 
 /// The blocks as the states of a table, in the order of first visits from the block of the root.
-pub fn number(alloc: Global, table: &Table, blocks: &Vec<usize>, leaders: &Vec<usize>, root: usize) -> Result<Numbered, AllocError>
+pub fn number(
+    alloc: Global,
+    table: &Table,
+    blocks: &Vec<usize>,
+    leaders: &Vec<usize>,
+    root: usize,
+) -> Result<Numbered, AllocError>
     requires root_in { root < size table.now }
     requires len { vec_len blocks.now ≡ size table.now }
     requires within { (s : ℕ) → s < size table.now → slice_index blocks.now.items s < vec_len leaders.now }
@@ -142,5 +170,8 @@ pub fn number(alloc: Global, table: &Table, blocks: &Vec<usize>, leaders: &Vec<u
     let rows = numbered_rows(alloc, table, blocks, leaders, &order)?;
     let marks = numbered_marks(alloc, table, leaders, &order)?;
     let Order { numbers: _, states } = order;
-    Ok(Numbered { table: Table { marks, rows }, states })
+    Ok(Numbered {
+        table: Table { marks, rows },
+        states,
+    })
 }

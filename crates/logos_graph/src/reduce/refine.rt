@@ -5,14 +5,13 @@ ghost use Rattle.logos_graph.specs.MergeLists.{has, has_in, AreFiled, AreSources
 ghost use Rattle.logos_graph.specs.Reduce.{size, to};
 ghost use Rattle.logos_graph.specs.Rows.{target_by};
 
-use std::alloc::{AllocError, Global};
-
 use super::blocks::Blocks;
 use super::hints::Hints;
 use super::lists::{add, empty_lists, file, predecessors};
 use super::rows::{Row, WIDTH};
 use super::table::{Table, target_at};
 use super::twins::{Work, split_on};
+use std::alloc::{AllocError, Global};
 
 /// The block of a target.
 pub fn block_of(target: Option<usize>, blocks: &Vec<usize>) -> Option<usize>
@@ -36,7 +35,12 @@ fn add_all(sources: &mut Vec<usize>, lists: &Vec<Vec<usize>>, t: usize) -> Resul
 }
 
 /// The states with an edge into a block, perhaps with others, and perhaps more than once.
-fn all_sources(alloc: Global, work: &Work, from: &Vec<Vec<usize>>, b: usize) -> Result<Vec<usize>, AllocError>
+fn all_sources(
+    alloc: Global,
+    work: &Work,
+    from: &Vec<Vec<usize>>,
+    b: usize,
+) -> Result<Vec<usize>, AllocError>
     requires b_in { b < vec_len work.now.splits }
     requires len { vec_len from.now ≡ vec_len work.now.blocks }
     ensures { IfOk result (λ v. (t s : ℕ) → t < vec_len work.now.blocks → slice_index work.now.blocks.items t ≡ b →
@@ -63,7 +67,12 @@ fn without_repeats(alloc: Global, list: &Vec<usize>) -> Result<Vec<usize>, Alloc
 }
 
 /// The states with an edge into a block, perhaps with others.
-fn sources_of(alloc: Global, work: &Work, from: &Vec<Vec<usize>>, b: usize) -> Result<Vec<usize>, AllocError>
+fn sources_of(
+    alloc: Global,
+    work: &Work,
+    from: &Vec<Vec<usize>>,
+    b: usize,
+) -> Result<Vec<usize>, AllocError>
     requires b_in { b < vec_len work.now.splits }
     requires len { vec_len from.now ≡ vec_len work.now.blocks }
     ensures { IfOk result (λ v. (t s : ℕ) → t < vec_len work.now.blocks → slice_index work.now.blocks.items t ≡ b →
@@ -85,7 +94,14 @@ fn leads_into(table: &Table, blocks: &Vec<usize>, s: usize, b: usize, k: usize) 
 }
 
 /// Those of the sources that lead into the block by the symbol.
-fn hits_of(alloc: Global, table: &Table, blocks: &Vec<usize>, sources: &Vec<usize>, b: usize, k: usize) -> Result<Vec<usize>, AllocError>
+fn hits_of(
+    alloc: Global,
+    table: &Table,
+    blocks: &Vec<usize>,
+    sources: &Vec<usize>,
+    b: usize,
+    k: usize,
+) -> Result<Vec<usize>, AllocError>
     requires len { vec_len blocks.now ≡ size table.now }
     requires k_in { k < 257 }
     ensures hits { IfOk result (λ v. AreHits (size table.now) (led table.now (slice_index blocks.now.items)) sources.now.items v.items b k) }
@@ -100,7 +116,14 @@ fn hits_of(alloc: Global, table: &Table, blocks: &Vec<usize>, sources: &Vec<usiz
 }
 
 /// Splits the blocks by the states that lead into a block by one symbol.
-fn split_by_symbol(alloc: Global, table: &Table, work: Work, sources: &Vec<usize>, b: usize, k: usize) -> Result<Work, AllocError>
+fn split_by_symbol(
+    alloc: Global,
+    table: &Table,
+    work: Work,
+    sources: &Vec<usize>,
+    b: usize,
+    k: usize,
+) -> Result<Work, AllocError>
     requires k_in { k < 257 }
     requires len { vec_len work.blocks ≡ size table.now }
     requires b_in { b < vec_len work.splits }
@@ -149,7 +172,13 @@ fn symbols_into(table: &Table, blocks: &Vec<usize>, sources: &Vec<usize>, b: usi
 }
 
 /// Splits the blocks by the states that lead into a block, symbol by symbol.
-fn split_by_block(alloc: Global, table: &Table, work: Work, sources: &Vec<usize>, b: usize) -> Result<Work, AllocError>
+fn split_by_block(
+    alloc: Global,
+    table: &Table,
+    work: Work,
+    sources: &Vec<usize>,
+    b: usize,
+) -> Result<Work, AllocError>
     requires len { vec_len work.blocks ≡ size table.now }
     requires b_in { b < vec_len work.splits }
     requires sources { AreSources (size table.now) (led table.now (slice_index work.blocks.items)) sources.now.items b }
@@ -196,13 +225,23 @@ impl Work {
         ensures of { result.of ≡ self.blocks }
         ensures splits { result.splits ≡ self.splits }
     {
-        let Work { blocks, lists: _, twins: _, splits, hints: _ } = self;
+        let Work {
+            blocks,
+            lists: _,
+            twins: _,
+            splits,
+            hints: _,
+        } = self;
         Blocks { of: blocks, splits }
     }
 }
 
 /// Each state in the list of its block.
-fn filed_states(alloc: Global, blocks: &Vec<usize>, room: usize) -> Result<Vec<Vec<usize>>, AllocError>
+fn filed_states(
+    alloc: Global,
+    blocks: &Vec<usize>,
+    room: usize,
+) -> Result<Vec<Vec<usize>>, AllocError>
     requires { (s : ℕ) → s < vec_len blocks.now → slice_index blocks.now.items s < room }
     ensures len { IfOk result (λ v. vec_len v ≡ room) }
     ensures filed { IfOk result (λ v. AreFiled (vec_len blocks.now) (slice_index blocks.now.items) v.items) }
@@ -225,7 +264,13 @@ fn start(alloc: Global, blocks: Blocks, room: usize) -> Result<Work, AllocError>
     let lists = filed_states(alloc, &of, room)?;
     let hints = Hints::new(alloc, &of, splits.len(), room)?;
     let twins = vec![in alloc; 0; room]?;
-    Ok(Work { blocks: of, lists, twins, splits, hints })
+    Ok(Work {
+        blocks: of,
+        lists,
+        twins,
+        splits,
+        hints,
+    })
 }
 
 /// The blocks, split as far as the list of what is to do goes.

@@ -14,7 +14,7 @@ loop-i-init c =
     let none = c.in_ok-order.ensures.none in
     let free = not_met c.in_ok-order.order.numbers.items c.index.result.now (none c.index.result.now) in
     let states : c.meet.new.self.states.items ≡ c.index.result.now ∷ [] =
-      c.in_ok-meet.ensures.fresh free ∙ ap (λ (xs : List ℕ). xs ++ c.index.result.now ∷ []) c.in_ok-order.ensures.empty in
+    c.in_ok-meet.ensures.fresh free ∙ ap (λ (xs : List ℕ). xs ++ c.index.result.now ∷ []) c.in_ok-order.ensures.empty in
     let size_of = ap length states in
     let one : length (c.index.result.now ∷ []) ≡ 1 = omega arith in
     let start : slice_index c.meet.new.self.states.items 0 ≡ block c.args.root = ap (λ (xs : List ℕ). slice_index xs 0) states ∙ b in
@@ -24,7 +24,8 @@ loop-i-init c =
       start = start;
       used = λ i l. let zero : 0 ≡ i = omega (arith, size_of, one) in (c.args.root, c.requires.root_in, sym start ∙ ap (slice_index c.meet.new.self.states.items) zero);
       passed = omega arith;
-      in_turn = turn_first (λ b k. led table block (slice_index c.args.leaders.now.items b) k) c.meet.new.self.numbers.items c.meet.new.self.states.items (omega (arith, size_of, one)) }
+      in_turn = turn_first (λ b k. led table block (slice_index c.args.leaders.now.items b) k) c.meet.new.self.numbers.items c.meet.new.self.states.items (omega (arith, size_of, one));
+    }
 
 pub loop-i-smaller : goal.loop-i-smaller
 loop-i-smaller c =
@@ -42,4 +43,5 @@ loop-i-preserved c =
       start = (kept 0 (omega (arith, c.loop-i.invariant.some))).1 ∙ c.loop-i.invariant.start;
       used = c.in_ok-meet_targets.ensures.used;
       passed = let p = (kept c.loop-i.i (omega arith)).0 in omega (arith, p);
-      in_turn = c.in_ok-meet_targets.ensures.in_turn }
+      in_turn = c.in_ok-meet_targets.ensures.in_turn;
+    }

@@ -11,7 +11,7 @@ invariant-loop-i l = record {
   start : slice_index l.order.states.items 0 ≡ slice_index l.blocks.items l.root;
   used : AreUsed (size l.table) (slice_index l.blocks.items) l.order.states.items;
   passed : l.i ≤ vec_len l.order.states;
-  in_turn : IsInTurn (λ b k. led l.table (slice_index l.blocks.items) (slice_index l.leaders.items b) k) l.order.numbers.items l.order.states.items l.i 0
+  in_turn : IsInTurn (λ b k. led l.table (slice_index l.blocks.items) (slice_index l.leaders.items b) k) l.order.numbers.items l.order.states.items l.i 0;
 }
 
 abbrev pub decreases-loop-i : goal.decreases-loop-i

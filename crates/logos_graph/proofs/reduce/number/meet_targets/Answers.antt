@@ -35,14 +35,15 @@ loop-k-preserved c =
     let place = place_kept first.numbers.items first.states.items old.numbers.items old.states.items first.in_order old.in_order c.loop-k.invariant.grows i (omega arith) in
     let at : c.index-2.result.now ≡ leader (slice_index old.states.items i) = read ∙ ap leader (sym place.1) in
     let goes : c.block_of.result ≡ led table block (leader (slice_index old.states.items i)) k =
-      c.block_of.ensures ∙ ap (option_map block) (c.target_at.ensures ∙ c.row-row.ensures.row k ∙ ap (λ (s : ℕ). to table s k) at) in
+    c.block_of.ensures ∙ ap (option_map block) (c.target_at.ensures ∙ c.row-row.ensures.row k ∙ ap (λ (s : ℕ). to table s k) at) in
     let found = c.in_ok-meet_target.ensures.states in
     record {
       len = omega (arith, c.loop-k.invariant.len, c.meet_target.ensures.len);
       grows = grows_on _ _ _ c.loop-k.invariant.grows c.meet_target.ensures.grows;
       used = used_more (size table) block old.states.items new.states.items c.loop-k.invariant.used (used_by table block (leader (slice_index old.states.items i)) k old.numbers.items old.states.items new.states.items c.block_of.result goes found);
       in_turn = turn_more (λ b k. led table block (leader b) k) old.numbers.items old.states.items new.numbers.items new.states.items i k place.0 c.loop-k.invariant.in_turn c.meet_target.ensures.grows
-          (λ b e. c.in_ok-meet_target.ensures.met b (goes ∙ e)) (met_by table block (leader (slice_index old.states.items i)) k old.numbers.items old.states.items new.states.items c.block_of.result goes found) }
+          (λ b e. c.in_ok-meet_target.ensures.met b (goes ∙ e)) (met_by table block (leader (slice_index old.states.items i)) k old.numbers.items old.states.items new.states.items c.block_of.result goes found);
+    }
 
 pub returns-clause-in_turn : goal.returns-clause-in_turn
 returns-clause-in_turn c =

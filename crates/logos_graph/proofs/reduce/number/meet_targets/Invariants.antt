@@ -10,5 +10,5 @@ invariant-loop-k l = record {
   len : vec_len l.order.numbers ≡ vec_len l.initial.order.numbers;
   grows : Grows l.initial.order.numbers.items l.order.numbers.items;
   used : AreUsed (size l.table) (slice_index l.blocks.items) l.order.states.items;
-  in_turn : IsInTurn (λ b k. led l.table (slice_index l.blocks.items) (slice_index l.leaders.items b) k) l.order.numbers.items l.order.states.items l.i l.k
+  in_turn : IsInTurn (λ b k. led l.table (slice_index l.blocks.items) (slice_index l.leaders.items b) k) l.order.numbers.items l.order.states.items l.i l.k;
 }

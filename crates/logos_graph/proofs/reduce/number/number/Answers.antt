@@ -27,12 +27,13 @@ invariant_of-result c =
       same_len = omega (arith, c.in_ok-rows.ensures.len, c.in_ok-marks.ensures.len);
       closed = λ s k t l e.
           let p = target_numbered o.numbers.items o.states.items o.in_order (led c.args.table.now (slice_index c.args.blocks.now.items) (slice_index c.args.leaders.now.items (slice_index o.states.items s)) k) t
-            (sym (c.in_ok-rows.ensures.rows s k (omega (arith, c.in_ok-marks.ensures.len))) ∙ e) in
+          (sym (c.in_ok-rows.ensures.rows s k (omega (arith, c.in_ok-marks.ensures.len))) ∙ e) in
           omega (arith, p.2, c.in_ok-marks.ensures.len);
       few =
           let few = used_few (size c.args.table.now) (slice_index c.args.blocks.now.items) (slice_index c.args.leaders.now.items) o.numbers.items o.states.items o.in_order c.in_ok-order.ensures.used c.requires.leaders in
           let small = c.args.table.now.few in
-          omega (arith, few, small, c.in_ok-marks.ensures.len) }
+          omega (arith, few, small, c.in_ok-marks.ensures.len);
+    }
 
 pub returns : goal.returns
 returns c =
@@ -46,4 +47,5 @@ returns c =
       start = c.in_ok-order.ensures.start;
       states_of = omega (arith, c.in_ok-marks.ensures.len);
       marks = λ i l. c.in_ok-marks.ensures.marks i (omega arith);
-      edges = λ i k l. c.in_ok-rows.ensures.rows i k (omega arith) }
+      edges = λ i k l. c.in_ok-rows.ensures.rows i k (omega arith);
+    }

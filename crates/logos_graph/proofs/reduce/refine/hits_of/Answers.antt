@@ -13,8 +13,9 @@ loop-s-preserved c =
     let i = c.loop-s.s-index in
     let same = c.deref-s-items.ensures.value in
     elim c.if-leads_into.branch [
-      then-leads_into+in_ok-push w ↦ hits-taken n i lead sources c.loop-s.hits.items _ c.args.b c.args.k c.loop-s.invariant (rw same at (c.leads_into.ensures.0 w.if-leads_into.true)) (ap (λ (v : Vec ℕ Global). v.items) w.hits-is ∙ (rw same at w.in_ok-push.ensures.items))
-    | else-leads_into w ↦ hits-skipped n i lead sources c.loop-s.hits.items _ c.args.b c.args.k c.loop-s.invariant (λ q. let q' = c.leads_into.ensures.1 (rw (← same) at q) in absurd (let f = w.if-leads_into.false in cc)) (ap (λ (v : Vec ℕ Global). v.items) w.hits-is) ]
+      | then-leads_into+in_ok-push w ↦ hits-taken n i lead sources c.loop-s.hits.items _ c.args.b c.args.k c.loop-s.invariant (rw same at (c.leads_into.ensures.0 w.if-leads_into.true)) (ap (λ (v : Vec ℕ Global). v.items) w.hits-is ∙ (rw same at w.in_ok-push.ensures.items))
+      | else-leads_into w ↦ hits-skipped n i lead sources c.loop-s.hits.items _ c.args.b c.args.k c.loop-s.invariant (λ q. let q' = c.leads_into.ensures.1 (rw (← same) at q) in absurd (let f = w.if-leads_into.false in cc)) (ap (λ (v : Vec ℕ Global). v.items) w.hits-is)
+    ]
 
 pub returns : goal.returns
 returns c =

@@ -16,7 +16,7 @@ extension c =
     let many : vec_len hits ≡ length hits.items = omega arith in
     let first : vec_len w.splits ≡ length w.splits.items = omega arith in
     let moved : HaveMoved (size c.args.table.now) (length hits.items) (length w.splits.items) w.blocks.items x.blocks.items x.twins.items hits.items x.lists.items =
-      rw (← states, ← many, ← first) c.in_ok-split.ensures.moved in
+    rw (← states, ← many, ← first) c.in_ok-split.ensures.moved in
     let twins : AreTwins (length w.splits.items) c.args.k x.twins.items x.splits.items = rw (← first) c.in_ok-split.ensures.twins in
     extension-hits c.args.table.now w.splits.items x.splits.items w.blocks.items x.blocks.items x.twins.items hits.items c.args.sources.now.items x.lists.items c.args.b c.args.k
     moved twins c.in_ok-split.ensures.goes_on (λ s l. let b = w.within s (omega arith) in omega arith) (λ s l. let b = x.within s (omega (arith, c.in_ok-split.ensures.len)) in omega arith)
