@@ -15,3 +15,6 @@ pub mod OpeningLaws
 pub mod BodyLaws
 pub mod PrintingLemmas
 pub mod OrderLemmas
+pub mod PrintWindows
+pub mod PrintOpenings
+pub mod PrintEnds
