@@ -18,3 +18,6 @@ pub mod OrderLemmas
 pub mod PrintWindows
 pub mod PrintOpenings
 pub mod PrintEnds
+pub mod PrintNames
+pub mod PrintBodies
+pub mod PrintLexemes

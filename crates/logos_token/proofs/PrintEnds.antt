@@ -21,16 +21,16 @@ module _ (a b : List ℕ) (p q k : ℕ) (w : Window a b p q k) where
   one_place x y v e f = omega (arith, e.0, f.0)
 
   -- steps in the window, where each one has its step in the second text
-  pub steps_same : (S T : ℕ → ℕ → Type 0) (keep : ℕ → Type 0) →
-      ((x y z v : ℕ) → At x y → At z v → z ≤ p + k → keep x → S x z → T y v) → ((x z : ℕ) → keep x → S x z → keep z) → ((x z : ℕ) → S x z → x < z) →
-      {x z : ℕ} → Steps S x z → (y v : ℕ) → At x y → At z v → z ≤ p + k → keep x → Steps T y v
-  steps_same S T keep one kept moves {x} here y v e f high h = let same : y ≡ v = one_place x y v e f in subst (λ m. Steps T y m) same here
-  steps_same S T keep one kept moves {x} {z} (step {mid = m} s r) y v e f high h =
+  pub steps_same : (top : ℕ) (S T : ℕ → ℕ → Type 0) (keep : ℕ → Type 0) →
+      ((x y z v : ℕ) → At x y → At z v → z ≤ top → keep x → S x z → T y v) → ((x z : ℕ) → keep x → S x z → keep z) → ((x z : ℕ) → S x z → x < z) →
+      {x z : ℕ} → Steps S x z → (y v : ℕ) → At x y → At z v → z ≤ top → keep x → Steps T y v
+  steps_same top S T keep one kept moves {x} here y v e f high h = let same : y ≡ v = one_place x y v e f in subst (λ m. Steps T y m) same here
+  steps_same top S T keep one kept moves {x} {z} (step {mid = m} s r) y v e f high h =
       let n = m + q - p in
       let ahead = moves x m s in
       let le = Steps-le S moves r in
       let at : At m n = (omega (arith, e.1, e.0), omega (arith, e.1)) in
-      step (one x y m n e at (omega arith) h s) (steps_same S T keep one kept moves r n v at f high (kept x m h s))
+      step (one x y m n e at (omega arith) h s) (steps_same top S T keep one kept moves r n v at f high (kept x m h s))
 
   -- quotes
 
@@ -49,7 +49,7 @@ module _ (a b : List ℕ) (p q k : ℕ) (w : Window a b p q k) where
       record {
         quote_at = n;
         until = record {
-          steps = steps_same (InQuotes quote a) (InQuotes quote b) (λ _. Unit {0}) (in_quotes quote) (λ _ _ _ _. tt) (InQuotes-moves quote a) r.until.steps y n e at (omega arith) tt;
+          steps = steps_same (p + k) (InQuotes quote a) (InQuotes quote b) (λ _. Unit {0}) (in_quotes quote) (λ _ _ _ _. tt) (InQuotes-moves quote a) r.until.steps y n e at (omega arith) tt;
           stop = w.same r.quote_at n at.0 at.1 (omega arith) ∙ r.until.stop;
         };
         behind = omega (arith, f.0, f.1, at.0, at.1);
@@ -133,13 +133,13 @@ module _ (a b : List ℕ) (p q k : ℕ) (w : Window a b p q k) where
 
   pub run_same : (test : ℕ → Bool) → test 32 ≡ false → test 10 ≡ false → test 0 ≡ false → (x y : ℕ) → At x y → IsCharBoundary a x → Run (Passes test a) x (p + k) → Run (Passes test b) y (q + k)
   run_same test s l n x y e bound r = record {
-    steps = steps_same (Passes test a) (Passes test b) (IsCharBoundary a) (passes_same test) (passes_kept test) (Passes-moves test a) r.steps y (q + k) e (omega arith, omega arith) (omega arith) bound;
+    steps = steps_same (p + k) (Passes test a) (Passes test b) (IsCharBoundary a) (passes_same test) (passes_kept test) (Passes-moves test a) r.steps y (q + k) e (omega arith, omega arith) (omega arith) bound;
     stop = blank_last test s l n (q + k) refl;
   }
 
   -- numbers
 
-  goes_on_same : (based : Bool) → (x y z v : ℕ) → At x y → At z v → z < p + k → p < x → IsCharBoundary a x → GoesOn based a x z → GoesOn based b y v
+  pub goes_on_same : (based : Bool) → (x y z v : ℕ) → At x y → At z v → z < p + k → p < x → IsCharBoundary a x → GoesOn based a x z → GoesOn based b y v
   goes_on_same based x y z v e f high low bound (letter r) = letter (passes_same is_continuing x y z v e f (omega arith) bound r)
   goes_on_same based x y z v e f high low bound (point t d g m) =
       point t (w.same x y e.0 e.1 (omega arith) ∙ d) (ap is_ascii_digit (w.same (x + 1) (y + 1) (omega (arith, e.0)) (omega (arith, e.1)) (omega arith)) ∙ g) (omega (arith, e.0, f.0))
