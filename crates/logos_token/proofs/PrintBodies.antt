@@ -1,5 +1,5 @@
 -- What literals hold in a window they hold in the second text too.
-use Rattle.std.proofs.Common.{◌≡◌, ◌≢◌, ℕ, ◌+◌, ◌-◌, ◌<◌, ◌≤◌, ◌⊎◌, ◌==◌, ◌&&◌, ◌||◌, inl, inr, Bool, true, false, List, length, get_or, filter, slice_range, Option, Some, None, MatchOption, refl, sym, ◌∙◌, ap, subst, arith}
+use Rattle.std.proofs.Common.{◌≡◌, ◌≢◌, ℕ, ◌+◌, ◌-◌, ◌<◌, ◌≤◌, ◌⊎◌, ◌==◌, ◌&&◌, ◌||◌, nat_le, inl, inr, Bool, true, false, List, length, get_or, filter, slice_range, Option, Some, None, MatchOption, refl, sym, ◌∙◌, ap, subst, arith}
 use Rattle.std.proofs.lemmas.Bool.{cases_lt, cases_Bool, false≢true, true≢false, and_parts, or_left, eqb-true, leb-true, or_cases}
 use Rattle.std.specs.Char.{is_ascii_digit, is_ascii_alphanumeric, IsScalar}
 use Rattle.std.specs.Str.{IsCharBoundary}
@@ -116,9 +116,9 @@ module _ (a b : List ℕ) (p q k : ℕ) (w : Window a b p q k) where
 digit-continuing : (c : ℕ) → is_ascii_digit c ≡ true → is_continuing c ≡ true
 unfolding is_continuing
 digit-continuing c e =
-    let r = and_parts _ _ e in
+    let r = and_parts (nat_le 48 c) (nat_le c 57) e in
     let small : c ≤ 57 = leb-true c 57 r.1 in
-    is_xid_continue-ascii c (omega arith) ∙ rw e refl
+    is_xid_continue-ascii c (omega (arith, small)) ∙ rw e refl
 
 pub digit_goes_on : (based : Bool) (bytes : List ℕ) (at : ℕ) → is_ascii_digit (get_or bytes at 0) ≡ true → GoesOn based bytes at (past bytes at)
 digit_goes_on based bytes at e =

@@ -93,7 +93,7 @@ module _ (a b : List ℕ) (p q k : ℕ) (w : Window a b p q k) where
   pair_back : (x y first second : ℕ) → At x y → x + 1 < p + k → IsPair b y first second → IsPair a x first second
   pair_back x y first second e high r = (sym (w.same x y e.0 e.1 (omega arith)) ∙ r.0, sym (w.same (x + 1) (y + 1) (omega (arith, e.0)) (omega (arith, e.1)) high) ∙ r.1)
 
-  closes_long : (depth x z : ℕ) → Closes a depth x z → 0 < depth → x + 2 ≤ z
+  pub closes_long : (depth x z : ℕ) → Closes a depth x z → 0 < depth → x + 2 ≤ z
   closes_long depth x z closed l = absurd (omega arith)
   closes_long depth x z (opens h r s) l = omega (arith, Closes-le a _ _ _ s)
   closes_long depth x z (closes h r s) l = omega (arith, Closes-le a _ _ _ s)
