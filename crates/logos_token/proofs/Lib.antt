@@ -21,3 +21,4 @@ pub mod PrintEnds
 pub mod PrintNames
 pub mod PrintBodies
 pub mod PrintLexemes
+pub mod PrintParts

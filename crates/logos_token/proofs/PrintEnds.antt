@@ -174,9 +174,9 @@ module _ (a b : List ℕ) (p q k : ℕ) (w : Window a b p q k) where
                 let i = j + p - q in
                 let returns : (h : ℕ) → i ≤ h → h < p + k → get_or a h 0 ≡ 13 = λ h t u. let n = h + q - p in sym (w.same h n (omega (arith, e.0, e.1)) (omega (arith, e.0, e.1)) u) ∙ r'.returns n (omega (arith, e.0, e.1)) (omega (arith, e.0, e.1)) in
                 r.first i (omega (arith, e.0, e.1)) (omega (arith, e.0, e.1)) (record {
-                    feed = r.holds.feed;
-                    begun = let g = r.holds.begun in omega (arith, e.0, e.1);
-                    returns = λ h t u. elim (cases_lt h (p + k)) [ inl o ↦ returns h t o | inr o ↦ r.holds.returns h o u ];
-                    closes = r.holds.closes;
+                  feed = r.holds.feed;
+                  begun = let g = r.holds.begun in omega (arith, e.0, e.1);
+                  returns = λ h t u. elim (cases_lt h (p + k)) [ inl o ↦ returns h t o | inr o ↦ r.holds.returns h o u ];
+                  closes = r.holds.closes;
                 })
           ]

@@ -252,9 +252,9 @@ module _ (a b : List ℕ) (p q k : ℕ) (w : Window a b p q k) (bound : IsCharBo
       let l : p + 2 < p + k = elim (cases_lt (p + 2) (p + k)) [
         | inl m ↦ m
         | inr m ↦ absurd (let here : p + k ≡ p + 2 = omega arith in let r = subst (IsLineEnd a) here ends.holds in elim (doc_byte (p + 2) is) [
-            | inl g ↦ no_line_end (p + 2) (λ h. omega arith) (λ h. omega arith) (omega arith) r
-            | inr g ↦ no_line_end (p + 2) (λ h. omega arith) (λ h. omega arith) (omega arith) r
-          ])
+          | inl g ↦ no_line_end (p + 2) (λ h. omega arith) (λ h. omega arith) (omega arith) r
+          | inr g ↦ no_line_end (p + 2) (λ h. omega arith) (λ h. omega arith) (omega arith) r
+        ])
       ] in
       made b q Doc (Line Doc) (q + k) (q + k) (opens_comment b q (Line Doc) (no_literal (λ g. omega arith) none) (line_there e f l is))
       (line_same a b p q k w (p + 2) (q + 2) (omega arith, omega arith) last ends) tt refl refl w.holds
@@ -421,7 +421,7 @@ module _ (a b : List ℕ) (p q k : ℕ) (w : Window a b p q k) (bound : IsCharBo
       let quote : get_or a p 0 ≡ 39 → p + 1 < p + k = λ f. let one = past-ascii a p (omega arith) in let l = placed.0 (quote_joint kind no_gap e f) in omega arith in
       made b q kind (Single kind) (past b q) (past b q)
       (opens_other b q (Single kind) (no_literal quote none) (no_comment a b p q k w p q (omega arith) (omega arith) (omega (arith, w.filled)) other)
-          (single_other kind (ap is_space same ∙ space) (no_name a b p q k w bound start) (single_there kind no_gap placed e)))
+      (single_other kind (ap is_space same ∙ space) (no_name a b p q k w bound start) (single_there kind no_gap placed e)))
       refl tt refl (no_suffix b kind (past b q) no_literal_kind) (omega (arith, w.holds, places))
 
   -- what is no literal and no comment
@@ -467,11 +467,13 @@ module _ (a b : List ℕ) (p q k : ℕ) (w : Window a b p q k) (bound : IsCharBo
   comment_cases : (o : Opening) → comment_opening a p ≡ Some o → (get_or a p 0 ≡ 47) × (((get_or a (p + 1) 0 ≡ 47) × (o ≡ Line (line_kind a (p + 2)))) ⊎ ((get_or a (p + 1) 0 ≡ 42) × (o ≡ Block (block_kind a (p + 2)))))
   unfolding comment_opening
   comment_cases o e =
-      let r = comment_parts (get_or a p 0 == 47) (get_or a (p + 1) 0 == 47) (get_or a (p + 1) 0 == 42) (line_kind a (p + 2)) (block_kind a (p + 2)) o e in
-      (eqb-true (get_or a p 0) 47 r.0, elim r.1 [
-        | inl s ↦ inl (eqb-true (get_or a (p + 1) 0) 47 s.0, s.1)
-        | inr s ↦ inr (eqb-true (get_or a (p + 1) 0) 42 s.1, s.2)
-      ])
+      let r = comment_parts (get_or a p 0 == 47) (get_or a (p + 1) 0 == 47) (get_or a (p + 1) 0 == 42) (line_kind a (p + 2)) (block_kind a (p + 2)) o e in (
+        eqb-true (get_or a p 0) 47 r.0,
+        elim r.1 [
+          | inl s ↦ inl (eqb-true (get_or a (p + 1) 0) 47 s.0, s.1)
+          | inr s ↦ inr (eqb-true (get_or a (p + 1) 0) 42 s.1, s.2)
+        ],
+      )
 
   line_result : (kind : Kind) (to end : ℕ) → literal_opening a p ≡ None → get_or a p 0 ≡ 47 → get_or a (p + 1) 0 ≡ 47 → line_kind a (p + 2) ≡ kind → kind ≢ Gap → Ends a p (Line kind) end → IsSuffixed a kind end to → IsAt kind to → LineEnds → Result kind to
   line_result kind to end none e f is no_gap ends suffixed at last = elim (line_kind_cases (p + 2)) [

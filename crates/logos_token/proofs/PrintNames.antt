@@ -146,18 +146,18 @@ module _ (a b : List ℕ) (p q k : ℕ) (w : Window a b p q k) where
       let le = run-le is_continuing a (past a x) (p + k) r in
       let start : is_start (character b y) ≡ true = ap is_start (same_character a b p q k w x y e low (omega arith) bound) ∙ t in
       let not_raw : raw_name b y ≡ true → ⊥ = λ u.
-          let parts = raw_parts b y u in
-          let hash = parts.1 in
-          let letter : get_or a x 0 ≡ 114 = sym (w.same x y e low (omega arith)) ∙ parts.0 in
-          let one = past-ascii a x (omega arith) in
-          elim (cases_lt (x + 1) (p + k)) [
-            | inl l ↦
-                let same : get_or a (x + 1) 0 ≡ 35 = sym (w.same (x + 1) (y + 1) (omega arith) (omega arith) l) ∙ hash in
-                let first : is_continuing (character a (past a x)) ≡ true = first_passes is_continuing a (past a x) (p + k) r.steps (omega arith) in
-                let c : character a (past a x) ≡ 35 = ap (character a) one ∙ character-ascii a (x + 1) (omega arith) ∙ same in
-                false≢true (sym continuing-35 ∙ ap is_continuing (sym c) ∙ first)
-            | inr l ↦ false≢true (sym (blank_fails a b p q k w (λ c. c == 35) refl refl refl (y + 1) (omega arith)) ∙ eq-eqb (get_or b (y + 1) 0) 35 hash)
-          ] in
+      let parts = raw_parts b y u in
+      let hash = parts.1 in
+      let letter : get_or a x 0 ≡ 114 = sym (w.same x y e low (omega arith)) ∙ parts.0 in
+      let one = past-ascii a x (omega arith) in
+      elim (cases_lt (x + 1) (p + k)) [
+        | inl l ↦
+            let same : get_or a (x + 1) 0 ≡ 35 = sym (w.same (x + 1) (y + 1) (omega arith) (omega arith) l) ∙ hash in
+            let first : is_continuing (character a (past a x)) ≡ true = first_passes is_continuing a (past a x) (p + k) r.steps (omega arith) in
+            let c : character a (past a x) ≡ 35 = ap (character a) one ∙ character-ascii a (x + 1) (omega arith) ∙ same in
+            false≢true (sym continuing-35 ∙ ap is_continuing (sym c) ∙ first)
+        | inr l ↦ false≢true (sym (blank_fails a b p q k w (λ c. c == 35) refl refl refl (y + 1) (omega arith)) ∙ eq-eqb (get_or b (y + 1) 0) 35 hash)
+      ] in
       let is_plain : raw_name b y ≡ false = elim (cases_Bool (raw_name b y)) [ inl u ↦ absurd (not_raw u) | inr u ↦ u ] in
       rw (name-plain b y is_plain start) (letters_same x y e low bound r)
 
@@ -193,9 +193,9 @@ module _ (a b : List ℕ) (p q k : ℕ) (w : Window a b p q k) where
       let c = same_character a b p q k w p q (omega arith) (omega arith) (omega arith) bound in
       let start : is_start (character b q) ≡ false = ap is_start c ∙ t in
       let not_raw : raw_name b q ≡ true → ⊥ = λ u.
-          let letter = (raw_parts b q u).0 in
-          let same : character b q ≡ 114 = character-ascii b q (omega arith) ∙ letter in
-          false≢true (sym start ∙ ap is_start same ∙ start-114) in
+      let letter = (raw_parts b q u).0 in
+      let same : character b q ≡ 114 = character-ascii b q (omega arith) ∙ letter in
+      false≢true (sym start ∙ ap is_start same ∙ start-114) in
       let plain : raw_name b q ≡ false = elim (cases_Bool (raw_name b q)) [ inl u ↦ absurd (not_raw u) | inr u ↦ u ] in
       name-nothing b q plain start
 

@@ -128,7 +128,7 @@ module _ (a b : List ℕ) (p q k : ℕ) (w : Window a b p q k) where
       let r = get_or a x 0 == 114 in
       let raw = raw_opening content a (x + 1) in
       rw (w.same x y e (omega arith) l) (cond_same s _ _ _ _ (λ t. refl) (λ t. cond_same r _ _ _ _
-          (λ u. raw_same content (x + 1) (y + 1) (omega arith) (omega arith) (omega arith) (heads-true a p (p + k) r raw None (heads-false a p (p + k) s (Some (Quotes content)) (cond r raw None) fit t) u)) (λ u. refl)))
+      (λ u. raw_same content (x + 1) (y + 1) (omega arith) (omega arith) (omega arith) (heads-true a p (p + k) r raw None (heads-false a p (p + k) s (Some (Quotes content)) (cond r raw None) fit t) u)) (λ u. refl)))
 
   string_same : (content : Content) (x y : ℕ) → x + q ≡ y + p → x ≡ p + prefix_of content → x ≤ p + k → Heads a p (p + k) (string_opening content a x) → string_opening content b y ≡ string_opening content a x
   string_same content x y e is high fit = elim (cases_lt x (p + k)) [
@@ -155,7 +155,7 @@ module _ (a b : List ℕ) (p q k : ℕ) (w : Window a b p q k) where
   bytes_inside l fit =
       let s = get_or a (p + 1) 0 == 39 in
       rw (w.same (p + 1) (q + 1) (omega arith) (omega arith) l) (cond_same s _ _ _ _ (λ t. refl) (λ t.
-          string_same Bytes (p + 1) (q + 1) (omega arith) refl (omega arith) (heads-false a p (p + k) s (Some (Apostrophes Bytes)) (string_opening Bytes a (p + 1)) fit t)))
+      string_same Bytes (p + 1) (q + 1) (omega arith) refl (omega arith) (heads-false a p (p + k) s (Some (Apostrophes Bytes)) (string_opening Bytes a (p + 1)) fit t)))
 
   bytes_same : Heads a p (p + k) (bytes_opening a (p + 1)) → bytes_opening b (q + 1) ≡ bytes_opening a (p + 1)
   bytes_same fit = elim (cases_lt (p + 1) (p + k)) [
@@ -180,7 +180,7 @@ module _ (a b : List ℕ) (p q k : ℕ) (w : Window a b p q k) where
         | inr u ↦ u
       ] in
       rw (w.same (p + 1) (q + 1) (omega arith) (omega arith) l) (cond_same s _ _ _ _ (λ t. refl) (λ t.
-          ap (λ v. cond v (Some Character) None) (quote_same (past a (p + 1)) (past b (q + 1)) (same_past a b p q k w (p + 1) (q + 1) (omega arith) (omega arith) l bound) (omega arith) (past_within a b p q k w (p + 1) (omega arith) l bound) (fail t))))
+      ap (λ v. cond v (Some Character) None) (quote_same (past a (p + 1)) (past b (q + 1)) (same_past a b p q k w (p + 1) (q + 1) (omega arith) (omega arith) l bound) (omega arith) (past_within a b p q k w (p + 1) (omega arith) l bound) (fail t))))
 
   -- a literal opens where it did, or none
   pub literal_same : (get_or a p 0 ≡ 39 → IsCharBoundary a (p + 1) × (p + 1 < p + k)) → Heads a p (p + k) (literal_opening a p) → literal_opening b q ≡ literal_opening a p
@@ -197,7 +197,7 @@ module _ (a b : List ℕ) (p q k : ℕ) (w : Window a b p q k) where
       let f2 : d ≡ false → (c == 39) ≡ false → (c == 98) ≡ false → Heads a p (p + k) behind_c = λ t u. heads-false a p (p + k) (c == 98) (bytes_opening a (p + 1)) behind_c (f1 t u) in
       rw (w.same p q (omega arith) (omega arith) (omega (arith, w.filled)))
       (cond_same d _ _ _ _ (λ t. refl) (λ t.
-          cond_same (c == 39) _ _ _ _ (λ u. let h = quote (eqb-true c 39 u) in character_same h.0 h.1 (heads-true a p (p + k) (c == 39) (character_opening a (p + 1)) behind_b (f0 t) u)) (λ u.
-          cond_same (c == 98) _ _ _ _ (λ v. bytes_same (heads-true a p (p + k) (c == 98) (bytes_opening a (p + 1)) behind_c (f1 t u) v)) (λ v.
-          cond_same (c == 99) _ _ _ _ (λ s. string_same C (p + 1) (q + 1) (omega arith) refl (omega (arith, w.filled)) (heads-true a p (p + k) (c == 99) (string_opening C a (p + 1)) (string_opening Text a p) (f2 t u v) s)) (λ s.
-          string_same Text p q (omega arith) (omega arith) (omega arith) (heads-false a p (p + k) (c == 99) (string_opening C a (p + 1)) (string_opening Text a p) (f2 t u v) s))))))
+      cond_same (c == 39) _ _ _ _ (λ u. let h = quote (eqb-true c 39 u) in character_same h.0 h.1 (heads-true a p (p + k) (c == 39) (character_opening a (p + 1)) behind_b (f0 t) u)) (λ u.
+      cond_same (c == 98) _ _ _ _ (λ v. bytes_same (heads-true a p (p + k) (c == 98) (bytes_opening a (p + 1)) behind_c (f1 t u) v)) (λ v.
+      cond_same (c == 99) _ _ _ _ (λ s. string_same C (p + 1) (q + 1) (omega arith) refl (omega (arith, w.filled)) (heads-true a p (p + k) (c == 99) (string_opening C a (p + 1)) (string_opening Text a p) (f2 t u v) s)) (λ s.
+      string_same Text p q (omega arith) (omega arith) (omega arith) (heads-false a p (p + k) (c == 99) (string_opening C a (p + 1)) (string_opening Text a p) (f2 t u v) s))))))

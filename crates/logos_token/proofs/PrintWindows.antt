@@ -73,7 +73,7 @@ module _ (a b : List ℕ) (p q k : ℕ) (w : Window a b p q k) where
       let ys : length (slice_range b y (y + n)) ≡ y + n - y = length-between b y (y + n) (omega (arith, w.holds)) in
       let whole : slice_range b y (y + n) ≡ slice_range a x (x + n) =
       ext_get_or 0 (slice_range b y (y + n)) (slice_range a x (x + n)) (omega (arith, xs, ys)) (λ i l.
-          get_or-between b y (y + n) i 0 (omega (arith, ys)) ∙ w.same (x + i) (y + i) (omega arith) (omega arith) (omega (arith, ys)) ∙ sym (get_or-between a x (x + n) i 0 (omega (arith, ys)))) in
+      get_or-between b y (y + n) i 0 (omega (arith, ys)) ∙ w.same (x + i) (y + i) (omega arith) (omega arith) (omega (arith, ys)) ∙ sym (get_or-between a x (x + n) i 0 (omega (arith, ys)))) in
       ap (λ m. take m (drop y b)) (sym g) ∙ whole ∙ ap (λ m. take m (drop x a)) f
 
   pub same_slice : (x y z v : ℕ) → x + q ≡ y + p → z + q ≡ v + p → p ≤ x → z ≤ p + k → x ≤ z → slice_range b y v ≡ slice_range a x z
