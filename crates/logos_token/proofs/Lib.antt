@@ -22,3 +22,4 @@ pub mod PrintNames
 pub mod PrintBodies
 pub mod PrintLexemes
 pub mod PrintParts
+pub mod PrintPieces
