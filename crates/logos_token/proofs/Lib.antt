@@ -23,3 +23,4 @@ pub mod PrintBodies
 pub mod PrintLexemes
 pub mod PrintParts
 pub mod PrintPieces
+pub mod PrintAgain
