@@ -24,3 +24,5 @@ pub mod PrintLexemes
 pub mod PrintParts
 pub mod PrintPieces
 pub mod PrintAgain
+pub mod PrintFacts
+pub mod PrintSources

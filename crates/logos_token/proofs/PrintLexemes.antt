@@ -29,7 +29,7 @@ use Rattle.logos_token.proofs.PrintNames.{Names, raw, plain, nothing, names, raw
 use Rattle.logos_token.proofs.PrintBodies.{character_piece, raw_pieces, string_pieces, number_no_suffix, number_same, based_same}
 
 -- what a literal opens with
-data IsLiteral (bytes : List ℕ) (at : ℕ) : Opening → Type 0 where
+pub data IsLiteral (bytes : List ℕ) (at : ℕ) : Opening → Type 0 where
   number : is_ascii_digit (get_or bytes at 0) ≡ true → IsLiteral bytes at Number
   quotes : (content : Content) → IsLiteral bytes at (Quotes content)
   raw_quotes : (content : Content) (count : ℕ) → IsLiteral bytes at (Raw content count)
@@ -65,7 +65,7 @@ module _ (bytes : List ℕ) (at : ℕ) where
       cond_both (get_or bytes at 0 == 99) _ _ (Gives bytes at) (λ _. string-gives C (at + 1)) (λ _.
       string-gives Text at))))
 
-  is_literal : (o : Opening) → literal_opening bytes at ≡ Some o → IsLiteral bytes at o
+  pub is_literal : (o : Opening) → literal_opening bytes at ≡ Some o → IsLiteral bytes at o
   is_literal o e = subst (Gives bytes at) e literal-gives
 
   -- where one ends
@@ -85,7 +85,7 @@ module _ (bytes : List ℕ) (at : ℕ) where
   long o end (character_between e) r f = let g = r.behind in let m = past-moves bytes (at + 1) in omega arith
 
 -- how what stands at a place opens
-data Opens (bytes : List ℕ) (at : ℕ) : Opening → Type 0 where
+pub data Opens (bytes : List ℕ) (at : ℕ) : Opening → Type 0 where
   by_literal : (o : Opening) → literal_opening bytes at ≡ Some o → Opens bytes at o
   by_comment : (o : Opening) → literal_opening bytes at ≡ None → comment_opening bytes at ≡ Some o → Opens bytes at o
   by_other : literal_opening bytes at ≡ None → comment_opening bytes at ≡ None → Opens bytes at (other_opening bytes at)
@@ -95,7 +95,7 @@ opens_by bytes at (Some o) c e f = by_literal o e
 opens_by bytes at None (Some o) e f = by_comment o e f
 opens_by bytes at None None e f = by_other e f
 
-opens_at : (bytes : List ℕ) (at : ℕ) → Opens bytes at (opening_at bytes at)
+pub opens_at : (bytes : List ℕ) (at : ℕ) → Opens bytes at (opening_at bytes at)
 unfolding opening_at
 opens_at bytes at = opens_by bytes at (literal_opening bytes at) (comment_opening bytes at) refl refl
 
@@ -196,7 +196,7 @@ module _ (a b : List ℕ) (p q k : ℕ) (w : Window a b p q k) (bound : IsCharBo
   comment_parts true false false m n o e = absurd (cc)
 
   -- a byte that ends no line
-  no_line_end : (x : ℕ) → get_or a x 0 ≢ 10 → get_or a x 0 ≢ 13 → 0 < get_or a x 0 → IsLineEnd a x → ⊥
+  pub no_line_end : (x : ℕ) → get_or a x 0 ≢ 10 → get_or a x 0 ≢ 13 → 0 < get_or a x 0 → IsLineEnd a x → ⊥
   no_line_end x no_feed no_return visible r = elim (cases_lt x r.feed) [
     | inl l ↦ no_return (r.returns x (omega arith) l)
     | inr l ↦
@@ -212,11 +212,11 @@ module _ (a b : List ℕ) (p q k : ℕ) (w : Window a b p q k) (bound : IsCharBo
   doc_or_gap true = inl refl
   doc_or_gap false = inr refl
 
-  line_kind_cases : (x : ℕ) → (line_kind a x ≡ Doc) ⊎ (line_kind a x ≡ Gap)
+  pub line_kind_cases : (x : ℕ) → (line_kind a x ≡ Doc) ⊎ (line_kind a x ≡ Gap)
   unfolding line_kind
   line_kind_cases x = doc_or_gap ((get_or a x 0 == 33) || ((get_or a x 0 == 47) && not (get_or a (x + 1) 0 == 47)))
 
-  block_kind_cases : (x : ℕ) → (block_kind a x ≡ Doc) ⊎ (block_kind a x ≡ Gap)
+  pub block_kind_cases : (x : ℕ) → (block_kind a x ≡ Doc) ⊎ (block_kind a x ≡ Gap)
   unfolding block_kind
   block_kind_cases x = doc_or_gap ((get_or a x 0 == 33) || ((get_or a x 0 == 42) && not ((get_or a (x + 1) 0 == 42) || (get_or a (x + 1) 0 == 47))))
 
@@ -224,7 +224,7 @@ module _ (a b : List ℕ) (p q k : ℕ) (w : Window a b p q k) (bound : IsCharBo
   test_doc true e = refl
   test_doc false e = absurd (cc)
 
-  doc_byte : (x : ℕ) → line_kind a x ≡ Doc → (get_or a x 0 ≡ 33) ⊎ (get_or a x 0 ≡ 47)
+  pub doc_byte : (x : ℕ) → line_kind a x ≡ Doc → (get_or a x 0 ≡ 33) ⊎ (get_or a x 0 ≡ 47)
   unfolding line_kind
   doc_byte x e =
       let c = get_or a x 0 in
@@ -373,7 +373,7 @@ module _ (a b : List ℕ) (p q k : ℕ) (w : Window a b p q k) (bound : IsCharBo
   unfolding delimiter_kind
   no_literal_delimiter c e = delimiter_conds (c == 40) (c == 41) (c == 91) (c == 93) (c == 123) (c == 125) _ _ _ _ _ _ (λ f. absurd (cc)) (λ f. absurd (cc)) (λ f. absurd (cc)) (λ f. absurd (cc)) (λ f. absurd (cc)) (λ f. absurd (cc)) e
 
-  single_no_literal : single_kind a p ≡ Some Literal → ⊥
+  pub single_no_literal : single_kind a p ≡ Some Literal → ⊥
   unfolding single_kind
   single_no_literal e =
       let c = character a p in
@@ -382,7 +382,7 @@ module _ (a b : List ℕ) (p q k : ℕ) (w : Window a b p q k) (bound : IsCharBo
         | inr r ↦ elim r [ inl s ↦ absurd (let f = s.2 in cc) | inr s ↦ elim s [ inl t ↦ absurd (cc) | inr t ↦ no_literal_delimiter c t.2 ] ]
       ]
 
-  unsuffixed : (kind : Kind) (end to : ℕ) → kind ≢ Literal → IsSuffixed a kind end to → to ≡ end
+  pub unsuffixed : (kind : Kind) (end to : ℕ) → kind ≢ Literal → IsSuffixed a kind end to → to ≡ end
   unsuffixed Literal end to other r = absurd (other refl)
   unsuffixed Gap end to other r = r
   unsuffixed Identifier end to other r = r
@@ -425,20 +425,20 @@ module _ (a b : List ℕ) (p q k : ℕ) (w : Window a b p q k) (bound : IsCharBo
       refl tt refl (no_suffix b kind (past b q) no_literal_kind) (omega (arith, w.holds, places))
 
   -- what is no literal and no comment
-  data Others : Opening → Type 0 where
-    space_there : Others Space
+  pub data Others : Opening → Type 0 where
+    space_there : is_space (character a p) ≡ true → Others Space
     word_opens : is_space (character a p) ≡ false → Others Word
     single_opens : (kind : Kind) → is_space (character a p) ≡ false → is_start (character a p) ≡ false → single_kind a p ≡ Some kind → Others (Single kind)
     nothing_opens : Others Nothing
 
   others_by : (s : Bool) (n : Option ℕ) (g : Option Kind) → is_space (character a p) ≡ s → Names a p n → single_kind a p ≡ g → Others (cond s Space (cond (is_some n) Word (unwrap_or (option_map Single g) Nothing)))
-  others_by true n g e f h = space_there
+  others_by true n g e f h = space_there e
   others_by false n g e (raw t) h = word_opens e
   others_by false n g e (plain t) h = word_opens e
   others_by false n None e (nothing t) h = nothing_opens
   others_by false n (Some kind) e (nothing t) h = single_opens kind e t h
 
-  others : Others (other_opening a p)
+  pub others : Others (other_opening a p)
   unfolding other_opening
   others = others_by (is_space (character a p)) (name_at a p) (single_kind a p) refl (names a p) refl
 
@@ -453,7 +453,7 @@ module _ (a b : List ℕ) (p q k : ℕ) (w : Window a b p q k) (bound : IsCharBo
   here kind to e n = let f : to + q - p ≡ q + k = omega arith in rw f n
 
   other_result : (o : Opening) → Others o → literal_opening a p ≡ None → comment_opening a p ≡ None → (end to : ℕ) → Ends a p o end → kind_of o ≢ Gap → IsSuffixed a (kind_of o) end to → IsAt (kind_of o) to → Result (kind_of o) to
-  other_result o space_there none other end to ends no_gap suffixed at = absurd (no_gap refl)
+  other_result o (space_there s) none other end to ends no_gap suffixed at = absurd (no_gap refl)
   other_result o (word_opens s) none other end to ends no_gap suffixed at =
       let is : to ≡ p + k = at.1 (λ e. absurd (cc)) in
       here Identifier to is (word_next none other s (subst (IsName a p) (sym suffixed ∙ is) ends))
@@ -464,7 +464,7 @@ module _ (a b : List ℕ) (p q k : ℕ) (w : Window a b p q k) (bound : IsCharBo
       rw n (single_next kind none other s t e no_gap (λ f. omega (arith, at.0 f), λ f. omega (arith, at.1 f)))
   other_result o nothing_opens none other end to ends no_gap suffixed at = absurd ends
 
-  comment_cases : (o : Opening) → comment_opening a p ≡ Some o → (get_or a p 0 ≡ 47) × (((get_or a (p + 1) 0 ≡ 47) × (o ≡ Line (line_kind a (p + 2)))) ⊎ ((get_or a (p + 1) 0 ≡ 42) × (o ≡ Block (block_kind a (p + 2)))))
+  pub comment_cases : (o : Opening) → comment_opening a p ≡ Some o → (get_or a p 0 ≡ 47) × (((get_or a (p + 1) 0 ≡ 47) × (o ≡ Line (line_kind a (p + 2)))) ⊎ ((get_or a (p + 1) 0 ≡ 42) × (o ≡ Block (block_kind a (p + 2)))))
   unfolding comment_opening
   comment_cases o e =
       let r = comment_parts (get_or a p 0 == 47) (get_or a (p + 1) 0 == 47) (get_or a (p + 1) 0 == 42) (line_kind a (p + 2)) (block_kind a (p + 2)) o e in (
@@ -495,7 +495,7 @@ module _ (a b : List ℕ) (p q k : ℕ) (w : Window a b p q k) (bound : IsCharBo
         here kind to there (subst (λ x. IsNext b q x (q + k)) (sym doc) (block_next none e f g (subst (Ends a p (Block Doc)) (sym same ∙ there) ends)))
   ]
 
-  literal_kind : (o : Opening) → IsLiteral a p o → kind_of o ≡ Literal
+  pub literal_kind : (o : Opening) → IsLiteral a p o → kind_of o ≡ Literal
   literal_kind o (number e) = refl
   literal_kind o (quotes content) = refl
   literal_kind o (raw_quotes content count) = refl
