@@ -94,7 +94,7 @@ same_lexeme a b (Closing d) s t e f = refl
 
 -- no lexeme begins with white space
 abbrev pub HasNoSpace : List ℕ → Type 0
-HasNoSpace a = (kind : Kind) (from to : ℕ) → IsNext a from kind to → kind ≢ Gap → is_space (character a from) ≡ false
+HasNoSpace a = (kind : Kind) (from to : ℕ) → IsCharBoundary a from → IsNext a from kind to → kind ≢ Gap → is_space (character a from) ≡ false
 
 -- the pieces of the printed text from a place on
 record Remade (a b : List ℕ) (q : ℕ) (pieces : List Piece) : Type 0 where
@@ -127,7 +127,7 @@ module _ (a : List ℕ) (utf8 : IsUtf8 a) (text : HasText a) (joints : HasJoints
           filled = (refl, there, r.filled);
           same = map-append bare_lexeme (lexeme_of b kind span) (seen b r.news) ∙ ap (λ ls. ls ++ map bare_lexeme (seen b r.news)) same ∙ ap (λ ls. map bare_lexeme (lexeme_of a kind old) ++ ls) r.same ∙ sym (map-append bare_lexeme (lexeme_of a kind old) (seen a rest));
         };
-        no_space = ap is_space (same_character a b p q s.size w p q (omega arith) (omega arith) (omega arith) bound) ∙ spaces kind p to next no_gap;
+        no_space = ap is_space (same_character a b p q s.size w p q (omega arith) (omega arith) (omega arith) bound) ∙ spaces kind p to bound next no_gap;
       }
 
   -- a gap in front
@@ -161,7 +161,7 @@ module _ (a : List ℕ) (utf8 : IsUtf8 a) (text : HasText a) (joints : HasJoints
         let long = length-between a p to adv.1 in
         let tail = after (gap_of a kind p to) (parts (seen a rest)) in
         let shape : parts (seen a (piece ∷ rest)) ≡ (let part : Part = record { text = slice_range a p to; gap = gap_of a kind p to } in part ∷ parts (seen a rest)) =
-        parts-append (lexeme_of a kind piece.span) (seen a rest) ∙ ap (λ s. parts (lexeme_of a kind s) ++ parts (seen a rest)) at ∙ ap (λ ps. ps ++ parts (seen a rest)) (text kind p to filled.1 g) in
+        parts-append (lexeme_of a kind piece.span) (seen a rest) ∙ ap (λ s. parts (lexeme_of a kind s) ++ parts (seen a rest)) at ∙ ap (λ ps. ps ++ parts (seen a rest)) (text kind p to bound filled.1 g) in
         let whole : drop q b ≡ gap ++ (slice_range a p to ++ tail) = e ∙ ap (after gap) shape in
         let back : Remade a b q ((record { kind = kind; span = span }) ∷ rest) → Remade a b q (piece ∷ rest) = λ r. record { news = r.news; filled = r.filled; same = r.same ∙ ap (λ s. map bare_lexeme (lexeme_of a kind s ++ seen a rest)) (sym at) } in
         let parted' : (gap_of a kind p to ≡ []) ⊎ IsSeparator (gap_of a kind p to) = elim (joint_or_not kind) [ inl j ↦ inl (ap (λ x. gap_of a x p to) j) | inr j ↦ inr (separates a kind p to j) ] in

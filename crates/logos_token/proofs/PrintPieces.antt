@@ -84,15 +84,15 @@ Follows (piece ∷ rest) = piece.kind ≢ Gap
 
 -- what is printed of a lexeme
 abbrev pub HasText : List ℕ → Type 0
-HasText a = (kind : Kind) (from to : ℕ) → IsNext a from kind to → kind ≢ Gap → parts (lexeme_of a kind (record { from = from; to = to })) ≡ (record { text = slice_range a from to; gap = gap_of a kind from to }) ∷ []
+HasText a = (kind : Kind) (from to : ℕ) → IsCharBoundary a from → IsNext a from kind to → kind ≢ Gap → parts (lexeme_of a kind (record { from = from; to = to })) ≡ (record { text = slice_range a from to; gap = gap_of a kind from to }) ∷ []
 
 -- behind joint punctuation another lexeme begins
 abbrev pub HasJoints : List ℕ → Type 0
-HasJoints a = (from to : ℕ) (rest : List Piece) → IsNext a from (Punctuation Joint) to → Pieces a to rest (length a) → Follows rest
+HasJoints a = (from to : ℕ) (rest : List Piece) → IsCharBoundary a from → IsNext a from (Punctuation Joint) to → Pieces a to rest (length a) → Follows rest
 
 -- documentation has its two first bytes
 abbrev pub HasDocs : List ℕ → Type 0
-HasDocs a = (from to : ℕ) → IsNext a from Doc to → from + 2 ≤ to
+HasDocs a = (from to : ℕ) → IsCharBoundary a from → IsNext a from Doc to → from + 2 ≤ to
 
 module _ (a : List ℕ) (utf8 : IsUtf8 a) (text : HasText a) (joints : HasJoints a) (docs : HasDocs a) (b : List ℕ) where
   abbrev IsPrinted : ℕ → ℕ → ℕ → Kind → List Piece → Type 0
@@ -137,7 +137,7 @@ module _ (a : List ℕ) (utf8 : IsUtf8 a) (text : HasText a) (joints : HasJoints
         };
         at = (λ f. absurd (alone f), λ f. omega arith);
         line = λ f g.
-            let two = docs p to (subst (λ x. IsNext a p x to) g next) in
+            let two = docs p to bound (subst (λ x. IsNext a p x to) g next) in
             let second : get_or (slice_range a p to) 1 0 ≡ 47 = get_or-between a p to 1 0 (omega arith) ∙ f in
             let gap : gap_of a kind p to ≡ 10 ∷ [] = ap (λ x. gap_of a x p to) g ∙ ap (λ t. cond t (10 ∷ []) (32 ∷ [])) (second_slash (slice_range a p to) second) in
             blank 10 gap;
@@ -174,13 +174,13 @@ module _ (a : List ℕ) (utf8 : IsUtf8 a) (text : HasText a) (joints : HasJoints
 
   pub shown : (rest : List Piece) (kind : Kind) (p to q : ℕ) → IsNext a p kind to → Pieces a to rest (length a) → IsCharBoundary a p → q ≤ length b → IsPrinted q p to kind rest → Shown a b p q kind to
   shown [] kind p to q next filled bound inside e = elim (joint_or_not kind) [
-    | inl j ↦ absurd (joints p to [] (subst (λ x. IsNext a p x to) j next) filled)
+    | inl j ↦ absurd (joints p to [] bound (subst (λ x. IsNext a p x to) j next) filled)
     | inr j ↦ alone_shown [] kind p to q j next bound inside e
   ]
   shown (piece ∷ rest) kind p to q next filled bound inside e = elim (joint_or_not kind) [
     | inr j ↦ alone_shown (piece ∷ rest) kind p to q j next bound inside e
     | inl j ↦
-        let follows = joints p to (piece ∷ rest) (subst (λ x. IsNext a p x to) j next) filled in
+        let follows = joints p to (piece ∷ rest) bound (subst (λ x. IsNext a p x to) j next) filled in
         let adv = piece-advances a p kind to next in
         let long = length-between a p to adv.1 in
         let tail = after (gap_of a kind p to) (parts (seen a (piece ∷ rest))) in
@@ -189,7 +189,7 @@ module _ (a : List ℕ) (utf8 : IsUtf8 a) (text : HasText a) (joints : HasJoints
         let behind : drop (q + (to - p)) b ≡ slice_range a to piece.span.to ++ after (gap_of a piece.kind to piece.span.to) (parts (seen a rest)) =
         drop_on b (slice_range a p to) tail q (to - p) long inside e
         ∙ ap (λ g. after g (parts (seen a (piece ∷ rest)))) (ap (λ x. gap_of a x p to) j)
-        ∙ ap (after []) (parts-append (lexeme_of a piece.kind piece.span) (seen a rest) ∙ ap (λ s. parts (lexeme_of a piece.kind s) ++ parts (seen a rest)) at ∙ ap (λ ps. ps ++ parts (seen a rest)) (text piece.kind to piece.span.to filled.1 follows)) in
+        ∙ ap (after []) (parts-append (lexeme_of a piece.kind piece.span) (seen a rest) ∙ ap (λ s. parts (lexeme_of a piece.kind s) ++ parts (seen a rest)) at ∙ ap (λ ps. ps ++ parts (seen a rest)) (text piece.kind to piece.span.to (piece-boundary a p kind to utf8 bound next) filled.1 follows)) in
         more_shown kind p to q tail j next inside e
         (shown rest piece.kind to piece.span.to (q + (to - p)) filled.1 filled.2 (piece-boundary a p kind to utf8 bound next) (omega (arith, total)) behind)
   ]
