@@ -1,12 +1,11 @@
 -- The pieces of a printed text.
-use Rattle.std.proofs.Common.{◌≡◌, ◌≢◌, ℕ, ◌+◌, ◌-◌, ◌<◌, ◌≤◌, ◌⊎◌, inl, inr, Bool, true, false, List, [], ◌∷◌, ◌++◌, map, length, get_or, drop, slice_range, Option, None, IsUtf8, refl, sym, ◌∙◌, ap, subst, arith, length-drop, get_or-drop, drop-drop}
-use Rattle.std.proofs.lemmas.Bool.{cases_lt, false≢true}
+use Rattle.std.proofs.Common.{◌≡◌, ◌≢◌, ℕ, ◌+◌, ◌-◌, ◌<◌, ◌≤◌, ◌⊎◌, inl, inr, true, false, List, [], ◌∷◌, ◌++◌, map, length, get_or, drop, slice_range, None, IsUtf8, refl, sym, ◌∙◌, ap, subst, arith, length-drop, get_or-drop}
+use Rattle.std.proofs.lemmas.Bool.{false≢true}
 use Rattle.std.proofs.lemmas.List.{map-append}
 use Rattle.std.proofs.lemmas.List.Edits.{length-between}
 use Rattle.std.proofs.lemmas.Str.{IsCharBoundary-start}
 use Rattle.std.specs.Str.{IsCharBoundary}
 use Rattle.logos_token.specs.declared.token.Span.{Span}
-use Rattle.logos_token.specs.declared.token.Spacing.TheVariants.{Joint}
 use Rattle.logos_token.specs.declared.token.lexeme.Kind.{Kind}
 use Rattle.logos_token.specs.declared.token.lexeme.Kind.TheVariants.{Gap, Identifier, Literal, Doc, Punctuation, Opening, Closing}
 use Rattle.logos_token.specs.declared.token.lexeme.openings.Opening.TheVariants.{Space}
@@ -15,15 +14,15 @@ use Rattle.logos_token.specs.LexemeRuns.{here}
 use Rattle.logos_token.specs.LexemeOpenings.{literal_opening, string_opening, comment_opening, other_opening, opening_at}
 use Rattle.logos_token.specs.Lexemes.{IsNext}
 use Rattle.logos_token.specs.Tokens.{TokenList}
-use Rattle.logos_token.specs.Spelling.{Piece, Pieces, Lexeme, lexeme_of, seen, lexemes, Spells}
+use Rattle.logos_token.specs.Spelling.{Piece, Pieces, lexeme_of, seen, Spells}
 use Rattle.logos_token.specs.Printing.{Part, printed}
-use Rattle.logos_token.specs.PrintedAgain.{bare, SpellsAgain}
+use Rattle.logos_token.specs.PrintedAgain.{SpellsAgain}
 use Rattle.logos_token.proofs.CharacterLaws.{character-ascii, past-ascii, inside_from_byte}
 use Rattle.logos_token.proofs.PieceLemmas.{piece-advances, piece-boundary}
-use Rattle.logos_token.proofs.PrintWindows.{Window, same_character, same_slice}
+use Rattle.logos_token.proofs.PrintWindows.{same_character, same_slice}
 use Rattle.logos_token.proofs.PrintLexemes.{next_same}
 use Rattle.logos_token.proofs.PrintParts.{parts, parts-append, after, bare_lexeme, printed-lexemes, rebuilt-whole}
-use Rattle.logos_token.proofs.PrintPieces.{gap_of, IsSeparator, joint_or_not, separates, whole_length, drop_on, byte_behind, Shown, shown, Follows, HasText, HasJoints, HasDocs}
+use Rattle.logos_token.proofs.PrintPieces.{gap_of, IsSeparator, joint_or_not, separates, whole_length, drop_on, shown, HasText, HasJoints, HasDocs}
 
 -- a gap of one byte
 
@@ -65,12 +64,12 @@ module _ (b : List ℕ) (q : ℕ) where
       let inside = inside_from_byte b q small.0 in
       let opens = blank_opens e in
       subst (IsNext b q Gap) one (record {
-          end = past b q;
-          ends = rw opens (record { steps = here; stop = λ next s. false≢true (sym other ∙ ap (λ i. is_space (character b i)) (sym one) ∙ s.passes) });
-          sound = rw opens tt;
-          is_kind = rw opens refl;
-          suffixed = refl;
-          within = omega arith;
+        end = past b q;
+        ends = rw opens (record { steps = here; stop = λ next s. false≢true (sym other ∙ ap (λ i. is_space (character b i)) (sym one) ∙ s.passes) });
+        sound = rw opens tt;
+        is_kind = rw opens refl;
+        suffixed = refl;
+        within = omega arith;
       })
 
 gap_or_not : (kind : Kind) → (kind ≡ Gap) ⊎ (kind ≢ Gap)

@@ -1,16 +1,16 @@
 -- What literals hold in a window they hold in the second text too.
-use Rattle.std.proofs.Common.{◌≡◌, ◌≢◌, ℕ, ◌+◌, ◌-◌, ◌<◌, ◌≤◌, ◌⊎◌, ◌==◌, ◌&&◌, ◌||◌, nat_le, inl, inr, Bool, true, false, List, length, get_or, filter, slice_range, Option, Some, None, MatchOption, refl, sym, ◌∙◌, ap, subst, arith}
-use Rattle.std.proofs.lemmas.Bool.{cases_lt, cases_Bool, false≢true, true≢false, and_parts, or_left, eqb-true, leb-true, or_cases}
-use Rattle.std.specs.Char.{is_ascii_digit, is_ascii_alphanumeric, IsScalar}
+use Rattle.std.proofs.Common.{◌≡◌, ℕ, ◌+◌, ◌-◌, ◌<◌, ◌≤◌, ◌==◌, ◌&&◌, ◌||◌, nat_le, inl, inr, Bool, true, false, List, length, get_or, filter, Option, MatchOption, refl, sym, ◌∙◌, ap, subst, arith}
+use Rattle.std.proofs.lemmas.Bool.{cases_lt, cases_Bool, false≢true, and_parts, eqb-true, leb-true, or_cases}
+use Rattle.std.specs.Char.{is_ascii_digit}
 use Rattle.std.specs.Str.{IsCharBoundary}
 use Rattle.unicode_ident.proofs.IdentLemmas.{is_xid_continue-ascii, is_xid_start-is_xid_continue}
 use Rattle.logos_token.specs.LexemeCharacters.{character, past, is_start, is_continuing}
-use Rattle.logos_token.specs.LexemeRuns.{Steps, here, step, Until, IsLast, Run, IsFirst, Passes}
+use Rattle.logos_token.specs.LexemeRuns.{Steps, here, step, IsLast, Run, IsFirst, Passes}
 use Rattle.logos_token.specs.LexemeEnds.{IsSuffix, is_based, GoesOn, letter, point, sign}
 use Rattle.logos_token.specs.LexemeOpenings.{name_at}
-use Rattle.logos_token.specs.LiteralBodies.{is_simple, is_hex, hex_value, greatest_of, digits_between, is_blank, BreaksLine, IsHexEscape, IsUnicodeEscape, IsEscape, simple, hex, unicode, IsContinuation, IsAllowed, IsStringPiece, plain, return, escape, continuation, IsRawPiece, IsCharacterPiece}
+use Rattle.logos_token.specs.LiteralBodies.{is_simple, is_hex, digits_between, is_blank, BreaksLine, IsHexEscape, IsUnicodeEscape, IsEscape, simple, hex, unicode, IsContinuation, IsAllowed, IsStringPiece, plain, return, escape, continuation, IsRawPiece, IsCharacterPiece}
 use Rattle.logos_token.specs.declared.token.lexeme.openings.Content.{Content}
-use Rattle.logos_token.proofs.CharacterLaws.{past-boundary, past-ascii, past-moves, inside_from_byte, character-ascii}
+use Rattle.logos_token.proofs.CharacterLaws.{inside_from_byte, character-ascii}
 use Rattle.logos_token.proofs.RunLaws.{Steps-le}
 use Rattle.logos_token.proofs.EndLaws.{GoesOn-moves, step-boundary}
 use Rattle.logos_token.proofs.BodyLaws.{raw-moves, string-moves}

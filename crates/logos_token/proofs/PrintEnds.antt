@@ -1,16 +1,15 @@
 -- What ends in a window ends there in the second text too.
-use Rattle.std.proofs.Common.{◌≡◌, ◌≢◌, ℕ, ◌+◌, ◌-◌, ◌<◌, ◌≤◌, ◌⊎◌, ◌==◌, inl, inr, Bool, true, false, List, length, get_or, Option, Some, None, MatchOption, IsUtf8, refl, sym, ◌∙◌, ap, subst, arith}
-use Rattle.std.proofs.lemmas.Bool.{cases_lt, cases_Bool, false≢true}
-use Rattle.std.proofs.Math.Nat.{eq-or-lt_of_le}
+use Rattle.std.proofs.Common.{◌≡◌, ◌≢◌, ℕ, ◌+◌, ◌-◌, ◌<◌, ◌≤◌, ◌⊎◌, inl, inr, Bool, false, List, length, get_or, refl, sym, ◌∙◌, ap, subst, arith}
+use Rattle.std.proofs.lemmas.Bool.{cases_lt, false≢true}
 use Rattle.std.specs.Char.{is_ascii_digit}
 use Rattle.std.specs.Str.{IsCharBoundary}
-use Rattle.logos_token.specs.LexemeCharacters.{character, past, is_start, is_continuing}
-use Rattle.logos_token.specs.LexemeRuns.{Steps, here, step, Until, IsLast, Run, IsFirst, Passes}
-use Rattle.logos_token.specs.LexemeEnds.{IsLineEnd, IsPair, Closes, closed, opens, closes, inside, GoesOn, letter, point, sign, InQuotes, escaped, plain, ReachesQuote, IsQuoted, IsRawEnd, IsRaw, IsCharacter}
-use Rattle.logos_token.proofs.CharacterLaws.{past-boundary, past-ascii, past-moves, inside_from_byte, character-ascii}
+use Rattle.logos_token.specs.LexemeCharacters.{is_continuing}
+use Rattle.logos_token.specs.LexemeRuns.{Steps, here, step, IsLast, Run, IsFirst, Passes}
+use Rattle.logos_token.specs.LexemeEnds.{IsLineEnd, IsPair, Closes, closed, opens, closes, inside, GoesOn, letter, point, sign, InQuotes, escaped, plain, IsQuoted, IsRawEnd, IsRaw}
+use Rattle.logos_token.proofs.CharacterLaws.{past-boundary, past-moves}
 use Rattle.logos_token.proofs.RunLaws.{Steps-le}
-use Rattle.logos_token.proofs.EndLaws.{InQuotes-moves, GoesOn-moves, Passes-moves, Closes-le, step-boundary}
-use Rattle.logos_token.proofs.PrintWindows.{Window, blank_fails, blank_byte, blank_character, same_character, same_past, past_within}
+use Rattle.logos_token.proofs.EndLaws.{InQuotes-moves, Passes-moves, Closes-le}
+use Rattle.logos_token.proofs.PrintWindows.{Window, blank_character, same_character, same_past}
 
 module _ (a b : List ℕ) (p q k : ℕ) (w : Window a b p q k) where
   -- places in the two texts

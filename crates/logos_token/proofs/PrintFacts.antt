@@ -1,27 +1,26 @@
 -- What is known of the lexemes of a source: their first characters, their texts, and what stands behind joint punctuation.
-use Rattle.std.proofs.Common.{◌≡◌, ◌≢◌, ℕ, ◌+◌, ◌-◌, ◌<◌, ◌≤◌, ◌⊎◌, ◌==◌, ◌&&◌, ◌||◌, not, inl, inr, nat_le, nat_lt, Bool, true, false, cond, List, [], ◌∷◌, ◌++◌, codes, length, get_or, take, drop, slice_range, Option, Some, None, is_some, MatchOption, IsUtf8, encode_utf8, refl, sym, ◌∙◌, ap, subst, arith, get_or-take, length-take-le, length-drop, get_or-drop}
-use Rattle.std.proofs.lemmas.Bool.{cases_lt, cases_Bool, and_parts, or_cases, eqb-true, false≢true, true≢false, leb-true, cond_both}
-use Rattle.std.proofs.lemmas.List.Edits.{between_more, between_none}
-use Rattle.std.proofs.lemmas.Str.{chars_past_char, byte_from_char, IsUtf8-drop, encode_ascii}
-use Rattle.std.specs.Char.{is_ascii_digit, len_utf8}
+use Rattle.std.proofs.Common.{◌≡◌, ℕ, ◌+◌, ◌<◌, ◌≤◌, ◌⊎◌, ◌==◌, ◌&&◌, ◌||◌, inl, inr, nat_le, true, false, List, [], ◌∷◌, codes, length, get_or, drop, Option, Some, None, MatchOption, IsUtf8, refl, sym, ◌∙◌, ap, subst, arith, length-drop, get_or-drop}
+use Rattle.std.proofs.lemmas.Bool.{cases_lt, cases_Bool, and_parts, or_cases, eqb-true, false≢true, leb-true, cond_both}
+use Rattle.std.proofs.lemmas.Str.{chars_past_char, byte_from_char, IsUtf8-drop}
+use Rattle.std.specs.Char.{is_ascii_digit}
 use Rattle.std.specs.Int.{is_in_range}
 use Rattle.std.specs.List.{list_any, list_all}
 use Rattle.std.specs.Str.{IsCharBoundary, chars as chars_of}
 use Rattle.unicode_ident.proofs.IdentLemmas.{is_xid_start-ascii}
 use Rattle.unicode_ident.proofs.Computing.{unicode_ident}
 use Rattle.unicode_ident.specs.Ident.{is_xid_start}
-use Rattle.logos_token.specs.LexemeCharacters.{character, past, is_space, is_start, is_mark}
+use Rattle.logos_token.specs.LexemeCharacters.{character, is_space, is_start, is_mark}
 use Rattle.logos_token.specs.LexemeOpenings.{raw_opening, character_opening, bytes_opening, literal_opening, string_opening, delimiter_kind}
 use Rattle.logos_token.specs.Printing.{opening_text, closing_text}
 use Rattle.logos_token.specs.declared.token.Delimiter.{Delimiter}
 use Rattle.logos_token.specs.declared.token.Delimiter.TheVariants.{Parenthesis, Bracket, Brace}
 use Rattle.logos_token.specs.declared.token.lexeme.Kind.{Kind}
-use Rattle.logos_token.specs.declared.token.lexeme.Kind.TheVariants.{Gap, Identifier, Literal, Doc, Punctuation, Opening as OpeningKind, Closing}
+use Rattle.logos_token.specs.declared.token.lexeme.Kind.TheVariants.{Opening as OpeningKind, Closing}
 use Rattle.logos_token.specs.declared.token.lexeme.openings.Content.{Content}
 use Rattle.logos_token.specs.declared.token.lexeme.openings.Content.TheVariants.{Text, C}
 use Rattle.logos_token.specs.declared.token.lexeme.openings.Opening.{Opening}
 use Rattle.logos_token.specs.declared.token.lexeme.openings.Opening.TheVariants.{Quotes}
-use Rattle.logos_token.proofs.CharacterLaws.{character-ascii, past-ascii, first_char, inside_from_byte}
+use Rattle.logos_token.proofs.CharacterLaws.{first_char}
 
 -- white space is below `!` or above ASCII
 space_range : (c : ℕ) → is_space c ≡ true → (c < 33) ⊎ ((c ≡ 0x85) ⊎ (((0x200E ≤ c) × (c ≤ 0x200F)) ⊎ ((0x2028 ≤ c) × (c ≤ 0x2029))))
@@ -44,9 +43,9 @@ pub visible_no_space : (c : ℕ) → 33 ≤ c → c < 128 → is_space c ≡ fal
 visible_no_space c low high = elim (cases_Bool (is_space c)) [
   | inr e ↦ e
   | inl e ↦ absurd (elim (space_range c e) [
-      | inl l ↦ omega arith
-      | inr r ↦ elim r [ inl f ↦ omega arith | inr s ↦ elim s [ inl f ↦ omega (arith, f.0) | inr f ↦ omega (arith, f.0) ] ]
-    ])
+    | inl l ↦ omega arith
+    | inr r ↦ elim r [ inl f ↦ omega arith | inr s ↦ elim s [ inl f ↦ omega (arith, f.0) | inr f ↦ omega (arith, f.0) ] ]
+  ])
 ]
 
 start-85 : is_start 0x85 ≡ false
@@ -75,12 +74,12 @@ unfolding is_start
 start_large c e = elim (cases_lt c 65) [
   | inr l ↦ l
   | inl l ↦ absurd (elim (or_cases (is_xid_start c) (c == 95) e) [
-      | inr f ↦ let g = eqb-true c 95 f in omega arith
-      | inl f ↦ elim (or_cases (is_in_range 65 90 c) (is_in_range 97 122 c) (sym (is_xid_start-ascii c (omega arith)) ∙ f)) [
-        | inl g ↦ let h = and_parts (nat_le 65 c) (nat_le c 90) g in let i : 65 ≤ c = leb-true 65 c h.0 in omega arith
-        | inr g ↦ let h = and_parts (nat_le 97 c) (nat_le c 122) g in let i : 97 ≤ c = leb-true 97 c h.0 in omega arith
-      ]
-    ])
+    | inr f ↦ let g = eqb-true c 95 f in omega arith
+    | inl f ↦ elim (or_cases (is_in_range 65 90 c) (is_in_range 97 122 c) (sym (is_xid_start-ascii c (omega arith)) ∙ f)) [
+      | inl g ↦ let h = and_parts (nat_le 65 c) (nat_le c 90) g in let i : 65 ≤ c = leb-true 65 c h.0 in omega arith
+      | inr g ↦ let h = and_parts (nat_le 97 c) (nat_le c 122) g in let i : 97 ≤ c = leb-true 97 c h.0 in omega arith
+    ]
+  ])
 ]
 
 no_start : (c d : ℕ) → c ≡ d → is_start d ≡ false → is_start c ≡ true → ⊥
@@ -91,15 +90,15 @@ pub start_no_space : (c : ℕ) → is_start c ≡ true → is_space c ≡ false
 start_no_space c s = elim (cases_Bool (is_space c)) [
   | inr e ↦ e
   | inl e ↦ absurd (elim (space_range c e) [
-      | inl l ↦ let h = start_large c s in omega arith
-      | inr r ↦ elim r [
-        | inl f ↦ no_start c 0x85 f start-85 s
-        | inr t ↦ elim t [
-          | inl f ↦ elim (cases_lt c 0x200F) [ inl l ↦ no_start c 0x200E (omega (arith, f.0)) start-200E s | inr l ↦ no_start c 0x200F (omega (arith, f.1)) start-200F s ]
-          | inr f ↦ elim (cases_lt c 0x2029) [ inl l ↦ no_start c 0x2028 (omega (arith, f.0)) start-2028 s | inr l ↦ no_start c 0x2029 (omega (arith, f.1)) start-2029 s ]
-        ]
+    | inl l ↦ let h = start_large c s in omega arith
+    | inr r ↦ elim r [
+      | inl f ↦ no_start c 0x85 f start-85 s
+      | inr t ↦ elim t [
+        | inl f ↦ elim (cases_lt c 0x200F) [ inl l ↦ no_start c 0x200E (omega (arith, f.0)) start-200E s | inr l ↦ no_start c 0x200F (omega (arith, f.1)) start-200F s ]
+        | inr f ↦ elim (cases_lt c 0x2029) [ inl l ↦ no_start c 0x2028 (omega (arith, f.0)) start-2028 s | inr l ↦ no_start c 0x2029 (omega (arith, f.1)) start-2029 s ]
       ]
-    ])
+    ]
+  ])
 ]
 
 -- marks are visible ASCII

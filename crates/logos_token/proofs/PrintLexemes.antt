@@ -1,14 +1,14 @@
 -- A lexeme in a window is one in the second text too.
-use Rattle.std.proofs.Common.{◌≡◌, ◌≢◌, ℕ, ◌+◌, ◌-◌, ◌<◌, ◌≤◌, ◌⊎◌, ◌==◌, ◌&&◌, ◌||◌, nat_le, not, inl, inr, Bool, true, false, cond, unwrap_or, option_map, List, length, get_or, Option, Some, None, is_some, MatchOption, IsUtf8, refl, sym, ◌∙◌, ap, subst, arith}
-use Rattle.std.proofs.lemmas.Bool.{cases_lt, cases_Bool, and_parts, and_from, and_left, or_cases, eqb-true, eq-eqb, false≢true, true≢false, cond-true, cond-false, cond_both}
+use Rattle.std.proofs.Common.{◌≡◌, ◌≢◌, ℕ, ◌+◌, ◌-◌, ◌<◌, ◌≤◌, ◌⊎◌, ◌==◌, ◌&&◌, ◌||◌, nat_le, not, inl, inr, Bool, true, false, cond, unwrap_or, option_map, List, length, get_or, Option, Some, None, is_some, MatchOption, refl, sym, ◌∙◌, ap, subst, arith}
+use Rattle.std.proofs.lemmas.Bool.{cases_lt, cases_Bool, and_parts, and_from, and_left, or_cases, eqb-true, false≢true, cond-true, cond-false, cond_both}
 use Rattle.std.proofs.lemmas.List.{get_or_past}
 use Rattle.std.proofs.lemmas.Str.{IsCharBoundary-after_ascii}
-use Rattle.std.specs.Char.{is_ascii_digit, len_utf8}
+use Rattle.std.specs.Char.{is_ascii_digit}
 use Rattle.std.specs.Str.{IsCharBoundary}
 use Rattle.logos_token.specs.LexemeCharacters.{character, past, is_space, is_start, is_continuing, is_mark}
-use Rattle.logos_token.specs.LexemeRuns.{IsFirst, Run, IsLast, Passes}
+use Rattle.logos_token.specs.LexemeRuns.{IsFirst, Run, Passes}
 use Rattle.logos_token.specs.LexemeOpenings.{hashes, raw_opening, string_opening, character_opening, bytes_opening, literal_opening, line_kind, block_kind, comment_opening, name_at, spacing, delimiter_kind, single_kind, other_opening, opening_at, kind_of, prefix_of}
-use Rattle.logos_token.specs.LexemeEnds.{Ends, IsLineEnd, IsSuffix, IsName, GoesOn, is_based, body_of}
+use Rattle.logos_token.specs.LexemeEnds.{Ends, IsLineEnd, IsSuffix, IsName, GoesOn, is_based}
 use Rattle.logos_token.specs.LiteralBodies.{IsSound}
 use Rattle.logos_token.specs.Lexemes.{IsNext, IsSuffixed}
 use Rattle.logos_token.specs.declared.token.Spacing.{Spacing}
@@ -19,13 +19,13 @@ use Rattle.logos_token.specs.declared.token.lexeme.openings.Content.{Content}
 use Rattle.logos_token.specs.declared.token.lexeme.openings.Content.TheVariants.{Text, Bytes, C}
 use Rattle.logos_token.specs.declared.token.lexeme.openings.Opening.{Opening}
 use Rattle.logos_token.specs.declared.token.lexeme.openings.Opening.TheVariants.{Space, Line, Block, Word, Number, Quotes, Raw, Apostrophes, Character, Single, Nothing}
-use Rattle.logos_token.proofs.CharacterLaws.{past-boundary, past-ascii, past-moves, inside_from_byte, character-ascii}
+use Rattle.logos_token.proofs.CharacterLaws.{past-boundary, past-ascii, past-moves, character-ascii}
 use Rattle.logos_token.proofs.EndLaws.{Ends-after, Ends-boundary, IsQuoted-after, IsSuffix-le}
 use Rattle.logos_token.proofs.LexemeLaws.{no_suffix}
-use Rattle.logos_token.proofs.PrintWindows.{Window, blank_fails, blank_character, same_character, same_past, past_within}
+use Rattle.logos_token.proofs.PrintWindows.{Window, same_character, same_past, past_within}
 use Rattle.logos_token.proofs.PrintOpenings.{head_end, literal_same}
 use Rattle.logos_token.proofs.PrintEnds.{quoted_same, raw_same, closes_long, closes_same, line_same}
-use Rattle.logos_token.proofs.PrintNames.{Names, raw, plain, nothing, names, raw_parts, start-39, start-32, start-10, start-0, mark-39, name_same, suffix_same, no_name, no_comment, line_doc, block_doc, joint_same, alone_blank}
+use Rattle.logos_token.proofs.PrintNames.{Names, raw, plain, nothing, names, raw_parts, start-39, mark-39, name_same, suffix_same, no_name, no_comment, line_doc, block_doc, joint_same, alone_blank}
 use Rattle.logos_token.proofs.PrintBodies.{character_piece, raw_pieces, string_pieces, number_no_suffix, number_same, based_same}
 
 -- what a literal opens with

@@ -1,22 +1,21 @@
 -- Names, comments and lexemes of one character in a window.
-use Rattle.std.proofs.Common.{◌≡◌, ◌≢◌, ℕ, ◌+◌, ◌-◌, ◌<◌, ◌≤◌, ◌⊎◌, ◌==◌, ◌&&◌, ◌||◌, not, inl, inr, Bool, true, false, cond, List, length, get_or, Option, Some, None, is_some, MatchOption, IsUtf8, refl, sym, ◌∙◌, ap, subst, arith}
-use Rattle.std.proofs.lemmas.Bool.{cases_lt, cases_Bool, and_parts, or_cases, and_left, eqb-true, eq-eqb, false≢true, true≢false, cond-true, cond-false}
+use Rattle.std.proofs.Common.{◌≡◌, ℕ, ◌+◌, ◌<◌, ◌≤◌, ◌⊎◌, ◌==◌, ◌&&◌, ◌||◌, not, inl, inr, Bool, true, false, cond, List, get_or, Option, Some, None, is_some, MatchOption, refl, sym, ◌∙◌, ap, subst, arith}
+use Rattle.std.proofs.lemmas.Bool.{cases_lt, cases_Bool, and_parts, or_cases, eqb-true, eq-eqb, false≢true, true≢false, cond-true, cond-false}
 use Rattle.std.proofs.lemmas.Str.{IsCharBoundary-after_ascii}
 use Rattle.std.specs.Str.{IsCharBoundary}
 use Rattle.unicode_ident.proofs.IdentLemmas.{is_xid_start-ascii, is_xid_continue-ascii}
-use Rattle.logos_token.specs.LexemeCharacters.{character, past, is_space, is_start, is_continuing, is_mark}
+use Rattle.logos_token.specs.LexemeCharacters.{character, past, is_start, is_continuing, is_mark}
 use Rattle.logos_token.specs.LexemeRuns.{Steps, here, step, Run, Passes}
-use Rattle.logos_token.specs.LexemeOpenings.{name_at, comment_opening, line_kind, block_kind, spacing, delimiter_kind, single_kind}
+use Rattle.logos_token.specs.LexemeOpenings.{name_at, comment_opening, line_kind, block_kind, spacing}
 use Rattle.logos_token.specs.LexemeEnds.{IsName, IsSuffix}
-use Rattle.logos_token.specs.declared.token.Spacing.{Spacing}
 use Rattle.logos_token.specs.declared.token.Spacing.TheVariants.{Alone, Joint}
 use Rattle.logos_token.specs.declared.token.lexeme.Kind.{Kind}
-use Rattle.logos_token.specs.declared.token.lexeme.Kind.TheVariants.{Gap, Doc, Punctuation}
+use Rattle.logos_token.specs.declared.token.lexeme.Kind.TheVariants.{Gap, Doc}
 use Rattle.logos_token.specs.declared.token.lexeme.openings.Opening.{Opening}
 use Rattle.logos_token.specs.declared.token.lexeme.openings.Opening.TheVariants.{Line, Block}
 use Rattle.logos_token.proofs.CharacterLaws.{past-boundary, past-ascii, past-moves, inside_from_byte, character-ascii}
 use Rattle.logos_token.proofs.EndLaws.{run-le}
-use Rattle.logos_token.proofs.PrintWindows.{Window, blank_fails, blank_character, same_character, same_past, past_within}
+use Rattle.logos_token.proofs.PrintWindows.{Window, blank_fails, blank_character, same_character, same_past}
 use Rattle.logos_token.proofs.PrintEnds.{run_same}
 
 -- what a space, a line feed and the end of a text are not

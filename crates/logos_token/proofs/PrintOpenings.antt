@@ -1,19 +1,19 @@
 -- What opens in a window opens in the second text too.
-use Rattle.std.proofs.Common.{◌≡◌, ◌≢◌, ℕ, ◌+◌, ◌-◌, ◌<◌, ◌≤◌, ◌==◌, ◌&&◌, ◌||◌, nat_le, not, inl, inr, Bool, true, false, cond, Option, Some, None, is_some, List, length, get_or, drop, length-drop, get_or-drop, refl, sym, ◌∙◌, ap, subst, arith}
-use Rattle.std.proofs.lemmas.Bool.{cases_lt, cases_Bool, eqb-true, eq-eqb, ne_eqb, false≢true, and_right, and_parts, cond-true, cond-false}
-use Rattle.std.proofs.lemmas.List.Sums.{prefix_len_is, prefix_len_passes, prefix_len_stops, prefix_len-le-length}
+use Rattle.std.proofs.Common.{◌≡◌, ◌≢◌, ℕ, ◌+◌, ◌-◌, ◌<◌, ◌≤◌, ◌==◌, ◌&&◌, nat_le, inl, inr, Bool, true, false, cond, Option, Some, None, List, length, get_or, drop, length-drop, get_or-drop, refl, sym, ◌∙◌, ap, arith}
+use Rattle.std.proofs.lemmas.Bool.{cases_lt, cases_Bool, eqb-true, eq-eqb, ne_eqb, false≢true, and_right, cond-true, cond-false}
+use Rattle.std.proofs.lemmas.List.Sums.{prefix_len_is, prefix_len_passes, prefix_len_stops}
 use Rattle.std.proofs.Math.Nat.{eq-or-lt_of_le}
 use Rattle.std.specs.List.{prefix_len}
 use Rattle.std.specs.Char.{is_ascii_digit}
 use Rattle.std.specs.Str.{IsCharBoundary}
-use Rattle.logos_token.specs.LexemeCharacters.{character, past}
+use Rattle.logos_token.specs.LexemeCharacters.{past}
 use Rattle.logos_token.specs.LexemeOpenings.{hashes, raw_opening, string_opening, character_opening, bytes_opening, literal_opening, prefix_of}
 use Rattle.logos_token.specs.declared.token.lexeme.openings.Content.{Content}
 use Rattle.logos_token.specs.declared.token.lexeme.openings.Content.TheVariants.{Text, Bytes, C}
 use Rattle.logos_token.specs.declared.token.lexeme.openings.Opening.{Opening}
-use Rattle.logos_token.specs.declared.token.lexeme.openings.Opening.TheVariants.{Space, Line, Block, Word, Number, Quotes, Raw, Apostrophes, Character, Single, Nothing}
+use Rattle.logos_token.specs.declared.token.lexeme.openings.Opening.TheVariants.{Number, Quotes, Raw, Apostrophes, Character}
 use Rattle.logos_token.proofs.CharacterLaws.{inside_from_byte}
-use Rattle.logos_token.proofs.PrintWindows.{Window, blank_fails, same_character, same_past, past_within}
+use Rattle.logos_token.proofs.PrintWindows.{Window, blank_fails, same_past, past_within}
 
 -- so many `#` stand in a row, and another byte behind them
 hashes_are : (bytes : List ℕ) (at n : ℕ) → ((i : ℕ) → i < n → get_or bytes (at + i) 0 ≡ 35) → get_or bytes (at + n) 0 ≢ 35 → at ≤ length bytes → hashes bytes at ≡ n

@@ -1,11 +1,11 @@
 -- The printed text of tokens from their lexemes, and tokens from lexemes that are the same spans aside.
-use Rattle.std.proofs.Common.{◌≡◌, ◌≢◌, ℕ, Bool, true, false, List, [], ◌∷◌, ◌++◌, map, fold, refl, sym, ◌∙◌, ap, subst, append_assoc, append-nil}
+use Rattle.std.proofs.Common.{◌≡◌, ℕ, Bool, true, false, List, [], ◌∷◌, ◌++◌, map, fold, refl, sym, ◌∙◌, ap, append_assoc, append-nil}
 use Rattle.std.proofs.lemmas.Bool.{true≢false}
 use Rattle.logos_token.specs.declared.token.Span.{Span}
 use Rattle.logos_token.specs.declared.token.Delimiter.{Delimiter}
 use Rattle.logos_token.specs.Tokens.{Token, identifier, punctuation, literal, doc, group, TokenList, none, also}
 use Rattle.logos_token.specs.Spelling.{Lexeme, leaf, opens, closes, lexemes, token_lexemes}
-use Rattle.logos_token.specs.Printing.{Part, opening_text, closing_text, spaced, token_parts, run_parts, Printed, print_part, printed}
+use Rattle.logos_token.specs.Printing.{Part, opening_text, closing_text, spaced, token_parts, run_parts, print_part, printed}
 use Rattle.logos_token.specs.PrintedAgain.{no_span, bare_token, bare}
 use Rattle.logos_token.proofs.NestingLemmas.{run-lexemes}
 
@@ -114,7 +114,7 @@ rebuild-close delimiter span inside rest d from ls (closes d' to ∷ ms) more ag
       again = also (group delimiter place again) r.again;
       rest = r.rest;
       is = ap (λ x. opens x from ∷ ls) same ∙ ap (λ xs. opens delimiter from ∷ xs) is ∙ ap (λ x. opens delimiter from ∷ (lexemes again ++ (closes x to ∷ ms))) same'
-      ∙ ap (λ xs. opens delimiter from ∷ (lexemes again ++ (closes delimiter to ∷ xs))) r.is ∙ sym (run-lexemes delimiter place again r.again r.rest);
+          ∙ ap (λ xs. opens delimiter from ∷ (lexemes again ++ (closes delimiter to ∷ xs))) r.is ∙ sym (run-lexemes delimiter place again r.again r.rest);
       same = ap (λ xs. also (group delimiter no_span xs) (bare r.again)) bares ∙ ap (λ xs. also (group delimiter no_span (bare inside)) xs) r.same;
       left = r.left;
     }

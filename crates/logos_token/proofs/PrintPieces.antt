@@ -1,11 +1,10 @@
 -- A window in a printed text.
-use Rattle.std.proofs.Common.{◌≡◌, ◌≢◌, ℕ, ◌+◌, ◌-◌, ◌<◌, ◌≤◌, ◌⊎◌, ◌==◌, inl, inr, Bool, true, false, cond, List, [], ◌∷◌, ◌++◌, length, get_or, take, drop, slice_range, codes, IsUtf8, refl, sym, ◌∙◌, ap, subst, arith, length-drop, length-append, get_or-drop, drop-drop}
+use Rattle.std.proofs.Common.{◌≡◌, ◌≢◌, ℕ, ◌+◌, ◌-◌, ◌<◌, ◌≤◌, ◌⊎◌, inl, inr, Bool, true, false, cond, List, [], ◌∷◌, ◌++◌, length, get_or, drop, slice_range, IsUtf8, refl, sym, ◌∙◌, ap, subst, arith, length-drop, length-append, get_or-drop, drop-drop}
 use Rattle.std.proofs.lemmas.Bool.{cases_lt, eq-eqb}
 use Rattle.std.proofs.lemmas.List.Edits.{length-between, get_or-between}
 use Rattle.std.proofs.lemmas.List.Prefix.{at_reads, front_rest}
 use Rattle.std.specs.Str.{IsCharBoundary}
 use Rattle.logos_token.specs.declared.token.Span.{Span}
-use Rattle.logos_token.specs.declared.token.Spacing.{Spacing}
 use Rattle.logos_token.specs.declared.token.Spacing.TheVariants.{Alone, Joint}
 use Rattle.logos_token.specs.declared.token.lexeme.Kind.{Kind}
 use Rattle.logos_token.specs.declared.token.lexeme.Kind.TheVariants.{Gap, Identifier, Literal, Doc, Punctuation, Opening, Closing}
@@ -14,7 +13,7 @@ use Rattle.logos_token.specs.Spelling.{Piece, Pieces, lexeme_of, seen}
 use Rattle.logos_token.specs.Printing.{Part, gap_behind, is_line_comment}
 use Rattle.logos_token.proofs.PieceLemmas.{piece-advances, piece-boundary}
 use Rattle.logos_token.proofs.PrintWindows.{Window}
-use Rattle.logos_token.proofs.PrintParts.{lexeme_parts, parts, parts-append, after}
+use Rattle.logos_token.proofs.PrintParts.{parts, parts-append, after}
 
 -- what is printed behind a lexeme of this kind
 abbrev pub gap_of : List ℕ → Kind → ℕ → ℕ → List ℕ

@@ -1,15 +1,15 @@
 -- The lexemes of a source have what the printing of its tokens asks for.
-use Rattle.std.proofs.Common.{◌≡◌, ◌≢◌, ℕ, ◌+◌, ◌-◌, ◌<◌, ◌≤◌, ◌⊎◌, ◌==◌, ◌&&◌, ◌||◌, not, inl, inr, Bool, true, false, cond, List, [], ◌∷◌, ◌++◌, length, get_or, take, drop, slice_range, Option, Some, None, is_some, IsUtf8, encode_utf8, refl, sym, ◌∙◌, ap, subst, arith, get_or-take, length-take-le}
-use Rattle.std.proofs.lemmas.Bool.{cases_lt, cases_Bool, and_parts, or_cases, eqb-true, eq-eqb, false≢true, true≢false}
+use Rattle.std.proofs.Common.{◌≡◌, ◌≢◌, ℕ, ◌+◌, ◌-◌, ◌<◌, ◌≤◌, ◌⊎◌, ◌==◌, ◌&&◌, ◌||◌, not, inl, inr, Bool, true, false, cond, List, [], ◌∷◌, ◌++◌, length, get_or, take, slice_range, Option, Some, None, is_some, IsUtf8, encode_utf8, refl, sym, ◌∙◌, ap, subst, arith, get_or-take, length-take-le}
+use Rattle.std.proofs.lemmas.Bool.{cases_lt, cases_Bool, and_parts, or_cases, eqb-true, false≢true, true≢false}
 use Rattle.std.proofs.lemmas.List.Edits.{between_more, between_none}
-use Rattle.std.proofs.lemmas.Str.{encode_ascii, IsCharBoundary-start}
+use Rattle.std.proofs.lemmas.Str.{encode_ascii}
 use Rattle.std.specs.Str.{IsCharBoundary}
 use Rattle.logos_token.specs.LexemeCharacters.{character, past, is_space, is_start, is_mark}
-use Rattle.logos_token.specs.LexemeOpenings.{literal_opening, comment_opening, line_kind, block_kind, spacing, delimiter_kind, single_kind, opening_at, kind_of}
+use Rattle.logos_token.specs.LexemeOpenings.{comment_opening, line_kind, block_kind, spacing, delimiter_kind, single_kind, opening_at, kind_of}
 use Rattle.logos_token.specs.LexemeEnds.{Ends}
 use Rattle.logos_token.specs.Lexemes.{IsNext, IsSuffixed}
 use Rattle.logos_token.specs.Tokens.{TokenList}
-use Rattle.logos_token.specs.Spelling.{Piece, Pieces, lexeme_of, Spells}
+use Rattle.logos_token.specs.Spelling.{Spells}
 use Rattle.logos_token.specs.Printing.{Part, opening_text, closing_text, printed}
 use Rattle.logos_token.specs.PrintedAgain.{SpellsAgain}
 use Rattle.logos_token.specs.declared.token.Spacing.{Spacing}
@@ -18,14 +18,13 @@ use Rattle.logos_token.specs.declared.token.Delimiter.{Delimiter}
 use Rattle.logos_token.specs.declared.token.lexeme.Kind.{Kind}
 use Rattle.logos_token.specs.declared.token.lexeme.Kind.TheVariants.{Gap, Identifier, Literal, Doc, Punctuation, Opening as OpeningKind, Closing}
 use Rattle.logos_token.specs.declared.token.lexeme.openings.Opening.{Opening}
-use Rattle.logos_token.specs.declared.token.lexeme.openings.Opening.TheVariants.{Line, Block}
 use Rattle.logos_token.proofs.CharacterLaws.{character-ascii, character-end, past-ascii, inside_from_byte}
 use Rattle.logos_token.proofs.PieceLemmas.{piece-advances, piece-boundary}
 use Rattle.logos_token.proofs.PrintWindows.{Window}
 use Rattle.logos_token.proofs.PrintEnds.{closes_long}
 use Rattle.logos_token.proofs.PrintNames.{start-0}
-use Rattle.logos_token.proofs.PrintLexemes.{IsLiteral, is_literal, literal_kind, Opens, by_literal, by_comment, by_other, opens_at, Others, space_there, word_opens, single_opens, nothing_opens, others, comment_cases, line_kind_cases, block_kind_cases, unsuffixed, single_no_literal}
-use Rattle.logos_token.proofs.PrintPieces.{gap_of, Follows, HasText, HasJoints, HasDocs}
+use Rattle.logos_token.proofs.PrintLexemes.{is_literal, literal_kind, Opens, by_literal, by_comment, by_other, opens_at, Others, space_there, word_opens, single_opens, nothing_opens, others, comment_cases, line_kind_cases, block_kind_cases, unsuffixed, single_no_literal}
+use Rattle.logos_token.proofs.PrintPieces.{gap_of, HasText, HasJoints, HasDocs}
 use Rattle.logos_token.proofs.PrintFacts.{visible_no_space, start_large, start_no_space, mark_visible, literal_visible, IsDelimiter, opening, closing, is_delimiter, byte_of}
 use Rattle.logos_token.proofs.PrintAgain.{HasNoSpace, printed_again}
 
@@ -212,10 +211,13 @@ module _ (a : List ℕ) (utf8 : IsUtf8 a) where
   opening_at_text p to d bound inside (word_form e) = absurd (cc)
   opening_at_text p to d bound inside (single_form e f) = elim (which a p (OpeningKind d) e) [
     | inl r ↦ absurd (let h = r.1 in cc)
-    | inr r ↦ elim r [ inl s ↦ absurd (let h = s.1 in cc) | inr s ↦ elim s [
+    | inr r ↦ elim r [
+      | inl s ↦ absurd (let h = s.1 in cc)
+      | inr s ↦ elim s [
         | inl t ↦ absurd (let h = t.1 in cc)
         | inr t ↦ opening_by (character a p) (OpeningKind d) (is_delimiter (character a p) (OpeningKind d) t) d refl ∙ sym (one_byte p to (OpeningKind d) bound inside (λ g. absurd (cc)) e f).1
-      ] ]
+      ]
+    ]
   ]
 
   closing_at_text : (p to : ℕ) (d : Delimiter) → IsCharBoundary a p → p < length a → Form a p (Closing d) to → Text p to (closing_text d)
@@ -224,10 +226,13 @@ module _ (a : List ℕ) (utf8 : IsUtf8 a) where
   closing_at_text p to d bound inside (word_form e) = absurd (cc)
   closing_at_text p to d bound inside (single_form e f) = elim (which a p (Closing d) e) [
     | inl r ↦ absurd (let h = r.1 in cc)
-    | inr r ↦ elim r [ inl s ↦ absurd (let h = s.1 in cc) | inr s ↦ elim s [
+    | inr r ↦ elim r [
+      | inl s ↦ absurd (let h = s.1 in cc)
+      | inr s ↦ elim s [
         | inl t ↦ absurd (let h = t.1 in cc)
         | inr t ↦ closing_by (character a p) (Closing d) (is_delimiter (character a p) (Closing d) t) d refl ∙ sym (one_byte p to (Closing d) bound inside (λ g. absurd (cc)) e f).1
-      ] ]
+      ]
+    ]
   ]
 
   part_with : List ℕ → List ℕ → List Part
@@ -282,9 +287,9 @@ module _ (a : List ℕ) (utf8 : IsUtf8 a) where
     inside = elim (cases_lt x (length a)) [ inl l ↦ l | inr l ↦ absurd (false≢true (sym start-0 ∙ ap is_start (sym (character-end a x l)) ∙ e)) ];
     spaceless = start_no_space (character a x) e;
     none = no_slash x (elim (cases_Bool (get_or a x 0 == 47)) [
-        | inr f ↦ f
-        | inl f ↦ absurd (let g = eqb-true (get_or a x 0) 47 f in let h = start_large (character a x) e in let i = character-ascii a x (omega arith) in omega arith)
-      ]);
+      | inr f ↦ f
+      | inl f ↦ absurd (let g = eqb-true (get_or a x 0) 47 f in let h = start_large (character a x) e in let i = character-ascii a x (omega arith) in omega arith)
+    ]);
   }
 
   joint_behind : (p to : ℕ) → Form a p (Punctuation Joint) to → IsCharacterHere to

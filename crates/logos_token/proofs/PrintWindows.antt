@@ -1,9 +1,7 @@
 -- Two texts that have the same bytes at two places, and a space, a line feed or nothing behind them in the second text.
-use Rattle.std.proofs.Common.{◌≡◌, ◌≢◌, ℕ, ◌+◌, ◌-◌, ◌<◌, ◌≤◌, ◌⊎◌, inl, inr, Bool, false, List, [], ◌∷◌, ◌++◌, length, get_or, take, drop, slice_range, IsUtf8, encode_utf8, length-append, refl, sym, ◌∙◌, ap, arith, length-drop, get_or-drop, take-append-drop, ext_get_or}
-use Rattle.std.proofs.lemmas.Bool.{cases_lt}
+use Rattle.std.proofs.Common.{◌≡◌, ℕ, ◌+◌, ◌-◌, ◌<◌, ◌≤◌, ◌⊎◌, inl, inr, Bool, false, List, ◌∷◌, ◌++◌, length, get_or, take, drop, slice_range, IsUtf8, encode_utf8, length-append, sym, ◌∙◌, ap, arith, take-append-drop, ext_get_or}
 use Rattle.std.proofs.lemmas.List.{get_or_past}
 use Rattle.std.proofs.lemmas.List.Edits.{length-between, get_or-between}
-use Rattle.std.proofs.lemmas.List.Prefix.{at_from_reads}
 use Rattle.std.proofs.lemmas.Str.{chars-append, chars_past_char, IsUtf8-between, length-encode}
 use Rattle.std.specs.Char.{len_utf8}
 use Rattle.std.specs.Str.{IsCharBoundary, chars as chars_of}
