@@ -16,3 +16,14 @@ pub mod BodyLaws
 pub mod PrintingLemmas
 pub mod OrderLemmas
 pub mod ValueLaws
+pub mod PrintWindows
+pub mod PrintOpenings
+pub mod PrintEnds
+pub mod PrintNames
+pub mod PrintBodies
+pub mod PrintLexemes
+pub mod PrintParts
+pub mod PrintPieces
+pub mod PrintAgain
+pub mod PrintFacts
+pub mod PrintSources

@@ -12,6 +12,7 @@ pub mod Views
 pub mod Punctuation
 pub mod Printing
 pub mod PrintingSteps
+pub mod PrintedAgain
 pub mod MaybePrinted
 pub mod Spelling
 pub mod Reading

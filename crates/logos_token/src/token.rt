@@ -1,6 +1,7 @@
 //! Tokens of a source text.
 
 mod entry;
+mod laws;
 pub mod lexeme;
 mod literal_text;
 mod printing;
@@ -10,6 +11,7 @@ mod tests;
 mod value;
 mod views;
 
+pub use laws::prints_back;
 pub use lexeme::LexicalKind;
 pub use printing::print;
 pub use reader::{TokenError, spelled_in_order, spells_once, tokenize};

@@ -207,3 +207,140 @@ fn printed_tokens(rt: HostRuntime) -> Result<(), Fail> {
     assert_eq!(rt; text.as_str(), "");
     Ok(())
 }
+
+/// Whether two trees are the same, their spans aside. Groups are compared by what is printed of their
+/// insides.
+fn is_same_tree(
+    alloc: Global,
+    tree: TokenTree<'_, '_>,
+    other: TokenTree<'_, '_>,
+) -> Result<bool, Fail> {
+    Ok(match (tree, other) {
+        (TokenTree::Ident(a), TokenTree::Ident(b)) => a.text == b.text,
+        (TokenTree::Literal(a), TokenTree::Literal(b)) => a.text == b.text,
+        (TokenTree::Doc(a), TokenTree::Doc(b)) => a.text == b.text,
+        (TokenTree::Punct(a), TokenTree::Punct(b)) => {
+            a.character == b.character && a.spacing == b.spacing
+        }
+        (TokenTree::Group(a), TokenTree::Group(b)) => {
+            let inside = print(alloc, a.run())?;
+            let inside_other = print(alloc, b.run())?;
+            a.delimiter == b.delimiter && inside.as_str() == inside_other.as_str()
+        }
+        _ => false,
+    })
+}
+
+/// Whether two runs have the same trees, their spans aside.
+fn is_same_run(alloc: Global, run: Tokens<'_, '_>, other: Tokens<'_, '_>) -> Result<bool, Fail> {
+    let mut rest = other;
+    for tree in run.iter() {
+        let Some(next) = rest.first() else {
+            return Ok(false);
+        };
+        if !is_same_tree(alloc, tree, next)? {
+            return Ok(false);
+        }
+        rest = rest.rest();
+    }
+    Ok(rest.is_empty())
+}
+
+/// Whether the printed text of a source has the source's tokens, and is printed as it is.
+fn prints_back(alloc: Global, source: &str) -> Result<bool, Fail> {
+    let stream = tokenize(alloc, source)?;
+    let text = print(alloc, stream.run())?;
+    let again = tokenize(alloc, text.as_str())?;
+    let text_again = print(alloc, again.run())?;
+    Ok(is_same_run(alloc, stream.run(), again.run())? && text.as_str() == text_again.as_str())
+}
+
+#[test]
+fn printed_literals(rt: HostRuntime) -> Result<(), Fail> {
+    let sources = [
+        "1",
+        "0x1F",
+        "1_000u32",
+        "1.5e-3f32",
+        "1.foo",
+        "1..2",
+        "0b1_0",
+        "2.0",
+        "0o17",
+        "1e+9",
+        "\"\"",
+        "\"a\\\"b\"",
+        "\"a\\u{1F600}\\x41\"",
+        "\"a\\\n   b\"",
+        "\"a\"suffix",
+        "r\"a\\\"",
+        "r#\"a\"b\"#",
+        "r##\"a\"#\"##r",
+        "b\"a\\xFF\"",
+        "br\"a\"",
+        "br#\"\"#",
+        "c\"a\"",
+        "cr#\"a\"#",
+        "'a'",
+        "'\\''",
+        "'\\n'",
+        "'\u{e9}'",
+        "b'a'",
+        "b'\\\\'",
+        "'('u8",
+    ];
+    for source in sources.iter() {
+        assert!(rt; prints_back(rt.alloc(), source)?);
+    }
+    Ok(())
+}
+
+#[test]
+fn printed_lexemes(rt: HostRuntime) -> Result<(), Fail> {
+    let sources = [
+        "a",
+        "r#fn",
+        "r",
+        "b",
+        "c",
+        "br",
+        "\u{e9}t\u{e9}",
+        "_",
+        "'a",
+        "'r#a",
+        "'a: 'static",
+        "'r\"a\"",
+        "&'a T",
+        "a::b",
+        "->=>",
+        "..=",
+        "<<=",
+        "+ +",
+        "/ /",
+        "a//b\n/c",
+        "a/*b*/c",
+        "+/*a*/+",
+        "+//\n+",
+        "///a\n///b",
+        "//!a\r\nb",
+        "/**a*/b",
+        "/*!a/*b*/c*/",
+        "///a",
+        "/***/",
+        "////a",
+        "$%^!@~?",
+        "()",
+        "[{}]",
+        "(a, [b; 2])",
+        "f(1)(2)",
+        "{'a'}",
+        "#[a = \"b\"]",
+        "\u{feff}a",
+        "a\u{200e}b",
+        "/-/",
+    ];
+    for source in sources.iter() {
+        assert!(rt; prints_back(rt.alloc(), source)?);
+    }
+    Ok(())
+}

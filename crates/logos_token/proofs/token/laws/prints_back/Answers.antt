@@ -1,0 +1,5 @@
+use Rattle.logos_token.proofs.PrintSources.{prints_again}
+use Rattle.logos_token.proofs.token.laws.prints_back.Goals as goal
+
+pub returns : goal.returns
+returns c = prints_again

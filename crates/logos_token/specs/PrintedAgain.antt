@@ -1,0 +1,29 @@
+-- Tokens without the places where they stand.
+use Rattle.std.specs.Prelude.{◌≡◌, ℕ, List}
+use Rattle.logos_token.specs.declared.token.Span.{Span}
+use Rattle.logos_token.specs.Tokens.{Token, identifier, punctuation, literal, doc, group, TokenList, none, also}
+use Rattle.logos_token.specs.Spelling.{Spells}
+
+-- the span that stands for none
+abbrev pub no_span : Span
+no_span = record { from = 0; to = 0 }
+
+abbrev mutual
+  -- a token without its span, and without those inside it
+  pub bare_token : Token → Token
+  bare_token (identifier text span) = identifier text no_span
+  bare_token (punctuation character spacing span) = punctuation character spacing no_span
+  bare_token (literal text span) = literal text no_span
+  bare_token (doc text span) = doc text no_span
+  bare_token (group delimiter span inside) = group delimiter no_span (bare inside)
+
+  -- a run without its spans
+  pub bare : TokenList → TokenList
+  bare none = none
+  bare (also token rest) = also (bare_token token) (bare rest)
+
+-- the bytes spell these tokens, spans aside
+pub record SpellsAgain (bytes : List ℕ) (tokens : TokenList) : Type 0 where
+  pub again : TokenList
+  pub spelled : Spells bytes again
+  pub same : bare again ≡ bare tokens
