@@ -8,12 +8,12 @@ use Rattle.logos_token.specs.LexemeCharacters.{character, past, is_start, is_con
 use Rattle.logos_token.specs.LexemeRuns.{Steps, here, step, IsLast, Run, IsFirst, Passes}
 use Rattle.logos_token.specs.LexemeEnds.{IsSuffix, is_based, GoesOn, letter, point, sign}
 use Rattle.logos_token.specs.LexemeOpenings.{name_at}
-use Rattle.logos_token.specs.LiteralBodies.{is_simple, is_hex, digits_between, is_blank, BreaksLine, IsHexEscape, IsUnicodeEscape, IsEscape, simple, hex, unicode, IsContinuation, IsAllowed, IsStringPiece, plain, return, escape, continuation, IsRawPiece, IsCharacterPiece}
+use Rattle.logos_token.specs.LiteralBodies.{is_simple, is_hex, digits_between, is_blank, BreaksLine, IsHexEscape, IsUnicodeEscape, IsEscape, simple, hex, unicode, IsContinuation, IsAllowed, Says, plain, return, escape, continuation, IsPiece, IsCharacterPiece, unescaped, escaped}
 use Rattle.logos_token.specs.declared.token.lexeme.openings.Content.{Content}
 use Rattle.logos_token.proofs.CharacterLaws.{inside_from_byte, character-ascii}
 use Rattle.logos_token.proofs.RunLaws.{Steps-le}
 use Rattle.logos_token.proofs.EndLaws.{GoesOn-moves, step-boundary}
-use Rattle.logos_token.proofs.BodyLaws.{raw-moves, string-moves}
+use Rattle.logos_token.proofs.BodyLaws.{piece-moves}
 use Rattle.logos_token.proofs.PrintWindows.{Window, blank_fails, blank_character, same_slice}
 use Rattle.logos_token.proofs.PrintEnds.{steps_same, goes_on_same, passes_same}
 use Rattle.logos_token.proofs.PrintNames.{Names, raw, plain as plain_name, nothing, names, raw_parts, continuing-32, continuing-10, continuing-0}
@@ -57,14 +57,14 @@ module _ (a b : List ℕ) (p q k : ℕ) (w : Window a b p q k) where
         scalar = rw digits r.scalar;
       }
 
-  escape_same : (content : Content) (x y z v : ℕ) → At x y → At z v → z < p + k → IsEscape content a x z → IsEscape content b y v
-  escape_same content x y z v e f l (simple s t m) = simple (first_byte x y e (omega arith) ∙ s) (ap is_simple (byte x y 1 e (omega arith)) ∙ t) (omega (arith, e.0, f.0))
-  escape_same content x y z v e f l (hex r m) = hex (hex_same content x y e (omega arith) r) (omega (arith, e.0, f.0))
+  escape_same : (content : Content) (x y z v : ℕ) → At x y → At z v → z < p + k → {held : List ℕ} → IsEscape content a x z held → (other : List ℕ) × IsEscape content b y v other
+  escape_same content x y z v e f l (simple s t m) = (_, simple (first_byte x y e (omega arith) ∙ s) (ap is_simple (byte x y 1 e (omega arith)) ∙ t) (omega (arith, e.0, f.0)))
+  escape_same content x y z v e f l (hex r m) = (_, hex (hex_same content x y e (omega arith) r) (omega (arith, e.0, f.0)))
   escape_same content x y z v e f l (unicode {brace} c r m) =
       let n = brace + q - p in
       let begun = r.begun in
       let at : At brace n = (omega (arith, e.0, e.1), omega (arith, e.1)) in
-      unicode {brace = n} c (unicode_same x y brace n e at (omega arith) r) (omega (arith, at.0, f.0))
+      (_, unicode {brace = n} c (unicode_same x y brace n e at (omega arith) r) (omega (arith, at.0, f.0)))
 
   breaks_same : (x y z : ℕ) → At x y → IsFirst (λ i. is_blank (get_or a i 0) ≡ false) (x + 1) z → z < p + k → BreaksLine a (x + 1) → BreaksLine b (y + 1)
   breaks_same x y z e r l (inl f) = let g = r.begun in inl (byte x y 1 e (omega arith) ∙ f)
@@ -91,25 +91,25 @@ module _ (a b : List ℕ) (p q k : ℕ) (w : Window a b p q k) where
   allowed_same : (content : Content) (x y : ℕ) → At x y → x < p + k → IsAllowed content (get_or a x 0) → IsAllowed content (get_or b y 0)
   allowed_same content x y e l r = rw (first_byte x y e l) r
 
-  raw_piece : (content : Content) (top : ℕ) → top < p + k → (x y z v : ℕ) → At x y → At z v → z ≤ top → Unit {0} → IsRawPiece content a x z → IsRawPiece content b y v
-  raw_piece content top l x y z v e f high _ (plain r m) = plain (allowed_same content x y e (omega arith) r) (omega (arith, e.0, f.0))
-  raw_piece content top l x y z v e f high _ (return r) = let m = r.2 in return (first_byte x y e (omega arith) ∙ r.0, byte x y 1 e (omega arith) ∙ r.1, omega (arith, e.0, f.0))
-
-  string_piece : (content : Content) (top : ℕ) → top < p + k → (x y z v : ℕ) → At x y → At z v → z ≤ top → Unit {0} → IsStringPiece content a x z → IsStringPiece content b y v
-  string_piece content top l x y z v e f high _ (plain s r m) = plain (λ g. s (sym (first_byte x y e (omega arith)) ∙ g)) (allowed_same content x y e (omega arith) r) (omega (arith, e.0, f.0))
-  string_piece content top l x y z v e f high _ (return r) = let m = r.2 in return (first_byte x y e (omega arith) ∙ r.0, byte x y 1 e (omega arith) ∙ r.1, omega (arith, e.0, f.0))
-  string_piece content top l x y z v e f high _ (escape r) = escape (escape_same content x y z v e f (omega arith) r)
-  string_piece content top l x y z v e f high _ (continuation r) = continuation (continuation_same x y z v e f (omega arith) r)
+  piece_same : (escapes : Bool) (content : Content) (top : ℕ) → top < p + k → (x y z v : ℕ) → At x y → At z v → z ≤ top → Unit {0} → IsPiece escapes content a x z → IsPiece escapes content b y v
+  piece_same escapes content top l x y z v e f high _ (held, plain s r m) =
+      (_, plain (λ t g. s t (sym (first_byte x y e (omega arith)) ∙ g)) (allowed_same content x y e (omega arith) r) (omega (arith, e.0, f.0)))
+  piece_same escapes content top l x y z v e f high _ (held, return r) = let m = r.2 in (_, return (first_byte x y e (omega arith) ∙ r.0, byte x y 1 e (omega arith) ∙ r.1, omega (arith, e.0, f.0)))
+  piece_same escapes content top l x y z v e f high _ (held, escape t r) = let other = escape_same content x y z v e f (omega arith) r in (other.0, escape t other.1)
+  piece_same escapes content top l x y z v e f high _ (held, continuation t r) = (_, continuation t (continuation_same x y z v e f (omega arith) r))
 
   pub character_piece : (content : Content) (x y z v : ℕ) → At x y → At z v → z < p + k → IsCharacterPiece content a x z → IsCharacterPiece content b y v
-  character_piece content x y z v e f l (plain s r m) = plain (λ g. s (sym (first_byte x y e (omega arith)) ∙ g)) (allowed_same content x y e (omega arith) r) (omega (arith, e.0, f.0))
-  character_piece content x y z v e f l (escape r) = escape (escape_same content x y z v e f l r)
+  character_piece content x y z v e f l (unescaped s r m) = unescaped (λ g. s (sym (first_byte x y e (omega arith)) ∙ g)) (allowed_same content x y e (omega arith) r) (omega (arith, e.0, f.0))
+  character_piece content x y z v e f l (escaped r) = let other = escape_same content x y z v e f l r in escaped other.1
 
-  pub raw_pieces : (content : Content) (x y z v : ℕ) → At x y → At z v → z < p + k → Steps (IsRawPiece content a) x z → Steps (IsRawPiece content b) y v
-  raw_pieces content x y z v e f l r = steps_same a b p q k w z (IsRawPiece content a) (IsRawPiece content b) (λ _. Unit {0}) (raw_piece content z l) (λ _ _ _ _. tt) (raw-moves content a) r y v e f (omega arith) tt
+  pieces_same : (escapes : Bool) (content : Content) (x y z v : ℕ) → At x y → At z v → z < p + k → Steps (IsPiece escapes content a) x z → Steps (IsPiece escapes content b) y v
+  pieces_same escapes content x y z v e f l r = steps_same a b p q k w z (IsPiece escapes content a) (IsPiece escapes content b) (λ _. Unit {0}) (piece_same escapes content z l) (λ _ _ _ _. tt) (piece-moves escapes content a) r y v e f (omega arith) tt
 
-  pub string_pieces : (content : Content) (x y z v : ℕ) → At x y → At z v → z < p + k → Steps (IsStringPiece content a) x z → Steps (IsStringPiece content b) y v
-  string_pieces content x y z v e f l r = steps_same a b p q k w z (IsStringPiece content a) (IsStringPiece content b) (λ _. Unit {0}) (string_piece content z l) (λ _ _ _ _. tt) (string-moves content a) r y v e f (omega arith) tt
+  pub raw_pieces : (content : Content) (x y z v : ℕ) → At x y → At z v → z < p + k → Steps (IsPiece false content a) x z → Steps (IsPiece false content b) y v
+  raw_pieces = pieces_same false
+
+  pub string_pieces : (content : Content) (x y z v : ℕ) → At x y → At z v → z < p + k → Steps (IsPiece true content a) x z → Steps (IsPiece true content b) y v
+  string_pieces = pieces_same true
 
 -- numbers
 
