@@ -10,11 +10,23 @@ use crate::pattern::error::{Fault, Kind, Stop};
 use crate::pattern::token::Flags;
 use std::alloc::Global;
 
-/// The number of characters from the last brace on.
-fn left_at_brace(rest: &[char]) -> usize {
-    match rest.iter().rposition(|c| *c == '{') {
-        Some(at) => rest.len().saturating_sub(at),
-        None => rest.len(),
+/// The number of characters from the brace of an escape on that no brace closes.
+fn left_at_brace(text: &[char]) -> usize {
+    let mut rest = behind_braces(text);
+    while let [_, after @ ..] = rest {
+        if let ['\\', _, '{', ..] = rest {
+            return rest.len().saturating_sub(2);
+        }
+        rest = after;
+    }
+    text.len()
+}
+
+/// What stands behind the last closing brace.
+fn behind_braces(text: &[char]) -> &[char] {
+    match text.iter().rposition(|c| *c == '}') {
+        Some(at) if at < text.len() => &text[at..],
+        _ => text,
     }
 }
 

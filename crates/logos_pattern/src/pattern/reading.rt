@@ -50,7 +50,7 @@ impl Reader {
     {
         match (fault, text) {
             (Fault::Syntax(kind), ['(', ..]) => Stop::Syntax {
-                kind,
+                kind: group_kind(kind, text),
                 left: text.len(),
             },
             (Fault::Syntax(kind), ['{', ..]) => self.count_stop(kind, text.len()),
@@ -63,12 +63,12 @@ impl Reader {
         ensures { IsStopOf (faults.Syntax kind) result }
     {
         match (kind, self.machine.repeated()) {
-            (Kind::Unclosed, _) => Stop::Syntax { kind, left },
-            (_, Some(left)) => Stop::Syntax { kind, left },
             (_, None) => Stop::Syntax {
                 kind: Kind::NothingToRepeat,
                 left,
             },
+            (Kind::Unclosed, _) => Stop::Syntax { kind, left },
+            (_, Some(left)) => Stop::Syntax { kind, left },
         }
     }
 
@@ -116,6 +116,14 @@ impl Reader {
             return self.bracket(alloc, inside);
         }
         self.simple(alloc, text)
+    }
+}
+
+/// What is wrong with the opening of a group.
+fn group_kind(kind: Kind, text: &[char]) -> Kind {
+    match text {
+        ['(', '?', '=' | '!', ..] => Kind::GroupSyntax,
+        _ => kind,
     }
 }
 
@@ -225,3 +233,6 @@ impl<'s> Pattern<'s> {
 pub fn one_tree()
     ensures { (flags : FlagsValue) (text : Text) (a b : Tree) (m n : ℕ) → Spells flags text a m → Spells flags text b n → (a ≡ b) × (m ≡ n) }
 {}
+
+#[cfg(test)]
+mod tests;

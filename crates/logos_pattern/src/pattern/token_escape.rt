@@ -96,7 +96,11 @@ fn property_at(alloc: Global, negated: bool, text: &[char]) -> Result<(Atom, &[c
             };
             property_of(alloc, negated, name, after)
         }
-        [c, rest @ ..] => property_of(alloc, negated, &[*c], rest),
+        [c, rest @ ..] => match property_of(alloc, negated, &[*c], rest) {
+            Ok(found) => Ok(found),
+            Err(Fault::Syntax(_)) => Err(Fault::Syntax(Kind::UnknownProperty)),
+            Err(Fault::Memory) => Err(Fault::Memory),
+        },
     }
 }
 
