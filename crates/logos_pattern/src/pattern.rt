@@ -5,24 +5,25 @@ mod bracket_read;
 mod bracket_reading;
 mod bracket_set;
 mod bracket_token;
-pub mod error;
 mod build;
 mod class;
+pub mod error;
 mod fold;
 pub mod hir;
-mod token;
-mod token_escape;
-mod token_group;
-mod token_number;
 mod machine;
 mod machine_atom;
 mod measure;
 mod property;
 mod reading;
 mod reading_names;
+mod token;
+mod token_escape;
+mod token_group;
+mod token_number;
 
 pub use error::{Kind, PatternError};
 pub use hir::{Class, Hir, Look, Range};
+pub use reading::one_tree;
 
 /// A pattern: its tree, and the text that it was read from.
 #[derive(Drop)]

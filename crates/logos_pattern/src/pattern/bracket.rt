@@ -51,7 +51,13 @@ impl Frame {
     ghost use Rattle.logos_pattern.specs.BracketMachine.{opened, value, whole};
     ghost use Rattle.logos_pattern.specs.BracketView.{frame_view};
 
-    fn new(alloc: Global, negated: bool, lead: Lead, level: usize, left: usize) -> Result<Frame, AllocError>
+    fn new(
+        alloc: Global,
+        negated: bool,
+        lead: Lead,
+        level: usize,
+        left: usize,
+    ) -> Result<Frame, AllocError>
         requires { level ≤ 250 }
         ensures { IfOk result (λ f. frame_view f ≡ opened negated lead level) }
     {
@@ -89,7 +95,13 @@ impl Frames {
     ghost use Rattle.logos_pattern.specs.BracketMachine.{opened, whole};
     ghost use Rattle.logos_pattern.specs.BracketView.{frame_view, frames_view, BracketSteps};
 
-    pub(crate) fn new(alloc: Global, negated: bool, lead: Lead, level: usize, left: usize) -> Result<Frames, AllocError>
+    pub(crate) fn new(
+        alloc: Global,
+        negated: bool,
+        lead: Lead,
+        level: usize,
+        left: usize,
+    ) -> Result<Frames, AllocError>
         requires { level ≤ 250 }
         ensures { IfOk result (λ m. frames_view m ≡ record { top = opened negated lead level; below = [] }) }
     {
@@ -125,7 +137,14 @@ impl Frames {
         })
     }
 
-    fn item(&mut self, alloc: Global, flags: Flags, base: usize, item: Item, left: usize) -> Result<(), Stop>
+    fn item(
+        &mut self,
+        alloc: Global,
+        flags: Flags,
+        base: usize,
+        item: Item,
+        left: usize,
+    ) -> Result<(), Stop>
         ensures { BracketSteps flags base (frames_view self.old) (BracketToken.Item item) result (frames_view self.new) }
     {
         if !item_fits(flags, item) {
@@ -138,7 +157,15 @@ impl Frames {
         Ok(())
     }
 
-    fn open(&mut self, alloc: Global, flags: Flags, base: usize, negated: bool, lead: Lead, left: usize) -> Result<(), Stop>
+    fn open(
+        &mut self,
+        alloc: Global,
+        flags: Flags,
+        base: usize,
+        negated: bool,
+        lead: Lead,
+        left: usize,
+    ) -> Result<(), Stop>
         requires { base ≤ 250 }
         ensures { BracketSteps flags base (frames_view self.old) (BracketToken.Open negated lead) result (frames_view self.new) }
     {
@@ -152,7 +179,13 @@ impl Frames {
         Ok(())
     }
 
-    fn operator(&mut self, alloc: Global, flags: Flags, base: usize, op: SetOperator) -> Result<(), Stop>
+    fn operator(
+        &mut self,
+        alloc: Global,
+        flags: Flags,
+        base: usize,
+        op: SetOperator,
+    ) -> Result<(), Stop>
         ensures { BracketSteps flags base (frames_view self.old) (BracketToken.Operator op) result (frames_view self.new) }
     {
         let set = self.top.value(alloc)?;
@@ -177,7 +210,14 @@ impl Frames {
         Ok(())
     }
 
-    pub(crate) fn step(&mut self, alloc: Global, flags: Flags, base: usize, token: BracketToken, left: usize) -> Result<(), Stop>
+    pub(crate) fn step(
+        &mut self,
+        alloc: Global,
+        flags: Flags,
+        base: usize,
+        token: BracketToken,
+        left: usize,
+    ) -> Result<(), Stop>
         requires { base ≤ 250 }
         ensures { BracketSteps flags base (frames_view self.old) token result (frames_view self.new) }
     {

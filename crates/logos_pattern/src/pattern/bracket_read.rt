@@ -80,7 +80,11 @@ fn last_at(alloc: Global, text: &[char]) -> Result<(Symbol, &[char]), Fault>
 }
 
 #[tactic(auto, unfolding(crate::specs::BracketRead::ordered))]
-fn ordered<'t>(first: Symbol, last: Symbol, rest: &'t [char]) -> Result<(BracketToken, &'t [char]), Fault>
+fn ordered<'t>(
+    first: Symbol,
+    last: Symbol,
+    rest: &'t [char],
+) -> Result<(BracketToken, &'t [char]), Fault>
     ensures { Gives (λ x. (x.0, x.1.now)) result (ordered first (last, rest.now)) }
 {
     if code_of(first) > code_of(last) {
@@ -190,7 +194,11 @@ pub(crate) fn open_at(text: &[char]) -> (bool, Lead, &[char])
 
 /// The bracket behind the name of a class.
 #[tactic(auto, unfolding(crate::specs::BracketRead::class_end))]
-fn class_end<'t>(negated: bool, name: &[char], text: &'t [char]) -> Option<(BracketToken, &'t [char])>
+fn class_end<'t>(
+    negated: bool,
+    name: &[char],
+    text: &'t [char],
+) -> Option<(BracketToken, &'t [char])>
     ensures { option_map (λ x. (x.0, x.1.now)) result ≡ class_end negated name.now text.now }
 {
     match text {
@@ -262,7 +270,10 @@ fn operator_of(c: char) -> SetOperator
 
 /// The token at the front, and what follows it.
 #[tactic(auto, unfolding(crate::specs::BracketRead::bracket_token_at))]
-pub(crate) fn bracket_token_at(alloc: Global, text: &[char]) -> Result<(BracketToken, &[char]), Fault>
+pub(crate) fn bracket_token_at(
+    alloc: Global,
+    text: &[char],
+) -> Result<(BracketToken, &[char]), Fault>
     ensures { Gives (λ x. (x.0, x.1.now)) result (bracket_token_at text.now) }
 {
     let [c, rest @ ..] = text else {

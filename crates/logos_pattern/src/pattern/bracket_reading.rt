@@ -56,7 +56,15 @@ fn property_kind(flags: Flags, kind: Kind) -> Kind {
 }
 
 /// Reads what stands behind the opening of a bracket, up to its end.
-fn read_inside(alloc: Global, flags: Flags, base: usize, negated: bool, lead: Lead, left: usize, text: &[char]) -> Result<(Found, &[char]), Stop>
+fn read_inside(
+    alloc: Global,
+    flags: Flags,
+    base: usize,
+    negated: bool,
+    lead: Lead,
+    left: usize,
+    text: &[char],
+) -> Result<(Found, &[char]), Stop>
     requires { base < 250 }
     ensures { ReadsInside flags base negated lead text.now result }
 {
@@ -82,7 +90,12 @@ fn read_inside(alloc: Global, flags: Flags, base: usize, negated: bool, lead: Le
 }
 
 /// Reads a bracket from behind its first character, with so many groups around it.
-pub(crate) fn read_bracket(alloc: Global, flags: Flags, base: usize, text: &[char]) -> Result<(Found, &[char]), Stop>
+pub(crate) fn read_bracket(
+    alloc: Global,
+    flags: Flags,
+    base: usize,
+    text: &[char],
+) -> Result<(Found, &[char]), Stop>
     requires { base ≤ 250 }
     ensures { ReadsBracket flags base text.now result }
 {

@@ -111,7 +111,12 @@ fn plain_ends(flags: Flags, item: Item) -> Option<(u32, u32)>
 }
 
 /// Adds the set of an item.
-pub(crate) fn push_item(alloc: Global, ranges: &mut Vec<Range>, flags: Flags, item: Item) -> Result<(), AllocError>
+pub(crate) fn push_item(
+    alloc: Global,
+    ranges: &mut Vec<Range>,
+    flags: Flags,
+    item: Item,
+) -> Result<(), AllocError>
     ensures { OnOk result (members (pairs ranges.new.items) ≡ union (members (pairs ranges.old.items)) (item_set flags item)) }
 {
     match plain_ends(flags, item) {
@@ -142,8 +147,20 @@ pub(crate) fn lead_ranges(alloc: Global, lead: Lead) -> Result<Vec<Range>, Alloc
 {
     match lead {
         Lead::Dashes(0) => Ok(Vec::new(alloc)),
-        Lead::Dashes(_) => Vec::from_slice(alloc, &[Range { first: 45, last: 45 }]),
-        Lead::Bracket => Vec::from_slice(alloc, &[Range { first: 93, last: 93 }]),
+        Lead::Dashes(_) => Vec::from_slice(
+            alloc,
+            &[Range {
+                first: 45,
+                last: 45,
+            }],
+        ),
+        Lead::Bracket => Vec::from_slice(
+            alloc,
+            &[Range {
+                first: 93,
+                last: 93,
+            }],
+        ),
     }
 }
 

@@ -255,7 +255,12 @@ impl Machine {
     }
 
     /// Puts the set of a bracket.
-    pub(crate) fn class(&mut self, alloc: Global, found: Found, left: usize) -> Result<(), AllocError>
+    pub(crate) fn class(
+        &mut self,
+        alloc: Global,
+        found: Found,
+        left: usize,
+    ) -> Result<(), AllocError>
         requires { found.depth ≤ 250 }
         ensures { (b : Bracket) → set_of found.set ≡ bracket_set (state_view self.old).top.flags b → found.depth ≡ length (state_view self.old).below + bracket_depth b
             → OnOk result (step (state_view self.old) (bracketed b) ≡ Some (state_view self.new)) }

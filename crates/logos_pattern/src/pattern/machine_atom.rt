@@ -77,12 +77,18 @@ fn dot_set(alloc: Global, flags: Flags) -> Result<RangeSet, AllocError>
             alloc,
             &[
                 Range { first: 0, last: 9 },
-                Range { first: 11, last: 12 },
+                Range {
+                    first: 11,
+                    last: 12,
+                },
                 Range { first: 14, last },
             ],
         );
     }
-    RangeSet::from_ranges(alloc, &[Range { first: 0, last: 9 }, Range { first: 11, last }])
+    RangeSet::from_ranges(
+        alloc,
+        &[Range { first: 0, last: 9 }, Range { first: 11, last }],
+    )
 }
 
 fn start_look(flags: Flags) -> Look
@@ -108,7 +114,11 @@ fn end_look(flags: Flags) -> Look
 fn boundary(negated: bool) -> Look
     ensures { result ≡ (if negated then Look.WordAsciiNegate else Look.WordAscii) }
 {
-    if negated { Look::WordAsciiNegate } else { Look::WordAscii }
+    if negated {
+        Look::WordAsciiNegate
+    } else {
+        Look::WordAscii
+    }
 }
 
 /// One of a class, or of its complement.
@@ -131,7 +141,12 @@ pub(crate) fn atom_tree(alloc: Global, flags: Flags, atom: Atom) -> Result<Hir, 
         Atom::TextStart => Ok(build::look(Look::Start)),
         Atom::TextEnd => Ok(build::look(Look::End)),
         Atom::Boundary(negated) => Ok(build::look(boundary(negated))),
-        Atom::Perl(kind, negated) => class(alloc, flags, negated, perl_set(alloc, kind, flags.unicode)?),
+        Atom::Perl(kind, negated) => class(
+            alloc,
+            flags,
+            negated,
+            perl_set(alloc, kind, flags.unicode)?,
+        ),
         Atom::Property(set, negated) => class(alloc, flags, negated, property_set(alloc, set)?),
     }
 }
