@@ -1,5 +1,5 @@
 -- What the bracket reader's answers say of the text.
-use Rattle.std.proofs.Common.{◌≡◌, ℕ, suc, ◌+◌, ◌<◌, ◌≤◌, Bool, true, false, List, [], ◌∷◌, ◌++◌, length, Option, Some, None, Result, Ok, Err, eqb, refl, sym, ap, subst, ◌∙◌, arith}
+use Rattle.std.proofs.Common.{◌≡◌, ℕ, ◌+◌, ◌<◌, ◌≤◌, Bool, true, [], ◌∷◌, length, Some, None, Result, Ok, Err, eqb, refl, sym, ap, subst, ◌∙◌, arith}
 use Rattle.logos_pattern.specs.declared.pattern.error.Fault.{Fault}
 use Rattle.logos_pattern.specs.declared.pattern.error.Fault.TheVariants as faults
 use Rattle.logos_pattern.specs.declared.pattern.error.Stop.{Stop}
@@ -11,11 +11,11 @@ use Rattle.logos_pattern.specs.declared.pattern.bracket_token.BracketToken.TheVa
 use Rattle.logos_pattern.specs.Token.{Text, Gives}
 use Rattle.std.specs.Borrow.{Bor}
 use Rattle.logos_pattern.specs.declared.pattern.bracket.Found.{Found}
-use Rattle.logos_pattern.specs.Bracket.{Bracket, bracket, Operands}
-use Rattle.logos_pattern.specs.BracketSpelling.{operands_tokens, BracketCuts, Opens, Encloses}
+use Rattle.logos_pattern.specs.Bracket.{Bracket, bracket}
+use Rattle.logos_pattern.specs.BracketSpelling.{Opens, Encloses}
 use Rattle.logos_pattern.specs.BracketSet.{BracketFits, bracket_depth}
 use Rattle.logos_pattern.specs.BracketRead.{open_at, bracket_token_at}
-use Rattle.logos_pattern.specs.BracketMachine.{Frame, Frames}
+use Rattle.logos_pattern.specs.BracketMachine.{Frames}
 use Rattle.logos_pattern.specs.BracketView.{IsStopOf, Denies, NoStep, TooDeep, BracketSteps, ReadsInside, ReadsBracket}
 use Rattle.std.proofs.lemmas.Bool.{eqb-true}
 use Rattle.logos_pattern.proofs.BracketTokens.{open_taken}

@@ -1,5 +1,5 @@
 -- Brackets read so far: the frames of open brackets are those of what is written.
-use Rattle.std.proofs.Common.{◌≡◌, ℕ, suc, ◌+◌, ◌<◌, ◌≤◌, max, Bool, true, false, List, [], ◌∷◌, ◌++◌, length, Option, Some, None, refl, sym, ap, subst, ◌∙◌, arith, append_assoc, append-nil, option_map, option_and_then, IfSome}
+use Rattle.std.proofs.Common.{◌≡◌, ℕ, suc, ◌+◌, max, Bool, false, List, [], ◌∷◌, ◌++◌, length, Option, Some, None, refl, sym, ap, subst, ◌∙◌, arith, append_assoc, append-nil, option_map, option_and_then}
 use Rattle.logos_pattern.specs.declared.pattern.token.Flags.{Flags}
 use Rattle.logos_pattern.specs.declared.pattern.bracket_token.Item.{Item as ItemOf}
 use Rattle.logos_pattern.specs.declared.pattern.bracket_token.SetOperator.{SetOperator}
@@ -9,7 +9,7 @@ use Rattle.logos_pattern.specs.declared.pattern.bracket_token.BracketToken.TheVa
 use Rattle.logos_pattern.specs.Class.{Set, union}
 use Rattle.logos_pattern.specs.Bracket.{Bracket, bracket, Operands, lone, joined, Members, nobody, member, nested}
 use Rattle.logos_pattern.specs.BracketSpelling.{bracket_tokens, operands_tokens, members_tokens}
-use Rattle.logos_pattern.specs.BracketSet.{turned, item_set, lead_set, combined, bracket_set, operands_set, members_set, item_fits, TokensFit, bracket_depth, operands_depth, members_depth}
+use Rattle.logos_pattern.specs.BracketSet.{turned, item_set, lead_set, bracket_set, operands_set, members_set, bracket_depth, operands_depth, members_depth}
 use Rattle.logos_pattern.specs.BracketMachine.{Frame, Frames, opened, with_before, value, whole, close, bracket_step}
 
 -- a bracket that is open: the operands before the last one, with the operator behind them, and the last one

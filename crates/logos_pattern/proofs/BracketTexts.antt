@@ -1,5 +1,5 @@
 -- Whole brackets: how a text is cut into their tokens, and what the machine's answers say of it.
-use Rattle.std.proofs.Common.{◌≡◌, ℕ, suc, ◌+◌, ◌<◌, ◌≤◌, max, Bool, true, false, ◌⊎◌, inl, inr, List, [], ◌∷◌, ◌++◌, length, Option, Some, None, refl, sym, ap, subst, ◌∙◌, arith, append_assoc, append-nil, length-append, option_map, option_and_then, IfSome}
+use Rattle.std.proofs.Common.{◌≡◌, ℕ, ◌+◌, ◌<◌, ◌≤◌, max, Bool, false, ◌⊎◌, inl, inr, List, [], ◌∷◌, ◌++◌, Option, Some, None, refl, sym, ap, subst, ◌∙◌, arith, append_assoc, append-nil, option_map, option_and_then, IfSome}
 use Rattle.logos_pattern.specs.declared.pattern.token.Flags.{Flags}
 use Rattle.logos_pattern.specs.declared.pattern.bracket_token.Item.{Item as ItemOf}
 use Rattle.logos_pattern.specs.declared.pattern.bracket_token.Lead.{Lead}
@@ -7,16 +7,15 @@ use Rattle.logos_pattern.specs.declared.pattern.bracket_token.Lead.TheVariants.{
 use Rattle.logos_pattern.specs.declared.pattern.bracket_token.BracketToken.{BracketToken}
 use Rattle.logos_pattern.specs.declared.pattern.bracket_token.BracketToken.TheVariants.{Item, Open, Operator, Close}
 use Rattle.logos_pattern.specs.Token.{Text}
-use Rattle.logos_pattern.specs.Class.{Set}
-use Rattle.logos_pattern.specs.Bracket.{Bracket, bracket, Operands, lone, joined, Members}
+use Rattle.logos_pattern.specs.Bracket.{Bracket, bracket, Operands, lone, joined}
 use Rattle.logos_pattern.specs.BracketSpelling.{operands_tokens, BracketTakes, BracketCuts, Opens, Encloses}
-use Rattle.logos_pattern.specs.BracketSet.{bracket_set, item_fits, TokensFit, BracketFits, bracket_depth, operands_depth}
-use Rattle.logos_pattern.specs.BracketRead.{open_at, bracket_token_at}
+use Rattle.logos_pattern.specs.BracketSet.{bracket_set, item_fits, TokensFit, BracketFits, bracket_depth}
+use Rattle.logos_pattern.specs.BracketRead.{bracket_token_at}
 use Rattle.logos_pattern.specs.BracketMachine.{Frame, Frames, whole, close, bracket_step, opened}
 use Rattle.logos_pattern.specs.BracketView.{MayStand}
 use Rattle.logos_pattern.proofs.Picks.{IsTaken}
 use Rattle.logos_pattern.proofs.BracketTokens.{open_is, bracket_token_taken, bracket_token_is}
-use Rattle.logos_pattern.proofs.BracketLevels.{Level, Stack, bottom, over, Place, frames_of, size, starting, advance, walk, walk_more, Walked, walked, tokens_at, outermost, level_inside, level_bracket, inside_depth, depth_inside, place_of, inside-place_of, operands_walk, step_is, whole_of}
+use Rattle.logos_pattern.proofs.BracketLevels.{Level, Stack, bottom, over, Place, frames_of, size, starting, advance, walk, walk_more, Walked, walked, tokens_at, outermost, level_inside, depth_inside, place_of, inside-place_of, operands_walk, step_is, whole_of}
 
 -- ---- lists
 

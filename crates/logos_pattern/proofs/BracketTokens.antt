@@ -1,6 +1,6 @@
 -- Tokens inside brackets: what is read is written there, and what is written is read.
-use Rattle.std.proofs.Common.{◌≡◌, ◌≢◌, ℕ, zero, suc, ◌+◌, ◌<◌, ◌≤◌, Bool, true, false, not, ◌&&◌, ◌||◌, cond, eqb, leb, List, [], ◌∷◌, ◌++◌, length, drop, replicate, Option, Some, None, option_map, unwrap_or, refl, sym, ap, subst, ◌∙◌, arith, append_assoc, IfSome, leb-true, le-leb, ne_eqb}
-use Rattle.std.proofs.lemmas.Bool.{eqb-true, eqb-false, cond-true, cond-false}
+use Rattle.std.proofs.Common.{◌≡◌, ◌≢◌, ℕ, zero, suc, ◌+◌, ◌≤◌, Bool, true, false, not, ◌&&◌, ◌||◌, cond, eqb, leb, [], ◌∷◌, ◌++◌, drop, replicate, Option, Some, None, option_map, unwrap_or, refl, sym, ap, subst, ◌∙◌, arith, append_assoc, leb-true, le-leb, ne_eqb}
+use Rattle.std.proofs.lemmas.Bool.{eqb-true, eqb-false, cond-false}
 use Rattle.unicode.specs.declared.sets.Set.{Set}
 use Rattle.logos_pattern.specs.declared.pattern.token.Atom.{Atom}
 use Rattle.logos_pattern.specs.declared.pattern.token.Atom.TheVariants as atoms
@@ -19,10 +19,10 @@ use Rattle.logos_pattern.specs.declared.pattern.bracket_token.BracketToken.TheVa
 use Rattle.logos_pattern.specs.Property.{ascii_named}
 use Rattle.logos_pattern.specs.Token.{Text, ◌>>=◌, cut_at}
 use Rattle.logos_pattern.specs.TokenEscape.{begins, escape_at}
-use Rattle.logos_pattern.specs.Spelling.{NotBegins, Lacks, Escapes, single, two_digits, four_digits, eight_digits, any_digits, boundary, property, named_property}
+use Rattle.logos_pattern.specs.Spelling.{NotBegins, Lacks, Escapes}
 use Rattle.logos_pattern.specs.BracketSpelling.{code_of, Symbols, plain, escaped, escaped_byte, operator_letter, begins_operator, begins_item, begins_range, class_text, IsClass, NoClass, Leads, dashes, one_bracket, Opens, positive, negative, BracketTakes, closes, operator, class, opens, one, range, perl, property as property_item}
 use Rattle.logos_pattern.specs.BracketRead.{symbol_of, last_at, ordered, ranged_at, lone_at, escaped_item, item_at, dashes_from, lead_at, open_at, class_end, name_end, colon_at, class_at, inner_at, operator_of, bracket_token_at}
-use Rattle.logos_pattern.proofs.Picks.{IsTaken, pick, pick_is, bind_taken, map_taken, apart, cut_found, cut_there, eqb_same}
+use Rattle.logos_pattern.proofs.Picks.{IsTaken, pick, pick_is, bind_taken, map_taken, apart, cut_found, cut_there}
 use Rattle.logos_pattern.proofs.EscapeLemmas.{escape_taken, escape_is}
 
 -- ---- openings

@@ -1,14 +1,14 @@
 -- Escapes: what is read is written there, and what is written is read.
-use Rattle.std.proofs.Common.{◌≡◌, ◌≢◌, ℕ, suc, ◌+◌, ◌*◌, ◌<◌, ◌≤◌, Bool, true, false, ◌||◌, cond, eqb, leb, List, [], ◌∷◌, ◌++◌, length, take, drop, Option, Some, None, option_map, refl, sym, ap, subst, ◌∙◌, arith, length-append, length-take, IfSome, leb-true, le-leb, ne_eqb}
+use Rattle.std.proofs.Common.{◌≡◌, ◌≢◌, ℕ, ◌+◌, ◌*◌, ◌<◌, Bool, true, false, ◌||◌, cond, eqb, leb, [], ◌∷◌, ◌++◌, length, take, drop, Option, Some, None, option_map, refl, sym, ap, subst, ◌∙◌, arith, length-append, length-take, leb-true, le-leb, ne_eqb}
 use Rattle.std.proofs.lemmas.Bool.{eqb-true, eqb-false}
 use Rattle.std.proofs.lemmas.List.{take-append-drop, take_at, drop_at}
 use Rattle.unicode.specs.declared.sets.Set.{Set}
 use Rattle.logos_pattern.specs.declared.pattern.token.Atom.{Atom}
 use Rattle.logos_pattern.specs.declared.pattern.token.Atom.TheVariants.{Character, Byte, Boundary, Property}
 use Rattle.logos_pattern.specs.Token.{Text, ◌>>=◌, is_among, hex_digit, hex_from, scalar_of, only_scalar, cut_at}
-use Rattle.logos_pattern.specs.TokenEscape.{single_of, begins, formed_property, property_of, property_at, braced_at, fixed_at, byte_at, hex_at, boundary_at, single_at, escape_at}
+use Rattle.logos_pattern.specs.TokenEscape.{single_of, formed_property, property_of, property_at, braced_at, fixed_at, byte_at, hex_at, boundary_at, single_at, escape_at}
 use Rattle.logos_pattern.specs.Spelling.{NotBegins, Lacks, property_letter, Escapes, single, two_digits, four_digits, eight_digits, any_digits, boundary, property, named_property}
-use Rattle.logos_pattern.proofs.Picks.{IsTaken, pick, pick_is, bind_taken, map_taken, outside, apart, cut_found, cut_there, eqb_same}
+use Rattle.logos_pattern.proofs.Picks.{IsTaken, pick, pick_is, bind_taken, map_taken, apart, cut_found, cut_there}
 
 -- ---- what is read is written there
 

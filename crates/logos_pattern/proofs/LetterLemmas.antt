@@ -1,12 +1,12 @@
 -- Flag settings: what is read is written there, and what is written is read.
-use Rattle.std.proofs.Common.{◌≡◌, ◌≢◌, ℕ, suc, ◌+◌, ◌<◌, ◌≤◌, ◌⊎◌, inl, inr, Bool, true, false, cond, eqb, List, [], ◌∷◌, ◌++◌, length, Option, Some, None, option_map, refl, sym, ap, subst, ◌∙◌, arith, append-nil}
-use Rattle.std.proofs.lemmas.Bool.{eqb-true, eqb-false}
+use Rattle.std.proofs.Common.{◌≡◌, ℕ, ◌<◌, ◌⊎◌, inl, inr, Bool, true, false, cond, eqb, [], ◌∷◌, ◌++◌, length, Option, Some, None, option_map, refl, sym, ap, subst, ◌∙◌, arith, append-nil}
+use Rattle.std.proofs.lemmas.Bool.{eqb-true}
 use Rattle.logos_pattern.specs.declared.pattern.token.Change.{Change}
 use Rattle.logos_pattern.specs.declared.pattern.token_group.Letters.{Letters}
 use Rattle.logos_pattern.specs.Flags.{no_change, with_letter, Letters as Turns, no_letter, a_letter, Settings, only_on, some_off}
 use Rattle.logos_pattern.specs.Token.{Text, Token, opens, sets, plain, ◌>>=◌}
 use Rattle.logos_pattern.specs.TokenGroup.{dash, next_letter, ended, letters_from, no_letters}
-use Rattle.logos_pattern.proofs.Picks.{IsTaken, pick, pick_is, bind_taken}
+use Rattle.logos_pattern.proofs.Picks.{IsTaken, pick, pick_is}
 
 -- the letters are read from this state on, to this change
 pub data Completes : Letters → Text → Change → Type 0 where

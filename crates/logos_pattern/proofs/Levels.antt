@@ -1,5 +1,5 @@
 -- The machine's states are those of patterns read so far: an open group's inside is itself a pattern.
-use Rattle.std.proofs.Common.{◌≡◌, ℕ, suc, ◌+◌, max, Bool, true, false, not, List, [], ◌∷◌, ◌++◌, length, Option, Some, None, refl, sym, ap, ◌∙◌, arith, option_map}
+use Rattle.std.proofs.Common.{◌≡◌, ℕ, suc, ◌+◌, max, Bool, false, List, [], ◌∷◌, ◌++◌, length, Option, Some, None, refl, sym, ap, ◌∙◌, arith, option_map}
 use Rattle.logos_pattern.specs.declared.pattern.token.Flags.{Flags}
 use Rattle.logos_pattern.specs.declared.pattern.token.Change.{Change}
 use Rattle.logos_pattern.specs.declared.pattern.token.Operator.{Operator}
@@ -8,8 +8,8 @@ use Rattle.logos_pattern.specs.Build.{repetition_of, concat_of, alternation_of}
 use Rattle.logos_pattern.specs.Flags.{changed}
 use Rattle.logos_pattern.specs.Token.{Opening, Token, atom, bracketed, bar, opens, closes, sets, repeats}
 use Rattle.logos_pattern.specs.Written.{Branches, first, next, Items, nothing, piece, setting, Piece, simple, class, group, repeated, items_flags, branches_flags, inner_flags}
-use Rattle.logos_pattern.specs.BracketSet.{BracketFits, bracket_depth}
-use Rattle.logos_pattern.specs.Grammar.{branch_list, item_list, piece_tree, branches_depth, items_depth, piece_depth, captures, wrapped, is_greedy, atom_fits, BranchesFit, ItemsFit, PieceFits}
+use Rattle.logos_pattern.specs.BracketSet.{bracket_depth}
+use Rattle.logos_pattern.specs.Grammar.{branch_list, item_list, piece_tree, branches_depth, items_depth, piece_depth, captures, wrapped, is_greedy}
 use Rattle.logos_pattern.specs.Machine.{Part, Group, State, with_last, all_branches, put, set, next_branch, fresh, finished, repeat, close, step}
 
 -- the inside of a group so far: the branches before the last one, and the last one

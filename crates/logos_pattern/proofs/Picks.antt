@@ -1,9 +1,9 @@
 -- Steps of readers: tests, and parts that are read first.
-use Rattle.std.proofs.Common.{◌≡◌, ◌≢◌, ℕ, suc, ◌+◌, ◌<◌, ◌≤◌, Bool, true, false, cond, eqb, leb, List, [], ◌∷◌, ◌++◌, length, take, drop, Option, Some, None, option_map, refl, sym, ap, subst, ◌∙◌, arith, IfSome, ne_eqb}
+use Rattle.std.proofs.Common.{◌≡◌, ℕ, Bool, true, false, cond, eqb, [], ◌∷◌, ◌++◌, Option, Some, None, option_map, refl, sym, ap, subst, arith, IfSome, ne_eqb}
 use Rattle.std.proofs.lemmas.Bool.{eqb-true, eqb-false}
 use Rattle.std.proofs.lemmas.Bool.Decides.{nat_tests}
 use Rattle.logos_pattern.specs.Token.{Text, ◌>>=◌, cut_at}
-use Rattle.logos_pattern.specs.Spelling.{NotBegins, Lacks}
+use Rattle.logos_pattern.specs.Spelling.{Lacks}
 
 -- what is read at the text, and what follows it, are as P says
 abbrev pub IsTaken : {K : Type 0} → (K → Text → Text → Type 0) → Text → Option (K × Text) → Type 0

@@ -1,14 +1,12 @@
 -- What the machine reads is a pattern, and each pattern is read.
-use Rattle.std.proofs.Common.{◌≡◌, ℕ, ◌+◌, ◌<◌, ◌≤◌, max, Bool, true, false, List, [], ◌∷◌, ◌++◌, Option, Some, None, refl, sym, ap, subst, ◌∙◌, arith, append_assoc, append-nil, option_map, IfSome}
+use Rattle.std.proofs.Common.{◌≡◌, ◌≤◌, false, List, [], ◌∷◌, ◌++◌, Option, Some, None, refl, sym, ap, subst, ◌∙◌, arith, append_assoc, append-nil, option_map, IfSome}
 use Rattle.logos_pattern.specs.declared.pattern.token.Flags.{Flags}
 use Rattle.logos_pattern.specs.declared.pattern.token.Operator.{Operator}
-use Rattle.logos_pattern.specs.Tree.{Tree}
-use Rattle.logos_pattern.specs.Build.{alternation_of}
-use Rattle.logos_pattern.specs.Token.{Opening, plain, Token, atom, bracketed, bar, opens, closes, sets, repeats}
-use Rattle.logos_pattern.specs.Written.{Branches, first, next, Items, nothing, piece, setting, Piece, simple, class, group, repeated, branches_tokens, items_tokens, piece_tokens, items_flags, branches_flags, inner_flags}
-use Rattle.logos_pattern.specs.Grammar.{branches_depth, written_tree, wrapped, TokenFits, BranchesFit, ItemsFit, PieceFits}
+use Rattle.logos_pattern.specs.Token.{Token, atom, bracketed, bar, opens, closes, sets, repeats}
+use Rattle.logos_pattern.specs.Written.{Branches, first, next, Items, nothing, piece, setting, Piece, simple, class, group, repeated, branches_tokens, items_tokens, piece_tokens}
+use Rattle.logos_pattern.specs.Grammar.{branches_depth, written_tree, TokenFits, BranchesFit, ItemsFit, PieceFits}
 use Rattle.logos_pattern.specs.Machine.{Part, Group, State, start, finished, step, Runs, stays, goes, deepest, repeat, close}
-use Rattle.logos_pattern.proofs.Levels.{Level, Stack, bottom, over, Place, inside, branch_flags, level_flags, level_inside, with_level, with_piece, put_piece, size, front_flags, state_of, advance, close_level, moved, step_is, repeated_items, finished_of, inside_depth, depth_inside}
+use Rattle.logos_pattern.proofs.Levels.{Level, Stack, bottom, over, Place, inside, branch_flags, level_flags, level_inside, with_level, with_piece, put_piece, front_flags, state_of, advance, close_level, moved, step_is, repeated_items, finished_of, inside_depth, depth_inside}
 
 -- ---- runs
 

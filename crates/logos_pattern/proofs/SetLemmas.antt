@@ -1,9 +1,9 @@
 -- Sets of few members as ranges.
-use Rattle.std.proofs.Common.{◌≡◌, ℕ, zero, suc, ◌+◌, ◌<◌, ◌≤◌, Bool, true, false, not, ◌&&◌, ◌||◌, ◌==◌, nat_le, nat_lt, List, [], ◌∷◌, refl, sym, ap, ◌∙◌, arith}
+use Rattle.std.proofs.Common.{◌≡◌, ℕ, Bool, true, false, ◌&&◌, ◌||◌, ◌==◌, nat_le, [], ◌∷◌, refl, arith}
 use Rattle.std.proofs.lemmas.Bool.Decides.{nat_tests}
 use Rattle.std.proofs.Math.Path.{fun_ext}
 use lib.Utf8.{scalar}
-use Rattle.logos_pattern.specs.Class.{Set, only_chars, members, in_range, in_ranges}
+use Rattle.logos_pattern.specs.Class.{only_chars, members, in_range}
 use Rattle.logos_pattern.proofs.ClassLemmas.{members_are, or_false}
 
 same_number : (k c : ℕ) → ((nat_le k c && nat_le c k) || false) ≡ (c == k)

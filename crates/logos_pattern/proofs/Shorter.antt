@@ -1,12 +1,12 @@
 -- Each token takes a character at least.
-use Rattle.std.proofs.Common.{◌≡◌, ℕ, suc, ◌+◌, ◌<◌, ◌≤◌, Bool, true, false, cond, List, [], ◌∷◌, ◌++◌, length, replicate, Option, Some, None, refl, sym, ap, subst, ◌∙◌, arith, length-append}
+use Rattle.std.proofs.Common.{◌≡◌, ℕ, ◌<◌, ◌≤◌, Bool, List, [], ◌∷◌, ◌++◌, length, replicate, Option, Some, ap, subst, arith, length-append}
 use Rattle.logos_pattern.specs.declared.pattern.token.Atom.{Atom}
 use Rattle.logos_pattern.specs.declared.pattern.bracket_token.Symbol.{Symbol}
 use Rattle.logos_pattern.specs.declared.pattern.bracket_token.Lead.{Lead}
 use Rattle.logos_pattern.specs.declared.pattern.bracket_token.BracketToken.{BracketToken}
 use Rattle.logos_pattern.specs.declared.pattern.bracket_token.BracketToken.TheVariants.{Close}
 use Rattle.logos_pattern.specs.Bracket.{Bracket, bracket}
-use Rattle.logos_pattern.specs.Token.{Text, Token, token_view}
+use Rattle.logos_pattern.specs.Token.{Text, Token}
 use Rattle.logos_pattern.specs.TokenGroup.{token_at}
 use Rattle.logos_pattern.specs.Spelling.{Escapes, single, two_digits, four_digits, eight_digits, any_digits, boundary, property, named_property, Counts, star, plus, question, exactly, at_least, between, Takes, bare, escaped, dot, caret, dollar, branch, open_capture, open_named, open_python, open_plain, open_flags, setting, close_group, greedy, lazy}
 use Rattle.logos_pattern.specs.BracketSpelling.{Symbols, plain, escaped as escaped_symbol, escaped_byte, class_text, Leads, dashes, one_bracket, Opens, positive, negative, BracketTakes, BracketCuts, Encloses, operands_tokens, closes, operator, class, opens, one, range, perl, property as property_item}

@@ -1,6 +1,5 @@
 -- A whole text: how it is cut into tokens, and what the machine's answers say of it.
-use Rattle.std.proofs.Common.{◌≡◌, ◌≢◌, ℕ, suc, ◌+◌, ◌<◌, ◌≤◌, max, Bool, true, false, List, [], ◌∷◌, ◌++◌, length, Option, Some, None, Result, Ok, Err, bytes_eq, IfOk, IfErr, refl, sym, ap, subst, ◌∙◌, arith, append_assoc, append-nil}
-use Rattle.std.specs.List.{list_any}
+use Rattle.std.proofs.Common.{◌≡◌, ◌≢◌, ℕ, ◌+◌, ◌<◌, ◌≤◌, true, false, List, [], ◌∷◌, ◌++◌, length, Option, Some, None, Result, Ok, Err, IfOk, IfErr, refl, sym, ap, subst, ◌∙◌, arith, append-nil}
 use lib.ListN.{get_or}
 use Rattle.logos_pattern.specs.declared.pattern.error.Stop.{Stop}
 use Rattle.logos_pattern.specs.declared.pattern.error.Stop.TheVariants as stops
@@ -16,7 +15,7 @@ use Rattle.logos_pattern.specs.declared.pattern.error.PatternError.{PatternError
 use Rattle.logos_pattern.specs.declared.pattern.error.PatternError.TheVariants as errors
 use Rattle.logos_pattern.specs.declared.pattern.error.Fault.{Fault}
 use Rattle.logos_pattern.specs.declared.pattern.error.Fault.TheVariants as faults
-use Rattle.logos_pattern.specs.Token.{Gives, Text, Opening, capturing, named, plain, Token, atom, bracketed, bar, opens, closes, sets, repeats}
+use Rattle.logos_pattern.specs.Token.{Gives, Text, Token, bracketed}
 use Rattle.logos_pattern.specs.TokenGroup.{token_at}
 use Rattle.logos_pattern.specs.Spelling.{Takes}
 use Rattle.logos_pattern.specs.Bracket.{Bracket}
@@ -24,17 +23,17 @@ use Rattle.logos_pattern.specs.BracketSpelling.{Encloses}
 use Rattle.logos_pattern.specs.BracketSet.{bracket_set, BracketFits, bracket_depth}
 use Rattle.logos_pattern.specs.BracketView.{IsFound as IsFoundBracket, Denies, IsStopOf}
 use Rattle.logos_pattern.specs.Written.{Branches, branches_tokens, Starts, taken, enclosed, Cuts, IsNew, with_name, NamesDiffer}
-use Rattle.logos_pattern.specs.Grammar.{written_tree, branches_depth, TokenFits, Spells, IsSpelled}
+use Rattle.logos_pattern.specs.Grammar.{written_tree, branches_depth, TokenFits, Spells, IsSpelled, IsFound, Refuses}
 use Rattle.logos_pattern.specs.Machine.{State, start, finished, step, Runs, stays, deepest}
 use Rattle.logos_pattern.specs.MachineView.{Steps, Ends}
 use Rattle.logos_pattern.specs.MachineNames.{HasNames, Admits}
-use Rattle.logos_pattern.specs.MachineReading.{GoesOn, StopsAt, ReadsToken, ReadsTaken, names_behind, HasRead, IsFound, Stopped, Refuses}
+use Rattle.logos_pattern.specs.MachineReading.{GoesOn, StopsAt, ReadsToken, ReadsTaken, names_behind, HasRead, Stopped}
 use Rattle.logos_pattern.proofs.Picks.{IsTaken}
 use Rattle.logos_pattern.proofs.TokenLemmas.{is_taken, taken_is}
 use Rattle.logos_pattern.proofs.BracketTexts.{one_bracket}
 use Rattle.logos_pattern.proofs.Shorter.{takes_some, encloses_some}
 use Rattle.logos_pattern.proofs.Levels.{bottom}
-use Rattle.logos_pattern.proofs.Reading.{runs_on, runs_once, First, first_of_runs, no_runs, runs_behind, is_read, whole_runs, whole_depth, runs_deeper, IsWhole, is_whole, level_of, tree_level_of, at_level}
+use Rattle.logos_pattern.proofs.Reading.{runs_on, runs_once, first_of_runs, no_runs, runs_behind, is_read, whole_runs, whole_depth, runs_deeper, is_whole, level_of, tree_level_of, at_level}
 
 abbrev Taken : Type 0
 Taken = Token × Text

@@ -1,16 +1,15 @@
 -- Tokens: what is read is written there, and what is written is read.
-use Rattle.std.proofs.Common.{◌≡◌, ◌≢◌, ℕ, suc, ◌+◌, ◌<◌, ◌≤◌, Bool, true, false, cond, eqb, List, [], ◌∷◌, ◌++◌, length, Option, Some, None, option_map, refl, sym, ap, subst, ◌∙◌, arith, length-append, ne_eqb}
+use Rattle.std.proofs.Common.{◌≡◌, ℕ, Bool, true, false, cond, eqb, [], ◌∷◌, ◌++◌, Option, Some, None, option_map, refl, sym, ap, subst, ◌∙◌, ne_eqb}
 use Rattle.std.proofs.lemmas.Bool.{eqb-true, eqb-false, cond-false}
 use Rattle.logos_pattern.specs.declared.pattern.token.Atom.{Atom}
 use Rattle.logos_pattern.specs.declared.pattern.token.Atom.TheVariants.{Character, Dot, Caret, Dollar}
 use Rattle.logos_pattern.specs.declared.pattern.token.Change.{Change}
-use Rattle.logos_pattern.specs.declared.pattern.token_group.Letters.{Letters}
 use Rattle.logos_pattern.specs.Flags.{no_change, Settings}
-use Rattle.logos_pattern.specs.Token.{Text, Token, atom, bar, opens, closes, sets, capturing, named, plain, ◌>>=◌, is_meta, cut_at, lazy_at, count_at}
+use Rattle.logos_pattern.specs.Token.{Text, Token, atom, bar, opens, closes, sets, capturing, named, plain, is_meta, cut_at, lazy_at, count_at}
 use Rattle.logos_pattern.specs.TokenEscape.{escape_at}
-use Rattle.logos_pattern.specs.TokenGroup.{is_name, name_at, python_at, letters_from, next_letter, no_letters, option_at, group_at, escaped_at, token_at}
-use Rattle.logos_pattern.specs.Spelling.{NotBegins, Lacks, Counts, star, plus, question, exactly, at_least, between, Escapes, single, two_digits, four_digits, eight_digits, any_digits, boundary, property, named_property, Takes, bare, escaped, dot, caret, dollar, branch, open_capture, open_named, open_python, open_plain, open_flags, setting, close_group, greedy, lazy}
-use Rattle.logos_pattern.proofs.Picks.{IsTaken, pick, pick_is, bind_taken, map_taken, outside, cut_found, cut_there}
+use Rattle.logos_pattern.specs.TokenGroup.{is_name, name_at, python_at, letters_from, no_letters, option_at, group_at, escaped_at, token_at}
+use Rattle.logos_pattern.specs.Spelling.{NotBegins, Lacks, star, plus, question, Escapes, Takes, bare, escaped, dot, caret, dollar, branch, open_capture, open_named, open_python, open_plain, open_flags, setting, close_group, greedy, lazy}
+use Rattle.logos_pattern.proofs.Picks.{IsTaken, pick, pick_is, bind_taken, cut_found, cut_there}
 use Rattle.logos_pattern.proofs.Counted.{lazy_taken, count_taken, lazy_no, lazy_yes, counts_are}
 use Rattle.logos_pattern.proofs.EscapeLemmas.{escape_taken, escape_is}
 use Rattle.logos_pattern.proofs.LetterLemmas.{Spelled, Completes, stops, goes, Ends, closes_setting, opens_group, letters_taken, completed, settings_of, completes_of, no_letter_at, not_end}

@@ -1,5 +1,5 @@
 -- The tokens inside brackets, read from the front.
-use Rattle.std.specs.Prelude.{ℕ, ◌+◌, Bool, true, false, ◌&&◌, ◌||◌, nat_le, ◌==◌, [], ◌∷◌, drop, Option, Some, None, option_map, unwrap_or, if◌then◌else◌}
+use Rattle.std.specs.Prelude.{ℕ, ◌+◌, Bool, true, false, nat_le, ◌==◌, [], ◌∷◌, drop, Option, Some, None, option_map, unwrap_or, if◌then◌else◌}
 use Rattle.logos_pattern.specs.declared.pattern.token.Atom.{Atom}
 use Rattle.logos_pattern.specs.declared.pattern.token.Atom.TheVariants as atoms
 use Rattle.logos_pattern.specs.declared.pattern.bracket_token.Symbol.{Symbol}

@@ -1,12 +1,11 @@
 -- How a bracket is written.
-use Rattle.std.specs.Prelude.{◌≡◌, ◌≢◌, ℕ, ◌≤◌, Bool, true, false, not, ◌&&◌, ◌||◌, ◌==◌, List, [], ◌∷◌, ◌++◌, replicate, Option, Some, None, if◌then◌else◌}
+use Rattle.std.specs.Prelude.{◌≡◌, ◌≢◌, ℕ, ◌≤◌, Bool, true, false, not, ◌&&◌, ◌||◌, ◌==◌, List, [], ◌∷◌, ◌++◌, replicate, Some, if◌then◌else◌}
 use Rattle.unicode.specs.declared.sets.Set.{Set}
 use Rattle.logos_pattern.specs.declared.pattern.property.AsciiKind.{AsciiKind}
 use Rattle.logos_pattern.specs.declared.pattern.property.PerlKind.{PerlKind}
 use Rattle.logos_pattern.specs.declared.pattern.token.Atom.TheVariants as atoms
 use Rattle.logos_pattern.specs.declared.pattern.bracket_token.Symbol.{Symbol}
 use Rattle.logos_pattern.specs.declared.pattern.bracket_token.Symbol.TheVariants.{Character, Byte}
-use Rattle.logos_pattern.specs.declared.pattern.bracket_token.Item.{Item}
 use Rattle.logos_pattern.specs.declared.pattern.bracket_token.Item.TheVariants as items
 use Rattle.logos_pattern.specs.declared.pattern.bracket_token.SetOperator.{SetOperator}
 use Rattle.logos_pattern.specs.declared.pattern.bracket_token.SetOperator.TheVariants.{Intersection, Difference, SymmetricDifference}

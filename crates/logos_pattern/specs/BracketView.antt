@@ -1,5 +1,5 @@
 -- What the values of the bracket reader stand for, and what its functions promise.
-use Rattle.std.specs.Prelude.{◌≡◌, ℕ, ◌+◌, ◌<◌, ◌≤◌, Bool, true, false, List, [], ◌∷◌, ◌++◌, map, reverse, length, Option, Some, None, Result, Ok, Err}
+use Rattle.std.specs.Prelude.{◌≡◌, ℕ, ◌+◌, ◌<◌, ◌≤◌, Bool, true, false, [], ◌∷◌, ◌++◌, map, reverse, length, Some, Result, Ok, Err}
 use Rattle.std.specs.Option.{option_map}
 use Rattle.logos_pattern.specs.declared.pattern.error.Stop.{Stop}
 use Rattle.logos_pattern.specs.declared.pattern.error.Stop.TheVariants as stops
@@ -20,7 +20,7 @@ use Rattle.logos_pattern.specs.declared.pattern.bracket_token.Lead.{Lead}
 use Rattle.logos_pattern.specs.Bracket.{Bracket, bracket, Operands}
 use Rattle.logos_pattern.specs.BracketSpelling.{operands_tokens, BracketCuts, Encloses}
 use Rattle.logos_pattern.specs.BracketSet.{bracket_set, item_fits, BracketFits, bracket_depth}
-use Rattle.logos_pattern.specs.BracketMachine.{Frame, Frames, bracket_step, whole}
+use Rattle.logos_pattern.specs.BracketMachine.{Frame, Frames, bracket_step}
 
 abbrev pub frame_view : FrameValue → Frame
 frame_view f = record {

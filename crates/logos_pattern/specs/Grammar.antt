@@ -1,5 +1,7 @@
 -- The grammar: which text spells which tree.
-use Rattle.std.specs.Prelude.{◌≡◌, ℕ, ◌+◌, max, Bool, true, false, not, ◌||◌, ◌&&◌, ◌==◌, nat_lt, List, [], ◌∷◌, ◌++◌, if◌then◌else◌, encode_utf8}
+use Rattle.std.specs.Prelude.{◌≡◌, ℕ, ◌+◌, ◌<◌, ◌≤◌, max, Bool, true, false, not, ◌||◌, ◌&&◌, ◌==◌, nat_lt, List, [], ◌∷◌, ◌++◌, if◌then◌else◌, encode_utf8}
+use Rattle.logos_pattern.specs.declared.pattern.error.PatternError.{PatternError}
+use Rattle.logos_pattern.specs.declared.pattern.error.PatternError.TheVariants as errors
 use Rattle.logos_pattern.specs.declared.pattern.hir.Look.{Look}
 use Rattle.logos_pattern.specs.declared.pattern.hir.Look.TheVariants.{Start, End, StartLF, EndLF, StartCRLF, EndCRLF, WordAscii, WordAsciiNegate}
 use Rattle.logos_pattern.specs.declared.pattern.token.Flags.{Flags}
@@ -155,7 +157,7 @@ abbrev mutual
 
 -- ---- the whole text
 
--- The text spells the tree under the flags, with at most so deep a nesting.
+-- The text spells the tree under the flags. So many groups, brackets and repetitions are around one place, at most.
 pub record Spells (flags : Flags) (text : Text) (tree : Tree) (depth : ℕ) : Type 0 where
   pub written : Branches
   pub cut : Cuts text (branches_tokens written) []
@@ -167,3 +169,17 @@ pub record Spells (flags : Flags) (text : Text) (tree : Tree) (depth : ℕ) : Ty
 -- the text spells some tree
 abbrev pub IsSpelled : Flags → Text → ℕ → Type 0
 IsSpelled flags text depth = (tree : Tree) × Spells flags text tree depth
+
+-- the text spells the tree, nested within the limit
+abbrev pub IsFound : Flags → Text → Tree → Type 0
+IsFound flags text tree = (depth : ℕ) × (depth ≤ 250) × Spells flags text tree depth
+
+-- what an error says of the text
+abbrev pub Refuses : Flags → Text → PatternError → Type 0
+Refuses flags text (errors.Syntax kind at) = (depth : ℕ) → IsSpelled flags text depth → ⊥
+Refuses flags text errors.LimitPatternNesting = (depth : ℕ) → IsSpelled flags text depth → 250 < depth
+Refuses flags text errors.Memory = Unit {0}
+
+-- the flags at the beginning of a pattern
+abbrev pub first_flags : Bool → Bool → Flags
+first_flags unicode ignore_case = record { unicode = unicode; ignore_case = ignore_case; multi_line = false; dot_all = false; swap_greed = false; crlf = false }

@@ -1,13 +1,12 @@
 -- Reading token by token, with the groups that are open.
-use Rattle.std.specs.Prelude.{◌≡◌, ℕ, ◌+◌, max, Bool, true, false, List, [], ◌∷◌, ◌++◌, length, Option, Some, None}
+use Rattle.std.specs.Prelude.{◌≡◌, ℕ, ◌+◌, max, Bool, false, List, [], ◌∷◌, ◌++◌, length, Option, Some, None}
 use Rattle.std.specs.Option.{option_map}
 use Rattle.logos_pattern.specs.declared.pattern.token.Flags.{Flags}
-use Rattle.logos_pattern.specs.declared.pattern.token.Change.{Change}
 use Rattle.logos_pattern.specs.declared.pattern.token.Operator.{Operator}
 use Rattle.logos_pattern.specs.Tree.{Tree}
 use Rattle.logos_pattern.specs.Build.{repetition_of, concat_of, alternation_of}
 use Rattle.logos_pattern.specs.Flags.{changed}
-use Rattle.logos_pattern.specs.Token.{Opening, Token, atom, bracketed, bar, opens, closes, sets, repeats}
+use Rattle.logos_pattern.specs.Token.{Token, atom, bracketed, bar, opens, closes, sets, repeats}
 use Rattle.logos_pattern.specs.Written.{inner_flags}
 use Rattle.logos_pattern.specs.BracketSet.{bracket_depth}
 use Rattle.logos_pattern.specs.Grammar.{atom_tree, class_tree, captures, wrapped, is_greedy, TokenFits}

@@ -1,5 +1,5 @@
 -- The names of groups that a reader has met.
-use Rattle.std.specs.Prelude.{◌≡◌, ℕ, Bool, true, false, List, [], ◌∷◌, bytes_eq}
+use Rattle.std.specs.Prelude.{◌≡◌, Bool, List, bytes_eq}
 use Rattle.std.specs.Bool.{MatchBool}
 use Rattle.std.specs.List.{list_any}
 use Rattle.logos_pattern.specs.declared.pattern.reading_names.Names.{Names}

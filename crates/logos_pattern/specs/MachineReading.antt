@@ -1,17 +1,14 @@
 -- What reading a whole pattern promises.
-use Rattle.std.specs.Prelude.{◌≡◌, ℕ, ◌<◌, ◌≤◌, Bool, false, List, [], ◌∷◌, Option, Some, None, Result, Ok, Err}
+use Rattle.std.specs.Prelude.{◌≡◌, ℕ, ◌<◌, List, [], ◌∷◌, Some, None, Result, Ok, Err}
 use Rattle.std.specs.Borrow.{Bor}
 use Rattle.logos_pattern.specs.declared.pattern.error.Stop.{Stop}
 use Rattle.logos_pattern.specs.declared.pattern.error.Stop.TheVariants as stops
-use Rattle.logos_pattern.specs.declared.pattern.error.PatternError.{PatternError}
-use Rattle.logos_pattern.specs.declared.pattern.error.PatternError.TheVariants as errors
 use Rattle.logos_pattern.specs.declared.pattern.token.Flags.{Flags}
 use Rattle.logos_pattern.specs.declared.pattern.reading_names.Names.{Names}
-use Rattle.logos_pattern.specs.Tree.{Tree}
 use Rattle.logos_pattern.specs.Token.{Text, Token}
 use Rattle.logos_pattern.specs.Spelling.{Takes}
 use Rattle.logos_pattern.specs.Written.{Starts, Cuts, IsNew, with_name, NamesDiffer}
-use Rattle.logos_pattern.specs.Grammar.{TokenFits, Spells, IsSpelled}
+use Rattle.logos_pattern.specs.Grammar.{TokenFits, IsSpelled}
 use Rattle.logos_pattern.specs.Machine.{State, start, step, Runs, deepest}
 use Rattle.logos_pattern.specs.MachineNames.{HasNames}
 
@@ -56,22 +53,8 @@ pub record HasRead (flags : Flags) (text rest : Text) (s : State) (names : Names
   pub differ : NamesDiffer [] tokens
   pub has : HasNames names (names_behind [] tokens)
 
--- the text spells the tree, nested within the limit
-abbrev pub IsFound : Flags → Text → Tree → Type 0
-IsFound flags text tree = (depth : ℕ) × (depth ≤ 250) × Spells flags text tree depth
-
 -- what a stop says of the text
 abbrev pub Stopped : Flags → Text → Stop → Type 0
 Stopped flags text (stops.Syntax kind left) = (depth : ℕ) → IsSpelled flags text depth → ⊥
 Stopped flags text stops.LimitPatternNesting = (depth : ℕ) → IsSpelled flags text depth → 250 < depth
 Stopped flags text stops.Memory = Unit {0}
-
--- what an error says of the text
-abbrev pub Refuses : Flags → Text → PatternError → Type 0
-Refuses flags text (errors.Syntax kind at) = (depth : ℕ) → IsSpelled flags text depth → ⊥
-Refuses flags text errors.LimitPatternNesting = (depth : ℕ) → IsSpelled flags text depth → 250 < depth
-Refuses flags text errors.Memory = Unit {0}
-
--- the flags at the beginning of a pattern
-abbrev pub first_flags : Bool → Bool → Flags
-first_flags unicode ignore_case = record { unicode = unicode; ignore_case = ignore_case; multi_line = false; dot_all = false; swap_greed = false; crlf = false }

@@ -1,5 +1,5 @@
 -- What the machine's values stand for, and what its functions promise.
-use Rattle.std.specs.Prelude.{◌≡◌, ◌≢◌, ℕ, ◌+◌, ◌<◌, ◌≤◌, Bool, [], List, map, reverse, length, Option, Some, None, Result, Ok, Err}
+use Rattle.std.specs.Prelude.{◌≡◌, ◌≢◌, ◌<◌, ◌≤◌, [], map, reverse, Option, Some, None, Result, Ok, Err}
 use Rattle.std.specs.Option.{option_map}
 use Rattle.logos_pattern.specs.declared.pattern.error.Stop.{Stop}
 use Rattle.logos_pattern.specs.declared.pattern.error.Stop.TheVariants as stops

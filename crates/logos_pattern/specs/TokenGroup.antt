@@ -8,7 +8,7 @@ use Rattle.unicode.specs.declared.properties.GeneralCategoryGroup.TheVariants.{N
 use Rattle.logos_pattern.specs.declared.pattern.token.Atom.TheVariants.{Character, Dot, Caret, Dollar}
 use Rattle.logos_pattern.specs.declared.pattern.token_group.Letters.{Letters}
 use Rattle.logos_pattern.specs.Flags.{no_change, with_letter}
-use Rattle.logos_pattern.specs.Token.{Text, Token, atom, bar, opens, closes, sets, repeats, capturing, named, plain, ◌>>=◌, is_among, is_meta, cut_at, lazy_at, count_at}
+use Rattle.logos_pattern.specs.Token.{Text, Token, atom, bar, opens, closes, sets, capturing, named, plain, ◌>>=◌, is_among, cut_at, lazy_at, count_at}
 use Rattle.logos_pattern.specs.TokenEscape.{escape_at}
 
 -- `_`, or an alphabetic character

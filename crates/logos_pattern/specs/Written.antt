@@ -1,5 +1,5 @@
 -- A pattern as it is written, from the left: each front of a group's inside is the inside of a group.
-use Rattle.std.specs.Prelude.{◌≡◌, ℕ, ◌+◌, max, Bool, true, false, List, [], ◌∷◌, ◌++◌, bytes_eq}
+use Rattle.std.specs.Prelude.{◌≡◌, false, List, [], ◌∷◌, ◌++◌, bytes_eq}
 use Rattle.std.specs.List.{list_any}
 use Rattle.logos_pattern.specs.declared.pattern.token.Flags.{Flags}
 use Rattle.logos_pattern.specs.declared.pattern.token.Change.{Change}

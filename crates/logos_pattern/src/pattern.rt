@@ -34,6 +34,7 @@ pub use hir::{Class, Hir, Look, Range};
 pub use literal::Literal;
 use logos_token::error::Memory;
 use logos_token::token::Literal as LiteralToken;
+pub use reading::one_tree;
 use std::alloc::{AllocError, Global};
 use std::fmt;
 

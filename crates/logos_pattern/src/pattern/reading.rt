@@ -7,8 +7,8 @@ ghost use Rattle.logos_pattern.specs.declared.pattern.error.PatternError.TheVari
 ghost use Rattle.logos_pattern.specs.Token.{Text};
 ghost use Rattle.logos_pattern.specs.Tree.{Tree};
 ghost use Rattle.logos_pattern.specs.Hir.{tree_of};
-ghost use Rattle.logos_pattern.specs.Grammar.{Spells, IsSpelled};
-ghost use Rattle.logos_pattern.specs.MachineReading.{IsFound, Stopped, Refuses, first_flags};
+ghost use Rattle.logos_pattern.specs.Grammar.{Spells, IsSpelled, IsFound, Refuses, first_flags};
+ghost use Rattle.logos_pattern.specs.MachineReading.{Stopped};
 
 use crate::pattern::Pattern;
 use crate::pattern::bracket_reading::{read_bracket, stop_for};

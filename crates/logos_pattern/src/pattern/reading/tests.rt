@@ -90,7 +90,10 @@ fn show_row(out: &mut String, name: &str, row: &[Hir]) -> Result<(), AllocError>
     out.push_str(")")
 }
 
-fn show_answer(out: &mut String, read: Result<Pattern<'_>, PatternError>) -> Result<(), AllocError> {
+fn show_answer(
+    out: &mut String,
+    read: Result<Pattern<'_>, PatternError>,
+) -> Result<(), AllocError> {
     match read {
         Ok(pattern) => show(out, &pattern.hir),
         Err(PatternError::Syntax { kind, at }) => write!(out, "{kind:?} at {at}"),
@@ -99,7 +102,12 @@ fn show_answer(out: &mut String, read: Result<Pattern<'_>, PatternError>) -> Res
     }
 }
 
-fn shown(alloc: Global, unicode: bool, ignore_case: bool, regex: &str) -> Result<String, AllocError> {
+fn shown(
+    alloc: Global,
+    unicode: bool,
+    ignore_case: bool,
+    regex: &str,
+) -> Result<String, AllocError> {
     let mut out = String::new(alloc);
     let read = Pattern::compile(alloc, false, regex, regex, unicode, ignore_case);
     show_answer(&mut out, read)?;
@@ -188,8 +196,14 @@ fn escapes(rt: HostRuntime) -> Result<(), Fail> {
             ("\\x41\\u0042\\U00000043", "'ABC'"),
             ("\\x{41}\\u{42}\\U{43}", "'ABC'"),
             ("\\xe9\\u{1F600}", "'\\xC3\\xA9\\xF0\\x9F\\x98\\x80'"),
-            ("\\.\\+\\*\\?\\(\\)\\|\\[\\]\\{\\}\\^\\$\\\\", "'.+*?()|[]{}^$\\'"),
-            ("\\-\\&\\~\\#\\ \\/\\!\\\"\\%\\'\\,\\:\\;\\=\\@\\_\\`", "'-&~# /!\"%',:;=@_`'"),
+            (
+                "\\.\\+\\*\\?\\(\\)\\|\\[\\]\\{\\}\\^\\$\\\\",
+                "'.+*?()|[]{}^$\\'",
+            ),
+            (
+                "\\-\\&\\~\\#\\ \\/\\!\\\"\\%\\'\\,\\:\\;\\=\\@\\_\\`",
+                "'-&~# /!\"%',:;=@_`'",
+            ),
             ("\u{E9}", "'\\xC3\\xA9'"),
             ("^$\\A\\z", "cat(Start End Start End)"),
             ("(?m)^$\\A\\z", "cat(StartLF EndLF Start End)"),
@@ -199,7 +213,10 @@ fn escapes(rt: HostRuntime) -> Result<(), Fail> {
             ("(?s).", "[0-10FFFF]"),
             ("(?R).", "[0-9,B-C,E-10FFFF]"),
             ("(?sR).", "[0-10FFFF]"),
-            ("\\s", "[9-D,20,85,A0,1680,2000-200A,2028-2029,202F,205F,3000]"),
+            (
+                "\\s",
+                "[9-D,20,85,A0,1680,2000-200A,2028-2029,202F,205F,3000]",
+            ),
             ("\\p{Zs}", "[20,A0,1680,2000-200A,202F,205F,3000]"),
             ("\\p{any}", "[0-10FFFF]"),
             ("\\p{ascii}", "[0-7F]"),
@@ -293,7 +310,10 @@ fn brackets(rt: HostRuntime) -> Result<(), Fail> {
             ("[a-z-9]", "[2D,39,61-7A]"),
             ("[&&-a]", "[]"),
             ("[a--]", "'a'"),
-            ("[a-z&&[^aeiou]--x]", "[62-64,66-68,6A-6E,70-74,76-77,79-7A]"),
+            (
+                "[a-z&&[^aeiou]--x]",
+                "[62-64,66-68,6A-6E,70-74,76-77,79-7A]",
+            ),
             ("[a-c~~b-d]", "[61,64]"),
             ("[^a-c~~b-d]", "[0-60,62-63,65-10FFFF]"),
             ("[a&&b]", "[]"),
@@ -498,7 +518,13 @@ fn faults_of_brackets(rt: HostRuntime) -> Result<(), Fail> {
 }
 
 /// The text `before`, so many times `middle`, and `after`.
-fn repeated(alloc: Global, before: &str, middle: &str, times: usize, after: &str) -> Result<String, AllocError> {
+fn repeated(
+    alloc: Global,
+    before: &str,
+    middle: &str,
+    times: usize,
+    after: &str,
+) -> Result<String, AllocError> {
     let mut text = String::new(alloc);
     text.push_str(before)?;
     for _ in 0..times {
@@ -518,7 +544,13 @@ fn is_read(alloc: Global, regex: &str) -> bool {
 }
 
 /// So many openings, and as many ends.
-fn nested(alloc: Global, open: &str, inside: &str, close: &str, times: usize) -> Result<String, AllocError> {
+fn nested(
+    alloc: Global,
+    open: &str,
+    inside: &str,
+    close: &str,
+    times: usize,
+) -> Result<String, AllocError> {
     let ends = repeated(alloc, inside, close, times, "")?;
     repeated(alloc, "", open, times, &ends)
 }
@@ -549,6 +581,15 @@ fn nesting(rt: HostRuntime) -> Result<(), Fail> {
 #[test]
 fn the_source_is_kept(rt: HostRuntime) -> Result<(), Fail> {
     let pattern = Pattern::compile(rt.alloc(), true, "a\\.b", "a.b", true, false);
-    assert!(rt; matches!(pattern, Ok(Pattern { is_literal: true, source: "a.b", .. })));
+    assert!(rt;
+        matches!(
+            pattern,
+            Ok(Pattern {
+                is_literal: true,
+                source: "a.b",
+                ..
+            })
+        )
+    );
     Ok(())
 }

@@ -1,5 +1,5 @@
 use Rattle.std.proofs.Common.{chars}
-use Rattle.logos_pattern.specs.MachineReading.{first_flags}
+use Rattle.logos_pattern.specs.Grammar.{first_flags}
 use Rattle.logos_pattern.proofs.Texts.{refused_as}
 use Rattle.logos_pattern.proofs.pattern.Pattern.compile.Goals as goal
 

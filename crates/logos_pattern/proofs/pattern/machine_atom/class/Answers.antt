@@ -1,7 +1,6 @@
 use Rattle.std.proofs.Common.{IfOk, ◌≡◌, subst, ap, ◌∙◌}
 use Rattle.logos_pattern.specs.Hir.{tree_of}
 use Rattle.logos_pattern.specs.Class.{Set}
-use Rattle.logos_pattern.specs.ClassSet.{set_of}
 use Rattle.logos_pattern.specs.BracketSet.{turned}
 use Rattle.logos_pattern.specs.Grammar.{one_of}
 use Rattle.logos_pattern.proofs.pattern.machine_atom.class.Goals as goal

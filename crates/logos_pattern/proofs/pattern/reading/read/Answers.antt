@@ -1,5 +1,5 @@
-use Rattle.std.proofs.Common.{sym, ap, subst, ◌∙◌, chars}
-use Rattle.logos_pattern.specs.MachineReading.{Refuses, Stopped}
+use Rattle.std.proofs.Common.{subst, ◌∙◌, chars}
+use Rattle.logos_pattern.specs.MachineReading.{Stopped}
 use Rattle.logos_pattern.proofs.pattern.reading.read.Goals as goal
 
 pub returns-clause-refused : goal.returns-clause-refused

@@ -1,4 +1,4 @@
-use Rattle.std.proofs.Common.{rules, arith, ap, length, subst}
+use Rattle.std.proofs.Common.{rules}
 use Rattle.logos_pattern.specs.MachineView.{state_view}
 use Rattle.logos_pattern.specs.MachineReading.{names_behind}
 use Rattle.logos_pattern.proofs.Texts.{nothing_read, reads_on, start_some, stopped, ended}

@@ -1,5 +1,5 @@
-use Rattle.std.proofs.Common.{◌∙◌, sym, arith}
-use Rattle.logos_pattern.proofs.Hex.{one_more, no_digit, high_digit, all_read, none_there}
+use Rattle.std.proofs.Common.{◌∙◌, sym}
+use Rattle.logos_pattern.proofs.Hex.{no_digit, high_digit, all_read, none_there}
 use Rattle.logos_pattern.proofs.pattern.token_number.scalar_of.Goals as goal
 
 pub returns-in_default : goal.returns-in_default

@@ -1,4 +1,4 @@
-use Rattle.std.proofs.Common.{refl, sym, ◌∙◌, rules}
+use Rattle.std.proofs.Common.{refl, rules}
 use Rattle.logos_pattern.proofs.pattern.bracket.Frames.item.Goals as goal
 
 pub returns : goal.returns

@@ -1,4 +1,4 @@
-use Rattle.std.proofs.Common.{map, reverse, refl, arith}
+use Rattle.std.proofs.Common.{map, refl, arith}
 use Rattle.std.proofs.lemmas.List.{length-map, length-reverse}
 use Rattle.logos_pattern.specs.MachineView.{group_view}
 use Rattle.logos_pattern.proofs.pattern.machine.Machine.open.Goals as goal

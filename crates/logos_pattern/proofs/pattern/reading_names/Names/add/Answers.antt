@@ -1,4 +1,4 @@
-use Rattle.std.proofs.Common.{refl, sym, ap, subst, ◌∙◌, ◌||◌, bytes_eq, not}
+use Rattle.std.proofs.Common.{ap, ◌∙◌, ◌||◌, bytes_eq, not}
 use Rattle.std.specs.List.{list_any}
 use Rattle.logos_pattern.proofs.NameLemmas.{among_more, among_same}
 use Rattle.logos_pattern.proofs.pattern.reading_names.Names.add.Goals as goal
