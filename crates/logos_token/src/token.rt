@@ -10,7 +10,7 @@ mod reader;
 mod tests;
 mod views;
 
-pub use laws::prints_back;
+pub use laws::{prints_back, prints_runs_back};
 pub use lexeme::LexicalKind;
 pub use printing::print;
 pub use reader::{TokenError, spelled_in_order, spells_once, tokenize};
