@@ -27,3 +27,4 @@ pub mod PrintPieces
 pub mod PrintAgain
 pub mod PrintFacts
 pub mod PrintSources
+pub mod PrintRuns

@@ -3,9 +3,9 @@ use Rattle.std.proofs.Common.{◌≡◌, ◌≢◌, ℕ, ◌+◌, ◌-◌, ◌<�
 use Rattle.std.proofs.lemmas.Bool.{false≢true}
 use Rattle.std.proofs.lemmas.List.{map-append}
 use Rattle.std.proofs.lemmas.List.Edits.{length-between}
-use Rattle.std.proofs.lemmas.Str.{IsCharBoundary-start}
 use Rattle.std.specs.Str.{IsCharBoundary}
 use Rattle.logos_token.specs.declared.token.Span.{Span}
+use Rattle.logos_token.specs.declared.token.Spacing.TheVariants.{Joint}
 use Rattle.logos_token.specs.declared.token.lexeme.Kind.{Kind}
 use Rattle.logos_token.specs.declared.token.lexeme.Kind.TheVariants.{Gap, Identifier, Literal, Doc, Punctuation, Opening, Closing}
 use Rattle.logos_token.specs.declared.token.lexeme.openings.Opening.TheVariants.{Space}
@@ -14,7 +14,7 @@ use Rattle.logos_token.specs.LexemeRuns.{here}
 use Rattle.logos_token.specs.LexemeOpenings.{literal_opening, string_opening, comment_opening, other_opening, opening_at}
 use Rattle.logos_token.specs.Lexemes.{IsNext}
 use Rattle.logos_token.specs.Tokens.{TokenList}
-use Rattle.logos_token.specs.Spelling.{Piece, Pieces, lexeme_of, seen, Spells}
+use Rattle.logos_token.specs.Spelling.{Piece, Pieces, lexeme_of, lexemes, seen}
 use Rattle.logos_token.specs.Printing.{Part, printed}
 use Rattle.logos_token.specs.PrintedAgain.{SpellsAgain}
 use Rattle.logos_token.proofs.CharacterLaws.{character-ascii, past-ascii, inside_from_byte}
@@ -22,7 +22,7 @@ use Rattle.logos_token.proofs.PieceLemmas.{piece-advances, piece-boundary}
 use Rattle.logos_token.proofs.PrintWindows.{same_character, same_slice}
 use Rattle.logos_token.proofs.PrintLexemes.{next_same}
 use Rattle.logos_token.proofs.PrintParts.{parts, parts-append, after, bare_lexeme, printed-lexemes, rebuilt-whole}
-use Rattle.logos_token.proofs.PrintPieces.{gap_of, IsSeparator, joint_or_not, separates, whole_length, drop_on, shown, HasText, HasJoints, HasDocs}
+use Rattle.logos_token.proofs.PrintPieces.{gap_of, IsSeparator, joint_or_not, separates, whole_length, drop_on, shown, HasText, HasDocs, Follows, Joined}
 
 -- a gap of one byte
 
@@ -105,11 +105,11 @@ record Begins (a b : List ℕ) (q : ℕ) (pieces : List Piece) : Type 0 where
   remade : Remade a b q pieces
   no_space : is_space (character b q) ≡ false
 
-module _ (a : List ℕ) (utf8 : IsUtf8 a) (text : HasText a) (joints : HasJoints a) (docs : HasDocs a) (spaces : HasNoSpace a) (b : List ℕ) where
-  lexeme_step : (kind : Kind) (p to q : ℕ) (rest : List Piece) → kind ≢ Gap → IsNext a p kind to → Pieces a to rest (length a) → IsCharBoundary a p → q ≤ length b →
+module _ (a : List ℕ) (utf8 : IsUtf8 a) (text : HasText a) (docs : HasDocs a) (spaces : HasNoSpace a) (b : List ℕ) where
+  lexeme_step : (kind : Kind) (p to q end : ℕ) (rest : List Piece) → kind ≢ Gap → IsNext a p kind to → Pieces a to rest end → (kind ≡ Punctuation Joint → Follows rest) → Joined rest → IsCharBoundary a p → q ≤ length b →
       drop q b ≡ slice_range a p to ++ after (gap_of a kind p to) (parts (seen a rest)) → Remade a b (q + (to - p)) rest → Begins a b q ((record { kind = kind; span = record { from = p; to = to } }) ∷ rest)
-  lexeme_step kind p to q rest no_gap next filled bound inside e r =
-      let s = shown a utf8 text joints docs b rest kind p to q next filled bound inside e in
+  lexeme_step kind p to q end rest no_gap next filled follow joined bound inside e r =
+      let s = shown a utf8 text docs b rest kind p to q end next filled follow joined bound inside e in
       let w = s.window in
       let adv = piece-advances a p kind to next in
       let ahead = adv.0 in
@@ -143,13 +143,13 @@ module _ (a : List ℕ) (utf8 : IsUtf8 a) (text : HasText a) (joints : HasJoints
       let z : q + 0 ≡ q = omega arith in
       (sym (ap (λ i. get_or b i 0) z) ∙ sym (get_or-drop q b 0 0) ∙ ap (λ (xs : List ℕ). get_or xs 0 0) f, drop_on b (c ∷ []) more q 1 refl inside f, omega (arith, whole_length b (c ∷ []) more q 1 refl inside f))
 
-  remake : (pieces : List Piece) (p q : ℕ) (gap : List ℕ) → Pieces a p pieces (length a) → IsCharBoundary a p → (gap ≡ []) ⊎ IsSeparator gap → q ≤ length b → drop q b ≡ after gap (parts (seen a pieces)) → Remade a b q pieces
-  remake [] p q gap filled bound parted inside e = record { news = []; filled = omega (arith, ap length e, length-drop q b); same = refl }
-  remake (piece ∷ rest) p q gap filled bound parted inside e = elim (gap_or_not piece.kind) [
+  remake : (pieces : List Piece) (p q end : ℕ) (gap : List ℕ) → Pieces a p pieces end → Joined pieces → IsCharBoundary a p → (gap ≡ []) ⊎ IsSeparator gap → q ≤ length b → drop q b ≡ after gap (parts (seen a pieces)) → Remade a b q pieces
+  remake [] p q end gap filled joined bound parted inside e = record { news = []; filled = omega (arith, ap length e, length-drop q b); same = refl }
+  remake (piece ∷ rest) p q end gap filled joined bound parted inside e = elim (gap_or_not piece.kind) [
     | inl g ↦
         let no_lexeme : lexeme_of a piece.kind piece.span ≡ [] = ap (λ x. lexeme_of a x piece.span) g in
         let skipped : seen a (piece ∷ rest) ≡ seen a rest = ap (λ ls. ls ++ seen a rest) no_lexeme in
-        let r = remake rest piece.span.to q gap filled.2 (piece-boundary a p piece.kind piece.span.to utf8 bound filled.1) parted inside (e ∙ ap (λ ls. after gap (parts ls)) skipped) in
+        let r = remake rest piece.span.to q end gap filled.2 joined.1 (piece-boundary a p piece.kind piece.span.to utf8 bound filled.1) parted inside (e ∙ ap (λ ls. after gap (parts ls)) skipped) in
         record { news = r.news; filled = r.filled; same = r.same ∙ ap (map bare_lexeme) (sym skipped) }
     | inr g ↦
         let to = piece.span.to in
@@ -165,8 +165,8 @@ module _ (a : List ℕ) (utf8 : IsUtf8 a) (text : HasText a) (joints : HasJoints
         let back : Remade a b q ((record { kind = kind; span = span }) ∷ rest) → Remade a b q (piece ∷ rest) = λ r. record { news = r.news; filled = r.filled; same = r.same ∙ ap (λ s. map bare_lexeme (lexeme_of a kind s ++ seen a rest)) (sym at) } in
         let parted' : (gap_of a kind p to ≡ []) ⊎ IsSeparator (gap_of a kind p to) = elim (joint_or_not kind) [ inl j ↦ inl (ap (λ x. gap_of a x p to) j) | inr j ↦ inr (separates a kind p to j) ] in
         let go : (i : ℕ) → i ≤ length b → drop i b ≡ slice_range a p to ++ tail → Begins a b i ((record { kind = kind; span = span }) ∷ rest) = λ i l f.
-        lexeme_step kind p to i rest g filled.1 filled.2 bound l f
-        (remake rest to (i + (to - p)) (gap_of a kind p to) filled.2 (piece-boundary a p kind to utf8 bound filled.1) parted' (omega (arith, whole_length b (slice_range a p to) tail i (to - p) long l f)) (drop_on b (slice_range a p to) tail i (to - p) long l f)) in
+        lexeme_step kind p to i end rest g filled.1 filled.2 joined.0 joined.1 bound l f
+        (remake rest to (i + (to - p)) end (gap_of a kind p to) filled.2 joined.1 (piece-boundary a p kind to utf8 bound filled.1) parted' (omega (arith, whole_length b (slice_range a p to) tail i (to - p) long l f)) (drop_on b (slice_range a p to) tail i (to - p) long l f)) in
         back (elim parted [
           | inl none ↦ (go q inside (whole ∙ ap (λ xs. xs ++ (slice_range a p to ++ tail)) none)).remade
           | inr some ↦ elim some [
@@ -176,11 +176,11 @@ module _ (a : List ℕ) (utf8 : IsUtf8 a) (text : HasText a) (joints : HasJoints
         ])
   ]
 
--- the printed text of the tokens of a source spells them again
-pub printed_again : (a : List ℕ) → IsUtf8 a → HasText a → HasJoints a → HasDocs a → HasNoSpace a → (tokens : TokenList) → Spells a tokens → SpellsAgain (printed tokens) tokens
-printed_again a utf8 text joints docs spaces tokens s =
-    let b = printed tokens in
-    let e : drop 0 b ≡ after [] (parts (seen a s.pieces)) = printed-lexemes tokens ∙ ap (λ ls. after [] (parts ls)) s.nested in
-    let r = remake a utf8 text joints docs spaces b s.pieces 0 0 [] s.filled (IsCharBoundary-start a utf8) (inl refl) (omega arith) e in
-    let t = rebuilt-whole tokens (seen b r.news) (r.same ∙ ap (map bare_lexeme) (sym s.nested)) in
+-- the printed text of a run spells it again, where its lexemes are those of pieces in a row
+pub printed_again : (a : List ℕ) → IsUtf8 a → HasText a → HasDocs a → HasNoSpace a → (run : TokenList) (pieces : List Piece) (from to : ℕ) → IsCharBoundary a from → Pieces a from pieces to → Joined pieces → lexemes run ≡ seen a pieces → SpellsAgain (printed run) run
+printed_again a utf8 text docs spaces run pieces from to bound filled joined nested =
+    let b = printed run in
+    let e : drop 0 b ≡ after [] (parts (seen a pieces)) = printed-lexemes run ∙ ap (λ ls. after [] (parts ls)) nested in
+    let r = remake a utf8 text docs spaces b pieces from 0 to [] filled joined bound (inl refl) (omega arith) e in
+    let t = rebuilt-whole run (seen b r.news) (r.same ∙ ap (map bare_lexeme) (sym nested)) in
     record { again = t.0; spelled = record { pieces = r.news; filled = r.filled; nested = t.1 }; same = t.2 }

@@ -89,11 +89,16 @@ HasText a = (kind : Kind) (from to : ℕ) → IsCharBoundary a from → IsNext a
 abbrev pub HasJoints : List ℕ → Type 0
 HasJoints a = (from to : ℕ) (rest : List Piece) → IsCharBoundary a from → IsNext a from (Punctuation Joint) to → Pieces a to rest (length a) → Follows rest
 
+-- behind each joint punctuation among the pieces another lexeme begins
+abbrev pub Joined : List Piece → Type 0
+Joined [] = Unit {0}
+Joined (piece ∷ rest) = (piece.kind ≡ Punctuation Joint → Follows rest) × Joined rest
+
 -- documentation has its two first bytes
 abbrev pub HasDocs : List ℕ → Type 0
 HasDocs a = (from to : ℕ) → IsCharBoundary a from → IsNext a from Doc to → from + 2 ≤ to
 
-module _ (a : List ℕ) (utf8 : IsUtf8 a) (text : HasText a) (joints : HasJoints a) (docs : HasDocs a) (b : List ℕ) where
+module _ (a : List ℕ) (utf8 : IsUtf8 a) (text : HasText a) (docs : HasDocs a) (b : List ℕ) where
   abbrev IsPrinted : ℕ → ℕ → ℕ → Kind → List Piece → Type 0
   IsPrinted q p to kind rest = drop q b ≡ slice_range a p to ++ after (gap_of a kind p to) (parts (seen a rest))
 
@@ -171,15 +176,15 @@ module _ (a : List ℕ) (utf8 : IsUtf8 a) (text : HasText a) (joints : HasJoints
         line = λ f g. absurd (let h : Doc ≡ Punctuation Joint = sym g ∙ joint in cc);
       }
 
-  pub shown : (rest : List Piece) (kind : Kind) (p to q : ℕ) → IsNext a p kind to → Pieces a to rest (length a) → IsCharBoundary a p → q ≤ length b → IsPrinted q p to kind rest → Shown a b p q kind to
-  shown [] kind p to q next filled bound inside e = elim (joint_or_not kind) [
-    | inl j ↦ absurd (joints p to [] bound (subst (λ x. IsNext a p x to) j next) filled)
+  pub shown : (rest : List Piece) (kind : Kind) (p to q end : ℕ) → IsNext a p kind to → Pieces a to rest end → (kind ≡ Punctuation Joint → Follows rest) → Joined rest → IsCharBoundary a p → q ≤ length b → IsPrinted q p to kind rest → Shown a b p q kind to
+  shown [] kind p to q end next filled follow joined bound inside e = elim (joint_or_not kind) [
+    | inl j ↦ absurd (follow j)
     | inr j ↦ alone_shown [] kind p to q j next bound inside e
   ]
-  shown (piece ∷ rest) kind p to q next filled bound inside e = elim (joint_or_not kind) [
+  shown (piece ∷ rest) kind p to q end next filled follow joined bound inside e = elim (joint_or_not kind) [
     | inr j ↦ alone_shown (piece ∷ rest) kind p to q j next bound inside e
     | inl j ↦
-        let follows = joints p to (piece ∷ rest) bound (subst (λ x. IsNext a p x to) j next) filled in
+        let follows = follow j in
         let adv = piece-advances a p kind to next in
         let long = length-between a p to adv.1 in
         let tail = after (gap_of a kind p to) (parts (seen a (piece ∷ rest))) in
@@ -190,5 +195,5 @@ module _ (a : List ℕ) (utf8 : IsUtf8 a) (text : HasText a) (joints : HasJoints
         ∙ ap (λ g. after g (parts (seen a (piece ∷ rest)))) (ap (λ x. gap_of a x p to) j)
         ∙ ap (after []) (parts-append (lexeme_of a piece.kind piece.span) (seen a rest) ∙ ap (λ s. parts (lexeme_of a piece.kind s) ++ parts (seen a rest)) at ∙ ap (λ ps. ps ++ parts (seen a rest)) (text piece.kind to piece.span.to (piece-boundary a p kind to utf8 bound next) filled.1 follows)) in
         more_shown kind p to q tail j next inside e
-        (shown rest piece.kind to piece.span.to (q + (to - p)) filled.1 filled.2 (piece-boundary a p kind to utf8 bound next) (omega (arith, total)) behind)
+        (shown rest piece.kind to piece.span.to (q + (to - p)) end filled.1 filled.2 joined.0 joined.1 (piece-boundary a p kind to utf8 bound next) (omega (arith, total)) behind)
   ]

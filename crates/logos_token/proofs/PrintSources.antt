@@ -8,10 +8,7 @@ use Rattle.logos_token.specs.LexemeCharacters.{character, past, is_space, is_sta
 use Rattle.logos_token.specs.LexemeOpenings.{comment_opening, line_kind, block_kind, spacing, delimiter_kind, single_kind, opening_at, kind_of}
 use Rattle.logos_token.specs.LexemeEnds.{Ends}
 use Rattle.logos_token.specs.Lexemes.{IsNext, IsSuffixed}
-use Rattle.logos_token.specs.Tokens.{TokenList}
-use Rattle.logos_token.specs.Spelling.{Spells}
-use Rattle.logos_token.specs.Printing.{Part, opening_text, closing_text, printed}
-use Rattle.logos_token.specs.PrintedAgain.{SpellsAgain}
+use Rattle.logos_token.specs.Printing.{Part, opening_text, closing_text}
 use Rattle.logos_token.specs.declared.token.Spacing.{Spacing}
 use Rattle.logos_token.specs.declared.token.Spacing.TheVariants.{Alone, Joint}
 use Rattle.logos_token.specs.declared.token.Delimiter.{Delimiter}
@@ -26,7 +23,7 @@ use Rattle.logos_token.proofs.PrintNames.{start-0}
 use Rattle.logos_token.proofs.PrintLexemes.{is_literal, literal_kind, Opens, by_literal, by_comment, by_other, opens_at, Others, space_there, word_opens, single_opens, nothing_opens, others, comment_cases, line_kind_cases, block_kind_cases, unsuffixed, single_no_literal}
 use Rattle.logos_token.proofs.PrintPieces.{gap_of, HasText, HasJoints, HasDocs}
 use Rattle.logos_token.proofs.PrintFacts.{visible_no_space, start_large, start_no_space, mark_visible, literal_visible, IsDelimiter, opening, closing, is_delimiter, byte_of}
-use Rattle.logos_token.proofs.PrintAgain.{HasNoSpace, printed_again}
+use Rattle.logos_token.proofs.PrintAgain.{HasNoSpace}
 
 -- how a lexeme stands at a place
 data Form (a : List ℕ) (p : ℕ) (kind : Kind) (to : ℕ) : Type 0 where
@@ -145,7 +142,7 @@ module _ (a : List ℕ) (utf8 : IsUtf8 a) where
   stands_at : (kind : Kind) (p to : ℕ) → IsCharBoundary a p → IsNext a p kind to → kind ≢ Gap → Stands a p kind to
   stands_at kind p to bound n no_gap = let adv = piece-advances a p kind to n in stands a utf8 p to bound adv.0 adv.1 (piece-boundary a p kind to utf8 bound n) kind n no_gap
 
-  has_no_space : HasNoSpace a
+  pub has_no_space : HasNoSpace a
   has_no_space kind p to bound n no_gap = (stands_at kind p to bound n no_gap).spaceless
 
   docs_by : (p to : ℕ) → Form a p Doc to → p + 2 ≤ to
@@ -161,7 +158,7 @@ module _ (a : List ℕ) (utf8 : IsUtf8 a) where
       no_doc c kind (opening d e f) g = absurd (cc)
       no_doc c kind (closing d e f) g = absurd (cc)
 
-  has_docs : HasDocs a
+  pub has_docs : HasDocs a
   has_docs p to bound n = docs_by p to (stands_at Doc p to bound n (λ e. absurd (cc))).form
 
   -- a lexeme of one ASCII character
@@ -238,7 +235,7 @@ module _ (a : List ℕ) (utf8 : IsUtf8 a) where
   part_with : List ℕ → List ℕ → List Part
   part_with text gap = (record { text = text; gap = gap }) ∷ []
 
-  has_text : HasText a
+  pub has_text : HasText a
   unfolding part_with
   has_text Gap p to bound n no_gap = absurd (no_gap refl)
   has_text Identifier p to bound n no_gap = refl
@@ -311,7 +308,7 @@ module _ (a : List ℕ) (utf8 : IsUtf8 a) where
       no_mark c kind (opening d e f) g = absurd (cc)
       no_mark c kind (closing d e f) g = absurd (cc)
 
-  has_joints : HasJoints a
+  pub has_joints : HasJoints a
   has_joints p to [] bound n filled = let h = joint_behind p to (stands_at (Punctuation Joint) p to bound n (λ e. absurd (cc))).form in let l = h.inside in omega arith
   has_joints p to (piece ∷ rest) bound n filled = λ gap.
       let h = joint_behind p to (stands_at (Punctuation Joint) p to bound n (λ e. absurd (cc))).form in
@@ -320,7 +317,3 @@ module _ (a : List ℕ) (utf8 : IsUtf8 a) where
       let ahead = piece-advances a to Gap piece.span.to next in
       let bound' = piece-boundary a p (Punctuation Joint) to utf8 bound n in
       no_gap_here a utf8 to piece.span.to bound' ahead.0 ahead.1 (piece-boundary a to Gap piece.span.to utf8 bound' next) next h.spaceless h.none (omega (arith, adv.0))
-
--- the printed text of the tokens of a source spells them again, spans aside
-pub prints_again : (bytes : List ℕ) → IsUtf8 bytes → (tokens : TokenList) → Spells bytes tokens → SpellsAgain (printed tokens) tokens
-prints_again bytes utf8 tokens s = printed_again bytes utf8 (has_text bytes utf8) (has_joints bytes utf8) (has_docs bytes utf8) (has_no_space bytes utf8) tokens s

@@ -1,7 +1,9 @@
--- Tokens without the places where they stand.
+-- Tokens without the places where they stand, and the runs whose printed text spells them again.
 use Rattle.std.specs.Prelude.{◌≡◌, ℕ, List}
 use Rattle.logos_token.specs.declared.token.Span.{Span}
-use Rattle.logos_token.specs.Tokens.{Token, identifier, punctuation, literal, doc, group, TokenList, none, also}
+use Rattle.logos_token.specs.declared.token.Spacing.TheVariants.{Joint}
+use Rattle.logos_token.specs.declared.token.Delimiter.{Delimiter}
+use Rattle.logos_token.specs.Tokens.{Token, identifier, punctuation, literal, doc, group, TokenList, none, also, append}
 use Rattle.logos_token.specs.Spelling.{Spells}
 
 -- the span that stands for none
@@ -27,3 +29,15 @@ pub record SpellsAgain (bytes : List ℕ) (tokens : TokenList) : Type 0 where
   pub again : TokenList
   pub spelled : Spells bytes again
   pub same : bare again ≡ bare tokens
+
+-- the run is neighbouring tokens of these, or of those inside one of their groups, at any depth
+pub data IsRunOf (run : TokenList) : TokenList → Type 0 where
+  here : {tokens : TokenList} (front back : TokenList) → tokens ≡ append front (append run back) → IsRunOf run tokens
+  within : {tokens : TokenList} (front : TokenList) (delimiter : Delimiter) (span : Span) (inside back : TokenList) → tokens ≡ append front (also (group delimiter span inside) back) → IsRunOf run inside → IsRunOf run tokens
+
+-- the last token of the run is punctuation that is joint to what stands behind it
+pub record EndsJoint (run : TokenList) : Type 0 where
+  pub front : TokenList
+  pub character : ℕ
+  pub span : Span
+  pub is : run ≡ append front (also (punctuation character Joint span) none)

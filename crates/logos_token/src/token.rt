@@ -11,7 +11,7 @@ mod tests;
 mod value;
 mod views;
 
-pub use laws::prints_back;
+pub use laws::{prints_back, prints_runs_back};
 pub use lexeme::LexicalKind;
 pub use printing::print;
 pub use reader::{TokenError, spelled_in_order, spells_once, tokenize};

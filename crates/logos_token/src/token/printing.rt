@@ -1,6 +1,8 @@
 //! Printing tokens.
-ghost use Rattle.std.specs.Prelude.{◌≡◌, ◌<◌, ◌∷◌, [], IfOk, IfSome, MatchOption, string_bytes, codes, if◌then◌else◌};
-ghost use Rattle.logos_token.specs.Tokens.{none};
+ghost use Rattle.std.specs.Prelude.{◌≡◌, ◌<◌, ◌∷◌, [], List, ℕ, IsUtf8, IfOk, IfSome, MatchOption, string_bytes, codes, if◌then◌else◌};
+ghost use Rattle.logos_token.specs.PrintedAgain.{SpellsAgain, IsRunOf, EndsJoint};
+ghost use Rattle.logos_token.specs.Spelling.{Spells};
+ghost use Rattle.logos_token.specs.Tokens.{TokenList, none};
 ghost use Rattle.logos_token.specs.Views.{tokens_of};
 ghost use Rattle.logos_token.specs.Printing.{opening_text, closing_text, gap_behind, is_line_comment, printed};
 ghost use Rattle.logos_token.specs.PrintingSteps.{printed_of, whole, left_of};
@@ -149,9 +151,12 @@ fn step<'t, 's>(
 }
 
 /// The text of the tokens: their lexemes with one space in between, none behind a joint punctuation,
-/// and a line's end behind a comment that ends with its line. It fails only where there is no memory.
+/// and a line's end behind a comment that ends with its line. Where the tokens stand in a source and
+/// the last of them is no joint punctuation, the text spells the same tokens again, their spans aside.
+/// It fails only where there is no memory.
 pub fn print(alloc: Global, run: Tokens<'_, '_>) -> Result<String, Memory>
-    ensures { IfOk result (λ text. string_bytes text ≡ printed (tokens_of run.entry)) }
+    ensures text { IfOk result (λ text. string_bytes text ≡ printed (tokens_of run.entry)) }
+    ensures back { IfOk result (λ text. (source : List ℕ) (tokens : TokenList) → IsUtf8 source → Spells source tokens → IsRunOf (tokens_of run.entry) tokens → (EndsJoint (tokens_of run.entry) → ⊥) → SpellsAgain (string_bytes text) (tokens_of run.entry)) }
 {
     let mut printer = Printer {
         text: String::new(alloc),
