@@ -179,6 +179,19 @@ fn nesting(rt: HostRuntime) -> Result<(), Fail> {
     Ok(())
 }
 
+// The brace of the enum is one of the 128 delimiters that may be open.
+#[test]
+fn nesting_in_an_enum(rt: HostRuntime) -> Result<(), Fail> {
+    let inside = nested(rt.alloc(), 127)?;
+    let text = format!(in rt.alloc(); "enum E {{ #[token(\"a\")] A = {inside} }}")?;
+    assert!(rt; tokenize(rt.alloc(), text.as_str()).is_ok());
+    let inside = nested(rt.alloc(), 128)?;
+    let text = format!(in rt.alloc(); "enum E {{ #[token(\"a\")] A = {inside} }}")?;
+    let limit = TokenError::LimitTokenNesting { span: at(154, 155) };
+    assert_eq!(rt; refusal(rt.alloc(), text.as_str()), Some(limit));
+    Ok(())
+}
+
 #[test]
 fn length_of_sources(rt: HostRuntime) -> Result<(), Fail> {
     let mut text = String::new(rt.alloc());
