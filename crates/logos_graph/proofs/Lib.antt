@@ -28,5 +28,6 @@ pub mod CharStepLemmas
 pub mod OweLemmas
 pub mod PrepareLemmas
 pub mod SeveralLemmas
+pub mod AlikeLemmas
 pub mod SameMembers
 pub mod OneFaults

@@ -22,5 +22,6 @@ pub mod IsCore
 pub mod Joined
 pub mod Run
 pub mod Several
+pub mod Alike
 pub mod View
 pub mod Errors

@@ -3,6 +3,7 @@
 #![tactic(auto)]
 
 pub mod byte_class;
+mod alike;
 mod char_table;
 mod exits;
 pub mod graph;
