@@ -29,5 +29,6 @@ pub mod OweLemmas
 pub mod PrepareLemmas
 pub mod SeveralLemmas
 pub mod AlikeLemmas
+pub mod KeyLemmas
 pub mod SameMembers
 pub mod OneFaults

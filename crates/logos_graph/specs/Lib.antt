@@ -24,4 +24,5 @@ pub mod Run
 pub mod Several
 pub mod Alike
 pub mod View
+pub mod Keys
 pub mod Errors

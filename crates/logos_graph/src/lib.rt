@@ -7,6 +7,7 @@ mod alike;
 mod char_table;
 mod exits;
 pub mod graph;
+mod key;
 pub mod laws;
 mod look;
 mod marks;
