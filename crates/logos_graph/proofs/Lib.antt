@@ -30,5 +30,6 @@ pub mod PrepareLemmas
 pub mod SeveralLemmas
 pub mod AlikeLemmas
 pub mod KeyLemmas
+pub mod TargetLemmas
 pub mod SameMembers
 pub mod OneFaults

@@ -1,5 +1,5 @@
 -- States of the automaton, by what they keep of the bytes read.
-use Rattle.std.specs.Prelude.{◌≡◌, ℕ, ◌+◌, ◌<◌, Bool, true, false, IsTrue, List, [], ◌∷◌, Option, Some, None, length, map, slice_get, slice_index, slice_index_or}
+use Rattle.std.specs.Prelude.{◌≡◌, ℕ, ◌+◌, ◌<◌, ◌≤◌, Bool, true, false, IsTrue, List, [], ◌∷◌, Option, Some, None, length, map, slice_get, slice_index, slice_index_or}
 use Rattle.logos_graph.specs.Core.{Core, IsFree}
 use Rattle.logos_graph.specs.Kinds.{test_at, kind_of_byte}
 use Rattle.logos_graph.specs.Marks.{Has, IsRising}
@@ -82,6 +82,15 @@ pub data IsReached (ts : List Core) (looks : Bool) : State → Type 0 where
 -- each state can be reached
 pub record AreReached (ts : List Core) (looks : Bool) (ks : List Key) : Type 0 where
   pub reached : (i : ℕ) (s : State) → IsAt ks i s → IsReached ts looks s
+
+-- at most n states are added, and the list stays as it should be
+pub record Extends (ts : List Core) (looks : Bool) (old new : List Key) (n : ℕ) : Type 0 where
+  pub grows : Grows old new
+  pub rising : AreRising old → AreRising new
+  pub distinct : AreDistinct old → AreDistinct new
+  pub reached : AreReached ts looks old → AreReached ts looks new
+  pub longer : length old ≤ length new
+  pub few : length new ≤ length old + n
 
 -- the byte x leads from the state i to the state j
 pub record LeadsTo (ts : List Core) (looks : Bool) (ks : List Key) (i x j : ℕ) : Type 0 where

@@ -116,6 +116,7 @@ pub fn number_of(states: &mut IndexSet<Key>, key: Key) -> Result<usize, AllocErr
         OnOk result (keys.AreReached ts looks states.new.keys) }
     ensures longer { OnOk result (length states.old.keys ≤ length states.new.keys) }
     ensures few { OnOk result (length states.new.keys ≤ length states.old.keys + 1) }
+    ensures within { IfOk result (λ i. i < length states.new.keys) }
     ensures stored { IfOk result (λ i. keys.IsAt states.new.keys i (keys.state_of key)) }
 {
     let (i, _) = states.insert_full(key)?;

@@ -17,3 +17,4 @@ mod ranges;
 mod several;
 mod step;
 mod table;
+mod targets;
