@@ -31,5 +31,7 @@ pub mod SeveralLemmas
 pub mod AlikeLemmas
 pub mod KeyLemmas
 pub mod TargetLemmas
+pub mod RunLemmas
+pub mod DfaLemmas
 pub mod SameMembers
 pub mod OneFaults

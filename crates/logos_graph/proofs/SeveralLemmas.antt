@@ -41,7 +41,7 @@ no_places = record {
   below = λ k inside. absurd (omega (arith, inside));
 }
 
-none_there : (q : ℕ) → Has [] q → ⊥
+pub none_there : (q : ℕ) → Has [] q → ⊥
 none_there q h = let w = h.within in omega arith
 
 -- the numbers with one more, if it is one of them

@@ -126,3 +126,10 @@ automaton_of start ks rows ends = record {
   at_end = ends;
   matches = map (λ k. k.matches.items) ks;
 }
+
+-- the parts make the automaton of the patterns
+pub record IsBuilt (ts : List Core) (looks : Bool) (start : ℕ) (ks : List Key) (rows : List (List ℕ)) (ends : List ℕ) : Type 0 where
+  pub start_is : IsAt ks start start_state
+  pub rows_count : length rows ≡ length ks
+  pub ends_count : length ends ≡ length ks
+  pub rows_are : AreRows ts looks ks rows ends (length ks)

@@ -24,5 +24,6 @@ pub mod Run
 pub mod Several
 pub mod Alike
 pub mod View
+pub mod Rules
 pub mod Keys
 pub mod Errors
