@@ -33,5 +33,6 @@ pub mod KeyLemmas
 pub mod TargetLemmas
 pub mod RunLemmas
 pub mod DfaLemmas
+pub mod LimitLemmas
 pub mod SameMembers
 pub mod OneFaults

@@ -66,14 +66,14 @@ ExitsIn-free (t ∷ ts) zero h f g M d x = Exits-free t h.0 f g M d x
 ExitsIn-free (t ∷ ts) (suc k) h f g M d x = ExitsIn-free ts k h.1 f g (λ q. M (width t + q)) d x
 
 -- without places and not begun, there is nothing
-StepsIn-void : (ts : List Core) (test : Look → Bool) (x : ℕ) (M : ℕ → Type 0) (d : Type 0) (p : ℕ) → ((q : ℕ) → M q → ⊥) → (d → ⊥) → StepsIn ts test x M d p → ⊥
+pub StepsIn-void : (ts : List Core) (test : Look → Bool) (x : ℕ) (M : ℕ → Type 0) (d : Type 0) (p : ℕ) → ((q : ℕ) → M q → ⊥) → (d → ⊥) → StepsIn ts test x M d p → ⊥
 StepsIn-void [] test x M d p none out s = s
 StepsIn-void (t ∷ ts) test x M d p none out s =
     ⊎_elim
     (λ u. Steps-void t test x p (Steps-map t test x M (λ q. ⊥) d ⊥ p (λ q lt. none q) out u.1))
     (λ u. StepsIn-void ts test x (λ q. M (width t + q)) d (p - width t) (λ q. none (width t + q)) out u.1) s
 
-ExitsIn-void : (ts : List Core) (k : ℕ) (test : Look → Bool) (M : ℕ → Type 0) (d : Type 0) → ((q : ℕ) → M q → ⊥) → (d → ⊥) → ExitsIn ts k test M d → ⊥
+pub ExitsIn-void : (ts : List Core) (k : ℕ) (test : Look → Bool) (M : ℕ → Type 0) (d : Type 0) → ((q : ℕ) → M q → ⊥) → (d → ⊥) → ExitsIn ts k test M d → ⊥
 ExitsIn-void [] k test M d none out x = x
 ExitsIn-void (t ∷ ts) zero test M d none out x = Exits-void t test (Exits-map t test M (λ q. ⊥) d ⊥ (λ q lt. none q) out x)
 ExitsIn-void (t ∷ ts) (suc k) test M d none out x = ExitsIn-void ts k test (λ q. M (width t + q)) d (λ q. none (width t + q)) out x
