@@ -1,8 +1,8 @@
 -- The kind of the byte before decides the looks.
-use Rattle.std.proofs.Common.{◌≡◌, ℕ, Bool, true, false, ◌==◌, List, Option, Some, None, is_none, refl, sym, ap, ◌∙◌, eqb-true, if◌then◌else◌}
+use Rattle.std.proofs.Common.{◌≡◌, ℕ, Bool, true, false, not, ◌||◌, ◌&&◌, ap₂, ◌==◌, List, Option, Some, None, is_none, refl, sym, ap, ◌∙◌, eqb-true, if◌then◌else◌}
 use Rattle.std.proofs.Math.Path.{fun_ext}
 use Rattle.logos_pattern.specs.Text.{byte_before, byte_after}
-use Rattle.logos_pattern.specs.Looks.{is_byte, is_word, holds_between}
+use Rattle.logos_pattern.specs.Looks.{is_byte, is_word, differ, holds_between}
 use Rattle.logos_pattern.specs.declared.pattern.hir.Look.{Look}
 use Rattle.logos_pattern.specs.declared.pattern.hir.Look.TheVariants.{Start, End, StartLF, EndLF, StartCRLF, EndCRLF, WordAscii, WordAsciiNegate}
 use Rattle.logos_graph.specs.Core.{holds_at}
@@ -82,3 +82,27 @@ same_side WordAsciiNegate (Some b) after = rw (same_word b) refl
 
 pub test_of_context : (bytes : List ℕ) (at : ℕ) → test_at (context_at bytes at) ≡ holds_at bytes at
 test_of_context bytes at = fun_ext (λ l. same_side l (byte_before bytes at) (byte_after bytes at))
+
+-- bytes of one kind are one for the looks in front of them
+module _ (x y : ℕ) (same : kind_of_byte x ≡ kind_of_byte y) where
+  word_after : is_word (Some x) ≡ is_word (Some y)
+  word_after = sym (same_word x) ∙ ap (λ k. is_word (side_before k)) same ∙ same_word y
+
+  cr_after : (x == 13) ≡ (y == 13)
+  cr_after = sym (same_cr x) ∙ ap (λ k. is_byte 13 (side_before k)) same ∙ same_cr y
+
+  lf_after : (x == 10) ≡ (y == 10)
+  lf_after = sym (same_lf x) ∙ ap (λ k. is_byte 10 (side_before k)) same ∙ same_lf y
+
+  after_side : (l : Look) (o : Option ℕ) → holds_between l o (Some x) ≡ holds_between l o (Some y)
+  after_side Start o = refl
+  after_side End o = refl
+  after_side StartLF o = refl
+  after_side EndLF o = lf_after
+  after_side StartCRLF o = ap (λ b. (is_none o || is_byte 10 o) || (is_byte 13 o && not b)) lf_after
+  after_side EndCRLF o = ap₂ (λ a b. a || (b && not (is_byte 13 o))) cr_after lf_after
+  after_side WordAscii o = ap (differ (is_word o)) word_after
+  after_side WordAsciiNegate o = ap (λ b. not (differ (is_word o) b)) word_after
+
+  pub test_after : (before : Kind) → test_at (record { before = before; after = Some x }) ≡ test_at (record { before = before; after = Some y })
+  test_after before = fun_ext (λ l. after_side l (side_before before))

@@ -35,13 +35,13 @@ StepsIn-below [] test x M d p h = absurd h
 StepsIn-below (t ∷ ts) test x M d p h =
     ⊎_elim (λ u. omega (arith, u.0)) (λ u. omega (arith, u.0, StepsIn-below ts test x _ d (p - width t) u.1)) h
 
-no_places : IsSet [] 0
+pub no_places : IsSet [] 0
 no_places = record {
   rising = record { rise = λ i j lt inside. absurd (omega (arith, inside)) };
   below = λ k inside. absurd (omega (arith, inside));
 }
 
-none_there : (q : ℕ) → Has [] q → ⊥
+pub none_there : (q : ℕ) → Has [] q → ⊥
 none_there q h = let w = h.within in omega arith
 
 -- the numbers with one more, if it is one of them

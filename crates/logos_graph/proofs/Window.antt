@@ -28,7 +28,7 @@ alike_back a b d e k h = record {
   inside_too = h.inside;
 }
 
-before_at : (xs : List ℕ) (n : ℕ) → byte_before xs (suc n) ≡ slice_get xs n
+pub before_at : (xs : List ℕ) (n : ℕ) → byte_before xs (suc n) ≡ slice_get xs n
 before_at xs n = rw (not_zero n) (ap (slice_get xs) (omega arith))
   where
     not_zero : (n : ℕ) → (suc n == 0) ≡ false

@@ -22,7 +22,10 @@ pub mod IsCore
 pub mod Joined
 pub mod Run
 pub mod Several
+pub mod Alike
 pub mod View
+pub mod Rules
+pub mod Keys
 pub mod Errors
 pub mod First
 pub mod Walk

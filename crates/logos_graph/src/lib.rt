@@ -3,9 +3,11 @@
 #![tactic(auto)]
 
 pub mod byte_class;
+mod alike;
 mod char_table;
 mod exits;
 pub mod graph;
+mod key;
 pub mod laws;
 mod look;
 mod marks;
@@ -16,3 +18,4 @@ mod reduce;
 mod several;
 mod step;
 mod table;
+mod targets;

@@ -21,7 +21,7 @@ use logos_pattern::pattern::Range;
 use std::alloc::AllocError;
 
 /// Whether the byte lies in one of the ranges.
-fn has_byte(ranges: &[Range], byte: u8) -> bool
+pub fn has_byte(ranges: &[Range], byte: u8) -> bool
     ensures { result ≡ is_in (pairs ranges.now) byte }
 {
     let value = byte as u32;

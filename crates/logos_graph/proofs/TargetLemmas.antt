@@ -1,0 +1,80 @@
+-- States are added, and rows of targets are filled.
+use Rattle.std.proofs.Common.{◌≡◌, ℕ, zero, suc, ◌+◌, ◌-◌, ◌<◌, ◌≤◌, ◌↔◌, ◌⊎◌, Bool, true, false, IsTrue, List, [], ◌∷◌, ◌++◌, length, slice_index, set, Some, refl, sym, ap, ◌∙◌, subst, inl, inr, ⊎_elim, arith}
+use Rattle.std.proofs.lemmas.List.{get_or-set_other}
+use Rattle.std.proofs.lemmas.Grind.{get_or-set_at}
+use Rattle.logos_graph.specs.Alike.{AreAlike}
+use Rattle.logos_graph.specs.Core.{Core}
+use Rattle.logos_graph.specs.Keys.{State, state_of, IsAt, Grows, AreRising, AreDistinct, AreReached, IsReached, Extends, LeadsTo, EndsIn, IsNext, IsRow, kept_of, is_start}
+use Rattle.logos_graph.specs.Kinds.{kind_of_byte, test_at}
+use Rattle.logos_graph.specs.declared.key.Key.{Key}
+use Rattle.logos_graph.specs.Several.{ReadBy, LeftBy}
+use Rattle.logos_graph.proofs.AlikeLemmas.{StepsIn-same}
+use Rattle.logos_graph.proofs.LookLemmas.{test_after}
+use Rattle.logos_graph.proofs.StepLemmas.{iff_trans}
+
+module _ (ts : List Core) (looks : Bool) where
+  pub extends_none : (ks : List Key) (n : ℕ) → Extends ts looks ks ks n
+  extends_none ks n = record {
+    grows = record { keeps = λ i s h. h };
+    rising = λ h. h;
+    distinct = λ h. h;
+    reached = λ h. h;
+    longer = omega arith;
+    few = omega arith;
+  }
+
+  pub extends_both : (a b c : List Key) (m n : ℕ) → Extends ts looks a b m → Extends ts looks b c n → Extends ts looks a c (m + n)
+  extends_both a b c m n f g = record {
+    grows = record { keeps = λ i s h. g.grows.keeps i s (f.grows.keeps i s h) };
+    rising = λ h. g.rising (f.rising h);
+    distinct = λ h. g.distinct (f.distinct h);
+    reached = λ h. g.reached (f.reached h);
+    longer = omega (arith, f.longer, g.longer);
+    few = omega (arith, f.few, g.few);
+  }
+
+  pub leads_grown : (a b : List Key) (i x j : ℕ) → Grows a b → LeadsTo ts looks a i x j → LeadsTo ts looks b i x j
+  leads_grown a b i x j g h = record { from = h.from; to = h.to; from_is = g.keeps i h.from h.from_is; to_is = g.keeps j h.to h.to_is; next = h.next }
+
+  pub ends_grown : (a b : List Key) (i j : ℕ) → Grows a b → EndsIn ts a i j → EndsIn ts b i j
+  ends_grown a b i j g h = record { from = h.from; to = h.to; from_is = g.keeps i h.from h.from_is; to_is = g.keeps j h.to h.to_is; last = h.last }
+
+  below_or_same : (a b : ℕ) → a < b + 1 → (a < b) ⊎ (a ≡ b)
+  below_or_same a b lt = grind arith
+
+  -- one more target
+  pub row_more : (a b : List Key) (i : ℕ) (row : List ℕ) (n target : ℕ) → Grows a b → n < length row → IsRow ts looks a i row n → LeadsTo ts looks b i n target →
+      IsRow ts looks b i (set row n target) (n + 1)
+  row_more a b i row n target g lt all new x below =
+      ⊎_elim
+      (λ (l : x < n).
+      let kept : slice_index (set row n target) x ≡ slice_index row x = get_or-set_other row n x target 0 (λ e. omega (arith, e, l)) in
+      rw kept (leads_grown a b i x (slice_index row x) g (all x l)))
+      (λ (e : x ≡ n).
+      let put : slice_index (set row n target) x ≡ target = get_or-set_at row n x target 0 e lt in
+      rw put (subst (λ k. LeadsTo ts looks b i k target) (sym e) new))
+      (below_or_same x n below)
+
+  same_kept : (places : List ℕ) (x y : ℕ) → kind_of_byte x ≡ kind_of_byte y → kept_of looks places x ≡ kept_of looks places y
+  same_kept places x y e = go looks places
+    where
+      go : (b : Bool) (places : List ℕ) → kept_of b places x ≡ kept_of b places y
+      go b [] = refl
+      go false (p ∷ places) = refl
+      go true (p ∷ places) = e
+
+  -- a byte that is not told apart leads to the same state
+  next_alike : (s next : State) (x y : ℕ) → AreAlike ts x y → kind_of_byte x ≡ kind_of_byte y → IsNext ts looks s x next → IsNext ts looks s y next
+  next_alike s next x y alike e h =
+      let test = test_after x y e s.kind in
+      record {
+        places = record {
+          set = h.places.set;
+          has = λ q. iff_trans (rw test at h.places.has q) (StepsIn-same ts _ x y _ _ q alike);
+        };
+        matches = rw test at h.matches;
+        kind = h.kind ∙ same_kept next.places x y e;
+      }
+
+  pub leads_alike : (ks : List Key) (i x y j : ℕ) → AreAlike ts x y → kind_of_byte x ≡ kind_of_byte y → LeadsTo ts looks ks i x j → LeadsTo ts looks ks i y j
+  leads_alike ks i x y j alike e h = record { from = h.from; to = h.to; from_is = h.from_is; to_is = h.to_is; next = next_alike h.from h.to x y alike e h.next }

@@ -1,0 +1,129 @@
+//! The targets of the states of an automaton, while it is built.
+ghost use Rattle.std.specs.Prelude.{Bool, ◌≡◌, ◌^◌, ◌<◌, ◌≤◌, ◌+◌, ℕ, false, IsFalse, IfOk, OnOk, length, map, slice_index_or};
+ghost use Rattle.logos_graph.specs.Alike.{AreAlike};
+ghost use Rattle.logos_graph.specs.Keys.{AreRising, AreReached, Extends, LeadsTo, EndsIn, IsRow};
+ghost use Rattle.logos_graph.specs.Kinds.{kind_of_byte};
+ghost use Rattle.logos_graph.specs.Node.{core_of, AreMeasured};
+ghost use Rattle.logos_graph.specs.Run.{width_of};
+
+use crate::key::{Key, end_key, number_of, step_key};
+use crate::node::Node;
+use indexmap::IndexSet;
+use std::alloc::{AllocError, Global};
+
+/// The targets of a state by bytes.
+pub type Row = [u32; 256];
+
+/// The target of a state by a byte.
+fn target_of(
+    alloc: Global,
+    nodes: &[Node],
+    looks: bool,
+    states: &mut IndexSet<Key>,
+    state: usize,
+    byte: u8,
+) -> Result<u32, AllocError>
+    requires fits { width_of (map core_of nodes.now) < 2 ^ 64 }
+    requires measured { AreMeasured nodes.now }
+    requires within { state < length states.old.keys }
+    requires rising { AreRising states.old.keys }
+    requires reached { AreReached (map core_of nodes.now) looks states.old.keys }
+    requires few { length states.old.keys < 2 ^ 31 }
+    ensures extends { OnOk result (Extends (map core_of nodes.now) looks states.old.keys states.new.keys 1) }
+    ensures leads { IfOk result (λ target. LeadsTo (map core_of nodes.now) looks states.new.keys state byte target) }
+{
+    let made = match states.get_index(state) {
+        Some(key) => step_key(alloc, nodes, looks, key, byte)?,
+        None => unreachable!(),
+    };
+    let target = number_of(states, made)?;
+    Ok(target as u32)
+}
+
+/// The target of a state at the end.
+pub fn end_of(
+    alloc: Global,
+    nodes: &[Node],
+    states: &mut IndexSet<Key>,
+    state: usize,
+) -> Result<u32, AllocError>
+    requires fits { width_of (map core_of nodes.now) < 2 ^ 64 }
+    requires measured { AreMeasured nodes.now }
+    requires within { state < length states.old.keys }
+    requires rising { AreRising states.old.keys }
+    requires few { length states.old.keys < 2 ^ 31 }
+    ensures extends { (looks : Bool) → OnOk result (Extends (map core_of nodes.now) looks states.old.keys states.new.keys 1) }
+    ensures ends { IfOk result (λ target. EndsIn (map core_of nodes.now) states.new.keys state target) }
+{
+    let made = match states.get_index(state) {
+        Some(key) => end_key(alloc, nodes, key)?,
+        None => unreachable!(),
+    };
+    let target = number_of(states, made)?;
+    Ok(target as u32)
+}
+
+/// The same by a byte that can be told apart from the one before, or else the target by that one.
+fn next_target(
+    alloc: Global,
+    nodes: &[Node],
+    looks: bool,
+    states: &mut IndexSet<Key>,
+    state: usize,
+    byte: u8,
+    is_first: bool,
+    before: u32,
+) -> Result<u32, AllocError>
+    requires fits { width_of (map core_of nodes.now) < 2 ^ 64 }
+    requires measured { AreMeasured nodes.now }
+    requires within { state < length states.old.keys }
+    requires rising { AreRising states.old.keys }
+    requires reached { AreReached (map core_of nodes.now) looks states.old.keys }
+    requires few { length states.old.keys < 2 ^ 31 }
+    requires same { IsFalse is_first → LeadsTo (map core_of nodes.now) looks states.old.keys state byte before }
+    ensures extends { OnOk result (Extends (map core_of nodes.now) looks states.old.keys states.new.keys 1) }
+    ensures leads { IfOk result (λ target. LeadsTo (map core_of nodes.now) looks states.new.keys state byte target) }
+{
+    if is_first {
+        return target_of(alloc, nodes, looks, states, state, byte);
+    }
+    Ok(before)
+}
+
+/// All targets of a state by bytes, where `first` has the bytes that can be told apart from the one before.
+pub fn row_of(
+    alloc: Global,
+    nodes: &[Node],
+    looks: bool,
+    first: &[bool; 256],
+    states: &mut IndexSet<Key>,
+    state: usize,
+) -> Result<Row, AllocError>
+    requires fits { width_of (map core_of nodes.now) < 2 ^ 64 }
+    requires measured { AreMeasured nodes.now }
+    requires within { state < length states.old.keys }
+    requires rising { AreRising states.old.keys }
+    requires reached { AreReached (map core_of nodes.now) looks states.old.keys }
+    requires few { length states.old.keys < 2 ^ 30 }
+    requires same { (byte : ℕ) → byte + 1 < 256 → slice_index_or first.now (byte + 1) false ≡ false →
+        AreAlike (map core_of nodes.now) byte (byte + 1) × (kind_of_byte byte ≡ kind_of_byte (byte + 1)) }
+    ensures extends { OnOk result (Extends (map core_of nodes.now) looks states.old.keys states.new.keys 257) }
+    ensures row { IfOk result (λ row. IsRow (map core_of nodes.now) looks states.new.keys state row 256) }
+    ensures wide { IfOk result (λ row. length row ≡ 256) }
+{
+    let mut row = [0; 256];
+    row[0] = target_of(alloc, nodes, looks, states, state, 0)?;
+    for byte in 1..256 {
+        row[byte] = next_target(
+            alloc,
+            nodes,
+            looks,
+            states,
+            state,
+            byte as u8,
+            first[byte],
+            row[byte - 1],
+        )?;
+    }
+    Ok(row)
+}
