@@ -37,3 +37,4 @@ pub mod HistoryLemmas
 pub mod HitLemmas
 pub mod MergeLemmas
 pub mod NumberLemmas
+pub mod ReductionLemmas

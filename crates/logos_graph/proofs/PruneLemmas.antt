@@ -117,10 +117,13 @@ pub pruned_by : (old new : Table) (numbers : List ℕ) → new.marks ≡ old.mar
     ((s k : ℕ) → s < size old → to new s k ≡ kept_target numbers (to old s k)) → IsPrunedTable old new
 pruned_by old new numbers marks useful rows = record {
   marks = marks;
-  kept = λ s k t e u. let w = edge_within old s k t e in rows s k w.0 ∙ ap (kept_target numbers) e ∙ kept_met numbers t ((useful t w.1).1 u);
-  left_out = λ s k t e u. let w = edge_within old s k t e in rows s k w.0 ∙ ap (kept_target numbers) e ∙ kept_unmet numbers t (λ m. u ((useful t w.1).0 m));
+  some = λ s k t e. let w = edge_within old s k t e in kept s k t e w.0 w.1 (cases_lt 0 (slice_index numbers t));
   none = λ s k e. go s k e (cases_lt s (size old)) }
   where
+    kept : (s k t : ℕ) → to old s k ≡ Some t → s < size old → t < size old → (0 < slice_index numbers t) ⊎ (slice_index numbers t ≤ 0) →
+        ((to new s k ≡ Some t) × IsOfUse old t) ⊎ ((to new s k ≡ None) × (IsOfUse old t → ⊥))
+    kept s k t e hs ht (inl m) = inl (rows s k hs ∙ ap (kept_target numbers) e ∙ kept_met numbers t m, (useful t ht).0 m)
+    kept s k t e hs ht (inr m) = inr (rows s k hs ∙ ap (kept_target numbers) e ∙ kept_unmet numbers t (λ l. omega arith), λ u. let l = (useful t ht).1 u in omega arith)
     go : (s k : ℕ) → to old s k ≡ None → (s < size old) ⊎ (size old ≤ s) → to new s k ≡ None
     go s k e (inl l) = rows s k l ∙ ap (kept_target numbers) e
     go s k e (inr l) = let n = ap (λ (v : Vec Mark Global). vec_len v) marks in no_edge new s k (omega arith)
