@@ -38,3 +38,4 @@ pub mod HitLemmas
 pub mod MergeLemmas
 pub mod NumberLemmas
 pub mod ReductionLemmas
+pub mod ScanFacts
