@@ -39,3 +39,4 @@ pub mod MergeLemmas
 pub mod NumberLemmas
 pub mod ReductionLemmas
 pub mod ScanFacts
+pub mod Finished

@@ -25,7 +25,7 @@ mark_none type at last e = go type.early type.accept e
     go None (Some l) q = absurd (cc)
     go None None q = refl
 
-nat_lt-zero : (a : ℕ) → nat_lt a 0 ≡ false
+pub nat_lt-zero : (a : ℕ) → nat_lt a 0 ≡ false
 nat_lt-zero a = search rules
 
 nat_lt-suc : (a b : ℕ) → nat_lt (suc a) (suc b) ≡ nat_lt a b
