@@ -40,3 +40,5 @@ pub mod NumberLemmas
 pub mod ReductionLemmas
 pub mod ScanFacts
 pub mod Finished
+pub mod BlockCount
+pub mod Told
