@@ -42,3 +42,4 @@ pub mod ScanFacts
 pub mod Finished
 pub mod BlockCount
 pub mod Told
+pub mod LeastLemmas
