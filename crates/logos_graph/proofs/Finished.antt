@@ -41,7 +41,7 @@ map_on I J f k g h l into x y = record {
 
 -- a graph that shows a table is its image
 module _ (table : Table) (graph : List GraphState) (h : Shows table graph) where
-  shown_type : (s : ℕ) → s < size table → (edges_of graph).type_of s ≡ type_of (mark table s)
+  pub shown_type : (s : ℕ) → s < size table → (edges_of graph).type_of s ≡ type_of (mark table s)
   shown_type s l = go (slice_get graph s) (h.types s l)
     where
       go : (o : Option GraphState) → option_map (λ state. state.state_type) o ≡ Some (type_of (mark table s)) →
@@ -65,11 +65,11 @@ module _ (raw mid pruned final : Table) (root : ℕ) (splits : List Split) (bloc
     (is_raw : IsRaw raw root) (settled : IsSettled raw mid) (prune : IsPrunedTable mid pruned) (merged : IsMerged pruned splits block leader)
     (numbered : IsNumbered pruned block leader root states final) where
   -- all tables before the last have the same count of states
-  pruned_size : size pruned ≡ size raw
+  pub pruned_size : size pruned ≡ size raw
   pruned_size = ap (λ (v : _). vec_len v) prune.marks ∙ settled.states
 
   -- the settled table has the edges of the automaton
-  same_edges : to mid ≡ to raw
+  pub same_edges : to mid ≡ to raw
   same_edges = ap target_in settled.rows
 
   -- a state behind the end is not early
@@ -92,14 +92,14 @@ module _ (raw mid pruned final : Table) (root : ℕ) (splits : List Split) (bloc
   abbrev pub number : ℕ → ℕ
   number = red.number pruned final splits block leader root states merged numbered
 
-  root_is : IsIn root × (number root ≡ 0)
+  pub root_is : IsIn root × (number root ≡ 0)
   root_is = red.root_met pruned final splits block leader root states merged numbered (let l = is_raw.root_in in let n = pruned_size in omega arith)
 
-  final_map : IsMap IsIn number (edges pruned) (edges final)
+  pub final_map : IsMap IsIn number (edges pruned) (edges final)
   final_map = red.is_map pruned final splits block leader root states merged numbered
 
   module _ (graph : List GraphState) (shows : Shows final graph) where
-    in_final : (s : ℕ) → IsIn s → number s < size final
+    pub in_final : (s : ℕ) → IsIn s → number s < size final
     in_final s i = let p = (numbered.order.named (block s) (number s) (let m = i.1 in omega arith)).0 in let n = numbered.states_of in omega arith
 
     pub whole_map : IsMap IsIn number (edges pruned) (edges_of graph)

@@ -43,3 +43,4 @@ pub mod Finished
 pub mod BlockCount
 pub mod Told
 pub mod LeastLemmas
+pub mod FinishedLaws

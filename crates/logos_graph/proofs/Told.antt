@@ -116,23 +116,23 @@ module _ (old new : Table) (splits : List Split) (block leader : ℕ → ℕ) (r
   abbrev h : IsHistory old splits block
   h = m.sound.history
 
-  abbrev lead : ℕ → ℕ
+  abbrev pub lead : ℕ → ℕ
   lead i = leader (slice_index states i)
 
   in_states : (i : ℕ) → i < size new → i < length states
   in_states i l = let e = n.states_of in omega arith
 
-  lead_in : (i : ℕ) → i < size new → (lead i < size old) × (block (lead i) ≡ slice_index states i)
+  pub lead_in : (i : ℕ) → i < size new → (lead i < size old) × (block (lead i) ≡ slice_index states i)
   lead_in i l = used_leader (size old) block leader states n.used m.leaders i (in_states i l)
 
-  lead_number : (i : ℕ) → i < size new → red.IsIn old new splits block leader root states m n (lead i) × (red.number old new splits block leader root states m n (lead i) ≡ i)
+  pub lead_number : (i : ℕ) → i < size new → red.IsIn old new splits block leader root states m n (lead i) × (red.number old new splits block leader root states m n (lead i) ≡ i)
   lead_number i l =
       let p = lead_in i l in
       let q = (n.order.placed i (in_states i l)).1 in
       let e = ap (slice_index n.numbers) p.1 in
       ((p.0, omega arith), omega arith)
 
-  new_edge : (i k : ℕ) → i < size new → to new i k ≡ option_map (red.number old new splits block leader root states m n) (to old (lead i) k)
+  pub new_edge : (i k : ℕ) → i < size new → to new i k ≡ option_map (red.number old new splits block leader root states m n) (to old (lead i) k)
   new_edge i k l =
       let p = lead_number i l in
       ap (λ (j : ℕ). to new j k) (sym p.1) ∙ red.same_edge old new splits block leader root states m n (lead i) k p.0

@@ -111,6 +111,7 @@ IsHalf home to fresh block led new = ((block ≡ home) × (led ≡ to) × (new �
 -- The blocks are sound, and each state leads by each symbol to the block to which the leader of its block does.
 pub record IsMerged (table : Table) (splits : List Split) (block leader : ℕ → ℕ) : Type 0 where
   pub sound : IsSound table splits block
+  pub within : IsWithin (size table) block (length splits)
   pub leaders : AreLeaders (size table) block leader
   pub alike : (s k : ℕ) → s < size table → led table block s k ≡ led table block (leader (block s)) k
 
