@@ -325,3 +325,152 @@ module _ (raw mid pruned final : Table) (root : ℕ) (splits : List Split) (bloc
         turn : s ≡ place t → label ≡ symbol t → r ≡ place u → at ≡ symbol u → ComesBefore (place t) (symbol t) (place u) (symbol u) → (s < r) ⊎ ((s ≡ r) × (label < at))
         turn a b c d (inl z) = inl (omega arith)
         turn a b c d (inr z) = let w = z.0 in let v = z.1 in inr (omega arith, omega arith)
+
+    -- the number of a state is that of a state of the table
+    number_in : (s : ℕ) → IsIn s → number s < size final
+    number_in s i = fin.in_final raw mid pruned final root splits block leader states is_raw settled prune merged numbered graph shows s i
+
+    -- the type of the number of a state
+    number_type : (s : ℕ) → IsIn s → type_of (mark final (number s)) ≡ type_of (mark mid s)
+    number_type s i =
+        red.same_type pruned final splits block leader root states merged numbered s i
+        ∙ (fin.pruned_edges raw mid pruned final root splits block leader states is_raw settled prune merged numbered).types s
+
+    -- the state of the table from which a state of the graph comes
+    entered_by : (s : ℕ) → 0 < s → s < size final → (t : ℕ) × IsIn t × (number t ≡ s) × IsOfUse mid t
+    entered_by s p l =
+        let n = numbered.states_of in
+        let f = numbered.in_turn.first s p (omega arith) in
+        let w = f.lower in
+        let e = enters (place s) (symbol s) s (omega arith) l f.enters in
+        let x = final_target (place s) (symbol s) s e in
+        (x.0, x.2, x.3, (mid_edge (leader (slice_index states (place s))) (symbol s) x.0 x.1).1)
+
+    -- each state but the root has a mark or leads to one
+    pub useful : (s : ℕ) → 0 < s → s < length graph → (bytes : List ℕ) × (ends : Bool) × IsBytes bytes × IsSomeAnd (type_after graph s bytes ends) reduced.IsMarked
+    useful s p l = go (entered_by s p hs)
+      where
+        hs : s < size final
+        hs = let m = shows.states in omega arith
+        marked : (t : ℕ) → IsIn t → number t ≡ s → IsOfUse mid t → (bytes : List ℕ) × (ends : Bool) × IsBytes bytes × IsSomeAnd (type_after graph s bytes ends) reduced.IsMarked
+        marked t i e (inl m) =
+            ([], false, All-nil (λ b. b < 256),
+            rw (type_here final graph shows s hs)
+            (subst reduced.IsMarked (sym (ap (λ (j : ℕ). type_of (mark final j)) (sym e) ∙ number_type t i)) m))
+        marked t i e (inr m) =
+            let a = leads_kept early_too (edges pruned) (fin.pruned_edges raw mid pruned final root splits block leader states is_raw settled prune merged numbered) t (leads_early t m) in
+            let b = map_leads IsIn number (edges pruned) (edges_of graph) whole_map t i a in
+            leads_to graph s (subst (Leads (edges_of graph)) e b)
+        go : (t : ℕ) × IsIn t × (number t ≡ s) × IsOfUse mid t → (bytes : List ℕ) × (ends : Bool) × IsBytes bytes × IsSomeAnd (type_after graph s bytes ends) reduced.IsMarked
+        go x = marked x.0 x.1 x.2 x.3
+
+    -- what leads on to a state that is of use is of use
+    use_back : (s b t : ℕ) → b < 256 → to raw s b ≡ Some t → IsOfUse mid t → IsOfUse mid s
+    use_back s b t l e (inl m) = inr (to_mark b l (raw_edge s b ∙ e) m)
+    use_back s b t l e (inr m) = inr (onward b l (raw_edge s b ∙ e) m)
+
+    use_before : (bytes : List ℕ) → IsBytes bytes → (s t : ℕ) → reach (edges raw) s bytes ≡ Some t → IsOfUse mid t → IsOfUse mid s
+    use_before [] ok s t e u = let q : t ≡ s = cc in subst (IsOfUse mid) q u
+    use_before (b ∷ bytes) ok s t e u = go (to raw s b) refl e (use_before bytes (other_bytes b bytes ok))
+      where
+        go : (o : Option ℕ) → to raw s b ≡ o → option_and_then (λ r. reach (edges raw) r bytes) o ≡ Some t → ((s t : ℕ) → reach (edges raw) s bytes ≡ Some t → IsOfUse mid t → IsOfUse mid s) → IsOfUse mid s
+        go None q x ih = absurd (cc)
+        go (Some r) q x ih = use_back s b r (first_byte b bytes ok) q (ih r t x u)
+
+    -- a state that is of use, and to which bytes lead, is numbered
+    numbered_by : (bytes : List ℕ) → IsBytes bytes → (s t : ℕ) → IsIn s → reach (edges raw) s bytes ≡ Some t → IsOfUse mid t → IsIn t
+    numbered_by [] ok s t i e u = let q : s ≡ t = cc in subst IsIn q i
+    numbered_by (b ∷ bytes) ok s t i e u = go (to raw s b) refl e (numbered_by bytes (other_bytes b bytes ok))
+      where
+        go : (o : Option ℕ) → to raw s b ≡ o → option_and_then (λ r. reach (edges raw) r bytes) o ≡ Some t → ((s t : ℕ) → IsIn s → reach (edges raw) s bytes ≡ Some t → IsOfUse mid t → IsIn t) → IsIn t
+        go None q x ih = absurd (cc)
+        go (Some r) q x ih =
+            let use_r = use_before bytes (other_bytes b bytes ok) r t x u in
+            let e' = kept_edge s b r (raw_edge s b ∙ q) use_r in
+            ih r t (red.stays_in pruned final splits block leader root states merged numbered s r b i e') x u
+
+    -- a late mark is needed on some way in
+    pub late : (t leaf : ℕ) → reduced.HasType graph t (λ type. type.accept ≡ Some leaf) →
+        (s label : ℕ) × reduced.HasEdge graph s label t × reduced.HasType graph s (λ type. type.early ≢ Some leaf)
+    late t leaf h =
+        let x = type_had t (λ type. type.accept ≡ Some leaf) h in
+        by_leader t x.0 x.1
+      where
+        found : (t T s k : ℕ) → IsIn T → number T ≡ t → (mark mid T).accept ≡ Some leaf → (mark raw T).accept ≡ Some leaf → s < size raw → to raw s k ≡ Some T → (mark raw T).accept ≢ (mark mid s).early →
+            (s label : ℕ) × reduced.HasEdge graph s label t × reduced.HasType graph s (λ type. type.early ≢ Some leaf)
+        found t T s k i e a b l q d = go (is_raw.reached s l)
+          where
+            marked : reduced.IsMarked (type_of (mark mid T))
+            marked = inr (rw a refl)
+            leads : (k < 256) ⊎ (256 ≤ k) → Leads (edges mid) s
+            leads (inl m) = to_mark k m (raw_edge s k ∙ q) marked
+            leads (inr m) =
+                let w = edge_symbol raw s k T q in
+                let z : k ≡ 256 = omega arith in
+                to_end (raw_edge s 256 ∙ ap (to raw s) (sym z) ∙ q) marked
+            of_use : IsOfUse mid s
+            of_use = inr (leads (cases_lt k 256))
+            with_source : IsIn s → (s label : ℕ) × reduced.HasEdge graph s label t × reduced.HasType graph s (λ type. type.early ≢ Some leaf)
+            with_source j =
+                let kept = kept_edge s k T (raw_edge s k ∙ q) (inl marked) in
+                let edge : to final (number s) k ≡ Some t = red.same_edge pruned final splits block leader root states merged numbered s k j ∙ ap (option_map number) kept ∙ ap Some e in
+                (number s, k, edge_graph (number s) k t edge,
+                has_type (number s) (λ type. type.early ≢ Some leaf) (number_in s j)
+                (λ z. d (b ∙ sym z ∙ ap (λ (y : StateType). y.early) (number_type s j))))
+            go : IsReached raw root s → (s label : ℕ) × reduced.HasEdge graph s label t × reduced.HasType graph s (λ type. type.early ≢ Some leaf)
+            go (bytes, ok, inl way) = with_source (numbered_by bytes ok root s root_is.0 way of_use)
+            go (bytes, ok, inr x) = absurd (dead_end x.0 s x.2 (leads (cases_lt k 256)))
+        by_leader : (t : ℕ) → t < size final → (mark final t).accept ≡ Some leaf → (s label : ℕ) × reduced.HasEdge graph s label t × reduced.HasType graph s (λ type. type.early ≢ Some leaf)
+        by_leader t l a =
+            let p = told.lead_number pruned final splits block leader root states merged numbered t l in
+            let T = leader (slice_index states t) in
+            let same : type_of (mark final t) ≡ type_of (mark mid T) = ap (λ (j : ℕ). type_of (mark final j)) (sym p.1) ∙ number_type T p.0 in
+            let a' : (mark mid T).accept ≡ Some leaf = ap (λ (y : StateType). y.accept) (sym same) ∙ a in
+            let n = fin.pruned_size raw mid pruned final root splits block leader states is_raw settled prune merged numbered in
+            go T p.0 p.1 a' (settled.late T (let m = (p.0).0 in omega arith))
+          where
+            go : (T : ℕ) → IsIn T → number T ≡ t → (mark mid T).accept ≡ Some leaf → IsKeptOrSpare raw mid T →
+                (s label : ℕ) × reduced.HasEdge graph s label t × reduced.HasType graph s (λ type. type.early ≢ Some leaf)
+            go T i e a (inl x) =
+                let s = x.1 in
+                found t T s.0 s.2.0 i e a (sym x.0 ∙ a) s.1 s.2.1 s.2.2
+            go T i e a (inr x) = let z = x.0 in absurd (cc)
+
+    module _ (rules : List Rule) (reads : MarksOneByteLate rules (edges raw) root) where
+      -- the types play no part in a walk
+      same_walk : (bytes : List ℕ) (s : ℕ) → reach early_too s bytes ≡ reach (edges raw) s bytes
+      same_walk [] s = refl
+      same_walk (b ∷ bytes) s = ap (λ (f : ℕ → Option ℕ). option_and_then f (to raw s b)) (λ i x. same_walk bytes x i)
+
+      -- a walk in the graph stays there
+      reach_in : (bytes : List ℕ) → IsBytes bytes → (s t : ℕ) → s < size final → reach (edges_of graph) s bytes ≡ Some t → t < size final
+      reach_in [] ok s t l e = let q : s ≡ t = cc in omega arith
+      reach_in (b ∷ bytes) ok s t l e = go (next_by graph s b) refl e (reach_in bytes (other_bytes b bytes ok))
+        where
+          go : (o : Option ℕ) → next_by graph s b ≡ o → option_and_then (λ r. reach (edges_of graph) r bytes) o ≡ Some t → ((s t : ℕ) → s < size final → reach (edges_of graph) s bytes ≡ Some t → t < size final) → t < size final
+          go None q x ih = absurd (cc)
+          go (Some r) q x ih = ih r t (edge_within final s b r (sym (shows.next s b l (first_byte b bytes ok)) ∙ q)).1 x
+
+      -- a state reached by bytes alone is early for the leaf that is settled there, and for no other
+      pub early : (bytes : List ℕ) (s leaf : ℕ) → IsBytes bytes → walk graph 0 bytes false ≡ Some s → reduced.HasType graph s (λ type. (type.early ≡ Some leaf) ↔ reduced.IsSettled rules bytes leaf)
+      early bytes s leaf ok w =
+          let way : reach (edges_of graph) 0 bytes ≡ Some s = sym (walk_reach graph bytes 0) ∙ w in
+          let from : reach (edges_of graph) (number root) bytes ≡ Some s = ap (λ (r : ℕ). reach (edges_of graph) r bytes) root_is.1 ∙ way in
+          let some : 0 < size final = let n = numbered.states_of in let m = numbered.some in omega arith in
+          let l = reach_in bytes ok 0 s some way in
+          let u = same_type {S = ℕ} {T = ℕ} early_too (edges pruned) (fin.pruned_edges raw mid pruned final root splits block leader states is_raw settled prune merged numbered) IsIn number (edges_of graph) whole_map bytes ok root root_is.0 s from in
+          let a = all_accept_settled rules (edges raw) root reads bytes u.0 leaf ok (sym (same_walk bytes root) ∙ u.1) in
+          let t : type_of (mark final s) ≡ type_of (mark mid u.0) = sym (fin.shown_type final graph shows s l) ∙ u.2 in
+          let e : (mark final s).early ≡ (mark mid u.0).early = ap (λ (y : StateType). y.early) t in
+          has_type s (λ type. (type.early ≡ Some leaf) ↔ reduced.IsSettled rules bytes leaf) l
+          (λ q. a.0 ((red.are_settled raw mid is_raw.late_only settled).early u.0 leaf (sym e ∙ q)), λ h. e ∙ red.early_all raw mid is_raw.late_only settled u.0 leaf (a.1 h))
+
+      pub is_reduced : reduced.IsReduced rules graph
+      is_reduced = record {
+        early = early;
+        useful = useful;
+        late = late;
+        distinct = distinct;
+        numbered = in_numbers;
+        ordered = in_order;
+        by_target = shows.by_target }
