@@ -1,10 +1,10 @@
 //! The reductions that make an automaton a graph.
-ghost use Rattle.std.specs.Prelude.{IfOk, Bool, List};
+ghost use Rattle.std.specs.Prelude.{◌<◌, IfOk, Bool, List};
 ghost use Rattle.logos_graph.specs.Found.{FindsTheLongest};
 ghost use Rattle.logos_graph.specs.Graph.{GraphState};
 ghost use Rattle.logos_graph.specs.Least.{IsLeast};
 ghost use Rattle.logos_graph.specs.Munch.{Rule};
-ghost use Rattle.logos_graph.specs.Reduce.{edges};
+ghost use Rattle.logos_graph.specs.Reduce.{size, edges};
 ghost use Rattle.logos_graph.specs.ReduceShown.{IsRaw, Shows};
 ghost use Rattle.logos_graph.specs.Reduced.{IsReduced};
 ghost use Rattle.logos_graph.specs.View.{AllStart};
@@ -46,12 +46,12 @@ pub struct Reduced {
 
 /// The least graph that finds what an automaton with late marks finds, from the root on.
 pub fn reduce(alloc: Global, table: Table, root: usize) -> Result<Reduced, AllocError>
-    requires { IsRaw table root }
+    requires { root < size table }
     ensures finds { IfOk result (λ r. (rules : List Rule) (graph : List GraphState) (utf8 : Bool) →
-        AllStart rules → MarksOneByteLate rules (edges table) root → Shows r.table graph → FindsTheLongest rules utf8 graph) }
+        IsRaw table root → AllStart rules → MarksOneByteLate rules (edges table) root → Shows r.table graph → FindsTheLongest rules utf8 graph) }
     ensures reduced { IfOk result (λ r. (rules : List Rule) (graph : List GraphState) →
-        MarksOneByteLate rules (edges table) root → Shows r.table graph → IsReduced rules graph) }
-    ensures least { IfOk result (λ r. (graph : List GraphState) → Shows r.table graph → IsLeast graph) }
+        IsRaw table root → MarksOneByteLate rules (edges table) root → Shows r.table graph → IsReduced rules graph) }
+    ensures least { IfOk result (λ r. (graph : List GraphState) → IsRaw table root → Shows r.table graph → IsLeast graph) }
 {
     let settled = settle(alloc, table)?;
     let pruned = prune(alloc, settled)?;
