@@ -62,3 +62,6 @@ pub fn reduce(alloc: Global, table: Table, root: usize) -> Result<Reduced, Alloc
     let Numbered { table, states } = numbered;
     Ok(Reduced { table, blocks: states, splits })
 }
+
+#[cfg(test)]
+mod tests;
