@@ -61,3 +61,10 @@ pub mod TwinLemmas
 pub mod Useful
 pub mod WalkExamples
 pub mod Whole
+pub mod ReductionLemmas
+pub mod ScanFacts
+pub mod Finished
+pub mod BlockCount
+pub mod Told
+pub mod LeastLemmas
+pub mod FinishedLaws

@@ -4,11 +4,11 @@ use Rattle.std.proofs.lemmas.Bool.{cases_lt}
 use Rattle.std.proofs.lemmas.Bool.Decides.{eqb_tells, nat_tests}
 use Rattle.logos_graph.specs.Merge.{IsFiner, sum_below, pairs_together}
 
-sum_le : (n : ℕ) (f g : ℕ → ℕ) → ((i : ℕ) → i < n → f i ≤ g i) → sum_below n f ≤ sum_below n g
+pub sum_le : (n : ℕ) (f g : ℕ → ℕ) → ((i : ℕ) → i < n → f i ≤ g i) → sum_below n f ≤ sum_below n g
 sum_le zero f g le = omega arith
 sum_le (suc n) f g le = let a = le n (omega arith) in let b = sum_le n f g (λ i l. le i (omega arith)) in omega arith
 
-sum_lt : (n : ℕ) (f g : ℕ → ℕ) → ((i : ℕ) → i < n → f i ≤ g i) → (i : ℕ) → i < n → f i < g i → sum_below n f < sum_below n g
+pub sum_lt : (n : ℕ) (f g : ℕ → ℕ) → ((i : ℕ) → i < n → f i ≤ g i) → (i : ℕ) → i < n → f i < g i → sum_below n f < sum_below n g
 sum_lt zero f g le i l m = absurd (omega arith)
 sum_lt (suc n) f g le i l m = go (eqb_tells i n) (λ lt. sum_lt n f g (λ i l. le i (omega arith)) i lt m)
   where

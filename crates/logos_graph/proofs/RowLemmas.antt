@@ -83,3 +83,11 @@ source_below rows s k t e = go (cases_lt s (length rows))
 -- no other state has an edge
 pub no_source : (rows : List (List ℕ)) (s k : ℕ) → length rows ≤ s → target_in rows s k ≡ None
 no_source rows s k l = ap (λ r. target_by r k) (get_or_past rows s [] l)
+
+-- a row has entries for symbols alone
+pub row_symbol : (row : List ℕ) (k t : ℕ) → target_by row k ≡ Some t → k < length row
+row_symbol row k t e = go (cases_lt k (length row))
+  where
+    go : (k < length row) ⊎ (length row ≤ k) → k < length row
+    go (inl l) = l
+    go (inr l) = let z : target_by row k ≡ None = ap target_of (past row k l) in absurd (cc)

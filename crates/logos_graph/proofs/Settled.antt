@@ -115,7 +115,7 @@ module _ {S : Type 0} (next : S → ℕ → Option S) (at_end : S → Option S) 
       go (inl k) = let w = was_marked t m in inl (inr (rw (k, w.1) refl))
       go (inr k) = inr (rw (k.3 s step) refl)
 
-  leads_after : (s : S) → Leads before s → IsSome (new s).early ⊎ Leads after s
+  pub leads_after : (s : S) → Leads before s → IsSome (new s).early ⊎ Leads after s
   leads_after s (to_mark {t = t} b ok e m) = go (mark_kept s t (by_byte b ok e) m)
     where
       go : IsMarked (new t) ⊎ IsSome (new s).early → IsSome (new s).early ⊎ Leads after s
@@ -146,7 +146,7 @@ module _ {S : Type 0} (next : S → ℕ → Option S) (at_end : S → Option S) 
       go (inl k) = inr (rw k at m)
       go (inr k) = inr (rw k.1 refl)
 
-  leads_before : ((s t : S) → at_end s ≡ Some t → (new t).early ≡ None) → (s : S) → Leads after s → Leads before s
+  pub leads_before : ((s t : S) → at_end s ≡ Some t → (new t).early ≡ None) → (s : S) → Leads after s → Leads before s
   leads_before ends s (to_mark {t = t} b ok e (inl m)) = onward b ok e (early_leads t m)
   leads_before ends s (to_mark {t = t} b ok e (inr m)) = to_mark b ok e (late_was t m)
   leads_before ends s (onward {t = t} b ok e l) = onward b ok e (leads_before ends t l)

@@ -36,3 +36,4 @@ pub mod MergeLists
 pub mod ReduceOrder
 pub mod Merge
 pub mod ReduceNumber
+pub mod ReduceShown

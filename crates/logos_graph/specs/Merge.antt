@@ -1,5 +1,5 @@
 -- States in blocks, and how blocks were split.
-use Rattle.std.specs.Prelude.{◌≡◌, ◌≢◌, ◌+◌, ◌<◌, ◌≤◌, ◌⊎◌, ℕ, List, [], ◌∷◌, zero, suc, ◌==◌, nat_lt, if◌then◌else◌, Option, Some, None, option_map, length, slice_get, slice_index, slice_index_or}
+use Rattle.std.specs.Prelude.{◌≡◌, ◌≢◌, ◌+◌, ◌<◌, ◌≤◌, ◌⊎◌, ℕ, List, [], ◌∷◌, zero, suc, Bool, false, ◌||◌, ◌==◌, nat_lt, if◌then◌else◌, Option, Some, None, option_map, length, slice_get, slice_index, slice_index_or}
 use Rattle.logos_graph.specs.Reduce.{size, to, mark}
 use Rattle.logos_graph.specs.declared.reduce.blocks.Split.{Split}
 use Rattle.logos_graph.specs.declared.reduce.table.Mark.{Mark}
@@ -111,6 +111,7 @@ IsHalf home to fresh block led new = ((block ≡ home) × (led ≡ to) × (new �
 -- The blocks are sound, and each state leads by each symbol to the block to which the leader of its block does.
 pub record IsMerged (table : Table) (splits : List Split) (block leader : ℕ → ℕ) : Type 0 where
   pub sound : IsSound table splits block
+  pub within : IsWithin (size table) block (length splits)
   pub leaders : AreLeaders (size table) block leader
   pub alike : (s k : ℕ) → s < size table → led table block s k ≡ led table block (leader (block s)) k
 
@@ -122,3 +123,12 @@ sum_below (suc n) f = f n + sum_below n f
 -- how many pairs of states are in one block
 abbrev pub pairs_together : ℕ → (ℕ → ℕ) → ℕ
 pairs_together n block = sum_below n (λ s. sum_below n (λ t. if block s == block t then 1 else 0))
+
+-- one of the first n states is in the block of the state
+abbrev pub is_repeated : (ℕ → ℕ) → ℕ → ℕ → Bool
+is_repeated block zero s = false
+is_repeated block (suc n) s = (block n == block s) || is_repeated block n s
+
+-- how many blocks the first states are in
+abbrev pub count_blocks : ℕ → (ℕ → ℕ) → ℕ
+count_blocks n block = sum_below n (λ s. if is_repeated block s s then 0 else 1)

@@ -1,9 +1,9 @@
 // A graph while it is built: states with their marks, and rows of targets.
-ghost use Rattle.std.specs.Prelude.{◌≡◌, ℕ, ◌+◌, ◌<◌, ◌^◌, Some, length, vec_len};
+ghost use Rattle.std.specs.Prelude.{◌≡◌, ℕ, IsTrue, ◌+◌, ◌<◌, ◌^◌, Some, length, vec_len};
 ghost use Rattle.logos_graph.specs.Rows.{IsClosed, target_by};
 ghost use Rattle.logos_graph.specs.RowsKept.{rows_of};
 
-use super::rows::{Row, Rows};
+use super::rows::{Row, Rows, WIDTH};
 
 /// The leaf whose match ends one byte before a state, and the leaf whose match ends there.
 #[derive(Clone, Copy, PartialEq, Eq, Hash, Debug, Drop)]
@@ -22,10 +22,42 @@ pub struct Table {
     ghost few: { vec_len marks + 1 < 2 ^ 32 },
 }
 
+/// Whether each target of a row is one of the first `len` states.
+fn leads_within(row: &Row, len: usize) -> bool
+    ensures { IsTrue result → (k t : ℕ) → target_by row.now k ≡ Some t → t < len }
+{
+    for k in 0..WIDTH {
+        if row[k] as usize > len {
+            return false;
+        }
+    }
+    true
+}
+
+/// Whether each target of each row is one of as many states as there are rows.
+fn is_closed(rows: &Rows) -> bool
+    ensures { IsTrue result → IsClosed (length (rows_of rows.now)) (rows_of rows.now) }
+{
+    for s in 0..rows.len() {
+        if !leads_within(rows.get(s), rows.len()) {
+            return false;
+        }
+    }
+    true
+}
+
 impl Table {
     ghost use Rattle.std.specs.Prelude.{slice_index};
     ghost use Rattle.logos_graph.specs.Reduce.{mark_in, size, to, mark};
     ghost use Rattle.logos_graph.specs.Rows.{target_of};
+
+    /// A table, if there is a mark for each row, and each target is a state.
+    pub fn new(marks: Vec<Mark>, rows: Rows) -> Option<Table> {
+        if marks.len() != rows.len() || marks.len() >= 0xFFFF_FFFF || !is_closed(&rows) {
+            return None;
+        }
+        Some(Table { marks, rows })
+    }
 
     /// How many states there are.
     pub fn len(&self) -> usize

@@ -1,0 +1,162 @@
+-- The steps of the reduction, as the theory of reductions has them.
+use Rattle.std.proofs.Common.{◌≡◌, ◌≢◌, ◌↔◌, ℕ, zero, suc, ◌<◌, ◌≤◌, ◌+◌, ◌-◌, ◌⊎◌, inl, inr, slice_index, List, [], ◌∷◌, length, Option, Some, None, option_map, option_and_then, IsSome, refl, sym, ◌∙◌, ap, subst, arith}
+use Rattle.std.proofs.lemmas.Bool.{cases_lt}
+use Rattle.std.proofs.lemmas.List.{get_or_past}
+use Rattle.logos_graph.specs.Graph.{StateType}
+use Rattle.logos_graph.specs.Merge.{led, IsMerged, HaveMarks}
+use Rattle.logos_graph.specs.Reduce.{mark_in, size, to, mark, type_of, edges, accepted, AllAccepted, IsSpare, IsNeeded, IsOfUse, IsSettled, IsPrunedTable}
+use Rattle.logos_graph.specs.ReduceNumber.{IsNumbered}
+use Rattle.logos_graph.specs.ReduceOrder.{IsOrder, IsMet}
+use Rattle.logos_graph.specs.Rows.{target_in, target_of}
+use Rattle.logos_graph.specs.RowsKept.{rows_of}
+use Rattle.logos_graph.specs.Walk.{Edges, Leads}
+use Rattle.logos_graph.specs.declared.reduce.blocks.Split.{Split}
+use Rattle.logos_graph.specs.declared.reduce.table.Mark.{Mark}
+use Rattle.logos_graph.specs.declared.reduce.table.Table.{Table}
+use Rattle.logos_graph.proofs.EdgeFacts.{edge_within, no_edge}
+use Rattle.logos_graph.proofs.Maps.{IsMap}
+use Rattle.logos_graph.proofs.OrderLemmas.{met_place}
+use Rattle.logos_graph.proofs.Pruned.{IsPruned, IsKept, IsUseful}
+use Rattle.logos_graph.proofs.Settled as settled
+
+unmarked_past : (table : Table) (s : ℕ) → size table ≤ s → mark table s ≡ record { accept = None; early = None }
+unmarked_past table s l = get_or_past table.marks.items s (record { accept = None; early = None }) (let w = table.marks.ok.0 in omega arith)
+
+-- tables with one list of rows have the same edges
+same_to : (old new : Table) → rows_of new.rows ≡ rows_of old.rows → (s k : ℕ) → to new s k ≡ to old s k
+same_to old new e s k = ap (λ (rows : List (List ℕ)). target_in rows s k) e
+
+module _ (old new : Table) (late_only : (s : ℕ) → (mark old s).early ≡ None) (h : IsSettled old new) where
+  -- all that is accepted by symbols
+  accepted_there : (s k leaf : ℕ) → accepted old s k ≡ Some leaf → (t : ℕ) × (to old s k ≡ Some t) × ((mark old t).accept ≡ Some leaf)
+  accepted_there s k leaf e = go (to old s k) refl e
+    where
+      go : (o : Option ℕ) → to old s k ≡ o → option_and_then (λ t. (mark old t).accept) o ≡ Some leaf → (t : ℕ) × (to old s k ≡ Some t) × ((mark old t).accept ≡ Some leaf)
+      go None q e = absurd (cc)
+      go (Some t) q e = (t, q, e)
+
+  common : (s leaf : ℕ) → AllAccepted old s leaf → settled.AllAccept (to old) (λ s. to old s 256) (edges old).type_of s leaf
+  common s leaf all = record {
+    by_byte = λ b l. accepted_there s b leaf (all b (omega arith));
+    by_end = accepted_there s 256 leaf (all 256 (omega arith)) }
+
+  common_back : (s leaf : ℕ) → settled.AllAccept (to old) (λ s. to old s 256) (edges old).type_of s leaf → AllAccepted old s leaf
+  common_back s leaf all k l = go (cases_lt k 256)
+    where
+      there : (k t : ℕ) → to old s k ≡ Some t → (mark old t).accept ≡ Some leaf → accepted old s k ≡ Some leaf
+      there k t e a = ap (option_and_then (λ t. (mark old t).accept)) e ∙ a
+      go : (k < 256) ⊎ (256 ≤ k) → accepted old s k ≡ Some leaf
+      go (inl m) = let c = all.by_byte k m in there k c.0 c.1 c.2
+      go (inr m) =
+          let c = all.by_end in
+          let e : 256 ≡ k = omega arith in
+          subst (λ (k : ℕ). accepted old s k ≡ Some leaf) e (there 256 c.0 c.1 c.2)
+
+  early_of : (s leaf : ℕ) → (mark new s).early ≡ Some leaf → settled.AllAccept (to old) (λ s. to old s 256) (edges old).type_of s leaf
+  early_of s leaf e = go (cases_lt s (size old))
+    where
+      go : (s < size old) ⊎ (size old ≤ s) → settled.AllAccept (to old) (λ s. to old s 256) (edges old).type_of s leaf
+      go (inl l) = common s leaf ((h.early s l leaf).0 e)
+      go (inr l) =
+          let past : (mark new s).early ≡ None = ap (λ (m : Mark). m.early) (unmarked_past new s (let n = h.states in omega arith)) in
+          absurd (cc)
+
+  pub early_all : (s leaf : ℕ) → settled.AllAccept (to old) (λ s. to old s 256) (edges old).type_of s leaf → (mark new s).early ≡ Some leaf
+  early_all s leaf all =
+      let c = all.by_end in
+      (h.early s (edge_within old s 256 c.0 c.1).0 leaf).1 (common_back s leaf all)
+
+  step_symbol : (s t : ℕ) → settled.IsStep (to old) (λ s. to old s 256) s t → (k : ℕ) × (to old s k ≡ Some t)
+  step_symbol s t (settled.by_byte b l e) = (b, e)
+  step_symbol s t (settled.by_end e) = (256, e)
+
+  kept_mark : (t : ℕ) → settled.IsKept (to old) (λ s. to old s 256) (edges old).type_of (edges new).type_of t
+  kept_mark t = go (cases_lt t (size old))
+    where
+      dropped : (a : Option ℕ) → (mark old t).accept ≡ a → (mark new t).accept ≡ None → ((s : ℕ) → s < size old → IsSpare old s (mark new s).early t) →
+          settled.IsKept (to old) (λ s. to old s 256) (edges old).type_of (edges new).type_of t
+      dropped None q e spare = inl (e ∙ sym q)
+      dropped (Some leaf) q e spare = inr (leaf, q, e, λ s step.
+          let k = step_symbol s t step in
+          sym (spare s (edge_within old s k.0 t k.1).0 k.0 k.1) ∙ q)
+      inside : ((((mark new t).accept ≡ (mark old t).accept) × ((s : ℕ) × (s < size old) × IsNeeded old s (mark new s).early t))
+          ⊎ (((mark new t).accept ≡ None) × ((s : ℕ) → s < size old → IsSpare old s (mark new s).early t))) →
+          settled.IsKept (to old) (λ s. to old s 256) (edges old).type_of (edges new).type_of t
+      inside (inl x) = inl x.0
+      inside (inr x) = dropped (mark old t).accept refl x.0 x.1
+      go : (t < size old) ⊎ (size old ≤ t) → settled.IsKept (to old) (λ s. to old s 256) (edges old).type_of (edges new).type_of t
+      go (inl l) = inside (h.late t l)
+      go (inr l) = inl (ap (λ (m : Mark). m.accept) (unmarked_past new t (let n = h.states in omega arith) ∙ sym (unmarked_past old t l)))
+
+  pub are_settled : settled.AreSettled (to old) (λ s. to old s 256) (edges old).type_of (edges new).type_of
+  are_settled = record { late_only = late_only; early = early_of; kept = kept_mark }
+
+-- a table without useless edges
+module _ (old new : Table) (h : IsPrunedTable old new) where
+  kept_edge : (s k : ℕ) (o : Option ℕ) → to old s k ≡ o → IsKept (IsOfUse old) o (to new s k)
+  kept_edge s k None e = h.none s k e
+  kept_edge s k (Some t) e = h.some s k t e
+
+  pub is_pruned : IsPruned (edges old) (edges new)
+  is_pruned = record {
+    types = λ s. ap (λ (m : _). type_of (mark_in m s)) (ap (λ (v : _). v.items) h.marks);
+    edges = λ s b l. kept_edge s b (to old s b) refl;
+    ends = λ s. kept_edge s 256 (to old s 256) refl }
+
+-- The merged and numbered states, as a map.
+module _ (old new : Table) (splits : List Split) (block leader : ℕ → ℕ) (root : ℕ) (states : List ℕ) (m : IsMerged old splits block leader) (n : IsNumbered old block leader root states new) where
+  -- the number of a state
+  abbrev pub number : ℕ → ℕ
+  number s = slice_index n.numbers (block s) - 1
+
+  -- the states whose blocks are numbered
+  abbrev pub IsIn : ℕ → Type 0
+  IsIn s = (s < size old) × IsMet n.numbers (block s)
+
+  pub number_place : (s : ℕ) → IsIn s → (number s < length states) × (slice_index states (number s) ≡ block s)
+  number_place s i = n.order.named (block s) (number s) (let p = i.1 in omega arith)
+
+  numbered_as : (s : ℕ) → IsIn s → target_of (slice_index n.numbers (block s)) ≡ Some (number s)
+  numbered_as s i = go (slice_index n.numbers (block s)) i.1
+    where
+      go : (x : ℕ) → 0 < x → target_of x ≡ Some (x - 1)
+      go zero l = absurd (omega arith)
+      go (suc x) l = ap Some (omega arith)
+
+  -- where a state leads, by the leader of its block
+  by_leader : (s k : ℕ) → IsIn s → led old block (leader (slice_index states (number s))) k ≡ led old block s k
+  by_leader s k i = ap (λ (b : ℕ). led old block (leader b) k) (number_place s i).1 ∙ sym (m.alike s k i.0)
+
+  pub stays_in : (s t k : ℕ) → IsIn s → to old s k ≡ Some t → IsIn t
+  stays_in s t k i e =
+      let p = number_place s i in
+      ((edge_within old s k t e).1, n.in_turn.met (number s) k (block t) p.0 (inl p.0) (by_leader s k i ∙ ap (option_map block) e))
+
+  pub same_type : (s : ℕ) → IsIn s → (edges new).type_of (number s) ≡ (edges old).type_of s
+  same_type s i =
+      let p = number_place s i in
+      let l = m.leaders s i.0 in
+      ap type_of (n.marks (number s) p.0 ∙ ap (λ (b : ℕ). mark old (leader b)) p.1 ∙ m.sound.marks (leader (block s)) s l.0 i.0 l.1)
+
+  pub same_edge : (s k : ℕ) → IsIn s → to new (number s) k ≡ option_map number (to old s k)
+  same_edge s k i =
+      let p = number_place s i in
+      n.edges (number s) k p.0 ∙ ap (option_and_then (λ b. target_of (slice_index n.numbers b))) (by_leader s k i) ∙ go (to old s k) refl
+    where
+      go : (o : Option ℕ) → to old s k ≡ o → option_and_then (λ b. target_of (slice_index n.numbers b)) (option_map block o) ≡ option_map number o
+      go None e = refl
+      go (Some t) e = numbered_as t (stays_in s t k i e)
+
+  pub is_map : IsMap IsIn number (edges old) (edges new)
+  is_map = record {
+    inside = λ s t b l i e. stays_in s t b i e;
+    types = same_type;
+    edges = λ s b l i. same_edge s b i;
+    ends = λ s i. same_edge s 256 i;
+    end_types = λ s t i e. same_type t (stays_in s t 256 i e) }
+
+  pub root_met : root < size old → IsIn root × (number root ≡ 0)
+  root_met l =
+      let p = (n.order.placed 0 n.some).1 in
+      let e = ap (slice_index n.numbers) n.start in
+      ((l, omega arith), omega arith)
