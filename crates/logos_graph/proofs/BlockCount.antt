@@ -21,6 +21,7 @@ repeated_at block (suc n) s e = go (or_cases (nat_eq (block n) (block s)) (is_re
     here : ((nat_eq (block n) (block s) ≡ true) × (block n ≡ block s)) ⊎ ((nat_eq (block n) (block s) ≡ false) × (block n ≢ block s)) → nat_eq (block n) (block s) ≡ true → block n ≡ block s
     here (inl x) q = x.1
     here (inr x) q = absurd (cc (x.0))
+
     go : (nat_eq (block n) (block s) ≡ true) ⊎ (is_repeated block n s ≡ true) → (is_repeated block n s ≡ true → (t : ℕ) × (t < n) × (block t ≡ block s)) → (t : ℕ) × (t < suc n) × (block t ≡ block s)
     go (inl q) ih = (n, omega arith, here (eqb_tells (block n) (block s)) q)
     go (inr q) ih = let r = ih q in (r.0, let l = r.1 in omega arith, r.2)
@@ -81,6 +82,7 @@ module _ (n : ℕ) (fine block : ℕ → ℕ) (finer : IsFiner n fine block) whe
     where
       order : (a b : ℕ) → (a < b) ⊎ ((b < a) ⊎ (a ≡ b))
       order a b = grind arith
+
       later : (t : ℕ) → t ≤ s → block t ≡ block first → fine t ≡ fine s → first < t
       later t k same q = go (order first t)
         where
@@ -88,6 +90,7 @@ module _ (n : ℕ) (fine block : ℕ → ℕ) (finer : IsFiner n fine block) whe
           go (inl x) = x
           go (inr (inl x)) = absurd (let z = at_repeated block first first t x same in cc)
           go (inr (inr x)) = absurd (d (ap fine x ∙ q))
+
       strict : (t : ℕ) → is_repeated block t t ≡ true → is_repeated fine t t ≡ false → (if is_repeated block t t then 0 else 1) < (if is_repeated fine t t then 0 else 1)
       strict t p q = rw (p, q) (omega arith)
 
@@ -96,18 +99,23 @@ module _ (n : ℕ) (fine block : ℕ → ℕ) (finer : IsFiner n fine block) whe
     where
       first : ℕ
       first = (first_of block s s (omega arith)).0
+
       below : first ≤ s
       below = (first_of block s s (omega arith)).1
+
       kind : block first ≡ block s
       kind = (first_of block s s (omega arith)).2
+
       alone : is_repeated block first first ≡ false
       alone = (first_of block s s (omega arith)).3
+
       before : (u v : ℕ) → block u ≡ block v → is_repeated block u u ≡ false → u ≤ v
       before u v q a = by (cases_lt v u)
         where
           by : (v < u) ⊎ (u ≤ v) → u ≤ v
           by (inl l) = absurd (let z = at_repeated block u u v l (sym q) in cc)
           by (inr l) = l
+
       go : ((nat_eq (fine first) (fine s) ≡ true) × (fine first ≡ fine s)) ⊎ ((nat_eq (fine first) (fine s) ≡ false) × (fine first ≢ fine s)) → count_blocks n block < count_blocks n fine
       go (inl q) = left_behind first t ht (before first t (kind ∙ e) alone) (kind ∙ e) alone (λ z. d (sym q.1 ∙ z))
       go (inr q) = left_behind first s hs below kind alone q.1
@@ -119,6 +127,7 @@ blocks_few n block = go n
     one : (b : Bool) → (if b then 0 else 1) ≤ 1
     one true = omega arith
     one false = omega arith
+
     go : (k : ℕ) → sum_below k (λ s. if is_repeated block s s then 0 else 1) ≤ k
     go zero = omega arith
     go (suc k) = let a = one (is_repeated block k k) in let b = go k in omega arith

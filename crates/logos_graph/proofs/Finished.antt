@@ -33,7 +33,8 @@ map_on I J f k g h l into x y = record {
   types = λ s i. y.types (f s) (into s i) ∙ x.types s i;
   edges = λ s b m i. y.edges (f s) b m (into s i) ∙ ap (option_map k) (x.edges s b m i) ∙ twice (g.next s b);
   ends = λ s i. y.ends (f s) (into s i) ∙ ap (option_map k) (x.ends s i) ∙ twice (g.at_end s);
-  end_types = λ s t i e. y.end_types (f s) (f t) (into s i) (x.ends s i ∙ ap (option_map f) e) ∙ x.end_types s t i e }
+  end_types = λ s t i e. y.end_types (f s) (f t) (into s i) (x.ends s i ∙ ap (option_map f) e) ∙ x.end_types s t i e;
+}
   where
     twice : (o : Option _) → option_map k (option_map f o) ≡ option_map (λ s. k (f s)) o
     twice None = refl
@@ -59,7 +60,8 @@ module _ (table : Table) (graph : List GraphState) (h : Shows table graph) where
     types = shown_type;
     edges = λ s b l i. h.next s b i l ∙ same_option (to table s b);
     ends = λ s i. h.ends s i ∙ same_option (to table s 256);
-    end_types = λ s t i e. shown_type t (edge_within table s 256 t e).1 }
+    end_types = λ s t i e. shown_type t (edge_within table s 256 t e).1;
+  }
 
 module _ (raw mid pruned final : Table) (root : ℕ) (splits : List Split) (block leader : ℕ → ℕ) (states : List ℕ)
     (is_raw : IsRaw raw root) (settled : IsSettled raw mid) (prune : IsPrunedTable mid pruned) (merged : IsMerged pruned splits block leader)
@@ -109,7 +111,7 @@ module _ (raw mid pruned final : Table) (root : ℕ) (splits : List Split) (bloc
       pub walk_finds : (utf8 : Bool) (bytes : List ℕ) (from : ℕ) → IsBytes bytes → (found : Found) → WalkFinds (edges_of graph) 0 utf8 bytes from found ↔ Finds rules utf8 bytes from found
       walk_finds utf8 bytes from ok found =
           let h = finds_the_longest rules start (edges raw) root reads (edges mid).type_of (red.are_settled raw mid is_raw.late_only settled) late_end (edges pruned) pruned_edges
-            IsIn number (edges_of graph) whole_map root_is.0 utf8 bytes from ok found in
+          IsIn number (edges_of graph) whole_map root_is.0 utf8 bytes from ok found in
           subst (λ (s : ℕ). WalkFinds (edges_of graph) s utf8 bytes from found ↔ Finds rules utf8 bytes from found) root_is.1 h
 
       -- the root has no mark
@@ -137,6 +139,7 @@ module _ (raw mid pruned final : Table) (root : ℕ) (splits : List Split) (bloc
           unmarked None None p q = refl
           unmarked (Some l) a p q = absurd (cc)
           unmarked None (Some l) p q = absurd (cc)
+
           go : (o : Option GraphState) → option_map_or (λ (state : GraphState). state.state_type) o (record { accept = None; early = None }) ≡ record { accept = None; early = None } →
               option_and_then (λ type. mark_of type 0) (option_map (λ (state : GraphState). state.state_type) o) ≡ None
           go None q = refl

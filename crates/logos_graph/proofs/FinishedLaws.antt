@@ -53,7 +53,7 @@ same_state graph s t e [] false = ap (option_map (λ (state : GraphState). state
 same_state graph s t e [] true =
     ap (λ (o : Option GraphState). option_and_then (λ t. option_map (λ (state : GraphState). state.state_type) (slice_get graph t)) (option_and_then (λ (state : GraphState). state.eoi) o)) e
 same_state graph s t e (b ∷ bytes) ends = let q : next_by graph s b ≡ next_by graph t b = ap (λ (o : Option GraphState). option_and_then (λ (state : GraphState). option_map (λ edge. edge.1) (find (λ edge. is_in edge.0 b) state.normal)) o) e in
-     ap (λ (o : Option ℕ). option_and_then (λ t. option_map (λ (state : GraphState). state.state_type) (slice_get graph t)) (option_and_then (λ next. walk graph next bytes ends) o)) q
+    ap (λ (o : Option ℕ). option_and_then (λ t. option_map (λ (state : GraphState). state.state_type) (slice_get graph t)) (option_and_then (λ next. walk graph next bytes ends) o)) q
 
 module _ (raw mid pruned final : Table) (root : ℕ) (splits : List Split) (block leader : ℕ → ℕ) (states : List ℕ)
     (is_raw : IsRaw raw root) (settled : IsSettled raw mid) (prune : IsPrunedTable mid pruned) (merged : IsMerged pruned splits block leader)
@@ -95,6 +95,7 @@ module _ (raw mid pruned final : Table) (root : ℕ) (splits : List Split) (bloc
           let same : t ≡ u = cc (x.0) in
           (q ∙ ap Some same, subst (IsOfUse mid) same x.1)
       some t q (inr x) = absurd (cc (x.0))
+
       go : (o : Option ℕ) → to mid s k ≡ o → (to mid s k ≡ Some u) × IsOfUse mid u
       go None q = let n = prune.none s k q in absurd (cc)
       go (Some t) q = some t q (prune.some s k t q)
@@ -113,6 +114,7 @@ module _ (raw mid pruned final : Table) (root : ℕ) (splits : List Split) (bloc
     where
       behind : to raw s 256 ≡ Some t
       behind = sym (raw_edge s 256) ∙ (mid_edge s 256 t e).0
+
       dead : (u : ℕ) → to mid t k ≡ Some u → IsOfUse mid u → (k < 256) ⊎ (256 ≤ k) → ⊥
       dead u q (inl m) (inl l) = dead_end s t behind (to_mark k l q m)
       dead u q (inr m) (inl l) = dead_end s t behind (onward k l q m)
@@ -124,6 +126,7 @@ module _ (raw mid pruned final : Table) (root : ℕ) (splits : List Split) (bloc
           at_end : (u : ℕ) → to mid t 256 ≡ Some u → IsOfUse mid u → ⊥
           at_end u q (inl m) = dead_end s t behind (to_end q m)
           at_end u q (inr m) = dead_end t u (sym (raw_edge t 256) ∙ q) m
+
       go : (o : Option ℕ) → to pruned t k ≡ o → o ≡ None
       go None q = refl
       go (Some u) q = let x = mid_edge t k u q in absurd (dead u x.0 x.1 (cases_lt k 256))
@@ -235,6 +238,7 @@ module _ (raw mid pruned final : Table) (root : ℕ) (splits : List Split) (bloc
       where
         l : s < size final
         l = (edge_within final s k t e).0
+
         go : (k < 256) ⊎ (256 ≤ k) → reduced.HasEdge graph s k t
         go (inl m) = inl (m, shows.next s k l m ∙ e)
         go (inr m) =
@@ -247,6 +251,7 @@ module _ (raw mid pruned final : Table) (root : ℕ) (splits : List Split) (bloc
       where
         lt : t < length graph
         lt = let x = got_there graph s l in got_below graph t x.0 (sym e ∙ x.1)
+
         go : ((nat_eq s t ≡ true) × (s ≡ t)) ⊎ ((nat_eq s t ≡ false) × (s ≢ t)) → s ≡ t
         go (inl q) = q.1
         go (inr q) = let x = least s t l lt q.1 in absurd (x.3 (same_state graph s t e x.0 x.1))
@@ -286,10 +291,13 @@ module _ (raw mid pruned final : Table) (root : ℕ) (splits : List Split) (bloc
         let n = numbered.states_of in
         let m = shows.states in
         let f = numbered.in_turn.first t p (omega arith) in
-        let w = f.lower in
-        (f.lower, record {
-          edge = edge_graph (place t) (symbol t) t (enters (place t) (symbol t) t (omega arith) (omega arith) f.enters);
-          first = λ other at e. later f other at (entered other at t (graph_edge other at t e).1) (order other (place t)) (order at (symbol t)) })
+        let w = f.lower in (
+          f.lower,
+          record {
+            edge = edge_graph (place t) (symbol t) t (enters (place t) (symbol t) t (omega arith) (omega arith) f.enters);
+            first = λ other at e. later f other at (entered other at t (graph_edge other at t e).1) (order other (place t)) (order at (symbol t));
+          },
+        )
       where
         later : IsFirstInto by_blocks states t (place t) (symbol t) → (other at : ℕ) → by_blocks (slice_index states other) at ≡ Some (slice_index states t) →
             (other < place t) ⊎ ((place t < other) ⊎ (other ≡ place t)) → (at < symbol t) ⊎ ((symbol t < at) ⊎ (at ≡ symbol t)) → (place t < other) ⊎ ((place t ≡ other) × (symbol t ≤ at))
@@ -352,15 +360,20 @@ module _ (raw mid pruned final : Table) (root : ℕ) (splits : List Split) (bloc
       where
         hs : s < size final
         hs = let m = shows.states in omega arith
+
         marked : (t : ℕ) → IsIn t → number t ≡ s → IsOfUse mid t → (bytes : List ℕ) × (ends : Bool) × IsBytes bytes × IsSomeAnd (type_after graph s bytes ends) reduced.IsMarked
-        marked t i e (inl m) =
-            ([], false, All-nil (λ b. b < 256),
-            rw (type_here final graph shows s hs)
-            (subst reduced.IsMarked (sym (ap (λ (j : ℕ). type_of (mark final j)) (sym e) ∙ number_type t i)) m))
+        marked t i e (inl m) = (
+          [],
+          false,
+          All-nil (λ b. b < 256),
+          rw (type_here final graph shows s hs)
+              (subst reduced.IsMarked (sym (ap (λ (j : ℕ). type_of (mark final j)) (sym e) ∙ number_type t i)) m),
+        )
         marked t i e (inr m) =
             let a = leads_kept early_too (edges pruned) (fin.pruned_edges raw mid pruned final root splits block leader states is_raw settled prune merged numbered) t (leads_early t m) in
             let b = map_leads IsIn number (edges pruned) (edges_of graph) whole_map t i a in
             leads_to graph s (subst (Leads (edges_of graph)) e b)
+
         go : (t : ℕ) × IsIn t × (number t ≡ s) × IsOfUse mid t → (bytes : List ℕ) × (ends : Bool) × IsBytes bytes × IsSomeAnd (type_after graph s bytes ends) reduced.IsMarked
         go x = marked x.0 x.1 x.2 x.3
 
@@ -402,24 +415,32 @@ module _ (raw mid pruned final : Table) (root : ℕ) (splits : List Split) (bloc
           where
             marked : reduced.IsMarked (type_of (mark mid T))
             marked = inr (rw a refl)
+
             leads : (k < 256) ⊎ (256 ≤ k) → Leads (edges mid) s
             leads (inl m) = to_mark k m (raw_edge s k ∙ q) marked
             leads (inr m) =
                 let w = edge_symbol raw s k T q in
                 let z : k ≡ 256 = omega arith in
                 to_end (raw_edge s 256 ∙ ap (to raw s) (sym z) ∙ q) marked
+
             of_use : IsOfUse mid s
             of_use = inr (leads (cases_lt k 256))
+
             with_source : IsIn s → (s label : ℕ) × reduced.HasEdge graph s label t × reduced.HasType graph s (λ type. type.early ≢ Some leaf)
             with_source j =
                 let kept = kept_edge s k T (raw_edge s k ∙ q) (inl marked) in
-                let edge : to final (number s) k ≡ Some t = red.same_edge pruned final splits block leader root states merged numbered s k j ∙ ap (option_map number) kept ∙ ap Some e in
-                (number s, k, edge_graph (number s) k t edge,
-                has_type (number s) (λ type. type.early ≢ Some leaf) (number_in s j)
-                (λ z. d (b ∙ sym z ∙ ap (λ (y : StateType). y.early) (number_type s j))))
+                let edge : to final (number s) k ≡ Some t = red.same_edge pruned final splits block leader root states merged numbered s k j ∙ ap (option_map number) kept ∙ ap Some e in (
+                  number s,
+                  k,
+                  edge_graph (number s) k t edge,
+                  has_type (number s) (λ type. type.early ≢ Some leaf) (number_in s j)
+                      (λ z. d (b ∙ sym z ∙ ap (λ (y : StateType). y.early) (number_type s j))),
+                )
+
             go : IsReached raw root s → (s label : ℕ) × reduced.HasEdge graph s label t × reduced.HasType graph s (λ type. type.early ≢ Some leaf)
             go (bytes, ok, inl way) = with_source (numbered_by bytes ok root s root_is.0 way of_use)
             go (bytes, ok, inr x) = absurd (dead_end x.0 s x.2 (leads (cases_lt k 256)))
+
         by_leader : (t : ℕ) → t < size final → (mark final t).accept ≡ Some leaf → (s label : ℕ) × reduced.HasEdge graph s label t × reduced.HasType graph s (λ type. type.early ≢ Some leaf)
         by_leader t l a =
             let p = told.lead_number pruned final splits block leader root states merged numbered t l in
@@ -473,4 +494,5 @@ module _ (raw mid pruned final : Table) (root : ℕ) (splits : List Split) (bloc
         distinct = distinct;
         numbered = in_numbers;
         ordered = in_order;
-        by_target = shows.by_target }
+        by_target = shows.by_target;
+      }

@@ -71,25 +71,29 @@ module _ (ks : List Key) (y : Key) where
   rising_added : (b : Bool) → AreRising ks → IsRising y.places.items → AreRising (added b)
   unfolding added
   rising_added true h r = h
-  rising_added false h r = record { rising = λ i s at.
-      ⊎_elim (λ e. h.rising i s (record { key = at.key; is = e; same = at.same }))
-      (λ u. subst IsRising (ap (λ k. k.places.items) (sym u.1) ∙ ap (λ z. z.places) at.same) r)
-      (got_push ks y i at.key at.is) }
+  rising_added false h r = record {
+    rising = λ i s at.
+        ⊎_elim (λ e. h.rising i s (record { key = at.key; is = e; same = at.same }))
+        (λ u. subst IsRising (ap (λ k. k.places.items) (sym u.1) ∙ ap (λ z. z.places) at.same) r)
+        (got_push ks y i at.key at.is);
+  }
 
   distinct_added : (b : Bool) → list_any (alike y) ks ≡ b → AreDistinct ks → AreDistinct (added b)
   unfolding added
   distinct_added true e h = h
-  distinct_added false e h = record { distinct = λ i j s p q.
-      ⊎_elim
-      (λ a. ⊎_elim (λ b. h.distinct i j s (record { key = p.key; is = a; same = p.same }) (record { key = q.key; is = b; same = q.same }))
-      (λ b. absurd (none_alike (alike y) ks i p.key e a
-      (same_alike y p.key (ap state_of (sym b.1) ∙ q.same ∙ sym p.same))))
-      (got_push ks y j q.key q.is))
-      (λ a. ⊎_elim (λ b. absurd (none_alike (alike y) ks j q.key e b
-      (same_alike y q.key (ap state_of (sym a.1) ∙ p.same ∙ sym q.same))))
-      (λ b. a.0 ∙ sym b.0)
-      (got_push ks y j q.key q.is))
-      (got_push ks y i p.key p.is) }
+  distinct_added false e h = record {
+    distinct = λ i j s p q.
+        ⊎_elim
+        (λ a. ⊎_elim (λ b. h.distinct i j s (record { key = p.key; is = a; same = p.same }) (record { key = q.key; is = b; same = q.same }))
+        (λ b. absurd (none_alike (alike y) ks i p.key e a
+        (same_alike y p.key (ap state_of (sym b.1) ∙ q.same ∙ sym p.same))))
+        (got_push ks y j q.key q.is))
+        (λ a. ⊎_elim (λ b. absurd (none_alike (alike y) ks j q.key e b
+        (same_alike y q.key (ap state_of (sym a.1) ∙ p.same ∙ sym q.same))))
+        (λ b. a.0 ∙ sym b.0)
+        (got_push ks y j q.key q.is))
+        (got_push ks y i p.key p.is);
+  }
 
   reached_added : (ts : List Core) (looks b : Bool) → AreReached ts looks ks → IsReached ts looks (state_of y) → AreReached ts looks (added b)
   unfolding added
@@ -127,4 +131,3 @@ module _ (ks : List Key) (y : Key) where
   pub stays_distinct : (new : List Key) → new ≡ (if list_any (alike y) ks then ks else ks ++ y ∷ []) → AreDistinct ks → AreDistinct new
   unfolding added
   stays_distinct new e = rw e (distinct_added (list_any (alike y) ks) refl)
-

@@ -46,14 +46,22 @@ module _ (table : Table) (graph : List GraphState) (shows : Shows table graph) w
 
     -- the byte leads on from just one of the two
     at_byte : (n s t k a : ℕ) → 1 ≤ n → s < size table → t < size table → k < 256 → to table s k ≡ Some a → to table t k ≡ None → Evidence n s t
-    at_byte n s t k a some hs ht l e f =
-        (k ∷ [], false, one k l, omega arith,
-        λ q. clash (type_after graph t (k ∷ []) false) (type_of (mark table a)) (type_stuck t k [] false ht l f) (sym q ∙ type_step s k a [] false hs l e ∙ type_here a (edge_within table s k a e).1))
+    at_byte n s t k a some hs ht l e f = (
+      k ∷ [],
+      false,
+      one k l,
+      omega arith,
+      λ q. clash (type_after graph t (k ∷ []) false) (type_of (mark table a)) (type_stuck t k [] false ht l f) (sym q ∙ type_step s k a [] false hs l e ∙ type_here a (edge_within table s k a e).1),
+    )
 
     at_end : (n s t a : ℕ) → s < size table → t < size table → to table s 256 ≡ Some a → to table t 256 ≡ None → Evidence n s t
-    at_end n s t a hs ht e f =
-        ([], true, nil, omega arith,
-        λ q. clash (type_after graph t [] true) (type_of (mark table a)) (type_no_end t ht f) (sym q ∙ type_end s a hs e))
+    at_end n s t a hs ht e f = (
+      [],
+      true,
+      nil,
+      omega arith,
+      λ q. clash (type_after graph t [] true) (type_of (mark table a)) (type_no_end t ht f) (sym q ∙ type_end s a hs e),
+    )
 
     turned : (n s t : ℕ) → Evidence n s t → Evidence n t s
     turned n s t x = (x.0, x.1, x.2, x.3, λ q. x.4 (sym q))
@@ -67,43 +75,59 @@ module _ (table : Table) (graph : List GraphState) (shows : Shows table graph) w
         absurd (d (ap (λ (o : Option ℕ). option_map (mark table) (reached table o word)) p ∙ sym (ap (λ (o : Option ℕ). option_map (mark table) (reached table o word)) q)))
 
     both_end : (n s t a b : ℕ) → s < size table → t < size table → to table s 256 ≡ Some a → to table t 256 ≡ Some b → mark table a ≢ mark table b → Evidence n s t
-    both_end n s t a b hs ht e f d =
-        ([], true, nil, omega arith,
-        λ q. let z : Some (type_of (mark table a)) ≡ Some (type_of (mark table b)) = sym (type_end s a hs e) ∙ q ∙ type_end t b ht f in
-        d (same_mark (mark table a) (mark table b) (cc)))
+    both_end n s t a b hs ht e f d = (
+      [],
+      true,
+      nil,
+      omega arith,
+      λ q. let z : Some (type_of (mark table a)) ≡ Some (type_of (mark table b)) = sym (type_end s a hs e) ∙ q ∙ type_end t b ht f in
+          d (same_mark (mark table a) (mark table b) (cc)),
+    )
 
     pub evidence : (word : List ℕ) (s t : ℕ) → s < size table → t < size table → Tells table s t word → Evidence (length word) s t
-    evidence [] s t hs ht d =
-        ([], false, nil, omega arith,
-        λ q. let z : Some (type_of (mark table s)) ≡ Some (type_of (mark table t)) = sym (type_here s hs) ∙ q ∙ type_here t ht in
-        d (ap Some (same_mark (mark table s) (mark table t) (cc))))
+    evidence [] s t hs ht d = (
+      [],
+      false,
+      nil,
+      omega arith,
+      λ q. let z : Some (type_of (mark table s)) ≡ Some (type_of (mark table t)) = sym (type_here s hs) ∙ q ∙ type_here t ht in
+          d (ap Some (same_mark (mark table s) (mark table t) (cc))),
+    )
     evidence (k ∷ word) s t hs ht d = go (to table s k) refl (to table t k) refl (evidence word)
       where
         none_of : (o : Option ℕ) → o ≡ None → option_map (mark table) (reached table o word) ≡ None
         none_of o e = ap (λ (o : Option ℕ). option_map (mark table) (reached table o word)) e
+
         by_place : (a : ℕ) → to table s k ≡ Some a → to table t k ≡ None → (k < 256) ⊎ (256 ≤ k) → Evidence (length (k ∷ word)) s t
         by_place a e f (inl l) = at_byte (length (k ∷ word)) s t k a (omega arith) hs ht l e f
         by_place a e f (inr l) =
             let m = edge_symbol table s k a e in
             let z : k ≡ 256 = omega arith in
             at_end (length (k ∷ word)) s t a hs ht (ap (to table s) (sym z) ∙ e) (ap (to table t) (sym z) ∙ f)
+
         other_place : (b : ℕ) → to table s k ≡ None → to table t k ≡ Some b → (k < 256) ⊎ (256 ≤ k) → Evidence (length (k ∷ word)) s t
         other_place b e f (inl l) = turned (length (k ∷ word)) t s (at_byte (length (k ∷ word)) t s k b (omega arith) ht hs l f e)
         other_place b e f (inr l) =
             let m = edge_symbol table t k b f in
             let z : k ≡ 256 = omega arith in
             turned (length (k ∷ word)) t s (at_end (length (k ∷ word)) t s b ht hs (ap (to table t) (sym z) ∙ f) (ap (to table s) (sym z) ∙ e))
+
         on : (a b : ℕ) → to table s k ≡ Some a → to table t k ≡ Some b → Tells table a b word → (k < 256) ⊎ (256 ≤ k) → ((s t : ℕ) → s < size table → t < size table → Tells table s t word → Evidence (length word) s t) → Evidence (length (k ∷ word)) s t
         on a b e f q (inl l) ih =
-            let x = ih a b (edge_within table s k a e).1 (edge_within table t k b f).1 q in
-            (k ∷ x.0, x.1, All-cons (λ b. b < 256) k x.0 l x.2, let m = x.3 in omega arith,
-            λ z. x.4 (sym (type_step s k a x.0 x.1 hs l e) ∙ z ∙ type_step t k b x.0 x.1 ht l f))
+            let x = ih a b (edge_within table s k a e).1 (edge_within table t k b f).1 q in (
+              k ∷ x.0,
+              x.1,
+              All-cons (λ b. b < 256) k x.0 l x.2,
+              let m = x.3 in omega arith,
+              λ z. x.4 (sym (type_step s k a x.0 x.1 hs l e) ∙ z ∙ type_step t k b x.0 x.1 ht l f),
+            )
         on a b e f q (inr l) ih =
             let m = edge_symbol table s k a e in
             let z : k ≡ 256 = omega arith in
             let e' = ap (to table s) (sym z) ∙ e in
             let f' = ap (to table t) (sym z) ∙ f in
             both_end (length (k ∷ word)) s t a b hs ht e' f' (behind_end s a t b word e' f' q)
+
         go : (o : Option ℕ) → to table s k ≡ o → (p : Option ℕ) → to table t k ≡ p → ((s t : ℕ) → s < size table → t < size table → Tells table s t word → Evidence (length word) s t) → Evidence (length (k ∷ word)) s t
         go None e None f ih = absurd (d (none_of (to table s k) e ∙ sym (none_of (to table t k) f)))
         go (Some a) e None f ih = by_place a e f (cases_lt k 256)

@@ -145,8 +145,11 @@ module _ (rules : List Rule) (ts : List Core) (are : AreRuleCores rules ts) (loo
       go (inr (nothing, ok, e)) =
           inr (upto [] x, only_byte x lt, up_to_more [] x s next (λ post. subst (IsAfter post ts 0) (sym e) (after_nothing post ts)) step)
       go (inr (upto u b, ok, is)) =
-          inr (upto (u ++ b ∷ []) x, one_byte_more (u ++ b ∷ []) x lt ok,
-          up_to_more (u ++ b ∷ []) x s next (λ post. subst (λ k. IsAfter ((u ++ b ∷ []) ++ post) ts k s) (size_more u b) (is.after post)) step)
+          inr (
+            upto (u ++ b ∷ []) x,
+            one_byte_more (u ++ b ∷ []) x lt ok,
+            up_to_more (u ++ b ∷ []) x s next (λ post. subst (λ k. IsAfter ((u ++ b ∷ []) ++ post) ts k s) (size_more u b) (is.after post)) step,
+          )
       go (inr (whole u, ok, is)) = inl (dead_by_byte ts looks s is.places (ap is_start is.kind) x next step)
   string_of _ (by_end s next h last) = go (string_of s h)
     where
@@ -155,8 +158,12 @@ module _ (rules : List Rule) (ts : List Core) (are : AreRuleCores rules ts) (loo
       go (inr (nothing, ok, e)) =
           inr (whole [], no_bytes, whole_of [] s next (subst (IsAfter [] ts 0) (sym e) (after_nothing [] ts)) last)
       go (inr (upto u b, ok, is)) =
-          inr (whole (u ++ b ∷ []), ok, whole_of (u ++ b ∷ []) s next
-          (subst (λ w. IsAfter w ts (length (u ++ b ∷ [])) s) (append-nil (u ++ b ∷ [])) (subst (λ k. IsAfter ((u ++ b ∷ []) ++ []) ts k s) (size_more u b) (is.after []))) last)
+          inr (
+            whole (u ++ b ∷ []),
+            ok,
+            whole_of (u ++ b ∷ []) s next
+                (subst (λ w. IsAfter w ts (length (u ++ b ∷ [])) s) (append-nil (u ++ b ∷ [])) (subst (λ k. IsAfter ((u ++ b ∷ []) ++ []) ts k s) (size_more u b) (is.after []))) last,
+          )
       go (inr (whole u, ok, is)) = inl (dead_by_end ts looks s is.places (ap is_start is.kind) next last)
 
 -- the places of patterns, by those of the trees

@@ -41,6 +41,7 @@ seeds_more table s old new wanted g tells sound all one only = (λ t m. there t 
     there : (t : ℕ) → IsMet old t ⊎ ((t ≡ s) × (wanted ≡ true)) → IsSeed table t
     there t (inl m) = sound t m
     there t (inr e) = subst (IsSeed table) (sym e.0) (tells.0 e.1)
+
     back : (t : ℕ) → IsSeed table t → (t < s) ⊎ (s ≤ t) → t < s + 1 → IsMet new t
     back t k (inl m) l = met_kept old new g t (all t m k)
     back t k (inr m) l = let e : t ≡ s = omega arith in subst (IsMet new) (sym e) (one (tells.1 (subst (IsSeed table) e k)))
@@ -64,6 +65,7 @@ all_of_use table numbers states h seeds closed s l (inr m) = leads s l m
   where
     from_met : (s b t : ℕ) → b < 256 → to table s b ≡ Some t → IsMet numbers t → IsMet numbers s
     from_met s b t l e m = let p = met_place numbers states h t m in closed p.0 s b p.1 l (e ∙ ap Some (sym p.2))
+
     leads : (s : ℕ) → s < size table → Leads (edges table) s → IsMet numbers s
     leads s l (to_mark {t = t} b k e m) = from_met s b t k e (seeds t (edge_within table s b t e).1 (inl m))
     leads s l (onward {t = t} b k e m) = from_met s b t k e (leads t (edge_within table s b t e).1 m)
@@ -95,6 +97,7 @@ module _ (table : Table) (from : List (Vec ℕ Global)) (preds : ArePredecessors
     where
       place : slice_index new_states j ≡ slice_index old_states j
       place = (place_kept old old_states new new_states h k g j (omega arith)).1
+
       go : (j < i) ⊎ (i ≤ j) → IsMet new s
       go (inl x) = met_kept old new g s (closed j s b x n (q ∙ ap Some place))
       go (inr x) =
@@ -118,12 +121,14 @@ pub pruned_by : (old new : Table) (numbers : List ℕ) → new.marks ≡ old.mar
 pruned_by old new numbers marks useful rows = record {
   marks = marks;
   some = λ s k t e. let w = edge_within old s k t e in kept s k t e w.0 w.1 (cases_lt 0 (slice_index numbers t));
-  none = λ s k e. go s k e (cases_lt s (size old)) }
+  none = λ s k e. go s k e (cases_lt s (size old));
+}
   where
     kept : (s k t : ℕ) → to old s k ≡ Some t → s < size old → t < size old → (0 < slice_index numbers t) ⊎ (slice_index numbers t ≤ 0) →
         ((to new s k ≡ Some t) × IsOfUse old t) ⊎ ((to new s k ≡ None) × (IsOfUse old t → ⊥))
     kept s k t e hs ht (inl m) = inl (rows s k hs ∙ ap (kept_target numbers) e ∙ kept_met numbers t m, (useful t ht).0 m)
     kept s k t e hs ht (inr m) = inr (rows s k hs ∙ ap (kept_target numbers) e ∙ kept_unmet numbers t (λ l. omega arith), λ u. let l = (useful t ht).1 u in omega arith)
+
     go : (s k : ℕ) → to old s k ≡ None → (s < size old) ⊎ (size old ≤ s) → to new s k ≡ None
     go s k e (inl l) = rows s k l ∙ ap (kept_target numbers) e
     go s k e (inr l) = let n = ap (λ (v : Vec Mark Global). vec_len v) marks in no_edge new s k (omega arith)

@@ -38,13 +38,15 @@ module _ (old new : Table) (late_only : (s : ℕ) → (mark old s).early ≡ Non
   common : (s leaf : ℕ) → AllAccepted old s leaf → settled.AllAccept (to old) (λ s. to old s 256) (edges old).type_of s leaf
   common s leaf all = record {
     by_byte = λ b l. accepted_there s b leaf (all b (omega arith));
-    by_end = accepted_there s 256 leaf (all 256 (omega arith)) }
+    by_end = accepted_there s 256 leaf (all 256 (omega arith));
+  }
 
   common_back : (s leaf : ℕ) → settled.AllAccept (to old) (λ s. to old s 256) (edges old).type_of s leaf → AllAccepted old s leaf
   common_back s leaf all k l = go (cases_lt k 256)
     where
       there : (k t : ℕ) → to old s k ≡ Some t → (mark old t).accept ≡ Some leaf → accepted old s k ≡ Some leaf
       there k t e a = ap (option_and_then (λ t. (mark old t).accept)) e ∙ a
+
       go : (k < 256) ⊎ (256 ≤ k) → accepted old s k ≡ Some leaf
       go (inl m) = let c = all.by_byte k m in there k c.0 c.1 c.2
       go (inr m) =
@@ -76,14 +78,21 @@ module _ (old new : Table) (late_only : (s : ℕ) → (mark old s).early ≡ Non
       dropped : (a : Option ℕ) → (mark old t).accept ≡ a → (mark new t).accept ≡ None → ((s : ℕ) → s < size old → IsSpare old s (mark new s).early t) →
           settled.IsKept (to old) (λ s. to old s 256) (edges old).type_of (edges new).type_of t
       dropped None q e spare = inl (e ∙ sym q)
-      dropped (Some leaf) q e spare = inr (leaf, q, e, λ s step.
-          let k = step_symbol s t step in
-          sym (spare s (edge_within old s k.0 t k.1).0 k.0 k.1) ∙ q)
+      dropped (Some leaf) q e spare = inr (
+        leaf,
+        q,
+        e,
+        λ s step.
+            let k = step_symbol s t step in
+            sym (spare s (edge_within old s k.0 t k.1).0 k.0 k.1) ∙ q,
+      )
+
       inside : ((((mark new t).accept ≡ (mark old t).accept) × ((s : ℕ) × (s < size old) × IsNeeded old s (mark new s).early t))
           ⊎ (((mark new t).accept ≡ None) × ((s : ℕ) → s < size old → IsSpare old s (mark new s).early t))) →
           settled.IsKept (to old) (λ s. to old s 256) (edges old).type_of (edges new).type_of t
       inside (inl x) = inl x.0
       inside (inr x) = dropped (mark old t).accept refl x.0 x.1
+
       go : (t < size old) ⊎ (size old ≤ t) → settled.IsKept (to old) (λ s. to old s 256) (edges old).type_of (edges new).type_of t
       go (inl l) = inside (h.late t l)
       go (inr l) = inl (ap (λ (m : Mark). m.accept) (unmarked_past new t (let n = h.states in omega arith) ∙ sym (unmarked_past old t l)))
@@ -101,7 +110,8 @@ module _ (old new : Table) (h : IsPrunedTable old new) where
   is_pruned = record {
     types = λ s. ap (λ (m : _). type_of (mark_in m s)) (ap (λ (v : _). v.items) h.marks);
     edges = λ s b l. kept_edge s b (to old s b) refl;
-    ends = λ s. kept_edge s 256 (to old s 256) refl }
+    ends = λ s. kept_edge s 256 (to old s 256) refl;
+  }
 
 -- The merged and numbered states, as a map.
 module _ (old new : Table) (splits : List Split) (block leader : ℕ → ℕ) (root : ℕ) (states : List ℕ) (m : IsMerged old splits block leader) (n : IsNumbered old block leader root states new) where
@@ -153,7 +163,8 @@ module _ (old new : Table) (splits : List Split) (block leader : ℕ → ℕ) (r
     types = same_type;
     edges = λ s b l i. same_edge s b i;
     ends = λ s i. same_edge s 256 i;
-    end_types = λ s t i e. same_type t (stays_in s t 256 i e) }
+    end_types = λ s t i e. same_type t (stays_in s t 256 i e);
+  }
 
   pub root_met : root < size old → IsIn root × (number root ≡ 0)
   root_met l =

@@ -45,8 +45,11 @@ Steps-free (character r) h f g x M d p s = s
 Steps-free (look l) h f g x M d p s = absurd h
 Steps-free (cat a b) h f g x M d p s =
     ⊎_elim (λ u. inl (u.0, Steps-free a h.0 f g x M d p u.1))
-    (λ u. inr (u.0, Steps-free b h.1 f g x (λ q. M (width a + q)) (Exits a g M d) (p - width a)
-    (Steps-map b f x _ _ (Exits a f M d) (Exits a g M d) (p - width a) (λ q lt v. v) (Exits-free a h.0 f g M d) u.1))) s
+    (λ u. inr (
+      u.0,
+      Steps-free b h.1 f g x (λ q. M (width a + q)) (Exits a g M d) (p - width a)
+          (Steps-map b f x _ _ (Exits a f M d) (Exits a g M d) (p - width a) (λ q lt v. v) (Exits-free a h.0 f g M d) u.1),
+    )) s
 Steps-free (alt a b) h f g x M d p s =
     ⊎_elim (λ u. inl (u.0, Steps-free a h.0 f g x M d p u.1))
     (λ u. inr (u.0, Steps-free b h.1 f g x (λ q. M (width a + q)) d (p - width a) u.1)) s
@@ -96,13 +99,22 @@ module _ (w : List ℕ) where
   StepsIn-marked (t ∷ ts) m x q is = (
     λ s. ⊎_elim
         (λ u. inl (u.0, (x, is, Steps-map t (holds_at w m) x (MarkedIn (t ∷ ts) w m) (Marked t w m) (m ≡ 0) (m ≡ 0) q (λ p lt. (first_marked t ts m p lt).0) (λ e. e) u.1)))
-        (λ u. inr (u.0, (StepsIn-marked ts m x (q - width t) is).0
-        (StepsIn-map ts (holds_at w m) x (λ p. MarkedIn (t ∷ ts) w m (width t + p)) (MarkedIn ts w m) (m ≡ 0) (m ≡ 0) (q - width t) (λ p lt. (rest_marked t ts m p).0) (λ e. e) u.1))) s,
+        (λ u. inr (
+          u.0,
+          (StepsIn-marked ts m x (q - width t) is).0
+              (StepsIn-map ts (holds_at w m) x (λ p. MarkedIn (t ∷ ts) w m (width t + p)) (MarkedIn ts w m) (m ≡ 0) (m ≡ 0) (q - width t) (λ p lt. (rest_marked t ts m p).0) (λ e. e) u.1),
+        )) s,
     λ h. ⊎_elim
-        (λ u. inl (u.0, Steps-map t (holds_at w m) x (Marked t w m) (MarkedIn (t ∷ ts) w m) (m ≡ 0) (m ≡ 0) q (λ p lt. (first_marked t ts m p lt).1) (λ e. e)
-        (subst (λ y. Steps t (holds_at w m) y (Marked t w m) (m ≡ 0) q) (same_Some _ _ (sym u.1.1 ∙ is)) u.1.2)))
-        (λ u. inr (u.0, StepsIn-map ts (holds_at w m) x (MarkedIn ts w m) (λ p. MarkedIn (t ∷ ts) w m (width t + p)) (m ≡ 0) (m ≡ 0) (q - width t) (λ p lt. (rest_marked t ts m p).1) (λ e. e)
-        ((StepsIn-marked ts m x (q - width t) is).1 u.1))) h,
+        (λ u. inl (
+          u.0,
+          Steps-map t (holds_at w m) x (Marked t w m) (MarkedIn (t ∷ ts) w m) (m ≡ 0) (m ≡ 0) q (λ p lt. (first_marked t ts m p lt).1) (λ e. e)
+              (subst (λ y. Steps t (holds_at w m) y (Marked t w m) (m ≡ 0) q) (same_Some _ _ (sym u.1.1 ∙ is)) u.1.2),
+        ))
+        (λ u. inr (
+          u.0,
+          StepsIn-map ts (holds_at w m) x (MarkedIn ts w m) (λ p. MarkedIn (t ∷ ts) w m (width t + p)) (m ≡ 0) (m ≡ 0) (q - width t) (λ p lt. (rest_marked t ts m p).1) (λ e. e)
+              ((StepsIn-marked ts m x (q - width t) is).1 u.1),
+        )) h,
   )
 
   -- the patterns that can be left are those that match
@@ -112,14 +124,16 @@ module _ (w : List ℕ) where
   leaves_match [] (t ∷ ts) h k m = absurd h
   leaves_match (rule ∷ rules) [] h k m = absurd h
   leaves_match (rule ∷ rules) (t ∷ ts) h zero m =
-      iff_trans
-      (Exits-map t (holds_at w m) (MarkedIn (t ∷ ts) w m) (Marked t w m) (m ≡ 0) (m ≡ 0) (λ p lt. (first_marked t ts m p lt).0) (λ e. e),
-      Exits-map t (holds_at w m) (Marked t w m) (MarkedIn (t ∷ ts) w m) (m ≡ 0) (m ≡ 0) (λ p lt. (first_marked t ts m p lt).1) (λ e. e))
+      iff_trans (
+        Exits-map t (holds_at w m) (MarkedIn (t ∷ ts) w m) (Marked t w m) (m ≡ 0) (m ≡ 0) (λ p lt. (first_marked t ts m p lt).0) (λ e. e),
+        Exits-map t (holds_at w m) (Marked t w m) (MarkedIn (t ∷ ts) w m) (m ≡ 0) (m ≡ 0) (λ p lt. (first_marked t ts m p lt).1) (λ e. e),
+      )
       (iff_trans (iff_sym (Marked-exits w t m)) (h.0.matches w 0 m))
   leaves_match (rule ∷ rules) (t ∷ ts) h (suc k) m =
-      iff_trans
-      (ExitsIn-map ts k (holds_at w m) (λ p. MarkedIn (t ∷ ts) w m (width t + p)) (MarkedIn ts w m) (m ≡ 0) (m ≡ 0) (λ p lt. (rest_marked t ts m p).0) (λ e. e),
-      ExitsIn-map ts k (holds_at w m) (MarkedIn ts w m) (λ p. MarkedIn (t ∷ ts) w m (width t + p)) (m ≡ 0) (m ≡ 0) (λ p lt. (rest_marked t ts m p).1) (λ e. e))
+      iff_trans (
+        ExitsIn-map ts k (holds_at w m) (λ p. MarkedIn (t ∷ ts) w m (width t + p)) (MarkedIn ts w m) (m ≡ 0) (m ≡ 0) (λ p lt. (rest_marked t ts m p).0) (λ e. e),
+        ExitsIn-map ts k (holds_at w m) (MarkedIn ts w m) (λ p. MarkedIn (t ∷ ts) w m (width t + p)) (m ≡ 0) (m ≡ 0) (λ p lt. (rest_marked t ts m p).1) (λ e. e),
+      )
       (leaves_match rules ts h.1 k m)
 
   none_marked : (ts : List Core) (q : ℕ) → MarkedIn ts w 0 q → ⊥

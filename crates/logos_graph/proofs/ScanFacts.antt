@@ -90,11 +90,18 @@ module _ (graph : List GraphState) where
     where
       zero_only : (o : Option (ℕ × ℕ)) → mark_n s [] at 0 ≡ o → (k : ℕ) → k ≤ 0 → mark_n s [] at k ≡ o
       zero_only o e k l = ap (mark_n s [] at) (only_zero k l) ∙ e
+
       marked_view : (t : ℕ) → next_at_end graph s ≡ Some t → (o : Option (ℕ × ℕ)) → marked (g.type_of t) at None ≡ o → View s [] at before (marked (g.type_of t) at before)
       marked_view t e None q = inr record { none = zero_only None (mark_end s at t e ∙ q); result_is = mark_none (g.type_of t) at before q }
       marked_view t e (Some p) q = inl record {
-        m = 0; fits = omega arith; mark = p; is = mark_end s at t e ∙ q; last = λ k l n. absurd (omega arith);
-        result_is = mark_over (g.type_of t) at before p q }
+        m = 0;
+        fits = omega arith;
+        mark = p;
+        is = mark_end s at t e ∙ q;
+        last = λ k l n. absurd (omega arith);
+        result_is = mark_over (g.type_of t) at before p q;
+      }
+
       go : (o : Option ℕ) → next_at_end graph s ≡ o → View s [] at before (option_map_or (λ t. marked (g.type_of t) at before) o before)
       go None e = inr record { none = zero_only None (mark_no_end s at e); result_is = refl }
       go (Some t) e = marked_view t e (marked (g.type_of t) at None) refl
@@ -106,23 +113,38 @@ module _ (graph : List GraphState) where
       later : (t : ℕ) → next_by graph s b ≡ Some t → ((k : ℕ) → k ≤ length rest → mark_n t rest (at + 1) k ≡ None) → (k : ℕ) → 0 < k → k ≤ length (b ∷ rest) → mark_n s (b ∷ rest) at k ≡ None
       later t e none zero l n = absurd (omega arith)
       later t e none (suc k) l n = mark_step s b rest at k t e ∙ none k (omega arith)
+
       up : (t m : ℕ) → next_by graph s b ≡ Some t → ((k : ℕ) → m < k → k ≤ length rest → mark_n t rest (at + 1) k ≡ None) → (k : ℕ) → suc m < k → k ≤ length (b ∷ rest) → mark_n s (b ∷ rest) at k ≡ None
       up t m e last zero l n = absurd (omega arith)
       up t m e last (suc k) l n = mark_step s b rest at k t e ∙ last k (omega arith) (omega arith)
+
       all : (t : ℕ) → next_by graph s b ≡ Some t → marked (g.type_of t) at None ≡ None → ((k : ℕ) → k ≤ length rest → mark_n t rest (at + 1) k ≡ None) → (k : ℕ) → k ≤ length (b ∷ rest) → mark_n s (b ∷ rest) at k ≡ None
       all t e q none zero n = mark_here s b rest at t e ∙ q
       all t e q none (suc k) n = mark_step s b rest at k t e ∙ none k (omega arith)
+
       none_after : (t : ℕ) → next_by graph s b ≡ Some t → (result : Option (ℕ × ℕ)) → HasNone t rest (at + 1) (marked (g.type_of t) at before) result →
           (o : Option (ℕ × ℕ)) → marked (g.type_of t) at None ≡ o → View s (b ∷ rest) at before result
       none_after t e result h None q = inr record { none = all t e q h.none; result_is = h.result_is ∙ mark_none (g.type_of t) at before q }
       none_after t e result h (Some p) q = inl record {
-        m = 0; fits = omega arith; mark = p; is = mark_here s b rest at t e ∙ q; last = later t e h.none;
-        result_is = h.result_is ∙ mark_over (g.type_of t) at before p q }
+        m = 0;
+        fits = omega arith;
+        mark = p;
+        is = mark_here s b rest at t e ∙ q;
+        last = later t e h.none;
+        result_is = h.result_is ∙ mark_over (g.type_of t) at before p q;
+      }
+
       step : (t : ℕ) → next_by graph s b ≡ Some t → (result : Option (ℕ × ℕ)) → View t rest (at + 1) (marked (g.type_of t) at before) result → View s (b ∷ rest) at before result
       step t e result (inl h) = inl record {
-        m = suc h.m; fits = let f = h.fits in omega arith; mark = h.mark; is = mark_step s b rest at h.m t e ∙ h.is; last = up t h.m e h.last;
-        result_is = h.result_is }
+        m = suc h.m;
+        fits = let f = h.fits in omega arith;
+        mark = h.mark;
+        is = mark_step s b rest at h.m t e ∙ h.is;
+        last = up t h.m e h.last;
+        result_is = h.result_is;
+      }
       step t e result (inr h) = none_after t e result h (marked (g.type_of t) at None) refl
+
       go : (o : Option ℕ) → next_by graph s b ≡ o → ((s at : ℕ) (before : Option (ℕ × ℕ)) → View s rest at before (last_mark g s rest at before)) →
           View s (b ∷ rest) at before (option_map_or (λ t. last_mark g t rest (at + 1) (marked (g.type_of t) at before)) o before)
       go None e ih = inr record { none = λ k l. mark_stuck s b rest at k e; result_is = refl }
@@ -202,6 +224,7 @@ module _ (graph : List GraphState) where
       where
         agree : (m size : ℕ) → m ≡ v.m → mark_n 0 rest from m ≡ Some (leaf, from + size) → to ≡ from + size → result ≡ Some (leaf, to)
         agree m size e q t = v.result_is ∙ sym v.is ∙ ap (mark_n 0 rest from) (sym e) ∙ q ∙ ap (λ (n : ℕ). Some (leaf, n)) (sym t)
+
         forth : (at : ℕ) → at ≤ length rest + 1 → (size : ℕ) → found.mark_after graph utf8 bytes from at ≡ Some (leaf, size) → to ≡ from + size →
             ((n : ℕ) → at < n → n ≤ length rest + 1 → found.mark_after graph utf8 bytes from n ≡ None) → result ≡ Some (leaf, to)
         forth zero l size e t last = absurd (clash (found.mark_after graph utf8 bytes from 0) (leaf, size) unmarked e)
@@ -211,6 +234,7 @@ module _ (graph : List GraphState) where
             by (inl o) = let f = v.fits in absurd (clash (mark_n 0 rest from v.m) v.mark (none_there v.m (last (suc v.m) (omega arith) (omega arith))) v.is)
             by (inr (inl o)) = absurd (clash (mark_n 0 rest from m) (leaf, from + size) (v.last m o (omega arith)) (there m leaf size e))
             by (inr (inr o)) = agree m size o (there m leaf size e) t
+
         back : result ≡ Some (leaf, to) → found.IsLastMark graph utf8 bytes from leaf to
         back e =
             let p : (leaf, to) ≡ v.mark = cc (v.result_is) in
@@ -221,7 +245,8 @@ module _ (graph : List GraphState) where
               size = s.0;
               mark = s.1 ∙ ap (λ (q : ℕ × ℕ). Some (q.0, s.0)) (sym p);
               end = ap (λ (q : ℕ × ℕ). q.1) p ∙ s.2;
-              last = λ n l m. none_after n l m }
+              last = λ n l m. none_after n l m;
+            }
           where
             none_after : (n : ℕ) → suc v.m < n → n ≤ length rest + 1 → found.mark_after graph utf8 bytes from n ≡ None
             none_after zero l m = absurd (omega arith)
@@ -238,14 +263,17 @@ module _ (graph : List GraphState) where
 
     covers_alike : (to : ℕ) → found.CoversWalk graph utf8 bytes from to ↔ MayEnd g 0 utf8 bytes from to
     covers_alike to = (
-        λ c. record {
-          nonempty = c.nonempty;
-          covers = let f = followed_fits rest 0 in c.covers (followed g 0 rest) f ((walk_followed rest 0 (followed g 0 rest) f).1 (omega arith));
-          boundary = c.boundary },
-        λ c. record {
-          nonempty = c.nonempty;
-          covers = λ n l w. let m = (walk_followed rest 0 n l).0 w in let h = c.covers in omega arith;
-          boundary = c.boundary })
+      λ c. record {
+        nonempty = c.nonempty;
+        covers = let f = followed_fits rest 0 in c.covers (followed g 0 rest) f ((walk_followed rest 0 (followed g 0 rest) f).1 (omega arith));
+        boundary = c.boundary;
+      },
+      λ c. record {
+        nonempty = c.nonempty;
+        covers = λ n l w. let m = (walk_followed rest 0 n l).0 w in let h = c.covers in omega arith;
+        boundary = c.boundary;
+      },
+    )
 
     -- what a graph finds is what its walk finds
     pub finds_alike : (f : Found) → found.GraphFinds graph utf8 bytes from f ↔ GraphFindsByWalk graph utf8 bytes from f
@@ -254,6 +282,7 @@ module _ (graph : List GraphState) where
         let s = same_mark leaf to (last_mark g 0 rest from None) (last_view rest 0 from None) in
         (λ x. (x.0, s.0 x.1), λ x. (x.0, s.1 x.1))
     finds_alike (failed to) =
-        let s = no_mark (last_mark g 0 rest from None) (last_view rest 0 from None) in
-        (λ x. record { starts = x.starts; unmarked = s.0 x.unmarked; may_end = (covers_alike to).0 x.covers; least = λ other m. x.least other ((covers_alike other).1 m) },
-        λ x. record { starts = x.starts; unmarked = s.1 x.unmarked; covers = (covers_alike to).1 x.may_end; least = λ other m. x.least other ((covers_alike other).0 m) })
+        let s = no_mark (last_mark g 0 rest from None) (last_view rest 0 from None) in (
+          λ x. record { starts = x.starts; unmarked = s.0 x.unmarked; may_end = (covers_alike to).0 x.covers; least = λ other m. x.least other ((covers_alike other).1 m) },
+          λ x. record { starts = x.starts; unmarked = s.1 x.unmarked; covers = (covers_alike to).1 x.may_end; least = λ other m. x.least other ((covers_alike other).0 m) },
+        )

@@ -63,21 +63,28 @@ module _ (table : Table) (splits : List Split) (block : ℕ → ℕ) (h : IsHist
     where
       i : ℕ
       i = suc j
+
       inside : i < length splits
       inside = omega arith
+
       next : suc (suc j) ≡ suc j + 1
       next = omega arith
+
       step : AllTold (suc j) → AllTold (suc (suc j))
       step told s t hs ht d' = subst (λ (n : ℕ). ToldWithin (count_blocks (size table) (h.at n)) s t) (sym next) (go (eqb_tells (h.at (suc j) s) (h.at (suc j) t)))
         where
           d : h.at (suc j + 1) s ≢ h.at (suc j + 1) t
           d = subst (λ (n : ℕ). h.at n s ≢ h.at n t) next d'
+
           finer : IsFiner (size table) (h.at (suc j + 1)) (h.at (suc j))
           finer = history_finer (suc j) (omega arith) inside
+
           some : 0 < count_blocks (size table) (h.at (suc j))
           some = blocks_some (size table) (h.at (suc j)) (omega arith)
+
           more : h.at (suc j) s ≡ h.at (suc j) t → count_blocks (size table) (h.at (suc j)) < count_blocks (size table) (h.at (suc j + 1))
           more e = blocks_lt (size table) (h.at (suc j + 1)) (h.at (suc j)) finer s t hs ht e d
+
           apart : h.at (suc j) s ≡ h.at (suc j) t →
               (h.at (suc j + 1) s ≡ h.at (suc j) s) ⊎ ((h.at (suc j + 1) s ≡ suc j) × (h.at (suc j) s ≡ (split_at splits (suc j)).parent)) →
               (h.at (suc j + 1) t ≡ h.at (suc j) t) ⊎ ((h.at (suc j + 1) t ≡ suc j) × (h.at (suc j) t ≡ (split_at splits (suc j)).parent)) →
@@ -88,6 +95,7 @@ module _ (table : Table) (splits : List Split) (block : ℕ → ℕ) (h : IsHist
               by_symbol (suc j) _ s t (split_at splits (suc j)).symbol told (more e) some hs ht (h.parted (suc j) s t (omega arith) inside hs ht a.0 (b ∙ sym e ∙ a.1))
           apart e (inl a) (inr b) =
               turned _ t s (by_symbol (suc j) _ t s (split_at splits (suc j)).symbol told (more e) some ht hs (h.parted (suc j) t s (omega arith) inside ht hs b.0 (a ∙ e ∙ b.1)))
+
           go : ((nat_eq (h.at (suc j) s) (h.at (suc j) t) ≡ true) × (h.at (suc j) s ≡ h.at (suc j) t)) ⊎ ((nat_eq (h.at (suc j) s) (h.at (suc j) t) ≡ false) × (h.at (suc j) s ≢ h.at (suc j) t)) →
               ToldWithin (count_blocks (size table) (h.at (suc j + 1))) s t
           go (inl e) = apart e.1 (h.step (suc j) s (omega arith) inside hs) (h.step (suc j) t (omega arith) inside ht)
@@ -156,7 +164,8 @@ module _ (old new : Table) (splits : List Split) (block leader : ℕ → ℕ) (r
     last = λ i l. let p = lead_in i l in h.last (lead i) p.0 ∙ p.1;
     below = λ j i p q l. h.below j (lead i) p q (lead_in i l).0;
     step = λ j i p q l. h.step j (lead i) p q (lead_in i l).0;
-    parted = λ j i g p q l m e f. apart j i g (split_at splits j).symbol p q l m (h.parted j (lead i) (lead g) p q (lead_in i l).0 (lead_in g m).0 e f) }
+    parted = λ j i g p q l m e f. apart j i g (split_at splits j).symbol p q l m (h.parted j (lead i) (lead g) p q (lead_in i l).0 (lead_in g m).0 e f);
+  }
     where
       apart : (j i g : ℕ) (k : Option ℕ) → 0 < j → j < length splits → i < size new → g < size new → ArePartedBy old (h.at j) k (lead i) (lead g) → ArePartedBy new (λ i. h.at j (lead i)) k i g
       apart j i g None p q l m d = λ e. d (sym (n.marks i (in_states i l)) ∙ e ∙ n.marks g (in_states g m))

@@ -2,8 +2,8 @@
 
 #![tactic(auto)]
 
-pub mod byte_class;
 mod alike;
+pub mod byte_class;
 mod char_table;
 mod exits;
 pub mod graph;

@@ -23,15 +23,13 @@ mod rows;
 mod table;
 mod twins;
 
-use std::alloc::{AllocError, Global};
-
 pub use blocks::{Blocks, Split};
-pub use table::{Mark, Table};
-
 use marks::settle;
 use merge::{Merged, merge};
 use number::{Numbered, number};
 use prune::prune;
+use std::alloc::{AllocError, Global};
+pub use table::{Mark, Table};
 
 /// A reduced graph, and how its states are told apart.
 #[derive(Drop)]
@@ -60,7 +58,11 @@ pub fn reduce(alloc: Global, table: Table, root: usize) -> Result<Reduced, Alloc
     let Merged { blocks, leaders: _ } = merged;
     let Blocks { of: _, splits } = blocks;
     let Numbered { table, states } = numbered;
-    Ok(Reduced { table, blocks: states, splits })
+    Ok(Reduced {
+        table,
+        blocks: states,
+        splits,
+    })
 }
 
 #[cfg(test)]

@@ -22,25 +22,45 @@ fn fill(row: &mut Row, first: u8, last: u8, entry: u32) {
 }
 
 /// Adds a state that accepts a leaf, or none.
-fn add(marks: &mut Vec<Mark>, rows: &mut Rows, accept: Option<usize>, row: &Row) -> Result<(), AllocError> {
-    marks.push(Mark { accept, early: None })?;
+fn add(
+    marks: &mut Vec<Mark>,
+    rows: &mut Rows,
+    accept: Option<usize>,
+    row: &Row,
+) -> Result<(), AllocError> {
+    marks.push(Mark {
+        accept,
+        early: None,
+    })?;
     rows.push(row)?;
     Ok(())
 }
 
 /// Where a state of a graph leads, if it is there.
 fn target(reduced: &Reduced, s: usize, k: usize) -> Option<usize> {
-    if s < reduced.table.len() && k < 257 { reduced.table.target(s, k) } else { None }
+    if s < reduced.table.len() && k < 257 {
+        reduced.table.target(s, k)
+    } else {
+        None
+    }
 }
 
 /// The early mark of a state of a graph.
 fn early(reduced: &Reduced, s: usize) -> Option<usize> {
-    if s < reduced.table.len() { reduced.table.mark(s).early } else { None }
+    if s < reduced.table.len() {
+        reduced.table.mark(s).early
+    } else {
+        None
+    }
 }
 
 /// The late mark of a state of a graph.
 fn late(reduced: &Reduced, s: usize) -> Option<usize> {
-    if s < reduced.table.len() { reduced.table.mark(s).accept } else { None }
+    if s < reduced.table.len() {
+        reduced.table.mark(s).accept
+    } else {
+        None
+    }
 }
 
 /// The graph of the states that were added, from the first one on.
@@ -57,9 +77,24 @@ fn letters(rt: HostRuntime) -> Result<(), Fail> {
     // `[a-z]+`: 0 nothing read, 1 one letter, 2 more letters, 3 behind the letters, 4 no match
     let mut marks = Vec::new(rt.alloc());
     let mut rows = Rows::new(rt.alloc());
-    add(&mut marks, &mut rows, None, &row(&[(0, 255, 5), (b'a', b'z', 2)], 5))?;
-    add(&mut marks, &mut rows, None, &row(&[(0, 255, 4), (b'a', b'z', 3)], 4))?;
-    add(&mut marks, &mut rows, Some(0), &row(&[(0, 255, 4), (b'a', b'z', 3)], 4))?;
+    add(
+        &mut marks,
+        &mut rows,
+        None,
+        &row(&[(0, 255, 5), (b'a', b'z', 2)], 5),
+    )?;
+    add(
+        &mut marks,
+        &mut rows,
+        None,
+        &row(&[(0, 255, 4), (b'a', b'z', 3)], 4),
+    )?;
+    add(
+        &mut marks,
+        &mut rows,
+        Some(0),
+        &row(&[(0, 255, 4), (b'a', b'z', 3)], 4),
+    )?;
     add(&mut marks, &mut rows, Some(0), &row(&[(0, 255, 5)], 5))?;
     add(&mut marks, &mut rows, None, &row(&[(0, 255, 5)], 5))?;
     let reduced = graph(rt.alloc(), marks, rows)?;
@@ -80,8 +115,18 @@ fn star(rt: HostRuntime) -> Result<(), Fail> {
     // `a*b`: 0 nothing read, 1 behind an `a`, 2 behind the `b`, 3 one more, 4 no match
     let mut marks = Vec::new(rt.alloc());
     let mut rows = Rows::new(rt.alloc());
-    add(&mut marks, &mut rows, None, &row(&[(0, 255, 5), (b'a', b'a', 2), (b'b', b'b', 3)], 5))?;
-    add(&mut marks, &mut rows, None, &row(&[(0, 255, 5), (b'a', b'a', 2), (b'b', b'b', 3)], 5))?;
+    add(
+        &mut marks,
+        &mut rows,
+        None,
+        &row(&[(0, 255, 5), (b'a', b'a', 2), (b'b', b'b', 3)], 5),
+    )?;
+    add(
+        &mut marks,
+        &mut rows,
+        None,
+        &row(&[(0, 255, 5), (b'a', b'a', 2), (b'b', b'b', 3)], 5),
+    )?;
     add(&mut marks, &mut rows, None, &row(&[(0, 255, 4)], 4))?;
     add(&mut marks, &mut rows, Some(0), &row(&[(0, 255, 5)], 5))?;
     add(&mut marks, &mut rows, None, &row(&[(0, 255, 5)], 5))?;
@@ -99,7 +144,12 @@ fn before_the_end(rt: HostRuntime) -> Result<(), Fail> {
     // `a$` of leaf 0 and `a` of leaf 1: behind `a` any byte accepts 1, and the end accepts 0
     let mut marks = Vec::new(rt.alloc());
     let mut rows = Rows::new(rt.alloc());
-    add(&mut marks, &mut rows, None, &row(&[(0, 255, 5), (b'a', b'a', 2)], 5))?;
+    add(
+        &mut marks,
+        &mut rows,
+        None,
+        &row(&[(0, 255, 5), (b'a', b'a', 2)], 5),
+    )?;
     add(&mut marks, &mut rows, None, &row(&[(0, 255, 3)], 4))?;
     add(&mut marks, &mut rows, Some(1), &row(&[(0, 255, 5)], 5))?;
     add(&mut marks, &mut rows, Some(0), &row(&[(0, 255, 5)], 5))?;
@@ -120,8 +170,18 @@ fn no_match(rt: HostRuntime) -> Result<(), Fail> {
     // a pattern that matches nothing: the root alone is left, without edges
     let mut marks = Vec::new(rt.alloc());
     let mut rows = Rows::new(rt.alloc());
-    add(&mut marks, &mut rows, None, &row(&[(0, 255, 3), (b'a', b'a', 2)], 3))?;
-    add(&mut marks, &mut rows, None, &row(&[(0, 255, 3), (b'a', b'a', 1)], 3))?;
+    add(
+        &mut marks,
+        &mut rows,
+        None,
+        &row(&[(0, 255, 3), (b'a', b'a', 2)], 3),
+    )?;
+    add(
+        &mut marks,
+        &mut rows,
+        None,
+        &row(&[(0, 255, 3), (b'a', b'a', 1)], 3),
+    )?;
     add(&mut marks, &mut rows, None, &row(&[(0, 255, 3)], 3))?;
     let reduced = graph(rt.alloc(), marks, rows)?;
     assert_eq!(rt; reduced.table.len(), 1);
@@ -135,9 +195,24 @@ fn by_first_visit(rt: HostRuntime) -> Result<(), Fail> {
     // the tokens `x0`, `x1`, `y0`, `y1`: state 2 is the one to which `y` leads
     let mut marks = Vec::new(rt.alloc());
     let mut rows = Rows::new(rt.alloc());
-    add(&mut marks, &mut rows, None, &row(&[(0, 255, 12), (b'y', b'y', 2), (b'x', b'x', 3)], 12))?;
-    add(&mut marks, &mut rows, None, &row(&[(0, 255, 12), (b'0', b'0', 6), (b'1', b'1', 7)], 12))?;
-    add(&mut marks, &mut rows, None, &row(&[(0, 255, 12), (b'0', b'0', 4), (b'1', b'1', 5)], 12))?;
+    add(
+        &mut marks,
+        &mut rows,
+        None,
+        &row(&[(0, 255, 12), (b'y', b'y', 2), (b'x', b'x', 3)], 12),
+    )?;
+    add(
+        &mut marks,
+        &mut rows,
+        None,
+        &row(&[(0, 255, 12), (b'0', b'0', 6), (b'1', b'1', 7)], 12),
+    )?;
+    add(
+        &mut marks,
+        &mut rows,
+        None,
+        &row(&[(0, 255, 12), (b'0', b'0', 4), (b'1', b'1', 5)], 12),
+    )?;
     add(&mut marks, &mut rows, None, &row(&[(0, 255, 8)], 8))?;
     add(&mut marks, &mut rows, None, &row(&[(0, 255, 9)], 9))?;
     add(&mut marks, &mut rows, None, &row(&[(0, 255, 10)], 10))?;
@@ -165,11 +240,31 @@ fn chain(alloc: Global, len: u32) -> Result<Reduced, Fail>
     let mut marks = Vec::new(alloc);
     let mut rows = Rows::new(alloc);
     for i in 0..len {
-        add(&mut marks, &mut rows, None, &row(&[(0, 255, len + 3), (b'a', b'a', i + 2)], len + 3))?;
+        add(
+            &mut marks,
+            &mut rows,
+            None,
+            &row(&[(0, 255, len + 3), (b'a', b'a', i + 2)], len + 3),
+        )?;
     }
-    add(&mut marks, &mut rows, None, &row(&[(0, 255, len + 2)], len + 2))?;
-    add(&mut marks, &mut rows, Some(0), &row(&[(0, 255, len + 3)], len + 3))?;
-    add(&mut marks, &mut rows, None, &row(&[(0, 255, len + 3)], len + 3))?;
+    add(
+        &mut marks,
+        &mut rows,
+        None,
+        &row(&[(0, 255, len + 2)], len + 2),
+    )?;
+    add(
+        &mut marks,
+        &mut rows,
+        Some(0),
+        &row(&[(0, 255, len + 3)], len + 3),
+    )?;
+    add(
+        &mut marks,
+        &mut rows,
+        None,
+        &row(&[(0, 255, len + 3)], len + 3),
+    )?;
     graph(alloc, marks, rows)
 }
 
