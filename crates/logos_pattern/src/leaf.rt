@@ -88,63 +88,27 @@ impl<'s> Leaf<'s> {
     }
 
     /// The leaf with this priority.
-    pub fn priority(self, priority: usize) -> Leaf<'s>
+    pub fn priority(mut self, priority: usize) -> Leaf<'s>
         ensures { result ≡ record self.entry { priority = priority } }
     {
-        let Leaf {
-            pattern,
-            span,
-            priority: _,
-            kind,
-            callback,
-        } = self;
-        Leaf {
-            pattern,
-            span,
-            priority,
-            kind,
-            callback,
-        }
+        self.priority = priority;
+        self
     }
 
     /// The leaf whose matches give this.
-    pub fn variant_kind(self, kind: VariantKind<'s>) -> Leaf<'s>
+    pub fn variant_kind(mut self, kind: VariantKind<'s>) -> Leaf<'s>
         ensures { result ≡ record self.entry { kind = kind.entry } }
     {
-        let Leaf {
-            pattern,
-            span,
-            priority,
-            kind: _,
-            callback,
-        } = self;
-        Leaf {
-            pattern,
-            span,
-            priority,
-            kind,
-            callback,
-        }
+        self.kind = kind;
+        self
     }
 
     /// The leaf whose matches this is called on.
-    pub fn callback(self, callback: Option<Callback<'s>>) -> Leaf<'s>
+    pub fn callback(mut self, callback: Option<Callback<'s>>) -> Leaf<'s>
         ensures { result ≡ record self.entry { callback = callback.entry } }
     {
-        let Leaf {
-            pattern,
-            span,
-            priority,
-            kind,
-            callback: _,
-        } = self;
-        Leaf {
-            pattern,
-            span,
-            priority,
-            kind,
-            callback,
-        }
+        self.callback = callback;
+        self
     }
 }
 

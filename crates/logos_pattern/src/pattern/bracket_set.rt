@@ -147,20 +147,8 @@ pub(crate) fn lead_ranges(alloc: Global, lead: Lead) -> Result<Vec<Range>, Alloc
 {
     match lead {
         Lead::Dashes(0) => Ok(Vec::new(alloc)),
-        Lead::Dashes(_) => Vec::from_slice(
-            alloc,
-            &[Range {
-                first: 45,
-                last: 45,
-            }],
-        ),
-        Lead::Bracket => Vec::from_slice(
-            alloc,
-            &[Range {
-                first: 93,
-                last: 93,
-            }],
-        ),
+        Lead::Dashes(_) => Vec::from_slice(alloc, &[Range::new(45, 45)]),
+        Lead::Bracket => Vec::from_slice(alloc, &[Range::new(93, 93)]),
     }
 }
 

@@ -245,10 +245,7 @@ fn push_char_ranges(out: &mut Vec<Range>, branch: &Hir) -> Result<bool, AllocErr
         }
         Hir::Literal(bytes) => match sole_char(*out.allocator(), bytes)? {
             Some(c) => {
-                out.push(Range {
-                    first: c as u32,
-                    last: c as u32,
-                })?;
+                out.push(Range::new(c as u32, c as u32))?;
                 Ok(true)
             }
             None => Ok(false),
@@ -268,10 +265,7 @@ fn push_byte_ranges(out: &mut Vec<Range>, branch: &Hir) -> Result<bool, AllocErr
         }
         Hir::Literal(bytes) => match bytes.as_slice() {
             [b] => {
-                out.push(Range {
-                    first: *b as u32,
-                    last: *b as u32,
-                })?;
+                out.push(Range::new(*b as u32, *b as u32))?;
                 Ok(true)
             }
             _ => Ok(false),

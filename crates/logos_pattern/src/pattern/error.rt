@@ -105,11 +105,3 @@ impl From<AllocError> for PatternError {
         PatternError::Memory
     }
 }
-
-impl<T: Drop> From<AllocFailed<T>> for PatternError {
-    ghost from_gives = { λ _ e. e ≡ errors.Memory };
-
-    fn from(_e: AllocFailed<T>) -> PatternError {
-        PatternError::Memory
-    }
-}

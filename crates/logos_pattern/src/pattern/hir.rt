@@ -1,5 +1,7 @@
 //! The tree of a pattern. Names are those of regex-syntax.
 
+ghost use Rattle.std.specs.Prelude.{◌≡◌};
+
 /// A condition on the bytes on both sides of a place.
 #[derive(Clone, Copy, Debug, PartialEq, Eq)]
 pub enum Look {
@@ -26,6 +28,15 @@ pub enum Look {
 pub struct Range {
     pub first: u32,
     pub last: u32,
+}
+
+impl Range {
+    /// The range with these ends.
+    pub(crate) fn new(first: u32, last: u32) -> Range
+        ensures { result ≡ record { first = first; last = last } }
+    {
+        Range { first, last }
+    }
 }
 
 /// The members of a class.

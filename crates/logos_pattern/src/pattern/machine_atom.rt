@@ -70,25 +70,13 @@ fn dot_set(alloc: Global, flags: Flags) -> Result<RangeSet, AllocError>
 {
     let last = 0x10_FFFF;
     if flags.dot_all {
-        return RangeSet::from_ranges(alloc, &[Range { first: 0, last }]);
+        return RangeSet::from_ranges(alloc, &[Range::new(0, last)]);
     }
     if flags.crlf {
-        return RangeSet::from_ranges(
-            alloc,
-            &[
-                Range { first: 0, last: 9 },
-                Range {
-                    first: 11,
-                    last: 12,
-                },
-                Range { first: 14, last },
-            ],
-        );
+        let ends = [Range::new(0, 9), Range::new(11, 12), Range::new(14, last)];
+        return RangeSet::from_ranges(alloc, &ends);
     }
-    RangeSet::from_ranges(
-        alloc,
-        &[Range { first: 0, last: 9 }, Range { first: 11, last }],
-    )
+    RangeSet::from_ranges(alloc, &[Range::new(0, 9), Range::new(11, last)])
 }
 
 fn start_look(flags: Flags) -> Look

@@ -146,22 +146,10 @@ fn same(a: &[Range], b: &[Range]) -> bool
 fn is_all(last: u32, ranges: &[Range]) -> bool
     ensures { result ≡ is_all last (pairs ranges.now) }
 {
-    same(ranges, &[Range { first: 0, last }])
-        | same(
-            ranges,
-            &[Range { first: 0, last: 9 }, Range { first: 11, last }],
-        )
-        | same(
-            ranges,
-            &[
-                Range { first: 0, last: 9 },
-                Range {
-                    first: 11,
-                    last: 12,
-                },
-                Range { first: 14, last },
-            ],
-        )
+    let all = [Range::new(0, last)];
+    let but_lf = [Range::new(0, 9), Range::new(11, last)];
+    let but_line_ends = [Range::new(0, 9), Range::new(11, 12), Range::new(14, last)];
+    same(ranges, &all) | same(ranges, &but_lf) | same(ranges, &but_line_ends)
 }
 
 fn is_dot(hir: &Hir) -> bool

@@ -42,129 +42,24 @@ pub(crate) enum PerlKind {
 }
 
 #[tactic(auto, using(std::proofs::lemmas::Bool::Decides::nat_tests))]
-fn ascii_ranges(kind: AsciiKind) -> &'static [Range]
-    ensures { (c : ℕ) → in_ranges (pairs result.now) c ≡ ascii_set kind c }
+fn ascii_runs(kind: AsciiKind) -> &'static [(u32, u32)]
+    ensures { (c : ℕ) → in_ranges result.now c ≡ ascii_set kind c }
 {
     match kind {
-        AsciiKind::Alnum => &[
-            Range {
-                first: 48,
-                last: 57,
-            },
-            Range {
-                first: 65,
-                last: 90,
-            },
-            Range {
-                first: 97,
-                last: 122,
-            },
-        ],
-        AsciiKind::Alpha => &[
-            Range {
-                first: 65,
-                last: 90,
-            },
-            Range {
-                first: 97,
-                last: 122,
-            },
-        ],
-        AsciiKind::Ascii => &[Range {
-            first: 0,
-            last: 127,
-        }],
-        AsciiKind::Blank => &[
-            Range { first: 9, last: 9 },
-            Range {
-                first: 32,
-                last: 32,
-            },
-        ],
-        AsciiKind::Cntrl => &[
-            Range { first: 0, last: 31 },
-            Range {
-                first: 127,
-                last: 127,
-            },
-        ],
-        AsciiKind::Digit => &[Range {
-            first: 48,
-            last: 57,
-        }],
-        AsciiKind::Graph => &[Range {
-            first: 33,
-            last: 126,
-        }],
-        AsciiKind::Lower => &[Range {
-            first: 97,
-            last: 122,
-        }],
-        AsciiKind::Print => &[Range {
-            first: 32,
-            last: 126,
-        }],
-        AsciiKind::Punct => &[
-            Range {
-                first: 33,
-                last: 47,
-            },
-            Range {
-                first: 58,
-                last: 64,
-            },
-            Range {
-                first: 91,
-                last: 96,
-            },
-            Range {
-                first: 123,
-                last: 126,
-            },
-        ],
-        AsciiKind::Space => &[
-            Range { first: 9, last: 13 },
-            Range {
-                first: 32,
-                last: 32,
-            },
-        ],
-        AsciiKind::Upper => &[Range {
-            first: 65,
-            last: 90,
-        }],
-        AsciiKind::Word => &[
-            Range {
-                first: 48,
-                last: 57,
-            },
-            Range {
-                first: 65,
-                last: 90,
-            },
-            Range {
-                first: 95,
-                last: 95,
-            },
-            Range {
-                first: 97,
-                last: 122,
-            },
-        ],
-        AsciiKind::Xdigit => &[
-            Range {
-                first: 48,
-                last: 57,
-            },
-            Range {
-                first: 65,
-                last: 70,
-            },
-            Range {
-                first: 97,
-                last: 102,
-            },
-        ],
+        AsciiKind::Alnum => &[(48, 57), (65, 90), (97, 122)],
+        AsciiKind::Alpha => &[(65, 90), (97, 122)],
+        AsciiKind::Ascii => &[(0, 127)],
+        AsciiKind::Blank => &[(9, 9), (32, 32)],
+        AsciiKind::Cntrl => &[(0, 31), (127, 127)],
+        AsciiKind::Digit => &[(48, 57)],
+        AsciiKind::Graph => &[(33, 126)],
+        AsciiKind::Lower => &[(97, 122)],
+        AsciiKind::Print => &[(32, 126)],
+        AsciiKind::Punct => &[(33, 47), (58, 64), (91, 96), (123, 126)],
+        AsciiKind::Space => &[(9, 13), (32, 32)],
+        AsciiKind::Upper => &[(65, 90)],
+        AsciiKind::Word => &[(48, 57), (65, 90), (95, 95), (97, 122)],
+        AsciiKind::Xdigit => &[(48, 57), (65, 70), (97, 102)],
     }
 }
 
@@ -235,7 +130,7 @@ impl AsciiKind {
 pub(crate) fn ascii_set(alloc: Global, kind: AsciiKind) -> Result<RangeSet, AllocError>
     ensures { IfOk result (λ set. set_of set ≡ only_chars (ascii_set kind)) }
 {
-    RangeSet::from_ranges(alloc, ascii_ranges(kind))
+    RangeSet::from_ranges(alloc, &ranges_of(alloc, ascii_runs(kind))?)
 }
 
 /// The runs as ranges.
@@ -244,10 +139,7 @@ fn ranges_of(alloc: Global, runs: &[(u32, u32)]) -> Result<Vec<Range>, AllocErro
 {
     let mut ranges = Vec::new(alloc);
     for (first, last) in runs {
-        ranges.push(Range {
-            first: *first,
-            last: *last,
-        })?;
+        ranges.push(Range::new(*first, *last))?;
     }
     Ok(ranges)
 }

@@ -1,5 +1,5 @@
 use super::*;
-use crate::pattern::build::{alternation, capture, literal as text_of, repetition};
+use crate::pattern::build::{literal as text_of, repetition};
 use logos_token::token::Span;
 use std::test::Fail;
 
@@ -40,50 +40,12 @@ fn of_literal<'s>(alloc: Global, text: &'s str) -> Result<Pattern<'s>, Memory> {
     }
 }
 
-/// `(?:(?:a{4294967295}){4294967295}){4294967295}`
-fn huge(alloc: Global) -> Result<Hir, AllocError> {
-    let all = u32::MAX;
-    let inner = repetition(alloc, all, Some(all), true, text(alloc, "a")?)?;
-    let middle = repetition(alloc, all, Some(all), true, inner)?;
-    repetition(alloc, all, Some(all), true, middle)
-}
-
-/// Any character, at least so often.
-fn all_characters(alloc: Global, min: u32) -> Result<Hir, AllocError> {
-    let last = 0x10_FFFF;
-    let ranges = vec![in alloc; Range { first: 0, last }]?;
-    repetition(
-        alloc,
-        min,
-        None,
-        true,
-        Hir::Class(Class::Characters(ranges)),
-    )
-}
-
 #[test]
-fn priorities(rt: HostRuntime) -> Result<(), Fail> {
+fn priorities_of_tokens(rt: HostRuntime) -> Result<(), Fail> {
     let alloc = rt.alloc();
-    assert_eq!(rt; of_tree(text(alloc, "rope")?).priority(), Some(8));
-    assert_eq!(rt; of_tree(text(alloc, "\u{E9}")?).priority(), Some(2));
     assert_eq!(rt; token_value(alloc, "\"\u{E9}\"")?, Some(4));
     assert_eq!(rt; token_value(alloc, "\"\\n\"")?, Some(2));
-    assert_eq!(rt; of_tree(huge(alloc)?).priority(), None);
-    let branches = vec![in alloc; text(alloc, "x")?, huge(alloc)?]?;
-    assert_eq!(rt; of_tree(alternation(branches)?).priority(), Some(2));
-    Ok(())
-}
-
-#[test]
-fn greedy_dots(rt: HostRuntime) -> Result<(), Fail> {
-    let alloc = rt.alloc();
-    assert!(rt; of_tree(all_characters(alloc, 0)?).check_for_greedy_all());
-    let captured = capture(alloc, all_characters(alloc, 1)?)?;
-    assert!(rt; of_tree(captured).check_for_greedy_all());
-    let inner = capture(alloc, all_characters(alloc, 0)?)?;
-    let repeated = repetition(alloc, 1, None, true, inner)?;
-    assert!(rt; !of_tree(repeated).check_for_greedy_all());
-    assert!(rt; !of_tree(text(alloc, ".*")?).check_for_greedy_all());
+    assert_eq!(rt; of_literal(alloc, "\"\u{E9}\"")?.priority(), Some(2));
     Ok(())
 }
 

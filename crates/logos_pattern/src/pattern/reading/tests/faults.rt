@@ -1,0 +1,299 @@
+//! What is refused, and where.
+
+use super::*;
+
+#[test]
+fn unclosed_and_unopened(rt: HostRuntime) -> Result<(), Fail> {
+    check(
+        &rt,
+        rt.alloc(),
+        true,
+        r#"
+(a => Unclosed at 0
+a(b(c) => Unclosed at 1
+a(b(c => Unclosed at 3
+[a => Unclosed at 0
+[ => Unclosed at 0
+[a[b => Unclosed at 2
+[a[b] => Unclosed at 0
+([a) => Unclosed at 1
+a{3 => Unclosed at 1
+a{ => Unclosed at 1
+a{3, => Unclosed at 1
+a{3,4 => Unclosed at 1
+\x{41 => Unclosed at 2
+[a-\x{41 => Unclosed at 5
+\p{Zs({\x{ => Unclosed at 2
+[\x{41}-\x{4 => Unclosed at 10
+\p{Zs => Unclosed at 2
+é(?i => Unclosed at 2
+(? => Unclosed at 0
+(?<n => Unclosed at 0
+(?P<n => Unclosed at 0
+(?P => Unclosed at 0
+(?i-m => Unclosed at 0
+(?: => Unclosed at 0
+\P{L => Unclosed at 2
+[^ => Unclosed at 0
+[] => Unclosed at 0
+[a- => Unclosed at 0
+[[:alpha:] => Unclosed at 0
+[[:alpha: => Unclosed at 1
+é([é => Unclosed at 3
+a) => Unopened at 1
+(a))b => Unopened at 3
+) => Unopened at 0
+😀) => Unopened at 4
+"#,
+    )
+}
+
+#[test]
+fn faults_of_operators(rt: HostRuntime) -> Result<(), Fail> {
+    check(
+        &rt,
+        rt.alloc(),
+        true,
+        r#"
+* => NothingToRepeat at 0
+a|* => NothingToRepeat at 2
+(?i)* => NothingToRepeat at 4
+(+) => NothingToRepeat at 1
+{3} => NothingToRepeat at 0
++ => NothingToRepeat at 0
+? => NothingToRepeat at 0
+(?:*) => NothingToRepeat at 3
+(a|?) => NothingToRepeat at 3
+a(?s)+ => NothingToRepeat at 5
+a{x} => CountSyntax at 0
+ab{,3} => CountSyntax at 1
+a{ 3} => CountSyntax at 0
+a{3,x} => CountSyntax at 0
+a{3x} => CountSyntax at 0
+ab{3,2} => CountOrder at 1
+x(ab){3,2} => CountOrder at 1
+x[ab]{3,2} => CountOrder at 1
+xa*{3,2} => CountOrder at 1
+(ab{3,2}) => CountOrder at 2
+(?:ab)(c|de{3,2}) => CountOrder at 10
+x\.{1,0} => CountOrder at 1
+a{3 } => CountSyntax at 0
+a{3, 4} => CountSyntax at 0
+a{-1} => CountSyntax at 0
+a{} => CountSyntax at 0
+a{3,4,5} => CountSyntax at 0
+x(?:ab){,3} => CountSyntax at 1
+a{4294967296} => CountTooLarge at 0
+a{4294967296,} => CountTooLarge at 0
+a{99999999999999999999} => CountTooLarge at 0
+éa{0,4294967296} => CountTooLarge at 2
+"#,
+    )
+}
+
+#[test]
+fn faults_of_groups(rt: HostRuntime) -> Result<(), Fail> {
+    check(
+        &rt,
+        rt.alloc(),
+        true,
+        r#"
+a(?x)a => FlagUnsupported at 1
+(?ix:a) => FlagUnsupported at 0
+(?-x) => FlagUnsupported at 0
+(?I) => FlagSyntax at 0
+(?i m) => FlagSyntax at 0
+(?i--m) => FlagSyntax at 0
+(?-:a) => FlagSyntax at 0
+(?i-:a) => FlagSyntax at 0
+(?RR) => FlagSyntax at 0
+(?uU-sS) => FlagSyntax at 0
+é(?q) => FlagSyntax at 2
+(?q) => FlagSyntax at 0
+(?) => FlagSyntax at 0
+(?i-) => FlagSyntax at 0
+(?-) => FlagSyntax at 0
+(?ii) => FlagSyntax at 0
+(?i-i) => FlagSyntax at 0
+(?i-m-s) => FlagSyntax at 0
+(?P=n) => FlagSyntax at 0
+(?P>n) => FlagSyntax at 0
+(?&n) => FlagSyntax at 0
+a(?=b) => GroupSyntax at 1
+a(?!b) => GroupSyntax at 1
+(?<=a)b => GroupSyntax at 0
+(?<!a)b => GroupSyntax at 0
+(?<>a) => GroupSyntax at 0
+(?<1n>a) => GroupSyntax at 0
+(?P<n m>a) => GroupSyntax at 0
+(?<.n>a) => GroupSyntax at 0
+(?<n-m>a) => GroupSyntax at 0
+(?<n>a)(?<n>b) => GroupSyntax at 7
+(?<n>a(?P<n>b)) => GroupSyntax at 6
+"#,
+    )
+}
+
+#[test]
+fn faults_of_escapes(rt: HostRuntime) -> Result<(), Fail> {
+    check(
+        &rt,
+        rt.alloc(),
+        true,
+        r#"
+a\q => EscapeUnknown at 1
+é\ => EscapeUnknown at 2
+\1 => EscapeUnknown at 0
+\é => EscapeUnknown at 0
+\e => EscapeUnknown at 0
+\Q => EscapeUnknown at 0
+\Z => EscapeUnknown at 0
+\0 => EscapeUnknown at 0
+\k<n> => EscapeUnknown at 0
+[\q] => EscapeUnknown at 1
+[\b] => EscapeUnknown at 1
+[a\b] => EscapeUnknown at 2
+[\A] => EscapeUnknown at 1
+[\z] => EscapeUnknown at 1
+[\B] => EscapeUnknown at 1
+\x4 => HexSyntax at 0
+\xZZ => HexSyntax at 0
+\x{} => HexSyntax at 0
+\u{G} => HexSyntax at 0
+\x{41( => HexSyntax at 0
+\u004 => HexSyntax at 0
+\x => HexSyntax at 0
+\U0000004 => HexSyntax at 0
+\u{ 41} => HexSyntax at 0
+[a\xG0] => HexSyntax at 2
+\x{DFFF} => HexNotScalar at 0
+\u{110000} => HexNotScalar at 0
+\x{FFFFFFFFFFFFFFFFF} => HexNotScalar at 0
+[a\uDC00] => HexNotScalar at 2
+\x{D800} => HexNotScalar at 0
+\uD800 => HexNotScalar at 0
+\U00110000 => HexNotScalar at 0
+\p{zzz} => UnknownProperty at 0
+a\pX => UnknownProperty at 1
+\P => UnknownProperty at 0
+[a\p{zzz}] => UnknownProperty at 2
+[a\p{sc=Greek}] => PropertyForm at 2
+\p => UnknownProperty at 0
+\p^ => UnknownProperty at 0
+\p: => UnknownProperty at 0
+\p{} => UnknownProperty at 0
+\p{Script=Greek} => PropertyForm at 0
+\p{Script:Greek} => PropertyForm at 0
+\p{Script!=Greek} => PropertyForm at 0
+\p{^Zs} => PropertyForm at 0
+a\b => UnicodeWordBoundary at 1
+a\B => UnicodeWordBoundary at 1
+\b{start} => WordBoundaryForm at 0
+\<a => WordBoundaryForm at 0
+\>a => WordBoundaryForm at 0
+(?-u)\b{start} => WordBoundaryForm at 5
+(?-u)\b{2} => WordBoundaryForm at 5
+(?-u)\< => WordBoundaryForm at 5
+(?-u:\b)\b => UnicodeWordBoundary at 8
+\B{2} => UnicodeWordBoundary at 0
+"#,
+    )
+}
+
+#[test]
+fn faults_of_brackets(rt: HostRuntime) -> Result<(), Fail> {
+    check(
+        &rt,
+        rt.alloc(),
+        true,
+        r#"
+[z-a] => ClassRange at 1
+[xa-\d] => ClassRange at 2
+[\d-z] => ClassRange at 1
+[éb-a] => ClassRange at 3
+[x[b-a]] => ClassRange at 3
+[\x62-\x61] => ClassRange at 1
+[a-\pL] => ClassRange at 1
+[\p{Zs}-z] => ClassRange at 1
+(?-u)\p{Zs} => NotInBytes at 5
+(?-u)\p{zzz} => NotInBytes at 5
+(?-u)[é] => NotInBytes at 6
+(?-u)[a-é] => NotInBytes at 6
+(?-u)[\u00E9] => NotInBytes at 6
+(?-u)[a\p{Zs}] => NotInBytes at 7
+(?-u)\pX => NotInBytes at 5
+(?-u)\P{^L} => NotInBytes at 5
+(?-u)[\p{sc=Greek}] => NotInBytes at 6
+(?-u)[\x{80}] => NotInBytes at 6
+(?-u)[[aé]] => NotInBytes at 8
+"#,
+    )
+}
+
+/// The text `before`, so many times `middle`, and `after`.
+fn repeated(
+    alloc: Global,
+    before: &str,
+    middle: &str,
+    times: usize,
+    after: &str,
+) -> Result<String, AllocError> {
+    let mut text = String::new(alloc);
+    text.push_str(before)?;
+    for _ in 0..times {
+        text.push_str(middle)?;
+    }
+    text.push_str(after)?;
+    Ok(text)
+}
+
+fn is_too_deep(alloc: Global, regex: &str) -> bool {
+    let read = Pattern::compile(alloc, false, regex, regex, true, false);
+    matches!(read, Err(PatternError::LimitPatternNesting))
+}
+
+fn is_read(alloc: Global, regex: &str) -> bool {
+    Pattern::compile(alloc, false, regex, regex, true, false).is_ok()
+}
+
+/// So many openings, and as many ends.
+fn nested(
+    alloc: Global,
+    open: &str,
+    inside: &str,
+    close: &str,
+    times: usize,
+) -> Result<String, AllocError> {
+    let ends = repeated(alloc, inside, close, times, "")?;
+    repeated(alloc, "", open, times, &ends)
+}
+
+#[test]
+fn nesting(rt: HostRuntime) -> Result<(), Fail> {
+    let alloc = rt.alloc();
+    assert!(rt; is_read(alloc, &nested(alloc, "(", "a", ")", 250)?));
+    assert!(rt; is_too_deep(alloc, &nested(alloc, "(", "a", ")", 251)?));
+    assert!(rt; is_read(alloc, &nested(alloc, "(?:", "a", ")", 250)?));
+    assert!(rt; is_too_deep(alloc, &nested(alloc, "(?:", "a", ")", 251)?));
+    assert!(rt; is_read(alloc, &nested(alloc, "[", "a", "]", 250)?));
+    assert!(rt; is_too_deep(alloc, &nested(alloc, "[", "a", "]", 251)?));
+    assert!(rt; is_read(alloc, &repeated(alloc, "a", "+", 250, "")?));
+    assert!(rt; is_too_deep(alloc, &repeated(alloc, "a", "+", 251, "")?));
+    assert!(rt; is_read(alloc, &repeated(alloc, "a", "{1}", 250, "")?));
+    assert!(rt; is_too_deep(alloc, &repeated(alloc, "a", "{0}", 251, "")?));
+    assert!(rt; is_read(alloc, &nested(alloc, "(", "[a]", ")", 249)?));
+    assert!(rt; is_too_deep(alloc, &nested(alloc, "(", "[a]", ")", 250)?));
+    assert!(rt; is_read(alloc, &nested(alloc, "(", "(?i)[[:alpha:]&&a]", ")", 249)?));
+    assert!(rt; is_read(alloc, &nested(alloc, "(", "a", "+)", 125)?));
+    assert!(rt; is_too_deep(alloc, &nested(alloc, "(", "a", "+)", 126)?));
+    assert!(rt; is_too_deep(alloc, &repeated(alloc, "", "(", 300, "")?));
+    assert!(rt; is_read(alloc, &repeated(alloc, "", "(a)", 1000, "")?));
+    assert!(rt; is_read(alloc, &nested(alloc, "(", "a*", ")", 249)?));
+    assert!(rt; is_too_deep(alloc, &nested(alloc, "(", "a*", ")", 250)?));
+    assert!(rt; is_read(alloc, &nested(alloc, "(?i-s:", "a", ")", 250)?));
+    // Counts are read before the limit is looked at.
+    let deep = repeated(alloc, "a", "+", 250, "{3,2}")?;
+    let answer = shown(alloc, true, false, &deep)?;
+    assert_eq!(rt; answer.as_str(), "CountOrder at 0");
+    Ok(())
+}
