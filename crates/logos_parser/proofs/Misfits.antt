@@ -1,20 +1,21 @@
 -- Tokens that do not fit.
-use Rattle.std.proofs.Common.{◌≡◌, ◌⊎◌, ⊎_elim, List, ℕ, refl}
+use Rattle.std.proofs.Common.{◌≡◌, ◌⊎◌, ⊎_elim, inl, inr, List, refl}
 use Rattle.logos_token.specs.declared.token.Span.{Span}
-use Rattle.logos_token.specs.Tokens.{Token, TokenList, identifier, none, also}
+use Rattle.logos_token.specs.Tokens.{TokenList, none, also}
 use Rattle.logos_parser.specs.declared.parser.ReadError.{ReadError}
 use Rattle.logos_parser.specs.declared.parser.ReadError.TheVariants.{NotAnEnum, Grammar, Memory}
-use Rattle.logos_parser.specs.Expected.{BeginsWith, Lacks, IsMark, IsWord}
-use Rattle.logos_parser.specs.Enum.{enum_word, AreVariants, IsVariant, IsVariantMisfit, IsBodyMisfit, IsMisfit}
-use Rattle.logos_parser.specs.Enum.IsMisfit.{name, braces, body, behind}
+use Rattle.logos_parser.specs.Expected.{BeginsWith, Lacks, IsMark, IsOuterDoc, IsName}
+use Rattle.logos_parser.specs.Enum.{AreVariants, IsVariant, IsVariantMisfit, IsBodyMisfit, IsAnnounced, IsEnum, IsMisfit}
+use Rattle.logos_parser.specs.Enum.IsMisfit.{option, name, braces, body, behind}
 use Rattle.logos_parser.specs.Enum.IsBodyMisfit.{variant, after_variant}
-use Rattle.logos_parser.specs.Values.{DefinitionValue}
+use Rattle.logos_parser.specs.Values.{DefinitionValue, EnumValue}
 use Rattle.logos_parser.specs.ReadErrors.{IsRefusal, IfGrammar}
 
--- neither of two kinds of tokens
-pub neither : (Fits Fits' : Token → Type 0) (run : TokenList) (span : Span) → (BeginsWith Fits run → ⊥) → Lacks Fits' run span → Lacks (λ token. Fits token ⊎ Fits' token) run span
-neither Fits Fits' none span h l = (λ b. b, l.1)
-neither Fits Fits' (also token rest) span h l = (⊎_elim h l.0, l.1)
+-- neither an attribute nor a name
+pub no_attribute_nor_name : (run : TokenList) (span : Span) → (BeginsWith (λ first. IsMark 35 first ⊎ IsOuterDoc first) run → ⊥) → Lacks IsName run span →
+    Lacks (λ first. IsMark 35 first ⊎ (IsOuterDoc first ⊎ IsName first)) run span
+no_attribute_nor_name none span h l = (λ b. b, l.1)
+no_attribute_nor_name (also token rest) span h l = (⊎_elim (λ m. h (inl m)) (⊎_elim (λ d. h (inr d)) l.0), l.1)
 
 pub refusal-map : (P Q : Span → Type 0) → ((span : Span) → P span → Q span) → (error : ReadError) → IsRefusal P error → IsRefusal Q error
 refusal-map P Q f (NotAnEnum span) h = h
@@ -40,17 +41,19 @@ IfGrammar-from_refusal P Q f (NotAnEnum span) h = absurd h
 IfGrammar-from_refusal P Q f (Grammar span) h = f span h
 IfGrammar-from_refusal P Q f Memory h = h
 
-pub begins-by : {run rest : TokenList} {text : List ℕ} {span : Span} → run ≡ also (identifier text span) rest → BeginsWith (IsWord text) run
-begins-by e = rw e refl
-
 -- where nothing can be a misfit
 pub memory-from_refusal : (P : Span → Type 0) → ((span : Span) → P span → ⊥) → (error : ReadError) → IsRefusal P error → error ≡ Memory
 memory-from_refusal P f (NotAnEnum span) h = absurd h
 memory-from_refusal P f (Grammar span) h = absurd (f span h)
 memory-from_refusal P f Memory h = refl
 
-pub misfit-begins : (run : TokenList) (span : Span) → IsMisfit run span → BeginsWith (IsWord enum_word) run
-misfit-begins run span (name e l) = begins-by e
-misfit-begins run span (braces e l) = begins-by e
-misfit-begins run span (body e m) = begins-by e
-misfit-begins run span (behind e b g) = begins-by e
+-- an enum and a misfit are only where an enum is announced
+pub enum-announced : (run : TokenList) (value : EnumValue) → IsEnum run value → IsAnnounced run
+enum-announced run value h = (_, h.begun.announced)
+
+pub misfit-announced : (run : TokenList) (span : Span) → IsMisfit run span → IsAnnounced run
+misfit-announced run span (option a e) = a
+misfit-announced run span (name b l) = (_, b.announced)
+misfit-announced run span (braces b l) = (_, b.announced)
+misfit-announced run span (body b m) = (_, b.announced)
+misfit-announced run span (behind b d g) = (_, b.announced)

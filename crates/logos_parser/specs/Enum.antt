@@ -1,72 +1,44 @@
--- An enum: `enum`, a name, and braces with variants. Each variant is a name behind any number of `#[token(..)]`.
-use Rattle.std.specs.Prelude.{◌≡◌, ℕ, List, [], ◌∷◌, ◌++◌, map, codes, ◌⊎◌}
+-- An enum: attributes, a visibility, `enum`, a name, and braces with variants. Each variant is a name behind attributes.
+use Rattle.std.specs.Prelude.{◌≡◌, ℕ, List, [], ◌++◌, map, ◌⊎◌, true, Some, unwrap_or, if◌then◌else◌, Ok, Err, IsTrue}
 use Rattle.logos_token.specs.declared.token.Span.{Span}
 use Rattle.logos_token.specs.declared.token.Spacing.{Spacing}
-use Rattle.logos_token.specs.declared.token.Delimiter.TheVariants.{Parenthesis, Bracket, Brace}
-use Rattle.logos_token.specs.Tokens.{Token, TokenList, identifier, punctuation, literal, group, none, also}
-use Rattle.logos_parser.specs.Expected.{IsPlainText, IsWord, IsName, IsMark, IsLiteral, IsGroup, Lacks, GoesOn}
-use Rattle.logos_parser.specs.Values.{Slice, DefinitionValue, EnumValue}
-
-abbrev pub enum_word : List ℕ
-enum_word = codes "enum"
-
-abbrev pub token_word : List ℕ
-token_word = codes "token"
-
--- `#`
-abbrev pub hash : ℕ
-hash = 35
-
--- `,`
-abbrev pub comma : ℕ
-comma = 44
-
--- what a parenthesis holds: one literal, which is a plain text
-pub record IsArgument (run : TokenList) (value : Slice) : Type 0 where
-  pub spelled : run ≡ also (literal value.text value.span) none
-  pub plain : IsPlainText value.text
-
--- `token` and a parenthesis, and behind them the rest
-abbrev pub token_call : Span → Span → TokenList → TokenList → TokenList
-token_call word around inside rest = also (identifier token_word word) (also (group Parenthesis around inside) rest)
-
--- what the brackets of an attribute hold: `token(..)`
-pub record IsToken (run : TokenList) (value : Slice) : Type 0 where
-  pub word : Span
-  pub around : Span
-  pub inside : TokenList
-  pub spelled : run ≡ token_call word around inside none
-  pub literal : IsArgument inside value
+use Rattle.logos_token.specs.declared.token.Delimiter.TheVariants.{Bracket, Brace}
+use Rattle.logos_token.specs.Tokens.{Token, TokenList, identifier, punctuation, doc, group, none, also}
+use Rattle.logos_parser.specs.Expected.{IsName, IsMark, IsOuterDoc, IsGroup, is_outer, Lacks, GoesOn}
+use Rattle.logos_parser.specs.Values.{Slice, of_token, of_regex, PatternValue, DefinitionValue, OptionsValue, EnumValue}
+use Rattle.logos_parser.specs.Attributes.{hash, comma, patterns_in, behind_enum, options_of, no_options}
 
 -- `#` and brackets, and behind them the rest
-abbrev pub attribute : Spacing → Span → Span → TokenList → TokenList → TokenList
-attribute spacing mark around inside rest = also (punctuation hash spacing mark) (also (group Bracket around inside) rest)
+abbrev pub bracketed_by : Spacing → Span → Span → TokenList → TokenList → TokenList
+bracketed_by spacing mark around inside rest = also (punctuation hash spacing mark) (also (group Bracket around inside) rest)
 
--- `#[token(..)]`, and behind it the rest
-pub record IsAttribute (run : TokenList) (value : Slice) (rest : TokenList) : Type 0 where
-  pub spacing : Spacing
-  pub mark : Span
-  pub around : Span
-  pub inside : TokenList
-  pub spelled : run ≡ attribute spacing mark around inside rest
-  pub token : IsToken inside value
+-- an attribute with these patterns, and behind it the rest
+pub data IsAttribute (run : TokenList) : List PatternValue → TokenList → Type 0 where
+  bracketed : {patterns : List PatternValue} {spacing : Spacing} {mark around : Span} {inside rest : TokenList} →
+      run ≡ bracketed_by spacing mark around inside rest → patterns_in inside ≡ Ok patterns → IsAttribute run patterns rest
+  -- a documentation comment has none
+  documented : {text : List ℕ} {span : Span} {rest : TokenList} → run ≡ also (doc text span) rest → IsTrue (is_outer text) → IsAttribute run [] rest
 
--- any number of `#[token(..)]` with these literals, and behind them the rest
-pub data AreAttributes (run : TokenList) : List Slice → TokenList → Type 0 where
+-- any number of attributes with these patterns, and behind them the rest
+pub data AreAttributes (run : TokenList) : List PatternValue → TokenList → Type 0 where
   begun : AreAttributes run [] run
-  further : {literals : List Slice} {middle : TokenList} {value : Slice} {rest : TokenList} →
-      AreAttributes run literals middle → IsAttribute middle value rest → AreAttributes run (literals ++ value ∷ []) rest
+  further : {before patterns : List PatternValue} {middle rest : TokenList} →
+      AreAttributes run before middle → IsAttribute middle patterns rest → AreAttributes run (before ++ patterns) rest
 
--- one definition for each literal
-abbrev pub variant_definitions : List Slice → Slice → List DefinitionValue
-variant_definitions literals name = map (λ value. record { literal = value; variant = name }) literals
+-- the definition of a variant with this name by a pattern
+abbrev pub variant_definition : Slice → PatternValue → DefinitionValue
+variant_definition name pattern = record { literal = pattern.literal; kind = if pattern.is_regex then of_regex name else of_token name }
+
+-- one definition for each pattern
+abbrev pub variant_definitions : List PatternValue → Slice → List DefinitionValue
+variant_definitions patterns name = map (variant_definition name) patterns
 
 -- a variant with these definitions, and behind it the rest
 pub record IsVariant (run : TokenList) (definitions : List DefinitionValue) (rest : TokenList) : Type 0 where
-  pub literals : List Slice
+  pub patterns : List PatternValue
   pub name : Slice
-  pub attributes : AreAttributes run literals (also (identifier name.text name.span) rest)
-  pub values : definitions ≡ variant_definitions literals name
+  pub attributes : AreAttributes run patterns (also (identifier name.text name.span) rest)
+  pub values : definitions ≡ variant_definitions patterns name
 
 -- variants, each with a comma behind it, and behind them the rest
 pub data AreVariants (run : TokenList) : List DefinitionValue → TokenList → Type 0 where
@@ -80,48 +52,46 @@ pub data IsBody (run : TokenList) : List DefinitionValue → Type 0 where
   open_ended : {before definitions : List DefinitionValue} {middle : TokenList} →
       AreVariants run before middle → IsVariant middle definitions none → IsBody run (before ++ definitions)
 
--- `enum` and a name, and behind them the rest
-abbrev pub enum_named : Span → Slice → TokenList → TokenList
-enum_named keyword name rest = also (identifier enum_word keyword) (also (identifier name.text name.span) rest)
+-- a name, and behind it the rest
+abbrev pub named : Slice → TokenList → TokenList
+named name rest = also (identifier name.text name.span) rest
 
--- `enum`, a name and braces, and nothing behind them
+-- attributes with these options, a visibility and `enum`, and behind them the rest
+pub record IsBegun (run : TokenList) (options : OptionsValue) (rest : TokenList) : Type 0 where
+  pub announced : behind_enum run ≡ Some rest
+  pub said : options_of no_options run ≡ Ok options
+
+-- the enum of this name with these options and these definitions of its variants; without a word about it, inputs are UTF-8
+abbrev pub enum_of : Slice → OptionsValue → List DefinitionValue → EnumValue
+enum_of name options definitions = record { name = name; definitions = options.skips ++ definitions; utf8 = unwrap_or options.utf8 true }
+
+-- attributes, a visibility, `enum`, a name and braces, and nothing behind them
 pub record IsEnum (run : TokenList) (value : EnumValue) : Type 0 where
-  pub keyword : Span
+  pub options : OptionsValue
+  pub rest : TokenList
+  pub begun : IsBegun run options rest
+  pub name : Slice
   pub around : Span
   pub inside : TokenList
-  pub spelled : run ≡ enum_named keyword value.name (also (group Brace around inside) none)
-  pub body : IsBody inside value.definitions
+  pub spelled : rest ≡ named name (also (group Brace around inside) none)
+  pub definitions : List DefinitionValue
+  pub body : IsBody inside definitions
+  pub is : value ≡ enum_of name options definitions
 
--- the first token in a parenthesis that does not fit
-pub data IsArgumentMisfit (run : TokenList) (span : Span) : Type 0 where
-  -- a plain text should stand there
-  other : Lacks IsLiteral run span → IsArgumentMisfit run span
-  -- nothing should stand behind it
-  behind : {value : Slice} {rest : TokenList} → run ≡ also (literal value.text value.span) rest → IsPlainText value.text → GoesOn rest span → IsArgumentMisfit run span
-
--- the first token in the brackets of an attribute that does not fit
-pub data IsTokenMisfit (run : TokenList) (span : Span) : Type 0 where
-  -- `token` should stand there
-  word : Lacks (IsWord token_word) run span → IsTokenMisfit run span
-  -- a parenthesis should
-  parenthesis : {word : Span} {rest : TokenList} → run ≡ also (identifier token_word word) rest → Lacks (IsGroup Parenthesis) rest span → IsTokenMisfit run span
-  -- inside the parenthesis
-  argument : {word around : Span} {inside rest : TokenList} → run ≡ token_call word around inside rest → IsArgumentMisfit inside span → IsTokenMisfit run span
-  -- nothing should stand behind it
-  behind : {word around : Span} {inside rest : TokenList} {value : Slice} →
-      run ≡ token_call word around inside rest → IsArgument inside value → GoesOn rest span → IsTokenMisfit run span
+-- the first token that does not fit, where an attribute of a variant begins
+pub data IsAttributeMisfit (run : TokenList) (span : Span) : Type 0 where
+  -- brackets should stand behind a `#`
+  bracket : {spacing : Spacing} {mark : Span} {rest : TokenList} → run ≡ also (punctuation hash spacing mark) rest → Lacks (IsGroup Bracket) rest span → IsAttributeMisfit run span
+  -- inside the brackets
+  inside : {spacing : Spacing} {mark around : Span} {inside rest : TokenList} → run ≡ bracketed_by spacing mark around inside rest → patterns_in inside ≡ Err span → IsAttributeMisfit run span
 
 -- the first token that does not fit, where a variant should stand
 pub data IsVariantMisfit (run : TokenList) (span : Span) : Type 0 where
-  -- brackets should stand behind a `#`
-  bracket : {literals : List Slice} {spacing : Spacing} {mark : Span} {rest : TokenList} →
-      AreAttributes run literals (also (punctuation hash spacing mark) rest) → Lacks (IsGroup Bracket) rest span → IsVariantMisfit run span
-  -- inside the brackets
-  token : {literals : List Slice} {spacing : Spacing} {mark around : Span} {inside rest : TokenList} →
-      AreAttributes run literals (attribute spacing mark around inside rest) → IsTokenMisfit inside span → IsVariantMisfit run span
-  -- a further `#` or the name should stand behind the attributes
-  name : {literals : List Slice} {rest : TokenList} →
-      AreAttributes run literals rest → Lacks (λ first. IsMark hash first ⊎ IsName first) rest span → IsVariantMisfit run span
+  -- in an attribute
+  attribute : {patterns : List PatternValue} {rest : TokenList} → AreAttributes run patterns rest → IsAttributeMisfit rest span → IsVariantMisfit run span
+  -- a further attribute or the name should stand behind the attributes
+  name : {patterns : List PatternValue} {rest : TokenList} →
+      AreAttributes run patterns rest → Lacks (λ first. IsMark hash first ⊎ (IsOuterDoc first ⊎ IsName first)) rest span → IsVariantMisfit run span
 
 -- the first token in the braces that does not fit
 pub data IsBodyMisfit (run : TokenList) (span : Span) : Type 0 where
@@ -132,15 +102,21 @@ pub data IsBodyMisfit (run : TokenList) (span : Span) : Type 0 where
   after_variant : {before definitions : List DefinitionValue} {middle rest : TokenList} {first : Token} →
       AreVariants run before middle → IsVariant middle definitions (also first rest) → Lacks (IsMark comma) (also first rest) span → IsBodyMisfit run span
 
--- the first token that does not fit, in a run that begins with `enum`
+-- the run has well-formed attributes, perhaps a visibility, and `enum`
+abbrev pub IsAnnounced : TokenList → Type 0
+IsAnnounced run = (rest : TokenList) × (behind_enum run ≡ Some rest)
+
+-- the first token that does not fit, in a run that announces an enum
 pub data IsMisfit (run : TokenList) (span : Span) : Type 0 where
-  -- a name should stand there
-  name : {keyword : Span} {rest : TokenList} → run ≡ also (identifier enum_word keyword) rest → Lacks IsName rest span → IsMisfit run span
-  -- braces should
-  braces : {keyword : Span} {name : Slice} {rest : TokenList} → run ≡ enum_named keyword name rest → Lacks (IsGroup Brace) rest span → IsMisfit run span
+  -- inside a `logos` attribute in front of `enum`
+  option : IsAnnounced run → options_of no_options run ≡ Err span → IsMisfit run span
+  -- a name should stand behind `enum`
+  name : {options : OptionsValue} {rest : TokenList} → IsBegun run options rest → Lacks IsName rest span → IsMisfit run span
+  -- braces should stand behind the name
+  braces : {options : OptionsValue} {name : Slice} {rest : TokenList} → IsBegun run options (named name rest) → Lacks (IsGroup Brace) rest span → IsMisfit run span
   -- inside the braces
-  body : {keyword around : Span} {name : Slice} {inside rest : TokenList} →
-      run ≡ enum_named keyword name (also (group Brace around inside) rest) → IsBodyMisfit inside span → IsMisfit run span
+  body : {options : OptionsValue} {around : Span} {name : Slice} {inside rest : TokenList} →
+      IsBegun run options (named name (also (group Brace around inside) rest)) → IsBodyMisfit inside span → IsMisfit run span
   -- nothing should stand behind them
-  behind : {keyword around : Span} {name : Slice} {inside rest : TokenList} {definitions : List DefinitionValue} →
-      run ≡ enum_named keyword name (also (group Brace around inside) rest) → IsBody inside definitions → GoesOn rest span → IsMisfit run span
+  behind : {options : OptionsValue} {around : Span} {name : Slice} {inside rest : TokenList} {definitions : List DefinitionValue} →
+      IsBegun run options (named name (also (group Brace around inside) rest)) → IsBody inside definitions → GoesOn rest span → IsMisfit run span

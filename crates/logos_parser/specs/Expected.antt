@@ -1,8 +1,8 @@
 -- What a grammar asks of the next token of a run.
-use Rattle.std.specs.Prelude.{◌≡◌, ◌≢◌, ℕ, ◌≤◌, List, [], ◌∷◌, ◌++◌, All}
+use Rattle.std.specs.Prelude.{◌≡◌, ℕ, ◌==◌, ◌&&◌, ◌||◌, not, Bool, false, List, ◌∷◌, IsTrue, Option, Some, None}
 use Rattle.logos_token.specs.declared.token.Span.{Span}
 use Rattle.logos_token.specs.declared.token.Delimiter.{Delimiter}
-use Rattle.logos_token.specs.Tokens.{Token, TokenList, identifier, punctuation, literal, group, none, also, span_of}
+use Rattle.logos_token.specs.Tokens.{Token, TokenList, identifier, punctuation, literal, doc, group, none, also, span_of}
 
 -- an identifier with this text
 abbrev pub IsWord : List ℕ → Token → Type 0
@@ -19,18 +19,25 @@ abbrev pub IsMark : ℕ → Token → Type 0
 IsMark mark (punctuation character spacing span) = character ≡ mark
 IsMark mark _ = ⊥
 
--- a byte from 0x20 to 0x7E that is neither `"` nor `\`
-abbrev pub IsPlain : ℕ → Type 0
-IsPlain byte = (32 ≤ byte) × (byte ≤ 126) × (byte ≢ 34) × (byte ≢ 92)
+-- whether a literal is a string or a byte string: of all literals those that begin with `"`, with `r`, or with `b` and no `'` behind it
+abbrev pub is_text : List ℕ → Bool
+is_text (first ∷ second ∷ rest) = ((first == 34) || (first == 114)) || ((first == 98) && not (second == 39))
+is_text _ = false
 
--- such bytes between quotes: a string that holds what is written
-abbrev pub IsPlainText : List ℕ → Type 0
-IsPlainText text = (inner : List ℕ) × (text ≡ 34 ∷ (inner ++ 34 ∷ [])) × All IsPlain inner
-
--- a literal that is a plain text
+-- such a literal
 abbrev pub IsLiteral : Token → Type 0
-IsLiteral (literal text span) = IsPlainText text
+IsLiteral (literal text span) = IsTrue (is_text text)
 IsLiteral _ = ⊥
+
+-- whether a documentation comment is one of what follows it: its third byte is no `!`
+abbrev pub is_outer : List ℕ → Bool
+is_outer (first ∷ second ∷ third ∷ rest) = not (third == 33)
+is_outer _ = false
+
+-- such a comment
+abbrev pub IsOuterDoc : Token → Type 0
+IsOuterDoc (doc text span) = IsTrue (is_outer text)
+IsOuterDoc _ = ⊥
 
 -- a group that these delimiters enclose
 abbrev pub IsGroup : Delimiter → Token → Type 0
@@ -51,6 +58,11 @@ first_span (also token rest) = span_of token
 abbrev pub Lacks : (Token → Type 0) → TokenList → Span → Type 0
 Lacks Fits run span = (BeginsWith Fits run → ⊥) × (span ≡ first_span run)
 
+-- where the first token is, which should not be there; None where there is none
+abbrev pub end_misfit : TokenList → Option Span
+end_misfit none = None
+end_misfit (also token rest) = Some (span_of token)
+
 -- no token should stand there, and at the span is the first that does
 abbrev pub GoesOn : TokenList → Span → Type 0
-GoesOn run span = (run ≡ none → ⊥) × (span ≡ first_span run)
+GoesOn run span = end_misfit run ≡ Some span

@@ -1,3 +1,4 @@
+pub mod Attributes
 pub mod Enum
 pub mod Expected
 pub mod ReadErrors
