@@ -35,7 +35,7 @@ at_within ks i s h = go ks i h.key h.is
 pub at_once : (ks : List Key) (i : ℕ) (s r : State) → IsAt ks i s → IsAt ks i r → s ≡ r
 at_once ks i s r h g = sym h.same ∙ ap state_of (same_Some _ _ (sym h.is ∙ g.is)) ∙ g.same
 
-after_more : (dfa : Automaton) (o : Option ℕ) (xs ys : List ℕ) → dfa_after dfa o (xs ++ ys) ≡ dfa_after dfa (dfa_after dfa o xs) ys
+pub after_more : (dfa : Automaton) (o : Option ℕ) (xs ys : List ℕ) → dfa_after dfa o (xs ++ ys) ≡ dfa_after dfa (dfa_after dfa o xs) ys
 after_more dfa o [] ys = refl
 after_more dfa o (x ∷ xs) ys = after_more dfa (dfa_next dfa o x) xs ys
 

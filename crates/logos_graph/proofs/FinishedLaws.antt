@@ -1,29 +1,33 @@
 -- What holds of a graph that shows the reduced table of an automaton, beside what it finds.
-use Rattle.std.proofs.Common.{◌≡◌, ◌≢◌, ◌↔◌, ℕ, zero, suc, ◌<◌, ◌≤◌, ◌+◌, ◌-◌, ◌⊎◌, inl, inr, Bool, true, false, nat_eq, slice_index, slice_get, List, [], ◌∷◌, length, vec_len, Option, Some, None, option_map, option_and_then, IsSome, IsSomeAnd, refl, sym, ◌∙◌, ap, subst, arith}
+use Rattle.std.proofs.Common.{◌≡◌, ◌≢◌, ◌↔◌, ℕ, zero, suc, ◌<◌, ◌≤◌, ◌+◌, ◌-◌, ◌⊎◌, inl, inr, Bool, true, false, nat_eq, slice_index, slice_get, List, [], ◌∷◌, length, vec_len, Option, Some, None, option_map, option_and_then, IsSome, IfSome, IsSomeAnd, true≢false, refl, sym, ◌∙◌, ap, subst, arith}
 use Rattle.std.proofs.lemmas.Bool.{cases_lt}
 use Rattle.std.proofs.lemmas.Bool.Decides.{eqb_tells}
-use Rattle.std.proofs.lemmas.List.Elements.{All-nil}
+use Rattle.std.proofs.lemmas.List.Elements.{All-cons, All-nil}
 use Rattle.std.specs.List.{find}
 use Rattle.logos_pattern.specs.Text.{IsBytes}
+use Rattle.logos_graph.specs.FinishedGraph.{IsLate, IsUnmarked, NamesLeaves, IsFit}
 use Rattle.logos_graph.specs.Graph.{StateType, GraphState, is_in, next_by, next_at_end, walk, type_after, TellsApart}
 use Rattle.logos_graph.specs.Least.{IsLeast, IsEvidence}
 use Rattle.logos_graph.specs.Merge.{led, IsMerged, IsHistory}
 use Rattle.logos_graph.specs.Munch.{Rule}
-use Rattle.logos_graph.specs.Reduce.{size, to, mark, type_of, edges, IsNeeded, IsOfUse, IsKeptOrSpare, IsSettled, IsPrunedTable}
+use Rattle.logos_graph.specs.Reduce.{size, to, mark, type_of, edges, AllAccepted, IsNeeded, IsOfUse, IsKeptOrSpare, IsSettled, IsPrunedTable}
 use Rattle.logos_graph.specs.ReduceNumber.{ComesBefore, IsFirstInto, IsNumbered}
 use Rattle.logos_graph.specs.ReduceOrder.{IsMet}
 use Rattle.logos_graph.specs.ReduceShown.{IsReached, IsRaw, Shows}
 use Rattle.logos_graph.specs.Reduced as reduced
 use Rattle.logos_graph.specs.Rows.{target_of}
+use Rattle.logos_graph.specs.View.{AllStart}
 use Rattle.logos_graph.specs.Walk.{Edges, reach, Leads, to_mark, onward, to_end, MarksOneByteLate, edges_of}
 use Rattle.logos_graph.specs.declared.reduce.blocks.Split.{Split}
 use Rattle.logos_graph.specs.declared.reduce.table.Table.{Table}
 use Rattle.logos_graph.proofs.EdgeFacts.{edge_within, edge_symbol, led_symbol, led_target}
 use Rattle.logos_graph.proofs.Finished as fin
 use Rattle.logos_graph.proofs.LeastLemmas.{type_here, evidence}
+use Rattle.logos_graph.proofs.Longest.{no_empty_match, late_root}
 use Rattle.logos_graph.proofs.Maps.{IsMap, map_leads}
 use Rattle.logos_graph.proofs.NumberLemmas.{target_numbered}
 use Rattle.logos_graph.proofs.Pruned.{leads_kept}
+use Rattle.logos_graph.proofs.Raw.{FirstOrNone}
 use Rattle.logos_graph.proofs.ReductionLemmas as red
 use Rattle.logos_graph.proofs.Settled as settle
 use Rattle.logos_graph.proofs.Steps.{first_byte, other_bytes}
@@ -54,6 +58,10 @@ same_state graph s t e [] true =
     ap (λ (o : Option GraphState). option_and_then (λ t. option_map (λ (state : GraphState). state.state_type) (slice_get graph t)) (option_and_then (λ (state : GraphState). state.eoi) o)) e
 same_state graph s t e (b ∷ bytes) ends = let q : next_by graph s b ≡ next_by graph t b = ap (λ (o : Option GraphState). option_and_then (λ (state : GraphState). option_map (λ edge. edge.1) (find (λ edge. is_in edge.0 b) state.normal)) o) e in
     ap (λ (o : Option ℕ). option_and_then (λ t. option_map (λ (state : GraphState). state.state_type) (slice_get graph t)) (option_and_then (λ next. walk graph next bytes ends) o)) q
+
+none_is_none : (o : Option ℕ) → o ≡ None → IsSome o → ⊥
+none_is_none None e s = true≢false (sym s)
+none_is_none (Some x) e s = cc
 
 module _ (raw mid pruned final : Table) (root : ℕ) (splits : List Split) (block leader : ℕ → ℕ) (states : List ℕ)
     (is_raw : IsRaw raw root) (settled : IsSettled raw mid) (prune : IsPrunedTable mid pruned) (merged : IsMerged pruned splits block leader)
@@ -154,20 +162,174 @@ module _ (raw mid pruned final : Table) (root : ℕ) (splits : List Split) (bloc
   pub history : IsHistory final splits (slice_index states)
   history = told.history_numbered pruned final splits block leader root states merged numbered
 
-  some_splits : 0 < length splits
+  pub some_splits : 0 < length splits
   some_splits =
       let n = fin.pruned_size raw mid pruned final root splits block leader states is_raw settled prune merged numbered in
       let r = is_raw.root_in in
       let b = merged.within root (omega arith) in
       omega arith
 
-  different : (s t : ℕ) → s < size final → t < size final → s ≢ t → slice_index states s ≢ slice_index states t
+  pub different : (s t : ℕ) → s < size final → t < size final → s ≢ t → slice_index states s ≢ slice_index states t
   different s t ls lt d e =
       let n = numbered.states_of in
       let p = (numbered.order.placed s (omega arith)).1 in
       let q = (numbered.order.placed t (omega arith)).1 in
       let r = ap (slice_index numbered.numbers) e in
       d (omega arith)
+
+  root_is : IsIn root × (number root ≡ 0)
+  root_is = fin.root_is raw mid pruned final root splits block leader states is_raw settled prune merged numbered
+
+  -- the type of the number of a state
+  number_type : (s : ℕ) → IsIn s → type_of (mark final (number s)) ≡ type_of (mark mid s)
+  number_type s i =
+      red.same_type pruned final splits block leader root states merged numbered s i
+      ∙ (fin.pruned_edges raw mid pruned final root splits block leader states is_raw settled prune merged numbered).types s
+
+  -- the leaf of a late mark that is kept
+  kept_accept : (s leaf : ℕ) → s < size raw → (mark mid s).accept ≡ Some leaf → (mark raw s).accept ≡ Some leaf
+  kept_accept s leaf l e = go (settled.late s l)
+    where
+      go : IsKeptOrSpare raw mid s → (mark raw s).accept ≡ Some leaf
+      go (inl x) = sym x.0 ∙ e
+      go (inr x) = let z = x.0 in absurd (cc)
+
+  no_accept : (s : ℕ) → s < size raw → (mark raw s).accept ≡ None → (mark mid s).accept ≡ None
+  no_accept s l e = go (settled.late s l)
+    where
+      go : IsKeptOrSpare raw mid s → (mark mid s).accept ≡ None
+      go (inl x) = x.0 ∙ e
+      go (inr x) = x.0
+
+  not_late : (type : StateType) → type.accept ≡ None → IsLate type → ⊥
+  not_late type e l = none_is_none type.accept e l.1
+
+  -- a state behind the end has a late mark
+  late_behind : (s u : ℕ) → to raw s 256 ≡ Some u → IsOfUse mid u → IsLate (type_of (mark mid u))
+  late_behind s u e (inr m) = absurd (dead_end s u e m)
+  late_behind s u e (inl (inl m)) = absurd (none_is_none (mark mid u).early (late_end s u e) m)
+  late_behind s u e (inl (inr m)) = (late_end s u e, m)
+
+  -- the type of a state of the final table
+  leader_type : (i : ℕ) → i < size final → (t : ℕ) × IsIn t × (type_of (mark final i) ≡ type_of (mark mid t))
+  leader_type i l =
+      let p = told.lead_number pruned final splits block leader root states merged numbered i l in
+      (leader (slice_index states i), p.0, ap (λ (j : ℕ). type_of (mark final j)) (sym p.1) ∙ number_type (leader (slice_index states i)) p.0)
+
+  in_raw : (s : ℕ) → IsIn s → s < size raw
+  in_raw s i = let n = fin.pruned_size raw mid pruned final root splits block leader states is_raw settled prune merged numbered in let m = i.0 in omega arith
+
+  -- an edge of the first state
+  first_edge_of : (k t : ℕ) → to final 0 k ≡ Some t → (u : ℕ) × (to raw root k ≡ Some u) × IsIn u × (number u ≡ t) × IsOfUse mid u
+  first_edge_of k t e = go (to pruned root k) refl (sym (red.same_edge pruned final splits block leader root states merged numbered root k root_is.0) ∙ ap (λ (j : ℕ). to final j k) root_is.1 ∙ e)
+    where
+      go : (o : Option ℕ) → to pruned root k ≡ o → option_map number o ≡ Some t → (u : ℕ) × (to raw root k ≡ Some u) × IsIn u × (number u ≡ t) × IsOfUse mid u
+      go None q z = absurd (cc)
+      go (Some u) q z =
+          let m = mid_edge root k u q in (
+            u,
+            sym (raw_edge root k) ∙ m.0,
+            red.stays_in pruned final splits block leader root states merged numbered root u k root_is.0 q,
+            let same : number u ≡ t = cc in same,
+            m.1,
+          )
+
+  pub late_after_end : (s t : ℕ) → to final s 256 ≡ Some t → IsLate (type_of (mark final t)) × (to final t 256 ≡ None)
+  late_after_end s t e =
+      let p = final_target s 256 t e in
+      let m = mid_edge (leader (slice_index states s)) 256 p.0 p.1 in
+      let late = late_behind (leader (slice_index states s)) p.0 (sym (raw_edge (leader (slice_index states s)) 256) ∙ m.0) m.1 in
+      let same : type_of (mark final t) ≡ type_of (mark mid p.0) = ap (λ (j : ℕ). type_of (mark final j)) (sym p.3) ∙ number_type p.0 p.2 in
+      (subst IsLate (sym same) late, final_end s t 256 e)
+
+  -- marks name the leaves of the automaton
+  module _ (leaves : ℕ) (named : (s : ℕ) → s < size raw → NamesLeaves leaves (type_of (mark raw s))) where
+    accept_named : (s leaf : ℕ) → s < size raw → (mark raw s).accept ≡ Some leaf → leaf < leaves
+    accept_named s leaf l e = subst (λ (o : Option ℕ). IfSome o (λ leaf. leaf < leaves)) e (named s l).0
+
+    all_named : (s leaf : ℕ) → AllAccepted raw s leaf → leaf < leaves
+    all_named s leaf all = go (to raw s 0) refl (all 0 (omega arith))
+      where
+        go : (o : Option ℕ) → to raw s 0 ≡ o → option_and_then (λ t. (mark raw t).accept) o ≡ Some leaf → leaf < leaves
+        go None q e = absurd (cc)
+        go (Some t) q e = accept_named t leaf (edge_within raw s 0 t q).1 e
+
+    if_some : (o : Option ℕ) → ((leaf : ℕ) → o ≡ Some leaf → leaf < leaves) → IfSome o (λ leaf. leaf < leaves)
+    if_some None f = tt
+    if_some (Some leaf) f = f leaf refl
+
+    mid_named : (s : ℕ) → s < size raw → NamesLeaves leaves (type_of (mark mid s))
+    mid_named s l = (
+      if_some (mark mid s).accept (λ leaf e. accept_named s leaf l (kept_accept s leaf l e)),
+      if_some (mark mid s).early (λ leaf e. all_named s leaf ((settled.early s l leaf).0 e)),
+    )
+
+    pub final_named : (s : ℕ) → s < size final → NamesLeaves leaves (type_of (mark final s))
+    final_named s l = let t = leader_type s l in subst (NamesLeaves leaves) (sym t.2) (mid_named t.0 (in_raw t.0 t.1))
+
+  -- no match is empty
+  module _ (rules : List Rule) (start : AllStart rules) (reads : MarksOneByteLate rules (edges raw) root) where
+    nothing_first : (o : Option ℕ) (bytes : List ℕ) → FirstOrNone rules o bytes 0 0 → o ≡ None
+    nothing_first None bytes f = refl
+    nothing_first (Some leaf) bytes f = absurd (no_empty_match rules leaf bytes 0 (omega arith) start.1 f.matches)
+
+    first_byte_unmarked : (b u : ℕ) → b < 256 → to raw root b ≡ Some u → (mark raw u).accept ≡ None
+    first_byte_unmarked b u l e =
+        let r = reads.by_byte [] b (All-cons (λ b. b < 256) b [] l (All-nil (λ b. b < 256))) in
+        go r.0 r.1 r.2.first
+      where
+        go : (t : ℕ) → option_and_then (λ (t : ℕ). Some t) (to raw root b) ≡ Some t → FirstOrNone rules (mark raw t).accept (b ∷ []) 0 0 → (mark raw u).accept ≡ None
+        go t w f =
+            let z : Some u ≡ Some t = ap (option_and_then (λ (t : ℕ). Some t)) (sym e) ∙ w in
+            let same : u ≡ t = cc in
+            ap (λ (t : ℕ). (mark raw t).accept) same ∙ nothing_first (mark raw t).accept (b ∷ []) f
+
+    first_end_unmarked : (u : ℕ) → to raw root 256 ≡ Some u → (mark raw u).accept ≡ None
+    first_end_unmarked u e =
+        let r = reads.at_end [] (All-nil (λ b. b < 256)) in
+        go r.0 r.1 r.2 r.3 r.4.first
+      where
+        go : (s t : ℕ) → Some root ≡ Some s → to raw s 256 ≡ Some t → FirstOrNone rules (mark raw t).accept [] 0 0 → (mark raw u).accept ≡ None
+        go s t w q f =
+            let from : root ≡ s = cc in
+            let z : Some u ≡ Some t = sym e ∙ ap (λ (s : ℕ). to raw s 256) from ∙ q in
+            let same : u ≡ t = cc in
+            ap (λ (t : ℕ). (mark raw t).accept) same ∙ nothing_first (mark raw t).accept [] f
+
+    first_type : type_of (mark final 0) ≡ type_of (mark mid root)
+    first_type = ap (λ (j : ℕ). type_of (mark final j)) (sym root_is.1) ∙ number_type root root_is.0
+
+    pub first_unmarked : IsUnmarked (type_of (mark final 0))
+    first_unmarked =
+        subst IsUnmarked (sym first_type) (
+          late_root rules start (edges raw) root reads (edges mid).type_of (red.are_settled raw mid is_raw.late_only settled),
+          no_accept root is_raw.root_in is_raw.root_mark,
+        )
+
+    pub first_not_late : (b t : ℕ) → b < 256 → to final 0 b ≡ Some t → ¬ IsLate (type_of (mark final t))
+    first_not_late b t l e = λ late.
+        let x = first_edge_of b t e in
+        let same : type_of (mark final t) ≡ type_of (mark mid x.0) = ap (λ (j : ℕ). type_of (mark final j)) (sym x.3) ∙ number_type x.0 x.2 in
+        not_late (type_of (mark mid x.0)) (no_accept x.0 (in_raw x.0 x.2) (first_byte_unmarked b x.0 l x.1)) (subst IsLate same late)
+
+    pub first_no_end : to final 0 256 ≡ None
+    first_no_end = go (to final 0 256) refl
+      where
+        go : (o : Option ℕ) → to final 0 256 ≡ o → o ≡ None
+        go None q = refl
+        go (Some t) q =
+            let x = first_edge_of 256 t q in
+            absurd (not_late (type_of (mark mid x.0)) (no_accept x.0 (in_raw x.0 x.2) (first_end_unmarked x.0 x.1)) (late_behind root x.0 x.1 x.4))
+
+    pub is_fit : (leaves : ℕ) → ((s : ℕ) → s < size raw → NamesLeaves leaves (type_of (mark raw s))) → IsFit final leaves
+    is_fit leaves named = record {
+      some = let n = numbered.states_of in let m = numbered.some in omega arith;
+      marks = final_named leaves named;
+      ends = late_after_end;
+      first = first_unmarked;
+      first_edges = first_not_late;
+      first_end = first_no_end;
+    }
 
   module _ (graph : List GraphState) (shows : Shows final graph) where
     -- different states are told apart by fewer bytes than there are states
@@ -189,9 +351,6 @@ module _ (raw mid pruned final : Table) (root : ℕ) (splits : List Split) (bloc
 
     abbrev whole_map : IsMap IsIn number (edges pruned) (edges_of graph)
     whole_map = fin.whole_map raw mid pruned final root splits block leader states is_raw settled prune merged numbered graph shows
-
-    root_is : IsIn root × (number root ≡ 0)
-    root_is = fin.root_is raw mid pruned final root splits block leader states is_raw settled prune merged numbered
 
     -- the type of a state of the graph
     has_type : (s : ℕ) (P : StateType → Type 0) → s < size final → P (type_of (mark final s)) → reduced.HasType graph s P
@@ -337,12 +496,6 @@ module _ (raw mid pruned final : Table) (root : ℕ) (splits : List Split) (bloc
     -- the number of a state is that of a state of the table
     number_in : (s : ℕ) → IsIn s → number s < size final
     number_in s i = fin.in_final raw mid pruned final root splits block leader states is_raw settled prune merged numbered graph shows s i
-
-    -- the type of the number of a state
-    number_type : (s : ℕ) → IsIn s → type_of (mark final (number s)) ≡ type_of (mark mid s)
-    number_type s i =
-        red.same_type pruned final splits block leader root states merged numbered s i
-        ∙ (fin.pruned_edges raw mid pruned final root splits block leader states is_raw settled prune merged numbered).types s
 
     -- the state of the table from which a state of the graph comes
     entered_by : (s : ℕ) → 0 < s → s < size final → (t : ℕ) × IsIn t × (number t ≡ s) × IsOfUse mid t

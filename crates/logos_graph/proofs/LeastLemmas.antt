@@ -11,7 +11,7 @@ use Rattle.logos_graph.specs.declared.reduce.table.Mark.{Mark}
 use Rattle.logos_graph.specs.declared.reduce.table.Table.{Table}
 use Rattle.logos_graph.proofs.EdgeFacts.{edge_within, edge_symbol}
 
-same_mark : (a b : Mark) → type_of a ≡ type_of b → a ≡ b
+pub same_mark : (a b : Mark) → type_of a ≡ type_of b → a ≡ b
 same_mark a b e = λ i. record { accept = (e i).accept; early = (e i).early }
 
 module _ (table : Table) (graph : List GraphState) (shows : Shows table graph) where

@@ -68,3 +68,16 @@ pub mod BlockCount
 pub mod Told
 pub mod LeastLemmas
 pub mod FinishedLaws
+pub mod EdgeLemmas
+pub mod StateLemmas
+pub mod LeafLemmas
+pub mod BuildingLemmas
+pub mod TotalLemmas
+pub mod PassableLemmas
+pub mod TopLemmas
+pub mod SetOrder
+pub mod Outside
+pub mod TellingLemmas
+pub mod RawLemmas
+pub mod GraphMade
+pub mod ChartLemmas

@@ -1,17 +1,20 @@
--- Each state of the automaton, but one, has a key of its own.
-use Rattle.std.proofs.Common.{◌≡◌, ℕ, zero, suc, ◌+◌, ◌-◌, ◌<◌, ◌≤◌, ◌↔◌, ◌⊎◌, ◌==◌, Bool, true, false, List, [], ◌∷◌, ◌++◌, length, length-append, append_assoc, append-nil, Option, Some, None, IsSomeAnd, IfSome, slice_get, slice_index_or, get_or, nat_lt, if◌then◌else◌, refl, sym, ap, ◌∙◌, subst, inl, inr, ⊎_elim, arith}
+-- Each state of the automaton has a key of its own.
+use Rattle.std.proofs.Common.{◌≡◌, ℕ, zero, suc, ◌+◌, ◌-◌, ◌<◌, ◌≤◌, ◌↔◌, ◌⊎◌, ◌==◌, Bool, true, false, List, [], ◌∷◌, ◌++◌, length, length-append, append_assoc, append-nil, Option, Some, None, IsSomeAnd, IfSome, slice_get, slice_index_or, get_or, nat_lt, if◌then◌else◌, refl, sym, ap, ◌∙◌, subst, inl, inr, ⊎_elim, true≢false, ◌||◌, IsFalse, arith}
 use Rattle.std.proofs.lemmas.Option.{same_Some, slice_get-get_or}
 use Rattle.logos_pattern.specs.Text.{IsBytes, byte_after}
 use Rattle.logos_pattern.specs.Looks.{is_word}
 use Rattle.logos_graph.specs.Core.{Core, width, At}
 use Rattle.logos_graph.specs.IsCore.{IsCoreOf}
-use Rattle.logos_graph.specs.Keys.{State, state_of, start_state, dead_state, IsAt, AreDistinct, AreReached, IsReached, at_start, nowhere, by_byte, by_end, IsNext, IsLast, is_start, kept_of}
+use Rattle.logos_graph.specs.Keys.{State, state_of, start_state, dead_state, IsAt, AreDistinct, AreReached, IsReached, at_start, by_byte, by_end, IsNext, IsLast, is_start, kept_of}
 use Rattle.logos_graph.specs.Kinds.{kind_of_byte, is_word_byte}
 use Rattle.logos_graph.specs.Marks.{Has, IsRising, IsSet}
 use Rattle.logos_graph.specs.Munch.{Rule, RuleMatches}
 use Rattle.logos_graph.specs.Places as places
 use Rattle.logos_graph.specs.Places.{Place, Read, nothing, upto, whole, IsRead, SameKey, SameAfter, HasRead, seen_kind, HasMoreKeys}
 use Rattle.logos_graph.specs.Rules.{AreRuleCores, AreFree, some_look}
+use Rattle.logos_graph.specs.View.{AllStart}
+use Rattle.logos_graph.specs.Faults.{some_passable}
+use Rattle.logos_pattern.proofs.Laws.{passes}
 use Rattle.logos_graph.specs.Run.{Marked, width_of, StepsIn, ExitsIn, MarkedIn}
 use Rattle.logos_graph.specs.declared.key.Key.{Key}
 use Rattle.logos_graph.specs.declared.look.Kind.{Kind}
@@ -20,7 +23,7 @@ use Rattle.logos_graph.proofs.DfaLemmas.{rising_increases, contains_has}
 use Rattle.logos_graph.proofs.ReadLemmas.{Marked-iff}
 use Rattle.logos_graph.proofs.RunLemmas.{IsAfter, after_nothing, next_after, lists_by_byte, lists_at_end, StepsIn-void, ExitsIn-void}
 use Rattle.logos_graph.proofs.SameMembers.{increasing_same}
-use Rattle.logos_graph.proofs.SeveralLemmas.{none_there}
+use Rattle.logos_graph.proofs.SeveralLemmas.{none_there, no_places}
 use Rattle.logos_graph.proofs.StepLemmas.{iff_trans, iff_sym}
 
 pub same_rising : (xs ys : List ℕ) → IsRising xs → IsRising ys → ((q : ℕ) → Has xs q ↔ Has ys q) → xs ≡ ys
@@ -29,11 +32,11 @@ same_rising xs ys r s same =
     (λ n c. (contains_has ys n).1 ((same n).0 ((contains_has xs n).0 c)))
     (λ n c. (contains_has xs n).1 ((same n).1 ((contains_has ys n).0 c)))
 
-nothing_there : (xs : List ℕ) → ((q : ℕ) → Has xs q → ⊥) → xs ≡ []
+pub nothing_there : (xs : List ℕ) → ((q : ℕ) → Has xs q → ⊥) → xs ≡ []
 nothing_there [] none = refl
 nothing_there (x ∷ xs) none = absurd (none x (record { at = 0; within = omega arith; is = refl }))
 
-same_state_as : (s r : State) → s.places ≡ r.places → s.kind ≡ r.kind → s.matches ≡ r.matches → s ≡ r
+pub same_state_as : (s r : State) → s.places ≡ r.places → s.kind ≡ r.kind → s.matches ≡ r.matches → s ≡ r
 same_state_as s r e f g = λ i. record { places = e i; kind = f i; matches = g i }
 
 -- the kinds of bytes are those of the keys
@@ -73,10 +76,10 @@ module _ (ts : List Core) (looks : Bool) (s : State) (none : s.places ≡ []) (l
       same_state_as next dead_state h.places h.kind
       (nothing_there next.matches (λ k n. ExitsIn-void ts k _ (Has s.places) (is_start s.kind ≡ true) no_place not_begun ((h.matches.has k).0 n)))
 
-no_bytes : IsBytes []
+pub no_bytes : IsBytes []
 no_bytes = λ k d lt. absurd (omega (arith, lt))
 
-one_byte_more : (u : List ℕ) (x : ℕ) → x < 256 → IsBytes u → IsBytes (u ++ x ∷ [])
+pub one_byte_more : (u : List ℕ) (x : ℕ) → x < 256 → IsBytes u → IsBytes (u ++ x ∷ [])
 one_byte_more [] x lt ok zero d l = lt
 one_byte_more [] x lt ok (suc k) d l = absurd (omega (arith, l))
 one_byte_more (y ∷ u) x lt ok zero d l = ok 0 d (omega arith)
@@ -137,7 +140,6 @@ module _ (rules : List Rule) (ts : List Core) (are : AreRuleCores rules ts) (loo
   -- all states but one have a string
   pub string_of : (s : State) → IsReached ts looks s → (s ≡ dead_state) ⊎ ((r : Read) × IsRead rules r × IsStateOf r s)
   string_of _ at_start = inr (nothing, tt, refl)
-  string_of _ nowhere = inl refl
   string_of _ (by_byte s next x lt h step) = go (string_of s h)
     where
       go : (s ≡ dead_state) ⊎ ((r : Read) × IsRead rules r × IsStateOf r s) → (next ≡ dead_state) ⊎ ((r : Read) × IsRead rules r × IsStateOf r next)
@@ -224,99 +226,93 @@ module _ (rules : List Rule) (ts : List Core) (are : AreRuleCores rules ts) (loo
       at_hand : (u : List ℕ) (b : ℕ) (s : State) → IsUpTo rules ts are looks looks_is free u b s → IsAfter (u ++ b ∷ []) ts (suc (length u)) s
       at_hand u b s f = subst (λ w. IsAfter w ts (suc (length u)) s) (append-nil (u ++ b ∷ [])) (f.after [])
 
-lt_of : (a b : ℕ) → nat_lt a b ≡ true → a < b
-lt_of a b e = grind (arith, e)
-
-ge_of : (a b : ℕ) → nat_lt a b ≡ false → b ≤ a
-ge_of a b e = grind (arith, e)
-
--- the numbers but one
-but : ℕ → ℕ → ℕ
-but d i = if nat_lt i d then i else suc i
-
-but_rises : (d i j : ℕ) → i < j → but d i < but d j
-unfolding but
-but_rises d i j lt = go (nat_lt i d) (nat_lt j d) refl refl
-  where
-    go : (a b : Bool) → nat_lt i d ≡ a → nat_lt j d ≡ b → (if a then i else suc i) < (if b then j else suc j)
-    go true true e f = lt
-    go true false e f = omega (arith, lt)
-    go false true e f = let low = lt_of j d f in let high = ge_of i d e in omega (arith, lt, low, high)
-    go false false e f = omega (arith, lt)
-
-but_differs : (d i : ℕ) → but d i ≡ d → ⊥
-unfolding but
-but_differs d i = go (nat_lt i d) refl
-  where
-    go : (a : Bool) → nat_lt i d ≡ a → (if a then i else suc i) ≡ d → ⊥
-    go true e f = let low = lt_of i d e in omega (arith, low, f)
-    go false e f = let high = ge_of i d e in omega (arith, high, f)
-
-but_below : (d i n : ℕ) → suc i < n → but d i < n
-unfolding but
-but_below d i n lt = go (nat_lt i d)
-  where
-    go : (a : Bool) → (if a then i else suc i) < n
-    go true = omega (arith, lt)
-    go false = lt
-
-state_at : (ks : List Key) (i : ℕ) → i < length ks → (s : State) × IsAt ks i s
+pub state_at : (ks : List Key) (i : ℕ) → i < length ks → (s : State) × IsAt ks i s
 state_at [] i lt = absurd (omega (arith, lt))
 state_at (k ∷ ks) zero lt = (state_of k, record { key = k; is = refl; same = refl })
 state_at (k ∷ ks) (suc i) lt = let r = state_at ks i (omega (arith, lt)) in (r.0, record { key = r.1.key; is = r.1.is; same = r.1.same })
 
-module _ (rules : List Rule) (ts : List Core) (are : AreRuleCores rules ts) (looks : Bool) (looks_is : looks ≡ some_look rules) (free : looks ≡ false → AreFree ts)
-    (ks : List Key) (d limit : ℕ) (reached : AreReached ts looks ks) (distinct : AreDistinct ks) (dead_is : IsAt ks d dead_state) (many : suc limit < length ks) where
-  -- the strings of n states from the i-th on
-  record AreStrings (i n : ℕ) (strings : List Read) : Type 0 where
-    count : length strings ≡ n
-    strings_are : (k : ℕ) (x : Read) → k < n →
-        (s : State) × IsAt ks (but d (i + k)) s × IsRead rules (slice_index_or strings k x) × IsStateOf rules ts are looks looks_is free (slice_index_or strings k x) s
+-- no rule matches the empty text, where none can be passed
+none_empty : (rules : List Rule) (leaf : ℕ) (bytes : List ℕ) (at : ℕ) → at ≤ length bytes → IsFalse (some_passable rules) → RuleMatches rules leaf bytes at at → ⊥
+none_empty [] leaf bytes at le f m = m
+none_empty (rule ∷ rules) zero bytes at le f m = true≢false (sym (first_true _ _ (passes rule.tree bytes at le m)) ∙ f)
+  where
+    first_true : (a b : Bool) → a ≡ true → (a || b) ≡ true
+    first_true true b e = refl
+    first_true false b e = cc
+none_empty (rule ∷ rules) (suc leaf) bytes at le f m = none_empty rules leaf bytes at le (rest_false _ _ f) m
+  where
+    rest_false : (a b : Bool) → (a || b) ≡ false → b ≡ false
+    rest_false true b e = absurd (true≢false e)
+    rest_false false b e = e
 
-  strings_from : (n i : ℕ) → i + n ≤ suc limit → (strings : List Read) × AreStrings i n strings
-  strings_from zero i le = ([], record { count = refl; strings_are = λ k x lt. absurd (omega (arith, lt)) })
-  strings_from (suc n) i le =
-      let rest = strings_from n (suc i) (omega (arith, le)) in
-      let here = state_at ks (but d i) (but_below d i (length ks) (omega (arith, le, many))) in
-      let string = known here.0 here.1 (string_of rules ts are looks looks_is free here.0 (reached.reached (but d i) here.0 here.1)) in (
-        string.0 ∷ rest.0,
+module _ (rules : List Rule) (ts : List Core) (are : AreRuleCores rules ts) (looks : Bool) (looks_is : looks ≡ some_look rules) (free : looks ≡ false → AreFree ts) (start : AllStart rules) where
+  -- the end at once leads to the dead state
+  pub dead_at_once : (next : State) → IsLast ts start_state next → next ≡ dead_state
+  dead_at_once next last =
+      let is = whole_of rules ts are looks looks_is free [] start_state next (after_nothing [] ts) last in
+      same_state_as next dead_state is.places is.kind (nothing_there next.matches (λ k h. none_empty rules k [] 0 (omega arith) start.1 ((is.lists k).0 h)))
+
+  -- so each state has a string
+  dead_whole : IsWhole rules ts are looks looks_is free [] dead_state
+  dead_whole = record {
+    places = refl;
+    kind = refl;
+    rising = no_places.rising;
+    lists = λ k. (λ h. absurd (none_there k h), λ m. absurd (none_empty rules k [] 0 (omega arith) start.1 m));
+  }
+
+  each_string : (s : State) → IsReached ts looks s → (r : Read) × IsRead rules r × IsStateOf rules ts are looks looks_is free r s
+  each_string s h = go (string_of rules ts are looks looks_is free s h)
+    where
+      go : (s ≡ dead_state) ⊎ ((r : Read) × IsRead rules r × IsStateOf rules ts are looks looks_is free r s) → (r : Read) × IsRead rules r × IsStateOf rules ts are looks looks_is free r s
+      go (inl e) = (whole [], no_bytes, subst (IsWhole rules ts are looks looks_is free []) (sym e) dead_whole)
+      go (inr r) = r
+
+  module _ (ks : List Key) (limit : ℕ) (reached : AreReached ts looks ks) (distinct : AreDistinct ks) (many : limit < length ks) where
+    -- the strings of n states from the i-th on
+    record AreStrings (i n : ℕ) (strings : List Read) : Type 0 where
+      count : length strings ≡ n
+      strings_are : (k : ℕ) (x : Read) → k < n →
+          (s : State) × IsAt ks (i + k) s × IsRead rules (slice_index_or strings k x) × IsStateOf rules ts are looks looks_is free (slice_index_or strings k x) s
+
+    strings_from : (n i : ℕ) → i + n ≤ suc limit → (strings : List Read) × AreStrings i n strings
+    strings_from zero i le = ([], record { count = refl; strings_are = λ k x lt. absurd (omega (arith, lt)) })
+    strings_from (suc n) i le =
+        let rest = strings_from n (suc i) (omega (arith, le)) in
+        let here = state_at ks i (omega (arith, le, many)) in
+        let string = each_string here.0 (reached.reached i here.0 here.1) in (
+          string.0 ∷ rest.0,
+          record {
+            count = ap suc rest.1.count;
+            strings_are = λ k x lt. go here.0 here.1 string rest.0 rest.1 k x lt;
+          },
+        )
+      where
+        go : (s : State) → IsAt ks i s → (string : (r : Read) × IsRead rules r × IsStateOf rules ts are looks looks_is free r s) → (rest : List Read) → AreStrings (suc i) n rest →
+            (k : ℕ) (x : Read) → k < suc n →
+            (s : State) × IsAt ks (i + k) s × IsRead rules (slice_index_or (string.0 ∷ rest) k x) × IsStateOf rules ts are looks looks_is free (slice_index_or (string.0 ∷ rest) k x) s
+        go s at string rest r zero x lt = let e : i ≡ i + 0 = omega arith in (s, subst (λ j. IsAt ks j s) e at, string.1, string.2)
+        go s at string rest r (suc k) x lt =
+            let e : suc i + k ≡ i + suc k = omega arith in
+            let h = r.strings_are k x (omega (arith, lt)) in
+            (h.0, subst (λ j. IsAt ks j h.0) e h.1, h.2, h.3)
+
+    pub more_keys : HasMoreKeys rules limit
+    more_keys =
+        let all = strings_from (suc limit) 0 (omega arith) in
         record {
-          count = ap suc rest.1.count;
-          strings_are = λ k x lt. go here.0 here.1 string rest.0 rest.1 k x lt;
-        },
-      )
-    where
-      known : (s : State) → IsAt ks (but d i) s → (s ≡ dead_state) ⊎ ((r : Read) × IsRead rules r × IsStateOf rules ts are looks looks_is free r s) →
-          (r : Read) × IsRead rules r × IsStateOf rules ts are looks looks_is free r s
-      known s at (inl e) = absurd (but_differs d i (distinct.distinct (but d i) d dead_state (subst (IsAt ks (but d i)) e at) dead_is))
-      known s at (inr r) = r
-
-      go : (s : State) → IsAt ks (but d i) s → (string : (r : Read) × IsRead rules r × IsStateOf rules ts are looks looks_is free r s) → (rest : List Read) → AreStrings (suc i) n rest →
-          (k : ℕ) (x : Read) → k < suc n →
-          (s : State) × IsAt ks (but d (i + k)) s × IsRead rules (slice_index_or (string.0 ∷ rest) k x) × IsStateOf rules ts are looks looks_is free (slice_index_or (string.0 ∷ rest) k x) s
-      go s at string rest r zero x lt = let e : i ≡ i + 0 = omega arith in (s, subst (λ j. IsAt ks (but d j) s) e at, string.1, string.2)
-      go s at string rest r (suc k) x lt =
-          let e : suc i + k ≡ i + suc k = omega arith in
-          let h = r.strings_are k x (omega (arith, lt)) in
-          (h.0, subst (λ j. IsAt ks (but d j) h.0) e h.1, h.2, h.3)
-
-  pub more_keys : HasMoreKeys rules limit
-  more_keys =
-      let all = strings_from (suc limit) 0 (omega arith) in
-      record {
-        strings = all.0;
-        many = omega (arith, all.1.count);
-        are_bytes = λ i. bytes_of all.0 i (λ x lt. (all.1.strings_are i x (omega (arith, lt, all.1.count))).2);
-        different = λ i j x lt within same.
-            let f = all.1.strings_are i x (omega (arith, lt, within, all.1.count)) in
-            let g = all.1.strings_are j x (omega (arith, within, all.1.count)) in
-            let e = same_key rules ts are looks looks_is free _ _ f.0 g.0 f.3 g.3 same in
-            let one = distinct.distinct (but d (0 + i)) (but d (0 + j)) g.0 (subst (IsAt ks (but d (0 + i))) e f.1) g.1 in
-            let up = but_rises d (0 + i) (0 + j) (omega (arith, lt)) in
-            omega (arith, one, up);
-      }
-    where
-      bytes_of : (strings : List Read) (i : ℕ) → ((x : Read) → i < length strings → IsRead rules (slice_index_or strings i x)) → IfSome (slice_get strings i) (IsRead rules)
-      bytes_of [] i h = tt
-      bytes_of (r ∷ strings) zero h = h nothing (omega arith)
-      bytes_of (r ∷ strings) (suc i) h = bytes_of strings i (λ x lt. h x (omega (arith, lt)))
+          strings = all.0;
+          many = omega (arith, all.1.count);
+          are_bytes = λ i. bytes_of all.0 i (λ x lt. (all.1.strings_are i x (omega (arith, lt, all.1.count))).2);
+          different = λ i j x lt within same.
+              let f = all.1.strings_are i x (omega (arith, lt, within, all.1.count)) in
+              let g = all.1.strings_are j x (omega (arith, within, all.1.count)) in
+              let e = same_key rules ts are looks looks_is free _ _ f.0 g.0 f.3 g.3 same in
+              let one = distinct.distinct (0 + i) (0 + j) g.0 (subst (IsAt ks (0 + i)) e f.1) g.1 in
+              omega (arith, one, lt);
+        }
+      where
+        bytes_of : (strings : List Read) (i : ℕ) → ((x : Read) → i < length strings → IsRead rules (slice_index_or strings i x)) → IfSome (slice_get strings i) (IsRead rules)
+        bytes_of [] i h = tt
+        bytes_of (r ∷ strings) zero h = h nothing (omega arith)
+        bytes_of (r ∷ strings) (suc i) h = bytes_of strings i (λ x lt. h x (omega (arith, lt)))

@@ -25,7 +25,7 @@ rest_false true b e = absurd (cc)
 rest_false false b e = e
 
 -- no rule matches an empty span
-no_empty_match : (rules : List Rule) (leaf : ℕ) (bytes : List ℕ) (at : ℕ) → at ≤ length bytes → IsFalse (some_passable rules) → RuleMatches rules leaf bytes at at → ⊥
+pub no_empty_match : (rules : List Rule) (leaf : ℕ) (bytes : List ℕ) (at : ℕ) → at ≤ length bytes → IsFalse (some_passable rules) → RuleMatches rules leaf bytes at at → ⊥
 no_empty_match [] leaf bytes at l f m = m
 no_empty_match (rule ∷ rules) zero bytes at l f m = either_false _ _ (passes rule.tree bytes at l m) f
 no_empty_match (rule ∷ rules) (suc leaf) bytes at l f m = no_empty_match rules leaf bytes at l (rest_false _ _ f) m

@@ -22,7 +22,7 @@ module _ (table : Table) (splits : List Split) (block : ℕ → ℕ) (h : IsHist
   AllTold j = (s t : ℕ) → s < size table → t < size table → h.at j s ≢ h.at j t → ToldWithin (count_blocks (size table) (h.at j)) s t
 
   -- blocks get finer
-  history_finer : (j : ℕ) → 0 < j → j < length splits → IsFiner (size table) (h.at (j + 1)) (h.at j)
+  pub history_finer : (j : ℕ) → 0 < j → j < length splits → IsFiner (size table) (h.at (j + 1)) (h.at j)
   history_finer j p l s t hs ht e = go (h.step j s p l hs) (h.step j t p l ht)
     where
       go : (h.at (j + 1) s ≡ h.at j s) ⊎ ((h.at (j + 1) s ≡ j) × (h.at j s ≡ (split_at splits j).parent)) →

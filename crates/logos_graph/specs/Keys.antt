@@ -1,6 +1,6 @@
 -- States of the automaton, by what they keep of the bytes read.
-use Rattle.std.specs.Prelude.{◌≡◌, ℕ, ◌+◌, ◌<◌, ◌≤◌, Bool, true, false, IsTrue, List, [], ◌∷◌, Option, Some, None, length, map, slice_get, slice_index, slice_index_or}
-use Rattle.logos_graph.specs.Core.{Core, IsFree}
+use Rattle.std.specs.Prelude.{◌≡◌, ℕ, ◌+◌, ◌<◌, ◌≤◌, Bool, true, false, IsTrue, List, [], ◌∷◌, Some, None, length, map, slice_get, slice_index, slice_index_or}
+use Rattle.logos_graph.specs.Core.{Core}
 use Rattle.logos_graph.specs.Kinds.{test_at, kind_of_byte}
 use Rattle.logos_graph.specs.Marks.{Has, IsRising}
 use Rattle.logos_graph.specs.Several.{ReadBy, LeftBy}
@@ -75,7 +75,6 @@ pub record AreDistinct (ks : List Key) : Type 0 where
 -- what can be reached from the start
 pub data IsReached (ts : List Core) (looks : Bool) : State → Type 0 where
   at_start : IsReached ts looks start_state
-  nowhere : IsReached ts looks dead_state
   by_byte : (s next : State) (x : ℕ) → x < 256 → IsReached ts looks s → IsNext ts looks s x next → IsReached ts looks next
   by_end : (s next : State) → IsReached ts looks s → IsLast ts s next → IsReached ts looks next
 

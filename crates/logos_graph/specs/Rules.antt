@@ -1,5 +1,5 @@
 -- The written-out patterns of rules.
-use Rattle.std.specs.Prelude.{◌≡◌, ℕ, ◌<◌, Bool, false, List, [], ◌∷◌, length}
+use Rattle.std.specs.Prelude.{Bool, List, [], ◌∷◌}
 use Rattle.std.specs.List.{list_any}
 use Rattle.logos_graph.specs.Core.{Core, IsFree}
 use Rattle.logos_graph.specs.IsCore.{IsCoreOf}

@@ -1,5 +1,5 @@
 -- What contracts see of a graph, of the automaton it was made from, and of leaves.
-use Rattle.std.specs.Prelude.{◌≡◌, ℕ, ◌↔◌, Bool, List, [], ◌∷◌, ◌++◌, map, length, Option, Some, IsFalse, Contains, slice_get, option_and_then}
+use Rattle.std.specs.Prelude.{◌≡◌, ℕ, ◌<◌, ◌≤◌, ◌↔◌, ◌⊎◌, Bool, List, [], ◌∷◌, ◌++◌, map, length, Option, None, Some, IsFalse, Contains, slice_get, option_and_then}
 use Rattle.std.specs.List.Sorted.{IsStrictlyIncreasing}
 use Rattle.logos_pattern.specs.Leaf.{pattern_tree, is_skip, asks}
 use Rattle.logos_pattern.specs.Text.{IsBytes}
@@ -55,6 +55,24 @@ pub record ReadsOneByteLate (rules : List Rule) (dfa : Automaton) : Type 0 where
       Lists dfa (dfa_after dfa (Some dfa.start) (bytes ++ b ∷ [])) (λ leaf. RuleMatches rules leaf (bytes ++ b ∷ []) 0 (length bytes))
   pub at_end : (bytes : List ℕ) → IsBytes bytes →
       Lists dfa (dfa_at_end dfa bytes) (λ leaf. RuleMatches rules leaf bytes 0 (length bytes))
+
+-- Each state has a target by each byte and by the end, and is behind some bytes, or behind some bytes and the end. The start
+-- lists nothing, and behind the end comes the dead state, which lists nothing and leads to itself alone.
+pub record IsTotal (dfa : Automaton) : Type 0 where
+  pub start_lists : slice_get dfa.matches dfa.start ≡ Some []
+  pub rows : length dfa.by_byte ≡ length dfa.matches
+  pub ends : length dfa.at_end ≡ length dfa.matches
+  pub next : (s b : ℕ) → s < length dfa.matches → b < 256 → (t : ℕ) × (dfa_next dfa (Some s) b ≡ Some t) × (t < length dfa.matches)
+  pub no_next : (s b : ℕ) → 256 ≤ b → dfa_next dfa (Some s) b ≡ None
+  pub at_end : (s : ℕ) → s < length dfa.matches → (t : ℕ) × (slice_get dfa.at_end s ≡ Some t) × (t < length dfa.matches)
+  pub reached : (s : ℕ) → s < length dfa.matches →
+      (bytes : List ℕ) × IsBytes bytes × ((dfa_after dfa (Some dfa.start) bytes ≡ Some s) ⊎ (dfa_at_end dfa bytes ≡ Some s))
+  pub dead : ℕ
+  pub dead_lists : slice_get dfa.matches dead ≡ Some []
+  pub dead_next : (b : ℕ) → b < 256 → dfa_next dfa (Some dead) b ≡ Some dead
+  pub dead_end : slice_get dfa.at_end dead ≡ Some dead
+  pub after_end : (s t b : ℕ) → slice_get dfa.at_end s ≡ Some t → b < 256 → dfa_next dfa (Some t) b ≡ Some dead
+  pub end_after_end : (s t : ℕ) → slice_get dfa.at_end s ≡ Some t → slice_get dfa.at_end t ≡ Some dead
 
 -- no tree can be passed without a byte or meet a look before its first one
 abbrev pub AllStart : List Rule → Type 0

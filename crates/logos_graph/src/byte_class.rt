@@ -3,6 +3,8 @@ ghost use Rattle.std.specs.Prelude.{◌≡◌, ℕ, ◌<◌, ◌≤◌, ◌↔�
 ghost use Rattle.logos_graph.specs.Graph.{is_in};
 ghost use Rattle.logos_graph.specs.Bytes.{bounds, ranges_of, has_byte, AreSeparated, comparison_of, compares, some_compares, joined, operations};
 
+pub(crate) mod text;
+
 use std::alloc::{AllocError, Global};
 use std::ops::RangeInclusive;
 

@@ -52,17 +52,6 @@ pub fn start_key(alloc: Global) -> Key
     }
 }
 
-/// The state from which nothing matches.
-pub fn dead_key(alloc: Global) -> Key
-    ensures { keys.state_of result ≡ keys.dead_state }
-{
-    Key {
-        places: Vec::new(alloc),
-        kind: Kind::Unseen,
-        matches: Vec::new(alloc),
-    }
-}
-
 /// The state after one more byte.
 pub fn step_key(
     alloc: Global,

@@ -1,0 +1,35 @@
+use Rattle.std.proofs.Common.{ℕ, ◌<◌, List, [], length, sym, subst}
+use Rattle.logos_pattern.specs.declared.leaf.Leaf.{Leaf}
+use Rattle.logos_graph.specs.DfaView.{dfa_of}
+use Rattle.logos_graph.specs.Faults.{AreFaults}
+use Rattle.logos_graph.specs.FinishedGraph.{NamesLeaves}
+use Rattle.logos_graph.specs.Reduce.{size, mark, type_of, edges}
+use Rattle.logos_graph.specs.View.{rules_of, ReadsOneByteLate}
+use Rattle.logos_graph.specs.Walk.{MarksOneByteLate}
+use Rattle.logos_graph.proofs.Automaton.{no_faults}
+use Rattle.logos_graph.proofs.graph.making.finished.Goals as goal
+
+pub finished-requires-clause-fit : goal.finished-requires-clause-fit
+finished-requires-clause-fit c =
+    let late = subst (λ (xs : List Leaf). ReadsOneByteLate (rules_of xs) (dfa_of c.args.dfa) → AreFaults (rules_of xs) [] → MarksOneByteLate (rules_of xs) (edges c.in_ok-table.table) 0)
+    c.deref.ensures.value c.in_ok-table.ensures.late in
+    let named = subst (λ (xs : List Leaf). (s : ℕ) → s < size c.in_ok-table.table → NamesLeaves (length xs) (type_of (mark c.in_ok-table.table s)))
+    c.deref.ensures.value c.in_ok-table.ensures.named in
+    let start = no_faults (rules_of c.args.leaves.items) c.requires.faultless in
+    c.in_ok-reduced.ensures.fit (rules_of c.args.leaves.items) (length c.args.leaves.items) c.in_ok-table.ensures.raw start.0 (late c.requires.late c.requires.faultless) named
+
+pub returns-clause-graph : goal.returns-clause-graph
+returns-clause-graph c =
+    let late = subst (λ (xs : List Leaf). ReadsOneByteLate (rules_of xs) (dfa_of c.args.dfa) → AreFaults (rules_of xs) [] → MarksOneByteLate (rules_of xs) (edges c.in_ok-table.table) 0)
+    c.deref.ensures.value c.in_ok-table.ensures.late c.requires.late c.requires.faultless in
+    let start = no_faults (rules_of c.args.leaves.items) c.requires.faultless in
+    let g = c.in_ok-finished.field-0 in
+    record {
+      leaves_are = c.in_ok-finished.ensures.leaves;
+      mode = c.in_ok-finished.ensures.utf8;
+      faults_are = subst (AreFaults (rules_of c.args.leaves.items)) (sym c.in_ok-finished.ensures.faults) c.requires.faultless;
+      late = λ s. subst (ReadsOneByteLate (rules_of c.args.leaves.items)) (sym c.in_ok-finished.ensures.automaton) c.requires.late;
+      finds = λ none. c.in_ok-reduced.ensures.finds (rules_of c.args.leaves.items) g.states c.args.config.utf8_mode c.in_ok-table.ensures.raw start.0 late c.in_ok-finished.ensures.shows;
+      reduced = λ none. c.in_ok-reduced.ensures.reduced (rules_of c.args.leaves.items) g.states c.in_ok-table.ensures.raw late c.in_ok-finished.ensures.shows;
+      least = λ none. c.in_ok-reduced.ensures.least g.states c.in_ok-table.ensures.raw c.in_ok-finished.ensures.shows;
+    }

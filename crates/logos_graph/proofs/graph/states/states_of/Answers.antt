@@ -1,0 +1,32 @@
+use Rattle.std.proofs.Common.{◌≡◌, ◌∷◌, [], map, length, ap, ◌∙◌, arith}
+use Rattle.std.proofs.lemmas.List.{map-append, length-map}
+use Rattle.logos_graph.specs.GraphView.{graph_state_of}
+use Rattle.logos_graph.specs.Reduce.{size}
+use Rattle.logos_graph.proofs.StateLemmas.{states_more, program_neat, states_show, states_neat, states_finished}
+use Rattle.logos_graph.proofs.graph.states.states_of.Goals as goal
+
+pub loop-s-preserved : goal.loop-s-preserved
+loop-s-preserved c =
+    let table = c.args.table.now in
+    let old = c.loop-s.states.items in
+    let state = c.in_ok-state_of.field-0 in
+    let e = ap (map graph_state_of) c.in_ok-push.ensures.items ∙ map-append graph_state_of old (state ∷ []) in
+    let n : length (map graph_state_of old) ≡ c.loop-s.s = let m = length-map old graph_state_of in omega (arith, c.loop-s.invariant.0) in (
+      omega (arith, c.in_ok-push.ensures.len, c.loop-s.invariant.0),
+      rw e (states_more table (map graph_state_of old) (graph_state_of state) c.loop-s.s n c.loop-s.invariant.1 c.in_ok-state_of.ensures),
+    )
+
+pub returns-clause-shows : goal.returns-clause-shows
+returns-clause-shows c =
+    let len : length (map graph_state_of c.loop-s.states.items) ≡ size c.args.table.now = let e = length-map c.loop-s.states.items graph_state_of in omega arith in
+    states_show c.args.table.now (map graph_state_of c.loop-s.states.items) len c.loop-s.invariant.1
+
+pub returns-clause-neat : goal.returns-clause-neat
+returns-clause-neat c =
+    let len : length (map graph_state_of c.loop-s.states.items) ≡ size c.args.table.now = let e = length-map c.loop-s.states.items graph_state_of in omega arith in
+    program_neat c.loop-s.states.items (states_neat c.args.table.now (map graph_state_of c.loop-s.states.items) len c.loop-s.invariant.1)
+
+pub returns-clause-finished : goal.returns-clause-finished
+returns-clause-finished c =
+    let len : length (map graph_state_of c.loop-s.states.items) ≡ size c.args.table.now = let e = length-map c.loop-s.states.items graph_state_of in omega arith in
+    λ leaves fit. states_finished c.args.table.now (map graph_state_of c.loop-s.states.items) len c.loop-s.invariant.1 leaves fit

@@ -1,0 +1,61 @@
+-- What a generator asks of a graph.
+use Rattle.std.specs.Prelude.{◌≡◌, ◌≢◌, ℕ, ◌<◌, true, List, length, Option, None, Some, IsSome, IfSome, IsSomeAnd, option_map, find, slice_get}
+use Rattle.std.specs.List.{All, AllPairs}
+use Rattle.logos_graph.specs.Bytes.{AreSeparated}
+use Rattle.logos_graph.specs.Graph.{StateType, GraphState, is_in}
+use Rattle.logos_graph.specs.Reduce.{size, to, mark, type_of}
+use Rattle.logos_graph.specs.declared.reduce.table.Table.{Table}
+
+-- a late mark alone
+abbrev pub IsLate : StateType → Type 0
+IsLate type = (type.early ≡ None) × IsSome type.accept
+
+-- no mark
+abbrev pub IsUnmarked : StateType → Type 0
+IsUnmarked type = (type.early ≡ None) × (type.accept ≡ None)
+
+-- each mark names one of so many leaves
+abbrev pub NamesLeaves : ℕ → StateType → Type 0
+NamesLeaves leaves type = IfSome type.accept (λ leaf. leaf < leaves) × IfSome type.early (λ leaf. leaf < leaves)
+
+-- the ranges of the bytes that lead to a state, and the state
+abbrev pub Edge : Type 0
+Edge = List (ℕ × ℕ) × ℕ
+
+-- where a byte leads
+abbrev pub edge_leads : List Edge → ℕ → Option ℕ
+edge_leads edges b = option_map (λ e. e.1) (find (λ e. is_in e.0 b) edges)
+
+-- An edge's bytes lead where the edge says, and no two edges lead to one state.
+pub record AreNeat (edges : List Edge) : Type 0 where
+  pub separated : All (λ edge. AreSeparated edge.0) edges
+  pub leads : All (λ edge. (b : ℕ) → b < 256 → is_in edge.0 b ≡ true → edge_leads edges b ≡ Some edge.1) edges
+  pub apart : AllPairs (λ edge other. edge.1 ≢ other.1) edges
+
+-- A table that code can be made of: its marks name leaves, a state that the end leads to has a late mark and no end edge, and
+-- the first state has no mark, no end edge, and no edge to a late mark.
+pub record IsFit (table : Table) (leaves : ℕ) : Type 0 where
+  pub some : 0 < size table
+  pub marks : (s : ℕ) → s < size table → NamesLeaves leaves (type_of (mark table s))
+  pub ends : (s t : ℕ) → to table s 256 ≡ Some t → IsLate (type_of (mark table t)) × (to table t 256 ≡ None)
+  pub first : IsUnmarked (type_of (mark table 0))
+  pub first_edges : (b t : ℕ) → b < 256 → to table 0 b ≡ Some t → ¬ IsLate (type_of (mark table t))
+  pub first_end : to table 0 256 ≡ None
+
+-- The same of a finished graph.
+module _ (graph : List GraphState) (leaves : ℕ) where
+  pub record IsFinishedState (state : GraphState) : Type 0 where
+    pub neat : AreNeat state.normal
+    pub targets : All (λ edge. edge.1 < length graph) state.normal
+    pub marks : NamesLeaves leaves state.state_type
+    pub ends : (t : ℕ) → state.eoi ≡ Some t → IsSomeAnd (slice_get graph t) (λ last. IsLate last.state_type × (last.eoi ≡ None))
+
+  pub record IsFirstState (state : GraphState) : Type 0 where
+    pub unmarked : IsUnmarked state.state_type
+    pub early : All (λ edge. ¬ IsSomeAnd (slice_get graph edge.1) (λ next. IsLate next.state_type)) state.normal
+    pub no_end : state.eoi ≡ None
+
+  pub record IsFinished : Type 0 where
+    pub few : length graph < 4294967295
+    pub states : All IsFinishedState graph
+    pub first : IsSomeAnd (slice_get graph 0) IsFirstState

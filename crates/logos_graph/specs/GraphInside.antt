@@ -1,0 +1,26 @@
+-- What contracts see of a graph, and what its fields keep.
+use Rattle.std.specs.Prelude.{◌≡◌, ◌≢◌, [], map, length, IsSome, IfSome}
+use Rattle.logos_graph.specs.DfaView.{dfa_of}
+use Rattle.logos_graph.specs.Errors.{fault_of}
+use Rattle.logos_graph.specs.FinishedGraph.{IsFinished}
+use Rattle.logos_graph.specs.GraphView.{graph_state_of}
+use Rattle.logos_graph.specs.ReduceShown.{Shows}
+use Rattle.logos_graph.specs.Tellable.{IsTellable}
+use Rattle.logos_graph.specs.View.{GraphValue}
+use Rattle.logos_graph.specs.declared.graph.value.Graph.TheInside.{Inside}
+
+abbrev pub value_of : Inside → GraphValue
+value_of graph = record {
+  leaves = graph.leaves.items;
+  utf8 = graph.config.utf8_mode;
+  faults = map fault_of graph.errors.items;
+  states = map graph_state_of graph.states.items;
+  automaton = dfa_of graph.dfa;
+}
+
+-- Without faults there is a finished graph, and the table that it shows is kept; else there are no states.
+pub record IsKept (graph : Inside) : Type 0 where
+  pub shown : IfSome graph.reduced (λ reduced. Shows reduced.table (value_of graph).states × IsTellable reduced)
+  pub told : (value_of graph).faults ≡ [] → IsSome graph.reduced
+  pub finished : (value_of graph).faults ≡ [] → IsFinished (value_of graph).states (length (value_of graph).leaves)
+  pub bare : (value_of graph).faults ≢ [] → (value_of graph).states ≡ []

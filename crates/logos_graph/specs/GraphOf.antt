@@ -1,0 +1,31 @@
+-- What a graph promises of the leaves that it is made from.
+use Rattle.std.specs.Prelude.{◌≡◌, ◌^◌, ◌<◌, Bool, List, []}
+use Rattle.logos_pattern.specs.declared.leaf.Leaf.{Leaf}
+use Rattle.logos_graph.specs.Faults.{AreFaults}
+use Rattle.logos_graph.specs.Found.{FindsTheLongest}
+use Rattle.logos_graph.specs.Least.{IsLeast}
+use Rattle.logos_graph.specs.Munch.{Rule}
+use Rattle.logos_graph.specs.Places.{HasMoreKeys}
+use Rattle.logos_graph.specs.Reduced.{IsReduced}
+use Rattle.logos_graph.specs.Size.{size_of}
+use Rattle.logos_graph.specs.View.{rules_of, GraphValue, ReadsOneByteLate, AllStart}
+use Rattle.logos_graph.specs.declared.graph.BuildError.{BuildError}
+use Rattle.logos_graph.specs.declared.graph.BuildError.TheVariants.{LimitSize, LimitStates, Memory}
+
+pub record IsGraphOf (leaves : List Leaf) (utf8 : Bool) (graph : GraphValue) : Type 0 where
+  pub leaves_are : graph.leaves ≡ leaves
+  pub mode : graph.utf8 ≡ utf8
+  -- the errors are exactly the faults of the leaves
+  pub faults_are : AreFaults (rules_of leaves) graph.faults
+  -- where each pattern takes a byte before it looks or matches, the automaton lists each match one byte late
+  pub late : AllStart (rules_of leaves) → ReadsOneByteLate (rules_of leaves) graph.automaton
+  -- without a fault the graph finds at each place of each input what maximal munch finds
+  pub finds : graph.faults ≡ [] → FindsTheLongest (rules_of leaves) utf8 graph.states
+  pub reduced : graph.faults ≡ [] → IsReduced (rules_of leaves) graph.states
+  pub least : graph.faults ≡ [] → IsLeast graph.states
+
+-- why there is no graph of the rules
+abbrev pub Refuses : List Rule → BuildError → Type 0
+Refuses rules LimitSize = 2 ^ 20 < size_of rules
+Refuses rules LimitStates = AllStart rules × HasMoreKeys rules 65536
+Refuses rules Memory = Unit {0}

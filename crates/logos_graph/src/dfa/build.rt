@@ -1,0 +1,108 @@
+//! The automaton of leaves: one loop over its states, from the start on, until each has its targets.
+ghost use Rattle.std.specs.Prelude.{◌≡◌, ◌^◌, ◌<◌, ◌≤◌, ◌+◌, ℕ, [], Bool, List, false, IfOk, IfErr, OnOk, length, map, vec_len, slice_index_or};
+ghost use Rattle.logos_graph.specs.Alike.{AreAlike};
+ghost use Rattle.logos_graph.specs.Building.{IsUnderway, FailsOn, FailsFor};
+ghost use Rattle.logos_graph.specs.Core.{Core};
+ghost use Rattle.logos_graph.specs.DfaView.{dfa_of};
+ghost use Rattle.logos_graph.specs.Keys.{AreDistinct, AreReached, IsBuilt};
+ghost use Rattle.logos_graph.specs.Kinds.{kind_of_byte};
+ghost use Rattle.logos_graph.specs.Node.{core_of, AreMeasured};
+ghost use Rattle.logos_graph.specs.Run.{width_of};
+ghost use Rattle.logos_graph.specs.Size.{size_of};
+ghost use Rattle.logos_graph.specs.View.{AllStart, IsTotal, ReadsOneByteLate, rules_of};
+
+use super::Dfa;
+use super::leaves::prepare_leaves;
+use crate::alike::first_bytes;
+use crate::graph::BuildError;
+use crate::key::{Key, number_of, start_key};
+use crate::measures::some_leaf_has_look;
+use crate::node::Node;
+use crate::targets::{Row, end_of, row_of};
+use indexmap::IndexSet;
+use logos_pattern::leaf::Leaf;
+use std::alloc::{AllocError, Global};
+
+/// How many states an automaton may have.
+pub(crate) const MAX_STATES: usize = 65_536;
+
+/// The list of the start alone.
+fn only_start(alloc: Global) -> Result<IndexSet<Key>, AllocError>
+    ensures { (looks : Bool) (ts : List Core) → IfOk result (λ states. IsUnderway ts looks states.keys [] []) }
+{
+    let mut states = IndexSet::new(alloc);
+    number_of(&mut states, start_key(alloc))?;
+    Ok(states)
+}
+
+/// Adds the targets of the first state that has none yet, where `first` has the bytes that can be told apart from the one before.
+fn fill_next(
+    alloc: Global,
+    nodes: &[Node],
+    looks: bool,
+    first: &[bool; 256],
+    states: &mut IndexSet<Key>,
+    rows: &mut Vec<Row>,
+    ends: &mut Vec<u32>,
+) -> Result<(), BuildError>
+    requires fits { width_of (map core_of nodes.now) < 2 ^ 64 }
+    requires measured { AreMeasured nodes.now }
+    requires same { (byte : ℕ) → byte + 1 < 256 → slice_index_or first.now (byte + 1) false ≡ false →
+        AreAlike (map core_of nodes.now) byte (byte + 1) × (kind_of_byte byte ≡ kind_of_byte (byte + 1)) }
+    requires left { vec_len rows.old < length states.old.keys }
+    requires underway { IsUnderway (map core_of nodes.now) looks states.old.keys rows.old.items ends.old.items }
+    ensures underway { OnOk result (IsUnderway (map core_of nodes.now) looks states.new.keys rows.new.items ends.new.items) }
+    ensures next { OnOk result (vec_len rows.new ≡ vec_len rows.old + 1) }
+    ensures fails { IfErr result (FailsOn (map core_of nodes.now) looks) }
+{
+    let state = rows.len();
+    let row = row_of(alloc, nodes, looks, first, states, state)?;
+    let end = end_of(alloc, nodes, states, state)?;
+    if states.len() > MAX_STATES {
+        return Err(BuildError::LimitStates);
+    }
+    rows.push(row)?;
+    ends.push(end)?;
+    Ok(())
+}
+
+/// The automaton of these trees.
+fn build_nodes(alloc: Global, nodes: &[Node], looks: bool) -> Result<Dfa, BuildError>
+    requires fits { width_of (map core_of nodes.now) < 2 ^ 64 }
+    requires measured { AreMeasured nodes.now }
+    ensures built { IfOk result (λ dfa. IsBuilt (map core_of nodes.now) looks 0 dfa.states.keys dfa.rows.items dfa.ends.items) }
+    ensures distinct { IfOk result (λ dfa. AreDistinct dfa.states.keys) }
+    ensures reached { IfOk result (λ dfa. AreReached (map core_of nodes.now) looks dfa.states.keys) }
+    ensures few { IfOk result (λ dfa. length dfa.states.keys ≤ 65536) }
+    ensures fails { IfErr result (FailsOn (map core_of nodes.now) looks) }
+{
+    let first = first_bytes(nodes);
+    let mut states = only_start(alloc)?;
+    let mut rows = Vec::new(alloc);
+    let mut ends = Vec::new(alloc);
+    while rows.len() < states.len() {
+        fill_next(
+            alloc,
+            nodes,
+            looks,
+            &first,
+            &mut states,
+            &mut rows,
+            &mut ends,
+        )?;
+    }
+    Ok(Dfa { states, rows, ends })
+}
+
+/// The automaton of these leaves. It fails where it would have more than 65,536 states, and where there is no memory.
+pub(crate) fn build(alloc: Global, leaves: &[Leaf<'_>]) -> Result<Dfa, BuildError>
+    requires size { size_of (rules_of leaves.now) ≤ 2 ^ 20 }
+    requires start { AllStart (rules_of leaves.now) }
+    ensures late { IfOk result (λ dfa. ReadsOneByteLate (rules_of leaves.now) (dfa_of dfa)) }
+    ensures total { IfOk result (λ dfa. IsTotal (dfa_of dfa)) }
+    ensures few { IfOk result (λ dfa. length (dfa_of dfa).matches ≤ 65536) }
+    ensures fails { IfErr result (FailsFor (rules_of leaves.now)) }
+{
+    let nodes = prepare_leaves(alloc, leaves)?;
+    build_nodes(alloc, &nodes, some_leaf_has_look(leaves))
+}

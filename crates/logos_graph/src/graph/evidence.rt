@@ -1,0 +1,43 @@
+// What tells two states of a graph apart.
+ghost use Rattle.std.specs.Prelude.{◌≡◌, ◌≢◌, ◌<◌, ◌↔◌, [], IsTrue, IfOk, length};
+ghost use Rattle.logos_graph.specs.Graph.{TellsApart};
+ghost use Rattle.logos_graph.specs.Least.{IsEvidence};
+
+use super::{Graph, State};
+use crate::reduce::Reduced;
+use std::alloc::{AllocError, Global};
+
+/// Bytes that tell two states apart: they lead to states of different types, or can be followed from just one of the two.
+#[derive(Debug, Drop)]
+pub struct Telling {
+    pub bytes: Vec<u8>,
+    /// Whether the end of the input follows the bytes.
+    pub at_end: bool,
+}
+
+impl Graph<'_> {
+    /// Fewer bytes than the graph has states, and whether the end follows them, that tell two different states of this
+    /// graph apart.
+    ///
+    /// # Errors
+    ///
+    /// There is no memory for the bytes.
+    pub fn telling(&self, alloc: Global, s: State, t: State) -> Result<Telling, AllocError>
+        requires s_in { s.0 < length self.now.states }
+        requires t_in { t.0 < length self.now.states }
+        requires different { s.0 ≢ t.0 }
+        ensures { IfOk result (λ telling. IsEvidence self.now.states s.0 t.0 telling.bytes.items telling.at_end) }
+    {
+        let (bytes, at_end) = self.reduced().telling(alloc, s.0, t.0)?;
+        Ok(Telling { bytes, at_end })
+    }
+
+    /// Whether the bytes, with the end after them or without, tell two states of this graph apart. No memory is taken.
+    pub fn checks(&self, s: State, t: State, bytes: &[u8], at_end: bool) -> bool
+        requires s_in { s.0 < length self.now.states }
+        requires t_in { t.0 < length self.now.states }
+        ensures { IsTrue result ↔ TellsApart self.now.states s.0 t.0 bytes.now at_end }
+    {
+        self.reduced().checks(s.0, t.0, bytes, at_end)
+    }
+}

@@ -1,0 +1,202 @@
+// The states of a finished graph, from its table.
+ghost use Rattle.std.specs.Prelude.{◌≡◌, ◌≢◌, ℕ, ◌<◌, ◌≤◌, ◌++◌, ◌∷◌, [], IsTrue, IsFalse, IfOk, OnOk, length, map, option_map, slice_index};
+ghost use Rattle.std.specs.List.{All};
+ghost use Rattle.logos_graph.specs.Bytes.{bounds};
+ghost use Rattle.logos_graph.specs.FinishedGraph.{AreNeat, IsFit, IsFinished};
+ghost use Rattle.logos_graph.specs.GraphView.{edge_of, graph_state_of, leaf_number, state_number, state_type_of};
+ghost use Rattle.logos_graph.specs.Marks.{IsRising, IsFirstFrom};
+ghost use Rattle.logos_graph.specs.Reduce.{size, to, mark, type_of};
+ghost use Rattle.logos_graph.specs.ReduceShown.{Shows};
+ghost use Rattle.logos_graph.specs.Rows.{target_by};
+ghost use Rattle.logos_graph.specs.States.{targets, with_range, with_run, AreEdgesOf, IsStateOf};
+
+use super::{State, StateData, StateType};
+use crate::byte_class::ByteClass;
+use crate::reduce::{END, Mark, Row, Table, WIDTH, predecessors, target_at};
+use logos_pattern::leaf::LeafId;
+use std::alloc::{AllocError, Global};
+use std::ops::RangeInclusive;
+
+/// The bytes that lead to a state, and the state.
+type Edge = (ByteClass, State);
+
+/// The place of the first edge to this state or a later one.
+fn place_of(edges: &[Edge], target: usize) -> usize
+    requires { IsRising (targets (map edge_of edges.now)) }
+    ensures { IsFirstFrom (targets (map edge_of edges.now)) target result }
+{
+    let mut low = 0;
+    let mut high = edges.len();
+    while low < high {
+        let mid = low + (high - low) / 2;
+        if edges[mid].1.0 < target {
+            low = mid + 1;
+        } else {
+            high = mid;
+        }
+    }
+    low
+}
+
+/// Whether the edge to a state is at a place.
+fn is_at(edges: &[Edge], place: usize, target: usize) -> bool
+    ensures hit { IsTrue result → (place < length edges.now) × (slice_index (targets (map edge_of edges.now)) place ≡ target) }
+    ensures miss { IsFalse result → place < length edges.now → slice_index (targets (map edge_of edges.now)) place ≢ target }
+{
+    if place >= edges.len() {
+        return false;
+    }
+    edges[place].1.0 == target
+}
+
+/// Adds bytes to an edge.
+fn push_range(edge: &mut Edge, range: RangeInclusive<u8>) -> Result<(), AllocError>
+    ensures { OnOk result (edge_of edge.new ≡ ((edge_of edge.old).0 ++ bounds range ∷ [], (edge_of edge.old).1)) }
+{
+    edge.0.ranges.push(range)?;
+    Ok(())
+}
+
+/// An edge by a range of bytes.
+fn new_edge(alloc: Global, range: RangeInclusive<u8>, target: usize) -> Result<Edge, AllocError>
+    ensures { IfOk result (λ edge. edge_of edge ≡ (bounds range ∷ [], target)) }
+{
+    let mut ranges = Vec::new(alloc);
+    ranges.push(range)?;
+    Ok((ByteClass { ranges }, State(target)))
+}
+
+/// Adds bytes that lead to a state, behind all bytes that lead there.
+fn add_range(
+    alloc: Global,
+    edges: &mut Vec<Edge>,
+    range: RangeInclusive<u8>,
+    target: usize,
+) -> Result<(), AllocError>
+    requires { IsRising (targets (map edge_of edges.old.items)) }
+    ensures { OnOk result (map edge_of edges.new.items ≡ with_range (map edge_of edges.old.items) (bounds range) target) }
+{
+    let place = place_of(edges, target);
+    if is_at(edges, place, target) {
+        push_range(&mut edges[place], range)?;
+        return Ok(());
+    }
+    edges.insert(place, new_edge(alloc, range, target)?)?;
+    Ok(())
+}
+
+/// The end of the run of equal entries that begins at a byte.
+fn run_end(row: &Row, from: usize) -> usize
+    requires { from < 256 }
+    ensures after { from < result }
+    ensures bound { result ≤ 256 }
+    ensures same { (b : ℕ) → from ≤ b → b < result → slice_index row.now b ≡ slice_index row.now from }
+    ensures changes { result < 256 → slice_index row.now result ≢ slice_index row.now from }
+{
+    for i in from + 1..256 {
+        if row[i] != row[from] {
+            return i;
+        }
+    }
+    256
+}
+
+/// Adds the bytes of a run, if they lead to a state.
+fn add_run(
+    alloc: Global,
+    edges: &mut Vec<Edge>,
+    range: RangeInclusive<u8>,
+    target: Option<usize>,
+) -> Result<(), AllocError>
+    requires { IsRising (targets (map edge_of edges.old.items)) }
+    ensures { OnOk result (map edge_of edges.new.items ≡ with_run (map edge_of edges.old.items) (bounds range) target) }
+{
+    let Some(target) = target else {
+        return Ok(());
+    };
+    add_range(alloc, edges, range, target)
+}
+
+/// The edges of a state by bytes, ascending by target.
+fn edges_of(alloc: Global, row: &Row) -> Result<Vec<Edge>, AllocError>
+    ensures { IfOk result (λ edges. AreEdgesOf (target_by row.now) 256 (map edge_of edges.items)) }
+{
+    let mut edges = Vec::new(alloc);
+    let mut start = 0;
+    while start < END {
+        let end = run_end(row, start);
+        let range = RangeInclusive::new(start as u8, (end - 1) as u8);
+        add_run(alloc, &mut edges, range, target_at(row, start))?;
+        start = end;
+    }
+    Ok(edges)
+}
+
+/// A leaf by its number.
+fn leaf(number: Option<usize>) -> Option<LeafId>
+    ensures { option_map leaf_number result ≡ number }
+{
+    Some(LeafId(number?))
+}
+
+/// The type of a state with this mark.
+fn type_of_mark(mark: Mark) -> StateType
+    ensures { state_type_of result ≡ type_of mark }
+{
+    StateType {
+        accept: leaf(mark.accept),
+        early: leaf(mark.early),
+    }
+}
+
+/// A state by its number.
+fn state(number: Option<usize>) -> Option<State>
+    ensures { option_map state_number result ≡ number }
+{
+    Some(State(number?))
+}
+
+/// States by their numbers.
+fn numbered(alloc: Global, numbers: &[usize]) -> Result<Vec<State>, AllocError>
+    ensures { IfOk result (λ states. map state_number states.items ≡ numbers.now) }
+{
+    let mut states = Vec::new(alloc);
+    for number in numbers {
+        states.push(State(*number))?;
+    }
+    Ok(states)
+}
+
+/// A state of the table.
+fn state_of(
+    alloc: Global,
+    table: &Table,
+    s: usize,
+    before: &[usize],
+) -> Result<StateData, AllocError>
+    requires { s < size table.now }
+    ensures { IfOk result (λ state. IsStateOf table.now s (graph_state_of state)) }
+{
+    let normal = edges_of(alloc, table.row(s))?;
+    let backward = numbered(alloc, before)?;
+    Ok(StateData {
+        state_type: type_of_mark(table.mark(s)),
+        normal,
+        eoi: state(table.target(s, END)),
+        backward,
+    })
+}
+
+/// The states of the graph that the table stands for.
+pub(crate) fn states_of(alloc: Global, table: &Table) -> Result<Vec<StateData>, AllocError>
+    ensures shows { IfOk result (λ states. Shows table.now (map graph_state_of states.items)) }
+    ensures neat { IfOk result (λ states. All (λ state. AreNeat (graph_state_of state).normal) states.items) }
+    ensures finished { IfOk result (λ states. (leaves : ℕ) → IsFit table.now leaves → IsFinished (map graph_state_of states.items) leaves) }
+{
+    let before = predecessors(alloc, table, WIDTH)?;
+    let mut states = Vec::new(alloc);
+    for s in 0..table.len() {
+        states.push(state_of(alloc, table, s, &before[s])?)?;
+    }
+    Ok(states)
+}

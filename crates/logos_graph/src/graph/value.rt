@@ -1,0 +1,225 @@
+// A graph, and what it is asked for.
+ghost use Rattle.std.specs.Prelude.{◌≡◌, ◌≢◌, ℕ, ◌-◌, ◌<◌, ◌↔◌, [], IsTrue, IfOk, Some, length, map, slice_get, string_bytes};
+ghost use Rattle.std.specs.List.{range_with_len};
+ghost use Rattle.logos_graph.specs.DfaView.{dfa_of};
+ghost use Rattle.logos_graph.specs.Errors.{fault_of};
+ghost use Rattle.logos_graph.specs.FinishedGraph.{IsFit, IsFinished};
+ghost use Rattle.logos_graph.specs.GraphView.{graph_state_of, state_number};
+ghost use Rattle.logos_graph.specs.Mermaid.{mermaid_of};
+ghost use Rattle.logos_graph.specs.ReduceShown.{Shows};
+ghost use Rattle.logos_graph.specs.StatesView.{states_left};
+ghost use Rattle.logos_graph.specs.Tellable.{IsTellable};
+
+use super::mermaid::chart;
+use super::printing::Listing;
+use super::states::states_of;
+use super::{Config, GraphError, State, StateData};
+use crate::dfa::Dfa;
+use crate::reduce::Reduced;
+use logos_pattern::leaf::Leaf;
+use logos_token::error::Memory;
+use std::alloc::{AllocError, Global};
+use std::fmt;
+use std::marker::Model;
+
+/// The graph of a lexer: its states and the edges between them.
+#[derive(Drop)]
+pub struct Graph<'s> {
+    leaves: Vec<Leaf<'s>>,
+    config: Config,
+    dfa: Dfa,
+    errors: Vec<GraphError>,
+    states: Vec<StateData>,
+    reduced: Option<Reduced>,
+}
+
+/// The states of a graph, ascending.
+#[derive(Clone, Copy, Debug)]
+pub struct States {
+    next: usize,
+    end: usize,
+}
+
+impl<'s> Model for Graph<'s> {
+    ghost use Rattle.std.specs.Coded.{codes};
+    ghost use Rattle.logos_pattern.specs.contracts.pattern.hir.Hir as e;
+    ghost use Rattle.logos_graph.specs.View.{GraphValue};
+
+    ghost Value = { GraphValue };
+
+    ghost coded = { Prim.hlevel (codes, e.the_row.coded) };
+
+    ghost use Rattle.logos_graph.specs.GraphInside.{value_of, IsKept};
+
+    ghost view = { value_of };
+
+    ghost invariant = { IsKept };
+}
+
+impl<'s> Graph<'s> {
+    /// A graph without states, of leaves that have faults.
+    pub(crate) fn refused(
+        alloc: Global,
+        leaves: Vec<Leaf<'s>>,
+        config: Config,
+        dfa: Dfa,
+        errors: Vec<GraphError>,
+    ) -> Graph<'s>
+        requires { map fault_of errors.items ≢ [] }
+        ensures { result ≡ record { leaves = leaves.entry.items; utf8 = config.utf8_mode; faults = map fault_of errors.items; states = []; automaton = dfa_of dfa } }
+    {
+        Graph {
+            leaves,
+            config,
+            dfa,
+            errors,
+            states: Vec::new(alloc),
+            reduced: None,
+        }
+    }
+
+    /// The graph that a table stands for, of leaves that have no faults.
+    pub(crate) fn finished(
+        alloc: Global,
+        leaves: Vec<Leaf<'s>>,
+        config: Config,
+        dfa: Dfa,
+        reduced: Reduced,
+    ) -> Result<Graph<'s>, AllocError>
+        requires fit { IsFit reduced.table (length leaves.items) }
+        requires tellable { IsTellable reduced }
+        ensures leaves { IfOk result (λ graph. graph.leaves ≡ leaves.entry.items) }
+        ensures utf8 { IfOk result (λ graph. graph.utf8 ≡ config.utf8_mode) }
+        ensures faults { IfOk result (λ graph. graph.faults ≡ []) }
+        ensures shows { IfOk result (λ graph. Shows reduced.table graph.states) }
+        ensures automaton { IfOk result (λ graph. graph.automaton ≡ dfa_of dfa) }
+    {
+        let states = states_of(alloc, &reduced.table)?;
+        Ok(Graph {
+            leaves,
+            config,
+            dfa,
+            errors: Vec::new(alloc),
+            states,
+            reduced: Some(reduced),
+        })
+    }
+
+    /// The leaves that the graph was made of.
+    pub fn leaves(&self) -> &[Leaf<'s>]
+        ensures { result.now ≡ self.now.leaves }
+    {
+        &self.leaves
+    }
+}
+
+impl Graph<'_> {
+    /// The state in which each match begins. The graph must have states, as it has where there are no errors.
+    pub fn root(&self) -> State
+        requires { 0 < length self.now.states }
+        ensures root { result.0 ≡ 0 }
+        ensures finished { self.now.faults ≡ [] → IsFinished self.now.states (length self.now.leaves) }
+    {
+        let _ = &self.states;
+        State(0)
+    }
+
+    /// All states, ascending. There are none where there are errors.
+    pub fn iter_states(&self) -> States
+        ensures states { states_left result ≡ range_with_len 0 (length self.now.states) }
+        ensures finished { self.now.faults ≡ [] → IsFinished self.now.states (length self.now.leaves) }
+        ensures none { self.now.faults ≢ [] → self.now.states ≡ [] }
+    {
+        States {
+            next: 0,
+            end: self.states.len(),
+        }
+    }
+
+    /// Whether it is a state of this graph.
+    pub fn contains(&self, state: State) -> bool
+        ensures { IsTrue result ↔ (state.0 < length self.now.states) }
+    {
+        state.0 < self.states.len()
+    }
+
+    /// What the graph has of one of its states, as `contains` tests.
+    pub fn get_state(&self, state: State) -> &StateData
+        requires { state.0 < length self.now.states }
+        ensures { slice_get self.now.states state.0 ≡ Some (graph_state_of result.now) }
+    {
+        &self.states[state.0]
+    }
+
+    /// The table that the graph shows.
+    pub(crate) fn reduced(&self) -> &Reduced
+        requires { 0 < length self.now.states }
+        ensures shows { Shows result.now.table self.now.states }
+        ensures tellable { IsTellable result.now }
+    {
+        match &self.reduced {
+            Some(reduced) => reduced,
+            None => unreachable!(),
+        }
+    }
+
+    /// The automaton that the graph was made from.
+    pub fn dfa(&self) -> &Dfa
+        ensures { dfa_of result.now ≡ self.now.automaton }
+    {
+        &self.dfa
+    }
+
+    /// The faults of the leaves. Where there are some, the graph has no states.
+    pub fn errors(&self) -> &[GraphError]
+        ensures { map fault_of result.now ≡ self.now.faults }
+    {
+        &self.errors
+    }
+
+    /// The chart of the graph in Mermaid's language: a flow chart with a node for each state and for each edge. It fails
+    /// only where there is no memory.
+    pub fn get_mermaid(&self, alloc: Global) -> Result<String, Memory>
+        ensures { IfOk result (λ text. string_bytes text ≡ mermaid_of self.now.states) }
+    {
+        Ok(chart(alloc, &self.states)?)
+    }
+
+    /// Whether inputs are UTF-8, so that an error ends between characters.
+    pub fn utf8_mode(&self) -> bool
+        ensures { result ≡ self.now.utf8 }
+    {
+        self.config.utf8_mode
+    }
+}
+
+/// The states with their edges, one on each line.
+impl fmt::Display for Graph<'_> {
+    fn fmt<W: fmt::Write>(&self, f: &mut fmt::Formatter<W>) -> fmt::Result {
+        let listing = Listing {
+            states: &self.states,
+        };
+        write!(f, "{listing}")
+    }
+}
+
+impl Iterator for States {
+    type Item = State;
+
+    ghost use Rattle.std.specs.Iterator.{YieldsFirstBy, item_count};
+    ghost use Rattle.logos_graph.specs.GraphView.{state_number};
+    ghost use Rattle.logos_graph.specs.StatesView.{states_left};
+
+    ghost next_gives = { YieldsFirstBy state_number states_left };
+
+    ghost remaining = { item_count states_left };
+
+    fn next(&mut self) -> Option<State> {
+        if self.next >= self.end {
+            return None;
+        }
+        let state = State(self.next);
+        self.next += 1;
+        Some(state)
+    }
+}

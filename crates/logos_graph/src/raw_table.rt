@@ -1,0 +1,129 @@
+//! The automaton of leaves as a table, with late marks alone.
+ghost use Rattle.std.specs.Prelude.{◌≡◌, ℕ, ◌+◌, ◌<◌, ◌^◌, Some, IfOk, IfSome, List, [], length, vec_len, slice_index, slice_get};
+ghost use Rattle.std.specs.List.{All};
+ghost use Rattle.logos_graph.specs.DfaView.{dfa_of};
+ghost use Rattle.logos_graph.specs.Faults.{AreFaults};
+ghost use Rattle.logos_graph.specs.FinishedGraph.{NamesLeaves};
+ghost use Rattle.logos_graph.specs.First.{first_of};
+ghost use Rattle.logos_graph.specs.RawTable.{best_with, IsRawMark, IsMarkOf, AreRawRows};
+ghost use Rattle.logos_graph.specs.Reduce.{size, mark, type_of, edges, mark_in};
+ghost use Rattle.logos_graph.specs.ReduceShown.{IsRaw};
+ghost use Rattle.logos_graph.specs.Rows.{target_by, IsClosed};
+ghost use Rattle.logos_graph.specs.RowsKept.{rows_of};
+ghost use Rattle.logos_graph.specs.View.{rules_of, IsTotal, ReadsOneByteLate};
+ghost use Rattle.logos_graph.specs.Walk.{MarksOneByteLate};
+
+use crate::dfa::Dfa;
+use crate::faults::priority_at;
+use crate::reduce::{Mark, Row, Rows, Table};
+use crate::targets;
+use logos_pattern::leaf::Leaf;
+use std::alloc::{AllocError, Global};
+
+/// The leaf, if it has a higher priority than the best one before it, or else that one.
+fn best_with(leaves: &[Leaf<'_>], best: Option<usize>, leaf: usize) -> usize
+    ensures { result ≡ best_with (rules_of leaves.now) (length leaves.now) best leaf }
+{
+    match best {
+        None => leaf,
+        Some(best) => {
+            if priority_at(leaves, best) < priority_at(leaves, leaf) {
+                leaf
+            } else {
+                best
+            }
+        }
+    }
+}
+
+/// The first leaf of highest priority among those listed.
+fn first_leaf(leaves: &[Leaf<'_>], listed: &[usize]) -> Option<usize>
+    ensures { result ≡ first_of (rules_of leaves.now) listed.now }
+{
+    let mut best = None;
+    for leaf in listed {
+        best = Some(best_with(leaves, best, *leaf));
+    }
+    best
+}
+
+/// The mark of a state that lists these leaves.
+fn raw_mark(leaves: &[Leaf<'_>], listed: &[usize]) -> Mark
+    ensures { IsRawMark (rules_of leaves.now) (length leaves.now) listed.now result }
+{
+    let accept = match first_leaf(leaves, listed) {
+        Some(leaf) if leaf < leaves.len() => Some(leaf),
+        _ => None,
+    };
+    Mark {
+        accept,
+        early: None,
+    }
+}
+
+/// The marks of all states.
+fn raw_marks(alloc: Global, leaves: &[Leaf<'_>], dfa: &Dfa) -> Result<Vec<Mark>, AllocError>
+    ensures len { IfOk result (λ marks. vec_len marks ≡ length (dfa_of dfa.now).matches) }
+    ensures marks { IfOk result (λ marks. (s : ℕ) → s < length (dfa_of dfa.now).matches →
+        IsMarkOf (rules_of leaves.now) (length leaves.now) (dfa_of dfa.now) s (mark_in marks.items s)) }
+{
+    let mut marks = Vec::new(alloc);
+    for state in 0..dfa.len() {
+        marks.push(raw_mark(leaves, dfa.matches(state)))?;
+    }
+    Ok(marks)
+}
+
+/// A row of a state: its targets by bytes, and by the end.
+fn raw_row(row: &targets::Row, end: u32) -> Row
+    requires few { (k : ℕ) → k < 256 → slice_index row.now k + 1 < 2 ^ 32 }
+    requires end { end + 1 < 2 ^ 32 }
+    ensures bytes { (k : ℕ) → k < 256 → target_by result k ≡ Some (slice_index row.now k) }
+    ensures end { target_by result 256 ≡ Some end }
+{
+    let mut made = [end + 1; 257];
+    for k in 0..256 {
+        made[k] = row[k] + 1;
+    }
+    made
+}
+
+/// The rows of all states.
+fn raw_rows(alloc: Global, dfa: &Dfa) -> Result<Rows, AllocError>
+    requires total { IsTotal (dfa_of dfa.now) }
+    requires few { length (dfa_of dfa.now).matches + 1 < 2 ^ 32 }
+    ensures { IfOk result (λ rows. AreRawRows (dfa_of dfa.now) (rows_of rows) (length (dfa_of dfa.now).matches)) }
+{
+    let mut rows = Rows::new(alloc);
+    for state in 0..dfa.len() {
+        rows.push(&raw_row(dfa.row(state), dfa.end(state)))?;
+    }
+    Ok(rows)
+}
+
+/// The table with these marks and rows.
+fn assemble(marks: Vec<Mark>, rows: Rows) -> Table
+    requires same_len { length (rows_of rows) ≡ vec_len marks }
+    requires closed { IsClosed (vec_len marks) (rows_of rows) }
+    requires few { vec_len marks + 1 < 2 ^ 32 }
+    ensures marks { result.marks ≡ marks }
+    ensures rows { result.rows ≡ rows }
+{
+    Table { marks, rows }
+}
+
+/// The table of the automaton: each state accepts the leaf of highest priority that it lists. Its states have
+/// their numbers, and the first is the start.
+pub(crate) fn raw_table(alloc: Global, leaves: &[Leaf<'_>], dfa: &Dfa) -> Result<Table, AllocError>
+    requires total { IsTotal (dfa_of dfa.now) }
+    requires few { length (dfa_of dfa.now).matches + 1 < 2 ^ 32 }
+    ensures raw { IfOk result (λ table. IsRaw table 0) }
+    ensures late { IfOk result (λ table. ReadsOneByteLate (rules_of leaves.now) (dfa_of dfa.now) → AreFaults (rules_of leaves.now) [] →
+        MarksOneByteLate (rules_of leaves.now) (edges table) 0) }
+    ensures named { IfOk result (λ table. (s : ℕ) → s < size table → NamesLeaves (length leaves.now) (type_of (mark table s))) }
+    ensures size { IfOk result (λ table. size table ≡ length (dfa_of dfa.now).matches) }
+{
+    let marks = raw_marks(alloc, leaves, dfa)?;
+    let rows = raw_rows(alloc, dfa)?;
+    Ok(assemble(marks, rows))
+}
