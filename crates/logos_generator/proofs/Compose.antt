@@ -1,5 +1,7 @@
 -- The layers compose by their public clauses alone.
-use Rattle.std.proofs.Common.{◌≡◌, ◌↔◌, ℕ, Bool, List, map}
+use Rattle.std.proofs.Common.{◌≡◌, ◌↔◌, ℕ, Bool, List, [], ◌∷◌, map, refl, ap, ◌∙◌}
+use Rattle.logos_pattern.specs.declared.leaf.Leaf.{Leaf}
+use Rattle.logos_graph.specs.View.{GraphValue, rule_of, rules_of}
 use Rattle.logos_graph.specs.Munch.{Use, Rule, Found, ended, matched, failed, Finds}
 use Rattle.logos_generator.specs.Code.{CodeValue}
 use Rattle.logos_generator.specs.Runs.{CodeFinds, Runs}
@@ -21,6 +23,16 @@ is_lexer rules utf8 graph code longest runs mode uses = record {
   );
   steps = runs.steps;
 }
+
+uses_of_rules : (leaves : List Leaf) → map (λ leaf. (rule_of leaf).use_of) leaves ≡ map (λ rule. rule.use_of) (rules_of leaves)
+uses_of_rules [] = refl
+uses_of_rules (leaf ∷ leaves) = ap (λ uses. (rule_of leaf).use_of ∷ uses) (uses_of_rules leaves)
+
+-- the same of a graph with its leaves
+pub is_lexer_of : (graph : GraphValue) (code : CodeValue) →
+    FindsTheLongest (rules_of graph.leaves) graph.utf8 graph.states → RunsAs graph.states graph.utf8 code → code.utf8 ≡ graph.utf8 →
+    code.leaves ≡ map (λ leaf. (rule_of leaf).use_of) graph.leaves → IsLexer (rules_of graph.leaves) graph.utf8 code
+is_lexer_of graph code longest runs mode uses = is_lexer (rules_of graph.leaves) graph.utf8 graph.states code longest runs mode (uses ∙ uses_of_rules graph.leaves)
 
 -- the same items, where a search finds no more
 pub lexes_by : (uses : List Use) (callback : Callback) (bytes : List ℕ) (search other : Search) →

@@ -6,10 +6,13 @@ use Rattle.std.proofs.lemmas.List.{drop_more, map-append}
 use Rattle.logos_graph.specs.Graph.{is_in}
 use Rattle.logos_graph.specs.Bytes.{bounds}
 use Rattle.logos_graph.specs.declared.byte_class.ByteClass.{ByteClass}
+use Rattle.logos_graph.specs.declared.graph.State.{State}
 use Rattle.logos_generator.specs.Code.{Condition, by_comparisons, by_test}
 use Rattle.logos_generator.specs.declared.code.Condition.{Condition as TheCondition}
 use Rattle.logos_generator.specs.CodeView.{branch_of}
-use Rattle.logos_generator.specs.Nodes.{Edge, edge_of, hit, is_other, leads_beside, Extends, IsSetOf, IsTest, IsConditionOf, IsBranchOf, AreBranchesOf}
+use Rattle.logos_graph.specs.FinishedGraph.{Edge}
+use Rattle.logos_graph.specs.GraphView.{edge_of, state_number}
+use Rattle.logos_generator.specs.Nodes.{hit, is_other, leads_beside, Extends, IsSetOf, IsTest, IsConditionOf, IsBranchOf, AreBranchesOf}
 
 -- nothing is written where nothing is hit
 pub hit_nothing : (t : ℕ) (e : Option ℕ) → hit false t e ≡ e
@@ -43,7 +46,7 @@ or_assoc None b c = refl
 or_assoc (Some x) b c = refl
 
 -- one edge more
-pub edges_turn : (edges : List (ByteClass × ℕ)) (i : ℕ) (d : ByteClass × ℕ) (s k : ℕ) (e new : Option ℕ) → i < length edges →
+pub edges_turn : (edges : List (ByteClass × State)) (i : ℕ) (d : ByteClass × State) (s k : ℕ) (e new : Option ℕ) → i < length edges →
     new ≡ option_or e (leads_beside s (edge_of (get_or edges i d) ∷ []) k) →
     option_or new (leads_beside s (map edge_of (drop (i + 1) edges)) k) ≡ option_or e (leads_beside s (map edge_of (drop i edges)) k)
 edges_turn edges i d s k e new lt same =
@@ -78,15 +81,15 @@ IsConditionOf-later tests later ranges (by_comparisons all) f c = c
 IsConditionOf-later tests later ranges (by_test k) f c = (c.0, IsTest-later tests later ranges k f c.1)
 
 -- one branch more
-pub branches_turn : (all tests : List (List Bool)) (edges : List (ByteClass × ℕ)) (i : ℕ) (d : ByteClass × ℕ) (s : ℕ) (old new : List (TheCondition × ℕ)) → i < length edges → Extends tests all →
-    MatchBool ((get_or edges i d).1 == s) (new ≡ old)
+pub branches_turn : (all tests : List (List Bool)) (edges : List (ByteClass × State)) (i : ℕ) (d : ByteClass × State) (s : ℕ) (old new : List (TheCondition × ℕ)) → i < length edges → Extends tests all →
+    MatchBool (state_number (get_or edges i d).1 == s) (new ≡ old)
     ((branch : TheCondition × ℕ) × (new ≡ old ++ branch ∷ []) × IsBranchOf tests (edge_of (get_or edges i d)) (branch_of branch)) →
     (whole : List (Condition × ℕ) → Type 0) →
     ((rest : List (Condition × ℕ)) → AreBranchesOf all s (map edge_of (drop i edges)) rest → whole (map branch_of old ++ rest)) →
     (rest : List (Condition × ℕ)) → AreBranchesOf all s (map edge_of (drop (i + 1) edges)) rest → whole (map branch_of new ++ rest)
-branches_turn all tests edges i d s old new lt f adds whole completes rest are = go ((get_or edges i d).1 == s) refl adds
+branches_turn all tests edges i d s old new lt f adds whole completes rest are = go (state_number (get_or edges i d).1 == s) refl adds
   where
-    go : (b : Bool) → ((get_or edges i d).1 == s) ≡ b →
+    go : (b : Bool) → (state_number (get_or edges i d).1 == s) ≡ b →
         MatchBool b (new ≡ old) ((branch : TheCondition × ℕ) × (new ≡ old ++ branch ∷ []) × IsBranchOf tests (edge_of (get_or edges i d)) (branch_of branch)) → whole (map branch_of new ++ rest)
     go true is same = rw same (completes rest (rw (drop_more edges i d lt, is) are))
     go false is added =

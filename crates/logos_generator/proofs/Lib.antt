@@ -14,3 +14,5 @@ pub mod BitLemmas
 pub mod ForkLemmas
 pub mod NodeLemmas
 pub mod MadeLemmas
+pub mod LeafLemmas
+pub mod CutLemmas

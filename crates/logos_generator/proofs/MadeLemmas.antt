@@ -1,5 +1,5 @@
 -- A code whose states are made of a graph's states is sound, and made from the graph.
-use Rattle.std.proofs.Common.{◌≡◌, ◌≢◌, ℕ, zero, suc, ◌*◌, ◌<◌, ◌≤◌, ◌↔◌, Bool, true, false, ◌==◌, cond, if◌then◌else◌, MatchOption, IsSomeAnd, IfSome, IsTrue, List, [], ◌∷◌, length, find, All, Option, Some, None, option_map, slice_get, get_or, refl, sym, ap, ◌∙◌, subst, arith, ⊎_elim, ◌⊎◌}
+use Rattle.std.proofs.Common.{◌≡◌, ◌≢◌, ℕ, zero, suc, ◌*◌, ◌<◌, ◌≤◌, ◌↔◌, Bool, true, false, ◌==◌, cond, if◌then◌else◌, MatchOption, IsSomeAnd, IsSome, IfSome, IsTrue, List, [], ◌∷◌, length, find, All, Option, Some, None, option_map, slice_get, get_or, refl, sym, ap, ◌∙◌, subst, arith, ⊎_elim, ◌⊎◌}
 use Rattle.std.specs.List.{AllPairs, IsDistinct}
 use Rattle.std.specs.Str.{bytes_eq}
 use Rattle.std.proofs.lemmas.Slice.Eq.{bytes_eq-Decides}
@@ -8,13 +8,14 @@ use Rattle.std.proofs.lemmas.List.{length-map}
 use Rattle.std.proofs.lemmas.Option.{slice_get-get_or, get_or_from_slice_get, slice_get_within, slice_get_cases, slice_get-map}
 use Rattle.logos_generator.proofs.StandLemmas.{All-slice_get}
 use Rattle.std.proofs.lemmas.Bool.Decides.{eqb_tells}
-use Rattle.logos_graph.specs.Graph.{GraphState, is_in}
+use Rattle.logos_graph.specs.Graph.{StateType, GraphState, is_in}
 use Rattle.logos_generator.specs.Bytes.{passes_test}
 use Rattle.logos_generator.specs.Code.{CodeValue, CodeState}
 use Rattle.logos_generator.specs.Runs.{target}
 use Rattle.logos_generator.specs.Headline.{IsSound, IsRoot, IsEnd, IsLate, NamesWhatIsThere, NamesState}
-use Rattle.logos_generator.specs.Makes.{stays, Makes, IsLast, IsMade}
-use Rattle.logos_generator.specs.Nodes.{Edge, edge_leads, leads_beside, tests_byte, IsTest, IsLoopOf, IsStateOf, IsFinishedState, IsFirst, IsLateIn, IsFinished}
+use Rattle.logos_generator.specs.Makes.{mark_by, mark_made, stays, Makes, IsLast, IsMade}
+use Rattle.logos_graph.specs.FinishedGraph.{Edge, edge_leads, NamesLeaves, IsUnmarked, IsFinishedState, IsFirstState, IsFinished, IsLate as IsLateType}
+use Rattle.logos_generator.specs.Nodes.{leads_beside, tests_byte, IsTest, IsLoopOf, IsStateOf}
 use Rattle.logos_generator.specs.CodeView.{code_of, state_of, use_of, AreDifferent}
 use Rattle.logos_generator.specs.StateView.{AreStatesOf}
 use Rattle.logos_generator.specs.declared.code.CodeState.{CodeState as TheState}
@@ -74,6 +75,40 @@ is_equal a b e = ⊎_elim (λ h. h.1) (λ h. absurd (true_false (sym e ∙ h.0))
 equal_is : (a b : ℕ) → a ≡ b → (a == b) ≡ true
 equal_is a b e = ⊎_elim (λ h. h.0) (λ h. absurd (h.1 e)) (eqb_tells a b)
 
+-- the mark that is made names a leaf
+mark_named : (leaves : ℕ) (type : StateType) → NamesLeaves leaves type → IfSome (mark_made type) (λ mark. mark.leaf < leaves)
+mark_named leaves type names = go type.early type.accept names.1 names.0
+  where
+    go : (early accept : Option ℕ) → IfSome early (λ leaf. leaf < leaves) → IfSome accept (λ leaf. leaf < leaves) → IfSome (mark_by early accept) (λ mark. mark.leaf < leaves)
+    go (Some leaf) accept e a = e
+    go None (Some leaf) e a = a
+    go None None e a = tt
+
+-- no mark is made of none
+not_marked : (type : StateType) → IsUnmarked type → mark_made type ≡ None
+not_marked type none = rw (none.0, none.1) refl
+
+-- the mark that is made is late just where the state has a late mark alone
+late_made : (type : StateType) → IsSomeAnd (mark_made type) (λ mark. IsTrue mark.late) → IsLateType type
+late_made type late = go type.early type.accept late
+  where
+    go : (early accept : Option ℕ) → IsSomeAnd (mark_by early accept) (λ mark. IsTrue mark.late) → (early ≡ None) × IsSome accept
+    go (Some leaf) accept h = absurd (true_false (sym h))
+    go None (Some leaf) h = (refl, refl)
+    go None None h = absurd h
+
+-- what the end leads to is the last state
+last_is : (graph : List GraphState) (t : ℕ) → IsSomeAnd (slice_get graph t) (λ last. IsLateType last.state_type × (last.eoi ≡ None)) → IsLast graph t
+last_is graph t last = go (slice_get graph t) refl last
+  where
+    by_accept : (state : GraphState) (accept : Option ℕ) → slice_get graph t ≡ Some state → state.state_type.accept ≡ accept → state.state_type.early ≡ None → IsSome accept → state.eoi ≡ None → IsLast graph t
+    by_accept state None e is early h no_end = absurd (true_false (sym h))
+    by_accept state (Some leaf) e is early h no_end = record { state = state; is = e; leaf = leaf; late = rw (early, is) refl; no_end = no_end }
+
+    go : (o : Option GraphState) → slice_get graph t ≡ o → IsSomeAnd o (λ last. IsLateType last.state_type × (last.eoi ≡ None)) → IsLast graph t
+    go None e h = absurd h
+    go (Some state) e h = by_accept state state.state_type.accept e refl h.0.0 h.0.1 h.1
+
 module _ (code : CodeValue) (tests : List (List Bool)) (realised : (k b : ℕ) → b < 256 → passes_test code.bit_tables k b ≡ tests_byte tests k b) (fits : length tests ≤ 8 * length code.bit_tables) where
   -- the fast loop takes just the bytes that lead back
   stays_at : (s : ℕ) (edges : List Edge) (loop : Option ℕ) (b : ℕ) → b < 256 → IsLoopOf tests s edges loop →
@@ -109,7 +144,7 @@ module _ (code : CodeValue) (tests : List (List Bool)) (realised : (k b : ℕ) �
   makes graph leaves s state made is finished = record {
     mark = is.mark;
     bytes = λ b h.
-        let stay = stays_at s state.normal made.fast_loop b h is.fast_loop finished.leads finished.apart in
+        let stay = stays_at s state.normal made.fast_loop b h is.fast_loop finished.neat.leads finished.neat.apart in
         let f : target code made.fork b ≡ leads_beside s state.normal b = fork_at code tests realised fits s state.normal made.fork b h is.fork in
         ap (λ o. if stays code made.fast_loop b then Some s else o) f ∙ fork_whole s state.normal b (stays code made.fast_loop b) stay;
     end = is.at_end;
@@ -138,12 +173,12 @@ module _ (code : CodeValue) (tests : List (List Bool)) (realised : (k b : ℕ) �
     finished_at s state is = All-slice_get (IsFinishedState graph (length code.leaves)) graph s state finished.states is
 
     -- the same states are late
-    late_in : (t : ℕ) → IsLate code t → IsLateIn graph (length code.leaves) t
+    late_in : (t : ℕ) → IsLate code t → IsSomeAnd (slice_get graph t) (λ state. IsLateType state.state_type)
     late_in t late = go (slice_get code.states t) refl late
       where
-        go : (o : Option CodeState) → slice_get code.states t ≡ o → IsSomeAnd o (λ state. IsSomeAnd state.mark (λ mark. IsTrue mark.late)) → IsLateIn graph (length code.leaves) t
+        go : (o : Option CodeState) → slice_get code.states t ≡ o → IsSomeAnd o (λ state. IsSomeAnd state.mark (λ mark. IsTrue mark.late)) → IsSomeAnd (slice_get graph t) (λ state. IsLateType state.state_type)
         go None e h = absurd h
-        go (Some made) e h = let g = graph_at t made e in rw g.1 (rw g.2.mark at h)
+        go (Some made) e h = let g = graph_at t made e in rw g.1 (late_made g.0.state_type (rw g.2.mark at h))
 
     last_late : (t : ℕ) → IsLast graph t → IsLate code t × IsSomeAnd (slice_get code.states t) (λ next. next.at_end ≡ None)
     last_late t last =
@@ -154,10 +189,10 @@ module _ (code : CodeValue) (tests : List (List Bool)) (realised : (k b : ℕ) �
     targets_at : (s : ℕ) (state : GraphState) → slice_get graph s ≡ Some state → All (λ edge. edge.1 < length code.states) state.normal
     targets_at s state is i d h = let f = (finished_at s state is).targets i d h in omega (arith, f, count)
 
-    first_state : (first : GraphState) × (slice_get graph 0 ≡ Some first) × IsFirst graph (length code.leaves) first
+    first_state : (first : GraphState) × (slice_get graph 0 ≡ Some first) × IsFirstState graph (length code.leaves) first
     first_state = go (slice_get graph 0) refl finished.first
       where
-        go : (o : Option GraphState) → slice_get graph 0 ≡ o → IsSomeAnd o (IsFirst graph (length code.leaves)) → (first : GraphState) × (slice_get graph 0 ≡ Some first) × IsFirst graph (length code.leaves) first
+        go : (o : Option GraphState) → slice_get graph 0 ≡ o → IsSomeAnd o (IsFirstState graph (length code.leaves)) → (first : GraphState) × (slice_get graph 0 ≡ Some first) × IsFirstState graph (length code.leaves) first
         go None e h = absurd h
         go (Some first) e h = (first, e, h)
 
@@ -172,11 +207,11 @@ module _ (code : CodeValue) (tests : List (List Bool)) (realised : (k b : ℕ) �
         bytes = λ b t h e.
             let f = lead_among (λ t. t < length graph) (λ (e : Edge). is_in e.0 b) state.normal t (finished_at s state is).targets e in
             (get_or graph t state, slice_get-get_or graph t state f);
-        end = (finished_at s state is).end;
+        end = λ t e. last_is graph t ((finished_at s state is).ends t e);
       };
       first = first_state.0;
       has_first = first_state.1;
-      unmarked = first_state.2.unmarked;
+      unmarked = not_marked first_state.0.state_type first_state.2.unmarked;
     }
 
     state_named : (s : ℕ) (made : CodeState) → slice_get code.states s ≡ Some made → NamesWhatIsThere code made
@@ -185,9 +220,9 @@ module _ (code : CodeValue) (tests : List (List Bool)) (realised : (k b : ℕ) �
         let f = finished_at s g.0 g.1 in
         record {
           fast_loop = loop_named code tests realised fits s g.0.normal made.fast_loop g.2.fast_loop;
-          mark = rw g.2.mark f.mark;
+          mark = rw g.2.mark (mark_named (length code.leaves) g.0.state_type f.marks);
           fork = fork_named code tests realised fits s g.0.normal made.fork g.2.fork (targets_at s g.0 g.1);
-          at_end = rw g.2.at_end (end_named g.0.eoi f.end);
+          at_end = rw g.2.at_end (end_named g.0.eoi (λ t e. last_is graph t (f.ends t e)));
         }
       where
         end_named : (o : Option ℕ) → ((t : ℕ) → o ≡ Some t → IsLast graph t) → IfSome o (NamesState code)
@@ -198,7 +233,7 @@ module _ (code : CodeValue) (tests : List (List Bool)) (realised : (k b : ℕ) �
     root_sound =
         let m = made_at 0 first_state.0 first_state.1 in
         rw m.1 record {
-          mark = m.2.mark ∙ first_state.2.unmarked;
+          mark = m.2.mark ∙ not_marked first_state.0.state_type first_state.2.unmarked;
           fork = fork_among code tests realised fits (λ t. ¬ IsLate code t) 0 first_state.0.normal m.0.fork m.2.fork (λ i d h late. first_state.2.early i d h (late_in _ late));
           at_end = λ t e. absurd (some_none (sym first_state.2.no_end ∙ sym m.2.at_end ∙ e));
         }
@@ -206,7 +241,7 @@ module _ (code : CodeValue) (tests : List (List Bool)) (realised : (k b : ℕ) �
     end_sound : (s : ℕ) (made : CodeState) → slice_get code.states s ≡ Some made → IsEnd code made.at_end
     end_sound s made e =
         let g = graph_at s made e in
-        rw g.2.at_end (go g.0.eoi (finished_at s g.0 g.1).end)
+        rw g.2.at_end (go g.0.eoi (λ t f. last_is graph t ((finished_at s g.0 g.1).ends t f)))
       where
         go : (o : Option ℕ) → ((t : ℕ) → o ≡ Some t → IsLast graph t) → IsEnd code o
         go None f = tt

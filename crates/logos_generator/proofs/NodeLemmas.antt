@@ -13,7 +13,8 @@ use Rattle.logos_generator.specs.CodeView.{fork_of, state_of, jumps_of}
 use Rattle.logos_generator.specs.declared.code.Fork.{Fork as TheFork}
 use Rattle.logos_generator.specs.declared.code.Fork.TheVariants.{Conditions, Table}
 use Rattle.logos_generator.specs.declared.code.CodeState.{CodeState as TheState}
-use Rattle.logos_generator.specs.Nodes.{Edge, edge_leads, is_other, leads_beside, Extends, IsSetOf, tests_byte, IsTest, IsConditionOf, IsBranchOf, AreBranchesOf, IsForkOf, IsLoopOf, IsStateOf}
+use Rattle.logos_graph.specs.FinishedGraph.{Edge, edge_leads}
+use Rattle.logos_generator.specs.Nodes.{is_other, leads_beside, Extends, IsSetOf, tests_byte, IsTest, IsConditionOf, IsBranchOf, AreBranchesOf, IsForkOf, IsLoopOf, IsStateOf}
 use Rattle.logos_generator.proofs.ForkLemmas.{IsTest-later, IsConditionOf-later, slice_get-Extends}
 
 module _ (tests later : List (List Bool)) (grows : Extends tests later) where

@@ -1,23 +1,11 @@
 -- The nodes that a generator makes of a graph's state, by the byte sets that it tests by bits.
-use Rattle.std.specs.Prelude.{◌≡◌, ◌≢◌, ℕ, ◌<◌, ◌≤◌, Bool, true, false, IsTrue, IfSome, not, ◌&&◌, ◌==◌, List, [], ◌∷◌, ◌++◌, length, sum_by, Option, Some, None, option_map, MatchBool, MatchOption, IsSomeAnd, if◌then◌else◌, find, slice_get, slice_index_or}
-use Rattle.std.specs.List.{All, AllPairs}
+use Rattle.std.specs.Prelude.{◌≡◌, ℕ, ◌<◌, ◌≤◌, Bool, false, not, ◌&&◌, ◌==◌, List, [], ◌∷◌, ◌++◌, length, sum_by, Option, Some, None, option_map, MatchBool, MatchOption, IsSomeAnd, if◌then◌else◌, find, slice_get, slice_index_or}
 use Rattle.std.specs.Option.{option_map_or, option_or}
 use Rattle.logos_graph.specs.Graph.{GraphState, is_in}
-use Rattle.logos_graph.specs.Bytes.{Comparison, operations, joined, some_compares, ranges_of, AreSeparated}
-use Rattle.logos_graph.specs.declared.byte_class.ByteClass.{ByteClass}
+use Rattle.logos_graph.specs.FinishedGraph.{Edge}
+use Rattle.logos_graph.specs.Bytes.{Comparison, operations, joined, some_compares}
 use Rattle.logos_generator.specs.Code.{CodeState, Condition, by_comparisons, by_test, Fork, by_conditions, by_table}
-use Rattle.logos_generator.specs.Makes.{mark_made, IsLast}
-
--- the ranges of the bytes that lead to a state, and the state
-abbrev pub Edge : Type 0
-Edge = List (ℕ × ℕ) × ℕ
-
-abbrev pub edge_of : ByteClass × ℕ → Edge
-edge_of edge = (ranges_of edge.0, edge.1)
-
--- where a byte leads
-abbrev pub edge_leads : List Edge → ℕ → Option ℕ
-edge_leads edges b = option_map (λ e. e.1) (find (λ e. is_in e.0 b) edges)
+use Rattle.logos_generator.specs.Makes.{mark_made}
 
 -- the edge leads elsewhere than to s, by this byte
 abbrev pub is_other : ℕ → ℕ → Edge → Bool
@@ -84,28 +72,3 @@ module _ (tests : List (List Bool)) where
     pub mark : made.mark ≡ mark_made state.state_type
     pub fork : IsForkOf s state.normal made.fork
     pub at_end : made.at_end ≡ state.eoi
-
--- A graph that a code can be made of, by the number of its leaves.
-module _ (graph : List GraphState) (leaves : ℕ) where
-  -- what the edges of a state lead to is there, an edge's bytes lead where the edge says, and no two edges lead to one state
-  pub record IsFinishedState (state : GraphState) : Type 0 where
-    pub separated : All (λ edge. AreSeparated edge.0) state.normal
-    pub targets : All (λ edge. edge.1 < length graph) state.normal
-    pub leads : All (λ edge. (b : ℕ) → b < 256 → is_in edge.0 b ≡ true → edge_leads state.normal b ≡ Some edge.1) state.normal
-    pub apart : AllPairs (λ edge other. edge.1 ≢ other.1) state.normal
-    pub mark : IfSome (mark_made state.state_type) (λ mark. mark.leaf < leaves)
-    pub end : (t : ℕ) → state.eoi ≡ Some t → IsLast graph t
-
-  abbrev pub IsLateIn : ℕ → Type 0
-  IsLateIn s = IsSomeAnd (slice_get graph s) (λ state. IsSomeAnd (mark_made state.state_type) (λ mark. IsTrue mark.late))
-
-  -- nothing is matched before the first byte, and what is matched there is no late match of the empty text
-  pub record IsFirst (state : GraphState) : Type 0 where
-    pub unmarked : mark_made state.state_type ≡ None
-    pub early : All (λ edge. ¬ IsLateIn edge.1) state.normal
-    pub no_end : state.eoi ≡ None
-
-  pub record IsFinished : Type 0 where
-    pub few : length graph < 4294967295
-    pub states : All IsFinishedState graph
-    pub first : IsSomeAnd (slice_get graph 0) IsFirst

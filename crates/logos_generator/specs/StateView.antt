@@ -1,24 +1,19 @@
 -- What contracts see of the states that a generator reads and makes.
-use Rattle.std.specs.Prelude.{◌≡◌, ℕ, ◌<◌, ◌≤◌, ◌*◌, Bool, List, map, length, option_map, IsSomeAnd, Some, slice_get}
+use Rattle.std.specs.Prelude.{◌≡◌, ℕ, ◌<◌, ◌≤◌, ◌*◌, Bool, List, length, IsSomeAnd, Some, slice_get}
 use Rattle.std.specs.List.{All}
-use Rattle.logos_pattern.specs.declared.leaf.LeafId.{LeafId}
-use Rattle.logos_graph.specs.Graph.{StateType, GraphState}
+use Rattle.logos_pattern.specs.declared.leaf.Leaf.{Leaf}
+use Rattle.logos_graph.specs.Graph.{GraphState}
+use Rattle.logos_graph.specs.Munch.{Use}
+use Rattle.logos_graph.specs.View.{rule_of}
 use Rattle.logos_graph.specs.Bytes.{AreSeparated}
-use Rattle.logos_generator.specs.declared.generator.states.StateType.{StateType as TheStateType}
-use Rattle.logos_generator.specs.declared.generator.states.StateData.{StateData}
 use Rattle.logos_generator.specs.declared.code.CodeState.{CodeState as TheState}
 use Rattle.logos_generator.specs.CodeView.{state_of, AreDifferent}
 use Rattle.logos_generator.specs.Bytes.{passes_test}
-use Rattle.logos_generator.specs.Nodes.{edge_of, tests_byte, IsStateOf}
+use Rattle.logos_generator.specs.Nodes.{tests_byte, IsStateOf}
 
-abbrev pub leaf_number : LeafId → ℕ
-leaf_number leaf = leaf.0
-
-abbrev pub state_type_of : TheStateType → StateType
-state_type_of type = record { accept = option_map leaf_number type.accept; early = option_map leaf_number type.early }
-
-abbrev pub graph_state_of : StateData → GraphState
-graph_state_of state = record { state_type = state_type_of state.state_type; normal = map edge_of state.normal.items; eoi = state.eoi }
+-- what becomes of the matches of a leaf
+abbrev pub leaf_use : Leaf → Use
+leaf_use leaf = (rule_of leaf).use_of
 
 -- what a state's edges have to be, so that a code state can be made of it
 pub record IsCodable (state : GraphState) : Type 0 where

@@ -8,9 +8,13 @@ ghost use Rattle.logos_generator.specs.Runs.{target, passes};
 ghost use Rattle.logos_generator.specs.CodeView.{mark_of, condition_of, branch_of, entry_of, jumps_of, state_at, has_mask, asks_for, skips_over, code_of, IsKept};
 
 mod sound;
+#[cfg(test)]
+mod tests;
 
+use crate::generator::Config;
 use logos_graph::byte_class::Comparisons;
 use logos_pattern::leaf::{LeafId, VariantKind};
+use logos_token::token::Ident;
 use std::marker::Model;
 
 /// A match of this leaf ends where the state is, or one byte before where it is late.
@@ -63,6 +67,10 @@ pub struct CodeLeaf<'s> {
 /// What a code value is made of.
 #[derive(Drop)]
 pub(crate) struct CodeParts<'s> {
+    /// The shape of its text.
+    pub shape: Config,
+    /// The name of the enum.
+    pub name: Ident<'s>,
     pub states: Vec<CodeState>,
     /// Test number k is bit k mod 8 of the entries of table k / 8.
     pub bit_tables: Vec<[u8; 256]>,

@@ -1,10 +1,17 @@
 //! Laws of the definitions, proved and called by nobody: each function's contract is a law.
 
-ghost use Rattle.std.specs.Prelude.{ℕ, ◌≤◌, Bool, List, length};
+ghost use Rattle.std.specs.Prelude.{◌≡◌, ℕ, ◌≤◌, ◌↔◌, Bool, true, IsCharBoundary, List, length, map};
+ghost use Rattle.std.specs.List.{All};
+ghost use Rattle.logos_pattern.specs.Measure.{is_text};
+ghost use Rattle.logos_graph.specs.Found.{FindsTheLongest, IsInput};
 ghost use Rattle.logos_graph.specs.Munch.{Rule};
+ghost use Rattle.logos_graph.specs.View.{GraphValue, rule_of, rules_of};
+ghost use Rattle.logos_generator.specs.Code.{CodeValue};
+ghost use Rattle.logos_generator.specs.Headline.{IsCut, IsLexer, RunsAs};
 ghost use Rattle.logos_generator.specs.Items.{Item, Items};
-ghost use Rattle.logos_generator.specs.Order.{AreInOrder};
 ghost use Rattle.logos_generator.specs.LexerValue.{answers_of};
+ghost use Rattle.logos_generator.specs.Order.{AreInOrder};
+ghost use Rattle.logos_generator.specs.Runs.{Runs};
 
 use crate::machine::Action;
 use logos_pattern::leaf::LeafId;
@@ -13,4 +20,26 @@ use logos_pattern::leaf::LeafId;
 /// input.
 pub fn items_are_in_order<C: Fn(LeafId, &[u8]) -> Action>(callback: &C)
     ensures { (rules : List Rule) (utf8 : Bool) (bytes : List ℕ) (from : ℕ) (items : List Item) → from ≤ length bytes → Items rules (answers_of C.Fn callback.now) utf8 bytes from items → AreInOrder (length bytes) from items }
+{}
+
+/// A code that runs as a graph does, whose leaves are used as the graph's, is a lexer of the graph's
+/// rules if the graph finds what maximal munch finds.
+pub fn code_of_a_graph_is_a_lexer()
+    ensures { (graph : GraphValue) (code : CodeValue) → FindsTheLongest (rules_of graph.leaves) graph.utf8 graph.states → RunsAs graph.states graph.utf8 code → code.utf8 ≡ graph.utf8 → code.leaves ≡ map (λ leaf. (rule_of leaf).use_of) graph.leaves → IsLexer (rules_of graph.leaves) graph.utf8 code }
+{}
+
+/// The runs of a lexer's code are the lists of items of maximal munch.
+pub fn runs_are_the_items<C: Fn(LeafId, &[u8]) -> Action>(callback: &C)
+    ensures { (rules : List Rule) (utf8 : Bool) (code : CodeValue) (bytes : List ℕ) (from : ℕ) (items : List Item) → IsLexer rules utf8 code → IsInput utf8 bytes → Runs code (answers_of C.Fn callback.now) bytes from items ↔ Items rules (answers_of C.Fn callback.now) utf8 bytes from items }
+{}
+
+/// Two codes of the same rules and mode have the same runs.
+pub fn codes_of_the_same_rules_agree<C: Fn(LeafId, &[u8]) -> Action>(callback: &C)
+    ensures { (rules : List Rule) (utf8 : Bool) (code other : CodeValue) (bytes : List ℕ) (from : ℕ) (items : List Item) → IsLexer rules utf8 code → IsLexer rules utf8 other → IsInput utf8 bytes → Runs code (answers_of C.Fn callback.now) bytes from items ↔ Runs other (answers_of C.Fn callback.now) bytes from items }
+{}
+
+/// Where a text is lexed by rules that match text alone, each item starts and ends between
+/// characters.
+pub fn items_are_cut_between_characters<C: Fn(LeafId, &[u8]) -> Action>(callback: &C)
+    ensures { (rules : List Rule) (code : CodeValue) (bytes : List ℕ) (from : ℕ) (items : List Item) → IsLexer rules true code → All (λ rule. is_text rule.tree ≡ true) rules → IsInput true bytes → IsCharBoundary bytes from → Runs code (answers_of C.Fn callback.now) bytes from items → All (IsCut bytes) items }
 {}

@@ -6,3 +6,5 @@ pub mod code;
 pub mod generator;
 pub mod laws;
 pub mod machine;
+#[cfg(test)]
+mod testing;

@@ -1,22 +1,23 @@
 //! Forks of states, and their fast loops.
-ghost use Rattle.std.specs.Prelude.{◌≡◌, ◌<◌, ◌≤◌, ◌↔◌, ◌&&◌, ◌==◌, ℕ, true, IfOk, OnOk, IsTrue, MatchBool, [], ◌∷◌, ◌++◌, List, Bool, length, map, option_map, find, drop, nat_le, slice_index, None};
+ghost use Rattle.std.specs.Prelude.{◌≡◌, ◌<◌, ◌≤◌, ◌↔◌, ◌&&◌, ◌==◌, ℕ, true, IfOk, OnOk, IsTrue, MatchBool, [], ◌∷◌, ◌++◌, length, map, option_map, find, nat_le, slice_index, None};
 ghost use Rattle.std.specs.List.{All};
 ghost use Rattle.std.specs.Option.{option_or};
-ghost use Rattle.logos_graph.specs.Graph.{is_in};
 ghost use Rattle.logos_graph.specs.Bytes.{ranges_of, has_byte, AreSeparated, comparison_of};
 ghost use Rattle.logos_generator.specs.CodeView.{condition_of, branch_of, entry_of, fork_of};
-ghost use Rattle.logos_generator.specs.Nodes.{Edge, edge_of, hit, leads_beside, Extends, IsConditionOf, IsBranchOf, AreBranchesOf, IsForkOf, IsLoopOf, cost};
+ghost use Rattle.logos_graph.specs.GraphView.{edge_of, state_number};
+ghost use Rattle.logos_generator.specs.Nodes.{hit, leads_beside, Extends, IsConditionOf, IsBranchOf, AreBranchesOf, IsForkOf, IsLoopOf, cost};
 
 use super::tests_by_bits::add_test;
 use crate::code::{Condition, Fork, NOWHERE};
 use indexmap::IndexSet;
 use logos_graph::byte_class::{ByteClass, Comparisons};
+use logos_graph::graph::State;
 use std::alloc::{AllocError, Global};
 
 /// The test of the edge back to the state, if there is one.
 pub(super) fn maybe_impl_fast_loop(
     tests: &mut IndexSet<[bool; 256]>,
-    edges: &[(ByteClass, usize)],
+    edges: &[(ByteClass, State)],
     state: usize,
 ) -> Result<Option<usize>, AllocError>
     ensures grows { OnOk result (Extends tests.old.keys tests.new.keys) }
@@ -29,11 +30,11 @@ pub(super) fn maybe_impl_fast_loop(
 }
 
 /// The bytes of the first edge that leads back to the state.
-fn edge_back<'e>(edges: &'e [(ByteClass, usize)], state: usize) -> Option<&'e ByteClass>
+fn edge_back<'e>(edges: &'e [(ByteClass, State)], state: usize) -> Option<&'e ByteClass>
     ensures { option_map (λ class. ranges_of class.now) result ≡ option_map (λ edge. edge.0) (find (λ edge. edge.1 == state) (map edge_of edges.now)) }
 {
     for edge in edges {
-        if edge.1 == state {
+        if edge.1.index() == state {
             return Some(&edge.0);
         }
     }
@@ -45,11 +46,11 @@ pub(super) fn impl_fork(
     alloc: Global,
     tests: &mut IndexSet<[bool; 256]>,
     jumps: &mut IndexSet<[u32; 256]>,
-    edges: &[(ByteClass, usize)],
+    edges: &[(ByteClass, State)],
     state: usize,
 ) -> Result<Fork, AllocError>
     requires separated { All (λ edge. AreSeparated (ranges_of edge.0)) edges.now }
-    requires targets { All (λ edge. edge.1 < 4294967295) edges.now }
+    requires targets { All (λ edge. state_number edge.1 < 4294967295) edges.now }
     ensures tests { OnOk result (Extends tests.old.keys tests.new.keys) }
     ensures jumps { OnOk result (Extends jumps.old.keys jumps.new.keys) }
     ensures is { IfOk result (λ fork. IsForkOf tests.new.keys state (map edge_of edges.now) (fork_of jumps.new.keys fork)) }
@@ -62,8 +63,8 @@ pub(super) fn impl_fork(
 }
 
 /// The jump table of a state's edges, without the edge back to it.
-fn table_of(edges: &[(ByteClass, usize)], state: usize) -> [u32; 256]
-    requires { All (λ edge. edge.1 < 4294967295) edges.now }
+fn table_of(edges: &[(ByteClass, State)], state: usize) -> [u32; 256]
+    requires { All (λ edge. state_number edge.1 < 4294967295) edges.now }
     ensures long { length result ≡ 256 }
     ensures leads { (b : ℕ) → b < 256 → entry_of (slice_index result b) ≡ leads_beside state (map edge_of edges.now) b }
 {
@@ -75,12 +76,12 @@ fn table_of(edges: &[(ByteClass, usize)], state: usize) -> [u32; 256]
 }
 
 /// Writes an edge, if it leads elsewhere.
-fn fill_edge(table: &mut [u32; 256], edge: &(ByteClass, usize), state: usize)
-    requires { edge.now.1 < 4294967295 }
+fn fill_edge(table: &mut [u32; 256], edge: &(ByteClass, State), state: usize)
+    requires { state_number edge.now.1 < 4294967295 }
     ensures { (b : ℕ) → b < 256 → entry_of (slice_index table.new b) ≡ option_or (entry_of (slice_index table.old b)) (leads_beside state (edge_of edge.now ∷ []) b) }
 {
-    if edge.1 != state {
-        fill_class(table, &edge.0, edge.1 as u32);
+    if edge.1.index() != state {
+        fill_class(table, &edge.0, edge.1.index() as u32);
     }
 }
 
@@ -116,7 +117,7 @@ fn filled(entry: u32, target: u32) -> u32
 fn conditions_of(
     alloc: Global,
     tests: &mut IndexSet<[bool; 256]>,
-    edges: &[(ByteClass, usize)],
+    edges: &[(ByteClass, State)],
     state: usize,
 ) -> Result<Vec<(Condition, usize)>, AllocError>
     requires { All (λ edge. AreSeparated (ranges_of edge.0)) edges.now }
@@ -135,18 +136,18 @@ fn add_branch(
     alloc: Global,
     tests: &mut IndexSet<[bool; 256]>,
     made: &mut Vec<(Condition, usize)>,
-    edge: &(ByteClass, usize),
+    edge: &(ByteClass, State),
     state: usize,
 ) -> Result<(), AllocError>
     requires { AreSeparated (ranges_of edge.now.0) }
     ensures grows { OnOk result (Extends tests.old.keys tests.new.keys) }
-    ensures adds { OnOk result (MatchBool (edge.now.1 == state) (made.new.items ≡ made.old.items) ((branch : _) × (made.new.items ≡ made.old.items ++ branch ∷ []) × IsBranchOf tests.new.keys (edge_of edge.now) (branch_of branch))) }
+    ensures adds { OnOk result (MatchBool (state_number edge.now.1 == state) (made.new.items ≡ made.old.items) ((branch : _) × (made.new.items ≡ made.old.items ++ branch ∷ []) × IsBranchOf tests.new.keys (edge_of edge.now) (branch_of branch))) }
 {
-    if edge.1 == state {
+    if edge.1.index() == state {
         return Ok(());
     }
     let condition = condition_of(alloc, tests, &edge.0)?;
-    made.push((condition, edge.1))?;
+    made.push((condition, edge.1.index()))?;
     Ok(())
 }
 

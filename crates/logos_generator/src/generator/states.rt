@@ -1,60 +1,50 @@
 //! The states of a code, made of a graph's states.
-ghost use Rattle.std.specs.Prelude.{◌≡◌, ◌<◌, ◌≤◌, ◌*◌, ℕ, IfOk, OnOk, IsSomeAnd, length, map, option_map, slice_get};
-ghost use Rattle.std.specs.List.{All};
-ghost use Rattle.logos_graph.specs.Graph.{GraphState};
+ghost use Rattle.std.specs.Prelude.{◌≡◌, ◌<◌, IfOk, OnOk, length, map, option_map};
+ghost use Rattle.std.specs.List.{All, range_with_len};
 ghost use Rattle.logos_generator.specs.Headline.{RunsAs};
 ghost use Rattle.logos_generator.specs.Makes.{mark_made};
-ghost use Rattle.logos_generator.specs.CodeView.{mark_of, state_of, use_of};
-ghost use Rattle.logos_generator.specs.Nodes.{Extends, IsStateOf, IsFinished};
-ghost use Rattle.logos_generator.specs.StateView.{state_type_of, graph_state_of, AreStatesOf, AreTablesOf, IsCodable};
+ghost use Rattle.logos_generator.specs.CodeView.{mark_of, state_of};
+ghost use Rattle.logos_graph.specs.FinishedGraph.{IsFinished};
+ghost use Rattle.logos_generator.specs.Nodes.{Extends, IsStateOf};
+ghost use Rattle.logos_graph.specs.GraphView.{state_number, state_type_of, graph_state_of};
+ghost use Rattle.logos_graph.specs.StatesView.{states_left};
+ghost use Rattle.logos_generator.specs.StateView.{leaf_use, AreStatesOf, AreTablesOf, IsCodable};
 
+use super::Config;
 use super::fork::{impl_fork, maybe_impl_fast_loop};
+use super::leaves::leaves_of;
 use super::tests_by_bits::tables_of;
-use crate::code::{Code, CodeLeaf, CodeParts, CodeState, Mark};
+use crate::code::{Code, CodeParts, CodeState, Mark};
 use indexmap::IndexSet;
-use logos_graph::byte_class::ByteClass;
-use logos_pattern::leaf::LeafId;
+use logos_graph::graph::{Graph, State, StateData, StateType, States};
+use logos_token::token::Ident;
 use std::alloc::{AllocError, Global};
 
-/// The leaves whose matches end where the state is, or one byte before.
-#[derive(Clone, Copy, Debug, PartialEq, Eq)]
-pub struct StateType {
-    /// The match ends one byte before.
-    pub accept: Option<LeafId>,
-    /// The match ends here.
-    pub early: Option<LeafId>,
-}
-
-/// A state of a graph.
-#[derive(Drop)]
-pub struct StateData {
-    pub state_type: StateType,
-    /// The bytes that lead to each target.
-    pub normal: Vec<(ByteClass, usize)>,
-    /// Where the end of the input leads.
-    pub eoi: Option<usize>,
-}
-
-/// The code of a graph, whose leaves are used so.
+/// The code of a graph, and of all its states.
 pub(super) fn code_of<'s>(
     alloc: Global,
-    graph: &[StateData],
-    leaves: Vec<CodeLeaf<'s>>,
-    utf8: bool,
+    shape: Config,
+    name: Ident<'s>,
+    graph: &Graph<'s>,
+    states: States,
 ) -> Result<Code<'s>, AllocError>
-    requires { IsFinished (map graph_state_of graph.now) (length leaves.items) }
-    ensures runs { IfOk result (λ code. RunsAs (map graph_state_of graph.now) utf8 code) }
-    ensures mode { IfOk result (λ code. code.utf8 ≡ utf8) }
-    ensures leaves { IfOk result (λ code. code.leaves ≡ map use_of leaves.entry.items) }
+    requires finished { IsFinished graph.now.states (length graph.now.leaves) }
+    requires states { states_left states ≡ range_with_len 0 (length graph.now.states) }
+    ensures runs { IfOk result (λ code. RunsAs graph.now.states graph.now.utf8 code) }
+    ensures mode { IfOk result (λ code. code.utf8 ≡ graph.now.utf8) }
+    ensures leaves { IfOk result (λ code. code.leaves ≡ map leaf_use graph.now.leaves) }
 {
-    let tables = tables_made(alloc, graph)?;
+    let tables = tables_made(alloc, graph, states)?;
+    let leaves = leaves_of(alloc, graph.leaves())?;
     Ok(Code::new(CodeParts {
+        shape,
+        name,
         states: tables.states,
         bit_tables: tables.bit_tables,
         jump_tables: tables.jump_tables,
         leaves,
         root: 0,
-        utf8,
+        utf8: graph.utf8_mode(),
     }))
 }
 
@@ -67,13 +57,14 @@ struct Tables {
 }
 
 /// The states of the code, and their tables.
-fn tables_made(alloc: Global, graph: &[StateData]) -> Result<Tables, AllocError>
-    requires { All (λ state. IsCodable (graph_state_of state)) graph.now }
-    ensures { IfOk result (λ tables. AreTablesOf (map graph_state_of graph.now) tables.states.items tables.bit_tables.items tables.jump_tables.items) }
+fn tables_made(alloc: Global, graph: &Graph, states: States) -> Result<Tables, AllocError>
+    requires codable { All IsCodable graph.now.states }
+    requires states { states_left states ≡ range_with_len 0 (length graph.now.states) }
+    ensures { IfOk result (λ tables. AreTablesOf graph.now.states tables.states.items tables.bit_tables.items tables.jump_tables.items) }
 {
     let mut tests = IndexSet::new(alloc);
     let mut jumps = IndexSet::new(alloc);
-    let states = states_of(alloc, &mut tests, &mut jumps, graph)?;
+    let states = states_of(alloc, &mut tests, &mut jumps, graph, states)?;
     let bit_tables = tables_of(alloc, tests.as_slice())?;
     let jump_tables = Vec::from_slice(alloc, jumps.as_slice())?;
     Ok(Tables {
@@ -88,14 +79,16 @@ fn states_of(
     alloc: Global,
     tests: &mut IndexSet<[bool; 256]>,
     jumps: &mut IndexSet<[u32; 256]>,
-    graph: &[StateData],
+    graph: &Graph,
+    states: States,
 ) -> Result<Vec<CodeState>, AllocError>
-    requires { All (λ state. IsCodable (graph_state_of state)) graph.now }
-    ensures { IfOk result (λ made. AreStatesOf tests.new.keys jumps.new.keys (map graph_state_of graph.now) made.items) }
+    requires codable { All IsCodable graph.now.states }
+    requires states { states_left states ≡ range_with_len 0 (length graph.now.states) }
+    ensures { IfOk result (λ made. AreStatesOf tests.new.keys jumps.new.keys graph.now.states made.items) }
 {
     let mut made = Vec::new(alloc);
-    for (s, state) in graph.iter().enumerate() {
-        made.push(state_made(alloc, tests, jumps, state, s)?)?;
+    for state in states {
+        made.push(state_made(alloc, tests, jumps, graph.get_state(state), state.index())?)?;
     }
     Ok(made)
 }
@@ -119,8 +112,18 @@ fn state_made(
         fast_loop,
         mark: mark_made(&state.state_type),
         fork,
-        at_end: state.eoi,
+        at_end: number_of(state.eoi),
     })
+}
+
+/// The number of the state, if there is one.
+fn number_of(state: Option<State>) -> Option<usize>
+    ensures { result ≡ option_map state_number state }
+{
+    match state {
+        Some(state) => Some(state.index()),
+        None => None,
+    }
 }
 
 /// The mark of a state: an early match wins over a late one.

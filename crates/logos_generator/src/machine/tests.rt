@@ -1,5 +1,8 @@
+mod patterns;
+
 use super::*;
 use crate::code::{CodeLeaf, CodeParts, CodeState, Condition, Fork, Mark, NOWHERE};
+use crate::generator::Config;
 use logos_graph::byte_class::Comparisons;
 use logos_pattern::leaf::VariantKind;
 use logos_token::token::Ident;
@@ -65,6 +68,13 @@ fn parts(
     leaves: &[CodeLeaf<'static>],
 ) -> Result<CodeParts<'static>, AllocError> {
     Ok(CodeParts {
+        shape: Config {
+            use_state_machine_codegen: true,
+        },
+        name: Ident {
+            text: "Enum",
+            span: Span { from: 0, to: 0 },
+        },
         states,
         bit_tables: Vec::new(alloc),
         jump_tables: Vec::new(alloc),

@@ -1,7 +1,8 @@
 use Rattle.std.proofs.Common.{◌≡◌, [], drop, map, append-nil, refl, arith}
 use Rattle.std.proofs.lemmas.List.{drop_all}
 use Rattle.logos_generator.specs.CodeView.{branch_of}
-use Rattle.logos_generator.specs.Nodes.{edge_of, AreBranchesOf}
+use Rattle.logos_graph.specs.GraphView.{edge_of}
+use Rattle.logos_generator.specs.Nodes.{AreBranchesOf}
 use Rattle.logos_generator.proofs.ForkLemmas.{Extends_same, Extends_trans, branches_turn}
 use Rattle.logos_generator.proofs.generator.fork.conditions_of.Goals as goal
 

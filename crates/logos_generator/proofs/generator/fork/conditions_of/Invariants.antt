@@ -1,7 +1,8 @@
 use Rattle.std.proofs.Common.{ℕ, Bool, List, ◌++◌, drop, map}
 use Rattle.logos_generator.specs.Code.{Condition}
 use Rattle.logos_generator.specs.CodeView.{branch_of}
-use Rattle.logos_generator.specs.Nodes.{edge_of, Extends, AreBranchesOf}
+use Rattle.logos_graph.specs.GraphView.{edge_of}
+use Rattle.logos_generator.specs.Nodes.{Extends, AreBranchesOf}
 use Rattle.logos_generator.proofs.generator.fork.conditions_of.Given as goal
 
 -- the branches of the edges that are left complete the branches, whatever tests come later

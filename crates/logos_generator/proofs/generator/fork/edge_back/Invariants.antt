@@ -1,5 +1,5 @@
 use Rattle.std.proofs.Common.{◌≡◌, ◌==◌, drop, map, find}
-use Rattle.logos_generator.specs.Nodes.{edge_of}
+use Rattle.logos_graph.specs.GraphView.{edge_of}
 use Rattle.logos_generator.proofs.generator.fork.edge_back.Given as goal
 
 -- the edges that are left decide

@@ -4,7 +4,7 @@ use Rattle.std.proofs.lemmas.List.{length-map, get_or-map}
 use Rattle.std.proofs.lemmas.Option.{get_or_from_slice_get}
 use Rattle.std.proofs.lemmas.Slice.Eq.{slice_eq-Decides}
 use Rattle.logos_generator.specs.CodeView.{entry_of}
-use Rattle.logos_generator.specs.Nodes.{edge_of}
+use Rattle.logos_graph.specs.GraphView.{edge_of}
 use Rattle.logos_generator.proofs.generator.fork.impl_fork.Goals as goal
 
 pub returns-then-edges-gt2-clause-is : goal.returns-then-edges-gt2-clause-is

@@ -2,7 +2,8 @@ use Rattle.std.proofs.Common.{ℕ, ap, map}
 use Rattle.std.specs.Option.{option_or}
 use Rattle.std.proofs.lemmas.List.{get_or-replicate, length-replicate}
 use Rattle.logos_generator.specs.CodeView.{entry_of}
-use Rattle.logos_generator.specs.Nodes.{edge_of, leads_beside}
+use Rattle.logos_graph.specs.GraphView.{edge_of}
+use Rattle.logos_generator.specs.Nodes.{leads_beside}
 use Rattle.logos_generator.proofs.generator.fork.table_of.Goals as goal
 
 pub loop-edge-init : goal.loop-edge-init

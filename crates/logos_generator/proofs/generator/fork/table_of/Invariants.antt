@@ -1,7 +1,8 @@
 use Rattle.std.proofs.Common.{◌≡◌, ℕ, ◌<◌, slice_index, length, drop, map}
 use Rattle.std.specs.Option.{option_or}
 use Rattle.logos_generator.specs.CodeView.{entry_of}
-use Rattle.logos_generator.specs.Nodes.{edge_of, leads_beside}
+use Rattle.logos_graph.specs.GraphView.{edge_of}
+use Rattle.logos_generator.specs.Nodes.{leads_beside}
 use Rattle.logos_generator.proofs.generator.fork.table_of.Given as goal
 
 -- the edges that are left complete the table

@@ -1,26 +1,38 @@
-use Rattle.std.proofs.Common.{map, length, refl, arith}
-use Rattle.logos_generator.specs.Nodes.{IsFinishedState}
-use Rattle.logos_generator.specs.StateView.{graph_state_of}
+use Rattle.std.proofs.Common.{◌≡◌, ◌∙◌, List, map, length, ap, refl, sym, subst, arith}
+use Rattle.std.proofs.lemmas.List.{length-map}
+use Rattle.logos_pattern.specs.declared.leaf.Leaf.{Leaf}
+use Rattle.logos_graph.specs.FinishedGraph.{IsFinished}
+use Rattle.logos_generator.specs.CodeView.{code_of, use_of}
+use Rattle.logos_generator.specs.Headline.{RunsAs}
+use Rattle.logos_generator.specs.StateView.{leaf_use}
+use Rattle.logos_generator.specs.declared.code.CodeLeaf.{CodeLeaf}
 use Rattle.logos_generator.specs.declared.code.CodeParts.{CodeParts}
-use Rattle.logos_generator.proofs.SoundLemmas.{All-map-iff}
 use Rattle.logos_generator.proofs.MadeLemmas.{parts_made, parts_sound}
 use Rattle.logos_generator.proofs.RunLemmas.{runs_as}
 use Rattle.logos_generator.proofs.generator.states.code_of.Goals as goal
 
-pub tables_made-requires : goal.tables_made-requires
-tables_made-requires c = λ k d h.
-    let f = (All-map-iff (IsFinishedState (map graph_state_of c.args.graph.now) (length c.args.leaves.items)) graph_state_of c.args.graph.now).1 c.requires.states k d h in
-    let few = c.requires.few in
-    record { separated = f.separated; targets = λ i e l. let t = f.targets i e l in omega (arith, t, few) }
+-- there are as many
+same_count : (made : List CodeLeaf) (leaves : List Leaf) → map use_of made ≡ map leaf_use leaves → length leaves ≡ length made
+same_count made leaves same = sym (length-map leaves leaf_use) ∙ ap length (sym same) ∙ length-map made use_of
+
+pub tables_made-requires-clause-codable : goal.tables_made-requires-clause-codable
+tables_made-requires-clause-codable c = λ k d h.
+    let f = c.requires.finished.states k d h in
+    let few = c.requires.finished.few in
+    record { separated = f.neat.separated; targets = λ i e l. let t = f.targets i e l in omega (arith, t, few) }
 
 pub new-requires : goal.new-requires
 new-requires c =
     let t = c.in_ok-tables.ensures in
-    let parts : CodeParts = record { states = c.in_ok-tables.tables.states; bit_tables = c.in_ok-tables.tables.bit_tables; jump_tables = c.in_ok-tables.tables.jump_tables; leaves = c.args.leaves; root = 0; utf8 = c.args.utf8 } in
-    record { sound = parts_sound t.tests (map graph_state_of c.args.graph.now) parts refl t.are t.hold t.fit c.requires; once = t.once }
+    let parts : CodeParts = record { shape = c.args.shape; name = c.args.name; states = c.in_ok-tables.tables.states; bit_tables = c.in_ok-tables.tables.bit_tables; jump_tables = c.in_ok-tables.tables.jump_tables; leaves = c.in_ok-leaves.leaves; root = 0; utf8 = c.utf8_mode.result } in
+    let finished = subst (IsFinished c.args.graph.now.states) (same_count c.in_ok-leaves.leaves.items c.args.graph.now.leaves (rw c.leaves.ensures at c.in_ok-leaves.ensures)) c.requires.finished in
+    record { sound = parts_sound t.tests c.args.graph.now.states parts refl t.are t.hold t.fit finished; once = t.once }
 
 pub returns-clause-runs : goal.returns-clause-runs
 returns-clause-runs c =
     let t = c.in_ok-tables.ensures in
-    let parts : CodeParts = record { states = c.in_ok-tables.tables.states; bit_tables = c.in_ok-tables.tables.bit_tables; jump_tables = c.in_ok-tables.tables.jump_tables; leaves = c.args.leaves; root = 0; utf8 = c.args.utf8 } in
-    rw c.new.ensures (runs_as (map graph_state_of c.args.graph.now) c.args.utf8 _ (parts_made t.tests (map graph_state_of c.args.graph.now) parts refl t.are t.hold t.fit c.requires))
+    let parts : CodeParts = record { shape = c.args.shape; name = c.args.name; states = c.in_ok-tables.tables.states; bit_tables = c.in_ok-tables.tables.bit_tables; jump_tables = c.in_ok-tables.tables.jump_tables; leaves = c.in_ok-leaves.leaves; root = 0; utf8 = c.utf8_mode.result } in
+    let finished = subst (IsFinished c.args.graph.now.states) (same_count c.in_ok-leaves.leaves.items c.args.graph.now.leaves (rw c.leaves.ensures at c.in_ok-leaves.ensures)) c.requires.finished in
+    rw c.new.ensures
+    (subst (λ u. RunsAs c.args.graph.now.states u (code_of parts)) c.utf8_mode.ensures
+    (runs_as c.args.graph.now.states c.utf8_mode.result (code_of parts) (parts_made t.tests c.args.graph.now.states parts refl t.are t.hold t.fit finished)))

@@ -1,6 +1,7 @@
-use Rattle.std.proofs.Common.{◌<◌, map, refl}
+use Rattle.std.proofs.Common.{◌<◌, map}
 use Rattle.logos_graph.specs.Bytes.{AreSeparated}
-use Rattle.logos_generator.specs.Nodes.{Edge, edge_of}
+use Rattle.logos_graph.specs.FinishedGraph.{Edge}
+use Rattle.logos_graph.specs.GraphView.{edge_of}
 use Rattle.logos_generator.proofs.SoundLemmas.{All-map-iff}
 use Rattle.logos_generator.proofs.NodeLemmas.{IsLoopOf-later}
 use Rattle.logos_generator.proofs.generator.states.state_made.Goals as goal
@@ -19,5 +20,5 @@ returns-clause-is c = record {
       (map edge_of c.args.state.now.normal.items) _ (rw c.deref.ensures.value at c.in_ok-fast_loop.ensures.is);
   mark = c.mark_made.ensures;
   fork = rw c.deref-2.ensures.value at c.in_ok-fork.ensures.is;
-  at_end = refl;
+  at_end = c.number_of.ensures;
 }

@@ -1,34 +1,69 @@
-use Rattle.std.proofs.Common.{◌≡◌, ◌∙◌, ◌∷◌, [], Some, ap, sym, map, option_map, length, slice_get, arith, length-append}
-use Rattle.std.proofs.lemmas.Option.{slice_get-get_or, slice_get-map, slice_get_within}
-use Rattle.std.proofs.lemmas.List.{length-map}
-use Rattle.logos_generator.specs.StateView.{graph_state_of}
+use Rattle.std.proofs.Common.{◌≡◌, ◌∙◌, ℕ, ◌+◌, ◌<◌, List, ◌∷◌, [], Some, All, ap, subst, length, get_or, slice_get, arith, length-append}
+use Rattle.std.specs.List.{range_with_len}
+use Rattle.std.proofs.lemmas.Iterator.Consumers.{YieldsList-at, YieldsList-from_first, YieldsList-turn, YieldsList-end}
+use Rattle.std.proofs.lemmas.Iterator.{YieldsList}
+use Rattle.std.specs.Iterator.{YieldsFirstBy}
+use Rattle.std.proofs.lemmas.List.FromFn.{length-range_with_len, get_or-range_with_len}
+use Rattle.std.proofs.lemmas.Option.{get_or_from_slice_get, slice_get_within}
+use Rattle.logos_graph.specs.Graph.{GraphState}
+use Rattle.logos_graph.specs.GraphView.{graph_state_of, state_number}
+use Rattle.logos_graph.specs.declared.graph.value.States.{States}
+use Rattle.logos_graph.specs.StatesView.{states_left}
+use Rattle.logos_generator.specs.CodeView.{state_of}
+use Rattle.logos_generator.specs.Nodes.{IsStateOf}
+use Rattle.logos_generator.specs.StateView.{IsCodable}
 use Rattle.logos_generator.proofs.NodeLemmas.{states_turn}
 use Rattle.logos_generator.proofs.generator.states.states_of.Goals as goal
 
-pub state_made-requires : goal.state_made-requires
-state_made-requires c = rw (← c.index-graph-s.is) at (c.requires c.loop-s.s c.index-graph-s.result c.loop-s-test.true)
+-- the next state is the one behind those before
+number_at : (n i x : ℕ) → (i < length (range_with_len 0 n)) × (x ≡ get_or (range_with_len 0 n) i x) → (x ≡ i) × (i < n)
+number_at n i x h =
+    let lt : i < n = omega (arith, h.0, length-range_with_len 0 n) in
+    (h.1 ∙ get_or-range_with_len 0 n i x lt ∙ from_zero, lt)
+  where
+    from_zero : 0 + i ≡ i
+    from_zero = omega arith
 
-pub loop-s-preserved : goal.loop-s-preserved
-loop-s-preserved c =
-    let e = c.in_ok-state_made.ensures in
+-- the iterator gives all states
+road : {s t : States} (n : ℕ) → states_left t ≡ range_with_len 0 n → s ≡ t → YieldsList (YieldsFirstBy state_number states_left) state_number s (range_with_len 0 n)
+road n left same = YieldsList-at same (YieldsList-from_first state_number states_left (range_with_len 0 n) left)
+
+-- what holds of all states holds of this one
+codable_at : (graph : List GraphState) (k : ℕ) (state : GraphState) → All IsCodable graph → slice_get graph k ≡ Some state → IsCodable state
+codable_at graph k state all e = rw (get_or_from_slice_get graph k state state e) at (all k state (slice_get_within graph k state e))
+
+pub get_state-requires : goal.get_state-requires
+get_state-requires c =
+    let t = YieldsList-turn (road (length c.args.graph.now.states) c.requires.states cc) c.loop-state.yielded _ c.loop-state.yielded_by _ _ c.in-Some.state c.in-Some.is c.next.ensures.steps in
+    let n = number_at (length c.args.graph.now.states) (length c.loop-state.yielded) (state_number c.in-Some.state) t in
+    omega (arith, n.0, n.1)
+
+pub state_made-requires : goal.state_made-requires
+state_made-requires c = codable_at c.args.graph.now.states (state_number c.in-Some.state) _ c.requires.codable c.get_state.ensures
+
+pub loop-state-preserved : goal.loop-state-preserved
+loop-state-preserved c =
+    let t = YieldsList-turn (road (length c.args.graph.now.states) c.requires.states cc) c.loop-state.yielded _ c.loop-state.yielded_by _ _ c.in-Some.state c.in-Some.is c.next.ensures.steps in
+    let n = number_at (length c.args.graph.now.states) (length c.loop-state.yielded) (state_number c.in-Some.state) t in
+    let made = c.in_ok-state_made.ensures in
+    let here = subst (λ s. IsStateOf c.state_made.new.tests.keys s (graph_state_of c.get_state.result.now) (state_of c.state_made.new.jumps.keys c.in_ok-state_made.field-0)) (c.index.ensures ∙ n.0) made.is in
     let items = c.in_ok-push.ensures.items in
-    let count = c.loop-s.invariant.count in
-    let at : slice_get (map graph_state_of c.args.graph.now) c.loop-s.s ≡ Some (graph_state_of c.index-graph-s.result) =
-    slice_get-map graph_state_of c.args.graph.now c.loop-s.s
-    ∙ ap (option_map graph_state_of) (slice_get-get_or c.args.graph.now c.loop-s.s c.index-graph-s.result c.loop-s-test.true ∙ ap Some (sym c.index-graph-s.is)) in
+    let count = c.loop-state.invariant.count in
+    let at : slice_get c.args.graph.now.states (length c.loop-state.yielded) ≡ Some (graph_state_of c.get_state.result.now) =
+    subst (λ k. slice_get c.args.graph.now.states k ≡ Some (graph_state_of c.get_state.result.now)) n.0 c.get_state.ensures in
     record {
-      count = ap length items ∙ omega (arith, length-append c.loop-s.made.items (c.in_ok-state_made.field-0 ∷ []), count);
-      each = states_turn c.loop-s.tests.keys c.state_made.new.tests.keys c.loop-s.jumps.keys c.state_made.new.jumps.keys e.tests e.jumps
-          (map graph_state_of c.args.graph.now) c.loop-s.made.items c.push.new.self.items c.loop-s.s (graph_state_of c.index-graph-s.result) c.in_ok-state_made.field-0
-          count items at e.is c.loop-s.invariant.each;
+      count = ap length items ∙ omega (arith, length-append c.loop-state.made.items (c.in_ok-state_made.field-0 ∷ []), count, length-append c.loop-state.yielded (c.in-Some.state ∷ []));
+      each = λ k state l e.
+          states_turn c.loop-state.tests.keys c.state_made.new.tests.keys c.loop-state.jumps.keys c.state_made.new.jumps.keys made.tests made.jumps
+          c.args.graph.now.states c.loop-state.made.items c.push.new.self.items (length c.loop-state.yielded) (graph_state_of c.get_state.result.now) c.in_ok-state_made.field-0
+          count items at here c.loop-state.invariant.each k state (omega (arith, l, length-append c.loop-state.yielded (c.in-Some.state ∷ []))) e;
     }
 
 pub returns : goal.returns
 returns c =
-    let count = c.loop-s.invariant.count in
-    let past = c.loop-s-test.false in
-    let end = c.loop-s.auto.s-end in
+    let t = YieldsList-end (road (length c.args.graph.now.states) c.requires.states cc) c.loop-state.yielded _ c.loop-state.yielded_by _ _ c.in-None.is c.next.ensures.steps in
+    let all = length-range_with_len 0 (length c.args.graph.now.states) in
     record {
-      count = omega (arith, count, past, end, length-map c.args.graph.now graph_state_of);
-      each = λ k state e. c.loop-s.invariant.each k state (let w = slice_get_within (map graph_state_of c.args.graph.now) k state e in omega (arith, w, past, length-map c.args.graph.now graph_state_of)) e;
+      count = c.loop-state.invariant.count ∙ t.1 ∙ all;
+      each = λ k state e. c.loop-state.invariant.each k state (let w = slice_get_within c.args.graph.now.states k state e in omega (arith, w, t.1, all)) e;
     }

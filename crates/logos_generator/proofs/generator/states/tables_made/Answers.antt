@@ -1,11 +1,11 @@
-use Rattle.std.proofs.Common.{◌∙◌, List, Bool, ℕ, map, subst, sym}
-use Rattle.logos_generator.specs.StateView.{graph_state_of, AreStatesOf}
+use Rattle.std.proofs.Common.{◌∙◌, List, Bool, ℕ, subst, sym}
+use Rattle.logos_generator.specs.StateView.{AreStatesOf}
 use Rattle.logos_generator.proofs.MadeLemmas.{keys_differ}
 use Rattle.logos_generator.proofs.generator.states.tables_made.Goals as goal
 
 pub returns : goal.returns
 returns c =
-    let graph = map graph_state_of c.args.graph.now in
+    let graph = c.args.graph.now.states in
     let tests : List (List Bool) = c.as_slice.result.now in
     let same = c.as_slice.ensures.keys in
     let same_jumps = c.in_ok-jump_tables.ensures.items ∙ c.as_slice-2.ensures.keys in
