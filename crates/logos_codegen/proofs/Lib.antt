@@ -1,12 +1,7 @@
-pub mod ApartLemmas
-pub mod LeafLemmas
-pub mod Listing
-pub mod LiteralLemmas
-pub mod LongestLemmas
-pub mod PickLemmas
-pub mod RunLemmas
-pub mod StopLemmas
+pub mod GiveLemmas
 pub mod RefusalLemmas
+pub mod HeldLemmas
+pub mod Listing
 pub mod AcceptLemmas
-pub mod FaultLemmas
-pub mod SetLemmas
+pub mod GraphLemmas
+pub mod LexLemmas

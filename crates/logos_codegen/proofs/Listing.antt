@@ -3,58 +3,57 @@ use Rattle.std.proofs.Common.{◌≡◌, ℕ, zero, suc, Bool, true, false, List
 use Rattle.std.proofs.lemmas.Option.{slice_get-map}
 use Rattle.logos_token.specs.declared.token.Span.{Span}
 use Rattle.logos_token.specs.Faults.{Fault as ListedFault}
-use Rattle.logos_parser.specs.Values.{DefinitionValue, EnumValue}
 use Rattle.logos_graph.specs.Munch.{Rule}
 use Rattle.logos_graph.specs.Ambiguity.{IsAmbiguous}
 use Rattle.logos_graph.specs.Faults.{Fault, no_universal_start, empty_match, disambiguation, some_leads, some_passable, ArePassable, AreAmbiguous, AreFaults}
 use Rattle.logos_codegen.specs.Texts.{NamedLeaf, listed_of}
-use Rattle.logos_codegen.specs.Rules.{definition_leaf, definition_rule, rules_in}
+use Rattle.logos_codegen.specs.Rules.{NamedRule, rules_in, names_in}
 
--- a definition with a rule is there
-there : (ds : List DefinitionValue) (n : ℕ) (P : Rule → Type 0) → IsSomeAnd (slice_get (map definition_rule ds) n) P →
-    (d : DefinitionValue) × (slice_get ds n ≡ Some d)
+-- a leaf with a rule is there
+there : (ds : List NamedRule) (n : ℕ) (P : Rule → Type 0) → IsSomeAnd (slice_get (rules_in ds) n) P →
+    (d : NamedRule) × (slice_get ds n ≡ Some d)
 there [] n P h = absurd h
 there (d ∷ ds) zero P h = (d, refl)
 there (d ∷ ds) (suc n) P h = there ds n P h
 
-named : (ds : List DefinitionValue) (n : ℕ) (P : Rule → Type 0) → IsSomeAnd (slice_get (map definition_rule ds) n) P →
-    (leaf : NamedLeaf) × (slice_get (map definition_leaf ds) n ≡ Some leaf)
-named ds n P h = let found = there ds n P h in (definition_leaf found.0, slice_get-map definition_leaf ds n ∙ ap (option_map definition_leaf) found.1)
+abbrev name_of : NamedRule → NamedLeaf
+name_of leaf = leaf.named
 
-module _ (value : EnumValue) (item : Span) where
-  abbrev leaves : List NamedLeaf
-  leaves = map definition_leaf value.definitions
+named : (ds : List NamedRule) (n : ℕ) (P : Rule → Type 0) → IsSomeAnd (slice_get (rules_in ds) n) P →
+    (leaf : NamedLeaf) × (slice_get (names_in ds) n ≡ Some leaf)
+named ds n P h = let found = there ds n P h in (name_of found.0, slice_get-map name_of ds n ∙ ap (option_map name_of) found.1)
 
+module _ (leaves : List NamedRule) (item : Span) where
   abbrev listed : Fault → List ListedFault
-  listed = listed_of leaves item
+  listed = listed_of (names_in leaves) item
 
   -- of a passable rule one fault is listed
-  lists_passable : (leaf : ℕ) (P : Rule → Type 0) → IsSomeAnd (slice_get (rules_in value) leaf) P → (zs : List ListedFault) → listed (empty_match leaf) ++ zs ≡ [] → ⊥
+  lists_passable : (leaf : ℕ) (P : Rule → Type 0) → IsSomeAnd (slice_get (rules_in leaves) leaf) P → (zs : List ListedFault) → listed (empty_match leaf) ++ zs ≡ [] → ⊥
   lists_passable leaf P h zs e =
-      let found = named value.definitions leaf P h in
+      let found = named leaves leaf P h in
       let e' = rw found.1 at e in
       absurd (cc)
 
   -- of an ambiguous set some fault is listed
-  lists_set : (set : List ℕ) → IsAmbiguous (rules_in value) set → (zs : List ListedFault) → listed (disambiguation set) ++ zs ≡ [] → ⊥
+  lists_set : (set : List ℕ) → IsAmbiguous (rules_in leaves) set → (zs : List ListedFault) → listed (disambiguation set) ++ zs ≡ [] → ⊥
   lists_set [] a zs e = let h = a.several in omega (arith, h)
   lists_set (n ∷ set) a zs e =
       let highest = (a.exactly n).0 (0, omega arith, refl) in
-      let found = named value.definitions n _ highest.matches in
+      let found = named leaves n _ highest.matches in
       let e' = rw found.1 at e in
       absurd (cc)
 
-  pub lists_some : (graph : List Fault) → AreFaults (rules_in value) graph → flat_map listed graph ≡ [] → graph ≡ []
+  pub lists_some : (graph : List Fault) → AreFaults (rules_in leaves) graph → flat_map listed graph ≡ [] → graph ≡ []
   lists_some [] h e = refl
-  lists_some (fault ∷ rest) h e = absurd (go (some_leads (rules_in value)) (some_passable (rules_in value)) h)
+  lists_some (fault ∷ rest) h e = absurd (go (some_leads (rules_in leaves)) (some_passable (rules_in leaves)) h)
     where
-      passes : (xs : List ℕ) → ArePassable (rules_in value) xs → fault ∷ rest ≡ map empty_match xs → ⊥
+      passes : (xs : List ℕ) → ArePassable (rules_in leaves) xs → fault ∷ rest ≡ map empty_match xs → ⊥
       passes [] p q = absurd (cc)
       passes (x ∷ xs) p q =
           let same : fault ≡ empty_match x = cc in
           lists_passable x _ ((p.exactly x).0 (0, omega arith, refl)) (flat_map listed rest) (rw same at e)
 
-      ambiguous : (xs : List (List ℕ)) → AreAmbiguous (rules_in value) xs → fault ∷ rest ≡ map disambiguation xs → ⊥
+      ambiguous : (xs : List (List ℕ)) → AreAmbiguous (rules_in leaves) xs → fault ∷ rest ≡ map disambiguation xs → ⊥
       ambiguous [] p q = absurd (cc)
       ambiguous (x ∷ xs) p q =
           let same : fault ≡ disambiguation x = cc in
@@ -62,8 +61,8 @@ module _ (value : EnumValue) (item : Span) where
 
       go : (a b : Bool) →
           MatchBool a (fault ∷ rest ≡ no_universal_start ∷ [])
-          (MatchBool b ((xs : List ℕ) × ArePassable (rules_in value) xs × (fault ∷ rest ≡ map empty_match xs))
-          ((xs : List (List ℕ)) × AreAmbiguous (rules_in value) xs × (fault ∷ rest ≡ map disambiguation xs))) → ⊥
+          (MatchBool b ((xs : List ℕ) × ArePassable (rules_in leaves) xs × (fault ∷ rest ≡ map empty_match xs))
+          ((xs : List (List ℕ)) × AreAmbiguous (rules_in leaves) xs × (fault ∷ rest ≡ map disambiguation xs))) → ⊥
       go true b q =
           let same : fault ≡ no_universal_start = cc in
           let e' = rw same at e in

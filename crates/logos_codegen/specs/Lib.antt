@@ -1,8 +1,6 @@
-pub mod Literals
-pub mod Longest
-pub mod Steps
-pub mod Sets
 pub mod Texts
+pub mod Held
 pub mod Rules
 pub mod Source
 pub mod Refusals
+pub mod Steps

@@ -1,43 +1,54 @@
--- What an error of `lex_source` says.
-use Rattle.std.specs.Prelude.{ℕ, ◌≤◌, List, length}
+-- What the errors of `generate` and `lex_source` say.
+use Rattle.std.specs.Prelude.{◌≡◌, ℕ, List, true, IsTrue}
 use Rattle.std.specs.Str.{IsUtf8, IsValidUpTo}
-use Rattle.logos_token.specs.Tokens.{TokenList, depth_of}
-use Rattle.logos_token.specs.Spelling.{Spells}
 use Rattle.logos_token.specs.Faults.{Fault as ListedFault}
 use Rattle.logos_token.specs.declared.token.Span.{Span}
 use Rattle.logos_parser.specs.declared.parser.ReadError.{ReadError}
-use Rattle.logos_parser.specs.declared.parser.ReadError.TheVariants.{NotAnEnum, Grammar, Memory as OutOfMemory}
+use Rattle.logos_parser.specs.declared.parser.ReadError.TheVariants.{NotAnEnum, Grammar, Memory as NoMemoryToRead}
 use Rattle.logos_graph.specs.Munch.{Rule}
+use Rattle.logos_generator.specs.Code.{CodeValue}
 use Rattle.logos_codegen.specs.Source.{IsAccepted, IsRefused}
-use Rattle.logos_codegen.specs.declared.source.LexSourceError.{LexSourceError}
-use Rattle.logos_codegen.specs.declared.source.LexSourceError.TheVariants.{Refused, NotUtf8, Memory}
+use Rattle.logos_codegen.specs.declared.refusal.Refusal.{Refusal}
+use Rattle.logos_codegen.specs.declared.refusal.Refusal.TheVariants as refusals
+use Rattle.logos_codegen.specs.declared.lexing.LexSourceError.{LexSourceError}
+use Rattle.logos_codegen.specs.declared.lexing.LexSourceError.TheVariants as errors
 
--- the error refuses with faults of which this holds, or memory ran out
-abbrev pub Refuses : (List ListedFault → Type 0) → LexSourceError → Type 0
-Refuses Hold (Refused errors) = Hold errors
-Refuses Hold (NotUtf8 valid_up_to) = ⊥
-Refuses Hold Memory = Unit {0}
+-- the source is refused with faults of which this holds, or memory ran out
+abbrev pub Refuses : (List ListedFault → Type 0) → Refusal → Type 0
+Refuses Hold (refusals.Errors faults) = Hold faults
+Refuses Hold refusals.Memory = Unit {0}
 
--- What an error says: the faults of the source; or the source is accepted and the input is no UTF-8, with the length of its
--- longest beginning that is; or memory ran out.
-abbrev pub IsJust : List ℕ → List ℕ → LexSourceError → Type 0
-IsJust source input (Refused errors) = IsRefused source errors
-IsJust source input (NotUtf8 valid_up_to) = ((rules : List Rule) × IsAccepted source rules) × (¬ IsUtf8 input) × IsValidUpTo input valid_up_to
-IsJust source input Memory = Unit {0}
+-- memory ran out, and the source is not refused
+abbrev pub IsMemory : Refusal → Type 0
+IsMemory (refusals.Errors faults) = ⊥
+IsMemory refusals.Memory = Unit {0}
 
 -- what holds of each kind of a reading error
 abbrev pub MatchReadError : ReadError → (Span → Type 0) → (Span → Type 0) → Type 0 → Type 0
 MatchReadError (NotAnEnum span) P Q R = P span
 MatchReadError (Grammar span) P Q R = Q span
-MatchReadError OutOfMemory P Q R = R
+MatchReadError NoMemoryToRead P Q R = R
 
--- a source that no limit refuses: its length and the nesting of its delimiters
-pub record IsWithinLimits (source : List ℕ) : Type 0 where
-  pub short : length source ≤ 16777216
-  pub shallow : (tokens : TokenList) → Spells source tokens → depth_of tokens ≤ 128
+-- What an error of lexing says: the faults of the source; or the source is accepted in UTF-8 mode and the input is no UTF-8, with
+-- the length of its longest beginning that is; or memory ran out.
+abbrev pub IsJust : List ℕ → List ℕ → LexSourceError → Type 0
+IsJust source input (errors.Refused faults) = IsRefused source faults
+IsJust source input (errors.NotUtf8 valid_up_to) = ((rules : List Rule) × IsAccepted source rules true) × (¬ IsUtf8 input) × IsValidUpTo input valid_up_to
+IsJust source input errors.Memory = Unit {0}
+
+-- the code is of UTF-8 mode and the input is no UTF-8, with the length of its longest beginning that is; or memory ran out
+abbrev pub IsUnlexed : CodeValue → List ℕ → LexSourceError → Type 0
+IsUnlexed code input (errors.Refused faults) = ⊥
+IsUnlexed code input (errors.NotUtf8 valid_up_to) = IsTrue code.utf8 × (¬ IsUtf8 input) × IsValidUpTo input valid_up_to
+IsUnlexed code input errors.Memory = Unit {0}
 
 -- the source is not refused
 abbrev pub IsNoRefusal : LexSourceError → Type 0
-IsNoRefusal (Refused errors) = ⊥
-IsNoRefusal (NotUtf8 valid_up_to) = Unit {0}
-IsNoRefusal Memory = Unit {0}
+IsNoRefusal (errors.Refused faults) = ⊥
+IsNoRefusal (errors.NotUtf8 valid_up_to) = Unit {0}
+IsNoRefusal errors.Memory = Unit {0}
+
+-- the refusal of a source, as an error of lexing
+abbrev pub IsThatRefusal : Refusal → LexSourceError → Type 0
+IsThatRefusal (refusals.Errors faults) error = error ≡ errors.Refused faults
+IsThatRefusal refusals.Memory error = error ≡ errors.Memory

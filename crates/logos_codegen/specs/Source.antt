@@ -1,18 +1,20 @@
 -- What a source text says, and why it is refused.
-use Rattle.std.specs.Prelude.{◌≡◌, ◌≢◌, ℕ, ◌<◌, List, [], ◌∷◌, length, codes}
+use Rattle.std.specs.Prelude.{◌≡◌, ◌≢◌, ℕ, ◌<◌, ◌≤◌, ◌^◌, Bool, List, [], ◌∷◌, length, codes}
 use Rattle.logos_token.specs.declared.token.Span.{Span}
 use Rattle.logos_token.specs.declared.token.lexeme.LexicalKind.{LexicalKind}
 use Rattle.logos_token.specs.declared.token.lexeme.LexicalKind.TheVariants.{BadCharacter, BadLiteral, Unterminated, Unbalanced}
 use Rattle.logos_token.specs.declared.error.fault_code.FaultCode.TheVariants.{Lexical, NotAnEnum, Grammar, LimitSource, LimitTokenNesting}
 use Rattle.logos_token.specs.Faults.{Fault as ListedFault}
-use Rattle.logos_token.specs.Tokens.{TokenList, run_span}
+use Rattle.logos_token.specs.Tokens.{TokenList, run_span, depth_of}
 use Rattle.logos_token.specs.Spelling.{Spells, IsUnreadable, IsTooDeep}
-use Rattle.logos_parser.specs.Expected.{BeginsWith, IsWord}
-use Rattle.logos_parser.specs.Values.{EnumValue}
-use Rattle.logos_parser.specs.Enum.{enum_word, IsEnum, IsMisfit}
+use Rattle.logos_parser.specs.Values.{Slice, EnumValue}
+use Rattle.logos_parser.specs.Enum.{IsAnnounced, IsEnum, IsMisfit}
 use Rattle.logos_graph.specs.Munch.{Rule}
+use Rattle.logos_graph.specs.Faults.{AreFaults}
+use Rattle.logos_graph.specs.Size.{size_of}
+use Rattle.logos_graph.specs.Places.{HasMoreKeys}
 use Rattle.logos_codegen.specs.Texts.{fault_at}
-use Rattle.logos_codegen.specs.Rules.{rules_in, AreListed}
+use Rattle.logos_codegen.specs.Rules.{NamedRule, GiveAll, utf8_faults, rules_in, AreListed}
 
 -- the source spells an enum, whose tokens reach over the span
 pub record Says (source : List ℕ) (value : EnumValue) (item : Span) : Type 0 where
@@ -20,6 +22,10 @@ pub record Says (source : List ℕ) (value : EnumValue) (item : Span) : Type 0 w
   pub spelled : Spells source tokens
   pub reads : IsEnum tokens value
   pub whole : item ≡ run_span tokens
+
+-- the source spells an enum of this name
+abbrev pub IsNamed : List ℕ → Slice → Type 0
+IsNamed source name = (enum : EnumValue) × (item : Span) × Says source enum item × (enum.name ≡ name)
 
 abbrev pub lexical_text : LexicalKind → List ℕ
 lexical_text BadCharacter = codes "unreadable source: BadCharacter"
@@ -29,9 +35,9 @@ lexical_text Unbalanced = codes "unreadable source: Unbalanced"
 
 -- the fault of tokens that are no enum
 pub data IsMisread (tokens : TokenList) (fault : ListedFault) : Type 0 where
-  no_enum : (BeginsWith (IsWord enum_word) tokens → ⊥) →
+  no_enum : (IsAnnounced tokens → ⊥) →
       fault ≡ fault_at NotAnEnum (codes "Logos can be only be derived for enums") (run_span tokens) → IsMisread tokens fault
-  misfit : {span : Span} → BeginsWith (IsWord enum_word) tokens → IsMisfit tokens span →
+  misfit : {span : Span} → IsMisfit tokens span →
       fault ≡ fault_at Grammar (codes "the enum is not well formed") span → IsMisread tokens fault
 
 -- The fault stands in the source and ends its reading: a limit is passed, there are no tokens, or they are no enum.
@@ -44,15 +50,29 @@ pub data EndsReading (source : List ℕ) (fault : ListedFault) : Type 0 where
       fault ≡ fault_at Lexical (lexical_text kind) span → EndsReading source fault
   misread : {tokens : TokenList} → Spells source tokens → IsMisread tokens fault → EndsReading source fault
 
--- the source says an enum without faults, and these are the rules of its leaves
-pub record IsAccepted (source : List ℕ) (rules : List Rule) : Type 0 where
-  pub value : EnumValue
+-- The source says an enum without faults, and these are the rules of its leaves and its mode: no definition lists a fault, in
+-- UTF-8 mode each tree is a text, and the rules have no faults.
+pub record IsAccepted (source : List ℕ) (rules : List Rule) (utf8 : Bool) : Type 0 where
+  pub enum : EnumValue
   pub item : Span
-  pub says : Says source value item
-  pub unlisted : AreListed value item []
-  pub same_rules : rules ≡ rules_in value
+  pub says : Says source enum item
+  pub leaves : List NamedRule
+  pub give : GiveAll enum.definitions [] leaves
+  pub text : utf8_faults enum.utf8 leaves ≡ []
+  pub faultless : AreFaults (rules_in leaves) []
+  pub same_rules : rules ≡ rules_in leaves
+  pub same_mode : utf8 ≡ enum.utf8
 
 -- Why a source is refused: one fault that ends the reading, or all faults of its enum, of which there are some.
 pub data IsRefused (source : List ℕ) (faults : List ListedFault) : Type 0 where
   unread : {fault : ListedFault} → EndsReading source fault → faults ≡ fault ∷ [] → IsRefused source faults
-  faulty : {value : EnumValue} {item : Span} → Says source value item → AreListed value item faults → faults ≢ [] → IsRefused source faults
+  faulty : {enum : EnumValue} {item : Span} {leaves : List NamedRule} →
+      Says source enum item → AreListed enum item faults leaves → faults ≢ [] → IsRefused source faults
+
+-- A source with these rules that no limit refuses, but for the nesting of patterns, which is a fault of its definition: the
+-- length, the nesting of delimiters, the size of the trees, and the number of keys.
+pub record IsWithinLimits (source : List ℕ) (rules : List Rule) : Type 0 where
+  pub short : length source ≤ 16777216
+  pub shallow : (tokens : TokenList) → Spells source tokens → depth_of tokens ≤ 128
+  pub small : size_of rules ≤ 2 ^ 20
+  pub few_keys : ¬ HasMoreKeys rules 65536

@@ -1,25 +1,34 @@
--- One step of a run.
-use Rattle.std.specs.Prelude.{ℕ, ◌<◌, ◌≤◌, Bool, true, List, [], ◌∷◌, ◌++◌, length, Option, Some, option_map, if◌then◌else◌}
-use Rattle.std.specs.Option.{option_to_list}
-use Rattle.logos_graph.specs.Munch.{Rule}
-use Rattle.logos_generator.specs.Items.{Callback, Item, token, error, Items}
-use Rattle.logos_generator.specs.LexerValue.{item_of}
-use Rattle.logos_generator.specs.declared.machine.Action.{Action}
-use Rattle.logos_generator.specs.declared.machine.Action.TheVariants.{Emit, Skip, Error}
-use Rattle.logos_generator.specs.declared.machine.Item.{Item as TheItem}
+-- Steps from leaves to a graph.
+use Rattle.std.specs.Prelude.{◌≡◌, ◌≢◌, ℕ, Bool, List, [], ◌∷◌, ◌++◌, map, Option, Some, None}
+use Rattle.logos_token.specs.declared.token.Span.{Span}
+use Rattle.logos_token.specs.declared.error.fault_code.FaultCode.TheVariants.{LimitSize as LimitSizeCode, LimitStates as LimitStatesCode}
+use Rattle.logos_token.specs.Faults.{Fault as ListedFault}
+use Rattle.logos_pattern.specs.declared.leaf.Leaf.{Leaf}
+use Rattle.logos_graph.specs.View.{GraphValue, rules_of}
+use Rattle.logos_graph.specs.Found.{FindsTheLongest}
+use Rattle.logos_graph.specs.GraphOf.{IsGraphOf}
+use Rattle.logos_graph.specs.declared.graph.BuildError.{BuildError}
+use Rattle.logos_graph.specs.declared.graph.BuildError.TheVariants.{LimitSize, LimitStates, Memory}
+use Rattle.logos_codegen.specs.Texts.{fault_at, size_text, states_text}
+use Rattle.logos_codegen.specs.Rules.{named_rule, GraphLists}
+use Rattle.logos_codegen.specs.Source.{IsAccepted}
 
--- the item, if there is one
-abbrev pub given : Option TheItem → List Item
-given item = option_to_list (option_map item_of item)
+-- what a limit adds to the faults before it
+abbrev pub IsLimit : BuildError → Span → List ListedFault → List ListedFault → Type 0
+IsLimit LimitSize item before after = after ≡ before ++ fault_at LimitSizeCode size_text item ∷ []
+IsLimit LimitStates item before after = after ≡ before ++ fault_at LimitStatesCode states_text item ∷ []
+IsLimit Memory item before after = ⊥
 
--- the items that a match gives by its answer
-abbrev pub items_by : (skips : Bool) → Action → (leaf from to : ℕ) → List ℕ → List Item
-items_by skips Emit leaf from to slice = if skips then [] else token leaf from to slice ∷ []
-items_by skips Skip leaf from to slice = []
-items_by skips Error leaf from to slice = error (Some leaf) from to slice ∷ []
+-- the graph of leaves, if there is one, and what it adds to the faults before it: some, where there is none
+pub record ListsGraph (leaves : List Leaf) (utf8 : Bool) (item : Span) (before after : List ListedFault) (graph : Option GraphValue) : Type 0 where
+  pub faults : List ListedFault
+  pub listed : GraphLists (map named_rule leaves) item faults
+  pub all : after ≡ before ++ faults
+  pub missing : graph ≡ None → faults ≢ []
+  pub is : (value : GraphValue) → graph ≡ Some value → IsGraphOf leaves utf8 value × (faults ≡ [] → value.faults ≡ [])
 
--- A step ends ahead, and its items with the items from there are the items from here.
-pub record IsStep (rules : List Rule) (callback : Callback) (bytes : List ℕ) (from to : ℕ) (items : List Item) : Type 0 where
-  pub ahead : from < to
-  pub within : to ≤ length bytes
-  pub goes_on : (rest : List Item) → Items rules callback true bytes to rest → Items rules callback true bytes from (items ++ rest)
+-- the graph of a source without faults: it finds at each place of each input what maximal munch finds there
+pub record IsGraphMade (source : List ℕ) (graph : GraphValue) : Type 0 where
+  pub accepted : IsAccepted source (rules_of graph.leaves) graph.utf8
+  pub faultless : graph.faults ≡ []
+  pub finds : FindsTheLongest (rules_of graph.leaves) graph.utf8 graph.states

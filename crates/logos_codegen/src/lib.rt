@@ -2,14 +2,19 @@
 
 #![tactic(auto)]
 
+mod generation;
+pub mod laws;
 mod leaves;
-pub mod plain;
+mod lexing;
+mod refusal;
 mod source;
 mod texts;
 
-pub use logos_generator::{generator, machine};
+pub use generation::{Generated, generate};
+pub use lexing::{LexSourceError, lex_source};
+pub use logos_generator::{code, generator, machine};
 pub use logos_graph::graph;
 pub use logos_parser::parser;
 pub use logos_pattern::{leaf, pattern};
 pub use logos_token::{error, token};
-pub use source::{LexSourceError, lex_source};
+pub use refusal::Refusal;

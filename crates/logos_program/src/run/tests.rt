@@ -98,6 +98,11 @@ fn lexes(rt: HostRuntime) -> Result<(), Fail> {
         ),
         ("enum T { #[token(\"abcd\")] A, #[token(\"a\")] B }", "", ""),
         ("enum T { }", "\u{e9}", "error 0..2\n"),
+        (
+            "#[logos(skip r\"[ \\t\\n\\f]+\")] enum Token { #[token(\"fast\")] Fast, #[token(\".\")] Period, #[regex(\"[a-zA-Z]+\")] Text }",
+            "Create ridiculously fast Lexers.",
+            "token 3 0..6\ntoken 3 7..19\ntoken 1 20..24\ntoken 3 25..31\ntoken 2 31..32\n",
+        ),
     ] {
         let case = Case {
             words: &LEX,
@@ -124,6 +129,11 @@ fn refuses(rt: HostRuntime) -> Result<(), Fail> {
             "enum T { #[token(\"\")] A }",
             "a".as_bytes(),
             "17..19 EmptyMatch: The pattern #[token(\"\")] ::A can match the empty string, which is unsupported by logos.\n",
+        ),
+        (
+            "enum T { #[regex(\"a\\\\b\")] A }",
+            "a".as_bytes(),
+            "17..23 Regex: regex fault at byte 1: UnicodeWordBoundary\n",
         ),
         (
             "",

@@ -1,0 +1,134 @@
+-- What the graph of the leaves lists, and what all steps list together.
+use Rattle.std.proofs.Common.{◌≡◌, ◌≢◌, ℕ, ◌<◌, ◌≤◌, ◌^◌, Bool, List, [], ◌∷◌, ◌++◌, map, flat_map, Option, Some, None, refl, sym, ◌∙◌, ap, inl, inr}
+use Rattle.std.proofs.lemmas.Bool.{cases_lt}
+use Rattle.logos_token.specs.declared.token.Span.{Span}
+use Rattle.logos_token.specs.Faults.{Fault as ListedFault}
+use Rattle.logos_pattern.specs.declared.leaf.Leaf.{Leaf}
+use Rattle.logos_parser.specs.Values.{EnumValue}
+use Rattle.logos_graph.specs.Munch.{Rule}
+use Rattle.logos_graph.specs.Faults.{AreFaults}
+use Rattle.logos_graph.specs.Found.{FindsTheLongest}
+use Rattle.logos_graph.specs.Size.{size_of}
+use Rattle.logos_graph.specs.View.{GraphValue, rule_of, rules_of}
+use Rattle.logos_graph.specs.GraphOf.{IsGraphOf, Refuses}
+use Rattle.logos_graph.specs.declared.graph.BuildError.{BuildError}
+use Rattle.logos_graph.specs.declared.graph.BuildError.TheVariants.{LimitSize, LimitStates, Memory}
+use Rattle.logos_codegen.specs.Texts.{named_leaf, listed_of}
+use Rattle.logos_codegen.specs.Rules.{NamedRule, named_rule, rules_in, names_in, GiveAll, utf8_faults, GraphLists, graph_faults, size_limit, states_limit, AreListed}
+use Rattle.logos_codegen.specs.Source.{Says, IsAccepted, IsRefused, faulty}
+use Rattle.logos_codegen.specs.Steps.{IsLimit, ListsGraph, IsGraphMade}
+use Rattle.logos_codegen.proofs.Listing.{lists_some}
+
+pub rules_are : (leaves : List Leaf) → rules_in (map named_rule leaves) ≡ rules_of leaves
+rules_are [] = refl
+rules_are (leaf ∷ leaves) = ap (λ (rules : List Rule). rule_of leaf ∷ rules) (rules_are leaves)
+
+names_are : (leaves : List Leaf) → map named_leaf leaves ≡ names_in (map named_rule leaves)
+names_are [] = refl
+names_are (leaf ∷ leaves) = ap (λ names. named_leaf leaf ∷ names) (names_are leaves)
+
+at_most : (size : ℕ) → (2 ^ 20 < size → ⊥) → size ≤ 2 ^ 20
+at_most size h = elim (cases_lt (2 ^ 20) size) [ inl more ↦ absurd (h more) | inr most ↦ most ]
+
+-- the faults of a graph are listed
+pub graph_listed : (leaves : List Leaf) (utf8 : Bool) (item : Span) (before after : List ListedFault) (graph : GraphValue) → IsGraphOf leaves utf8 graph →
+    (2 ^ 20 < size_of (rules_of leaves) → ⊥) → after ≡ before ++ flat_map (listed_of (map named_leaf leaves) item) graph.faults →
+    ListsGraph leaves utf8 item before after (Some graph)
+graph_listed leaves utf8 item before after graph g small e =
+    let are : AreFaults (rules_in (map named_rule leaves)) graph.faults = rw (rules_are leaves) g.faults_are in
+    let small' : size_of (rules_in (map named_rule leaves)) ≤ 2 ^ 20 = rw (rules_are leaves) (at_most (size_of (rules_of leaves)) small) in
+    let names : flat_map (listed_of (map named_leaf leaves) item) graph.faults ≡ flat_map (listed_of (names_in (map named_rule leaves)) item) graph.faults =
+    ap (λ names. flat_map (listed_of names item) graph.faults) (names_are leaves) in
+    record {
+      faults = flat_map (listed_of (names_in (map named_rule leaves)) item) graph.faults;
+      listed = graph_faults graph.faults small' are refl;
+      all = e ∙ ap (λ (xs : List ListedFault). before ++ xs) names;
+      missing = λ n. absurd (cc);
+      is = λ value s.
+          let same : graph ≡ value = cc in
+          rw (← same) (g, λ none. lists_some (map named_rule leaves) item graph.faults are none);
+    }
+
+-- a limit is listed
+pub limit_listed : (leaves : List Leaf) (utf8 : Bool) (item : Span) (before after : List ListedFault) (error : BuildError) →
+    Refuses (rules_of leaves) error → (2 ^ 20 < size_of (rules_of leaves) → error ≡ LimitSize) → IsLimit error item before after → ListsGraph leaves utf8 item before after None
+limit_listed leaves utf8 item before after LimitSize r only e = record {
+  faults = _;
+  listed = size_limit (rw (rules_are leaves) r) refl;
+  all = e;
+  missing = λ n m. absurd (cc);
+  is = λ value s. absurd (cc);
+}
+limit_listed leaves utf8 item before after LimitStates r only e = record {
+  faults = _;
+  listed = states_limit (rw (rules_are leaves) (at_most (size_of (rules_of leaves)) (λ more. let s = only more in absurd (cc)))) (rw (rules_are leaves) r.0) (rw (rules_are leaves) r.1) refl;
+  all = e;
+  missing = λ n m. absurd (cc);
+  is = λ value s. absurd (cc);
+}
+limit_listed leaves utf8 item before after Memory r only e = absurd e
+
+-- two lists that are empty together
+both_empty : (xs ys : List ListedFault) → xs ++ ys ≡ [] → (xs ≡ []) × (ys ≡ [])
+both_empty [] ys e = (refl, e)
+both_empty (x ∷ xs) ys e = absurd (cc)
+
+-- the graph's part is empty only without faults
+graph_faultless : (leaves : List NamedRule) (item : Span) (faults : List ListedFault) → faults ≡ [] → GraphLists leaves item faults → AreFaults (rules_in leaves) []
+graph_faultless leaves item faults none (graph_faults graph small are e) =
+    let empty : graph ≡ [] = lists_some leaves item graph are (sym e ∙ none) in
+    rw empty at are
+graph_faultless leaves item faults none (size_limit more e) = absurd (cc)
+graph_faultless leaves item faults none (states_limit small start more e) = absurd (cc)
+
+-- where nothing is listed the source is accepted
+pub nothing_listed : (source : List ℕ) (enum : EnumValue) (item : Span) (faults : List ListedFault) (leaves : List NamedRule) → Says source enum item → AreListed enum item faults leaves → faults ≡ [] →
+    IsAccepted source (rules_in leaves) enum.utf8
+nothing_listed source enum item faults leaves says listed none =
+    let all = both_empty (listed.definition_faults ++ utf8_faults enum.utf8 leaves) listed.graph_faults (sym listed.all ∙ none) in
+    let first = both_empty listed.definition_faults (utf8_faults enum.utf8 leaves) all.0 in
+    record {
+      enum = enum;
+      item = item;
+      says = says;
+      leaves = leaves;
+      give = rw first.0 at listed.give;
+      text = first.1;
+      faultless = graph_faultless leaves item listed.graph_faults all.1 listed.graph;
+      same_rules = refl;
+      same_mode = refl;
+    }
+
+module _ (enum : EnumValue) (item : Span) (leaves : List Leaf) (first second third last : List ListedFault) (graph : Option GraphValue)
+    (begun : first ≡ []) (given : (faults : List ListedFault) × GiveAll enum.definitions faults (map named_rule leaves) × (second ≡ first ++ faults))
+    (text : third ≡ second ++ utf8_faults enum.utf8 (map named_rule leaves)) (graphs : ListsGraph leaves enum.utf8 item third last graph) where
+  -- all that is listed
+  pub all_listed : AreListed enum item last (map named_rule leaves)
+  all_listed = record {
+    definition_faults = given.0;
+    graph_faults = graphs.faults;
+    give = given.1;
+    graph = graphs.listed;
+    all = graphs.all ∙ ap (λ (xs : List ListedFault). xs ++ graphs.faults) (text ∙ ap (λ (xs : List ListedFault). xs ++ utf8_faults enum.utf8 (map named_rule leaves)) (given.2 ∙ ap (λ (xs : List ListedFault). xs ++ given.0) begun));
+  }
+
+  -- without a graph something is listed
+  pub some_listed : graph ≡ None → last ≢ []
+  some_listed n e = graphs.missing n (both_empty third graphs.faults (sym graphs.all ∙ e)).1
+
+  pub refused : (source : List ℕ) → Says source enum item → last ≢ [] → IsRefused source last
+  refused source says some = faulty says all_listed some
+
+  -- where nothing is listed, the graph is that of an accepted source
+  pub accepted : (source : List ℕ) → Says source enum item → last ≡ [] → (value : GraphValue) → graph ≡ Some value → IsGraphMade source value
+  accepted source says none value is =
+      let given = graphs.is value is in
+      let made = given.0 in
+      let faultless : value.faults ≡ [] = given.1 (both_empty third graphs.faults (sym graphs.all ∙ none)).1 in
+      let longest : FindsTheLongest (rules_of leaves) enum.utf8 value.states = made.finds faultless in
+      let source_is = nothing_listed source enum item last (map named_rule leaves) says all_listed none in
+      record {
+        accepted = rw (made.leaves_are, made.mode, ← rules_are leaves) source_is;
+        faultless = faultless;
+        finds = rw (made.leaves_are, made.mode) longest;
+      }

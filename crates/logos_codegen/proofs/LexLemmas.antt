@@ -1,0 +1,148 @@
+-- From a code value's runs to the items of maximal munch.
+use Rattle.std.proofs.Common.{◌≡◌, ℕ, Bool, true, false, List, [], ◌∷◌, ◌++◌, length, get_or, map, refl, sym, ◌∙◌, arith, append_assoc, append-nil, if◌then◌else◌, MatchBool, IsTrue, IsUtf8, Result, Ok, Err, IfOk, IfErr, Vec, Global, Fits, w8}
+use Rattle.std.proofs.lemmas.Str.{IsCharBoundary-start}
+use Rattle.std.proofs.Math.Facts.{Fits-lt-pow}
+use Rattle.std.proofs.lemmas.Grind.{get_or_default_zero}
+use Rattle.std.proofs.lemmas.List.Elements.{All-nil, All-cons}
+use Rattle.std.specs.List.{All}
+use Rattle.logos_pattern.specs.Text.{IsBytes}
+use Rattle.logos_graph.specs.Munch.{Use, Rule}
+use Rattle.logos_graph.specs.Found.{IsInput}
+use Rattle.logos_generator.specs.Code.{CodeValue}
+use Rattle.logos_generator.specs.Headline.{IsLexer, IsCut}
+use Rattle.logos_generator.specs.Items.{Callback, Search, Item, asks, MayAnswer, Lexes, over, match, fault, Items}
+use Rattle.logos_generator.specs.LexerValue.{LexerValue, Gives, Ends, item_of}
+use Rattle.logos_generator.specs.declared.machine.Item.{Item as TheItem}
+use Rattle.logos_generator.specs.declared.machine.Action.{Action}
+use Rattle.logos_generator.specs.declared.machine.Action.TheVariants.{Emit, Skip, Error}
+use Rattle.logos_token.specs.declared.error.fault_code.FaultCode.TheVariants.{Utf8Pattern}
+use Rattle.logos_token.specs.Faults.{Fault as ListedFault}
+use Rattle.logos_pattern.specs.Measure.{is_text}
+use Rattle.logos_codegen.specs.Texts.{fault_at, utf8_text}
+use Rattle.logos_generator.specs.Order.{AreInOrder}
+use Rattle.logos_generator.specs.Runs.{CodeFinds, Runs}
+use Rattle.logos_generator.proofs.Compose.{runs_iff}
+use Rattle.logos_generator.proofs.InOrder.{in_order}
+use Rattle.logos_codegen.specs.Rules.{NamedRule, rules_in, utf8_faults}
+use Rattle.logos_codegen.specs.Source.{IsAccepted}
+use Rattle.logos_codegen.specs.Refusals.{IsMemory, IsUnlexed, IsJust, IsNoRefusal, IsThatRefusal}
+use Rattle.logos_codegen.specs.declared.refusal.Refusal.{Refusal}
+use Rattle.logos_codegen.specs.declared.refusal.Refusal.TheVariants.{Errors, Memory}
+use Rattle.logos_codegen.specs.declared.lexing.LexSourceError.{LexSourceError}
+use Rattle.logos_codegen.specs.declared.lexing.LexSourceError.TheVariants.{Refused, NotUtf8, Memory as OutOfMemory}
+use Rattle.logos_codegen.proofs.AcceptLemmas.{accepted_once}
+use Rattle.logos_generator.proofs.CutLemmas.{items_cut}
+
+pub are_bytes : (bytes : List ℕ) → ((i : ℕ) → Fits w8 (get_or bytes i 0)) → IsBytes bytes
+are_bytes bytes h = λ k d l. rw (get_or_default_zero bytes k d l) (Fits-lt-pow (h k))
+
+-- where no leaf is listed as no text, all trees are texts
+texts_are : (leaves : List NamedRule) → utf8_faults true leaves ≡ [] → All (λ rule. is_text rule.tree ≡ true) (rules_in leaves)
+texts_are [] e = All-nil (λ (rule : Rule). is_text rule.tree ≡ true)
+texts_are (leaf ∷ leaves) e =
+    let both = go (is_text leaf.rule.tree) e in
+    All-cons (λ (rule : Rule). is_text rule.tree ≡ true) leaf.rule (rules_in leaves) both.0 (texts_are leaves both.1)
+  where
+    fault : ListedFault
+    fault = fault_at Utf8Pattern (utf8_text leaf.named) leaf.named.span
+
+    go : (t : Bool) → (if t then [] else fault ∷ []) ++ utf8_faults true leaves ≡ [] → (t ≡ true) × (utf8_faults true leaves ≡ [])
+    go true e = (refl, e)
+    go false e = absurd (cc)
+
+pub accepted_texts : (source : List ℕ) (rules : List Rule) → IsAccepted source rules true → All (λ rule. is_text rule.tree ≡ true) rules
+accepted_texts source rules a =
+    let text : utf8_faults true a.leaves ≡ [] = rw (sym a.same_mode) at a.text in
+    rw a.same_rules (texts_are a.leaves text)
+
+-- the same items by a callback that answers no less
+may_by : (uses : List Use) (bytes : List ℕ) (callback other : Callback) → ((leaf : ℕ) (slice : List ℕ) (answer : Action) → callback leaf slice answer → other leaf slice answer) →
+    (leaf : ℕ) (slice : List ℕ) (answer : Action) → MayAnswer uses callback bytes leaf slice answer → MayAnswer uses other bytes leaf slice answer
+may_by uses bytes callback other h leaf slice answer m = go (asks uses callback bytes leaf) m
+  where
+    go : (b : Bool) → MatchBool b (callback leaf slice answer) (answer ≡ Emit) → MatchBool b (other leaf slice answer) (answer ≡ Emit)
+    go true m = h leaf slice answer m
+    go false m = m
+
+lexes_by : (uses : List Use) (bytes : List ℕ) (search : Search) (callback other : Callback) → ((leaf : ℕ) (slice : List ℕ) (answer : Action) → callback leaf slice answer → other leaf slice answer) →
+    {from : ℕ} {items : List Item} → Lexes uses callback bytes search from items → Lexes uses other bytes search from items
+lexes_by uses bytes search callback other h (over from s) = over from s
+lexes_by uses bytes search callback other h (match from to leaf Emit rest s m l) = match from to leaf Emit rest s (may_by uses bytes callback other h leaf _ Emit m) (lexes_by uses bytes search callback other h l)
+lexes_by uses bytes search callback other h (match from to leaf Skip rest s m l) = match from to leaf Skip rest s (may_by uses bytes callback other h leaf _ Skip m) (lexes_by uses bytes search callback other h l)
+lexes_by uses bytes search callback other h (match from to leaf Error rest s m l) = match from to leaf Error rest s (may_by uses bytes callback other h leaf _ Error m) (lexes_by uses bytes search callback other h l)
+lexes_by uses bytes search callback other h (fault from to rest s l) = fault from to rest s (lexes_by uses bytes search callback other h l)
+
+-- one item more
+pub more_items : {C : Type 0} (callback other : Callback) (code : CodeValue) (input : List ℕ) (old new : LexerValue C) (items : List Item) (item : Item) → Gives callback old new item →
+    old.code ≡ code → old.input ≡ input → new.code ≡ code → new.input ≡ input →
+    ((leaf : ℕ) (slice : List ℕ) (answer : Action) → other leaf slice answer → callback leaf slice answer) →
+    ((leaf : ℕ) (slice : List ℕ) (answer : Action) → callback leaf slice answer → other leaf slice answer) →
+    ((rest : List Item) → Runs code other input old.to rest → Runs code other input 0 (items ++ rest)) →
+    (rest : List Item) → Runs code other input new.to rest → Runs code other input 0 ((items ++ item ∷ []) ++ rest)
+more_items callback other code input old new items item g c i d j to_it back h rest r =
+    let here : Runs new.code callback new.input new.to rest = rw (d, j) (lexes_by code.leaves input (CodeFinds code input) other callback to_it r) in
+    let before : Runs code callback input old.to (item ∷ rest) = rw (c, i) at (g.next rest here) in
+    rw append_assoc (h (item ∷ rest) (lexes_by code.leaves input (CodeFinds code input) callback other back before))
+
+pub no_items : {C : Type 0} (callback other : Callback) (code : CodeValue) (input : List ℕ) (old new : LexerValue C) (items : List Item) → Ends callback old new → old.code ≡ code → old.input ≡ input →
+    ((leaf : ℕ) (slice : List ℕ) (answer : Action) → callback leaf slice answer → other leaf slice answer) →
+    ((rest : List Item) → Runs code other input old.to rest → Runs code other input 0 (items ++ rest)) → Runs code other input 0 items
+no_items callback other code input old new items g c i back h =
+    let here : Runs code callback input old.to [] = rw (c, i) at g.over in
+    rw append-nil at (h [] (lexes_by code.leaves input (CodeFinds code input) callback other back here))
+
+-- what is no refusal of the source is none of lexing
+pub memory_no_refusal : (refusal : Refusal) (error : LexSourceError) → IsThatRefusal refusal error → IsMemory refusal → IsNoRefusal error
+memory_no_refusal (Errors faults) error e m = absurd m
+memory_no_refusal Memory error e m = rw e tt
+
+module _ (source : List ℕ) (rules : List Rule) (utf8 : Bool) (code : CodeValue) (accepted : IsAccepted source rules utf8) (lexer : IsLexer rules utf8 code) where
+  module _ (callback : Callback) (bytes : List ℕ) (items : List Item) (input : IsInput utf8 bytes) (runs : Runs code callback bytes 0 items) where
+    pub items_are : Items rules callback utf8 bytes 0 items
+    items_are = (runs_iff rules utf8 code callback bytes 0 items lexer input).0 runs
+
+    pub are_in_order : AreInOrder (length bytes) 0 items
+    are_in_order = in_order rules callback utf8 bytes (omega arith) items_are
+
+    pub are_cut : (others : List Rule) → IsAccepted source others true → All (IsCut bytes) items
+    are_cut others a =
+        let same = accepted_once source rules others utf8 true accepted a in
+        let is_utf8 : IsUtf8 bytes = input.1 same.1 in
+        let items' : Items others callback true bytes 0 items = rw (same.0, same.1) at items_are in
+        items_cut bytes is_utf8 others (accepted_texts source others a) callback (IsCharBoundary-start bytes is_utf8) items'
+
+-- what is not lexed by the code of an accepted source
+pub unlexed_just : (source : List ℕ) (rules : List Rule) (utf8 : Bool) (code : CodeValue) (input : List ℕ) → IsAccepted source rules utf8 → IsLexer rules utf8 code →
+    {T : Type 0} (result : Result T LexSourceError) → IfErr result (IsUnlexed code input) → IfErr result (IsJust source input)
+unlexed_just source rules utf8 code input a l (Ok items) h = tt
+unlexed_just source rules utf8 code input a l (Err (Refused faults)) h = absurd h
+unlexed_just source rules utf8 code input a l (Err (NotUtf8 valid_up_to)) h = ((rules, rw (sym l.mode ∙ h.0) at a), h.1, h.2)
+unlexed_just source rules utf8 code input a l (Err OutOfMemory) h = tt
+
+pub unlexed_no_refusal : (code : CodeValue) (input : List ℕ) {T : Type 0} (result : Result T LexSourceError) → IfErr result (IsUnlexed code input) → IfErr result IsNoRefusal
+unlexed_no_refusal code input (Ok items) h = tt
+unlexed_no_refusal code input (Err (Refused faults)) h = h
+unlexed_no_refusal code input (Err (NotUtf8 valid_up_to)) h = tt
+unlexed_no_refusal code input (Err OutOfMemory) h = tt
+
+-- ---- what `lex_source` says of its result
+
+module _ (source : List ℕ) (rules : List Rule) (utf8 : Bool) (code : CodeValue) (accepted : IsAccepted source rules utf8) (lexer : IsLexer rules utf8 code)
+    (callback : Callback) (bytes : List ℕ) (are : IsBytes bytes) where
+  input_of : (IsTrue code.utf8 → IsUtf8 bytes) → IsInput utf8 bytes
+  input_of text = (are, λ t. text (lexer.mode ∙ t))
+
+  pub items_of_result : (result : Result (Vec TheItem Global) LexSourceError) → IfOk result (λ items. Runs code callback bytes 0 (map item_of items.items)) → IfOk result (λ items. IsTrue code.utf8 → IsUtf8 bytes) →
+      IfOk result (λ items. (rules : List Rule) × (utf8 : Bool) × IsAccepted source rules utf8 × (IsTrue utf8 → IsUtf8 bytes) × Items rules callback utf8 bytes 0 (map item_of items.items))
+  items_of_result (Ok items) r text = (rules, utf8, accepted, (input_of text).1, items_are source rules utf8 code accepted lexer callback bytes (map item_of items.items) (input_of text) r)
+  items_of_result (Err error) r text = tt
+
+  pub order_of_result : (result : Result (Vec TheItem Global) LexSourceError) → IfOk result (λ items. Runs code callback bytes 0 (map item_of items.items)) → IfOk result (λ items. IsTrue code.utf8 → IsUtf8 bytes) →
+      IfOk result (λ items. AreInOrder (length bytes) 0 (map item_of items.items))
+  order_of_result (Ok items) r text = are_in_order source rules utf8 code accepted lexer callback bytes (map item_of items.items) (input_of text) r
+  order_of_result (Err error) r text = tt
+
+  pub cut_of_result : (result : Result (Vec TheItem Global) LexSourceError) → IfOk result (λ items. Runs code callback bytes 0 (map item_of items.items)) → IfOk result (λ items. IsTrue code.utf8 → IsUtf8 bytes) →
+      (others : List Rule) → IsAccepted source others true → IfOk result (λ items. All (IsCut bytes) (map item_of items.items))
+  cut_of_result (Ok items) r text others a = are_cut source rules utf8 code accepted lexer callback bytes (map item_of items.items) (input_of text) r others a
+  cut_of_result (Err error) r text others a = tt

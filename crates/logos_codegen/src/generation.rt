@@ -1,0 +1,140 @@
+//! From a source text to the code of its lexer.
+
+ghost use Rattle.std.specs.Prelude.{◌≡◌, ◌↔◌, ◌++◌, ℕ, Bool, List, [], map, flat_map, true, IfOk, IfErr, OnOk, IsTrue};
+ghost use Rattle.logos_parser.specs.Values.{ident_slice};
+ghost use Rattle.logos_graph.specs.Munch.{Rule};
+ghost use Rattle.logos_graph.specs.Errors.{fault_of};
+ghost use Rattle.logos_graph.specs.View.{rules_of};
+ghost use Rattle.logos_generator.specs.Headline.{IsLexer};
+ghost use Rattle.logos_codegen.specs.Texts.{named_leaf, listed_of};
+ghost use Rattle.logos_codegen.specs.Rules.{named_rule};
+ghost use Rattle.logos_codegen.specs.Source.{IsNamed, IsAccepted, IsRefused, IsWithinLimits};
+ghost use Rattle.logos_codegen.specs.Refusals.{Refuses, IsMemory};
+ghost use Rattle.logos_codegen.specs.Steps.{IsLimit, ListsGraph, IsGraphMade};
+
+use crate::leaves::{leaves_of, list_not_utf8};
+use crate::refusal::Refusal;
+use crate::source::read_source;
+use crate::texts::list_fault;
+use logos_generator::code::Code;
+use logos_generator::generator::{Config, Generator};
+use logos_graph::graph::{BuildError, Config as GraphConfig, Graph, GraphError};
+use logos_pattern::leaf::Leaf;
+use logos_token::error::{Errors, FaultCode, Memory};
+use logos_token::token::{Ident, Span};
+use std::alloc::Global;
+
+/// What a source gives.
+#[derive(Drop)]
+pub struct Generated<'s> {
+    /// The code of the lexer.
+    pub code: Code<'s>,
+    /// The graph that the code was made of, with its leaves.
+    pub graph: Graph<'s>,
+    /// The name of the enum.
+    pub name: Ident<'s>,
+}
+
+// Lists the faults of a graph.
+fn list_faults(
+    alloc: Global,
+    leaves: &[Leaf<'_>],
+    item: Span,
+    faults: &[GraphError],
+    errors: &mut Errors,
+) -> Result<(), Memory>
+    ensures { OnOk result (errors.new ≡ errors.old ++ flat_map (listed_of (map named_leaf leaves.now) item) (map fault_of faults.now)) }
+{
+    for fault in faults {
+        list_fault(alloc, leaves, item, fault, errors)?;
+    }
+    Ok(())
+}
+
+// Lists the limit for which there is no graph.
+fn list_limit(error: BuildError, item: Span, errors: &mut Errors) -> Result<(), Memory>
+    ensures { OnOk result (IsLimit error item errors.old errors.new) }
+{
+    match error {
+        BuildError::LimitSize => {
+            errors.err(FaultCode::LimitSize, "limit LimitSize passed", item)
+        }
+        BuildError::LimitStates => {
+            errors.err(FaultCode::LimitStates, "limit LimitStates passed", item)
+        }
+        BuildError::Memory => Err(Memory),
+    }
+}
+
+// The graph of the leaves, if there is one. Its faults are listed, or the limit in their place.
+fn graph_of<'s>(
+    alloc: Global,
+    leaves: Vec<Leaf<'s>>,
+    utf8_mode: bool,
+    item: Span,
+    errors: &mut Errors,
+) -> Result<Option<Graph<'s>>, Memory>
+    ensures { IfOk result (ListsGraph leaves.entry.items utf8_mode item errors.old errors.new) }
+{
+    match Graph::new(alloc, leaves, GraphConfig { utf8_mode }) {
+        Ok(graph) => {
+            list_faults(alloc, graph.leaves(), item, graph.errors(), errors)?;
+            Ok(Some(graph))
+        }
+        Err(error) => {
+            list_limit(error, item, errors)?;
+            Ok(None)
+        }
+    }
+}
+
+// Whether no fault is listed.
+fn is_faultless(errors: &Errors) -> bool
+    ensures { IsTrue result ↔ (errors.now ≡ []) }
+{
+    errors.list().is_empty()
+}
+
+// The graph of a source without faults, and the name of its enum.
+fn accept<'s>(alloc: Global, src: &'s str) -> Result<(Graph<'s>, Ident<'s>), Refusal>
+    ensures ok { IfOk result (λ read. IsGraphMade src.now read.0) }
+    ensures name { IfOk result (λ read. IsNamed src.now (ident_slice read.1)) }
+    ensures err { IfErr result (Refuses (IsRefused src.now)) }
+{
+    let (item, span) = read_source(alloc, src)?;
+    let mut errors = Errors::new(alloc);
+    let leaves = leaves_of(alloc, &item.definitions, &mut errors)?;
+    list_not_utf8(alloc, item.utf8_mode, &leaves, &mut errors)?;
+    let Some(graph) = graph_of(alloc, leaves, item.utf8_mode, span, &mut errors)? else {
+        return Err(Refusal::Errors(errors));
+    };
+    if !is_faultless(&errors) {
+        return Err(Refusal::Errors(errors));
+    }
+    Ok((graph, item.name))
+}
+
+/// The code of the lexer that a source says.
+///
+/// The source is an enum, with `#[token("..")]` and `#[regex("..")]` on its variants and, in front of
+/// it, `#[logos(skip "..")]` and `#[logos(utf8 = false)]`. Leaves are numbered skips first, then in the
+/// order of the source. In both shapes of `config` the code finds the same.
+///
+/// `Errors` has all faults of the source, in order, or the one that ends its reading. A limit stands
+/// among them: of the source's bytes, of the nesting of its delimiters and patterns, of the size of all
+/// trees, and of the number of states. `Memory` comes wherever memory runs out.
+pub fn generate<'s>(alloc: Global, src: &'s str, config: Config) -> Result<Generated<'s>, Refusal>
+    // The source has no faults, and these are its rules and its mode.
+    ensures accepted { IfOk result (λ made. IsAccepted src.now (rules_of made.graph.leaves) made.graph.utf8) }
+    // At each place of each input the code finds exactly what maximal munch finds there.
+    ensures lexer { IfOk result (λ made. IsLexer (rules_of made.graph.leaves) made.graph.utf8 made.code) }
+    ensures name { IfOk result (λ made. IsNamed src.now (ident_slice made.name)) }
+    // What is refused has these faults.
+    ensures refused { IfErr result (Refuses (IsRefused src.now)) }
+    // What has no faults, and passes no limit, is not refused.
+    ensures complete { (rules : List Rule) (utf8 : Bool) → IsAccepted src.now rules utf8 → IsWithinLimits src.now rules → IfErr result IsMemory }
+{
+    let (graph, name) = accept(alloc, src)?;
+    let code = Generator::new(config, name, &graph).generate(alloc)?;
+    Ok(Generated { code, graph, name })
+}

@@ -1,0 +1,136 @@
+//! The items of an input, by a source.
+
+ghost use Rattle.std.specs.Prelude.{◌≡◌, ℕ, List, Bool, map, length, true, IfOk, IfErr, IsTrue, MatchResult};
+ghost use Rattle.std.specs.List.{All};
+ghost use Rattle.std.specs.Str.{IsUtf8, IsValidUpTo};
+ghost use Rattle.logos_graph.specs.Munch.{Rule};
+ghost use Rattle.logos_generator.specs.Headline.{IsCut};
+ghost use Rattle.logos_generator.specs.Items.{Items};
+ghost use Rattle.logos_generator.specs.LexerValue.{answers_of, item_of};
+ghost use Rattle.logos_generator.specs.Order.{AreInOrder};
+ghost use Rattle.logos_generator.specs.Runs.{Runs};
+ghost use Rattle.logos_codegen.specs.Source.{IsAccepted, IsWithinLimits};
+ghost use Rattle.logos_codegen.specs.Refusals.{IsUnlexed, IsJust, IsNoRefusal};
+
+use crate::generation::generate;
+use crate::refusal::Refusal;
+use logos_generator::code::Code;
+use logos_generator::generator::Config;
+use logos_generator::machine::{Action, Item, Lexer, NotUtf8};
+use logos_pattern::leaf::LeafId;
+use logos_token::error::Errors;
+use std::alloc::{AllocError, AllocFailed, Global};
+
+/// Why an input was not lexed.
+#[derive(Debug, Drop)]
+pub enum LexSourceError {
+    /// The source has these faults, or passes a limit.
+    Refused(Errors),
+    /// The input is not UTF-8. `valid_up_to` is the length in bytes of its longest beginning that is.
+    NotUtf8 { valid_up_to: usize },
+    /// Memory ran out.
+    Memory,
+}
+
+impl From<AllocError> for LexSourceError {
+    ghost use Rattle.std.specs.Prelude.{◌≡◌};
+    ghost use Rattle.logos_codegen.specs.declared.lexing.LexSourceError.TheVariants.{Memory as OutOfMemory};
+
+    ghost from_gives = { λ _ e. e ≡ OutOfMemory };
+
+    fn from(_error: AllocError) -> LexSourceError {
+        LexSourceError::Memory
+    }
+}
+
+impl<T: Drop> From<AllocFailed<T>> for LexSourceError {
+    ghost use Rattle.std.specs.Prelude.{◌≡◌};
+    ghost use Rattle.logos_codegen.specs.declared.lexing.LexSourceError.TheVariants.{Memory as OutOfMemory};
+
+    ghost from_gives = { λ _ e. e ≡ OutOfMemory };
+
+    fn from(_error: AllocFailed<T>) -> LexSourceError {
+        LexSourceError::Memory
+    }
+}
+
+impl From<NotUtf8> for LexSourceError {
+    ghost use Rattle.std.specs.Prelude.{◌≡◌};
+    ghost use Rattle.logos_codegen.specs.declared.lexing.LexSourceError.TheVariants.{NotUtf8 as NoUtf8};
+
+    ghost from_gives = { λ error e. e ≡ NoUtf8 error.valid_up_to };
+
+    fn from(error: NotUtf8) -> LexSourceError {
+        LexSourceError::NotUtf8 {
+            valid_up_to: error.valid_up_to,
+        }
+    }
+}
+
+impl From<Refusal> for LexSourceError {
+    ghost use Rattle.logos_codegen.specs.Refusals.{IsThatRefusal};
+
+    ghost from_gives = { IsThatRefusal };
+
+    fn from(error: Refusal) -> LexSourceError {
+        match error {
+            Refusal::Errors(errors) => LexSourceError::Refused(errors),
+            Refusal::Memory => LexSourceError::Memory,
+        }
+    }
+}
+
+// All items of an input, in order, by the code of a lexer.
+fn lex_input<'i, C: Fn(LeafId, &[u8]) -> Action + Drop>(
+    alloc: Global,
+    code: &Code,
+    input: &'i [u8],
+    callbacks: C,
+) -> Result<Vec<Item<'i>>, LexSourceError>
+    requires { C.IsAlwaysCallable callbacks }
+    ensures items { IfOk result (λ items. Runs code.now (answers_of C.Fn callbacks) input.now 0 (map item_of items.items)) }
+    ensures text { IfOk result (λ items. IsTrue code.now.utf8 → IsUtf8 input.now) }
+    ensures err { IfErr result (IsUnlexed code.now input.now) }
+{
+    let mut items = Vec::new(alloc);
+    let mut lexer = Lexer::new_bytes(code, input, callbacks)?;
+    while let Some(item) = lexer.next() {
+        items.push(item)?;
+    }
+    Ok(items)
+}
+
+/// The items of an input, by the leaves of a source.
+///
+/// The source is one that `generate` takes. At each place of the input the longest match that begins
+/// there is a token of its leaf, of several as long that of the leaf of highest priority; matches of a
+/// `skip` are left out. Where no leaf has a match, an error reaches over the longest beginning that
+/// could still grow. No leaf has a callback yet, so `callbacks` is not asked. Both shapes of `config`
+/// give the same items.
+///
+/// `Refused` comes first, where the source has faults; then `NotUtf8`, where the source is in UTF-8 mode
+/// and the input is not UTF-8; `Memory` wherever memory runs out. Nothing that the caller holds is
+/// changed.
+pub fn lex_source<'i, C: Fn(LeafId, &[u8]) -> Action + Drop>(
+    alloc: Global,
+    src: &str,
+    config: Config,
+    input: &'i [u8],
+    callbacks: C,
+) -> Result<Vec<Item<'i>>, LexSourceError>
+    requires { C.IsAlwaysCallable callbacks }
+    // The items are those of maximal munch, by the rules of a source without faults; in UTF-8 mode, of UTF-8.
+    ensures items { IfOk result (λ items. (rules : List Rule) × (utf8 : Bool) × IsAccepted src.now rules utf8 × (IsTrue utf8 → IsUtf8 input.now) × Items rules (answers_of C.Fn callbacks) utf8 input.now 0 (map item_of items.items)) }
+    ensures in_order { IfOk result (λ items. AreInOrder (length input.now) 0 (map item_of items.items)) }
+    // In UTF-8 mode each item starts and ends between characters.
+    ensures cut { (rules : List Rule) → IsAccepted src.now rules true → IfOk result (λ items. All (IsCut input.now) (map item_of items.items)) }
+    ensures err { IfErr result (IsJust src.now input.now) }
+    // A source without faults, within the limits, is not refused.
+    ensures accepted { (rules : List Rule) (utf8 : Bool) → IsAccepted src.now rules utf8 → IsWithinLimits src.now rules → IfErr result IsNoRefusal }
+{
+    let generated = generate(alloc, src, config)?;
+    lex_input(alloc, &generated.code, input, callbacks)
+}
+
+#[cfg(test)]
+mod tests;
