@@ -22,7 +22,7 @@ enum Token {
     Continue,
     #[token("struct")]
     Struct,
-    #[regex("[A-Za-z_][A-Za-z0-9_]*", priority = 1)]
+    #[regex("[A-Za-z_][A-Za-z0-9_]*")]
     Identifier,
     #[regex("[0-9]+([.][0-9]+)?")]
     Number,

@@ -13,7 +13,6 @@ use Rattle.logos_generator.specs.Code.{CodeValue}
 use Rattle.logos_generator.specs.Headline.{IsSound, NamesWhatIsThere, NamesFork}
 use Rattle.logos_generator.specs.CodeView.{has_mask, jumps_of, fork_of, state_of, code_of}
 use Rattle.logos_generator.specs.declared.code.CodeState.{CodeState as TheState}
-use Rattle.logos_generator.specs.declared.code.Fork.{Fork as TheFork}
 use Rattle.logos_generator.specs.declared.code.Fork.TheVariants.{Table}
 use Rattle.logos_generator.specs.declared.code.CodeParts.{CodeParts}
 
@@ -47,10 +46,6 @@ pub state_names : (code : CodeParts) (s : ℕ) (state : TheState) → IsSound (c
     state ≡ get_or code.states.items s state → NamesWhatIsThere (code_of code) (state_of code.jump_tables.items state)
 state_names code s state sound l is =
     All-map (NamesWhatIsThere (code_of code)) (state_of code.jump_tables.items) code.states.items s state sound.states (rw length-map at l) is
-
-pub fork_names : (code : CodeParts) (s : ℕ) (state : TheState) (fork : TheFork) → IsSound (code_of code) → s < length (code_of code).states →
-    state ≡ get_or code.states.items s state → state.fork ≡ fork → NamesFork (code_of code) (fork_of code.jump_tables.items fork)
-fork_names code s state fork sound l is f = rw f at (state_names code s state sound l is).fork
 
 -- a jump table that a fork names is there
 pub table_there : (code : CodeValue) (tables : List (List ℕ)) (k : ℕ) → NamesFork code (fork_of tables (Table k)) → k < length tables

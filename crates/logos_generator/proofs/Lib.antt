@@ -2,7 +2,7 @@ pub mod Compose
 pub mod Examples
 pub mod InOrder
 pub mod CodeLemmas
-pub mod FastLoopLemmas
+pub mod RowLemmas
 pub mod StandLemmas
 pub mod LexerLemmas
 pub mod SoundLemmas

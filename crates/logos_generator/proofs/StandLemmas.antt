@@ -36,7 +36,7 @@ looped-fits code (Some k) rest =
     omega (arith, length-prefix_len p rest, prefix_len-le-length p rest)
 
 -- a target of a fork is there
-target_there : (code : CodeValue) (fork : Fork) (b t : ℕ) → NamesFork code fork → target code fork b ≡ Some t → t < length code.states
+pub target_there : (code : CodeValue) (fork : Fork) (b t : ℕ) → NamesFork code fork → target code fork b ≡ Some t → t < length code.states
 target_there code (by_conditions edges) b t names is = go (find (λ edge. passes code edge.0 b) edges) is
     (All-find (λ edge. NamesCondition code edge.0 × NamesState code edge.1) (λ edge. passes code edge.0 b) edges names)
   where

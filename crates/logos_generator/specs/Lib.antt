@@ -5,6 +5,7 @@ pub mod Items
 pub mod Headline
 pub mod CodeView
 pub mod Makes
+pub mod Rows
 pub mod Nodes
 pub mod StateView
 pub mod Stands

@@ -1,12 +1,12 @@
 //! Code values: what a lexer does in each state.
-ghost use Rattle.std.specs.Prelude.{◌≡◌, ◌<◌, ℕ, length, map, option_map, None, IfSome, slice_index_or};
-ghost use Rattle.logos_graph.specs.Bytes.{comparison_of, some_compares};
-ghost use Rattle.logos_generator.specs.Bytes.{passes_test};
-ghost use Rattle.logos_generator.specs.Code.{by_conditions};
-ghost use Rattle.logos_generator.specs.Headline.{IsSound, NamesTest, NamesCondition, NamesFork};
-ghost use Rattle.logos_generator.specs.Runs.{target, passes};
-ghost use Rattle.logos_generator.specs.CodeView.{mark_of, condition_of, branch_of, entry_of, jumps_of, state_at, has_mask, asks_for, skips_over, code_of, IsKept};
+ghost use Rattle.std.specs.Prelude.{◌≡◌, ◌<◌, false, length, option_map, IfOk};
+ghost use Rattle.logos_generator.specs.Headline.{IsSound};
+ghost use Rattle.logos_generator.specs.Makes.{stays};
+ghost use Rattle.logos_generator.specs.Runs.{target};
+ghost use Rattle.logos_generator.specs.CodeView.{mark_of, entry_of, state_at, asks_for, skips_over, code_of, IsKept};
+ghost use Rattle.logos_generator.specs.Rows.{IsRow};
 
+pub(crate) mod rows;
 mod sound;
 #[cfg(test)]
 mod tests;
@@ -15,6 +15,8 @@ use crate::generator::Config;
 use logos_graph::byte_class::Comparisons;
 use logos_pattern::leaf::{LeafId, VariantKind};
 use logos_token::token::Ident;
+use rows::rows_of;
+use std::alloc::{AllocError, Global};
 use std::marker::Model;
 
 /// A match of this leaf ends where the state is, or one byte before where it is late.
@@ -86,6 +88,8 @@ pub(crate) struct CodeParts<'s> {
 #[derive(Drop)]
 pub struct Code<'s> {
     parts: CodeParts<'s>,
+    /// What each byte does in each state, so that running the code takes one look a byte.
+    rows: Vec<[u32; 256]>,
 }
 
 impl<'s> Model for Code<'s> {
@@ -94,19 +98,22 @@ impl<'s> Model for Code<'s> {
     ghost Value = { CodeValue };
 
     ghost use Rattle.logos_generator.specs.CodeView.{code_of, IsKept};
+    ghost use Rattle.logos_generator.specs.Rows.{AreRows};
 
     ghost view = { λ code. code_of code.parts };
 
-    ghost invariant = { λ code. IsKept code.parts };
+    ghost invariant = { λ code. IsKept code.parts × AreRows (code_of code.parts) code.rows.items };
 }
 
 impl<'s> Code<'s> {
     /// The code of these parts.
-    pub(crate) fn new(parts: CodeParts<'s>) -> Code<'s>
-        requires { IsKept parts }
-        ensures { result ≡ code_of parts.entry }
+    pub(crate) fn new(alloc: Global, parts: CodeParts<'s>) -> Result<Code<'s>, AllocError>
+        requires kept { IsKept parts }
+        requires few { length parts.states.items < 4294967295 }
+        ensures { IfOk result (λ code. code ≡ code_of parts.entry) }
     {
-        Code { parts }
+        let rows = rows_of(alloc, &parts)?;
+        Ok(Code { parts, rows })
     }
 }
 
@@ -126,14 +133,13 @@ impl Code<'_> {
         self.parts.utf8
     }
 
-    /// The number of the test of the bytes that stay in the state.
+    /// The row of the state.
     #[inline]
-    pub(crate) fn fast_loop(&self, state: usize) -> Option<usize>
+    pub(crate) fn row(&self, state: usize) -> &[u32; 256]
         requires { state < length self.now.states }
-        ensures is { result ≡ (state_at self.now state).fast_loop }
-        ensures there { IfSome result (NamesTest self.now) }
+        ensures { IsRow self.now (state_at self.now state) result.now }
     {
-        self.parts.states[state].fast_loop
+        &self.rows[state]
     }
 
     #[inline]
@@ -153,43 +159,14 @@ impl Code<'_> {
         self.parts.states[state].at_end
     }
 
-    /// Where the byte leads from the state.
+    /// Where a byte leads that the state's fast loop does not take.
     #[inline]
     pub(crate) fn target(&self, state: usize, byte: u8) -> Option<usize>
-        requires { state < length self.now.states }
+        requires state { state < length self.now.states }
+        requires stops { stays self.now (state_at self.now state).fast_loop byte ≡ false }
         ensures { result ≡ target self.now (state_at self.now state).fork byte }
     {
-        match &self.parts.states[state].fork {
-            Fork::Conditions(branches) => self.first_target(branches, byte),
-            Fork::Table(k) => jump(&self.parts.jump_tables[*k], byte),
-        }
-    }
-
-    /// The target of the first of the branches whose condition holds.
-    fn first_target(&self, branches: &[(Condition, usize)], byte: u8) -> Option<usize>
-        requires { NamesFork self.now (by_conditions (map branch_of branches.now)) }
-        ensures { result ≡ target self.now (by_conditions (map branch_of branches.now)) byte }
-    {
-        for (condition, target) in branches {
-            if self.passes(condition, byte) {
-                return Some(*target);
-            }
-        }
-        None
-    }
-
-    #[inline]
-    fn passes(&self, condition: &Condition, byte: u8) -> bool
-        requires { NamesCondition self.now (condition_of condition.now) }
-        ensures { result ≡ passes self.now (condition_of condition.now) byte }
-    {
-        match condition {
-            Condition::Comparisons(all) => some_holds(all, byte),
-            Condition::Test(k) => {
-                let (table, mask) = self.test(*k);
-                has_mask(table, mask, byte)
-            }
-        }
+        target_of(self.rows[state][byte as usize])
     }
 
     /// Whether a callback is asked for the matches of the leaf.
@@ -207,23 +184,6 @@ impl Code<'_> {
     {
         matches!(self.parts.leaves[leaf.0].kind, VariantKind::Skip)
     }
-
-    /// The table of the test with this number, and the bit of its entries that is the test.
-    #[inline]
-    pub(crate) fn test(&self, k: usize) -> (&[u8; 256], u8)
-        requires { NamesTest self.now k }
-        ensures { (b : ℕ) → has_mask result.0.now result.1 b ≡ passes_test self.now.bit_tables k b }
-    {
-        (&self.parts.bit_tables[k / 8], 1 << (k % 8))
-    }
-}
-
-/// The entry of a jump table for the byte.
-#[inline]
-fn jump(table: &[u32; 256], byte: u8) -> Option<usize>
-    ensures { result ≡ slice_index_or (jumps_of table.now) byte None }
-{
-    target_of(table[byte as usize])
 }
 
 /// The state that an entry of a jump table stands for.
@@ -236,25 +196,4 @@ fn target_of(entry: u32) -> Option<usize>
     } else {
         Some(entry as usize)
     }
-}
-
-/// Whether one of the comparisons holds for the byte.
-#[inline]
-fn some_holds(comparisons: &[Comparisons], byte: u8) -> bool
-    ensures { result ≡ some_compares (map comparison_of comparisons.now) byte }
-{
-    for comparison in comparisons {
-        if comparison.holds(byte) {
-            return true;
-        }
-    }
-    false
-}
-
-/// Whether the table's entry for the byte has a bit of the mask.
-#[inline]
-pub(crate) fn has_mask(table: &[u8; 256], mask: u8, byte: u8) -> bool
-    ensures { result ≡ has_mask table.now mask byte }
-{
-    table[byte as usize] & mask != 0
 }

@@ -3,9 +3,9 @@
 use crate::code::Code;
 use crate::generator::{Config, Generator};
 use logos_graph::graph::Graph;
-use logos_pattern::leaf::{Leaf, VariantKind};
+use logos_pattern::leaf::{Callback, Leaf, VariantKind};
 use logos_pattern::pattern::Pattern;
-use logos_token::token::{Ident, Span};
+use logos_token::token::{Ident, Span, tokenize};
 use std::alloc::Global;
 use std::test::Fail;
 
@@ -43,6 +43,14 @@ pub(crate) fn code_of(alloc: Global, patterns: &[&str]) -> Result<Code<'static>,
     for regex in patterns {
         leaves.push(leaf(alloc, regex, 1)?)?;
     }
+    code_of_leaves(alloc, true, leaves)
+}
+
+/// The code of a leaf with this pattern, on whose matches a function is called.
+pub(crate) fn code_with_callback(alloc: Global, regex: &str) -> Result<Code<'static>, Fail> {
+    let label = Callback::Label(tokenize(alloc, "f")?);
+    let mut leaves = Vec::new(alloc);
+    leaves.push(leaf(alloc, regex, 1)?.callback(Some(label)))?;
     code_of_leaves(alloc, true, leaves)
 }
 

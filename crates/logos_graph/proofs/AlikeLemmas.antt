@@ -1,10 +1,10 @@
 -- Bytes that a pattern does not tell apart.
-use Rattle.std.proofs.Common.{◌≡◌, ℕ, zero, suc, ◌+◌, ◌-◌, ◌<◌, ◌≤◌, ◌↔◌, ◌⊎◌, ◌==◌, Bool, true, false, IsTrue, List, [], ◌∷◌, length, map, drop, get_or, drop-cons, add-one, Option, Some, None, refl, sym, ap, ◌∙◌, subst, inl, inr, ⊎_elim, arith}
+use Rattle.std.proofs.Common.{◌≡◌, ℕ, zero, suc, ◌+◌, ◌-◌, ◌<◌, ◌↔◌, ◌⊎◌, ◌==◌, Bool, List, [], ◌∷◌, length, map, drop, get_or, drop-cons, add-one, Option, Some, None, sym, ap, ◌∙◌, subst, inl, inr, ⊎_elim}
 use Rattle.logos_graph.specs.Alike.{IsAlike, AreAlike}
 use Rattle.logos_graph.specs.Core.{Core, void, empty, byte_in, character, look, cat, alt, plus, width, Exits, Steps}
 use Rattle.logos_graph.specs.Node.{core_of}
-use Rattle.logos_graph.specs.Repeat.{spelled, in_front, up_to, at_least, repeated}
-use Rattle.logos_graph.specs.Run.{width_of, StepsIn}
+use Rattle.logos_graph.specs.Repeat.{spelled, in_front, up_to, repeated}
+use Rattle.logos_graph.specs.Run.{StepsIn}
 use Rattle.logos_graph.specs.declared.node.Node.{Node}
 use Rattle.logos_pattern.specs.declared.pattern.hir.Look.{Look}
 use Rattle.logos_graph.proofs.SeveralLemmas.{next_core}

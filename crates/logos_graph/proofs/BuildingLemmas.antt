@@ -1,12 +1,10 @@
 -- An automaton while it is built.
-use Rattle.std.proofs.Common.{◌≡◌, ℕ, zero, suc, ◌+◌, ◌<◌, ◌≤◌, ◌⊎◌, Bool, List, [], ◌∷◌, ◌++◌, length, length-append, slice_index, slice_index_or, Some, slice_get, refl, sym, ap, ◌∙◌, subst, ⊎_elim, arith}
+use Rattle.std.proofs.Common.{◌≡◌, ℕ, ◌+◌, ◌<◌, ◌≤◌, ◌⊎◌, Bool, List, [], ◌∷◌, ◌++◌, length, length-append, slice_index, slice_index_or, refl, sym, ap, ◌∙◌, subst, ⊎_elim, arith}
 use Rattle.std.proofs.lemmas.List.{get_or_append_left}
 use Rattle.std.proofs.Math.Seq.{get_or-append_seam}
-use Rattle.std.proofs.lemmas.Option.{same_Some}
 use Rattle.logos_graph.specs.Building.{IsUnderway, HasMoreStates}
 use Rattle.logos_graph.specs.Core.{Core}
-use Rattle.logos_graph.specs.Keys.{State, state_of, start_state, IsAt, Grows, AreRising, AreDistinct, AreReached, IsReached, at_start, Extends, EndsIn, AreRows, IsRow, IsBuilt}
-use Rattle.logos_graph.specs.Marks.{IsRising}
+use Rattle.logos_graph.specs.Keys.{State, start_state, IsAt, Grows, AreRising, AreDistinct, AreReached, IsReached, at_start, Extends, EndsIn, AreRows, IsRow, IsBuilt}
 use Rattle.logos_graph.specs.Targets.{AreByteRows, LeadWithin, EndWithin}
 use Rattle.logos_graph.specs.declared.key.Key.{Key}
 use Rattle.logos_graph.proofs.DfaLemmas.{at_within}

@@ -1,11 +1,11 @@
 -- The automaton reads matches one byte late.
-use Rattle.std.proofs.Common.{◌≡◌, ℕ, zero, suc, ◌+◌, ◌-◌, ◌<◌, ◌≤◌, ◌↔◌, Bool, true, false, List, [], ◌∷◌, ◌++◌, length, length-append, map, drop, Option, Some, None, option_map, option_and_then, Contains, slice_get, slice_index, slice_index_or, get_or, append-nil, refl, sym, ap, ◌∙◌, subst, arith}
+use Rattle.std.proofs.Common.{◌≡◌, ℕ, zero, suc, ◌+◌, ◌<◌, ◌↔◌, Bool, false, List, [], ◌∷◌, ◌++◌, length, map, drop, Option, Some, None, option_map, option_and_then, Contains, slice_get, slice_index, slice_index_or, append-nil, refl, sym, ap, ◌∙◌, subst, arith}
 use Rattle.std.specs.List.Sorted.{IsStrictlyIncreasing}
 use Rattle.std.proofs.lemmas.List.{get_or_default}
-use Rattle.std.proofs.lemmas.Option.{same_Some, slice_get-get_or, slice_get-map, get_or_from_slice_get}
+use Rattle.std.proofs.lemmas.Option.{same_Some, slice_get-get_or, slice_get-map}
 use Rattle.logos_pattern.specs.Text.{IsBytes, byte_after}
 use Rattle.logos_graph.specs.Core.{Core}
-use Rattle.logos_graph.specs.Keys.{State, state_of, start_state, IsAt, IsNext, IsLast, LeadsTo, EndsIn, AreRows, IsBuilt, automaton_of}
+use Rattle.logos_graph.specs.Keys.{State, state_of, start_state, IsAt, IsNext, IsLast, IsBuilt, automaton_of}
 use Rattle.logos_graph.specs.Marks.{Has, IsRising}
 use Rattle.logos_graph.specs.Munch.{Rule, RuleMatches}
 use Rattle.logos_graph.specs.Rules.{AreRuleCores, AreFree}

@@ -1,5 +1,5 @@
 -- Where the edges of a table are.
-use Rattle.std.proofs.Common.{◌≡◌, ℕ, ◌<◌, ◌≤◌, length, Option, None, Some, option_map, refl, arith}
+use Rattle.std.proofs.Common.{◌≡◌, ℕ, ◌<◌, ◌≤◌, Option, None, Some, option_map, refl, arith}
 use Rattle.logos_graph.specs.Merge.{led}
 use Rattle.logos_graph.specs.Reduce.{size, to}
 use Rattle.logos_graph.specs.RowsKept.{rows_of}

@@ -1,29 +1,25 @@
 -- A graph that shows the reduced table of an automaton finds what maximal munch finds.
-use Rattle.std.proofs.Common.{◌≡◌, ◌≢◌, ◌↔◌, ℕ, zero, suc, ◌<◌, ◌≤◌, ◌+◌, ◌-◌, ◌⊎◌, inl, inr, Bool, true, false, slice_index, slice_get, take, drop, nat_lt, List, [], ◌∷◌, ◌++◌, length, map, Option, Some, None, option_map, option_and_then, IsSome, IsSomeAnd, vec_len, refl, sym, ◌∙◌, ap, subst, arith}
-use Rattle.std.proofs.lemmas.Bool.{cases_lt}
+use Rattle.std.proofs.Common.{◌≡◌, ◌↔◌, ℕ, ◌<◌, inl, inr, Bool, slice_get, drop, List, length, Option, Some, None, option_map, option_and_then, vec_len, refl, sym, ◌∙◌, ap, subst, arith}
 use Rattle.std.specs.Option.{option_map_or}
 use Rattle.logos_pattern.specs.Text.{IsBytes}
-use Rattle.logos_graph.specs.Found.{GraphFinds, FindsTheLongest, IsInput, mark_after, mark_of}
-use Rattle.logos_graph.specs.Graph.{StateType, GraphState, next_by, next_at_end, walk, type_after}
+use Rattle.logos_graph.specs.Found.{FindsTheLongest, mark_after, mark_of}
+use Rattle.logos_graph.specs.Graph.{StateType, GraphState}
 use Rattle.logos_graph.specs.Merge.{IsMerged}
 use Rattle.logos_graph.specs.Munch.{Rule, Found, Finds}
-use Rattle.logos_graph.specs.Reduce.{size, to, mark, type_of, edges, IsOfUse, IsKeptOrSpare, IsSettled, IsPrunedTable}
+use Rattle.logos_graph.specs.Reduce.{size, to, mark, type_of, edges, IsKeptOrSpare, IsSettled, IsPrunedTable}
 use Rattle.logos_graph.specs.ReduceNumber.{IsNumbered}
 use Rattle.logos_graph.specs.ReduceShown.{IsRaw, Shows}
 use Rattle.logos_graph.specs.Rows.{target_in}
-use Rattle.logos_graph.specs.RowsKept.{rows_of}
 use Rattle.logos_graph.specs.View.{AllStart}
-use Rattle.logos_graph.specs.Walk.{Edges, reach, Leads, to_mark, MarksOneByteLate, WalkFinds, edges_of}
+use Rattle.logos_graph.specs.Walk.{Edges, to_mark, MarksOneByteLate, WalkFinds, edges_of}
 use Rattle.logos_graph.specs.declared.reduce.blocks.Split.{Split}
-use Rattle.logos_graph.specs.declared.reduce.table.Mark.{Mark}
 use Rattle.logos_graph.specs.declared.reduce.table.Table.{Table}
-use Rattle.logos_graph.proofs.EdgeFacts.{edge_within, no_edge}
+use Rattle.logos_graph.proofs.EdgeFacts.{edge_within}
 use Rattle.logos_graph.proofs.Longest.{finds_the_longest, late_root}
 use Rattle.logos_graph.proofs.Maps.{IsMap}
 use Rattle.logos_graph.proofs.Pruned.{IsPruned}
 use Rattle.logos_graph.proofs.ReductionLemmas as red
 use Rattle.logos_graph.proofs.ScanFacts.{finds_alike, nat_lt-zero}
-use Rattle.logos_graph.proofs.Settled as settle
 
 -- one map after another
 pub map_on : {S T U : Type 0} (I : S → Type 0) (J : T → Type 0) (f : S → T) (k : T → U) (g : Edges S) (h : Edges T) (l : Edges U) →

@@ -1,18 +1,17 @@
 -- What holds of a graph that shows the reduced table of an automaton, beside what it finds.
-use Rattle.std.proofs.Common.{◌≡◌, ◌≢◌, ◌↔◌, ℕ, zero, suc, ◌<◌, ◌≤◌, ◌+◌, ◌-◌, ◌⊎◌, inl, inr, Bool, true, false, nat_eq, slice_index, slice_get, List, [], ◌∷◌, length, vec_len, Option, Some, None, option_map, option_and_then, IsSome, IfSome, IsSomeAnd, true≢false, refl, sym, ◌∙◌, ap, subst, arith}
+use Rattle.std.proofs.Common.{◌≡◌, ◌≢◌, ◌↔◌, ℕ, zero, suc, ◌<◌, ◌≤◌, ◌+◌, ◌⊎◌, inl, inr, Bool, true, false, nat_eq, slice_index, slice_get, List, [], ◌∷◌, length, Option, Some, None, option_map, option_and_then, IsSome, IfSome, IsSomeAnd, true≢false, refl, sym, ◌∙◌, ap, subst, arith}
 use Rattle.std.proofs.lemmas.Bool.{cases_lt}
 use Rattle.std.proofs.lemmas.Bool.Decides.{eqb_tells}
 use Rattle.std.proofs.lemmas.List.Elements.{All-cons, All-nil}
 use Rattle.std.specs.List.{find}
 use Rattle.logos_pattern.specs.Text.{IsBytes}
 use Rattle.logos_graph.specs.FinishedGraph.{IsLate, IsUnmarked, NamesLeaves, IsFit}
-use Rattle.logos_graph.specs.Graph.{StateType, GraphState, is_in, next_by, next_at_end, walk, type_after, TellsApart}
+use Rattle.logos_graph.specs.Graph.{StateType, GraphState, is_in, next_by, next_at_end, walk, type_after}
 use Rattle.logos_graph.specs.Least.{IsLeast, IsEvidence}
 use Rattle.logos_graph.specs.Merge.{led, IsMerged, IsHistory}
 use Rattle.logos_graph.specs.Munch.{Rule}
-use Rattle.logos_graph.specs.Reduce.{size, to, mark, type_of, edges, AllAccepted, IsNeeded, IsOfUse, IsKeptOrSpare, IsSettled, IsPrunedTable}
+use Rattle.logos_graph.specs.Reduce.{size, to, mark, type_of, edges, AllAccepted, IsOfUse, IsKeptOrSpare, IsSettled, IsPrunedTable}
 use Rattle.logos_graph.specs.ReduceNumber.{ComesBefore, IsFirstInto, IsNumbered}
-use Rattle.logos_graph.specs.ReduceOrder.{IsMet}
 use Rattle.logos_graph.specs.ReduceShown.{IsReached, IsRaw, Shows}
 use Rattle.logos_graph.specs.Reduced as reduced
 use Rattle.logos_graph.specs.Rows.{target_of}
@@ -20,7 +19,7 @@ use Rattle.logos_graph.specs.View.{AllStart}
 use Rattle.logos_graph.specs.Walk.{Edges, reach, Leads, to_mark, onward, to_end, MarksOneByteLate, edges_of}
 use Rattle.logos_graph.specs.declared.reduce.blocks.Split.{Split}
 use Rattle.logos_graph.specs.declared.reduce.table.Table.{Table}
-use Rattle.logos_graph.proofs.EdgeFacts.{edge_within, edge_symbol, led_symbol, led_target}
+use Rattle.logos_graph.proofs.EdgeFacts.{edge_within, edge_symbol}
 use Rattle.logos_graph.proofs.Finished as fin
 use Rattle.logos_graph.proofs.LeastLemmas.{type_here, evidence}
 use Rattle.logos_graph.proofs.Longest.{no_empty_match, late_root}

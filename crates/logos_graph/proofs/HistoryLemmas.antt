@@ -1,9 +1,9 @@
 -- Blocks that are split keep their history.
-use Rattle.std.proofs.Common.{◌≡◌, ◌≢◌, ℕ, ◌<◌, ◌≤◌, ◌+◌, ◌⊎◌, inl, inr, Bool, true, false, nat_lt, nat_le, if◌then◌else◌, List, length, Option, Some, None, option_map, refl, sym, ◌∙◌, ap, subst, arith}
+use Rattle.std.proofs.Common.{◌≡◌, ◌≢◌, ℕ, ◌<◌, ◌≤◌, ◌+◌, ◌⊎◌, inl, inr, true, false, nat_lt, nat_le, if◌then◌else◌, List, length, Option, Some, None, option_map, refl, sym, ◌∙◌, ap, subst, arith}
 use Rattle.std.proofs.lemmas.Bool.{cases_lt}
-use Rattle.std.proofs.lemmas.Bool.Decides.{eqb_tells, nat_tests}
-use Rattle.logos_graph.specs.Merge.{led, HaveMarks, ArePartedBy, IsFiner, split_at, IsHistory, IsSound, block_before, IsExtension, Continues}
-use Rattle.logos_graph.specs.Reduce.{size, to, mark}
+use Rattle.std.proofs.lemmas.Bool.Decides.{nat_tests}
+use Rattle.logos_graph.specs.Merge.{led, ArePartedBy, IsFiner, split_at, IsHistory, IsSound, block_before, IsExtension}
+use Rattle.logos_graph.specs.Reduce.{size, to}
 use Rattle.logos_graph.specs.declared.reduce.blocks.Split.{Split}
 use Rattle.logos_graph.specs.declared.reduce.table.Table.{Table}
 use Rattle.logos_graph.proofs.EdgeFacts.{edge_within}

@@ -1,10 +1,10 @@
 -- The states that lead into a block part the blocks that they are in.
-use Rattle.std.proofs.Common.{◌≡◌, ◌≢◌, ℕ, ◌<◌, ◌≤◌, ◌+◌, ◌++◌, ◌⊎◌, inl, inr, zero, suc, Bool, true, false, Vec, Global, nat_lt, slice_index, List, [], ◌∷◌, length, arith, refl, sym, ◌∙◌, ap, subst, Option, Some, None, option_map}
+use Rattle.std.proofs.Common.{◌≡◌, ◌≢◌, ℕ, ◌<◌, ◌≤◌, ◌+◌, ◌++◌, ◌⊎◌, inl, inr, true, Vec, Global, slice_index, List, [], ◌∷◌, length, arith, refl, sym, ◌∙◌, ap, subst, Option, Some, None, option_map}
 use Rattle.std.proofs.lemmas.Bool.{cases_lt}
-use Rattle.std.proofs.lemmas.Bool.Decides.{eqb_tells, nat_tests}
+use Rattle.std.proofs.lemmas.Bool.Decides.{eqb_tells}
 use Rattle.std.proofs.lemmas.Grind.{common_steps}
 use Rattle.logos_graph.specs.Merge.{led, ArePartedBy, split_at, AreTwins, Continues, block_before, IsExtension}
-use Rattle.logos_graph.specs.MergeLists.{has, has_in, ArePredecessors, AreFiled, twin_of, HaveMoved, AreSources, AreHits}
+use Rattle.logos_graph.specs.MergeLists.{has, has_in, ArePredecessors, twin_of, HaveMoved, AreSources, AreHits}
 use Rattle.logos_graph.specs.Reduce.{size, to}
 use Rattle.logos_graph.specs.declared.reduce.blocks.Split.{Split}
 use Rattle.logos_graph.specs.declared.reduce.table.Table.{Table}

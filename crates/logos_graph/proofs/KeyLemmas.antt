@@ -1,16 +1,13 @@
 -- Keys that are equal stand for one state.
-use Rattle.std.proofs.Common.{length-append, ◌≡◌, ℕ, zero, suc, ◌/◌, ◌%◌, slice_index, ◌+◌, ◌<◌, ◌≤◌, ◌⊎◌, Bool, true, false, ◌&&◌, ◌||◌, if◌then◌else◌, List, [], ◌∷◌, ◌++◌, Option, Some, None, length, slice_get, refl, sym, ap, ◌∙◌, subst, inl, inr, ⊎_elim, true≢false, rules, arith}
-use Rattle.std.proofs.Math.Bool.{beq}
-use Rattle.std.proofs.lemmas.Bool.{and_parts, or_right, or_left}
+use Rattle.std.proofs.Common.{length-append, ◌≡◌, ℕ, zero, suc, ◌+◌, ◌≤◌, ◌⊎◌, Bool, true, false, ◌&&◌, ◌||◌, if◌then◌else◌, List, [], ◌∷◌, ◌++◌, Some, length, slice_get, refl, sym, ap, ◌∙◌, subst, inl, inr, ⊎_elim, true≢false, rules, arith}
+use Rattle.std.proofs.lemmas.Bool.{and_parts, or_left}
 use Rattle.std.proofs.lemmas.Option.{same_Some}
 use Rattle.std.specs.List.{list_any}
 use lib.Pointwise.{pointwise, bytes_decides}
 use lib.Dec.{eqb}
 use denote.Enum.Bare.{sameb, same_true, true_same}
-use Rattle.logos_graph.specs.Keys.{State, state_of, IsAt, Grows, AreRising, AreDistinct, AreReached, IsReached}
+use Rattle.logos_graph.specs.Keys.{state_of, Grows, AreRising, AreDistinct, AreReached, IsReached}
 use Rattle.logos_graph.specs.Core.{Core}
-use Rattle.std.proofs.lemmas.List.{get_or_append_left}
-use Rattle.std.proofs.Math.Seq.{get_or-append_seam}
 use Rattle.logos_graph.specs.Marks.{IsRising}
 use Rattle.logos_graph.specs.declared.key.Key.{Key}
 use Rattle.logos_graph.specs.contracts.look.Kind.{the_type}

@@ -7,7 +7,6 @@ use Rattle.logos_graph.specs.Core.{Core}
 use Rattle.logos_graph.specs.IsCore.{IsCoreOf}
 use Rattle.logos_graph.specs.Munch.{Rule}
 use Rattle.logos_graph.specs.Node.{core_of}
-use Rattle.logos_graph.specs.Places.{has_look}
 use Rattle.logos_graph.specs.Rules.{AreRuleCores, AreFree, some_look}
 use Rattle.logos_graph.specs.Run.{width_of}
 use Rattle.logos_graph.specs.Size.{size, size_of}

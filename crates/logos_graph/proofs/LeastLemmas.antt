@@ -1,10 +1,10 @@
 -- A word of symbols that tells two states of a table apart gives bytes, with the end after them or not, that tell the states of the graph apart.
-use Rattle.std.proofs.Common.{◌≡◌, ◌≢◌, ℕ, zero, suc, ◌<◌, ◌≤◌, ◌+◌, ◌⊎◌, inl, inr, Bool, true, false, List, [], ◌∷◌, length, Option, Some, None, option_map, option_and_then, slice_get, refl, sym, ◌∙◌, ap, subst, arith}
+use Rattle.std.proofs.Common.{◌≡◌, ◌≢◌, ℕ, ◌<◌, ◌≤◌, ◌⊎◌, inl, inr, Bool, true, false, List, [], ◌∷◌, length, Option, Some, None, option_map, refl, sym, ◌∙◌, ap, arith}
 use Rattle.std.proofs.lemmas.Bool.{cases_lt}
 use Rattle.std.proofs.lemmas.List.Elements.{All-cons, All-nil}
 use Rattle.logos_pattern.specs.Text.{IsBytes}
-use Rattle.logos_graph.specs.Graph.{StateType, GraphState, next_by, next_at_end, walk, type_after, TellsApart}
-use Rattle.logos_graph.specs.Merge.{reached, outcome, Tells}
+use Rattle.logos_graph.specs.Graph.{GraphState, type_after, TellsApart}
+use Rattle.logos_graph.specs.Merge.{reached, Tells}
 use Rattle.logos_graph.specs.Reduce.{size, to, mark, type_of}
 use Rattle.logos_graph.specs.ReduceShown.{Shows}
 use Rattle.logos_graph.specs.declared.reduce.table.Mark.{Mark}

@@ -1,13 +1,10 @@
 -- Each state of the automaton has a key of its own.
-use Rattle.std.proofs.Common.{◌≡◌, ℕ, zero, suc, ◌+◌, ◌-◌, ◌<◌, ◌≤◌, ◌↔◌, ◌⊎◌, ◌==◌, Bool, true, false, List, [], ◌∷◌, ◌++◌, length, length-append, append_assoc, append-nil, Option, Some, None, IsSomeAnd, IfSome, slice_get, slice_index_or, get_or, nat_lt, if◌then◌else◌, refl, sym, ap, ◌∙◌, subst, inl, inr, ⊎_elim, true≢false, ◌||◌, IsFalse, arith}
-use Rattle.std.proofs.lemmas.Option.{same_Some, slice_get-get_or}
+use Rattle.std.proofs.Common.{◌≡◌, ℕ, zero, suc, ◌+◌, ◌-◌, ◌<◌, ◌≤◌, ◌↔◌, ◌⊎◌, ◌==◌, Bool, true, false, List, [], ◌∷◌, ◌++◌, length, length-append, append_assoc, append-nil, Some, None, IfSome, slice_get, slice_index_or, if◌then◌else◌, refl, sym, ap, ◌∙◌, subst, inl, inr, ⊎_elim, true≢false, ◌||◌, IsFalse, arith}
 use Rattle.logos_pattern.specs.Text.{IsBytes, byte_after}
-use Rattle.logos_pattern.specs.Looks.{is_word}
-use Rattle.logos_graph.specs.Core.{Core, width, At}
-use Rattle.logos_graph.specs.IsCore.{IsCoreOf}
+use Rattle.logos_graph.specs.Core.{Core, width}
 use Rattle.logos_graph.specs.Keys.{State, state_of, start_state, dead_state, IsAt, AreDistinct, AreReached, IsReached, at_start, by_byte, by_end, IsNext, IsLast, is_start, kept_of}
 use Rattle.logos_graph.specs.Kinds.{kind_of_byte, is_word_byte}
-use Rattle.logos_graph.specs.Marks.{Has, IsRising, IsSet}
+use Rattle.logos_graph.specs.Marks.{Has, IsRising}
 use Rattle.logos_graph.specs.Munch.{Rule, RuleMatches}
 use Rattle.logos_graph.specs.Places as places
 use Rattle.logos_graph.specs.Places.{Place, Read, nothing, upto, whole, IsRead, SameKey, SameAfter, HasRead, seen_kind, HasMoreKeys}
@@ -15,7 +12,7 @@ use Rattle.logos_graph.specs.Rules.{AreRuleCores, AreFree, some_look}
 use Rattle.logos_graph.specs.View.{AllStart}
 use Rattle.logos_graph.specs.Faults.{some_passable}
 use Rattle.logos_pattern.proofs.Laws.{passes}
-use Rattle.logos_graph.specs.Run.{Marked, width_of, StepsIn, ExitsIn, MarkedIn}
+use Rattle.logos_graph.specs.Run.{Marked, MarkedIn}
 use Rattle.logos_graph.specs.declared.key.Key.{Key}
 use Rattle.logos_graph.specs.declared.look.Kind.{Kind}
 use Rattle.logos_graph.specs.declared.look.Kind.TheVariants as kind

@@ -1,9 +1,9 @@
 -- Lists of states.
-use Rattle.std.proofs.Common.{◌≡◌, ◌≢◌, ℕ, ◌<◌, ◌≤◌, ◌+◌, ◌++◌, ◌⊎◌, inl, inr, zero, suc, Bool, true, false, ◌||◌, Vec, Global, slice_index, slice_get, slice_set, List, [], ◌∷◌, length, arith, refl, sym, ◌∙◌, ap, subst, eqb, eq-eqb, get_or, Option, Some, None}
+use Rattle.std.proofs.Common.{◌≡◌, ◌≢◌, ℕ, ◌<◌, ◌++◌, ◌⊎◌, inl, inr, zero, suc, Bool, true, false, ◌||◌, Vec, Global, slice_index, slice_get, slice_set, List, [], ◌∷◌, length, arith, refl, sym, ◌∙◌, ap, eqb, eq-eqb, get_or, Some}
 use Rattle.std.specs.List.{list_any}
 use Rattle.std.proofs.lemmas.Bool.Decides.{eqb_tells}
 use Rattle.std.proofs.lemmas.List.Folds.{list_any-append, list_any_at}
-use Rattle.logos_graph.specs.MergeLists.{has, has_in, ArePredecessors}
+use Rattle.logos_graph.specs.MergeLists.{has, has_in}
 
 pub has-push : (xs : List ℕ) (y t : ℕ) → has xs t ≡ true → has (xs ++ y ∷ []) t ≡ true
 has-push xs y t h = list_any-append (λ x. eqb t x) xs (y ∷ []) ∙ ap (λ (b : Bool). b || list_any (λ x. eqb t x) (y ∷ [])) h

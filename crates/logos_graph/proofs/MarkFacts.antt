@@ -1,7 +1,7 @@
 -- Which late marks are needed.
-use Rattle.std.proofs.Common.{◌≡◌, ◌≢◌, ℕ, ◌+◌, ◌<◌, ◌≤◌, ◌⊎◌, inl, inr, Bool, true, false, List, Option, None, Some, slice_index_or, if◌then◌else◌, refl, sym, ◌∙◌, ap, subst, arith}
+use Rattle.std.proofs.Common.{◌≡◌, ℕ, ◌+◌, ◌<◌, ◌≤◌, ◌⊎◌, inl, inr, Bool, true, false, List, Option, None, slice_index_or, if◌then◌else◌, refl, sym, ◌∙◌, ap, subst, arith}
 use Rattle.std.proofs.lemmas.Bool.{cases_lt}
-use Rattle.logos_graph.specs.Reduce.{size, to, mark, IsSet, IsNeeded, IsSpare, AreNeeded, AreCommon, IsCommon, IsMarkedBy, IsKeptOrSpare, IsSettled}
+use Rattle.logos_graph.specs.Reduce.{size, mark, IsSet, IsNeeded, IsSpare, AreNeeded, AreCommon, IsCommon, IsMarkedBy, IsKeptOrSpare, IsSettled}
 use Rattle.logos_graph.specs.RowsKept.{rows_of}
 use Rattle.logos_graph.specs.declared.reduce.table.Table.{Table}
 

@@ -1,11 +1,10 @@
 -- The states that have a mark or lead to one.
-use Rattle.std.proofs.Common.{◌≡◌, ◌≢◌, ◌↔◌, ℕ, zero, suc, ◌+◌, ◌-◌, ◌<◌, ◌≤◌, ◌⊎◌, inl, inr, Bool, true, false, List, [], ◌∷◌, length, slice_index, vec_len, Vec, Global, get_or, nat_eq, if◌then◌else◌, Option, Some, None, refl, sym, ◌∙◌, ap, subst, arith}
+use Rattle.std.proofs.Common.{◌≡◌, ◌↔◌, ℕ, ◌+◌, ◌<◌, ◌≤◌, ◌⊎◌, inl, inr, Bool, true, false, List, length, slice_index, vec_len, Vec, Global, get_or, nat_eq, Some, None, refl, sym, ◌∙◌, ap, subst, arith}
 use Rattle.std.proofs.lemmas.Bool.{cases_lt}
 use Rattle.std.proofs.lemmas.Bool.Decides.{nat_tests}
 use Rattle.logos_graph.specs.MergeLists.{has, has_in, ArePredecessors}
-use Rattle.logos_graph.specs.Reduce.{size, to, mark, type_of, edges, IsSeed, IsOfUse, AreUseful, IsPrunedTable}
+use Rattle.logos_graph.specs.Reduce.{size, to, edges, IsSeed, IsOfUse, AreUseful, IsPrunedTable}
 use Rattle.logos_graph.specs.ReduceOrder.{IsOrder, IsMet, Grows, kept_target}
-use Rattle.logos_graph.specs.Reduced.{IsMarked}
 use Rattle.logos_graph.specs.Walk.{Leads, to_mark, onward, to_end}
 use Rattle.logos_graph.specs.declared.reduce.table.Mark.{Mark}
 use Rattle.logos_graph.specs.declared.reduce.table.Table.{Table}

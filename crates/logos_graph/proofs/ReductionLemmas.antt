@@ -1,22 +1,19 @@
 -- The steps of the reduction, as the theory of reductions has them.
-use Rattle.std.proofs.Common.{◌≡◌, ◌≢◌, ◌↔◌, ℕ, zero, suc, ◌<◌, ◌≤◌, ◌+◌, ◌-◌, ◌⊎◌, inl, inr, slice_index, List, [], ◌∷◌, length, Option, Some, None, option_map, option_and_then, IsSome, refl, sym, ◌∙◌, ap, subst, arith}
+use Rattle.std.proofs.Common.{◌≡◌, ℕ, zero, suc, ◌<◌, ◌≤◌, ◌-◌, ◌⊎◌, inl, inr, slice_index, List, length, Option, Some, None, option_map, option_and_then, refl, sym, ◌∙◌, ap, subst, arith}
 use Rattle.std.proofs.lemmas.Bool.{cases_lt}
 use Rattle.std.proofs.lemmas.List.{get_or_past}
-use Rattle.logos_graph.specs.Graph.{StateType}
-use Rattle.logos_graph.specs.Merge.{led, IsMerged, HaveMarks}
+use Rattle.logos_graph.specs.Merge.{led, IsMerged}
 use Rattle.logos_graph.specs.Reduce.{mark_in, size, to, mark, type_of, edges, accepted, AllAccepted, IsSpare, IsNeeded, IsOfUse, IsSettled, IsPrunedTable}
 use Rattle.logos_graph.specs.ReduceNumber.{IsNumbered}
-use Rattle.logos_graph.specs.ReduceOrder.{IsOrder, IsMet}
+use Rattle.logos_graph.specs.ReduceOrder.{IsMet}
 use Rattle.logos_graph.specs.Rows.{target_in, target_of}
 use Rattle.logos_graph.specs.RowsKept.{rows_of}
-use Rattle.logos_graph.specs.Walk.{Edges, Leads}
 use Rattle.logos_graph.specs.declared.reduce.blocks.Split.{Split}
 use Rattle.logos_graph.specs.declared.reduce.table.Mark.{Mark}
 use Rattle.logos_graph.specs.declared.reduce.table.Table.{Table}
-use Rattle.logos_graph.proofs.EdgeFacts.{edge_within, no_edge}
+use Rattle.logos_graph.proofs.EdgeFacts.{edge_within}
 use Rattle.logos_graph.proofs.Maps.{IsMap}
-use Rattle.logos_graph.proofs.OrderLemmas.{met_place}
-use Rattle.logos_graph.proofs.Pruned.{IsPruned, IsKept, IsUseful}
+use Rattle.logos_graph.proofs.Pruned.{IsPruned, IsKept}
 use Rattle.logos_graph.proofs.Settled as settled
 
 unmarked_past : (table : Table) (s : ℕ) → size table ≤ s → mark table s ≡ record { accept = None; early = None }

@@ -1,20 +1,15 @@
 -- What the states of the automaton tell of the bytes read.
-use Rattle.std.proofs.Common.{◌≡◌, ℕ, zero, suc, ◌+◌, ◌-◌, ◌<◌, ◌≤◌, ◌↔◌, ◌⊎◌, ◌||◌, ◌==◌, Bool, true, false, IsTrue, List, [], ◌∷◌, ◌++◌, length, Option, Some, None, IsSomeAnd, slice_get, if◌then◌else◌, refl, sym, ap, ◌∙◌, subst, inl, inr, ⊎_elim, true≢false, arith}
+use Rattle.std.proofs.Common.{◌≡◌, ℕ, zero, suc, ◌+◌, ◌-◌, ◌<◌, ◌↔◌, ◌⊎◌, ◌==◌, Bool, true, false, IsTrue, List, [], ◌∷◌, Option, Some, None, slice_get, if◌then◌else◌, refl, sym, ap, ◌∙◌, subst, inl, inr, ⊎_elim, true≢false, arith}
 use Rattle.std.proofs.lemmas.Option.{same_Some}
 use Rattle.logos_pattern.specs.Text.{byte_before, byte_after}
-use Rattle.logos_pattern.specs.Matches as tree
 use Rattle.logos_pattern.specs.declared.pattern.hir.Look.{Look}
-use Rattle.logos_graph.specs.Core.{Core, void, empty, byte_in, character, look, cat, alt, plus, width, IsFree, holds_at, Matches, Exits, Steps}
-use Rattle.logos_graph.specs.IsCore.{IsCoreOf}
+use Rattle.logos_graph.specs.Core.{Core, void, empty, byte_in, character, look, cat, alt, plus, width, IsFree, holds_at, Exits, Steps}
 use Rattle.logos_graph.specs.Keys.{State, start_state, IsNext, IsLast, is_start, kept_of}
-use Rattle.logos_graph.specs.Kinds.{test_at, kind_of_byte, kind_before, context_at, is_word_byte}
+use Rattle.logos_graph.specs.Kinds.{test_at, kind_of_byte, kind_before, is_word_byte}
 use Rattle.logos_graph.specs.Marks.{Has, IsSet}
 use Rattle.logos_graph.specs.Munch.{Rule, RuleMatches}
-use Rattle.logos_graph.specs.Places.{has_look}
-use Rattle.logos_graph.specs.Rules.{AreRuleCores, AreFree, some_look}
+use Rattle.logos_graph.specs.Rules.{AreRuleCores, AreFree}
 use Rattle.logos_graph.specs.Run.{Marked, width_of, StepsIn, ExitsIn, MarkedIn}
-use Rattle.logos_graph.specs.Several.{ReadBy, LeftBy}
-use Rattle.logos_graph.specs.declared.look.Kind.{Kind}
 use Rattle.logos_graph.specs.declared.look.Kind.TheVariants as kind
 use Rattle.logos_graph.proofs.LookLemmas.{test_of_context}
 use Rattle.logos_graph.proofs.PlaceLemmas.{Exits-map, Steps-map}

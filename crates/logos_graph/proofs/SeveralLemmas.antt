@@ -1,7 +1,7 @@
 -- Steps on several patterns.
 use Rattle.std.proofs.Common.{◌≡◌, ℕ, zero, suc, ◌+◌, ◌-◌, ◌<◌, ◌≤◌, ◌↔◌, ◌⊎◌, Bool, true, false, IsTrue, List, [], ◌∷◌, ◌++◌, length, if◌then◌else◌, refl, sym, ap, ◌∙◌, subst, inl, inr, ⊎_elim, true≢false, arith}
 use Rattle.logos_graph.specs.Core.{Core, width, Exits, Steps}
-use Rattle.logos_graph.specs.Marks.{Has, IsSet, IsRising}
+use Rattle.logos_graph.specs.Marks.{Has, IsSet}
 use Rattle.logos_graph.specs.Run.{width_of, StepsIn, ExitsIn}
 use Rattle.logos_graph.specs.Several.{ReadBy, LeftBy, OwesPlaces, OwesNumbers}
 use Rattle.logos_graph.specs.Stepped.{Stepped}
@@ -11,7 +11,6 @@ use Rattle.logos_graph.specs.Node.{core_of, is_measured, AreMeasured}
 use Rattle.logos_graph.specs.declared.node.Node.{Node}
 use Rattle.logos_graph.proofs.PlaceLemmas.{Exits-map, Steps-map}
 use Rattle.logos_graph.proofs.MarkLemmas.{Has-push, IsSet-push, IsSet-more}
-use Rattle.logos_graph.proofs.StepLemmas.{iff_trans, iff_sym, iff_refl, Exits-iff}
 use Rattle.logos_graph.proofs.SteppedLemmas.{Steps-below}
 
 pub StepsIn-map : (ts : List Core) (test : Look → Bool) (x : ℕ) (M N : ℕ → Type 0) (d e : Type 0) (p : ℕ) →

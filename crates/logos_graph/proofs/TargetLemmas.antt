@@ -1,13 +1,12 @@
 -- States are added, and rows of targets are filled.
-use Rattle.std.proofs.Common.{◌≡◌, ℕ, zero, suc, ◌+◌, ◌-◌, ◌<◌, ◌≤◌, ◌↔◌, ◌⊎◌, Bool, true, false, IsTrue, List, [], ◌∷◌, ◌++◌, length, slice_index, set, Some, refl, sym, ap, ◌∙◌, subst, inl, inr, ⊎_elim, arith}
+use Rattle.std.proofs.Common.{◌≡◌, ℕ, ◌+◌, ◌<◌, ◌⊎◌, Bool, true, false, List, [], ◌∷◌, length, slice_index, set, refl, sym, ◌∙◌, subst, ⊎_elim, arith}
 use Rattle.std.proofs.lemmas.List.{get_or-set_other}
 use Rattle.std.proofs.lemmas.Grind.{get_or-set_at}
 use Rattle.logos_graph.specs.Alike.{AreAlike}
 use Rattle.logos_graph.specs.Core.{Core}
-use Rattle.logos_graph.specs.Keys.{State, state_of, IsAt, Grows, AreRising, AreDistinct, AreReached, IsReached, Extends, LeadsTo, EndsIn, IsNext, IsRow, kept_of, is_start}
-use Rattle.logos_graph.specs.Kinds.{kind_of_byte, test_at}
+use Rattle.logos_graph.specs.Keys.{State, Grows, Extends, LeadsTo, EndsIn, IsNext, IsRow, kept_of}
+use Rattle.logos_graph.specs.Kinds.{kind_of_byte}
 use Rattle.logos_graph.specs.declared.key.Key.{Key}
-use Rattle.logos_graph.specs.Several.{ReadBy, LeftBy}
 use Rattle.logos_graph.proofs.AlikeLemmas.{StepsIn-same}
 use Rattle.logos_graph.proofs.LookLemmas.{test_after}
 use Rattle.logos_graph.proofs.StepLemmas.{iff_trans}

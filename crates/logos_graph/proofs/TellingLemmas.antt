@@ -1,13 +1,12 @@
 -- How two states of a reduced graph are told apart: step by step, by the splits that parted them.
-use Rattle.std.proofs.Common.{◌≡◌, ◌≢◌, ◌↔◌, ℕ, zero, suc, ◌<◌, ◌≤◌, ◌+◌, ◌-◌, ◌⊎◌, inl, inr, Bool, true, false, List, [], ◌∷◌, ◌++◌, length, slice_index, Option, Some, None, option_map, option_and_then, if◌then◌else◌, refl, sym, ◌∙◌, ap, subst, arith}
+use Rattle.std.proofs.Common.{◌≡◌, ◌≢◌, ◌↔◌, ℕ, zero, suc, ◌<◌, ◌≤◌, ◌+◌, ◌-◌, ◌⊎◌, inl, inr, Bool, true, false, List, [], ◌∷◌, ◌++◌, length, slice_index, Option, Some, None, option_map, option_and_then, refl, sym, ◌∙◌, ap, subst, arith}
 use Rattle.std.proofs.lemmas.Bool.{cases_lt}
-use Rattle.std.proofs.lemmas.Bool.Decides.{eqb_tells}
 use Rattle.std.proofs.lemmas.List.{length-append}
 use Rattle.std.proofs.lemmas.List.Elements.{All-nil, All-push}
 use Rattle.logos_pattern.specs.Text.{IsBytes}
-use Rattle.logos_graph.specs.Graph.{StateType, GraphState, type_after, TellsApart}
+use Rattle.logos_graph.specs.Graph.{GraphState, type_after, TellsApart}
 use Rattle.logos_graph.specs.Least.{IsEvidence}
-use Rattle.logos_graph.specs.Merge.{reached, Tells, led, ArePartedBy, IsFiner, split_at, IsHistory, count_blocks}
+use Rattle.logos_graph.specs.Merge.{reached, Tells, led, ArePartedBy, split_at, count_blocks}
 use Rattle.logos_graph.specs.Reduce.{size, to, mark, type_of}
 use Rattle.logos_graph.specs.ReduceShown.{Shows}
 use Rattle.logos_graph.specs.Tellable.{HistoryOf, IsTellable, ArePartedAt, mark_behind, mark_after}

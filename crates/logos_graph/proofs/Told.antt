@@ -1,12 +1,10 @@
 -- States in different blocks are told apart, by words shorter than there are blocks.
-use Rattle.std.proofs.Common.{◌≡◌, ◌≢◌, ℕ, zero, suc, ◌<◌, ◌≤◌, ◌+◌, ◌-◌, ◌⊎◌, inl, inr, true, false, nat_eq, slice_index, List, [], ◌∷◌, length, Option, Some, None, option_map, option_and_then, refl, sym, ◌∙◌, ap, subst, arith}
-use Rattle.std.proofs.lemmas.Bool.{cases_lt}
+use Rattle.std.proofs.Common.{◌≡◌, ◌≢◌, ℕ, zero, suc, ◌<◌, ◌≤◌, ◌+◌, ◌-◌, ◌⊎◌, inl, inr, true, false, nat_eq, slice_index, List, [], ◌∷◌, length, Option, Some, None, option_map, refl, sym, ◌∙◌, ap, subst, arith}
 use Rattle.std.proofs.lemmas.Bool.Decides.{eqb_tells}
-use Rattle.logos_graph.specs.Merge.{reached, outcome, Tells, led, ArePartedBy, IsFiner, split_at, IsHistory, IsMerged, count_blocks}
+use Rattle.logos_graph.specs.Merge.{reached, Tells, led, ArePartedBy, IsFiner, split_at, IsHistory, IsMerged, count_blocks}
 use Rattle.logos_graph.specs.Reduce.{size, to, mark}
 use Rattle.logos_graph.specs.ReduceNumber.{IsNumbered}
 use Rattle.logos_graph.specs.declared.reduce.blocks.Split.{Split}
-use Rattle.logos_graph.specs.declared.reduce.table.Mark.{Mark}
 use Rattle.logos_graph.specs.declared.reduce.table.Table.{Table}
 use Rattle.logos_graph.proofs.BlockCount.{blocks_le, blocks_lt, blocks_few, blocks_some}
 use Rattle.logos_graph.proofs.EdgeFacts.{edge_within}

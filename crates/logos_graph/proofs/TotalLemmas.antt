@@ -1,15 +1,14 @@
 -- The automaton is total: each state has a target by each byte and by the end, and is reached.
-use Rattle.std.proofs.Common.{◌≡◌, ℕ, zero, suc, ◌+◌, ◌<◌, ◌≤◌, ◌⊎◌, Bool, false, List, [], ◌∷◌, ◌++◌, length, map, Option, Some, None, option_map, option_and_then, slice_get, slice_index, slice_index_or, refl, sym, ap, ◌∙◌, subst, inl, inr, arith}
+use Rattle.std.proofs.Common.{◌≡◌, ℕ, zero, suc, ◌<◌, ◌≤◌, ◌⊎◌, Bool, false, List, [], ◌∷◌, ◌++◌, length, Option, Some, None, option_and_then, slice_get, slice_index_or, refl, sym, ap, ◌∙◌, subst, inl, inr, arith}
 use lib.ListN.{length-map}
 use Rattle.std.proofs.lemmas.Bool.{cases_lt}
 use Rattle.std.proofs.lemmas.Option.{same_Some, slice_get-get_or, slice_get_past}
 use Rattle.logos_pattern.specs.Text.{IsBytes}
 use Rattle.logos_graph.specs.Core.{Core}
-use Rattle.logos_graph.specs.Keys.{State, state_of, start_state, dead_state, IsAt, AreDistinct, AreReached, IsReached, at_start, by_byte, by_end, IsNext, IsLast, is_start, kept_of, IsBuilt, automaton_of}
-use Rattle.logos_graph.specs.Marks.{Has, IsRising}
+use Rattle.logos_graph.specs.Keys.{State, start_state, dead_state, IsAt, AreDistinct, AreReached, IsReached, at_start, by_byte, by_end, IsNext, IsLast, is_start, kept_of, IsBuilt, automaton_of}
 use Rattle.logos_graph.specs.View.{Automaton, dfa_next, dfa_after, dfa_at_end, IsTotal}
 use Rattle.logos_graph.specs.declared.key.Key.{Key}
-use Rattle.logos_graph.proofs.DfaLemmas.{at_within, at_once, after_more, next_is, end_is, matches_at}
+use Rattle.logos_graph.proofs.DfaLemmas.{at_within, after_more, next_is, end_is, matches_at}
 use Rattle.logos_graph.proofs.LimitLemmas.{same_rising, same_state_as, dead_by_byte, dead_by_end, no_bytes, one_byte_more, state_at}
 use Rattle.logos_graph.proofs.StepLemmas.{iff_trans, iff_sym}
 

@@ -1,13 +1,13 @@
 -- Parting blocks by the states that are hit.
-use Rattle.std.proofs.Common.{◌≡◌, ◌≢◌, ℕ, ◌<◌, ◌≤◌, ◌+◌, ◌++◌, ◌⊎◌, inl, inr, zero, suc, Bool, true, false, Vec, Global, slice_index, slice_index_or, slice_set, List, [], ◌∷◌, length, arith, refl, sym, ◌∙◌, ap, subst, eqb, eq-eqb, Option, Some, None}
+use Rattle.std.proofs.Common.{◌≡◌, ◌≢◌, ℕ, ◌<◌, ◌≤◌, ◌+◌, ◌++◌, ◌⊎◌, inl, inr, Vec, Global, slice_index, slice_set, List, [], ◌∷◌, length, arith, refl, sym, ◌∙◌, ap, Some, None}
 use Rattle.std.proofs.lemmas.Bool.{cases_lt}
 use Rattle.std.proofs.lemmas.Bool.Decides.{eqb_tells, nat_tests}
 use Rattle.std.proofs.lemmas.Grind.{common_steps}
 use Rattle.std.proofs.lemmas.List.{get_or_append_left, get_or_push}
 use Rattle.logos_graph.specs.Merge.{split_at, AreTwins, Continues}
-use Rattle.logos_graph.specs.MergeLists.{has, has_in, AreFiled, twin_of, landing, HaveMoved}
+use Rattle.logos_graph.specs.MergeLists.{has, AreFiled, twin_of, landing, HaveMoved}
 use Rattle.logos_graph.specs.declared.reduce.blocks.Split.{Split}
-use Rattle.logos_graph.proofs.ListLemmas.{has-get, has_index}
+use Rattle.logos_graph.proofs.ListLemmas.{has-get}
 
 -- where no block has a new one
 pub no_twins : (fresh k : ℕ) (twins : List ℕ) (splits : List Split) → length splits ≡ fresh → ((c : ℕ) → slice_index twins c < fresh) → AreTwins fresh k twins splits

@@ -8,6 +8,10 @@ mod evidence;
 mod making;
 mod mermaid;
 mod printing;
+#[cfg(test)]
+mod rounds;
+#[cfg(test)]
+mod rows;
 mod states;
 mod value;
 

@@ -1,5 +1,5 @@
 -- What the builders build, step by step.
-use Rattle.std.proofs.Common.{◌≡◌, ℕ, ◌<◌, Bool, true, false, cond, List, [], ◌∷◌, ◌++◌, map, length, Option, Some, None, unwrap_or, option_map, flat_map, encode_utf8, refl, sym, ap, ◌∙◌, append_assoc, append-nil, arith}
+use Rattle.std.proofs.Common.{◌≡◌, ℕ, ◌<◌, Bool, true, false, cond, not, ◌&&◌, List, [], ◌∷◌, ◌++◌, map, length, Option, Some, None, unwrap_or, option_map, flat_map, encode_utf8, refl, sym, ap, ◌∙◌, append_assoc, append-nil, arith}
 use Rattle.std.proofs.lemmas.Bool.{leb-true, and_parts, both_ways}
 use Rattle.std.proofs.Common.{Vec, Global}
 use Rattle.std.proofs.lemmas.List.{map_push}
@@ -16,7 +16,7 @@ use Rattle.std.proofs.lemmas.Str.{IsUtf8-from_is_utf8, is_utf8-from_IsUtf8}
 use Rattle.logos_pattern.specs.Tree.{Tree, empty, literal, byte_class, char_class, look, repetition, capture, concat, alternation, trees}
 use Rattle.logos_pattern.specs.Class.{Set, members, intersection, in_range, AreCanonical}
 use Rattle.logos_pattern.specs.Build.{sole_item, sole_char, chars_or, choice_of, all_ranges, char_ranges_of, list_of, branches_of, join, with_text, joined, in_a_row, sole_member, char_tree, byte_tree, one_char_of, one_byte_of}
-use Rattle.logos_pattern.specs.BuildSteps.{part_text, add_text, add_part, add_parts}
+use Rattle.logos_pattern.specs.BuildSteps.{part_text, add_text, add_part, add_parts, is_literal_tree, are_apart}
 use Rattle.logos_pattern.proofs.ClassSame.{char_ranges_same, byte_ranges_same, sole_member_is_member}
 
 -- ---- classes
@@ -136,6 +136,35 @@ pub joined-append : (xs ys : List Tree) → joined (xs ++ ys) ≡ add_parts (joi
 joined-append xs [] = ap joined (append-nil xs)
 joined-append xs (y ∷ ys) =
     ap joined (sym (append_assoc xs (y ∷ []) ys)) ∙ joined-append (xs ++ y ∷ []) ys ∙ ap (λ ps. add_parts ps ys) (joined-push xs y)
+
+-- parts that do not join stay as they are
+join-apart : (t : Tree) (rest : List Tree) → are_apart (is_literal_tree t) rest ≡ true → join t rest ≡ t ∷ rest
+join-apart t rest h = go (part t)
+  where
+    behind : (a : List ℕ) (rest : List Tree) → are_apart true rest ≡ true → with_text a rest ≡ literal a ∷ rest
+    behind a [] h = refl
+    behind a (u ∷ us) h = at (part u)
+      where
+        at : Part u → with_text a (u ∷ us) ≡ literal a ∷ u ∷ us
+        at (is_text b e) = absurd (both_ways _ (ap (λ (x : Tree). not (is_literal_tree x)) e) (and_parts (not (is_literal_tree u)) (are_apart (is_literal_tree u) us) h).0)
+        at (is_other f g p w) = w a us
+
+    go : Part t → join t rest ≡ t ∷ rest
+    go (is_text a e) = ap (λ (x : Tree). join x rest) e ∙ behind a rest (ap (λ (x : Tree). are_apart (is_literal_tree x) rest) (sym e) ∙ h) ∙ ap (λ (x : Tree). x ∷ rest) (sym e)
+    go (is_other f g p w) = f rest
+
+joined-apart : (behind : Bool) (ts : List Tree) → are_apart behind ts ≡ true → joined ts ≡ ts
+joined-apart behind [] h = refl
+joined-apart behind (t ∷ rest) h =
+    let p = and_parts (not (behind && is_literal_tree t)) (are_apart (is_literal_tree t) rest) h in
+    ap (join t) (joined-apart (is_literal_tree t) rest p.1) ∙ join-apart t rest p.1
+
+pub first_parts : (ts : List Tree) → are_apart false ts ≡ true → ts ≡ add_parts [] ts
+first_parts ts h = sym (joined-apart false ts h) ∙ joined-append [] ts
+
+pub nil_from_length : {X : Type 0} (xs : List X) → length xs ≡ 0 → xs ≡ []
+nil_from_length [] h = refl
+nil_from_length (x ∷ xs) h = absurd (omega arith)
 
 pub many_parts : (ts : List Tree) → 1 < length ts → concat (trees ts) ≡ in_a_row ts
 many_parts [] h = absurd (omega arith)

@@ -23,6 +23,7 @@ pub mod BracketLevels
 pub mod BracketTexts
 pub mod FoldLemmas
 pub mod SetLemmas
+pub mod OperandLemmas
 pub mod Shorter
 pub mod BracketAnswers
 pub mod Depth

@@ -12,6 +12,7 @@ use Rattle.logos_pattern.specs.declared.pattern.bracket.Found.{Found}
 use Rattle.logos_pattern.specs.Hir.{pairs}
 use Rattle.logos_pattern.specs.Class.{members}
 use Rattle.logos_pattern.specs.ClassSet.{set_of}
+use Rattle.logos_pattern.specs.Operands.{with_operands}
 use Rattle.logos_pattern.specs.Token.{Text}
 use Rattle.std.specs.Borrow.{Bor}
 use Rattle.logos_pattern.specs.declared.pattern.error.Fault.{Fault}
@@ -25,7 +26,7 @@ use Rattle.logos_pattern.specs.BracketMachine.{Frame, Frames, bracket_step}
 abbrev pub frame_view : FrameValue → Frame
 frame_view f = record {
   negated = f.negated;
-  before = option_map (λ b. (set_of b.0, b.1)) f.before;
+  before = option_map (λ op. (with_operands f.before.items (λ c. false), op)) f.operator;
   here = members (pairs f.ranges.items);
   inner = f.inner;
 }

@@ -1,5 +1,5 @@
 -- Words for the steps of the builders, which add parts from the left.
-use Rattle.std.specs.Prelude.{◌≡◌, ℕ, Bool, true, false, List, [], ◌∷◌, ◌++◌, Option, Some, None}
+use Rattle.std.specs.Prelude.{◌≡◌, ℕ, Bool, true, false, not, ◌&&◌, List, [], ◌∷◌, ◌++◌, Option, Some, None}
 use Rattle.logos_pattern.specs.Tree.{Tree, literal}
 
 -- bytes behind a part: a literal takes them in
@@ -22,6 +22,15 @@ add_part parts t = parts ++ t ∷ []
 abbrev pub add_parts : List Tree → List Tree → List Tree
 add_parts parts [] = parts
 add_parts parts (t ∷ more) = add_parts (add_part parts t) more
+
+abbrev pub is_literal_tree : Tree → Bool
+is_literal_tree (literal text) = true
+is_literal_tree t = false
+
+-- no two literals stand side by side, behind a literal or not
+abbrev pub are_apart : Bool → List Tree → Bool
+are_apart behind [] = true
+are_apart behind (t ∷ rest) = not (behind && is_literal_tree t) && are_apart (is_literal_tree t) rest
 
 -- the ranges are there and stand behind the old ones, or they are not there
 abbrev pub IsAdded : Option (List (ℕ × ℕ)) → Bool → List (ℕ × ℕ) → List (ℕ × ℕ) → Type 0

@@ -25,6 +25,7 @@ pub mod TokenGroup
 pub mod Spelling
 pub mod BracketSpelling
 pub mod BracketSet
+pub mod Operands
 pub mod Written
 pub mod Grammar
 pub mod Machine

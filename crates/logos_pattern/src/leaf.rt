@@ -141,72 +141,108 @@ mod tests {
     use super::*;
     use crate::pattern::plain_token_priority;
     use logos_token::token::{Literal, TokenError, tokenize};
-    use std::alloc::Global;
+    use std::alloc::{AllocError, Global};
+    use std::process::Abort;
     use std::test::Fail;
 
     const NOWHERE: Span = Span { from: 0, to: 0 };
 
-    #[test]
-    fn prints(rt: HostRuntime) -> Result<(), Fail> {
-        let literal = Literal {
-            text: "\"ab\"",
-            span: NOWHERE,
-        };
-        let pattern = Pattern::compile_plain(rt.alloc(), &literal)?;
-        assert_eq!(rt; pattern.source(), "\"ab\"");
-        assert!(rt; pattern.is_literal());
-        let leaf = Leaf::new(NOWHERE, pattern);
-        assert_eq!(rt;
-            leaf.to_string(rt.alloc())?.as_str(),
-            "#[token(\"ab\")] ::<skip>"
-        );
+    const AB: Literal<'static> = Literal {
+        text: "\"ab\"",
+        span: NOWHERE,
+    };
+
+    /// A leaf with the pattern of `"ab"`.
+    fn plain(alloc: Global) -> Result<Leaf<'static>, AllocError> {
+        Ok(Leaf::new(NOWHERE, Pattern::compile_plain(alloc, &AB)?))
+    }
+
+    /// Asserts that the answer is `true`.
+    fn holds(rt: &impl Abort, answer: Result<bool, TokenError>) -> Result<(), Fail> {
+        assert!(rt; answer?);
+        Ok(())
+    }
+
+    fn prints_as(alloc: Global, leaf: &Leaf<'_>, expected: &str) -> Result<bool, TokenError> {
+        Ok(leaf.to_string(alloc)?.as_str() == expected)
+    }
+
+    fn skip_prints(alloc: Global) -> Result<bool, TokenError> {
+        let leaf = plain(alloc)?;
+        let kept = leaf.pattern.is_literal() & (leaf.pattern.source() == "\"ab\"");
+        Ok(kept & prints_as(alloc, &leaf, "#[token(\"ab\")] ::<skip>")?)
+    }
+
+    fn variant_prints(alloc: Global) -> Result<bool, TokenError> {
         let name = Ident {
             text: "A",
             span: NOWHERE,
         };
-        let leaf = leaf
-            .priority(plain_token_priority(&literal))
+        let leaf = plain(alloc)?
+            .priority(plain_token_priority(&AB))
             .variant_kind(VariantKind::Unit(name));
-        assert_eq!(rt; leaf.priority, 4);
-        assert_eq!(rt;
-            leaf.to_string(rt.alloc())?.as_str(),
-            "#[token(\"ab\")] ::A"
-        );
-        Ok(())
-    }
-
-    fn stream<'s>(alloc: Global, text: &'s str) -> Result<TokenStream<'s>, TokenError> {
-        tokenize(alloc, text)
+        Ok((leaf.priority == 4) & prints_as(alloc, &leaf, "#[token(\"ab\")] ::A")?)
     }
 
     #[test]
-    fn keeps_callbacks(rt: HostRuntime) -> Result<(), Fail> {
-        let alloc = rt.alloc();
-        let label = Callback::Label(stream(alloc, "  a::b ")?);
-        assert_eq!(rt; label.span(), Span { from: 2, to: 6 });
-        let empty = Callback::Label(stream(alloc, " ")?);
-        assert_eq!(rt; empty.span(), NOWHERE);
+    fn prints(rt: HostRuntime) -> Result<(), Fail> {
+        holds(&rt, skip_prints(rt.alloc()))?;
+        holds(&rt, variant_prints(rt.alloc()))
+    }
+
+    /// The callback that these tokens name.
+    fn label(alloc: Global, text: &str) -> Result<Callback<'_>, TokenError> {
+        Ok(Callback::Label(tokenize(alloc, text)?))
+    }
+
+    /// Where `|lex| lex.bump(1)` stands, if it takes the first 17 bytes.
+    fn inline_span(alloc: Global) -> Result<Span, TokenError> {
         let inline = Callback::from(InlineCallback {
             arg: Ident {
                 text: "lex",
                 span: Span { from: 1, to: 4 },
             },
-            body: stream(alloc, "lex.bump(1)")?,
+            body: tokenize(alloc, "lex.bump(1)")?,
             span: Span { from: 0, to: 17 },
         });
-        assert_eq!(rt; inline.span(), Span { from: 0, to: 17 });
-        let literal = Literal {
-            text: "\"ab\"",
-            span: NOWHERE,
-        };
-        let pattern = Pattern::compile_plain(alloc, &literal)?;
-        let leaf = Leaf::new(NOWHERE, pattern).priority(7);
-        assert!(rt; leaf.callback.is_none());
-        let leaf = leaf.callback(Some(label));
-        assert!(rt; matches!(&leaf.callback, Some(Callback::Label(_))));
-        assert_eq!(rt; leaf.priority, 7);
-        assert_eq!(rt; leaf.pattern.source(), "\"ab\"");
-        assert!(rt; leaf.callback(None).callback.is_none());
-        Ok(())
+        Ok(inline.span())
+    }
+
+    fn label_is_at(alloc: Global, text: &str, span: Span) -> Result<bool, TokenError> {
+        Ok(label(alloc, text)?.span() == span)
+    }
+
+    fn inline_is_at(alloc: Global, span: Span) -> Result<bool, TokenError> {
+        Ok(inline_span(alloc)? == span)
+    }
+
+    #[test]
+    fn spans_of_callbacks(rt: HostRuntime) -> Result<(), Fail> {
+        let alloc = rt.alloc();
+        holds(&rt, label_is_at(alloc, "  a::b ", Span { from: 2, to: 6 }))?;
+        holds(&rt, label_is_at(alloc, " ", NOWHERE))?;
+        holds(&rt, inline_is_at(alloc, Span { from: 0, to: 17 }))
+    }
+
+    fn is_labelled(leaf: &Leaf<'_>) -> bool {
+        let label = matches!(&leaf.callback, Some(Callback::Label(_)));
+        label & (leaf.priority == 7) & (leaf.pattern.source() == "\"ab\"")
+    }
+
+    fn has_none_at_first(alloc: Global) -> Result<bool, TokenError> {
+        Ok(plain(alloc)?.priority(7).callback.is_none())
+    }
+
+    fn keeps_its_label(alloc: Global) -> Result<bool, TokenError> {
+        let label = label(alloc, "  a::b ")?;
+        let leaf = plain(alloc)?.priority(7).callback(Some(label));
+        let labelled = is_labelled(&leaf);
+        Ok(labelled & leaf.callback(None).callback.is_none())
+    }
+
+    #[test]
+    fn keeps_callbacks(rt: HostRuntime) -> Result<(), Fail> {
+        holds(&rt, has_none_at_first(rt.alloc()))?;
+        holds(&rt, keeps_its_label(rt.alloc()))
     }
 }

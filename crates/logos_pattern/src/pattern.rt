@@ -21,6 +21,7 @@ pub mod literal;
 mod machine;
 mod machine_atom;
 mod measure;
+mod operand;
 mod property;
 mod reading;
 mod reading_names;

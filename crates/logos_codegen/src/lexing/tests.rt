@@ -121,6 +121,21 @@ fn takes_the_longest_match(rt: HostRuntime) -> Result<(), Fail> {
         ),
         (r#"enum T { #[regex("a+?")] A }"#, "aaa", "0 at 0..3, "),
         (
+            r#"enum T { #[regex("a(ba)*")] A }"#,
+            "ab",
+            "0 at 0..1, error 1..2, ",
+        ),
+        (
+            r#"enum T { #[token("x0")] A, #[token("x1")] B, #[token("y0")] C, #[token("y1")] D }"#,
+            "x0y1",
+            "0 at 0..2, 3 at 2..4, ",
+        ),
+        (
+            r#"enum T { #[regex("[x&&y]a{1048575}")] A }"#,
+            "aa",
+            "error 0..1, error 1..2, ",
+        ),
+        (
             r#"enum T { #[regex("(a.*)+")] A }"#,
             "ab\na",
             "0 at 0..2, error 2..3, 0 at 3..4, ",

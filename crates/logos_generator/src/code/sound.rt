@@ -1,5 +1,5 @@
 //! Whether the parts of a code value are sound.
-ghost use Rattle.std.specs.Prelude.{◌≡◌, ◌<◌, ◌↔◌, ◌*◌, ℕ, length, map, option_map, Option, Some, None, IfSome, IsSomeAnd, IsTrue, slice_get};
+ghost use Rattle.std.specs.Prelude.{◌≡◌, ◌<◌, ◌↔◌, ◌*◌, ℕ, length, map, option_map, Option, Some, None, IfOk, IfSome, IsSomeAnd, IsTrue, slice_get};
 ghost use Rattle.std.specs.List.{All};
 ghost use Rattle.logos_generator.specs.Code.{Fork, by_conditions};
 ghost use Rattle.logos_generator.specs.Headline.{NamesTest, NamesWhatIsThere, NamesFork, NamesCondition, NamesState, IsLate, IsRoot, IsEnd, IsSound};
@@ -7,16 +7,23 @@ ghost use Rattle.logos_generator.specs.Runs.{target};
 ghost use Rattle.logos_generator.specs.CodeView.{mark_of, condition_of, branch_of, fork_of, jumps_of, entry_of, state_of, code_of, AreDifferent, IsKept};
 
 use super::{Code, CodeParts, CodeState, Condition, Fork, Mark, target_of};
+use std::alloc::{AllocError, Global};
 
 impl<'s> Code<'s> {
-    /// The code of these parts, if they are sound.
-    pub(crate) fn checked(parts: CodeParts<'s>) -> Option<Code<'s>>
-        ensures { IfSome result (λ code. code ≡ code_of parts.entry) }
+    /// The code of these parts, if they are sound and an entry of a row can name each state.
+    pub(crate) fn checked(
+        alloc: Global,
+        parts: CodeParts<'s>,
+    ) -> Result<Option<Code<'s>>, AllocError>
+        ensures { IfOk result (λ found. IfSome found (λ code. code ≡ code_of parts.entry)) }
     {
         if !is_kept(&parts) {
-            return None;
+            return Ok(None);
         }
-        Some(Code::new(parts))
+        if parts.states.len() >= u32::MAX as usize {
+            return Ok(None);
+        }
+        Ok(Some(Code::new(alloc, parts)?))
     }
 }
 

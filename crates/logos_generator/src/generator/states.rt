@@ -36,7 +36,7 @@ pub(super) fn code_of<'s>(
 {
     let tables = tables_made(alloc, graph, states)?;
     let leaves = leaves_of(alloc, graph.leaves())?;
-    Ok(Code::new(CodeParts {
+    let parts = CodeParts {
         shape,
         name,
         states: tables.states,
@@ -45,7 +45,8 @@ pub(super) fn code_of<'s>(
         leaves,
         root: 0,
         utf8: graph.utf8_mode(),
-    }))
+    };
+    Code::new(alloc, parts)
 }
 
 /// The states of a code, and the tables that they name.

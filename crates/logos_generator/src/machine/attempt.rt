@@ -5,7 +5,7 @@ ghost use Rattle.logos_generator.specs.Runs.{Does, Tries, EndsError, looped, mar
 ghost use Rattle.logos_generator.specs.Stands.{IsStand, StaysWithin};
 ghost use Rattle.logos_generator.specs.Attempts.{context_of, stand_of, turn_of, found_of};
 
-use super::fast_loop::passing_len;
+use super::fast_loop::staying_len;
 use crate::code::{Code, Mark};
 use logos_pattern::leaf::LeafId;
 
@@ -61,14 +61,10 @@ fn loop_len(code: &Code, input: &[u8], state: usize, offset: usize) -> usize
     requires { state < length code.now.states }
     ensures { result ≡ looped code.now (state_at code.now state).fast_loop (drop offset input.now) }
 {
-    let Some(k) = code.fast_loop(state) else {
-        return 0;
-    };
     if offset > input.len() {
         return 0;
     }
-    let (table, mask) = code.test(k);
-    passing_len(table, mask, &input[offset..])
+    staying_len(code.row(state), &input[offset..])
 }
 
 /// The context behind a mark.

@@ -96,7 +96,7 @@ fn star_code(alloc: Global) -> Result<Code<'static>, Fail> {
     states.push(dead_end(alloc, early(0)))?;
     let mut parts = parts(alloc, states, &[leaf(false)])?;
     parts.bit_tables.push(test_of(b'a', b'a'))?;
-    Ok(Code::checked(parts).ok_or("unsound")?)
+    Ok(Code::checked(alloc, parts)?.ok_or("unsound")?)
 }
 
 /// `[a-z]+`.
@@ -116,7 +116,7 @@ fn word_code(alloc: Global) -> Result<Code<'static>, Fail> {
     })?;
     let mut parts = parts(alloc, states, &[leaf(false)])?;
     parts.bit_tables.push(test_of(b'a', b'z'))?;
-    Ok(Code::checked(parts).ok_or("unsound")?)
+    Ok(Code::checked(alloc, parts)?.ok_or("unsound")?)
 }
 
 /// `a` before no word byte (0), and before one (1). Both are known one byte late.
@@ -141,7 +141,7 @@ fn boundary_code(alloc: Global) -> Result<Code<'static>, Fail> {
     jumps[b'a' as usize] = 3;
     parts.jump_tables.push(jumps)?;
     parts.utf8 = false;
-    Ok(Code::checked(parts).ok_or("unsound")?)
+    Ok(Code::checked(alloc, parts)?.ok_or("unsound")?)
 }
 
 /// The token `a`, as this leaf has it.
@@ -155,7 +155,7 @@ fn letter_code(alloc: Global, leaf: CodeLeaf<'static>) -> Result<Code<'static>, 
     })?;
     states.push(dead_end(alloc, early(0)))?;
     let parts = parts(alloc, states, &[leaf])?;
-    Ok(Code::checked(parts).ok_or("unsound")?)
+    Ok(Code::checked(alloc, parts)?.ok_or("unsound")?)
 }
 
 /// No leaves.
@@ -164,7 +164,7 @@ fn empty_code(alloc: Global, utf8: bool) -> Result<Code<'static>, Fail> {
     states.push(dead_end(alloc, None))?;
     let mut parts = parts(alloc, states, &[])?;
     parts.utf8 = utf8;
-    Ok(Code::checked(parts).ok_or("unsound")?)
+    Ok(Code::checked(alloc, parts)?.ok_or("unsound")?)
 }
 
 /// The items, each as its leaf and its span.
@@ -441,7 +441,7 @@ fn unsound_parts_are_refused(rt: HostRuntime) -> Result<(), Fail> {
     let mut states = Vec::new(alloc);
     states.push(dead_end(alloc, early(0)))?;
     assert!(rt;
-        Code::checked(parts(alloc, states, &[leaf(false)])?).is_none(),
+        Code::checked(alloc, parts(alloc, states, &[leaf(false)])?)?.is_none(),
         "the root has a mark"
     );
     let mut states = Vec::new(alloc);
@@ -449,7 +449,10 @@ fn unsound_parts_are_refused(rt: HostRuntime) -> Result<(), Fail> {
     let mut twice = parts(alloc, states, &[])?;
     twice.jump_tables.push([NOWHERE; 256])?;
     twice.jump_tables.push([NOWHERE; 256])?;
-    assert!(rt; Code::checked(twice).is_none(), "two tables are equal");
+    assert!(rt;
+        Code::checked(alloc, twice)?.is_none(),
+        "two tables are equal"
+    );
     let mut states = Vec::new(alloc);
     states.push(CodeState {
         fast_loop: None,
@@ -459,7 +462,7 @@ fn unsound_parts_are_refused(rt: HostRuntime) -> Result<(), Fail> {
     })?;
     states.push(dead_end(alloc, late(0)))?;
     assert!(rt;
-        Code::checked(parts(alloc, states, &[leaf(false)])?).is_none(),
+        Code::checked(alloc, parts(alloc, states, &[leaf(false)])?)?.is_none(),
         "a late mark is one byte from the root"
     );
     let mut states = Vec::new(alloc);
@@ -471,7 +474,7 @@ fn unsound_parts_are_refused(rt: HostRuntime) -> Result<(), Fail> {
     })?;
     states.push(dead_end(alloc, early(0)))?;
     assert!(rt;
-        Code::checked(parts(alloc, states, &[leaf(false)])?).is_none(),
+        Code::checked(alloc, parts(alloc, states, &[leaf(false)])?)?.is_none(),
         "there is no state 2"
     );
     Ok(())

@@ -9,71 +9,158 @@ fn class(alloc: Global, ranges: &[(u8, u8)]) -> Result<ByteClass, AllocError> {
     Ok(ByteClass { ranges: made })
 }
 
+/// The number of the first comparison that has another range, other exceptions or another count than are wanted.
+fn first_other(
+    made: &[Comparisons],
+    wanted: &[(RangeInclusive<u8>, &[u8], usize)],
+) -> Option<usize> {
+    for (number, one) in made.iter().enumerate() {
+        let Some(other) = wanted.get(number) else {
+            return Some(number);
+        };
+        if one.range != other.0 || one.except.as_slice() != other.1 || one.count_ops() != other.2 {
+            return Some(number);
+        }
+    }
+    None
+}
+
+/// Whether a class of these ranges is separated, and its comparisons have these ranges, exceptions and counts.
+fn is_compared(
+    alloc: Global,
+    ranges: &[(u8, u8)],
+    wanted: &[(RangeInclusive<u8>, &[u8], usize)],
+) -> Result<bool, Fail> {
+    let class = class(alloc, ranges)?;
+    if !class.is_separated() {
+        return Ok(false);
+    }
+    let made = class.impl_with_cmp(alloc)?;
+    Ok(made.len() == wanted.len() && first_other(&made, wanted).is_none())
+}
+
+/// Whether the first comparison of a class of these ranges holds just those of the bytes that are said to be held.
+fn holds_first(alloc: Global, ranges: &[(u8, u8)], cases: &[(u8, bool)]) -> Result<bool, Fail> {
+    let class = class(alloc, ranges)?;
+    if !class.is_separated() {
+        return Ok(false);
+    }
+    let made = class.impl_with_cmp(alloc)?;
+    let Some(first) = made.first() else {
+        return Ok(false);
+    };
+    for case in cases {
+        if first.holds(case.0) != case.1 {
+            return Ok(false);
+        }
+    }
+    Ok(true)
+}
+
 #[test]
 fn a_hole_of_one_byte_is_an_exception(rt: HostRuntime) -> Result<(), Fail> {
-    let class = class(rt.alloc(), &[(5, 10), (12, 16)])?;
-    assert!(rt; class.is_separated());
-    let made = class.impl_with_cmp(rt.alloc())?;
-    assert_eq!(rt; made.len(), 1);
-    let range = made[0].range.clone()?;
-    assert_eq!(rt; range, 5..=16);
-    assert_eq!(rt; made[0].except.as_slice(), [11].as_slice());
-    assert_eq!(rt; made[0].count_ops(), 3);
-    assert!(rt; made[0].holds(5) && made[0].holds(10) && made[0].holds(16));
-    assert!(rt; !made[0].holds(4) && !made[0].holds(11) && !made[0].holds(17));
+    let alloc = rt.alloc();
+    let ranges = [(5, 10), (12, 16)];
+    let wanted: [(RangeInclusive<u8>, &[u8], usize); 1] = [(5..=16, &[11], 3)];
+    assert!(rt; is_compared(alloc, &ranges, &wanted)?);
+    let cases = [
+        (5, true),
+        (10, true),
+        (16, true),
+        (4, false),
+        (11, false),
+        (17, false),
+    ];
+    assert!(rt; holds_first(alloc, &ranges, &cases)?);
     Ok(())
 }
 
 #[test]
 fn two_bytes_between_part_comparisons(rt: HostRuntime) -> Result<(), Fail> {
-    let class = class(rt.alloc(), &[(0, 3), (6, 6), (8, 255)])?;
-    assert!(rt; class.is_separated());
-    let made = class.impl_with_cmp(rt.alloc())?;
-    assert_eq!(rt; made.len(), 2);
-    let first = made[0].range.clone()?;
-    assert_eq!(rt; first, 0..=3);
-    let second = made[1].range.clone()?;
-    assert_eq!(rt; second, 6..=255);
-    assert_eq!(rt; made[1].except.as_slice(), [7].as_slice());
-    assert_eq!(rt; made[0].count_ops(), 1);
-    assert_eq!(rt; made[1].count_ops(), 2);
+    let ranges = [(0, 3), (6, 6), (8, 255)];
+    let wanted: [(RangeInclusive<u8>, &[u8], usize); 2] = [(0..=3, &[], 1), (6..=255, &[7], 2)];
+    assert!(rt; is_compared(rt.alloc(), &ranges, &wanted)?);
     Ok(())
+}
+
+/// The first byte of the first range that takes another number of operations than is said beside it.
+fn wrong_count(alloc: Global, cases: &[(u8, u8, usize)]) -> Option<u8> {
+    for case in cases {
+        if Comparisons::new(alloc, RangeInclusive::new(case.0, case.1)).count_ops() != case.2 {
+            return Some(case.0);
+        }
+    }
+    None
 }
 
 #[test]
 fn operations(rt: HostRuntime) {
-    assert_eq!(rt; Comparisons::new(rt.alloc(), 0..=255).count_ops(), 0);
-    assert_eq!(rt; Comparisons::new(rt.alloc(), 7..=7).count_ops(), 1);
-    assert_eq!(rt; Comparisons::new(rt.alloc(), 0..=9).count_ops(), 1);
-    assert_eq!(rt; Comparisons::new(rt.alloc(), 9..=255).count_ops(), 1);
-    assert_eq!(rt; Comparisons::new(rt.alloc(), 9..=12).count_ops(), 2);
+    let cases = [(0, 255, 0), (7, 7, 1), (0, 9, 1), (9, 255, 1), (9, 12, 2)];
+    assert_eq!(rt; wrong_count(rt.alloc(), &cases), None);
+}
+
+/// The number of the first of the classes that is separated otherwise than is said beside it.
+fn wrong_separated(
+    alloc: Global,
+    cases: &[(&[(u8, u8)], bool)],
+) -> Result<Option<usize>, AllocError> {
+    for (number, case) in cases.iter().enumerate() {
+        if class(alloc, case.0)?.is_separated() != case.1 {
+            return Ok(Some(number));
+        }
+    }
+    Ok(None)
 }
 
 #[test]
 fn separated(rt: HostRuntime) -> Result<(), Fail> {
-    assert!(rt; class(rt.alloc(), &[])?.is_separated());
-    assert!(rt; class(rt.alloc(), &[(0, 255)])?.is_separated());
-    assert!(rt; class(rt.alloc(), &[(1, 2), (4, 4)])?.is_separated());
-    assert!(rt; !class(rt.alloc(), &[(1, 2), (3, 4)])?.is_separated());
-    assert!(rt; !class(rt.alloc(), &[(4, 4), (1, 2)])?.is_separated());
-    assert!(rt; !class(rt.alloc(), &[(1, 5), (3, 9)])?.is_separated());
-    assert!(rt; !class(rt.alloc(), &[(2, 1)])?.is_separated());
+    let cases: [(&[(u8, u8)], bool); 7] = [
+        (&[], true),
+        (&[(0, 255)], true),
+        (&[(1, 2), (4, 4)], true),
+        (&[(1, 2), (3, 4)], false),
+        (&[(4, 4), (1, 2)], false),
+        (&[(1, 5), (3, 9)], false),
+        (&[(2, 1)], false),
+    ];
+    assert_eq!(rt; wrong_separated(rt.alloc(), &cases)?, None);
     Ok(())
+}
+
+/// Adds the other ranges to a class.
+fn add(alloc: Global, class: &mut ByteClass, ranges: &[(u8, u8)]) -> Result<(), AllocError> {
+    let other = self::class(alloc, ranges)?;
+    class.merge(alloc, &other)
+}
+
+/// The number of the first step at which a class that has had more ranges added is not what is said beside them.
+fn wrong_merge(
+    alloc: Global,
+    ranges: &[(u8, u8)],
+    steps: &[(&[(u8, u8)], &[(u8, u8)])],
+) -> Result<Option<usize>, AllocError> {
+    let mut class = class(alloc, ranges)?;
+    for (number, step) in steps.iter().enumerate() {
+        add(alloc, &mut class, step.0)?;
+        if class != self::class(alloc, step.1)? {
+            return Ok(Some(number));
+        }
+    }
+    Ok(None)
 }
 
 #[test]
 fn merged(rt: HostRuntime) -> Result<(), Fail> {
-    let mut class = class(rt.alloc(), &[(10, 12), (1, 2), (11, 20)])?;
-    let other = self::class(rt.alloc(), &[(3, 3), (255, 255), (0, 0)])?;
-    class.merge(rt.alloc(), &other)?;
-    let wanted = self::class(rt.alloc(), &[(0, 3), (10, 20), (255, 255)])?;
-    assert_eq!(rt; class, wanted);
-    let nothing = self::class(rt.alloc(), &[])?;
-    class.merge(rt.alloc(), &nothing)?;
-    assert_eq!(rt; class, wanted);
-    let all = self::class(rt.alloc(), &[(0, 255)])?;
-    class.merge(rt.alloc(), &all)?;
-    assert_eq!(rt; class, all);
+    let ranges = [(10, 12), (1, 2), (11, 20)];
+    let steps: [(&[(u8, u8)], &[(u8, u8)]); 3] = [
+        (
+            &[(3, 3), (255, 255), (0, 0)],
+            &[(0, 3), (10, 20), (255, 255)],
+        ),
+        (&[], &[(0, 3), (10, 20), (255, 255)]),
+        (&[(0, 255)], &[(0, 255)]),
+    ];
+    assert_eq!(rt; wrong_merge(rt.alloc(), &ranges, &steps)?, None);
     Ok(())
 }
 

@@ -98,10 +98,24 @@ fn wrong_at_end<'c>(
     Ok(None)
 }
 
+/// The first of the texts behind which, or behind which and the end, the automaton of patterns lists other leaves than
+/// are said beside it.
+fn wrong_of<'c>(
+    alloc: Global,
+    regexes: &[&str],
+    behind: &[(&'c str, &str)],
+    ends: &[(&'c str, &str)],
+) -> Result<Option<&'c str>, Fail> {
+    let dfa = automaton(alloc, regexes)?;
+    if let Some(text) = wrong_after(alloc, &dfa, behind)? {
+        return Ok(Some(text));
+    }
+    wrong_at_end(alloc, &dfa, ends)
+}
+
 #[test]
 fn tokens(rt: HostRuntime) -> Result<(), Fail> {
-    let alloc = rt.alloc();
-    let dfa = automaton(alloc, &["abcd", "a", "[a-c]"])?;
+    let regexes = ["abcd", "a", "[a-c]"];
     let behind = [
         ("", ""),
         ("a", ""),
@@ -112,27 +126,23 @@ fn tokens(rt: HostRuntime) -> Result<(), Fail> {
         ("abcdx", "0 "),
         ("abcdxx", ""),
     ];
-    assert_eq!(rt; wrong_after(alloc, &dfa, &behind)?, None);
     let ends = [("", ""), ("a", "1 2 "), ("abc", ""), ("abcd", "0 ")];
-    assert_eq!(rt; wrong_at_end(alloc, &dfa, &ends)?, None);
+    assert_eq!(rt; wrong_of(rt.alloc(), &regexes, &behind, &ends)?, None);
     Ok(())
 }
 
 #[test]
 fn the_end(rt: HostRuntime) -> Result<(), Fail> {
-    let alloc = rt.alloc();
-    let dfa = automaton(alloc, &["a$", "a"])?;
+    let regexes = ["a$", "a"];
     let behind = [("ab", "1 "), ("a\n", "1 ")];
-    assert_eq!(rt; wrong_after(alloc, &dfa, &behind)?, None);
     let ends = [("a", "0 1 "), ("ab", "")];
-    assert_eq!(rt; wrong_at_end(alloc, &dfa, &ends)?, None);
+    assert_eq!(rt; wrong_of(rt.alloc(), &regexes, &behind, &ends)?, None);
     Ok(())
 }
 
 #[test]
 fn word_boundaries(rt: HostRuntime) -> Result<(), Fail> {
-    let alloc = rt.alloc();
-    let dfa = automaton(alloc, &["a(?-u:\\b)", "a(?-u:\\B)", "a-(?-u:\\b)"])?;
+    let regexes = ["a(?-u:\\b)", "a(?-u:\\B)", "a-(?-u:\\b)"];
     let behind = [
         ("ab", "1 "),
         ("a_", "1 "),
@@ -140,16 +150,14 @@ fn word_boundaries(rt: HostRuntime) -> Result<(), Fail> {
         ("a-b", "2 "),
         ("a--", ""),
     ];
-    assert_eq!(rt; wrong_after(alloc, &dfa, &behind)?, None);
     let ends = [("a", "0 "), ("a-", "")];
-    assert_eq!(rt; wrong_at_end(alloc, &dfa, &ends)?, None);
+    assert_eq!(rt; wrong_of(rt.alloc(), &regexes, &behind, &ends)?, None);
     Ok(())
 }
 
 #[test]
 fn ends_of_lines(rt: HostRuntime) -> Result<(), Fail> {
-    let alloc = rt.alloc();
-    let dfa = automaton(alloc, &["(?m)a$", "(?Rm)[a\r]$"])?;
+    let regexes = ["(?m)a$", "(?Rm)[a\r]$"];
     let behind = [
         ("ab", ""),
         ("a\n", "0 1 "),
@@ -157,16 +165,14 @@ fn ends_of_lines(rt: HostRuntime) -> Result<(), Fail> {
         ("\r\n", ""),
         ("\r\r", "1 "),
     ];
-    assert_eq!(rt; wrong_after(alloc, &dfa, &behind)?, None);
     let ends = [("a", "0 1 "), ("\r", "1 ")];
-    assert_eq!(rt; wrong_at_end(alloc, &dfa, &ends)?, None);
+    assert_eq!(rt; wrong_of(rt.alloc(), &regexes, &behind, &ends)?, None);
     Ok(())
 }
 
 #[test]
 fn counted_repetitions(rt: HostRuntime) -> Result<(), Fail> {
-    let alloc = rt.alloc();
-    let dfa = automaton(alloc, &["(?:ab){2,3}", "a{3}", "b{2,}"])?;
+    let regexes = ["(?:ab){2,3}", "a{3}", "b{2,}"];
     let behind = [
         ("abab", ""),
         ("ababa", "0 "),
@@ -176,7 +182,6 @@ fn counted_repetitions(rt: HostRuntime) -> Result<(), Fail> {
         ("aaax", "1 "),
         ("aaaax", ""),
     ];
-    assert_eq!(rt; wrong_after(alloc, &dfa, &behind)?, None);
     let ends = [
         ("ab", ""),
         ("ababab", "0 "),
@@ -184,14 +189,13 @@ fn counted_repetitions(rt: HostRuntime) -> Result<(), Fail> {
         ("bb", "2 "),
         ("bbbbb", "2 "),
     ];
-    assert_eq!(rt; wrong_at_end(alloc, &dfa, &ends)?, None);
+    assert_eq!(rt; wrong_of(rt.alloc(), &regexes, &behind, &ends)?, None);
     Ok(())
 }
 
 #[test]
 fn characters_of_several_bytes(rt: HostRuntime) -> Result<(), Fail> {
-    let alloc = rt.alloc();
-    let dfa = automaton(alloc, &["[a\u{e9}-\u{fc}\u{20ac}\u{1f600}]", "[\u{e9}b]"])?;
+    let regexes = ["[a\u{e9}-\u{fc}\u{20ac}\u{1f600}]", "[\u{e9}b]"];
     let behind = [
         ("ax", "0 "),
         ("\u{e9}", ""),
@@ -202,9 +206,8 @@ fn characters_of_several_bytes(rt: HostRuntime) -> Result<(), Fail> {
         ("\u{20ac}x", "0 "),
         ("\u{20ad}x", ""),
     ];
-    assert_eq!(rt; wrong_after(alloc, &dfa, &behind)?, None);
     let ends = [("\u{1f600}", "0 "), ("\u{1f601}", "")];
-    assert_eq!(rt; wrong_at_end(alloc, &dfa, &ends)?, None);
+    assert_eq!(rt; wrong_of(rt.alloc(), &regexes, &behind, &ends)?, None);
     Ok(())
 }
 
@@ -216,13 +219,18 @@ fn state_count(dfa: &Dfa) -> usize {
     count
 }
 
+/// How many states the automaton of patterns has.
+fn state_count_of(alloc: Global, regexes: &[&str]) -> Result<usize, Fail> {
+    Ok(state_count(&automaton(alloc, regexes)?))
+}
+
 #[test]
 fn no_leaves(rt: HostRuntime) -> Result<(), Fail> {
     let alloc = rt.alloc();
-    let dfa = automaton(alloc, &[])?;
-    assert_eq!(rt; state_count(&dfa), 2);
-    assert_eq!(rt; wrong_after(alloc, &dfa, &[("a", ""), ("ab", "")])?, None);
-    assert_eq!(rt; wrong_at_end(alloc, &dfa, &[("", ""), ("a", "")])?, None);
+    assert_eq!(rt; state_count_of(alloc, &[])?, 2);
+    let behind = [("a", ""), ("ab", "")];
+    let ends = [("", ""), ("a", "")];
+    assert_eq!(rt; wrong_of(alloc, &[], &behind, &ends)?, None);
     Ok(())
 }
 
@@ -234,15 +242,25 @@ fn count_child(dfa: &Dfa, state: StateId, child: StateId) -> Result<usize, Fail>
     Ok(dfa.iter_children(state).filter(|c| *c == child).count())
 }
 
+/// How many of the children of the start are the states behind `a`, behind `b`, and the start.
+fn children_of_start(dfa: &Dfa) -> Result<[usize; 3], Fail> {
+    let start = dfa.start();
+    Ok([
+        count_child(dfa, start, behind(dfa, "a")?)?,
+        count_child(dfa, start, behind(dfa, "b")?)?,
+        count_child(dfa, start, start)?,
+    ])
+}
+
+/// Whether an automaton has four states, and the start these many children of each kind.
+fn has_children(dfa: &Dfa, wanted: [usize; 3]) -> Result<bool, Fail> {
+    Ok(state_count(dfa) == 4 && !dfa.contains(StateId(4)) && children_of_start(dfa)? == wanted)
+}
+
 #[test]
 fn children(rt: HostRuntime) -> Result<(), Fail> {
     // the start, behind an a, behind one more byte, and where nothing matches any more
     let dfa = automaton(rt.alloc(), &["a"])?;
-    assert_eq!(rt; state_count(&dfa), 4);
-    let start = dfa.start();
-    assert_eq!(rt; count_child(&dfa, start, behind(&dfa, "a")?)?, 1);
-    assert_eq!(rt; count_child(&dfa, start, behind(&dfa, "b")?)?, 256);
-    assert_eq!(rt; count_child(&dfa, start, start)?, 0);
-    assert!(rt; !dfa.contains(StateId(4)));
+    assert!(rt; has_children(&dfa, [1, 256, 0])?);
     Ok(())
 }

@@ -14,11 +14,15 @@ const NOWHERE: Span = Span { from: 0, to: 0 };
 
 /// Numbers that look random, from a fixed seed.
 #[derive(Drop)]
-struct Random {
+pub(super) struct Random {
     state: u64,
 }
 
 impl Random {
+    pub(super) fn new(seed: u64) -> Random {
+        Random { state: seed }
+    }
+
     fn below(&mut self, limit: usize) -> usize
         requires { 0 < limit }
         ensures { result < limit }
@@ -324,7 +328,7 @@ fn marked(
 }
 
 /// What the graph finds at the front of the text.
-fn found(graph: &Graph<'_>, text: &[u8]) -> Option<(LeafId, usize)> {
+pub(super) fn found(graph: &Graph<'_>, text: &[u8]) -> Option<(LeafId, usize)> {
     let mut state = graph.iter_states().next()?;
     let mut last = None;
     for (at, byte) in text.iter().enumerate() {
@@ -388,7 +392,7 @@ fn is_right_up_to(graph: &Graph<'_>, lengths: usize) -> bool {
     true
 }
 
-fn state_count(graph: &Graph<'_>) -> usize {
+pub(super) fn state_count(graph: &Graph<'_>) -> usize {
     let mut count = 0usize;
     for _ in graph.iter_states() {
         count = count.saturating_add(1);
@@ -430,7 +434,11 @@ fn are_told(alloc: Global, graph: &Graph<'_>) -> Result<bool, Fail> {
 }
 
 /// The leaves of a few patterns, of which each has a priority of its own.
-fn leaves_of<'s>(alloc: Global, random: &mut Random, unicode: bool) -> Result<Vec<Leaf<'s>>, Fail> {
+pub(super) fn leaves_of<'s>(
+    alloc: Global,
+    random: &mut Random,
+    unicode: bool,
+) -> Result<Vec<Leaf<'s>>, Fail> {
     let mut leaves = Vec::new(alloc);
     for number in 0..1 + random.below(3) {
         let text = pattern_text(alloc, random)?;
@@ -452,7 +460,7 @@ fn is_early(errors: &[GraphError]) -> bool {
 #[test]
 fn generated_leaves_match_as_defined(rt: HostRuntime) -> Result<(), Fail> {
     let alloc = rt.alloc();
-    let mut random = Random { state: 7 };
+    let mut random = Random::new(7);
     let mut tried = 0usize;
     for set in 0..300usize {
         let leaves = leaves_of(alloc, &mut random, set % 10 == 0)?;

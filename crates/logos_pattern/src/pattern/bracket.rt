@@ -9,6 +9,7 @@ use crate::pattern::bracket_token::{BracketToken, Item, Lead, SetOperator};
 use crate::pattern::class::RangeSet;
 use crate::pattern::error::{Kind, Stop};
 use crate::pattern::hir::Range;
+use crate::pattern::operand::{Operand, operands_set};
 use crate::pattern::token::Flags;
 use std::alloc::{AllocError, Global};
 use std::mem;
@@ -20,8 +21,10 @@ pub(crate) const MAX_NESTING: usize = 250;
 #[derive(Drop)]
 pub(crate) struct Frame {
     negated: bool,
-    /// What the operands before make, and the operator behind them.
-    before: Option<(RangeSet, SetOperator)>,
+    /// The operands before.
+    before: Vec<Operand>,
+    /// The operator behind them.
+    operator: Option<SetOperator>,
     /// The operand so far.
     ranges: Vec<Range>,
     /// How deep its innermost place is in the whole pattern.
@@ -63,7 +66,8 @@ impl Frame {
     {
         Ok(Frame {
             negated,
-            before: None,
+            before: Vec::new(alloc),
+            operator: None,
             ranges: lead_ranges(alloc, lead)?,
             inner: level,
             left,
@@ -75,9 +79,9 @@ impl Frame {
         ensures { IfOk result (λ set. set_of set ≡ value (frame_view self.now)) }
     {
         let here = RangeSet::from_ranges(alloc, &self.ranges)?;
-        match &self.before {
+        match self.operator {
             None => Ok(here),
-            Some((set, op)) => combined(*op, set, &here),
+            Some(op) => combined(op, &operands_set(alloc, &self.before)?, &here),
         }
     }
 
@@ -188,8 +192,10 @@ impl Frames {
     ) -> Result<(), Stop>
         ensures { BracketSteps flags base (frames_view self.old) (BracketToken.Operator op) result (frames_view self.new) }
     {
-        let set = self.top.value(alloc)?;
-        self.top.before = Some((set, op));
+        let set = RangeSet::from_ranges(alloc, &self.top.ranges)?;
+        let operator = self.top.operator;
+        self.top.before.push(Operand { operator, set })?;
+        self.top.operator = Some(op);
         self.top.ranges = Vec::new(alloc);
         Ok(())
     }

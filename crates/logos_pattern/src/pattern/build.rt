@@ -1,12 +1,12 @@
 //! Builders of trees, which simplify as they build.
 
-ghost use Rattle.std.specs.Prelude.{◌≡◌, map, ◌++◌, Option, Some, option_map, IfOk, OnOk};
+ghost use Rattle.std.specs.Prelude.{◌≡◌, false, map, ◌++◌, Option, Some, option_map, IfOk, OnOk};
 ghost use Rattle.std.specs.Str.{chars};
 ghost use Rattle.logos_pattern.specs.Tree.{look, capture};
 ghost use Rattle.logos_pattern.specs.Hir.{pairs, tree_of};
 ghost use Rattle.logos_pattern.specs.ClassSet.{set_of};
 ghost use Rattle.logos_pattern.specs.Build.{literal_of, one_char_of, one_byte_of, is_byteless, is_most, cut, times, repetition_of, parts_of, concat_of, sole_char, char_ranges_of, byte_ranges_of, all_ranges, branches_of, bytes_or, chars_or, choice_of, alternation_of};
-ghost use Rattle.logos_pattern.specs.BuildSteps.{part_text, add_text, add_part, add_parts, IsAdded};
+ghost use Rattle.logos_pattern.specs.BuildSteps.{part_text, add_text, add_part, add_parts, is_literal_tree, are_apart, IsAdded};
 
 use super::class::RangeSet;
 use super::hir::{Class, Hir, Look, Range};
@@ -185,13 +185,45 @@ fn push_parts(parts: &mut Vec<Hir>, inner: Vec<Hir>) -> Result<(), AllocError>
     Ok(())
 }
 
+fn is_literal(hir: &Hir) -> bool
+    ensures { result ≡ is_literal_tree (tree_of hir.now) }
+{
+    matches!(hir, Hir::Literal(_))
+}
+
+/// No two literals stand side by side.
+fn are_apart(parts: &[Hir]) -> bool
+    ensures { result ≡ are_apart false (map tree_of parts.now) }
+{
+    let mut behind = false;
+    for part in parts {
+        let here = is_literal(part);
+        if behind && here {
+            return false;
+        }
+        behind = here;
+    }
+    true
+}
+
+/// Adds parts behind the others. The first ones are taken over as they are, if none of them join.
+fn push_all(parts: &mut Vec<Hir>, inner: Vec<Hir>) -> Result<(), AllocError>
+    ensures { OnOk result (map tree_of parts.new.items ≡ add_parts (map tree_of parts.old.items) (map tree_of inner.items)) }
+{
+    if parts.is_empty() && are_apart(&inner) {
+        *parts = inner;
+        return Ok(());
+    }
+    push_parts(parts, inner)
+}
+
 /// Adds the parts that a tree brings into a concatenation.
 fn push_flat(parts: &mut Vec<Hir>, part: Hir) -> Result<(), AllocError>
     ensures { OnOk result (map tree_of parts.new.items ≡ add_parts (map tree_of parts.old.items) (parts_of (tree_of part))) }
 {
     match part {
         Hir::Empty => Ok(()),
-        Hir::Concat(inner) => push_parts(parts, inner),
+        Hir::Concat(inner) => push_all(parts, inner),
         other => push_part(parts, other),
     }
 }
@@ -300,12 +332,23 @@ fn byte_ranges(alloc: Global, branches: &[Hir]) -> Result<Option<Vec<Range>>, Al
     Ok(Some(out))
 }
 
+/// Adds branches behind the others. The first ones are taken over as they are.
+fn push_branches(branches: &mut Vec<Hir>, mut inner: Vec<Hir>) -> Result<(), AllocError>
+    ensures { OnOk result (map tree_of branches.new.items ≡ map tree_of branches.old.items ++ map tree_of inner.items) }
+{
+    if branches.is_empty() {
+        *branches = inner;
+        return Ok(());
+    }
+    Ok(branches.append(&mut inner)?)
+}
+
 /// Adds the branches that a tree brings into an alternation.
 fn push_branch(branches: &mut Vec<Hir>, branch: Hir) -> Result<(), AllocError>
     ensures { OnOk result (map tree_of branches.new.items ≡ map tree_of branches.old.items ++ branches_of (tree_of branch)) }
 {
     match branch {
-        Hir::Alternation(mut inner) => Ok(branches.append(&mut inner)?),
+        Hir::Alternation(inner) => push_branches(branches, inner),
         other => Ok(branches.push(other)?),
     }
 }

@@ -1,24 +1,40 @@
-use super::{Errors, FaultCode, Memory};
+use super::{Errors, FaultCode, Memory, SpannedError};
 use crate::token::Span;
+use std::alloc::Global;
+use std::process::Abort;
 use std::test::Fail;
+
+const FIRST: Span = Span { from: 0, to: 1 };
+
+const SECOND: Span = Span { from: 4, to: 9 };
+
+/// A fault at one place, and one of another place that speaks of the first one.
+fn two_faults(alloc: Global) -> Result<Errors, Memory> {
+    let mut errors = Errors::new(alloc);
+    errors.err(FaultCode::EmptyMatch, "empty", FIRST)?;
+    errors.err_also(FaultCode::TypeTwice, "twice", SECOND, FIRST)?;
+    Ok(errors)
+}
+
+/// Whether these are the two faults.
+fn are_two_faults(list: &[SpannedError]) -> bool {
+    let [first, second] = list else {
+        return false;
+    };
+    first.code == FaultCode::EmptyMatch
+        && first.message.as_str() == "empty"
+        && first.span == FIRST
+        && first.also == None
+        && second.code == FaultCode::TypeTwice
+        && second.span == SECOND
+        && second.also == Some(FIRST)
+}
 
 #[test]
 fn faults_in_order(rt: HostRuntime) -> Result<(), Fail> {
-    let mut errors = Errors::new(rt.alloc());
-    assert!(rt; errors.list().is_empty());
-    let first = Span { from: 0, to: 1 };
-    let second = Span { from: 4, to: 9 };
-    errors.err(FaultCode::EmptyMatch, "empty", first)?;
-    errors.err_also(FaultCode::TypeTwice, "twice", second, first)?;
-    let list = errors.list();
-    assert_eq!(rt; list.len(), 2);
-    assert_eq!(rt; list[0].code, FaultCode::EmptyMatch);
-    assert_eq!(rt; list[0].message.as_str(), "empty");
-    assert_eq!(rt; list[0].span, first);
-    assert_eq!(rt; list[0].also, None);
-    assert_eq!(rt; list[1].code, FaultCode::TypeTwice);
-    assert_eq!(rt; list[1].span, second);
-    assert_eq!(rt; list[1].also, Some(first));
+    assert!(rt; Errors::new(rt.alloc()).list().is_empty());
+    let errors = two_faults(rt.alloc())?;
+    assert!(rt; are_two_faults(errors.list()));
     Ok(())
 }
 
@@ -30,22 +46,45 @@ fn printed_names(rt: HostRuntime) -> Result<(), Fail> {
     Ok(())
 }
 
+/// Whether the faults are rendered as this text.
+fn is_rendered_as(errors: &Errors, text: &str) -> Result<bool, Memory> {
+    match errors.render()? {
+        Some(rendered) => Ok(rendered.as_str() == text),
+        None => Ok(false),
+    }
+}
+
+/// Faults, collected one after another, are rendered with each as is said beside it.
+fn render(rt: &impl Abort, alloc: Global, cases: &[(FaultCode, &str, &str)]) -> Result<(), Fail> {
+    let mut errors = Errors::new(alloc);
+    for case in cases {
+        errors.err(case.0, case.1, Span { from: 0, to: 1 })?;
+        assert!(rt;
+            is_rendered_as(&errors, case.2)?,
+            "another text: {}",
+            case.1
+        );
+    }
+    Ok(())
+}
+
 #[test]
 fn rendered_faults(rt: HostRuntime) -> Result<(), Fail> {
-    let mut errors = Errors::new(rt.alloc());
-    assert!(rt; errors.render()?.is_none());
-    let span = Span { from: 0, to: 1 };
-    errors.err(FaultCode::CallbackValue, "Not a valid callback", span)?;
-    let text = errors.render()?.ok_or("a text")?;
-    assert_eq!(rt;
-        text.as_str(),
-        "fn _logos_derive_compile_errors ( ) { { compile_error ! ( \"Not a valid callback\" ) } } unimplemented ! ( )"
-    );
-    errors.err(FaultCode::IgnoreUnknown, "\"x\\y\"\n\r\té", span)?;
-    let text = errors.render()?.ok_or("a text")?;
-    assert_eq!(rt;
-        text.as_str(),
-        "fn _logos_derive_compile_errors ( ) { { compile_error ! ( \"Not a valid callback\" ) } { compile_error ! ( \"\\\"x\\\\y\\\"\\n\\r\\té\" ) } } unimplemented ! ( )"
-    );
-    Ok(())
+    assert!(rt; Errors::new(rt.alloc()).render()?.is_none());
+    render(
+        &rt,
+        rt.alloc(),
+        &[
+            (
+                FaultCode::CallbackValue,
+                "Not a valid callback",
+                "fn _logos_derive_compile_errors ( ) { { compile_error ! ( \"Not a valid callback\" ) } } unimplemented ! ( )",
+            ),
+            (
+                FaultCode::IgnoreUnknown,
+                "\"x\\y\"\n\r\té",
+                "fn _logos_derive_compile_errors ( ) { { compile_error ! ( \"Not a valid callback\" ) } { compile_error ! ( \"\\\"x\\\\y\\\"\\n\\r\\té\" ) } } unimplemented ! ( )",
+            ),
+        ],
+    )
 }

@@ -1,5 +1,8 @@
 use super::{MaybeVoid, ToIdent, expect_punct, is_punct};
-use crate::token::{Span, Tokens, tokenize};
+use crate::error::Memory;
+use crate::token::{Span, TokenStream, Tokens, tokenize};
+use std::alloc::Global;
+use std::process::Abort;
 use std::test::Fail;
 
 fn begins_with(run: Tokens<'_, '_>, expected: char) -> bool {
@@ -9,16 +12,19 @@ fn begins_with(run: Tokens<'_, '_>, expected: char) -> bool {
     }
 }
 
+/// Whether the run begins with this punctuation, and whether it is all that is expected.
+fn stands(run: Tokens<'_, '_>, expected: char) -> (bool, bool) {
+    let left = expect_punct(run.first(), expected);
+    (begins_with(run, expected), left.is_none())
+}
+
 #[test]
 fn single_punctuation(rt: HostRuntime) -> Result<(), Fail> {
     let stream = tokenize(rt.alloc(), ", ,, a")?;
     let run = stream.run();
-    assert!(rt; begins_with(run, ','));
-    assert!(rt; !begins_with(run, '='));
-    assert!(rt; !begins_with(run.rest(), ','));
-    assert!(rt; expect_punct(run.first(), ',').is_none());
-    assert!(rt; expect_punct(run.first(), '=').is_some());
-    assert!(rt; expect_punct(run.rest().first(), ',').is_some());
+    assert!(rt; stands(run, ',') == (true, true));
+    assert!(rt; stands(run, '=') == (false, false));
+    assert!(rt; stands(run.rest(), ',') == (false, false));
     Ok(())
 }
 
@@ -37,20 +43,50 @@ fn width(tokens: &MaybeVoid<'_>) -> Option<usize> {
     }
 }
 
+/// The tokens take the place of others, which are so wide.
+fn replaces<'s>(
+    rt: &impl Abort,
+    tokens: &mut MaybeVoid<'s>,
+    stream: TokenStream<'s>,
+    expected: Option<usize>,
+) {
+    let former = tokens.replace(stream);
+    assert!(rt; width(&former) == expected);
+}
+
+/// A copy of the tokens of a source, but for its first tree.
+fn rest_of<'s>(alloc: Global, source: &'s str) -> Result<TokenStream<'s>, Fail> {
+    let stream = tokenize(alloc, source)?;
+    Ok(stream.run().rest().to_stream(alloc)?)
+}
+
+/// The tokens are printed as this text.
+fn prints(
+    rt: &impl Abort,
+    alloc: Global,
+    tokens: &MaybeVoid<'_>,
+    text: &str,
+) -> Result<(), Memory> {
+    assert!(rt; tokens.print(alloc)?.as_str() == text, "another text");
+    Ok(())
+}
+
+/// Tokens that are so wide are taken, and none are left.
+fn takes(rt: &impl Abort, tokens: &mut MaybeVoid<'_>, expected: usize) {
+    let former = tokens.take();
+    assert!(rt; width(&former) == Some(expected));
+    assert!(rt; width(tokens) == None);
+}
+
 #[test]
 fn tokens_or_none(rt: HostRuntime) -> Result<(), Fail> {
-    let stream = tokenize(rt.alloc(), "a b (c)")?;
-    let copy = stream.run().rest().to_stream(rt.alloc())?;
+    let alloc = rt.alloc();
     let mut tokens = MaybeVoid::Void;
-    let former = tokens.replace(stream);
-    assert_eq!(rt; width(&former), None);
-    assert_eq!(rt; width(&tokens), Some(7));
-    let former = tokens.replace(copy);
-    assert_eq!(rt; width(&former), Some(7));
-    assert_eq!(rt; tokens.print(rt.alloc())?.as_str(), "b ( c )");
-    let former = tokens.take();
-    assert_eq!(rt; width(&former), Some(7));
-    assert_eq!(rt; tokens.print(rt.alloc())?.as_str(), "( )");
-    assert_eq!(rt; width(&tokens), None);
+    replaces(&rt, &mut tokens, tokenize(alloc, "a b (c)")?, None);
+    assert!(rt; width(&tokens) == Some(7));
+    replaces(&rt, &mut tokens, rest_of(alloc, "a b (c)")?, Some(7));
+    prints(&rt, alloc, &tokens, "b ( c )")?;
+    takes(&rt, &mut tokens, 7);
+    prints(&rt, alloc, &tokens, "( )")?;
     Ok(())
 }

@@ -107,6 +107,74 @@ fn collects_all_faults(rt: HostRuntime) -> Result<(), Fail> {
 }
 
 #[test]
+fn names_a_greedy_dot_before_an_empty_match(rt: HostRuntime) -> Result<(), Fail> {
+    let alloc = rt.alloc();
+    let wanted = format!(in alloc;
+        "17..25 {GREEDY_DOT}17..25 EmptyMatch: The pattern #[regex(\"(?R).*\")] ::A can match the empty string, which is unsupported by logos.; "
+    )?;
+    gives(
+        &rt,
+        alloc,
+        r#"enum T { #[regex("(?R).*")] A }"#,
+        b"a",
+        wanted.as_str(),
+    )
+}
+
+#[test]
+fn names_passed_limits(rt: HostRuntime) -> Result<(), Fail> {
+    let alloc = rt.alloc();
+    for (source, wanted) in [
+        (
+            r#"enum E { #[regex("[x&&y]a{1048576}")] A }"#,
+            "0..41 LimitSize: limit LimitSize passed; ",
+        ),
+        (
+            r#"enum E { #[regex("[x&&y]{4294967295}")] A }"#,
+            "0..43 LimitSize: limit LimitSize passed; ",
+        ),
+        (
+            r#"enum T { #[regex("x|(?:(?:a{4294967295}){4294967295}){4294967295}")] A }"#,
+            "0..72 LimitSize: limit LimitSize passed; ",
+        ),
+        (
+            r#"enum E { #[regex("a{70000}")] A }"#,
+            "0..33 LimitStates: limit LimitStates passed; ",
+        ),
+    ] {
+        gives(&rt, alloc, source, b"a", wanted)?;
+    }
+    Ok(())
+}
+
+/// The source of a regex in so many groups.
+fn in_groups(alloc: Global, depth: usize, regex: &str) -> Result<String, Fail> {
+    let mut source = String::from_str(alloc, "enum E { #[regex(\"")?;
+    for _ in 0..depth {
+        source.push_str("(")?;
+    }
+    source.push_str(regex)?;
+    for _ in 0..depth {
+        source.push_str(")")?;
+    }
+    source.push_str("\")] A }")?;
+    Ok(source)
+}
+
+#[test]
+fn names_what_is_nested_too_deep(rt: HostRuntime) -> Result<(), Fail> {
+    let alloc = rt.alloc();
+    let source = in_groups(alloc, 250, "a")?;
+    gives(&rt, alloc, source.as_str(), b"a", "0 at 0..1, ")?;
+    let source = in_groups(alloc, 251, "a")?;
+    let wanted = "17..522 LimitPatternNesting: limit LimitPatternNesting passed; ";
+    gives(&rt, alloc, source.as_str(), b"a", wanted)?;
+    let source = in_groups(alloc, 250, "a*")?;
+    let wanted = "17..521 LimitPatternNesting: limit LimitPatternNesting passed; ";
+    gives(&rt, alloc, source.as_str(), b"a", wanted)
+}
+
+#[test]
 fn refuses_before_it_reads_the_input(rt: HostRuntime) -> Result<(), Fail> {
     let alloc = rt.alloc();
     for (source, wanted) in [

@@ -182,7 +182,7 @@ fn agree(
 fn the_machine_gives_what_a_plain_lexer_gives(rt: HostRuntime) -> Result<(), Fail> {
     let alloc = rt.alloc();
     let mut state: u64 = 1;
-    for _ in 0..150 {
+    for _ in 0..200 {
         state = state
             .wrapping_mul(6_364_136_223_846_793_005)
             .wrapping_add(1_442_695_040_888_963_407);

@@ -32,6 +32,27 @@ fn looks_around(rt: HostRuntime) -> Result<(), Fail> {
             "a\r\na",
             "0 at 0..1, error 1..2, error 2..3, 0 at 3..4, ",
         ),
+        (
+            r#"enum T { #[regex("(?m)a$")] A }"#,
+            "a\r\na",
+            "error 0..1, error 1..2, error 2..3, 0 at 3..4, ",
+        ),
+        (
+            r#"enum T { #[regex(r"(?Rm)\r$")] A }"#,
+            "\r\n",
+            "error 0..1, error 1..2, ",
+        ),
+        (
+            r#"enum T { #[regex(r"(?Rm)\r$")] A }"#,
+            "\r\r",
+            "0 at 0..1, 0 at 1..2, ",
+        ),
+        (
+            r#"enum T { #[regex(r"(?Rm)\r^a")] A }"#,
+            "\ra",
+            "0 at 0..2, ",
+        ),
+        (r#"enum T { #[regex("(?R).")] A }"#, "\r", "error 0..1, "),
     ] {
         gives(&rt, alloc, source, input.as_bytes(), wanted)?;
     }

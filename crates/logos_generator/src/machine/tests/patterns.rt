@@ -1,5 +1,5 @@
 use super::*;
-use crate::testing::{code_by_priority, code_of};
+use crate::testing::{code_by_priority, code_of, code_with_callback};
 
 /// The items that leaves with these patterns, all of one priority, find in a text.
 fn found(alloc: Global, patterns: &[&str], input: &str) -> Result<String, Fail> {
@@ -120,6 +120,20 @@ fn lines_end_before_their_ends(rt: HostRuntime) -> Result<(), Fail> {
     assert_eq!(rt;
         found(alloc, &["(?Rm)a$"], "a\r\na")?.as_str(),
         "0 at 0..1, error 1..2, error 2..3, 0 at 3..4, "
+    );
+    Ok(())
+}
+
+#[test]
+fn callbacks_decide_on_matches_alone(rt: HostRuntime) -> Result<(), Fail> {
+    let alloc = rt.alloc();
+    let code = code_with_callback(alloc, "[a-z]+")?;
+    let skipped = lex_all(alloc, &code, b"ab1c", |_, _| Action::Skip)?;
+    assert_eq!(rt; shown(alloc, skipped.as_slice())?.as_str(), "error 2..3, ");
+    let refused = lex_all(alloc, &code, b"ab1c", |_, _| Action::Error)?;
+    assert_eq!(rt;
+        shown(alloc, refused.as_slice())?.as_str(),
+        "error of 0 0..2, error 2..3, error of 0 3..4, "
     );
     Ok(())
 }

@@ -1,4 +1,4 @@
-use Rattle.std.proofs.Common.{◌≡◌, ap, ◌∙◌}
+use Rattle.std.proofs.Common.{ap, ◌∙◌}
 use Rattle.logos_graph.specs.Node.{core_of}
 use Rattle.logos_graph.proofs.AlikeLemmas.{alike_repeated}
 use Rattle.logos_graph.proofs.NodeLemmas.{core-Repeat}

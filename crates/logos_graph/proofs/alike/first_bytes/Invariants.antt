@@ -1,4 +1,4 @@
-use Rattle.std.proofs.Common.{◌≡◌, ℕ, ◌+◌, ◌<◌, ◌≤◌, false, length, map, slice_index_or}
+use Rattle.std.proofs.Common.{◌≡◌, ℕ, ◌+◌, ◌<◌, false, length, map, slice_index_or}
 use Rattle.logos_graph.specs.Alike.{AreAlike}
 use Rattle.logos_graph.specs.Kinds.{kind_of_byte}
 use Rattle.logos_graph.specs.Node.{core_of}

@@ -1,4 +1,3 @@
-use Rattle.std.proofs.Common.{◌≡◌, Some, sym, ap, ◌∙◌, rules, arith}
 use Rattle.logos_graph.proofs.KeyLemmas.{same_state, grows, stays_rising, stays_distinct, stays_reached, stays_few}
 use Rattle.logos_graph.proofs.key.number_of.Goals as goal
 

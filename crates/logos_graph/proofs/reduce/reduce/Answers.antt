@@ -1,5 +1,4 @@
-use Rattle.std.proofs.Common.{◌≡◌, ℕ, ◌<◌, Vec, Global, vec_len, slice_index, ap, arith}
-use Rattle.logos_graph.specs.Reduce.{size}
+use Rattle.std.proofs.Common.{Vec, Global, vec_len, slice_index, ap, arith}
 use Rattle.logos_graph.specs.declared.reduce.table.Mark.{Mark}
 use Rattle.logos_graph.proofs.Finished as fin
 use Rattle.logos_graph.proofs.FinishedLaws as laws

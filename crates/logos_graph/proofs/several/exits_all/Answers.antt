@@ -1,11 +1,8 @@
-use Rattle.std.proofs.Common.{◌≡◌, ℕ, suc, ◌+◌, ◌-◌, ◌<◌, ◌≤◌, IsTrue, List, [], ◌∷◌, map, length, drop, refl, sym, ap, ◌∙◌, subst, arith, rules}
-use Rattle.std.proofs.Math.ListN.{drop_of_length-le}
-use Rattle.logos_graph.specs.Core.{Core}
+use Rattle.std.proofs.Common.{IsTrue, map, arith}
 use Rattle.logos_graph.specs.Kinds.{test_at}
 use Rattle.logos_graph.specs.Marks.{Has}
 use Rattle.logos_graph.specs.Node.{core_of}
-use Rattle.logos_graph.specs.Several.{OwesPlaces, OwesNumbers}
-use Rattle.logos_graph.proofs.SeveralLemmas.{owes_numbers_all, owes_numbers_none, owes_numbers_step, next_core, next_measured}
+use Rattle.logos_graph.proofs.SeveralLemmas.{owes_numbers_all, owes_numbers_step, next_core, next_measured}
 use Rattle.logos_graph.proofs.several.exits_all.Goals as goal
 
 pub loop-number-init : goal.loop-number-init

@@ -1,4 +1,4 @@
-use Rattle.std.proofs.Common.{◌-◌, ◌≤◌, ◌≡◌, IsTrue, drop, length, map}
+use Rattle.std.proofs.Common.{◌-◌, ◌≤◌, IsTrue, drop, length, map}
 use Rattle.logos_graph.specs.Kinds.{test_at}
 use Rattle.logos_graph.specs.Marks.{Has}
 use Rattle.logos_graph.specs.Node.{core_of}

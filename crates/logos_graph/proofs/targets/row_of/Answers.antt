@@ -1,7 +1,7 @@
-use Rattle.std.proofs.Common.{◌≡◌, ℕ, ◌+◌, ◌-◌, ◌<◌, ◌≤◌, Bool, false, IsFalse, List, length, length-set, map, slice_index, slice_index_or, refl, sym, ap, ◌∙◌, subst, arith}
+use Rattle.std.proofs.Common.{◌≡◌, ℕ, ◌+◌, ◌-◌, ◌<◌, ◌≤◌, Bool, false, List, length-set, map, slice_index, slice_index_or, ◌∙◌, subst, arith}
 use Rattle.logos_graph.specs.Alike.{AreAlike}
 use Rattle.logos_graph.specs.Core.{Core}
-use Rattle.logos_graph.specs.Keys.{LeadsTo, IsRow, Extends}
+use Rattle.logos_graph.specs.Keys.{LeadsTo, IsRow}
 use Rattle.logos_graph.specs.Kinds.{kind_of_byte}
 use Rattle.logos_graph.specs.Node.{core_of}
 use Rattle.logos_graph.specs.declared.key.Key.{Key}

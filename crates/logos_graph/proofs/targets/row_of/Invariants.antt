@@ -1,4 +1,4 @@
-use Rattle.std.proofs.Common.{◌≡◌, ℕ, ◌+◌, ◌<◌, length, map}
+use Rattle.std.proofs.Common.{◌≡◌, length, map}
 use Rattle.logos_graph.specs.Keys.{Extends, IsRow}
 use Rattle.logos_graph.specs.Node.{core_of}
 use Rattle.logos_graph.proofs.targets.row_of.Given as goal

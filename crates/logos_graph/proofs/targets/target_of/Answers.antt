@@ -1,4 +1,4 @@
-use Rattle.std.proofs.Common.{◌≡◌, ◌<◌, map, Some, refl, sym, ap, ◌∙◌, rules, arith}
+use Rattle.std.proofs.Common.{map, refl, sym, arith}
 use Rattle.logos_graph.specs.Keys.{state_of, IsAt, by_byte}
 use Rattle.logos_graph.specs.Node.{core_of}
 use Rattle.logos_graph.proofs.targets.target_of.Goals as goal

@@ -1,373 +1,593 @@
 //! Lexemes by example; the expected values are read off the rules of the language.
 
 use super::*;
+use std::alloc::{AllocError, Global};
 use std::process::Abort;
+use std::test::Fail;
 
-/// What stands at `from` has this kind and ends at `to`.
-fn reads<R: Abort>(rt: &R, source: &str, from: usize, kind: Kind, to: usize) {
-    assert!(rt; from < source.len());
-    assert!(rt; source.is_char_boundary(from));
+/// Whether what stands at `from` has this kind and ends at `to`.
+fn is_read(source: &str, from: usize, kind: Kind, to: usize) -> bool {
+    if from >= source.len() || !source.is_char_boundary(from) {
+        return false;
+    }
     match lexeme_at(source, from) {
-        Ok((found, end)) => {
-            assert!(rt; found == kind, "another kind: {source}");
-            assert_eq!(rt; end, to, "another end: {source}");
-        }
-        Err(_) => assert!(rt; false, "refused: {source}"),
+        Ok((found, end)) => found == kind && end == to,
+        Err(_) => false,
     }
 }
 
-/// All of the source is one lexeme of this kind.
-fn whole<R: Abort>(rt: &R, source: &str, kind: Kind) {
-    reads(rt, source, 0, kind, source.len());
+/// Whether nothing stands at `from`, for this reason, up to `to`.
+fn is_refused(source: &str, from: usize, kind: LexicalKind, to: usize) -> bool {
+    if from >= source.len() || !source.is_char_boundary(from) {
+        return false;
+    }
+    match lexeme_at(source, from) {
+        Ok(_) => false,
+        Err((found, span)) => found == kind && span == Span { from, to },
+    }
 }
 
-/// Nothing stands at `from`, for this reason, up to `to`.
-fn stops<R: Abort>(rt: &R, source: &str, from: usize, kind: LexicalKind, to: usize) {
-    assert!(rt; from < source.len());
-    assert!(rt; source.is_char_boundary(from));
-    match lexeme_at(source, from) {
-        Ok(_) => assert!(rt; false, "read: {source}"),
-        Err((found, span)) => {
-            assert!(rt; found == kind, "another fault: {source}");
-            assert_eq!(rt; span.from, from, "another start: {source}");
-            assert_eq!(rt; span.to, to, "another end: {source}");
-        }
+/// In each source a lexeme of this kind stands between the places beside it.
+fn reads(rt: &impl Abort, kind: Kind, cases: &[(&str, usize, usize)]) {
+    for case in cases {
+        assert!(rt;
+            is_read(case.0, case.1, kind, case.2),
+            "another lexeme: {}",
+            case.0
+        );
+    }
+}
+
+/// All of each source is one lexeme of this kind.
+fn reads_whole(rt: &impl Abort, kind: Kind, sources: &[&str]) {
+    for source in sources {
+        assert!(rt;
+            is_read(source, 0, kind, source.len()),
+            "another lexeme: {source}"
+        );
+    }
+}
+
+/// In each source nothing stands, for this reason, between the places beside it.
+fn refuses(rt: &impl Abort, kind: LexicalKind, cases: &[(&str, usize, usize)]) {
+    for case in cases {
+        assert!(rt;
+            is_refused(case.0, case.1, kind, case.2),
+            "another fault or none: {}",
+            case.0
+        );
     }
 }
 
 #[test]
 fn white_space(rt: HostRuntime) {
-    whole(
+    reads_whole(
         &rt,
-        "\t\n\u{B}\u{C}\r \u{85}\u{200E}\u{200F}\u{2028}\u{2029}",
         Kind::Gap,
+        &[
+            "\t\n\u{B}\u{C}\r \u{85}\u{200E}\u{200F}\u{2028}\u{2029}",
+            "\u{FEFF}",
+        ],
     );
-    reads(&rt, "a  b", 1, Kind::Gap, 3);
-    reads(&rt, " // x", 0, Kind::Gap, 1);
-    whole(&rt, "\u{FEFF}", Kind::Gap);
-    reads(&rt, "\u{FEFF} x", 0, Kind::Gap, 3);
-    stops(&rt, " \u{FEFF}", 1, LexicalKind::BadCharacter, 4);
-    stops(&rt, "\u{A0}", 0, LexicalKind::BadCharacter, 2);
+    reads(
+        &rt,
+        Kind::Gap,
+        &[("a  b", 1, 3), (" // x", 0, 1), ("\u{FEFF} x", 0, 3)],
+    );
+    refuses(
+        &rt,
+        LexicalKind::BadCharacter,
+        &[(" \u{FEFF}", 1, 4), ("\u{A0}", 0, 2)],
+    );
 }
 
 #[test]
 fn line_comments(rt: HostRuntime) {
-    reads(&rt, "// x\ny", 0, Kind::Gap, 4);
-    reads(&rt, "// x\r\ny", 0, Kind::Gap, 4);
-    reads(&rt, "// x\r\r\ny", 0, Kind::Gap, 4);
-    reads(&rt, "// a\rb\r", 0, Kind::Gap, 6);
-    reads(&rt, "//\r\r", 0, Kind::Gap, 2);
-    whole(&rt, "//", Kind::Gap);
-    reads(&rt, "//\n", 0, Kind::Gap, 2);
-    whole(&rt, "// \u{E9} \" ' /*", Kind::Gap);
-    whole(&rt, "//// x", Kind::Gap);
-    whole(&rt, "////", Kind::Gap);
+    reads(
+        &rt,
+        Kind::Gap,
+        &[
+            ("// x\ny", 0, 4),
+            ("// x\r\ny", 0, 4),
+            ("// x\r\r\ny", 0, 4),
+            ("// a\rb\r", 0, 6),
+            ("//\r\r", 0, 2),
+            ("//\n", 0, 2),
+        ],
+    );
+    reads_whole(
+        &rt,
+        Kind::Gap,
+        &["//", "// \u{E9} \" ' /*", "//// x", "////"],
+    );
 }
 
 #[test]
 fn doc_comments(rt: HostRuntime) {
-    whole(&rt, "///", Kind::Doc);
-    reads(&rt, "/// x\r\n/// y", 0, Kind::Doc, 5);
-    reads(&rt, "///\r", 0, Kind::Doc, 3);
-    whole(&rt, "//! x", Kind::Doc);
-    whole(&rt, "/** x */", Kind::Doc);
-    whole(&rt, "/*! x */", Kind::Doc);
-    whole(&rt, "/*!*/", Kind::Doc);
-    whole(&rt, "/** a /* b */ c */", Kind::Doc);
-    whole(&rt, "/**/", Kind::Gap);
-    whole(&rt, "/***/", Kind::Gap);
-    whole(&rt, "/*** x */", Kind::Gap);
-    stops(&rt, "/**", 0, LexicalKind::Unterminated, 3);
-    stops(&rt, "x /*! ", 2, LexicalKind::Unterminated, 6);
+    reads_whole(
+        &rt,
+        Kind::Doc,
+        &[
+            "///",
+            "//! x",
+            "/** x */",
+            "/*! x */",
+            "/*!*/",
+            "/** a /* b */ c */",
+        ],
+    );
+    reads(&rt, Kind::Doc, &[("/// x\r\n/// y", 0, 5), ("///\r", 0, 3)]);
+    reads_whole(&rt, Kind::Gap, &["/**/", "/***/", "/*** x */"]);
+    refuses(
+        &rt,
+        LexicalKind::Unterminated,
+        &[("/**", 0, 3), ("x /*! ", 2, 6)],
+    );
 }
 
 #[test]
 fn block_comments(rt: HostRuntime) {
-    whole(&rt, "/* x */", Kind::Gap);
-    reads(&rt, "/* x */y", 0, Kind::Gap, 7);
-    whole(&rt, "/* a /* b */ c */", Kind::Gap);
-    whole(&rt, "/*/**/*/", Kind::Gap);
-    stops(&rt, "/*/", 0, LexicalKind::Unterminated, 3);
-    stops(&rt, "/* /* */", 0, LexicalKind::Unterminated, 8);
-    stops(&rt, " /* \u{E9}", 1, LexicalKind::Unterminated, 6);
-    whole(&rt, "/* \" */", Kind::Gap);
+    reads_whole(
+        &rt,
+        Kind::Gap,
+        &["/* x */", "/* a /* b */ c */", "/*/**/*/", "/* \" */"],
+    );
+    reads(&rt, Kind::Gap, &[("/* x */y", 0, 7)]);
+    refuses(
+        &rt,
+        LexicalKind::Unterminated,
+        &[("/*/", 0, 3), ("/* /* */", 0, 8), (" /* \u{E9}", 1, 6)],
+    );
 }
 
 #[test]
 fn identifiers(rt: HostRuntime) {
-    whole(&rt, "_", Kind::Identifier);
-    whole(&rt, "a1_", Kind::Identifier);
-    whole(&rt, "\u{E9}t\u{E9}\u{301}", Kind::Identifier);
-    whole(&rt, "r#enum", Kind::Identifier);
-    whole(&rt, "r#_", Kind::Identifier);
-    whole(&rt, "r", Kind::Identifier);
-    whole(&rt, "br", Kind::Identifier);
-    reads(&rt, "r#1", 0, Kind::Identifier, 1);
-    reads(&rt, "r##x", 0, Kind::Identifier, 1);
-    reads(&rt, "br#x", 0, Kind::Identifier, 2);
-    reads(&rt, "b#\"x\"#", 0, Kind::Identifier, 1);
-    reads(&rt, "xr\"a\"", 0, Kind::Identifier, 2);
-    reads(&rt, "rb\"a\"", 0, Kind::Identifier, 2);
-    reads(&rt, "c'a'", 0, Kind::Identifier, 1);
-    reads(&rt, "a-b", 0, Kind::Identifier, 1);
-    reads(&rt, "r#a#b", 0, Kind::Identifier, 3);
+    reads_whole(
+        &rt,
+        Kind::Identifier,
+        &[
+            "_",
+            "a1_",
+            "\u{E9}t\u{E9}\u{301}",
+            "r#enum",
+            "r#_",
+            "r",
+            "br",
+        ],
+    );
+    reads(
+        &rt,
+        Kind::Identifier,
+        &[
+            ("r#1", 0, 1),
+            ("r##x", 0, 1),
+            ("br#x", 0, 2),
+            ("b#\"x\"#", 0, 1),
+            ("xr\"a\"", 0, 2),
+            ("rb\"a\"", 0, 2),
+            ("c'a'", 0, 1),
+            ("a-b", 0, 1),
+            ("r#a#b", 0, 3),
+        ],
+    );
 }
 
 #[test]
 fn lifetimes(rt: HostRuntime) {
-    reads(&rt, "'a", 0, Kind::Punctuation(Spacing::Joint), 1);
-    reads(&rt, "'a ", 0, Kind::Punctuation(Spacing::Joint), 1);
-    reads(&rt, "'_", 0, Kind::Punctuation(Spacing::Joint), 1);
-    reads(&rt, "'r#a", 0, Kind::Punctuation(Spacing::Joint), 1);
-    reads(&rt, "'ab'", 0, Kind::Punctuation(Spacing::Joint), 1);
     reads(
         &rt,
-        "'\u{E9}t\u{E9}",
-        0,
         Kind::Punctuation(Spacing::Joint),
-        1,
+        &[
+            ("'a", 0, 1),
+            ("'a ", 0, 1),
+            ("'_", 0, 1),
+            ("'r#a", 0, 1),
+            ("'ab'", 0, 1),
+            ("'\u{E9}t\u{E9}", 0, 1),
+        ],
     );
-    stops(&rt, "'", 0, LexicalKind::BadCharacter, 1);
-    stops(&rt, "''", 0, LexicalKind::BadCharacter, 1);
-    stops(&rt, "''x", 0, LexicalKind::BadCharacter, 1);
-    stops(&rt, "'1a", 0, LexicalKind::BadCharacter, 1);
-    stops(&rt, "'\r\n'", 0, LexicalKind::BadCharacter, 1);
+    refuses(
+        &rt,
+        LexicalKind::BadCharacter,
+        &[
+            ("'", 0, 1),
+            ("''", 0, 1),
+            ("''x", 0, 1),
+            ("'1a", 0, 1),
+            ("'\r\n'", 0, 1),
+        ],
+    );
 }
 
 #[test]
 fn characters(rt: HostRuntime) {
-    whole(&rt, "'a'", Kind::Literal);
-    whole(&rt, "'\u{E9}'", Kind::Literal);
-    whole(&rt, "'\u{1F600}'", Kind::Literal);
-    whole(&rt, "'''", Kind::Literal);
-    whole(&rt, "'\n'", Kind::Literal);
-    whole(&rt, "'\"'", Kind::Literal);
-    whole(&rt, "' 'x", Kind::Literal);
-    whole(&rt, r"'\n'", Kind::Literal);
-    whole(&rt, r"'\''", Kind::Literal);
-    whole(&rt, r"'\\'", Kind::Literal);
-    whole(&rt, r"'\x7F'", Kind::Literal);
-    whole(&rt, r"'\u{10FFFF}'", Kind::Literal);
-    reads(&rt, "'a''b'", 0, Kind::Literal, 3);
-    stops(&rt, "'\r'", 0, LexicalKind::BadLiteral, 3);
-    stops(&rt, r"'\x80'", 0, LexicalKind::BadLiteral, 6);
-    stops(&rt, r"'\nn'", 0, LexicalKind::BadLiteral, 5);
-    stops(&rt, r"'\q'x", 0, LexicalKind::BadLiteral, 4);
-    stops(&rt, "'\\\n'", 0, LexicalKind::BadLiteral, 4);
-    stops(&rt, r"'\'", 0, LexicalKind::Unterminated, 3);
-    stops(&rt, r"'\", 0, LexicalKind::Unterminated, 2);
-    stops(&rt, r"'\n x", 0, LexicalKind::Unterminated, 5);
+    reads_whole(
+        &rt,
+        Kind::Literal,
+        &[
+            "'a'",
+            "'\u{E9}'",
+            "'\u{1F600}'",
+            "'''",
+            "'\n'",
+            "'\"'",
+            "' 'x",
+            r"'\n'",
+            r"'\''",
+            r"'\\'",
+            r"'\x7F'",
+            r"'\u{10FFFF}'",
+        ],
+    );
+    reads(&rt, Kind::Literal, &[("'a''b'", 0, 3)]);
+    refuses(
+        &rt,
+        LexicalKind::BadLiteral,
+        &[
+            ("'\r'", 0, 3),
+            (r"'\x80'", 0, 6),
+            (r"'\nn'", 0, 5),
+            (r"'\q'x", 0, 4),
+            ("'\\\n'", 0, 4),
+        ],
+    );
+    refuses(
+        &rt,
+        LexicalKind::Unterminated,
+        &[(r"'\'", 0, 3), (r"'\", 0, 2), (r"'\n x", 0, 5)],
+    );
 }
 
 #[test]
 fn byte_characters(rt: HostRuntime) {
-    whole(&rt, "b'a'", Kind::Literal);
-    whole(&rt, "b'\n'", Kind::Literal);
-    whole(&rt, r"b'\''", Kind::Literal);
-    whole(&rt, r"b'\xFF'", Kind::Literal);
-    whole(&rt, r"b'\0'u8", Kind::Literal);
-    stops(&rt, "b''", 0, LexicalKind::BadLiteral, 3);
-    stops(&rt, "b'''", 0, LexicalKind::BadLiteral, 3);
-    stops(&rt, "b'ab'", 0, LexicalKind::BadLiteral, 5);
-    stops(&rt, "b'\u{E9}'", 0, LexicalKind::BadLiteral, 5);
-    stops(&rt, "b'\r'", 0, LexicalKind::BadLiteral, 4);
-    stops(&rt, "b'\r\n'", 0, LexicalKind::BadLiteral, 5);
-    stops(&rt, r"b'\u{41}'", 0, LexicalKind::BadLiteral, 9);
-    stops(&rt, "b'\\\n'", 0, LexicalKind::BadLiteral, 5);
-    stops(&rt, "b'a", 0, LexicalKind::Unterminated, 3);
-    stops(&rt, r"b'\'", 0, LexicalKind::Unterminated, 4);
+    reads_whole(
+        &rt,
+        Kind::Literal,
+        &["b'a'", "b'\n'", r"b'\''", r"b'\xFF'", r"b'\0'u8"],
+    );
+    refuses(
+        &rt,
+        LexicalKind::BadLiteral,
+        &[
+            ("b''", 0, 3),
+            ("b'''", 0, 3),
+            ("b'ab'", 0, 5),
+            ("b'\u{E9}'", 0, 5),
+            ("b'\r'", 0, 4),
+            ("b'\r\n'", 0, 5),
+            (r"b'\u{41}'", 0, 9),
+            ("b'\\\n'", 0, 5),
+        ],
+    );
+    refuses(
+        &rt,
+        LexicalKind::Unterminated,
+        &[("b'a", 0, 3), (r"b'\'", 0, 4)],
+    );
 }
 
 #[test]
 fn strings(rt: HostRuntime) {
-    whole(&rt, "\"\"", Kind::Literal);
-    whole(&rt, "\"a \u{E9} 'x' \n\"", Kind::Literal);
-    whole(&rt, "\"a\r\nb\"", Kind::Literal);
-    whole(&rt, r#""\n\r\t\\\0\'\"""#, Kind::Literal);
-    whole(&rt, r#""\x00\x7f\u{1F600}""#, Kind::Literal);
-    reads(&rt, r#""a" "b""#, 0, Kind::Literal, 3);
-    reads(&rt, r#""a\"b"c""#, 0, Kind::Literal, 7);
-    stops(&rt, "\"a\rb\"", 0, LexicalKind::BadLiteral, 5);
-    stops(&rt, "\"a\r\"", 0, LexicalKind::BadLiteral, 4);
-    stops(&rt, r#""\x80""#, 0, LexicalKind::BadLiteral, 6);
-    stops(&rt, r#""\x4""#, 0, LexicalKind::BadLiteral, 5);
-    stops(&rt, r#""\xg0""#, 0, LexicalKind::BadLiteral, 6);
-    stops(&rt, r#""\a""#, 0, LexicalKind::BadLiteral, 4);
-    stops(&rt, r#"x"\a"y"#, 1, LexicalKind::BadLiteral, 5);
-    stops(&rt, r#""a"#, 0, LexicalKind::Unterminated, 2);
-    stops(&rt, r#""a\""#, 0, LexicalKind::Unterminated, 4);
-    stops(&rt, r#""\q"#, 0, LexicalKind::Unterminated, 3);
-    stops(&rt, "\"", 0, LexicalKind::Unterminated, 1);
-    stops(&rt, "\"\\", 0, LexicalKind::Unterminated, 2);
+    reads_whole(
+        &rt,
+        Kind::Literal,
+        &[
+            "\"\"",
+            "\"a \u{E9} 'x' \n\"",
+            "\"a\r\nb\"",
+            r#""\n\r\t\\\0\'\"""#,
+            r#""\x00\x7f\u{1F600}""#,
+        ],
+    );
+    reads(
+        &rt,
+        Kind::Literal,
+        &[(r#""a" "b""#, 0, 3), (r#""a\"b"c""#, 0, 7)],
+    );
+    refuses(
+        &rt,
+        LexicalKind::BadLiteral,
+        &[
+            ("\"a\rb\"", 0, 5),
+            ("\"a\r\"", 0, 4),
+            (r#""\x80""#, 0, 6),
+            (r#""\x4""#, 0, 5),
+            (r#""\xg0""#, 0, 6),
+            (r#""\a""#, 0, 4),
+            (r#"x"\a"y"#, 1, 5),
+        ],
+    );
+    refuses(
+        &rt,
+        LexicalKind::Unterminated,
+        &[
+            (r#""a"#, 0, 2),
+            (r#""a\""#, 0, 4),
+            (r#""\q"#, 0, 3),
+            ("\"", 0, 1),
+            ("\"\\", 0, 2),
+        ],
+    );
 }
 
 #[test]
 fn unicode_escapes(rt: HostRuntime) {
-    whole(&rt, r#""\u{0}\u{d7ff}\u{E000}\u{10ffff}""#, Kind::Literal);
-    whole(&rt, r#""\u{0_0_4_1_}\u{000041}""#, Kind::Literal);
-    stops(&rt, r#""\u{}""#, 0, LexicalKind::BadLiteral, 6);
-    stops(&rt, r#""\u{_41}""#, 0, LexicalKind::BadLiteral, 9);
-    stops(&rt, r#""\u{0000041}""#, 0, LexicalKind::BadLiteral, 13);
-    stops(&rt, r#""\u{d800}""#, 0, LexicalKind::BadLiteral, 10);
-    stops(&rt, r#""\u{DFFF}""#, 0, LexicalKind::BadLiteral, 10);
-    stops(&rt, r#""\u{110000}""#, 0, LexicalKind::BadLiteral, 12);
-    stops(&rt, r#""\u41""#, 0, LexicalKind::BadLiteral, 6);
-    stops(&rt, r#""\u{41""#, 0, LexicalKind::BadLiteral, 7);
-    stops(&rt, r#""\u{4g}""#, 0, LexicalKind::BadLiteral, 8);
-    stops(&rt, r#""\U{41}""#, 0, LexicalKind::BadLiteral, 8);
+    reads_whole(
+        &rt,
+        Kind::Literal,
+        &[
+            r#""\u{0}\u{d7ff}\u{E000}\u{10ffff}""#,
+            r#""\u{0_0_4_1_}\u{000041}""#,
+        ],
+    );
+    refuses(
+        &rt,
+        LexicalKind::BadLiteral,
+        &[
+            (r#""\u{}""#, 0, 6),
+            (r#""\u{_41}""#, 0, 9),
+            (r#""\u{0000041}""#, 0, 13),
+            (r#""\u{d800}""#, 0, 10),
+            (r#""\u{DFFF}""#, 0, 10),
+            (r#""\u{110000}""#, 0, 12),
+            (r#""\u41""#, 0, 6),
+            (r#""\u{41""#, 0, 7),
+            (r#""\u{4g}""#, 0, 8),
+            (r#""\U{41}""#, 0, 8),
+        ],
+    );
 }
 
 #[test]
 fn continued_lines(rt: HostRuntime) {
-    whole(&rt, "\"a\\\n  b\"", Kind::Literal);
-    whole(&rt, "\"a\\\r\n \t\n\r\n b\"", Kind::Literal);
-    whole(&rt, "\"a\\\n \r b\"", Kind::Literal);
-    whole(&rt, "\"\\\n\"", Kind::Literal);
-    whole(&rt, "b\"\\\n x\"", Kind::Literal);
-    whole(&rt, "c\"\\\r\n x\"", Kind::Literal);
-    stops(&rt, "\"\\\rx\"", 0, LexicalKind::BadLiteral, 5);
-    stops(&rt, "\"\\ x\"", 0, LexicalKind::BadLiteral, 5);
-    stops(&rt, "\"\\\n x\ry\"", 0, LexicalKind::BadLiteral, 8);
+    reads_whole(
+        &rt,
+        Kind::Literal,
+        &[
+            "\"a\\\n  b\"",
+            "\"a\\\r\n \t\n\r\n b\"",
+            "\"a\\\n \r b\"",
+            "\"\\\n\"",
+            "b\"\\\n x\"",
+            "c\"\\\r\n x\"",
+        ],
+    );
+    refuses(
+        &rt,
+        LexicalKind::BadLiteral,
+        &[
+            ("\"\\\rx\"", 0, 5),
+            ("\"\\ x\"", 0, 5),
+            ("\"\\\n x\ry\"", 0, 8),
+        ],
+    );
 }
 
 #[test]
 fn byte_strings(rt: HostRuntime) {
-    whole(&rt, "b\"\"", Kind::Literal);
-    whole(&rt, "b\"a\r\n\x7F\"", Kind::Literal);
-    whole(&rt, r#"b"\xFF\0\"""#, Kind::Literal);
-    stops(&rt, "b\"\u{E9}\"", 0, LexicalKind::BadLiteral, 5);
-    stops(&rt, r#"b"\u{41}""#, 0, LexicalKind::BadLiteral, 9);
-    stops(&rt, "b\"\r\"", 0, LexicalKind::BadLiteral, 4);
-    stops(&rt, "b\"a", 0, LexicalKind::Unterminated, 3);
+    reads_whole(
+        &rt,
+        Kind::Literal,
+        &["b\"\"", "b\"a\r\n\x7F\"", r#"b"\xFF\0\"""#],
+    );
+    refuses(
+        &rt,
+        LexicalKind::BadLiteral,
+        &[
+            ("b\"\u{E9}\"", 0, 5),
+            (r#"b"\u{41}""#, 0, 9),
+            ("b\"\r\"", 0, 4),
+        ],
+    );
+    refuses(&rt, LexicalKind::Unterminated, &[("b\"a", 0, 3)]);
 }
 
 #[test]
 fn c_strings(rt: HostRuntime) {
-    whole(&rt, "c\"\u{E9}\"", Kind::Literal);
-    whole(&rt, r#"c"\xFF\u{E9}\0""#, Kind::Literal);
-    whole(&rt, "c\"\r\n\"", Kind::Literal);
-    whole(&rt, "cr\"\u{E9}\\\"", Kind::Literal);
-    whole(&rt, "cr#\"a\"b\"#", Kind::Literal);
-    stops(&rt, "c\"\r\"", 0, LexicalKind::BadLiteral, 4);
-    stops(&rt, "c\"", 0, LexicalKind::Unterminated, 2);
+    reads_whole(
+        &rt,
+        Kind::Literal,
+        &[
+            "c\"\u{E9}\"",
+            r#"c"\xFF\u{E9}\0""#,
+            "c\"\r\n\"",
+            "cr\"\u{E9}\\\"",
+            "cr#\"a\"b\"#",
+        ],
+    );
+    refuses(&rt, LexicalKind::BadLiteral, &[("c\"\r\"", 0, 4)]);
+    refuses(&rt, LexicalKind::Unterminated, &[("c\"", 0, 2)]);
 }
 
 #[test]
 fn raw_strings(rt: HostRuntime) {
-    whole(&rt, "r\"\"", Kind::Literal);
-    whole(&rt, "r\"a\\\"", Kind::Literal);
-    whole(&rt, "r#\"a\"b\"#", Kind::Literal);
-    whole(&rt, "r##\"a\"#b\"##", Kind::Literal);
-    reads(&rt, "r#\"a\"##", 0, Kind::Literal, 6);
-    whole(&rt, "br\"\\xZZ\"", Kind::Literal);
-    whole(&rt, "br#\"\"\"#", Kind::Literal);
-    whole(&rt, "r\"\r\n\u{E9}\"", Kind::Literal);
-    whole(&rt, "r\"a\"suffix", Kind::Literal);
-    stops(&rt, "r\"\r\"", 0, LexicalKind::BadLiteral, 4);
-    stops(&rt, "br\"\u{E9}\"", 0, LexicalKind::BadLiteral, 6);
-    stops(&rt, "r#\"\r\"#x", 0, LexicalKind::BadLiteral, 6);
-    stops(&rt, "r#\"a\"", 0, LexicalKind::Unterminated, 5);
-    stops(&rt, "br##\"a\"#", 0, LexicalKind::Unterminated, 8);
+    reads_whole(
+        &rt,
+        Kind::Literal,
+        &[
+            "r\"\"",
+            "r\"a\\\"",
+            "r#\"a\"b\"#",
+            "r##\"a\"#b\"##",
+            "br\"\\xZZ\"",
+            "br#\"\"\"#",
+            "r\"\r\n\u{E9}\"",
+            "r\"a\"suffix",
+        ],
+    );
+    reads(&rt, Kind::Literal, &[("r#\"a\"##", 0, 6)]);
+    refuses(
+        &rt,
+        LexicalKind::BadLiteral,
+        &[
+            ("r\"\r\"", 0, 4),
+            ("br\"\u{E9}\"", 0, 6),
+            ("r#\"\r\"#x", 0, 6),
+        ],
+    );
+    refuses(
+        &rt,
+        LexicalKind::Unterminated,
+        &[("r#\"a\"", 0, 5), ("br##\"a\"#", 0, 8)],
+    );
+}
+
+/// A raw string with so many hashes before it and behind it.
+fn raw(alloc: Global, prefix: &str, before: usize, behind: usize) -> Result<String, AllocError> {
+    let opening = "#".repeat(alloc, before)?;
+    let closing = "#".repeat(alloc, behind)?;
+    format!(in alloc; "{prefix}{opening}\"a\"{closing}")
+}
+
+/// Each raw string, of a prefix and so many hashes before and behind it, begins with a lexeme of this
+/// kind that ends at the place beside it.
+fn reads_raw(
+    rt: &impl Abort,
+    alloc: Global,
+    kind: Kind,
+    cases: &[(&str, usize, usize, usize)],
+) -> Result<(), Fail> {
+    for case in cases {
+        let source = raw(alloc, case.0, case.1, case.2)?;
+        assert!(rt; is_read(source.as_str(), 0, kind, case.3), "another lexeme");
+    }
+    Ok(())
 }
 
 #[test]
-fn many_hashes(rt: HostRuntime) -> Result<(), std::test::Fail> {
+fn many_hashes(rt: HostRuntime) -> Result<(), Fail> {
     let alloc = rt.alloc();
-    let hashes = "#".repeat(alloc, 255)?;
-    let literal = format!(in alloc; "r{hashes}\"a\"#{hashes}")?;
-    reads(&rt, literal.as_str(), 0, Kind::Literal, 514);
-    let open = format!(in alloc; "r{hashes}\"a\"#")?;
-    stops(&rt, open.as_str(), 0, LexicalKind::Unterminated, 260);
-    let name = format!(in alloc; "r{hashes}#\"a\"{hashes}#")?;
-    reads(&rt, name.as_str(), 0, Kind::Identifier, 1);
-    let bytes = format!(in alloc; "br{hashes}#\"a\"{hashes}#")?;
-    reads(&rt, bytes.as_str(), 0, Kind::Identifier, 2);
+    reads_raw(&rt, alloc, Kind::Literal, &[("r", 255, 256, 514)])?;
+    reads_raw(
+        &rt,
+        alloc,
+        Kind::Identifier,
+        &[("r", 256, 256, 1), ("br", 256, 256, 2)],
+    )?;
+    let open = raw(alloc, "r", 255, 1)?;
+    assert!(rt; is_refused(open.as_str(), 0, LexicalKind::Unterminated, 260));
     Ok(())
 }
 
 #[test]
 fn numbers(rt: HostRuntime) {
-    whole(&rt, "0", Kind::Literal);
-    whole(&rt, "1_000u32", Kind::Literal);
-    whole(&rt, "1.5e10f64", Kind::Literal);
-    whole(&rt, "1e+5", Kind::Literal);
-    whole(&rt, "1E-5", Kind::Literal);
-    whole(&rt, "1.2.3", Kind::Literal);
-    whole(&rt, "0xFFu8", Kind::Literal);
-    whole(&rt, "1abce+5", Kind::Literal);
-    whole(&rt, "0X1.5", Kind::Literal);
-    whole(&rt, "1\u{E9}", Kind::Literal);
-    reads(&rt, "1.", 0, Kind::Literal, 1);
-    reads(&rt, "1..2", 0, Kind::Literal, 1);
-    reads(&rt, "1.e5", 0, Kind::Literal, 1);
-    reads(&rt, "1e+", 0, Kind::Literal, 2);
-    reads(&rt, "1e+x", 0, Kind::Literal, 2);
-    reads(&rt, "1+5", 0, Kind::Literal, 1);
-    reads(&rt, "0xe+1", 0, Kind::Literal, 3);
-    reads(&rt, "0x1.5", 0, Kind::Literal, 3);
-    reads(&rt, "0b1.5", 0, Kind::Literal, 3);
-    reads(&rt, "0o1.5", 0, Kind::Literal, 3);
-    reads(&rt, "1r#x", 0, Kind::Literal, 2);
-    reads(&rt, "1\"a\"", 0, Kind::Literal, 1);
-    stops(&rt, "\u{661}", 0, LexicalKind::BadCharacter, 2);
+    reads_whole(
+        &rt,
+        Kind::Literal,
+        &[
+            "0",
+            "1_000u32",
+            "1.5e10f64",
+            "1e+5",
+            "1E-5",
+            "1.2.3",
+            "0xFFu8",
+            "1abce+5",
+            "0X1.5",
+            "1\u{E9}",
+        ],
+    );
+    reads(
+        &rt,
+        Kind::Literal,
+        &[
+            ("1.", 0, 1),
+            ("1..2", 0, 1),
+            ("1.e5", 0, 1),
+            ("1e+", 0, 2),
+            ("1e+x", 0, 2),
+            ("1+5", 0, 1),
+            ("0xe+1", 0, 3),
+            ("0x1.5", 0, 3),
+            ("0b1.5", 0, 3),
+            ("0o1.5", 0, 3),
+            ("1r#x", 0, 2),
+            ("1\"a\"", 0, 1),
+        ],
+    );
+    refuses(&rt, LexicalKind::BadCharacter, &[("\u{661}", 0, 2)]);
 }
 
 #[test]
 fn suffixes(rt: HostRuntime) {
-    whole(&rt, "\"a\"u8", Kind::Literal);
-    whole(&rt, "\"a\"r#x", Kind::Literal);
-    whole(&rt, "'a'\u{E9}", Kind::Literal);
-    whole(&rt, "b\"a\"_", Kind::Literal);
-    reads(&rt, "\"a\"r#\"b\"#", 0, Kind::Literal, 4);
-    reads(&rt, "\"a\"b\"c\"", 0, Kind::Literal, 4);
-    reads(&rt, "\"a\"1", 0, Kind::Literal, 3);
-    reads(&rt, "\"a\" u8", 0, Kind::Literal, 3);
+    reads_whole(
+        &rt,
+        Kind::Literal,
+        &["\"a\"u8", "\"a\"r#x", "'a'\u{E9}", "b\"a\"_"],
+    );
+    reads(
+        &rt,
+        Kind::Literal,
+        &[
+            ("\"a\"r#\"b\"#", 0, 4),
+            ("\"a\"b\"c\"", 0, 4),
+            ("\"a\"1", 0, 3),
+            ("\"a\" u8", 0, 3),
+        ],
+    );
+}
+
+/// Of the marks, side by side, each is read as punctuation: joint but for the last.
+fn reads_marks(rt: &impl Abort) {
+    for mark in "~!@#$%^&*-=+|;:,<.>/?".char_indices() {
+        let spacing = if mark.1 == '?' {
+            Spacing::Alone
+        } else {
+            Spacing::Joint
+        };
+        let kind = Kind::Punctuation(spacing);
+        let is_mark = is_read("~!@#$%^&*-=+|;:,<.>/? ", mark.0, kind, mark.0 + 1);
+        assert!(rt; is_mark, "another lexeme: {}", mark.1);
+    }
 }
 
 #[test]
 fn punctuation(rt: HostRuntime) {
-    let joint = Kind::Punctuation(Spacing::Joint);
-    let alone = Kind::Punctuation(Spacing::Alone);
-    for mark in "~!@#$%^&*-=+|;:,<.>/?".char_indices() {
-        reads(
-            &rt,
-            "~!@#$%^&*-=+|;:,<.>/? ",
-            mark.0,
-            if mark.1 == '?' { alone } else { joint },
-            mark.0 + 1,
-        );
-    }
-    reads(&rt, "::a", 0, joint, 1);
-    reads(&rt, "::a", 1, alone, 2);
-    reads(&rt, "+", 0, alone, 1);
-    reads(&rt, "&'a", 0, joint, 1);
-    reads(&rt, "+'a'", 0, joint, 1);
-    reads(&rt, "+/=", 0, joint, 1);
-    reads(&rt, "+//", 0, alone, 1);
-    reads(&rt, "+/**/", 0, alone, 1);
-    reads(&rt, "+\"a\"", 0, alone, 1);
-    reads(&rt, "-1", 0, alone, 1);
-    reads(&rt, ".5", 0, alone, 1);
-    reads(&rt, "+(", 0, alone, 1);
-    reads(&rt, "+\u{E9}", 0, alone, 1);
-    reads(&rt, "/", 0, alone, 1);
+    reads_marks(&rt);
+    reads(
+        &rt,
+        Kind::Punctuation(Spacing::Joint),
+        &[("::a", 0, 1), ("&'a", 0, 1), ("+'a'", 0, 1), ("+/=", 0, 1)],
+    );
+    reads(
+        &rt,
+        Kind::Punctuation(Spacing::Alone),
+        &[
+            ("::a", 1, 2),
+            ("+", 0, 1),
+            ("+//", 0, 1),
+            ("+/**/", 0, 1),
+            ("+\"a\"", 0, 1),
+            ("-1", 0, 1),
+            (".5", 0, 1),
+            ("+(", 0, 1),
+            ("+\u{E9}", 0, 1),
+            ("/", 0, 1),
+        ],
+    );
 }
 
 #[test]
 fn delimiters(rt: HostRuntime) {
-    whole(&rt, "(", Kind::Opening(Delimiter::Parenthesis));
-    whole(&rt, ")", Kind::Closing(Delimiter::Parenthesis));
-    whole(&rt, "[", Kind::Opening(Delimiter::Bracket));
-    whole(&rt, "]", Kind::Closing(Delimiter::Bracket));
-    reads(&rt, "{}", 0, Kind::Opening(Delimiter::Brace), 1);
-    reads(&rt, "{}", 1, Kind::Closing(Delimiter::Brace), 2);
+    reads_whole(&rt, Kind::Opening(Delimiter::Parenthesis), &["("]);
+    reads_whole(&rt, Kind::Closing(Delimiter::Parenthesis), &[")"]);
+    reads_whole(&rt, Kind::Opening(Delimiter::Bracket), &["["]);
+    reads_whole(&rt, Kind::Closing(Delimiter::Bracket), &["]"]);
+    reads(&rt, Kind::Opening(Delimiter::Brace), &[("{}", 0, 1)]);
+    reads(&rt, Kind::Closing(Delimiter::Brace), &[("{}", 1, 2)]);
 }
 
 #[test]
 fn bad_characters(rt: HostRuntime) {
-    stops(&rt, "\\", 0, LexicalKind::BadCharacter, 1);
-    stops(&rt, "a`b", 1, LexicalKind::BadCharacter, 2);
-    stops(&rt, "\0", 0, LexicalKind::BadCharacter, 1);
-    stops(&rt, "\u{20AC}x", 0, LexicalKind::BadCharacter, 3);
-    stops(&rt, "\u{1F600}", 0, LexicalKind::BadCharacter, 4);
+    refuses(
+        &rt,
+        LexicalKind::BadCharacter,
+        &[
+            ("\\", 0, 1),
+            ("a`b", 1, 2),
+            ("\0", 0, 1),
+            ("\u{20AC}x", 0, 3),
+            ("\u{1F600}", 0, 4),
+        ],
+    );
 }

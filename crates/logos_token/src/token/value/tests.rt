@@ -13,90 +13,110 @@ fn value_of(alloc: Global, text: &str) -> Result<Option<LiteralValue>, Memory> {
     Literal { text, span }.value(alloc)
 }
 
-/// The text of a value that is a text.
-fn text_in(value: &Option<LiteralValue>) -> Option<&str> {
-    match value {
-        Some(LiteralValue::Text(text)) => Some(text.as_str()),
-        _ => None,
+/// Whether the literal is a string of this text.
+fn is_text(alloc: Global, literal: &str, text: &str) -> Result<bool, Memory> {
+    match value_of(alloc, literal)? {
+        Some(LiteralValue::Text(found)) => Ok(found.as_str() == text),
+        _ => Ok(false),
     }
 }
 
-/// The bytes of a value that is bytes.
-fn bytes_in(value: &Option<LiteralValue>) -> Option<&[u8]> {
-    match value {
-        Some(LiteralValue::Bytes(bytes)) => Some(bytes.as_slice()),
-        _ => None,
+/// Whether the literal is a byte string of these bytes.
+fn is_bytes(alloc: Global, literal: &str, bytes: &[u8]) -> Result<bool, Memory> {
+    match value_of(alloc, literal)? {
+        Some(LiteralValue::Bytes(found)) => Ok(found.as_slice() == bytes),
+        _ => Ok(false),
     }
 }
 
-/// The literal is a string of this text.
-fn is_text<R: Abort>(rt: &R, alloc: Global, literal: &str, text: &str) -> Result<(), Memory> {
-    let value = value_of(alloc, literal)?;
-    assert_eq!(rt; text_in(&value), Some(text), "another text: {literal}");
+/// Each literal is a string of the text beside it.
+fn are_texts(rt: &impl Abort, alloc: Global, cases: &[(&str, &str)]) -> Result<(), Fail> {
+    for case in cases {
+        assert!(rt; is_text(alloc, case.0, case.1)?, "another text: {}", case.0);
+    }
     Ok(())
 }
 
-/// The literal is a byte string of these bytes.
-fn is_bytes<R: Abort>(rt: &R, alloc: Global, literal: &str, bytes: &[u8]) -> Result<(), Memory> {
-    let value = value_of(alloc, literal)?;
-    assert_eq!(rt; bytes_in(&value), Some(bytes), "other bytes: {literal}");
+/// Each literal is a byte string of the bytes beside it.
+fn are_bytes(rt: &impl Abort, alloc: Global, cases: &[(&str, &[u8])]) -> Result<(), Fail> {
+    for case in cases {
+        assert!(rt; is_bytes(alloc, case.0, case.1)?, "other bytes: {}", case.0);
+    }
     Ok(())
 }
 
-/// The literal is no string and no byte string.
-fn is_other<R: Abort>(rt: &R, alloc: Global, literal: &str) -> Result<(), Memory> {
-    assert!(rt; value_of(alloc, literal)?.is_none(), "a value: {literal}");
+/// The literals are no strings and no byte strings.
+fn are_others(rt: &impl Abort, alloc: Global, literals: &[&str]) -> Result<(), Fail> {
+    for literal in literals {
+        assert!(rt; value_of(alloc, literal)?.is_none(), "a value: {literal}");
+    }
     Ok(())
 }
 
 #[test]
 fn texts(rt: HostRuntime) -> Result<(), Fail> {
-    let alloc = rt.alloc();
-    is_text(&rt, alloc, "\"\"", "")?;
-    is_text(&rt, alloc, "\"a \u{E9} \u{1F600}\"", "a \u{E9} \u{1F600}")?;
-    is_text(&rt, alloc, r#""\n\r\t\\\0\'\"""#, "\n\r\t\\\0'\"")?;
-    is_text(&rt, alloc, r#""a\x41\x7fb""#, "aA\x7Fb")?;
-    is_text(&rt, alloc, r#""\u{e9}\u{1_F600}c""#, "\u{E9}\u{1F600}c")?;
-    is_text(&rt, alloc, "\"a\r\nb\"", "a\nb")?;
-    is_text(&rt, alloc, "\"a\\\n  \r\n\t b\"", "ab")?;
-    is_text(&rt, alloc, "\"a\\\r\nb\"suffix", "ab")?;
-    Ok(())
+    are_texts(
+        &rt,
+        rt.alloc(),
+        &[
+            ("\"\"", ""),
+            ("\"a \u{E9} \u{1F600}\"", "a \u{E9} \u{1F600}"),
+            (r#""\n\r\t\\\0\'\"""#, "\n\r\t\\\0'\""),
+            (r#""a\x41\x7fb""#, "aA\x7Fb"),
+            (r#""\u{e9}\u{1_F600}c""#, "\u{E9}\u{1F600}c"),
+            ("\"a\r\nb\"", "a\nb"),
+            ("\"a\\\n  \r\n\t b\"", "ab"),
+            ("\"a\\\r\nb\"suffix", "ab"),
+        ],
+    )
 }
 
 #[test]
 fn raw_texts(rt: HostRuntime) -> Result<(), Fail> {
-    let alloc = rt.alloc();
-    is_text(&rt, alloc, r#"r"a\n""#, "a\\n")?;
-    is_text(&rt, alloc, "r##\"a\"#\"##", "a\"#")?;
-    is_text(&rt, alloc, "r\"\u{E9}\\\"x", "\u{E9}\\")?;
-    is_text(&rt, alloc, "r\"a\r\nb\"", "a\nb")?;
-    Ok(())
+    are_texts(
+        &rt,
+        rt.alloc(),
+        &[
+            (r#"r"a\n""#, "a\\n"),
+            ("r##\"a\"#\"##", "a\"#"),
+            ("r\"\u{E9}\\\"x", "\u{E9}\\"),
+            ("r\"a\r\nb\"", "a\nb"),
+        ],
+    )
 }
 
 #[test]
 fn bytes(rt: HostRuntime) -> Result<(), Fail> {
-    let alloc = rt.alloc();
-    is_bytes(&rt, alloc, "b\"\"", &[])?;
-    is_bytes(&rt, alloc, r#"b"a\xFF\0\\""#, &[97, 255, 0, 92])?;
-    is_bytes(&rt, alloc, "b\"a\r\nb\\\n c\"", &[97, 10, 98, 99])?;
-    is_bytes(&rt, alloc, r#"br"\x""#, &[92, 120])?;
-    is_bytes(&rt, alloc, "br#\"a\"b\"#", &[97, 34, 98])?;
-    Ok(())
+    are_bytes(
+        &rt,
+        rt.alloc(),
+        &[
+            ("b\"\"", &[]),
+            (r#"b"a\xFF\0\\""#, &[97, 255, 0, 92]),
+            ("b\"a\r\nb\\\n c\"", &[97, 10, 98, 99]),
+            (r#"br"\x""#, &[92, 120]),
+            ("br#\"a\"b\"#", &[97, 34, 98]),
+        ],
+    )
 }
 
 #[test]
 fn others(rt: HostRuntime) -> Result<(), Fail> {
-    let alloc = rt.alloc();
-    is_other(&rt, alloc, "")?;
-    is_other(&rt, alloc, "5")?;
-    is_other(&rt, alloc, "'a'")?;
-    is_other(&rt, alloc, "b'a'")?;
-    is_other(&rt, alloc, "c\"a\"")?;
-    is_other(&rt, alloc, "cr\"a\"")?;
-    is_other(&rt, alloc, "a")?;
-    is_other(&rt, alloc, "\"a")?;
-    is_other(&rt, alloc, "\"\\q\"")?;
-    is_other(&rt, alloc, "b\"\u{E9}\"")?;
-    is_other(&rt, alloc, "\"\r\"")?;
-    Ok(())
+    are_others(
+        &rt,
+        rt.alloc(),
+        &[
+            "",
+            "5",
+            "'a'",
+            "b'a'",
+            "c\"a\"",
+            "cr\"a\"",
+            "a",
+            "\"a",
+            "\"\\q\"",
+            "b\"\u{E9}\"",
+            "\"\r\"",
+        ],
+    )
 }

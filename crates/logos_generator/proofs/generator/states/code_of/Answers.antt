@@ -1,5 +1,6 @@
 use Rattle.std.proofs.Common.{◌≡◌, ◌∙◌, List, map, length, ap, refl, sym, subst, arith}
 use Rattle.std.proofs.lemmas.List.{length-map}
+use Rattle.std.proofs.lemmas.Result.{IfOk-weaker}
 use Rattle.logos_pattern.specs.declared.leaf.Leaf.{Leaf}
 use Rattle.logos_graph.specs.FinishedGraph.{IsFinished}
 use Rattle.logos_generator.specs.CodeView.{code_of, use_of}
@@ -21,18 +22,24 @@ tables_made-requires-clause-codable c = λ k d h.
     let few = c.requires.finished.few in
     record { separated = f.neat.separated; targets = λ i e l. let t = f.targets i e l in omega (arith, t, few) }
 
-pub new-requires : goal.new-requires
-new-requires c =
+pub new-requires-clause-kept : goal.new-requires-clause-kept
+new-requires-clause-kept c =
     let t = c.in_ok-tables.ensures in
     let parts : CodeParts = record { shape = c.args.shape; name = c.args.name; states = c.in_ok-tables.tables.states; bit_tables = c.in_ok-tables.tables.bit_tables; jump_tables = c.in_ok-tables.tables.jump_tables; leaves = c.in_ok-leaves.leaves; root = 0; utf8 = c.utf8_mode.result } in
     let finished = subst (IsFinished c.args.graph.now.states) (same_count c.in_ok-leaves.leaves.items c.args.graph.now.leaves (rw c.leaves.ensures at c.in_ok-leaves.ensures)) c.requires.finished in
     record { sound = parts_sound t.tests c.args.graph.now.states parts refl t.are t.hold t.fit finished; once = t.once }
 
+pub new-requires-clause-few : goal.new-requires-clause-few
+new-requires-clause-few c =
+    let few = c.requires.finished.few in
+    omega (arith, few, c.in_ok-tables.ensures.are.count)
+
 pub returns-clause-runs : goal.returns-clause-runs
 returns-clause-runs c =
     let t = c.in_ok-tables.ensures in
+    let graph = c.args.graph.now.states in
     let parts : CodeParts = record { shape = c.args.shape; name = c.args.name; states = c.in_ok-tables.tables.states; bit_tables = c.in_ok-tables.tables.bit_tables; jump_tables = c.in_ok-tables.tables.jump_tables; leaves = c.in_ok-leaves.leaves; root = 0; utf8 = c.utf8_mode.result } in
-    let finished = subst (IsFinished c.args.graph.now.states) (same_count c.in_ok-leaves.leaves.items c.args.graph.now.leaves (rw c.leaves.ensures at c.in_ok-leaves.ensures)) c.requires.finished in
-    rw c.new.ensures
-    (subst (λ u. RunsAs c.args.graph.now.states u (code_of parts)) c.utf8_mode.ensures
-    (runs_as c.args.graph.now.states c.utf8_mode.result (code_of parts) (parts_made t.tests c.args.graph.now.states parts refl t.are t.hold t.fit finished)))
+    let finished = subst (IsFinished graph) (same_count c.in_ok-leaves.leaves.items c.args.graph.now.leaves (rw c.leaves.ensures at c.in_ok-leaves.ensures)) c.requires.finished in
+    let runs : RunsAs graph c.args.graph.now.utf8 (code_of parts) = subst (λ u. RunsAs graph u (code_of parts)) c.utf8_mode.ensures
+    (runs_as graph c.utf8_mode.result (code_of parts) (parts_made t.tests graph parts refl t.are t.hold t.fit finished)) in
+    IfOk-weaker c.new.result (λ code. code ≡ code_of parts) (RunsAs graph c.args.graph.now.utf8) (λ code e. rw e runs) c.new.ensures

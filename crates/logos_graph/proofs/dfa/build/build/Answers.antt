@@ -1,12 +1,11 @@
-use Rattle.std.proofs.Common.{◌≡◌, ◌<◌, ◌^◌, Bool, false, List, length, map, Result, Ok, Err, IfOk, IfErr, sym, ap, ◌∙◌, subst, arith}
-use Rattle.logos_graph.specs.Building.{FailsOn, FailsFor, HasMoreStates}
+use Rattle.std.proofs.Common.{◌≡◌, Bool, false, List, map, Result, Ok, Err, IfOk, IfErr, sym, ◌∙◌, arith}
+use Rattle.logos_graph.specs.Building.{FailsOn, FailsFor}
 use Rattle.logos_graph.specs.Core.{Core}
 use Rattle.logos_graph.specs.DfaView.{dfa_of}
 use Rattle.logos_graph.specs.Keys.{AreDistinct, AreReached, IsBuilt}
 use Rattle.logos_graph.specs.Munch.{Rule}
 use Rattle.logos_graph.specs.Node.{core_of}
 use Rattle.logos_graph.specs.Rules.{AreRuleCores, AreFree, some_look}
-use Rattle.logos_graph.specs.Run.{width_of}
 use Rattle.logos_graph.specs.View.{AllStart, IsTotal, ReadsOneByteLate, rules_of}
 use Rattle.logos_graph.specs.declared.dfa.Dfa.{Dfa}
 use Rattle.logos_graph.specs.declared.graph.BuildError.{BuildError}

@@ -1,7 +1,7 @@
 use Rattle.std.proofs.Common.{◌≡◌, ◌<◌, ◌≤◌, length, map, subst, arith}
 use Rattle.logos_graph.specs.Keys.{IsRow, EndsIn}
 use Rattle.logos_graph.specs.Node.{core_of}
-use Rattle.logos_graph.proofs.BuildingLemmas.{next_underway, too_many}
+use Rattle.logos_graph.proofs.BuildingLemmas.{next_underway}
 use Rattle.logos_graph.proofs.dfa.build.fill_next.Goals as goal
 
 pub returns-clause-underway : goal.returns-clause-underway

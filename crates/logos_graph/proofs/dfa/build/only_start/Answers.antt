@@ -1,5 +1,5 @@
 use Rattle.std.proofs.Common.{◌≡◌, sym, subst}
-use Rattle.logos_graph.specs.Keys.{state_of, start_state, IsAt, AreReached, IsReached}
+use Rattle.logos_graph.specs.Keys.{state_of, start_state, IsAt, IsReached}
 use Rattle.logos_graph.specs.Marks.{IsRising}
 use Rattle.logos_graph.proofs.BuildingLemmas.{start_underway}
 use Rattle.logos_graph.proofs.SeveralLemmas.{no_places}

@@ -1,10 +1,8 @@
-use Rattle.std.proofs.Common.{◌≡◌, ◌≤◌, ◌^◌, [], sym, ap, ◌∙◌, subst, arith, rules, map, drop, append-nil}
+use Rattle.std.proofs.Common.{◌≡◌, [], subst, arith, map, drop, append-nil}
 use Rattle.std.proofs.Math.ListN.{drop_of_length-le}
-use Rattle.logos_pattern.specs.Tree.{Tree}
 use Rattle.logos_graph.specs.IsCore.{IsCoreOf}
 use Rattle.logos_graph.specs.Node.{core_of}
 use Rattle.logos_graph.specs.Rules.{AreRuleCores}
-use Rattle.logos_graph.specs.Size.{size}
 use Rattle.logos_graph.specs.View.{rule_of, rules_of}
 use Rattle.logos_graph.proofs.LeafLemmas.{cores_more, leaf_size}
 use Rattle.logos_graph.proofs.PrepareLemmas.{AreMeasured-push}

@@ -1,4 +1,4 @@
-use Rattle.std.proofs.Common.{◌≡◌, ◌<◌, sym, ◌∙◌, arith}
+use Rattle.std.proofs.Common.{◌<◌, sym, ◌∙◌, arith}
 use Rattle.std.proofs.lemmas.List.Elements.{All-from_get_or}
 use Rattle.logos_pattern.specs.Text.{IsBytes}
 use Rattle.logos_graph.proofs.TellingLemmas.{tells_shown}

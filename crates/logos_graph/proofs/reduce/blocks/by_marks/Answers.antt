@@ -1,4 +1,4 @@
-use Rattle.std.proofs.Common.{◌≡◌, ℕ, ◌<◌, arith, refl, ap, ◌∙◌}
+use Rattle.std.proofs.Common.{◌≡◌, arith, ap, ◌∙◌}
 use Rattle.logos_graph.specs.Merge.{key_of}
 use Rattle.logos_graph.specs.Reduce.{size, mark}
 use Rattle.logos_graph.proofs.KindLemmas.{kinds_more, sound_by_marks, got_below}

@@ -1,4 +1,4 @@
-use Rattle.std.proofs.Common.{◌≡◌, None, arith}
+use Rattle.std.proofs.Common.{None, arith}
 use Rattle.logos_graph.specs.Reduce.{IsCommon}
 use Rattle.logos_graph.proofs.PushLemmas.{pushed}
 use Rattle.logos_graph.proofs.reduce.marks.early_marks.Goals as goal

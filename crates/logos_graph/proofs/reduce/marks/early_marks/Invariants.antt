@@ -1,4 +1,4 @@
-use Rattle.std.proofs.Common.{◌≡◌, ℕ, ◌<◌, vec_len}
+use Rattle.std.proofs.Common.{◌≡◌, vec_len}
 use Rattle.logos_graph.specs.Reduce.{AreCommon}
 use Rattle.logos_graph.proofs.reduce.marks.early_marks.Given as goal
 

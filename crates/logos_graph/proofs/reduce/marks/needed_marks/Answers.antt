@@ -1,7 +1,6 @@
-use Rattle.std.proofs.Common.{rules, ◌≡◌, ℕ, ◌+◌, ◌<◌, ◌≤◌, ◌⊎◌, inl, inr, Bool, true, false, None, List, length, vec_len, slice_index_or, refl, sym, ◌∙◌, ap, arith}
-use Rattle.std.proofs.lemmas.Bool.{cases_lt}
+use Rattle.std.proofs.Common.{rules, ◌≡◌, Bool, false, None, List, slice_index_or, ap, arith}
 use Rattle.std.proofs.lemmas.Grind.{common_steps}
-use Rattle.logos_graph.specs.Reduce.{size, to, mark, IsSet, IsNeeded, IsSpare, AreNeeded}
+use Rattle.logos_graph.specs.Reduce.{size}
 use Rattle.logos_graph.proofs.PushLemmas.{filled}
 use Rattle.logos_graph.proofs.MarkFacts.{needed_more, needed_none}
 use Rattle.logos_graph.proofs.reduce.marks.needed_marks.Goals as goal

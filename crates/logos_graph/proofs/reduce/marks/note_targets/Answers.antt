@@ -1,5 +1,5 @@
-use Rattle.std.proofs.Common.{◌≡◌, ℕ, ◌<◌, ◌⊎◌, inl, inr, Bool, true, false, Some, slice_index_or, refl, sym, ◌∙◌, arith}
-use Rattle.logos_graph.specs.Reduce.{size, to, mark, IsSet, IsSpare}
+use Rattle.std.proofs.Common.{◌≡◌, ℕ, ◌⊎◌, inl, inr, Bool, true, false, Some, slice_index_or, refl, arith}
+use Rattle.logos_graph.specs.Reduce.{to, mark, IsSet, IsSpare}
 use Rattle.logos_graph.specs.declared.reduce.rows.Rows.{Rows}
 use Rattle.logos_graph.specs.RowsKept.{rows_of}
 use Rattle.logos_graph.proofs.RowLemmas.{symbol_below, rows_wide}

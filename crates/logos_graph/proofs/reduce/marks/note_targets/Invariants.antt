@@ -1,4 +1,4 @@
-use Rattle.std.proofs.Common.{◌≡◌, ◌≢◌, ◌⊎◌, ℕ, ◌<◌, Some, vec_len}
+use Rattle.std.proofs.Common.{◌≡◌, ◌⊎◌, ℕ, ◌<◌, Some, vec_len}
 use Rattle.logos_graph.specs.Reduce.{mark, to, IsSet, IsNeeded}
 use Rattle.logos_graph.proofs.reduce.marks.note_targets.Given as goal
 

@@ -1,7 +1,6 @@
-use Rattle.std.proofs.Common.{◌≡◌, ℕ, ◌<◌, ◌≤◌, ◌++◌, ◌∷◌, [], List, length, slice_index, arith, ap, sym, ◌∙◌}
+use Rattle.std.proofs.Common.{◌≡◌, ℕ, ◌++◌, ◌∷◌, [], List, length, slice_index, arith, ap, sym, ◌∙◌}
 use Rattle.std.proofs.lemmas.Grind.{get_or_default_zero}
 use Rattle.logos_graph.specs.Merge.{led}
-use Rattle.logos_graph.specs.Reduce.{size}
 use Rattle.logos_graph.proofs.OrderLemmas.{order_few, place_kept}
 use Rattle.logos_graph.proofs.NumberLemmas.{turn_first, not_met}
 use Rattle.logos_graph.proofs.reduce.number.breadth_first.Goals as goal

@@ -1,8 +1,7 @@
-use Rattle.std.proofs.Common.{◌≡◌, ℕ, ◌<◌, ◌⊎◌, inl, inr, ◌++◌, ◌∷◌, [], Option, Some, None, option_map, length, slice_index, arith, ap, sym, subst, ◌∙◌}
+use Rattle.std.proofs.Common.{◌≡◌, ℕ, option_map, slice_index, arith, ap, sym, ◌∙◌}
 use Rattle.logos_graph.specs.Merge.{led}
 use Rattle.logos_graph.specs.Reduce.{size, to}
-use Rattle.logos_graph.specs.Rows.{target_by}
-use Rattle.logos_graph.proofs.EdgeFacts.{edge_within, led_symbol}
+use Rattle.logos_graph.proofs.EdgeFacts.{led_symbol}
 use Rattle.logos_graph.proofs.OrderLemmas.{grows_on, place_kept}
 use Rattle.logos_graph.proofs.NumberLemmas.{turn_more, turn_next, used_more, used_leader, leader_read, used_by, met_by}
 use Rattle.logos_graph.proofs.reduce.number.meet_targets.Goals as goal

@@ -1,4 +1,4 @@
-use Rattle.std.proofs.Common.{◌≡◌, ℕ, ◌<◌, ◌^◌, length, slice_index, sym, ◌∙◌, arith}
+use Rattle.std.proofs.Common.{slice_index, sym, ◌∙◌, arith}
 use Rattle.logos_graph.specs.Merge.{led}
 use Rattle.logos_graph.specs.Reduce.{size}
 use Rattle.logos_graph.proofs.NumberLemmas.{used_leader, used_few, target_numbered, number_few}

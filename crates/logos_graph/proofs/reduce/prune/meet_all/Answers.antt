@@ -1,7 +1,5 @@
-use Rattle.std.proofs.Common.{◌≡◌, ℕ, ◌<◌, ◌+◌, ◌⊎◌, inl, inr, true, List, slice_index, length, arith, sym, ap, ◌∙◌, subst}
-use Rattle.std.proofs.lemmas.Grind.{common_steps}
-use Rattle.logos_graph.specs.MergeLists.{has}
-use Rattle.logos_graph.specs.ReduceOrder.{IsMet, Grows}
+use Rattle.std.proofs.Common.{arith, subst}
+use Rattle.logos_graph.specs.ReduceOrder.{IsMet}
 use Rattle.logos_graph.proofs.ListLemmas.{has-get, has_index}
 use Rattle.logos_graph.proofs.OrderLemmas.{grows_on}
 use Rattle.logos_graph.proofs.PruneLemmas.{met_more, met_of}

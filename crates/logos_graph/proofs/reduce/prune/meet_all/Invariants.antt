@@ -1,4 +1,4 @@
-use Rattle.std.proofs.Common.{◌≡◌, ℕ, ◌<◌, ◌+◌, ◌⊎◌, true, vec_len, slice_index}
+use Rattle.std.proofs.Common.{◌≡◌, ℕ, ◌<◌, ◌⊎◌, true, vec_len, slice_index}
 use Rattle.logos_graph.specs.MergeLists.{has}
 use Rattle.logos_graph.specs.ReduceOrder.{IsMet, Grows}
 use Rattle.logos_graph.proofs.reduce.prune.meet_all.Given as goal

@@ -1,4 +1,4 @@
-use Rattle.std.proofs.Common.{◌≡◌, ℕ, ◌<◌, ◌+◌, arith}
+use Rattle.std.proofs.Common.{arith}
 use Rattle.logos_graph.proofs.PruneLemmas.{seeds_more}
 use Rattle.logos_graph.proofs.reduce.prune.seeds.Goals as goal
 

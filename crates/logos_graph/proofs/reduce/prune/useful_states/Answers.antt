@@ -1,4 +1,4 @@
-use Rattle.std.proofs.Common.{◌≡◌, ◌<◌, ℕ, length, slice_index, arith, ap, sym}
+use Rattle.std.proofs.Common.{◌≡◌, ◌<◌, length, slice_index, arith, ap, sym}
 use Rattle.std.proofs.lemmas.Grind.{common_steps}
 use Rattle.logos_graph.specs.Reduce.{size}
 use Rattle.logos_graph.proofs.OrderLemmas.{order_few, met_kept, place_kept}

@@ -1,5 +1,5 @@
-use Rattle.std.proofs.Common.{◌≡◌, ℕ, ◌<◌, true, arith, sym, ◌∙◌, ap, List}
-use Rattle.logos_graph.specs.MergeLists.{has, has_in}
+use Rattle.std.proofs.Common.{ℕ, arith, sym, ◌∙◌, ap, List}
+use Rattle.logos_graph.specs.MergeLists.{has}
 use Rattle.logos_graph.proofs.ListLemmas.{has_in-get, has-append_right}
 use Rattle.logos_graph.proofs.reduce.refine.add_all.Goals as goal
 

@@ -1,5 +1,5 @@
-use Rattle.std.proofs.Common.{◌≡◌, ℕ, ◌<◌, true, arith, sym, ◌∙◌, ap, List, slice_index, length}
-use Rattle.logos_graph.specs.MergeLists.{has, has_in}
+use Rattle.std.proofs.Common.{◌≡◌, ℕ, arith, sym, ◌∙◌, ap, List, slice_index}
+use Rattle.logos_graph.specs.MergeLists.{has_in}
 use Rattle.logos_graph.proofs.ListLemmas.{has_in-get, has_index}
 use Rattle.logos_graph.proofs.reduce.refine.all_sources.Goals as goal
 

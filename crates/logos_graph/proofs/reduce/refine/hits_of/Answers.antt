@@ -1,4 +1,4 @@
-use Rattle.std.proofs.Common.{◌≡◌, ℕ, ◌<◌, ◌++◌, [], ◌∷◌, arith, vec_len, slice_index, length, ap, sym, ◌∙◌, Vec, Global}
+use Rattle.std.proofs.Common.{◌≡◌, ℕ, arith, slice_index, length, ap, ◌∙◌, Vec, Global}
 use Rattle.logos_graph.specs.Merge.{led}
 use Rattle.logos_graph.specs.Reduce.{size}
 use Rattle.logos_graph.proofs.HitLemmas.{hits-taken, hits-skipped, hits-all}

@@ -1,4 +1,4 @@
-use Rattle.std.proofs.Common.{◌≡◌, slice_index}
+use Rattle.std.proofs.Common.{slice_index}
 use Rattle.logos_graph.specs.Merge.{led}
 use Rattle.logos_graph.specs.Reduce.{size}
 use Rattle.logos_graph.proofs.HitLemmas.{HitsSoFar}

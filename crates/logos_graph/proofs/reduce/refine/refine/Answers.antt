@@ -1,4 +1,4 @@
-use Rattle.std.proofs.Common.{◌≡◌, ℕ, ◌<◌, arith, vec_len, slice_index, ap, Vec, Global}
+use Rattle.std.proofs.Common.{ℕ, arith, vec_len, slice_index, ap, Vec, Global}
 use Rattle.logos_graph.proofs.HitLemmas.{sources-found}
 use Rattle.logos_graph.proofs.reduce.refine.refine.Goals as goal
 

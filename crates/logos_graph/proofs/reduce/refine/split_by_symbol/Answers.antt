@@ -1,5 +1,5 @@
-use Rattle.std.proofs.Common.{◌≡◌, ℕ, ◌<◌, arith, vec_len, slice_index, length}
-use Rattle.logos_graph.specs.Merge.{led, AreTwins, IsExtension}
+use Rattle.std.proofs.Common.{◌≡◌, arith, vec_len, slice_index, length}
+use Rattle.logos_graph.specs.Merge.{AreTwins, IsExtension}
 use Rattle.logos_graph.specs.MergeLists.{HaveMoved}
 use Rattle.logos_graph.specs.Reduce.{size}
 use Rattle.logos_graph.proofs.HitLemmas.{extension-hits, sources-kept}

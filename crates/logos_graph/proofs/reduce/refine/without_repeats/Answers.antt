@@ -1,4 +1,4 @@
-use Rattle.std.proofs.Common.{◌≡◌, ℕ, ◌<◌, true, List, slice_index, arith, sym, ◌∙◌, ap}
+use Rattle.std.proofs.Common.{arith, sym, ◌∙◌, ap}
 use Rattle.logos_graph.specs.MergeLists.{has}
 use Rattle.logos_graph.proofs.ListLemmas.{has_index}
 use Rattle.logos_graph.proofs.reduce.refine.without_repeats.Goals as goal

@@ -1,4 +1,3 @@
-use Rattle.logos_graph.specs.Rows.{IsClosed}
 use Rattle.std.proofs.Common.{◌≡◌, ℕ, ◌<◌, Some, length}
 use Rattle.logos_graph.specs.Rows.{target_in}
 use Rattle.logos_graph.specs.RowsKept.{rows_of}

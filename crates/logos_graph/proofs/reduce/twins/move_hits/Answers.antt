@@ -1,6 +1,5 @@
-use Rattle.std.proofs.Common.{◌≡◌, ℕ, ◌<◌, arith, vec_len, slice_index}
-use Rattle.logos_graph.specs.MergeLists.{HaveMoved}
-use Rattle.logos_graph.proofs.TwinLemmas.{moving-none, moving-step}
+use Rattle.std.proofs.Common.{◌≡◌, arith, vec_len}
+use Rattle.logos_graph.proofs.TwinLemmas.{moving-step}
 use Rattle.logos_graph.proofs.reduce.twins.move_hits.Goals as goal
 
 pub loop-s-preserved : goal.loop-s-preserved

@@ -1,4 +1,4 @@
-use Rattle.std.proofs.Common.{◌≡◌, ℕ, ◌<◌, vec_len, slice_index}
+use Rattle.std.proofs.Common.{◌≡◌, vec_len}
 use Rattle.logos_graph.proofs.reduce.twins.split_on.Given as goal
 
 abbrev pub invariant-loop-home : goal.invariant-loop-home

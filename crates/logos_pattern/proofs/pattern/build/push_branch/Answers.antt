@@ -1,17 +1,17 @@
 use Rattle.std.proofs.Common.{◌≡◌, map, ap, ◌∙◌, ◌++◌, sym}
-use Rattle.std.proofs.lemmas.List.{map_push, map-append}
+use Rattle.std.proofs.lemmas.List.{map_push}
 use Rattle.logos_pattern.specs.Hir.{tree_of}
 use Rattle.logos_pattern.specs.Build.{branches_of}
 use Rattle.logos_pattern.proofs.TreeViews.{tree-Alternation}
 use Rattle.logos_pattern.proofs.BuildLemmas.{list_of-trees, branches-other}
 use Rattle.logos_pattern.proofs.pattern.build.push_branch.Goals as goal
 
-pub returns-in_ok-append-in-Alternation : goal.returns-in_ok-append-in-Alternation
-returns-in_ok-append-in-Alternation c =
+pub returns-in-Alternation : goal.returns-in-Alternation
+returns-in-Alternation c =
     let inner = c.in-Alternation.inner in
     let e : branches_of (tree_of c.args.branch) ≡ map tree_of inner.items =
     ap (λ h. branches_of (tree_of h)) c.in-Alternation.is ∙ ap branches_of (tree-Alternation inner) ∙ list_of-trees (map tree_of inner.items) in
-    ap (map tree_of) c.in_ok-append-in-Alternation.ensures.items ∙ map-append tree_of c.args.branches.now.items inner.items ∙ ap (λ t. map tree_of c.args.branches.now.items ++ t) (sym e)
+    rw e c.push_branches.ensures
 
 pub returns-in_ok-push-in_default : goal.returns-in_ok-push-in_default
 returns-in_ok-push-in_default c =

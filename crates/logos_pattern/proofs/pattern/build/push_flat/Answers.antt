@@ -11,4 +11,4 @@ returns-in-Concat c =
     let inner = c.in-Concat.inner in
     let e : parts_of (tree_of c.args.part) ≡ map tree_of inner.items =
     ap (λ h. parts_of (tree_of h)) c.in-Concat.is ∙ ap parts_of (tree-Concat inner) ∙ list_of-trees (map tree_of inner.items) in
-    rw e c.push_parts.ensures
+    rw e c.push_all.ensures

@@ -1,6 +1,7 @@
 //! What is refused, and where.
 
 use super::*;
+use crate::pattern::tests::answers::none_wrong;
 
 #[test]
 fn unclosed_and_unopened(rt: HostRuntime) -> Result<(), Fail> {
@@ -268,32 +269,59 @@ fn nested(
     repeated(alloc, "", open, times, &ends)
 }
 
+/// Openings, what is inside, ends, how many of both, and whether all this nests too deep.
+const NESTED: [(&str, &str, &str, usize, bool); 20] = [
+    ("(", "a", ")", 250, false),
+    ("(", "a", ")", 251, true),
+    ("(?:", "a", ")", 250, false),
+    ("(?:", "a", ")", 251, true),
+    ("[", "a", "]", 250, false),
+    ("[", "a", "]", 251, true),
+    ("", "a", "+", 250, false),
+    ("", "a", "+", 251, true),
+    ("", "a", "{1}", 250, false),
+    ("", "a", "{0}", 251, true),
+    ("(", "[a]", ")", 249, false),
+    ("(", "[a]", ")", 250, true),
+    ("(", "(?i)[[:alpha:]&&a]", ")", 249, false),
+    ("(", "a", "+)", 125, false),
+    ("(", "a", "+)", 126, true),
+    ("(", "", "", 300, true),
+    ("(a)", "", "", 1000, false),
+    ("(", "a*", ")", 249, false),
+    ("(", "a*", ")", 250, true),
+    ("(?i-s:", "a", ")", 250, false),
+];
+
+/// The number of the first case that is not as it says: so many openings, what is inside, as many
+/// ends, and whether all this nests too deep.
+fn wrong_nesting(
+    alloc: Global,
+    cases: &[(&str, &str, &str, usize, bool)],
+) -> Result<Option<usize>, AllocError> {
+    for (i, (open, inside, close, times, deep)) in cases.iter().enumerate() {
+        let regex = nested(alloc, open, inside, close, *times)?;
+        let right = if *deep {
+            is_too_deep(alloc, &regex)
+        } else {
+            is_read(alloc, &regex)
+        };
+        if !right {
+            return Ok(Some(i));
+        }
+    }
+    Ok(None)
+}
+
 #[test]
 fn nesting(rt: HostRuntime) -> Result<(), Fail> {
-    let alloc = rt.alloc();
-    assert!(rt; is_read(alloc, &nested(alloc, "(", "a", ")", 250)?));
-    assert!(rt; is_too_deep(alloc, &nested(alloc, "(", "a", ")", 251)?));
-    assert!(rt; is_read(alloc, &nested(alloc, "(?:", "a", ")", 250)?));
-    assert!(rt; is_too_deep(alloc, &nested(alloc, "(?:", "a", ")", 251)?));
-    assert!(rt; is_read(alloc, &nested(alloc, "[", "a", "]", 250)?));
-    assert!(rt; is_too_deep(alloc, &nested(alloc, "[", "a", "]", 251)?));
-    assert!(rt; is_read(alloc, &repeated(alloc, "a", "+", 250, "")?));
-    assert!(rt; is_too_deep(alloc, &repeated(alloc, "a", "+", 251, "")?));
-    assert!(rt; is_read(alloc, &repeated(alloc, "a", "{1}", 250, "")?));
-    assert!(rt; is_too_deep(alloc, &repeated(alloc, "a", "{0}", 251, "")?));
-    assert!(rt; is_read(alloc, &nested(alloc, "(", "[a]", ")", 249)?));
-    assert!(rt; is_too_deep(alloc, &nested(alloc, "(", "[a]", ")", 250)?));
-    assert!(rt; is_read(alloc, &nested(alloc, "(", "(?i)[[:alpha:]&&a]", ")", 249)?));
-    assert!(rt; is_read(alloc, &nested(alloc, "(", "a", "+)", 125)?));
-    assert!(rt; is_too_deep(alloc, &nested(alloc, "(", "a", "+)", 126)?));
-    assert!(rt; is_too_deep(alloc, &repeated(alloc, "", "(", 300, "")?));
-    assert!(rt; is_read(alloc, &repeated(alloc, "", "(a)", 1000, "")?));
-    assert!(rt; is_read(alloc, &nested(alloc, "(", "a*", ")", 249)?));
-    assert!(rt; is_too_deep(alloc, &nested(alloc, "(", "a*", ")", 250)?));
-    assert!(rt; is_read(alloc, &nested(alloc, "(?i-s:", "a", ")", 250)?));
-    // Counts are read before the limit is looked at.
-    let deep = repeated(alloc, "a", "+", 250, "{3,2}")?;
-    let answer = shown(alloc, true, false, &deep)?;
+    none_wrong(&rt, wrong_nesting(rt.alloc(), &NESTED))
+}
+
+#[test]
+fn counts_are_read_before_the_limit_is_looked_at(rt: HostRuntime) -> Result<(), Fail> {
+    let deep = repeated(rt.alloc(), "a", "+", 250, "{3,2}")?;
+    let answer = shown(rt.alloc(), true, false, &deep)?;
     assert_eq!(rt; answer.as_str(), "CountOrder at 0");
     Ok(())
 }

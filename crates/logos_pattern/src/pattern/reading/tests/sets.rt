@@ -108,3 +108,76 @@ fn foldings(rt: HostRuntime) -> Result<(), Fail> {
 "#,
     )
 }
+
+/// The first and the last number of an operand: each fifth one leaves out only few.
+fn ends(i: u32) -> (u32, u32) {
+    if i % 5 == 4 {
+        return (i % 9, 247 + i % 9);
+    }
+    let first = i % 400 * 37 % 211;
+    (first, first + i % 400 * 13 % 45)
+}
+
+/// What stands in front of an operand.
+fn operator(i: u32) -> &'static str {
+    match (i % 5, i % 3) {
+        _ if i == 0 => "[",
+        (4, _) => "&&",
+        (_, 0) => "--",
+        _ => "~~",
+    }
+}
+
+fn many_operands(alloc: Global) -> Result<String, AllocError> {
+    let mut text = String::new(alloc);
+    for i in 0..400 {
+        let (first, last) = ends(i);
+        write!(text, "{}\\x{{{first:X}}}-\\x{{{last:X}}}", operator(i))?;
+    }
+    text.push_str("]")?;
+    Ok(text)
+}
+
+/// Whether the operands hold the number, by what each operator says of it in turn.
+fn is_held(number: u32) -> bool {
+    let mut held = false;
+    for i in 0..400 {
+        let (first, last) = ends(i);
+        let here = first <= number && number <= last;
+        held = match operator(i) {
+            "&&" => held && here,
+            "--" => held && !here,
+            _ => held != here,
+        };
+    }
+    held
+}
+
+fn ranges_of<'a>(read: &'a Pattern<'_>) -> &'a [Range] {
+    match &read.hir {
+        Hir::Class(Class::Characters(ranges)) => ranges,
+        _ => &[],
+    }
+}
+
+/// The first number that the ranges hold, or do not hold, against what the operators say.
+fn wrong_number(ranges: &[Range]) -> Option<u32> {
+    for number in 0..300 {
+        let found = ranges.iter().any(|r| r.first <= number && number <= r.last);
+        if found != is_held(number) {
+            return Some(number);
+        }
+    }
+    None
+}
+
+#[test]
+fn operands_in_turn(rt: HostRuntime) -> Result<(), Fail> {
+    let alloc = rt.alloc();
+    let text = many_operands(alloc)?;
+    let Ok(read) = Pattern::compile(alloc, false, text.as_str(), text.as_str(), true, false) else {
+        return Err(Fail::from("no pattern"));
+    };
+    assert_eq!(rt; wrong_number(ranges_of(&read)), None);
+    Ok(())
+}

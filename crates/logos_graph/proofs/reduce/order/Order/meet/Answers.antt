@@ -1,4 +1,4 @@
-use Rattle.std.proofs.Common.{◌≡◌, ◌++◌, ◌∷◌, [], ◌+◌, arith, length, slice_index}
+use Rattle.std.proofs.Common.{◌≡◌, ◌+◌, arith, length, slice_index}
 use Rattle.std.proofs.lemmas.Grind.{common_steps}
 use Rattle.logos_graph.proofs.OrderLemmas.{order_more}
 use Rattle.logos_graph.proofs.reduce.order.Order.meet.Goals as goal

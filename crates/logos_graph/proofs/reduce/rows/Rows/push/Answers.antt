@@ -1,4 +1,4 @@
-use Rattle.std.proofs.Common.{◌∙◌, ◌++◌, ◌∷◌, [], List, ℕ, ap, arith, rules}
+use Rattle.std.proofs.Common.{◌∙◌, List, ℕ, ap, arith, rules}
 use Rattle.logos_graph.specs.Rows.{rows_at}
 use Rattle.logos_graph.proofs.RowLemmas.{rows_pushed, wide_kept}
 use Rattle.logos_graph.proofs.reduce.rows.Rows.push.Goals as goal

@@ -1,0 +1,148 @@
+//! Rows: what each byte does in a state, found by one look.
+ghost use Rattle.std.specs.Prelude.{◌≡◌, ◌<◌, false, length, map, None, IfOk, IfSome, slice_index_or};
+ghost use Rattle.logos_graph.specs.Bytes.{comparison_of, some_compares};
+ghost use Rattle.logos_generator.specs.Bytes.{passes_test};
+ghost use Rattle.logos_generator.specs.Code.{by_conditions};
+ghost use Rattle.logos_generator.specs.Headline.{IsSound, NamesTest, NamesState, NamesCondition, NamesFork, NamesWhatIsThere};
+ghost use Rattle.logos_generator.specs.Makes.{stays};
+ghost use Rattle.logos_generator.specs.Runs.{target, passes};
+ghost use Rattle.logos_generator.specs.CodeView.{condition_of, branch_of, fork_of, jumps_of, state_of, has_mask, code_of};
+ghost use Rattle.logos_generator.specs.Rows.{stays_by, IsEntry, IsRow, AreRows};
+
+use super::{CodeParts, CodeState, Condition, Fork, NOWHERE, target_of};
+use logos_graph::byte_class::Comparisons;
+use std::alloc::{AllocError, Global};
+
+/// The entry of a row for a byte that the state's fast loop takes.
+const STAYS: u32 = u32::MAX - 1;
+
+/// Whether the fast loop takes the byte, by the row of its state.
+#[inline]
+pub(crate) fn stays_by(row: &[u32; 256], byte: u8) -> bool
+    ensures { result ≡ stays_by row.now byte }
+{
+    row[byte as usize] == STAYS
+}
+
+/// The rows of all states.
+pub(super) fn rows_of(alloc: Global, parts: &CodeParts) -> Result<Vec<[u32; 256]>, AllocError>
+    requires sound { IsSound (code_of parts.now) }
+    requires few { length parts.now.states.items < 4294967295 }
+    ensures { IfOk result (λ rows. AreRows (code_of parts.now) rows.items) }
+{
+    let mut rows = Vec::new(alloc);
+    for state in &parts.states {
+        rows.push(row_of(parts, state))?;
+    }
+    Ok(rows)
+}
+
+/// What each byte does in the state.
+fn row_of(parts: &CodeParts, state: &CodeState) -> [u32; 256]
+    requires names { NamesWhatIsThere (code_of parts.now) (state_of parts.now.jump_tables.items state.now) }
+    requires few { length parts.now.states.items < 4294967295 }
+    ensures { IsRow (code_of parts.now) (state_of parts.now.jump_tables.items state.now) result }
+{
+    let mut row = [NOWHERE; 256];
+    for b in 0..256 {
+        row[b] = entry_at(parts, state, b as u8);
+    }
+    row
+}
+
+/// What the byte does in the state.
+fn entry_at(parts: &CodeParts, state: &CodeState, byte: u8) -> u32
+    requires names { NamesWhatIsThere (code_of parts.now) (state_of parts.now.jump_tables.items state.now) }
+    requires few { length parts.now.states.items < 4294967295 }
+    ensures { IsEntry (code_of parts.now) (state_of parts.now.jump_tables.items state.now) byte result }
+{
+    if parts.stays(state.fast_loop, byte) {
+        return STAYS;
+    }
+    match parts.target(&state.fork, byte) {
+        Some(target) => target as u32,
+        None => NOWHERE,
+    }
+}
+
+impl CodeParts<'_> {
+    /// Whether the fast loop takes the byte.
+    fn stays(&self, fast_loop: Option<usize>, byte: u8) -> bool
+        requires { IfSome fast_loop (NamesTest (code_of self.now)) }
+        ensures { result ≡ stays (code_of self.now) fast_loop byte }
+    {
+        match fast_loop {
+            Some(k) => self.passes_test(k, byte),
+            None => false,
+        }
+    }
+
+    /// Where the byte leads.
+    fn target(&self, fork: &Fork, byte: u8) -> Option<usize>
+        requires { NamesFork (code_of self.now) (fork_of self.now.jump_tables.items fork.now) }
+        ensures is { result ≡ target (code_of self.now) (fork_of self.now.jump_tables.items fork.now) byte }
+        ensures there { IfSome result (NamesState (code_of self.now)) }
+    {
+        match fork {
+            Fork::Conditions(branches) => self.first_target(branches, byte),
+            Fork::Table(k) => jump(&self.jump_tables[*k], byte),
+        }
+    }
+
+    /// The target of the first of the branches whose condition holds.
+    fn first_target(&self, branches: &[(Condition, usize)], byte: u8) -> Option<usize>
+        requires { NamesFork (code_of self.now) (by_conditions (map branch_of branches.now)) }
+        ensures { result ≡ target (code_of self.now) (by_conditions (map branch_of branches.now)) byte }
+    {
+        for (condition, target) in branches {
+            if self.passes(condition, byte) {
+                return Some(*target);
+            }
+        }
+        None
+    }
+
+    fn passes(&self, condition: &Condition, byte: u8) -> bool
+        requires { NamesCondition (code_of self.now) (condition_of condition.now) }
+        ensures { result ≡ passes (code_of self.now) (condition_of condition.now) byte }
+    {
+        match condition {
+            Condition::Comparisons(all) => some_holds(all, byte),
+            Condition::Test(k) => self.passes_test(*k, byte),
+        }
+    }
+
+    /// Whether the byte passes the test with this number.
+    fn passes_test(&self, k: usize, byte: u8) -> bool
+        requires { NamesTest (code_of self.now) k }
+        ensures { result ≡ passes_test self.now.bit_tables.items k byte }
+    {
+        has_mask(&self.bit_tables[k / 8], 1 << (k % 8), byte)
+    }
+}
+
+/// The entry of a jump table for the byte.
+fn jump(table: &[u32; 256], byte: u8) -> Option<usize>
+    ensures { result ≡ slice_index_or (jumps_of table.now) byte None }
+{
+    target_of(table[byte as usize])
+}
+
+/// Whether one of the comparisons holds for the byte.
+fn some_holds(comparisons: &[Comparisons], byte: u8) -> bool
+    ensures { result ≡ some_compares (map comparison_of comparisons.now) byte }
+{
+    for comparison in comparisons {
+        if comparison.holds(byte) {
+            return true;
+        }
+    }
+    false
+}
+
+/// Whether the table's entry for the byte has a bit of the mask.
+fn has_mask(table: &[u8; 256], mask: u8, byte: u8) -> bool
+    ensures { result ≡ has_mask table.now mask byte }
+{
+    table[byte as usize] & mask != 0
+}
