@@ -64,6 +64,3 @@ impl Dfa {
         self.ends[state]
     }
 }
-
-#[cfg(test)]
-mod tests;

@@ -189,6 +189,3 @@ pub(crate) fn graph_errors(
     }
     disambiguations(alloc, ambiguous_sets(alloc, leaves, dfa)?)
 }
-
-#[cfg(test)]
-mod tests;

@@ -3,6 +3,8 @@
 ghost use Rattle.std.specs.Prelude.{◌≡◌};
 
 #[cfg(test)]
+mod asking;
+#[cfg(test)]
 mod comparison;
 mod evidence;
 mod making;

@@ -256,6 +256,3 @@ pub(crate) fn some_leaf_has_look(leaves: &[Leaf<'_>]) -> bool
     }
     false
 }
-
-#[cfg(test)]
-mod tests;

@@ -73,6 +73,3 @@ pub fn reduce(alloc: Global, table: Table, root: usize) -> Result<Reduced, Alloc
         splits,
     })
 }
-
-#[cfg(test)]
-mod tests;
