@@ -441,7 +441,11 @@ fn labels_of_charts(rt: HostRuntime) -> Result<(), Fail> {
         &[
             (&[("\"", 2)], Ask::Label, "en0n1{\"\\\\&quot\"}"),
             (&[("\\\\", 2)], Ask::Label, "en0n1{\"\\\\\\\\\"}"),
-            (&[("[\\n-\\x10]", 2)], Ask::Label, "en0n1{\"\\\\n..=\\\\x10\"}"),
+            (
+                &[("[\\n-\\x10]", 2)],
+                Ask::Label,
+                "en0n1{\"\\\\n..=\\\\x10\"}",
+            ),
             (&[("[abd]", 2)], Ask::Label, "en0n1{\"a..=b<br>d\"}"),
         ],
     )
@@ -589,11 +593,7 @@ fn looks_are_seen_one_byte_late(rt: HostRuntime) -> Result<(), Fail> {
         &rt,
         rt.alloc(),
         &[
-            (
-                &[("a$", 3), ("a", 2)],
-                Ask::Lists(&["ab", "a\n"]),
-                "1 ;1 ;",
-            ),
+            (&[("a$", 3), ("a", 2)], Ask::Lists(&["ab", "a\n"]), "1 ;1 ;"),
             (
                 &[
                     ("a(?-u:\\b)", 2),

@@ -49,10 +49,12 @@ fn is_equal_but_for_backward(alloc: Global, first: &StateData) -> Result<bool, A
 /// Whether just a state with the same mark and edge is equal.
 fn are_compared(alloc: Global) -> Result<bool, AllocError> {
     let first = state(alloc, 0, (b'a', b'a', 1))?;
-    Ok(is_equal_but_for_backward(alloc, &first)?
-        && !is_equal(alloc, &first, 1, (b'a', b'a', 1))?
-        && !is_equal(alloc, &first, 0, (b'a', b'b', 1))?
-        && !is_equal(alloc, &first, 0, (b'a', b'a', 2))?)
+    Ok(
+        is_equal_but_for_backward(alloc, &first)?
+            && !is_equal(alloc, &first, 1, (b'a', b'a', 1))?
+            && !is_equal(alloc, &first, 0, (b'a', b'b', 1))?
+            && !is_equal(alloc, &first, 0, (b'a', b'a', 2))?,
+    )
 }
 
 #[test]

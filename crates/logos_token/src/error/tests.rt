@@ -32,45 +32,44 @@ fn are_two_faults(list: &[SpannedError]) -> bool {
 
 #[test]
 fn faults_in_order(rt: HostRuntime) -> Result<(), Fail> {
-    assert!(rt; Errors::new(rt.alloc()).list().is_empty());
     let errors = two_faults(rt.alloc())?;
     assert!(rt; are_two_faults(errors.list()));
     Ok(())
 }
 
+/// The name of a fault, another that is printed, and the text of want of memory.
+fn names(alloc: Global) -> Result<String, Fail> {
+    let name = FaultCode::NotAnEnum.name();
+    Ok(format!(in alloc; "{name} {}: {}", FaultCode::LimitSource, Memory)?)
+}
+
 #[test]
 fn printed_names(rt: HostRuntime) -> Result<(), Fail> {
-    assert_eq!(rt; FaultCode::NotAnEnum.name(), "NotAnEnum");
-    let text = format!(in rt.alloc(); "{}: {}", FaultCode::LimitSource, Memory)?;
-    assert_eq!(rt; text.as_str(), "LimitSource: out of memory");
+    assert!(rt; names(rt.alloc())?.as_str() == "NotAnEnum LimitSource: out of memory");
     Ok(())
 }
 
-/// Whether the faults are rendered as this text.
+/// Whether the faults are rendered as this text, or not at all where it is empty.
 fn is_rendered_as(errors: &Errors, text: &str) -> Result<bool, Memory> {
     match errors.render()? {
         Some(rendered) => Ok(rendered.as_str() == text),
-        None => Ok(false),
+        None => Ok(text == ""),
     }
 }
 
 /// Faults, collected one after another, are rendered with each as is said beside it.
 fn render(rt: &impl Abort, alloc: Global, cases: &[(FaultCode, &str, &str)]) -> Result<(), Fail> {
     let mut errors = Errors::new(alloc);
+    assert!(rt; is_rendered_as(&errors, "")?, "a text of no fault");
     for case in cases {
-        errors.err(case.0, case.1, Span { from: 0, to: 1 })?;
-        assert!(rt;
-            is_rendered_as(&errors, case.2)?,
-            "another text: {}",
-            case.1
-        );
+        errors.err(case.0, case.1, FIRST)?;
+        assert!(rt; is_rendered_as(&errors, case.2)?, "another text");
     }
     Ok(())
 }
 
 #[test]
 fn rendered_faults(rt: HostRuntime) -> Result<(), Fail> {
-    assert!(rt; Errors::new(rt.alloc()).render()?.is_none());
     render(
         &rt,
         rt.alloc(),

@@ -1,12 +1,24 @@
 use super::lexeme::LexicalKind;
-use super::{Spacing, Span, TokenError, TokenTree, Tokens, print, tokenize};
-use crate::error::Memory;
+use super::{Spacing, TokenError, TokenTree, Tokens, print, tokenize};
 use std::alloc::{AllocError, Global};
 use std::process::Abort;
 use std::test::Fail;
 
-fn at(from: usize, to: usize) -> Span {
-    Span { from, to }
+/// What is asked of a source.
+#[derive(Clone, Copy)]
+enum Ask<'a> {
+    /// Why it is not read, and the span of the reason; nothing if it is read.
+    Refusal,
+    /// The span of all tokens, or that there are none.
+    Extent,
+    /// The span of each tree that stands behind so many others, in groups that stand behind so many others each.
+    Spans(&'a [(&'a [usize], usize)]),
+    /// Each identifier and punctuation with a joint one marked, and the texts of literals without their quotes.
+    Texts,
+    /// The spans of what stands in front of all trees but the first, and in front of all but the first two.
+    Fronts,
+    /// How it is printed.
+    Print,
 }
 
 /// The run behind so many trees.
@@ -26,278 +38,236 @@ fn inside<'t, 's>(tree: Option<TokenTree<'t, 's>>) -> Option<Tokens<'t, 's>> {
     }
 }
 
-/// The span of the tree behind so many others, in the groups that stand behind so many others each.
-fn span_of(run: Tokens<'_, '_>, groups: &[usize], count: usize) -> Option<Span> {
+/// The run in the groups that stand behind so many trees each.
+fn inner<'t, 's>(run: Tokens<'t, 's>, groups: &[usize]) -> Option<Tokens<'t, 's>> {
     let mut run = run;
     for index in groups {
         run = inside(past(run, *index).first())?;
     }
-    Some(past(run, count).first()?.span())
+    Some(run)
 }
 
-/// So many pairs of parentheses inside one another.
-fn nested(alloc: Global, depth: usize) -> Result<String, AllocError> {
-    let opening = "(".repeat(alloc, depth)?;
-    let closing = ")".repeat(alloc, depth)?;
-    format!(in alloc; "{opening}{closing}")
-}
-
-fn refusal(alloc: Global, src: &str) -> Option<TokenError> {
-    tokenize(alloc, src).err()
-}
-
-/// Each source is refused for the reason and at the span beside it.
-fn refuses(rt: &impl Abort, alloc: Global, cases: &[(&str, LexicalKind, usize, usize)]) {
-    for case in cases {
-        let fault = TokenError::Lexical {
-            kind: case.1,
-            span: at(case.2, case.3),
-        };
-        assert!(rt;
-            refusal(alloc, case.0) == Some(fault),
-            "another fault or none: {}",
-            case.0
-        );
-    }
-}
-
-/// The trees have the spans that are said: each stands behind so many others, in groups that stand
-/// behind so many others each.
-fn has_spans(rt: &impl Abort, run: Tokens<'_, '_>, cases: &[(&[usize], usize, usize, usize)]) {
-    for case in cases {
-        assert_eq!(rt; span_of(run, case.0, case.1), Some(at(case.2, case.3)));
-    }
-}
-
-#[test]
-fn spans_of_an_enum(rt: HostRuntime) -> Result<(), Fail> {
-    let stream = tokenize(rt.alloc(), "enum T { #[token(\"a\")] A }")?;
-    let run = stream.run();
-    assert!(rt; run.span() == at(0, 26));
-    assert!(rt; past(run, 3).is_empty());
-    has_spans(
-        &rt,
-        run,
-        &[
-            (&[], 0, 0, 4),
-            (&[], 1, 5, 6),
-            (&[], 2, 7, 26),
-            (&[2], 0, 9, 10),
-            (&[2], 1, 10, 22),
-            (&[2], 2, 23, 24),
-            (&[2, 1], 0, 11, 16),
-            (&[2, 1, 1], 0, 17, 20),
-        ],
-    );
+fn push_span(alloc: Global, text: &mut String, from: usize, to: usize) -> Result<(), Fail> {
+    text.push_str(format!(in alloc; "{from}..{to} ")?.as_str())?;
     Ok(())
 }
 
-/// The text of a tree that has one, with its quotes left out.
-fn text_of<'s>(tree: TokenTree<'_, 's>) -> &'s str {
-    match tree {
-        TokenTree::Ident(ident) => ident.text,
-        TokenTree::Literal(literal) => literal.text_value(),
-        _ => "",
+fn push_spans(
+    alloc: Global,
+    text: &mut String,
+    run: Tokens<'_, '_>,
+    places: &[(&[usize], usize)],
+) -> Result<(), Fail> {
+    for place in places {
+        let inner = inner(run, place.0).ok_or("no group")?;
+        let span = past(inner, place.1).first().ok_or("no tree")?.span();
+        push_span(alloc, text, span.from, span.to)?;
     }
+    Ok(())
 }
 
-fn is_joint(tree: TokenTree<'_, '_>) -> bool {
+fn push_text(text: &mut String, tree: TokenTree<'_, '_>) -> Result<(), Fail> {
     match tree {
-        TokenTree::Punct(punct) => punct.character == ':' && punct.spacing == Spacing::Joint,
-        _ => false,
-    }
-}
-
-/// How many trees a source has, how many bytes their texts, and how many of them are joint.
-fn counts(alloc: Global, source: &str) -> Result<(usize, usize, usize), TokenError> {
-    let stream = tokenize(alloc, source)?;
-    let mut trees = 0usize;
-    let mut bytes = 0usize;
-    let mut joint = 0usize;
-    for tree in stream.run().iter() {
-        trees = trees.saturating_add(1);
-        bytes = bytes.saturating_add(text_of(tree).len());
-        if is_joint(tree) {
-            joint = joint.saturating_add(1);
+        TokenTree::Ident(ident) => text.push_str(ident.text)?,
+        TokenTree::Literal(literal) => text.push_str(literal.text_value())?,
+        TokenTree::Punct(punct) => {
+            text.push(punct.character)?;
+            if punct.spacing == Spacing::Joint {
+                text.push_str("-")?;
+            }
         }
+        _ => text.push_str("?")?,
     }
-    Ok((trees, bytes, joint))
+    text.push_str(" ")?;
+    Ok(())
+}
+
+fn push_texts(text: &mut String, run: Tokens<'_, '_>) -> Result<(), Fail> {
+    for tree in run.iter() {
+        push_text(text, tree)?;
+    }
+    Ok(())
+}
+
+fn push_answer(
+    alloc: Global,
+    text: &mut String,
+    run: Tokens<'_, '_>,
+    ask: Ask<'_>,
+) -> Result<(), Fail> {
+    match ask {
+        Ask::Refusal => Ok(()),
+        Ask::Extent if run.is_empty() => Ok(text.push_str("none")?),
+        Ask::Extent => push_span(alloc, text, run.span().from, run.span().to),
+        Ask::Spans(places) => push_spans(alloc, text, run, places),
+        Ask::Texts => push_texts(text, run),
+        Ask::Fronts => {
+            let (one, two) = (run.before(run.rest()), run.before(run.rest().rest()));
+            push_span(alloc, text, one.span().from, one.span().to)?;
+            push_span(alloc, text, two.span().from, two.span().to)
+        }
+        Ask::Print => Ok(text.push_str(print(alloc, run)?.as_str())?),
+    }
+}
+
+fn push_refusal(alloc: Global, text: &mut String, fault: TokenError) -> Result<(), Fail> {
+    let (name, span) = match fault {
+        TokenError::Memory => return Err(Fail::from("out of memory")),
+        TokenError::LimitSource => return Ok(text.push_str("source")?),
+        TokenError::LimitTokenNesting { span } => ("nesting ", span),
+        TokenError::Lexical { kind, span } => (
+            match kind {
+                LexicalKind::BadCharacter => "character ",
+                LexicalKind::BadLiteral => "literal ",
+                LexicalKind::Unterminated => "unterminated ",
+                LexicalKind::Unbalanced => "unbalanced ",
+            },
+            span,
+        ),
+    };
+    text.push_str(name)?;
+    push_span(alloc, text, span.from, span.to)
+}
+
+/// What a source answers.
+fn answer(alloc: Global, source: &str, ask: Ask<'_>) -> Result<String, Fail> {
+    let mut text = String::new(alloc);
+    match tokenize(alloc, source) {
+        Ok(stream) => push_answer(alloc, &mut text, stream.run(), ask)?,
+        Err(fault) => push_refusal(alloc, &mut text, fault)?,
+    }
+    Ok(text)
+}
+
+/// Each source answers as is said behind it and what is asked.
+fn answers(rt: &impl Abort, alloc: Global, cases: &[(&str, Ask<'_>, &str)]) -> Result<(), Fail> {
+    for case in cases {
+        let text = answer(alloc, case.0, case.1)?;
+        assert!(rt; text.as_str() == case.2, "another answer: {}", case.0);
+    }
+    Ok(())
 }
 
 #[test]
-fn texts_and_spacing(rt: HostRuntime) -> Result<(), Fail> {
-    assert!(rt; counts(rt.alloc(), "a :: \"b\"")? == (4, 2, 1));
-    Ok(())
+fn tokens_of_sources(rt: HostRuntime) -> Result<(), Fail> {
+    answers(
+        &rt,
+        rt.alloc(),
+        &[
+            ("enum T { #[token(\"a\")] A }", Ask::Extent, "0..26 "),
+            (
+                "enum T { #[token(\"a\")] A }",
+                Ask::Spans(&[
+                    (&[], 0),
+                    (&[], 1),
+                    (&[], 2),
+                    (&[2], 0),
+                    (&[2], 1),
+                    (&[2], 2),
+                    (&[2, 1], 0),
+                    (&[2, 1, 1], 0),
+                ]),
+                "0..4 5..6 7..26 9..10 10..22 23..24 11..16 17..20 ",
+            ),
+            ("a :: \"b\"", Ask::Texts, "a :- : b "),
+            ("a (b) c", Ask::Fronts, "0..1 0..5 "),
+            ("", Ask::Fronts, "0..0 0..0 "),
+            ("", Ask::Extent, "none"),
+            (" \t\r\n", Ask::Extent, "none"),
+            ("a,|b|", Ask::Print, "a ,| b |"),
+            (
+                "enum E{#[token(\"a\")]A::B}",
+                Ask::Print,
+                "enum E { # [ token ( \"a\" ) ] A :: B }",
+            ),
+            ("", Ask::Print, ""),
+        ],
+    )
+}
+
+#[test]
+fn unreadable_sources(rt: HostRuntime) -> Result<(), Fail> {
+    answers(
+        &rt,
+        rt.alloc(),
+        &[
+            ("enum E {", Ask::Refusal, "unbalanced 7..8 "),
+            (")", Ask::Refusal, "unbalanced 0..1 "),
+            ("( ]", Ask::Refusal, "unbalanced 2..3 "),
+            ("([()", Ask::Refusal, "unbalanced 1..2 "),
+            ("a \"bc", Ask::Refusal, "unterminated 2..5 "),
+            ("( `", Ask::Refusal, "character 2..3 "),
+            ("a £", Ask::Refusal, "character 2..4 "),
+            ("\"a\\b\" c", Ask::Refusal, "literal 0..5 "),
+        ],
+    )
 }
 
 /// The text of the first tree, if it is an identifier. It outlives the buffer, which ends here.
-fn first_name<'s>(alloc: Global, source: &'s str) -> Result<Option<&'s str>, TokenError> {
+fn first_name<'s>(alloc: Global, source: &'s str) -> Result<&'s str, TokenError> {
     let stream = tokenize(alloc, source)?;
     match stream.run().first() {
-        Some(TokenTree::Ident(name)) => Ok(Some(name.text)),
-        _ => Ok(None),
+        Some(TokenTree::Ident(name)) => Ok(name.text),
+        _ => Ok(""),
     }
-}
-
-/// The sources begin with the names beside them, or with none.
-fn begin_with(rt: &impl Abort, alloc: Global, cases: &[(&str, Option<&str>)]) -> Result<(), Fail> {
-    for case in cases {
-        assert!(rt;
-            first_name(alloc, case.0)? == case.1,
-            "another name: {}",
-            case.0
-        );
-    }
-    Ok(())
 }
 
 #[test]
 fn texts_outlive_buffers(rt: HostRuntime) -> Result<(), Fail> {
-    begin_with(
-        &rt,
-        rt.alloc(),
-        &[("enum T {}", Some("enum")), ("{ T }", None)],
-    )
-}
-
-/// The spans of the trees in front of all but the first and of all but the first two, and whether
-/// there are none in front of all.
-fn fronts(run: Tokens<'_, '_>) -> (Span, Span, bool) {
-    let first = run.before(run.rest()).span();
-    let second = run.before(run.rest().rest()).span();
-    (first, second, run.before(run).is_empty())
-}
-
-#[test]
-fn fronts_of_runs(rt: HostRuntime) -> Result<(), Fail> {
-    let stream = tokenize(rt.alloc(), "a (b) c")?;
-    assert!(rt; fronts(stream.run()) == (at(0, 1), at(0, 5), true));
+    assert!(rt; first_name(rt.alloc(), "enum T {}")? == "enum");
     Ok(())
 }
 
-/// Whether a source has no trees, and the span of those it has.
-fn extent(alloc: Global, source: &str) -> Result<(bool, Span), TokenError> {
-    let stream = tokenize(alloc, source)?;
-    let run = stream.run();
-    Ok((run.is_empty(), run.span()))
+/// So many pairs of parentheses inside one another, between two texts.
+fn nested(alloc: Global, front: &str, depth: usize, rest: &str) -> Result<String, AllocError> {
+    let opening = "(".repeat(alloc, depth)?;
+    let closing = ")".repeat(alloc, depth)?;
+    format!(in alloc; "{front}{opening}{closing}{rest}")
 }
 
-/// Whether a source has no first tree.
-fn begins_with_none(alloc: Global, source: &str) -> Result<bool, TokenError> {
-    Ok(tokenize(alloc, source)?.run().first().is_none())
-}
-
-#[test]
-fn empty_sources(rt: HostRuntime) -> Result<(), Fail> {
-    assert!(rt; extent(rt.alloc(), "")? == (true, at(0, 0)));
-    assert!(rt; begins_with_none(rt.alloc(), " \t\r\n")?);
+/// So many pairs between two texts are refused as is said behind them, or read.
+fn nest(rt: &impl Abort, alloc: Global, cases: &[(&str, usize, &str, &str)]) -> Result<(), Fail> {
+    for case in cases {
+        let source = nested(alloc, case.0, case.1, case.2)?;
+        let text = answer(alloc, source.as_str(), Ask::Refusal)?;
+        assert!(rt; text.as_str() == case.3, "another answer");
+    }
     Ok(())
-}
-
-#[test]
-fn delimiters_without_partners(rt: HostRuntime) {
-    refuses(
-        &rt,
-        rt.alloc(),
-        &[
-            ("enum E {", LexicalKind::Unbalanced, 7, 8),
-            (")", LexicalKind::Unbalanced, 0, 1),
-            ("( ]", LexicalKind::Unbalanced, 2, 3),
-            ("([()", LexicalKind::Unbalanced, 1, 2),
-        ],
-    );
-}
-
-#[test]
-fn unreadable_sources(rt: HostRuntime) {
-    refuses(
-        &rt,
-        rt.alloc(),
-        &[
-            ("a \"bc", LexicalKind::Unterminated, 2, 5),
-            ("( `", LexicalKind::BadCharacter, 2, 3),
-            ("a £", LexicalKind::BadCharacter, 2, 4),
-            ("\"a\\b\" c", LexicalKind::BadLiteral, 0, 5),
-        ],
-    );
-}
-
-/// Whether so many pairs of parentheses inside one another are refused for this reason, or read
-/// where it is `None`.
-fn is_nesting(alloc: Global, depth: usize, expected: Option<TokenError>) -> Result<bool, Fail> {
-    let text = nested(alloc, depth)?;
-    Ok(refusal(alloc, text.as_str()) == expected)
-}
-
-#[test]
-fn nesting(rt: HostRuntime) -> Result<(), Fail> {
-    assert!(rt; is_nesting(rt.alloc(), 128, None)?);
-    let limit = TokenError::LimitTokenNesting { span: at(128, 129) };
-    assert!(rt; is_nesting(rt.alloc(), 129, Some(limit))?);
-    Ok(())
-}
-
-/// The same of an enum that holds so many pairs.
-fn is_enum_nesting(
-    alloc: Global,
-    depth: usize,
-    expected: Option<TokenError>,
-) -> Result<bool, Fail> {
-    let inside = nested(alloc, depth)?;
-    let text = format!(in alloc; "enum E {{ #[token(\"a\")] A = {inside} }}")?;
-    Ok(refusal(alloc, text.as_str()) == expected)
 }
 
 // The brace of the enum is one of the 128 delimiters that may be open.
 #[test]
-fn nesting_in_an_enum(rt: HostRuntime) -> Result<(), Fail> {
-    assert!(rt; is_enum_nesting(rt.alloc(), 127, None)?);
-    let limit = TokenError::LimitTokenNesting { span: at(154, 155) };
-    assert!(rt; is_enum_nesting(rt.alloc(), 128, Some(limit))?);
-    Ok(())
+fn nesting(rt: HostRuntime) -> Result<(), Fail> {
+    nest(
+        &rt,
+        rt.alloc(),
+        &[
+            ("", 128, "", ""),
+            ("", 129, "", "nesting 128..129 "),
+            ("enum E { #[token(\"a\")] A = ", 127, " }", ""),
+            (
+                "enum E { #[token(\"a\")] A = ",
+                128,
+                " }",
+                "nesting 154..155 ",
+            ),
+        ],
+    )
 }
 
-/// The same of so many spaces.
-fn is_length(alloc: Global, count: usize, expected: Option<TokenError>) -> Result<bool, Fail> {
-    let text = " ".repeat(alloc, count)?;
-    Ok(refusal(alloc, text.as_str()) == expected)
+/// So many spaces are refused as is said beside them, or read.
+fn spread(rt: &impl Abort, alloc: Global, cases: &[(usize, &str)]) -> Result<(), Fail> {
+    for case in cases {
+        let source = " ".repeat(alloc, case.0)?;
+        let text = answer(alloc, source.as_str(), Ask::Refusal)?;
+        assert!(rt; text.as_str() == case.1, "another answer");
+    }
+    Ok(())
 }
 
 #[test]
 fn length_of_sources(rt: HostRuntime) -> Result<(), Fail> {
-    assert!(rt; is_length(rt.alloc(), 16_777_216, None)?);
-    let limit = TokenError::LimitSource;
-    assert!(rt; is_length(rt.alloc(), 16_777_217, Some(limit))?);
-    Ok(())
-}
-
-/// Whether the run is printed as this text.
-fn is_printed_as(alloc: Global, run: Tokens<'_, '_>, text: &str) -> Result<bool, Memory> {
-    Ok(print(alloc, run)?.as_str() == text)
-}
-
-/// The source is printed as this text.
-fn prints(rt: &impl Abort, alloc: Global, source: &str, text: &str) -> Result<(), Fail> {
-    let stream = tokenize(alloc, source)?;
-    assert!(rt;
-        is_printed_as(alloc, stream.run(), text)?,
-        "another text: {source}"
-    );
-    Ok(())
-}
-
-#[test]
-fn printed_tokens(rt: HostRuntime) -> Result<(), Fail> {
-    let alloc = rt.alloc();
-    prints(&rt, alloc, "a,|b|", "a ,| b |")?;
-    let source = "enum E{#[token(\"a\")]A::B}";
-    prints(
-        &rt,
-        alloc,
-        source,
-        "enum E { # [ token ( \"a\" ) ] A :: B }",
-    )?;
-    prints(&rt, alloc, "", "")
+    spread(&rt, rt.alloc(), &[(16_777_216, ""), (16_777_217, "source")])
 }
 
 /// Whether two trees are the same, their spans aside. Groups are compared by what is printed of their
@@ -315,8 +285,7 @@ fn is_same_tree(
             a.character == b.character && a.spacing == b.spacing
         }
         (TokenTree::Group(a), TokenTree::Group(b)) => {
-            let inside = print(alloc, a.run())?;
-            a.delimiter == b.delimiter && is_printed_as(alloc, b.run(), inside.as_str())?
+            a.delimiter == b.delimiter && print(alloc, a.run())? == print(alloc, b.run())?
         }
         _ => false,
     })
@@ -337,17 +306,12 @@ fn is_same_run(alloc: Global, run: Tokens<'_, '_>, other: Tokens<'_, '_>) -> Res
     Ok(rest.is_empty())
 }
 
-/// Whether a text has the tokens of the run, and is printed as it is.
-fn spells_again(alloc: Global, run: Tokens<'_, '_>, text: &str) -> Result<bool, Fail> {
-    let again = tokenize(alloc, text)?;
-    Ok(is_same_run(alloc, run, again.run())? && is_printed_as(alloc, again.run(), text)?)
-}
-
 /// Whether the printed text of a source has the source's tokens, and is printed as it is.
 fn prints_back(alloc: Global, source: &str) -> Result<bool, Fail> {
     let stream = tokenize(alloc, source)?;
     let text = print(alloc, stream.run())?;
-    spells_again(alloc, stream.run(), text.as_str())
+    let again = tokenize(alloc, text.as_str())?;
+    Ok(is_same_run(alloc, stream.run(), again.run())? && print(alloc, again.run())? == text)
 }
 
 /// The printed text of each source has the source's tokens, and is printed as it is.

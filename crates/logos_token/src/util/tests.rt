@@ -1,8 +1,6 @@
 use super::{MaybeVoid, ToIdent, expect_punct, is_punct};
-use crate::error::Memory;
 use crate::token::{Span, TokenStream, Tokens, tokenize};
 use std::alloc::Global;
-use std::process::Abort;
 use std::test::Fail;
 
 fn begins_with(run: Tokens<'_, '_>, expected: char) -> bool {
@@ -12,27 +10,26 @@ fn begins_with(run: Tokens<'_, '_>, expected: char) -> bool {
     }
 }
 
-/// Whether the run begins with this punctuation, and whether it is all that is expected.
-fn stands(run: Tokens<'_, '_>, expected: char) -> (bool, bool) {
-    let left = expect_punct(run.first(), expected);
-    (begins_with(run, expected), left.is_none())
+/// Whether the run begins with this punctuation, and it is all that is expected of the first tree, or neither.
+fn stands(run: Tokens<'_, '_>, expected: char, wanted: bool) -> bool {
+    begins_with(run, expected) == wanted && expect_punct(run.first(), expected).is_none() == wanted
+}
+
+/// Whether a lone comma stands first, no other mark, and none behind it.
+fn begins_with_comma(run: Tokens<'_, '_>) -> bool {
+    stands(run, ',', true) && stands(run, '=', false) && stands(run.rest(), ',', false)
 }
 
 #[test]
 fn single_punctuation(rt: HostRuntime) -> Result<(), Fail> {
-    let stream = tokenize(rt.alloc(), ", ,, a")?;
-    let run = stream.run();
-    assert!(rt; stands(run, ',') == (true, true));
-    assert!(rt; stands(run, '=') == (false, false));
-    assert!(rt; stands(run.rest(), ',') == (false, false));
+    assert!(rt; begins_with_comma(tokenize(rt.alloc(), ", ,, a")?.run()));
     Ok(())
 }
 
 #[test]
 fn made_identifiers(rt: HostRuntime) {
     let ident = "State0".to_ident();
-    assert_eq!(rt; ident.text, "State0");
-    assert_eq!(rt; ident.span, Span { from: 0, to: 0 });
+    assert!(rt; ident.text == "State0" && ident.span == Span { from: 0, to: 0 });
 }
 
 /// How many bytes from the first to the last of the tokens.
@@ -43,50 +40,29 @@ fn width(tokens: &MaybeVoid<'_>) -> Option<usize> {
     }
 }
 
-/// The tokens take the place of others, which are so wide.
-fn replaces<'s>(
-    rt: &impl Abort,
-    tokens: &mut MaybeVoid<'s>,
-    stream: TokenStream<'s>,
-    expected: Option<usize>,
-) {
-    let former = tokens.replace(stream);
-    assert!(rt; width(&former) == expected);
-}
-
 /// A copy of the tokens of a source, but for its first tree.
 fn rest_of<'s>(alloc: Global, source: &'s str) -> Result<TokenStream<'s>, Fail> {
     let stream = tokenize(alloc, source)?;
     Ok(stream.run().rest().to_stream(alloc)?)
 }
 
-/// The tokens are printed as this text.
-fn prints(
-    rt: &impl Abort,
-    alloc: Global,
-    tokens: &MaybeVoid<'_>,
-    text: &str,
-) -> Result<(), Memory> {
-    assert!(rt; tokens.print(alloc)?.as_str() == text, "another text");
-    Ok(())
-}
-
-/// Tokens that are so wide are taken, and none are left.
-fn takes(rt: &impl Abort, tokens: &mut MaybeVoid<'_>, expected: usize) {
-    let former = tokens.take();
-    assert!(rt; width(&former) == Some(expected));
-    assert!(rt; width(tokens) == None);
+/// Whether tokens take the place of none, others of those, and none of these, which are printed as the text.
+fn are_replaced(alloc: Global, source: &str, text: &str) -> Result<bool, Fail> {
+    let mut tokens = MaybeVoid::Void;
+    let none = width(&tokens.replace(tokenize(alloc, source)?));
+    let all = width(&tokens.replace(rest_of(alloc, source)?));
+    let rest = tokens.take();
+    Ok(
+        none == None
+            && all == Some(source.len())
+            && rest.print(alloc)?.as_str() == text
+            && width(&tokens) == None
+            && tokens.print(alloc)?.as_str() == "( )",
+    )
 }
 
 #[test]
 fn tokens_or_none(rt: HostRuntime) -> Result<(), Fail> {
-    let alloc = rt.alloc();
-    let mut tokens = MaybeVoid::Void;
-    replaces(&rt, &mut tokens, tokenize(alloc, "a b (c)")?, None);
-    assert!(rt; width(&tokens) == Some(7));
-    replaces(&rt, &mut tokens, rest_of(alloc, "a b (c)")?, Some(7));
-    prints(&rt, alloc, &tokens, "b ( c )")?;
-    takes(&rt, &mut tokens, 7);
-    prints(&rt, alloc, &tokens, "( )")?;
+    assert!(rt; are_replaced(rt.alloc(), "a b (c)", "b ( c )")?);
     Ok(())
 }
