@@ -1,5 +1,5 @@
 use super::lexeme::LexicalKind;
-use super::{Spacing, TokenError, TokenTree, Tokens, print, tokenize};
+use super::{Spacing, Span, TokenError, TokenTree, Tokens, print, tokenize};
 use std::alloc::{AllocError, Global};
 use std::process::Abort;
 use std::test::Fail;
@@ -15,7 +15,8 @@ enum Ask<'a> {
     Spans(&'a [(&'a [usize], usize)]),
     /// Each identifier and punctuation with a joint one marked, and the texts of literals without their quotes.
     Texts,
-    /// The spans of what stands in front of all trees but the first, and in front of all but the first two.
+    /// The spans of what stands in front of all trees but the first, and in front of all but the first two, and whether
+    /// none stands in front of all.
     Fronts,
     /// How it is printed.
     Print,
@@ -89,6 +90,14 @@ fn push_texts(text: &mut String, run: Tokens<'_, '_>) -> Result<(), Fail> {
     Ok(())
 }
 
+/// The spans of the trees in front of all but the first and of all but the first two, and whether
+/// there are none in front of all.
+fn fronts(run: Tokens<'_, '_>) -> (Span, Span, bool) {
+    let first = run.before(run.rest()).span();
+    let second = run.before(run.rest().rest()).span();
+    (first, second, run.before(run).is_empty())
+}
+
 fn push_answer(
     alloc: Global,
     text: &mut String,
@@ -102,9 +111,10 @@ fn push_answer(
         Ask::Spans(places) => push_spans(alloc, text, run, places),
         Ask::Texts => push_texts(text, run),
         Ask::Fronts => {
-            let (one, two) = (run.before(run.rest()), run.before(run.rest().rest()));
-            push_span(alloc, text, one.span().from, one.span().to)?;
-            push_span(alloc, text, two.span().from, two.span().to)
+            let (one, two, is_none) = fronts(run);
+            push_span(alloc, text, one.from, one.to)?;
+            push_span(alloc, text, two.from, two.to)?;
+            Ok(text.push_str(if is_none { "none" } else { "some" })?)
         }
         Ask::Print => Ok(text.push_str(print(alloc, run)?.as_str())?),
     }
@@ -170,8 +180,8 @@ fn tokens_of_sources(rt: HostRuntime) -> Result<(), Fail> {
                 "0..4 5..6 7..26 9..10 10..22 23..24 11..16 17..20 ",
             ),
             ("a :: \"b\"", Ask::Texts, "a :- : b "),
-            ("a (b) c", Ask::Fronts, "0..1 0..5 "),
-            ("", Ask::Fronts, "0..0 0..0 "),
+            ("a (b) c", Ask::Fronts, "0..1 0..5 none"),
+            ("", Ask::Fronts, "0..0 0..0 none"),
             ("", Ask::Extent, "none"),
             (" \t\r\n", Ask::Extent, "none"),
             ("a,|b|", Ask::Print, "a ,| b |"),
