@@ -7,7 +7,6 @@ ghost use Rattle.logos_generator.specs.CodeView.{mark_of, entry_of, state_at, as
 ghost use Rattle.logos_generator.specs.Rows.{IsRow};
 
 pub(crate) mod rows;
-mod sound;
 #[cfg(test)]
 mod tests;
 

@@ -7,8 +7,6 @@ ghost use Rattle.logos_generator.specs.Headline.{RunsAs};
 mod fork;
 mod leaves;
 mod states;
-#[cfg(test)]
-mod tests;
 mod tests_by_bits;
 
 use crate::code::Code;

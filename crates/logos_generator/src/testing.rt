@@ -14,51 +14,42 @@ const NAME: Ident<'static> = Ident {
     span: Span { from: 0, to: 0 },
 };
 
-/// A leaf that gives tokens.
-fn leaf(alloc: Global, regex: &str, priority: usize) -> Result<Leaf<'static>, Fail> {
-    let pattern = Pattern::compile(alloc, false, regex, "", true, false)?;
-    Ok(
-        Leaf::new(Span { from: 0, to: 0 }, pattern)
-            .priority(priority)
-            .variant_kind(VariantKind::Unit(NAME)),
-    )
+/// What becomes of the matches of a pattern.
+#[derive(Clone, Copy, PartialEq, Eq)]
+pub(crate) enum Fate {
+    Token,
+    Skip,
+    /// A token, after a function was called.
+    Called,
+    /// They are left out, after a function was called.
+    CalledSkip,
 }
 
-/// The code of leaves with these patterns and priorities, numbered in their order.
-pub(crate) fn code_by_priority(
+/// Patterns with their priorities and the fates of their matches, numbered in this order.
+pub(crate) type Rules<'a> = &'a [(&'a str, usize, Fate)];
+
+fn leaf(alloc: Global, rule: &(&str, usize, Fate)) -> Result<Leaf<'static>, Fail> {
+    let pattern = Pattern::compile(alloc, false, rule.0, "", true, false)?;
+    let mut leaf = Leaf::new(Span { from: 0, to: 0 }, pattern).priority(rule.1);
+    if matches!(rule.2, Fate::Token | Fate::Called) {
+        leaf.kind = VariantKind::Unit(NAME);
+    }
+    if matches!(rule.2, Fate::Called | Fate::CalledSkip) {
+        leaf.callback = Some(Callback::Label(tokenize(alloc, "f")?));
+    }
+    Ok(leaf)
+}
+
+/// The code of leaves.
+pub(crate) fn code_of(
     alloc: Global,
     utf8_mode: bool,
-    patterns: &[(&str, usize)],
+    rules: Rules<'_>,
 ) -> Result<Code<'static>, Fail> {
     let mut leaves = Vec::new(alloc);
-    for (regex, priority) in patterns {
-        leaves.push(leaf(alloc, regex, *priority)?)?;
+    for rule in rules {
+        leaves.push(leaf(alloc, rule)?)?;
     }
-    code_of_leaves(alloc, utf8_mode, leaves)
-}
-
-/// The code of leaves with these patterns, all of one priority, in UTF-8 mode.
-pub(crate) fn code_of(alloc: Global, patterns: &[&str]) -> Result<Code<'static>, Fail> {
-    let mut leaves = Vec::new(alloc);
-    for regex in patterns {
-        leaves.push(leaf(alloc, regex, 1)?)?;
-    }
-    code_of_leaves(alloc, true, leaves)
-}
-
-/// The code of a leaf with this pattern, on whose matches a function is called.
-pub(crate) fn code_with_callback(alloc: Global, regex: &str) -> Result<Code<'static>, Fail> {
-    let label = Callback::Label(tokenize(alloc, "f")?);
-    let mut leaves = Vec::new(alloc);
-    leaves.push(leaf(alloc, regex, 1)?.callback(Some(label)))?;
-    code_of_leaves(alloc, true, leaves)
-}
-
-fn code_of_leaves(
-    alloc: Global,
-    utf8_mode: bool,
-    leaves: Vec<Leaf<'static>>,
-) -> Result<Code<'static>, Fail> {
     let graph = Graph::new(alloc, leaves, logos_graph::graph::Config { utf8_mode })?;
     if !graph.errors().is_empty() {
         return Err(Fail::from("the leaves have faults"));

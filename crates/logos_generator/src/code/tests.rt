@@ -1,27 +1,23 @@
+// The nodes of codes of patterns.
+
 use super::*;
-use crate::testing::code_of;
-use std::alloc::{AllocError, Global};
+use crate::testing::{Fate, Rules, code_of};
+use std::alloc::Global;
+use std::process::Abort;
 use std::test::Fail;
 
-fn fast_loop(code: &Code, state: usize) -> Option<usize> {
-    match code.parts.states.get(state) {
-        Some(state) => state.fast_loop,
-        None => None,
-    }
-}
-
-fn mark(code: &Code, state: usize) -> Option<Mark> {
-    match code.parts.states.get(state) {
-        Some(state) => state.mark,
-        None => None,
-    }
-}
-
-fn early(leaf: usize) -> Option<Mark> {
-    Some(Mark {
-        leaf: LeafId(leaf),
-        late: false,
-    })
+fn push_mark(alloc: Global, text: &mut String, mark: Option<Mark>) -> Result<(), Fail> {
+    let Some(mark) = mark else {
+        return Ok(());
+    };
+    let leaf = mark.leaf.0;
+    let line = if mark.late {
+        format!(in alloc; "late {leaf} ")?
+    } else {
+        format!(in alloc; "early {leaf} ")?
+    };
+    text.push_str(line.as_str())?;
+    Ok(())
 }
 
 /// How many operations the comparisons cost.
@@ -33,166 +29,186 @@ fn cost(comparisons: &[Comparisons]) -> usize {
     operations
 }
 
-fn branch_text(alloc: Global, condition: &Condition, target: usize) -> Result<String, AllocError> {
-    match condition {
-        Condition::Comparisons(comparisons) => format!(in alloc;
-            "{} by {} operations, ",
-            target,
-            cost(comparisons)
-        ),
-        Condition::Test(k) => format!(in alloc; "{} by test {}, ", target, k),
+fn push_branches(
+    alloc: Global,
+    text: &mut String,
+    branches: &[(Condition, usize)],
+) -> Result<(), Fail> {
+    for (condition, target) in branches {
+        let line = match condition {
+            Condition::Comparisons(all) => format!(in alloc;
+                "to {target} by {} operations ",
+                cost(all)
+            )?,
+            Condition::Test(k) => format!(in alloc; "to {target} by test {k} ")?,
+        };
+        text.push_str(line.as_str())?;
+    }
+    Ok(())
+}
+
+fn push_fork(alloc: Global, text: &mut String, fork: &Fork) -> Result<(), Fail> {
+    match fork {
+        Fork::Table(k) => Ok(text.push_str(format!(in alloc; "table {k} ")?.as_str())?),
+        Fork::Conditions(branches) => push_branches(alloc, text, branches),
     }
 }
 
-fn conditions_text(alloc: Global, branches: &[(Condition, usize)]) -> Result<String, AllocError> {
-    let mut text = String::new(alloc);
-    for (condition, target) in branches {
-        text.push_str(branch_text(alloc, condition, *target)?.as_str())?;
+fn push_state(alloc: Global, text: &mut String, state: &CodeState) -> Result<(), Fail> {
+    if let Some(k) = state.fast_loop {
+        text.push_str(format!(in alloc; "loop {k} ")?.as_str())?;
     }
+    push_mark(alloc, text, state.mark)?;
+    push_fork(alloc, text, &state.fork)?;
+    if let Some(target) = state.at_end {
+        text.push_str(format!(in alloc; "end {target} ")?.as_str())?;
+    }
+    text.push_str("; ")?;
+    Ok(())
+}
+
+/// Adds the bytes that lead somewhere, and where.
+fn push_jumps(alloc: Global, text: &mut String, table: &[u32; 256]) -> Result<(), Fail> {
+    for (byte, target) in table.iter().enumerate() {
+        if *target != NOWHERE {
+            text.push_str(format!(in alloc; "{byte} to {target} ")?.as_str())?;
+        }
+    }
+    text.push_str("; ")?;
+    Ok(())
+}
+
+/// Adds the least and the last of the bytes whose entries have the bit, and their count, if there are any.
+fn push_test(
+    alloc: Global,
+    text: &mut String,
+    table: &[u8; 256],
+    number: usize,
+    bit: u8,
+) -> Result<(), Fail> {
+    let (mut first, mut last, mut count) = (255usize, 0usize, 0usize);
+    for (byte, entry) in table.iter().enumerate() {
+        if entry.checked_shr(u32::from(bit)).unwrap_or(0) % 2 == 1 {
+            first = first.min(byte);
+            last = byte;
+            count = count.saturating_add(1);
+        }
+    }
+    if count > 0 {
+        let line = format!(in alloc; "{number}.{bit}: {first} to {last}, {count}; ")?;
+        text.push_str(line.as_str())?;
+    }
+    Ok(())
+}
+
+/// Adds each test that some byte passes.
+fn push_tests(alloc: Global, text: &mut String, tables: &[[u8; 256]]) -> Result<(), Fail> {
+    for (number, table) in tables.iter().enumerate() {
+        for bit in 0..8u8 {
+            push_test(alloc, text, table, number, bit)?;
+        }
+    }
+    Ok(())
+}
+
+/// What becomes of the matches of each leaf.
+fn push_leaves(text: &mut String, leaves: &[CodeLeaf<'_>]) -> Result<(), Fail> {
+    for leaf in leaves {
+        if leaf.has_callback {
+            text.push_str("called ")?;
+        }
+        text.push_str(match leaf.kind {
+            VariantKind::Unit(_) => "token; ",
+            VariantKind::Skip => "skip; ",
+        })?;
+    }
+    Ok(())
+}
+
+/// The nodes of the code: its states, then its jump tables, its tests, and its leaves.
+fn nodes(alloc: Global, code: &Code<'_>) -> Result<String, Fail> {
+    let mut text = String::new(alloc);
+    for state in &code.parts.states {
+        push_state(alloc, &mut text, state)?;
+    }
+    text.push_str("| ")?;
+    for table in &code.parts.jump_tables {
+        push_jumps(alloc, &mut text, table)?;
+    }
+    text.push_str("| ")?;
+    push_tests(alloc, &mut text, &code.parts.bit_tables)?;
+    text.push_str("| ")?;
+    push_leaves(&mut text, &code.parts.leaves)?;
     Ok(text)
 }
 
-/// The fork of a state: its table, or where its conditions lead, each with its cost or its test.
-fn fork(alloc: Global, code: &Code, state: usize) -> Result<String, Fail> {
-    let Some(state) = code.parts.states.get(state) else {
-        return Err(Fail::from("no such state"));
-    };
-    match &state.fork {
-        Fork::Table(k) => Ok(format!(in alloc; "table {}", k)?),
-        Fork::Conditions(branches) => Ok(conditions_text(alloc, branches)?),
+/// The code of each list of rules has the nodes beside them.
+fn have_nodes(rt: &impl Abort, alloc: Global, cases: &[(Rules<'_>, &str)]) -> Result<(), Fail> {
+    for case in cases {
+        let code = code_of(alloc, true, case.0)?;
+        assert!(rt; nodes(alloc, &code)?.as_str() == case.1, "other nodes");
     }
-}
-
-/// Whether the bits of the mask are set for the bytes from `first` to `last`, and for no others.
-fn is_over(table: &[u8; 256], mask: u8, first: u8, last: u8) -> bool {
-    for b in 0..256usize {
-        let inside = (first as usize <= b) & (b <= last as usize);
-        if (table[b] & mask != 0) != inside {
-            return false;
-        }
-    }
-    true
-}
-
-#[test]
-fn cheap_classes_are_compared(rt: HostRuntime) -> Result<(), Fail> {
-    let alloc = rt.alloc();
-    let code = code_of(alloc, &["[a-z]+"])?;
-    assert_eq!(rt; code.parts.states.len(), 2);
-    assert_eq!(rt; fast_loop(&code, 0), None);
-    assert_eq!(rt; mark(&code, 0), None);
-    assert_eq!(rt; fork(alloc, &code, 0)?.as_str(), "1 by 2 operations, ");
-    assert_eq!(rt; fast_loop(&code, 1), Some(0));
-    assert_eq!(rt; mark(&code, 1), early(0));
-    assert_eq!(rt;
-        fork(alloc, &code, 1)?.as_str(),
-        "",
-        "the edge back is the loop's alone"
-    );
-    assert_eq!(rt; code.parts.bit_tables.len(), 1);
-    assert!(rt; is_over(&code.parts.bit_tables[0], 255, b'a', b'z'));
-    assert!(rt; code.parts.jump_tables.is_empty());
     Ok(())
 }
 
 #[test]
-fn dear_classes_are_tested_by_bits(rt: HostRuntime) -> Result<(), Fail> {
-    let alloc = rt.alloc();
-    let code = code_of(alloc, &["[a-zA-Z]+"])?;
-    assert_eq!(rt; code.parts.states.len(), 2);
-    assert_eq!(rt; fork(alloc, &code, 0)?.as_str(), "1 by test 0, ");
-    assert_eq!(rt; fast_loop(&code, 1), Some(0), "equal tests share a number");
-    assert_eq!(rt; fork(alloc, &code, 1)?.as_str(), "");
-    assert_eq!(rt; code.parts.bit_tables.len(), 1);
-    assert!(rt;
-        is_over(&code.parts.bit_tables[0], 2, 1, 0),
-        "there is no second test"
-    );
-    Ok(())
-}
-
-#[test]
-fn the_root_has_a_loop(rt: HostRuntime) -> Result<(), Fail> {
-    let alloc = rt.alloc();
-    let code = code_of(alloc, &["a*b"])?;
-    assert_eq!(rt; code.parts.states.len(), 2);
-    assert_eq!(rt; fast_loop(&code, 0), Some(0));
-    assert_eq!(rt; mark(&code, 0), None);
-    assert_eq!(rt; fork(alloc, &code, 0)?.as_str(), "1 by 1 operations, ");
-    assert_eq!(rt; fast_loop(&code, 1), None);
-    assert_eq!(rt; mark(&code, 1), early(0));
-    assert_eq!(rt; fork(alloc, &code, 1)?.as_str(), "");
-    assert_eq!(rt; code.parts.bit_tables.len(), 1);
-    assert!(rt; is_over(&code.parts.bit_tables[0], 255, b'a', b'a'));
-    Ok(())
-}
-
-#[test]
-fn three_edges_are_a_table(rt: HostRuntime) -> Result<(), Fail> {
-    let alloc = rt.alloc();
-    let code = code_of(alloc, &["a*(?:b|cd)"])?;
-    assert_eq!(rt; code.parts.states.len(), 3);
-    assert_eq!(rt;
-        fork(alloc, &code, 0)?.as_str(),
-        "table 0",
-        "the edge back is counted"
-    );
-    assert_eq!(rt; fast_loop(&code, 0), Some(0));
-    assert_eq!(rt; code.parts.jump_tables.len(), 1);
-    let table = &code.parts.jump_tables[0];
-    assert_eq!(rt; table[b'a' as usize], NOWHERE, "and left out");
-    assert_eq!(rt; table[b'b' as usize], 1);
-    assert_eq!(rt; table[b'c' as usize], 2);
-    assert_eq!(rt; table[b'd' as usize], NOWHERE);
-    assert_eq!(rt; mark(&code, 1), early(0));
-    assert_eq!(rt; fork(alloc, &code, 2)?.as_str(), "1 by 1 operations, ");
-    Ok(())
-}
-
-#[test]
-fn equal_tables_are_kept_once(rt: HostRuntime) -> Result<(), Fail> {
-    let alloc = rt.alloc();
-    let code = code_of(alloc, &["p", "[pq](?:a|b0|c00)"])?;
-    assert_eq!(rt; code.parts.states.len(), 6);
-    assert_eq!(rt;
-        fork(alloc, &code, 0)?.as_str(),
-        "1 by 1 operations, 2 by 1 operations, "
-    );
-    assert_eq!(rt; mark(&code, 1), early(0));
-    assert_eq!(rt; mark(&code, 2), None);
-    assert_eq!(rt; fork(alloc, &code, 1)?.as_str(), "table 0");
-    assert_eq!(rt; fork(alloc, &code, 2)?.as_str(), "table 0");
-    assert_eq!(rt; code.parts.jump_tables.len(), 1);
-    let table = &code.parts.jump_tables[0];
-    assert_eq!(rt; table[b'a' as usize], 3);
-    assert_eq!(rt; table[b'b' as usize], 4);
-    assert_eq!(rt; table[b'c' as usize], 5);
-    assert_eq!(rt; table[b'0' as usize], NOWHERE);
-    assert_eq!(rt; mark(&code, 3), early(1));
-    Ok(())
+fn nodes_of_patterns(rt: HostRuntime) -> Result<(), Fail> {
+    have_nodes(
+        &rt,
+        rt.alloc(),
+        &[
+            // cheap classes are compared, and the edge back is the loop's alone
+            (
+                &[("[a-z]+", 1, Fate::Token)],
+                "to 1 by 2 operations ; loop 0 early 0 ; | | 0.0: 97 to 122, 26; | token; ",
+            ),
+            // dear classes are tested by bits, and equal tests share a number
+            (
+                &[("[a-zA-Z]+", 1, Fate::Skip)],
+                "to 1 by test 0 ; loop 0 early 0 ; | | 0.0: 65 to 122, 52; | skip; ",
+            ),
+            // the root has a loop
+            (
+                &[("a*b", 1, Fate::Called)],
+                "loop 0 to 1 by 1 operations ; early 0 ; | | 0.0: 97 to 97, 1; | called token; ",
+            ),
+            // three edges are a table: the edge back is counted, and left out
+            (
+                &[("a*(?:b|cd)", 1, Fate::CalledSkip)],
+                "loop 0 table 0 ; early 0 ; to 1 by 1 operations ; | 98 to 1 99 to 2 ; | 0.0: 97 to 97, 1; | called skip; ",
+            ),
+            // equal tables are kept once
+            (
+                &[("p", 1, Fate::Token), ("[pq](?:a|b0|c00)", 1, Fate::Token)],
+                "to 1 by 1 operations to 2 by 1 operations ; early 0 table 0 ; table 0 ; early 1 ; to 3 by 1 operations ; to 4 by 1 operations ; | 97 to 3 98 to 4 99 to 5 ; | | token; token; ",
+            ),
+            // the end leads to a late mark
+            (
+                &[("a$", 3, Fate::Token), ("a", 2, Fate::Token)],
+                "to 1 by 1 operations ; to 2 by 0 operations end 3 ; late 1 ; late 0 ; | | | token; token; ",
+            ),
+        ],
+    )
 }
 
 #[test]
 fn the_ninth_test_stands_in_the_second_table(rt: HostRuntime) -> Result<(), Fail> {
-    let alloc = rt.alloc();
-    let code = code_of(
-        alloc,
-        &[
-            "0a*", "1b*", "2c*", "3d*", "4e*", "5f*", "6g*", "7h*", "8i*",
-        ],
-    )?;
-    assert_eq!(rt; code.parts.states.len(), 10);
-    assert_eq!(rt; fork(alloc, &code, 0)?.as_str(), "table 0");
-    assert_eq!(rt; fast_loop(&code, 1), Some(0));
-    assert_eq!(rt; fast_loop(&code, 8), Some(7));
-    assert_eq!(rt; fast_loop(&code, 9), Some(8));
-    assert_eq!(rt; mark(&code, 9), early(8));
-    assert_eq!(rt; code.parts.bit_tables.len(), 2);
-    let tables = &code.parts.bit_tables;
-    assert!(rt; is_over(&tables[0], 1, b'a', b'a'));
-    assert!(rt; is_over(&tables[0], 128, b'h', b'h'));
-    assert!(rt; is_over(&tables[0], 255, b'a', b'h'));
-    assert!(rt; is_over(&tables[1], 1, b'i', b'i'));
-    assert!(rt; is_over(&tables[1], 255, b'i', b'i'));
-    Ok(())
+    have_nodes(
+        &rt,
+        rt.alloc(),
+        &[(
+            &[
+                ("0a*", 1, Fate::Token),
+                ("1b*", 1, Fate::Token),
+                ("2c*", 1, Fate::Token),
+                ("3d*", 1, Fate::Token),
+                ("4e*", 1, Fate::Token),
+                ("5f*", 1, Fate::Token),
+                ("6g*", 1, Fate::Token),
+                ("7h*", 1, Fate::Token),
+                ("8i*", 1, Fate::Token),
+            ],
+            "table 0 ; loop 0 early 0 ; loop 1 early 1 ; loop 2 early 2 ; loop 3 early 3 ; loop 4 early 4 ; loop 5 early 5 ; loop 6 early 6 ; loop 7 early 7 ; loop 8 early 8 ; | 48 to 1 49 to 2 50 to 3 51 to 4 52 to 5 53 to 6 54 to 7 55 to 8 56 to 9 ; | 0.0: 97 to 97, 1; 0.1: 98 to 98, 1; 0.2: 99 to 99, 1; 0.3: 100 to 100, 1; 0.4: 101 to 101, 1; 0.5: 102 to 102, 1; 0.6: 103 to 103, 1; 0.7: 104 to 104, 1; 1.0: 105 to 105, 1; | token; token; token; token; token; token; token; token; token; ",
+        )],
+    )
 }

@@ -1,481 +1,392 @@
-mod patterns;
+// Lexers of patterns.
 
 use super::*;
-use crate::code::{CodeLeaf, CodeParts, CodeState, Condition, Fork, Mark, NOWHERE};
-use crate::generator::Config;
-use logos_graph::byte_class::Comparisons;
-use logos_pattern::leaf::VariantKind;
-use logos_token::token::Ident;
-use std::ops::RangeInclusive;
+use crate::testing::{Fate, Rules, code_of};
+use std::alloc::Global;
 use std::process::Abort;
 use std::test::Fail;
 
-/// A leaf that gives tokens.
-fn leaf(has_callback: bool) -> CodeLeaf<'static> {
-    let span = Span { from: 0, to: 0 };
-    CodeLeaf {
-        kind: VariantKind::Unit(Ident { text: "A", span }),
-        has_callback,
+/// What a callback answers.
+#[derive(Clone, Copy)]
+enum Reply {
+    Emit,
+    Skip,
+    Refuse,
+    /// It emits the text `a` alone, and refuses all others.
+    EmitA,
+}
+
+/// What is asked of the code of some patterns.
+#[derive(Clone, Copy)]
+enum Ask<'a> {
+    /// The items of the input, where each callback answers so.
+    Items(Reply, &'a [u8]),
+    /// Where a lexer stands before the first of so many calls and after each, and the states entered by the last try.
+    Walk(usize, &'a str),
+    /// How much of the bytes is UTF-8, where they are refused.
+    Utf8(&'a [u8]),
+}
+
+fn action_of(reply: Reply, slice: &[u8]) -> Action {
+    match reply {
+        Reply::Emit => Action::Emit,
+        Reply::Skip => Action::Skip,
+        Reply::Refuse => Action::Error,
+        Reply::EmitA if slice == b"a".as_slice() => Action::Emit,
+        Reply::EmitA => Action::Error,
     }
 }
 
-fn early(leaf: usize) -> Option<Mark> {
-    Some(Mark {
-        leaf: LeafId(leaf),
-        late: false,
-    })
+/// Adds the leaf of an item and its span.
+fn push_item(alloc: Global, text: &mut String, item: &Item<'_>) -> Result<(), Fail> {
+    let line = match item {
+        Item::Token { leaf, span, .. } => format!(in alloc;
+            "{} at {}..{}, ",
+            leaf.0, span.from, span.to
+        )?,
+        Item::Error {
+            leaf: Some(leaf),
+            span,
+            ..
+        } => format!(in alloc; "error of {} {}..{}, ", leaf.0, span.from, span.to)?,
+        Item::Error {
+            leaf: None,
+            span,
+            ..
+        } => format!(in alloc; "error {}..{}, ", span.from, span.to)?,
+    };
+    text.push_str(line.as_str())?;
+    Ok(())
 }
 
-fn late(leaf: usize) -> Option<Mark> {
-    Some(Mark {
-        leaf: LeafId(leaf),
-        late: true,
-    })
-}
-
-/// A state with no edges.
-fn dead_end(alloc: Global, mark: Option<Mark>) -> CodeState {
-    CodeState {
-        fast_loop: None,
-        mark,
-        fork: Fork::Conditions(Vec::new(alloc)),
-        at_end: None,
-    }
-}
-
-/// A fork that leads by the bytes from `first` to `last`.
-fn by_range(alloc: Global, first: u8, last: u8, target: usize) -> Result<Fork, AllocError> {
-    let mut comparisons = Vec::new(alloc);
-    comparisons.push(Comparisons::new(alloc, RangeInclusive::new(first, last)))?;
-    let mut branches = Vec::new(alloc);
-    branches.push((Condition::Comparisons(comparisons), target))?;
-    Ok(Fork::Conditions(branches))
-}
-
-/// A table of one test, number 0.
-fn test_of(first: u8, last: u8) -> [u8; 256] {
-    let mut table = [0; 256];
-    for b in first as usize..last as usize + 1 {
-        table[b] = 1;
-    }
-    table
-}
-
-/// Parts with these states and leaves, and no tables.
-fn parts(
+fn push_items(
     alloc: Global,
-    states: Vec<CodeState>,
-    leaves: &[CodeLeaf<'static>],
-) -> Result<CodeParts<'static>, AllocError> {
-    Ok(CodeParts {
-        shape: Config {
-            use_state_machine_codegen: true,
-        },
-        name: Ident {
-            text: "Enum",
-            span: Span { from: 0, to: 0 },
-        },
-        states,
-        bit_tables: Vec::new(alloc),
-        jump_tables: Vec::new(alloc),
-        leaves: Vec::from_slice(alloc, leaves)?,
-        root: 0,
-        utf8: true,
-    })
-}
-
-/// `a*b`, with a loop at the root.
-fn star_code(alloc: Global) -> Result<Code<'static>, Fail> {
-    let mut states = Vec::new(alloc);
-    states.push(CodeState {
-        fast_loop: Some(0),
-        mark: None,
-        fork: by_range(alloc, b'b', b'b', 1)?,
-        at_end: None,
-    })?;
-    states.push(dead_end(alloc, early(0)))?;
-    let mut parts = parts(alloc, states, &[leaf(false)])?;
-    parts.bit_tables.push(test_of(b'a', b'a'))?;
-    Ok(Code::checked(alloc, parts)?.ok_or("unsound")?)
-}
-
-/// `[a-z]+`.
-fn word_code(alloc: Global) -> Result<Code<'static>, Fail> {
-    let mut states = Vec::new(alloc);
-    states.push(CodeState {
-        fast_loop: None,
-        mark: None,
-        fork: by_range(alloc, b'a', b'z', 1)?,
-        at_end: None,
-    })?;
-    states.push(CodeState {
-        fast_loop: Some(0),
-        mark: early(0),
-        fork: Fork::Conditions(Vec::new(alloc)),
-        at_end: None,
-    })?;
-    let mut parts = parts(alloc, states, &[leaf(false)])?;
-    parts.bit_tables.push(test_of(b'a', b'z'))?;
-    Ok(Code::checked(alloc, parts)?.ok_or("unsound")?)
-}
-
-/// `a` before no word byte (0), and before one (1). Both are known one byte late.
-fn boundary_code(alloc: Global) -> Result<Code<'static>, Fail> {
-    let mut states = Vec::new(alloc);
-    states.push(CodeState {
-        fast_loop: None,
-        mark: None,
-        fork: by_range(alloc, b'a', b'a', 1)?,
-        at_end: None,
-    })?;
-    states.push(CodeState {
-        fast_loop: None,
-        mark: None,
-        fork: Fork::Table(0),
-        at_end: Some(2),
-    })?;
-    states.push(dead_end(alloc, late(0)))?;
-    states.push(dead_end(alloc, late(1)))?;
-    let mut parts = parts(alloc, states, &[leaf(false), leaf(false)])?;
-    let mut jumps = [2; 256];
-    jumps[b'a' as usize] = 3;
-    parts.jump_tables.push(jumps)?;
-    parts.utf8 = false;
-    Ok(Code::checked(alloc, parts)?.ok_or("unsound")?)
-}
-
-/// The token `a`, as this leaf has it.
-fn letter_code(alloc: Global, leaf: CodeLeaf<'static>) -> Result<Code<'static>, Fail> {
-    let mut states = Vec::new(alloc);
-    states.push(CodeState {
-        fast_loop: None,
-        mark: None,
-        fork: by_range(alloc, b'a', b'a', 1)?,
-        at_end: None,
-    })?;
-    states.push(dead_end(alloc, early(0)))?;
-    let parts = parts(alloc, states, &[leaf])?;
-    Ok(Code::checked(alloc, parts)?.ok_or("unsound")?)
-}
-
-/// No leaves.
-fn empty_code(alloc: Global, utf8: bool) -> Result<Code<'static>, Fail> {
-    let mut states = Vec::new(alloc);
-    states.push(dead_end(alloc, None))?;
-    let mut parts = parts(alloc, states, &[])?;
-    parts.utf8 = utf8;
-    Ok(Code::checked(alloc, parts)?.ok_or("unsound")?)
-}
-
-/// The items, each as its leaf and its span.
-fn shown(alloc: Global, items: &[Item<'_>]) -> Result<String, AllocError> {
-    let mut text = String::new(alloc);
-    for item in items {
-        let line = match item {
-            Item::Token { leaf, span, .. } => format!(in alloc;
-                "{} at {}..{}, ",
-                leaf.0, span.from, span.to
-            )?,
-            Item::Error {
-                leaf: Some(leaf),
-                span,
-                ..
-            } => format!(in alloc; "error of {} {}..{}, ", leaf.0, span.from, span.to)?,
-            Item::Error {
-                leaf: None,
-                span,
-                ..
-            } => format!(in alloc; "error {}..{}, ", span.from, span.to)?,
-        };
-        text.push_str(line.as_str())?;
+    text: &mut String,
+    code: &Code<'_>,
+    answer: Reply,
+    input: &[u8],
+) -> Result<(), Fail> {
+    let items = lex_all(alloc, code, input, |_, slice| action_of(answer, slice))?;
+    for item in &items {
+        push_item(alloc, text, item)?;
     }
-    Ok(text)
+    Ok(())
 }
 
 fn emit(_leaf: LeafId, _slice: &[u8]) -> Action {
     Action::Emit
 }
 
-fn lexed(alloc: Global, code: &Code, input: &[u8]) -> Result<String, AllocError> {
-    let items = lex_all(alloc, code, input, emit)?;
-    shown(alloc, items.as_slice())
+/// Whether the slice and the remainder are those of the span.
+fn is_in_step(input: &str, span: Span, slice: &[u8], remainder: &[u8]) -> bool {
+    input.as_bytes().get(span.from..span.to) == Some(slice)
+        && input.as_bytes().get(span.to..) == Some(remainder)
+}
+
+fn push_walk(
+    alloc: Global,
+    text: &mut String,
+    code: &Code<'_>,
+    calls: usize,
+    input: &str,
+) -> Result<(), Fail> {
+    let mut lexer = Lexer::new_str(code, input, emit);
+    for _ in 0..calls {
+        let (span, steps) = (lexer.span(), lexer.steps());
+        if !is_in_step(input, span, lexer.slice(), lexer.remainder()) {
+            return Err(Fail::from("another slice"));
+        }
+        text.push_str(format!(in alloc; "{}..{} by {steps}; ", span.from, span.to)?.as_str())?;
+        if lexer.next().is_none() {
+            text.push_str("none; ")?;
+        }
+    }
+    Ok(())
+}
+
+fn push_utf8(alloc: Global, text: &mut String, code: &Code<'_>, input: &[u8]) -> Result<(), Fail> {
+    if let Err(refused) = Lexer::new_bytes(code, input, emit) {
+        text.push_str(format!(in alloc; "{}", refused.valid_up_to)?.as_str())?;
+    }
+    Ok(())
+}
+
+fn answer(alloc: Global, code: &Code<'_>, ask: Ask<'_>) -> Result<String, Fail> {
+    let mut text = String::new(alloc);
+    match ask {
+        Ask::Items(answer, input) => push_items(alloc, &mut text, code, answer, input)?,
+        Ask::Walk(calls, input) => push_walk(alloc, &mut text, code, calls, input)?,
+        Ask::Utf8(input) => push_utf8(alloc, &mut text, code, input)?,
+    }
+    Ok(text)
+}
+
+/// The code of the rules answers each question as is said beside it.
+fn answers(
+    rt: &impl Abort,
+    alloc: Global,
+    utf8_mode: bool,
+    rules: Rules<'_>,
+    cases: &[(Ask<'_>, &str)],
+) -> Result<(), Fail> {
+    let code = code_of(alloc, utf8_mode, rules)?;
+    for case in cases {
+        assert!(rt;
+            answer(alloc, &code, case.0)?.as_str() == case.1,
+            "another answer"
+        );
+    }
+    Ok(())
+}
+
+/// The code of each list of rules finds the items behind it in the input, in UTF-8 mode.
+fn find(rt: &impl Abort, alloc: Global, cases: &[(Rules<'_>, &str, &str)]) -> Result<(), Fail> {
+    for case in cases {
+        let code = code_of(alloc, true, case.0)?;
+        let found = answer(alloc, &code, Ask::Items(Reply::Emit, case.1.as_bytes()))?;
+        assert!(rt; found.as_str() == case.2, "other items: {}", case.1);
+    }
+    Ok(())
 }
 
 #[test]
-fn an_error_takes_all_that_could_grow(rt: HostRuntime) -> Result<(), Fail> {
-    let alloc = rt.alloc();
-    let code = star_code(alloc)?;
-    assert_eq!(rt; lexed(alloc, &code, b"aaa")?.as_str(), "error 0..3, ");
-    assert_eq!(rt; lexed(alloc, &code, b"aab")?.as_str(), "0 at 0..3, ");
-    assert_eq!(rt;
-        lexed(alloc, &code, b"aabb")?.as_str(),
-        "0 at 0..3, 0 at 3..4, "
-    );
-    Ok(())
+fn items_of_patterns(rt: HostRuntime) -> Result<(), Fail> {
+    find(
+        &rt,
+        rt.alloc(),
+        &[
+            // an error takes all that could grow
+            (&[("a*b", 1, Fate::Token)], "aaa", "error 0..3, "),
+            (&[("a*b", 1, Fate::Token)], "aab", "0 at 0..3, "),
+            (&[("a*b", 1, Fate::Token)], "aabb", "0 at 0..3, 0 at 3..4, "),
+            // the longest match is kept
+            (
+                &[("f(ee)?", 1, Fate::Token)],
+                "fe",
+                "0 at 0..1, error 1..2, ",
+            ),
+            (
+                &[("fe{0,2}", 1, Fate::Token)],
+                "feee",
+                "0 at 0..3, error 3..4, ",
+            ),
+            // each leaf has its number
+            (
+                &[
+                    ("x0", 1, Fate::Token),
+                    ("x1", 1, Fate::Token),
+                    ("y0", 1, Fate::Token),
+                    ("y1", 1, Fate::Token),
+                ],
+                "x0y1",
+                "0 at 0..2, 3 at 2..4, ",
+            ),
+            // a boundary is known one byte late
+            (
+                &[
+                    ("a(?-u:\\b)", 1, Fate::Token),
+                    ("a(?-u:\\B)", 1, Fate::Token),
+                ],
+                "aa",
+                "1 at 0..1, 0 at 1..2, ",
+            ),
+            (
+                &[("a(?-u:\\b)", 1, Fate::Token)],
+                "aé",
+                "0 at 0..1, error 1..3, ",
+            ),
+            (
+                &[("xa(?-u:\\b)b", 1, Fate::Token)],
+                "xab",
+                "error 0..1, error 1..2, error 2..3, ",
+            ),
+            // the higher priority wins at the end
+            (
+                &[("a$", 3, Fate::Token), ("a", 1, Fate::Token)],
+                "aa",
+                "1 at 0..1, 0 at 1..2, ",
+            ),
+            // what can match nothing more is not read
+            (
+                &[("(?:aa)*[x&&y]", 1, Fate::Token)],
+                "aaa",
+                "error 0..1, error 1..2, error 2..3, ",
+            ),
+            // lines end before their ends
+            (
+                &[("(?m)a$", 1, Fate::Token)],
+                "a\nb",
+                "0 at 0..1, error 1..2, error 2..3, ",
+            ),
+            (
+                &[("(?Rm)a$", 1, Fate::Token)],
+                "a\r\na",
+                "0 at 0..1, error 1..2, error 2..3, 0 at 3..4, ",
+            ),
+        ],
+    )
 }
 
 #[test]
 fn loops_stop_where_they_should(rt: HostRuntime) -> Result<(), Fail> {
-    let alloc = rt.alloc();
-    let code = word_code(alloc)?;
-    assert_eq!(rt;
-        lexed(alloc, &code, b"qqqqqqq1")?.as_str(),
-        "0 at 0..7, error 7..8, "
-    );
-    assert_eq!(rt;
-        lexed(alloc, &code, b"qqqqqqqq1")?.as_str(),
-        "0 at 0..8, error 8..9, "
-    );
-    assert_eq!(rt;
-        lexed(alloc, &code, b"qqqqqqqqq1")?.as_str(),
-        "0 at 0..9, error 9..10, "
-    );
-    assert_eq!(rt;
-        lexed(alloc, &code, b"qqqqqqqqqqqqqqqq1")?.as_str(),
-        "0 at 0..16, error 16..17, "
-    );
-    assert_eq!(rt;
-        lexed(alloc, &code, b"qqqqqqqqqqqqqqqqq1")?.as_str(),
-        "0 at 0..17, error 17..18, "
-    );
-    assert_eq!(rt;
-        lexed(alloc, &code, b"qqqqqqqqqqqqqqqqq")?.as_str(),
-        "0 at 0..17, "
-    );
-    Ok(())
-}
-
-/// The states that the first two tries enter.
-fn steps_twice(code: &Code, input: &[u8]) -> (usize, usize) {
-    let Ok(mut lexer) = Lexer::new_bytes(code, input, emit) else {
-        return (0, 0);
-    };
-    let _ = lexer.next();
-    let first = lexer.steps();
-    let _ = lexer.next();
-    (first, lexer.steps())
+    answers(
+        &rt,
+        rt.alloc(),
+        true,
+        &[("[a-z]+", 1, Fate::Token)],
+        &[
+            (
+                Ask::Items(Reply::Emit, b"qqqqqqq1"),
+                "0 at 0..7, error 7..8, ",
+            ),
+            (
+                Ask::Items(Reply::Emit, b"qqqqqqqq1"),
+                "0 at 0..8, error 8..9, ",
+            ),
+            (
+                Ask::Items(Reply::Emit, b"qqqqqqqqq1"),
+                "0 at 0..9, error 9..10, ",
+            ),
+            (
+                Ask::Items(Reply::Emit, b"qqqqqqqqqqqqqqqq1"),
+                "0 at 0..16, error 16..17, ",
+            ),
+            (
+                Ask::Items(Reply::Emit, b"qqqqqqqqqqqqqqqqq1"),
+                "0 at 0..17, error 17..18, ",
+            ),
+            (
+                Ask::Items(Reply::Emit, b"qqqqqqqqqqqqqqqqq"),
+                "0 at 0..17, ",
+            ),
+        ],
+    )
 }
 
 #[test]
-fn a_late_mark_ends_one_byte_before(rt: HostRuntime) -> Result<(), Fail> {
-    let alloc = rt.alloc();
-    let code = boundary_code(alloc)?;
-    assert_eq!(rt;
-        lexed(alloc, &code, b"aa")?.as_str(),
-        "1 at 0..1, 0 at 1..2, "
-    );
-    assert_eq!(rt;
-        steps_twice(&code, b"aa"),
-        (3, 3),
-        "the second try takes one byte and the end"
-    );
-    Ok(())
-}
-
-fn is_empty(rt: &impl Abort, code: &Code) {
-    let mut lexer = Lexer::new_str(code, "", emit);
-    assert_eq!(rt; lexer.steps(), 0);
-    assert!(rt; lexer.next().is_none());
-    assert_eq!(rt; lexer.steps(), 1);
-    assert!(rt; lexer.next().is_none());
-    assert_eq!(rt; lexer.span(), Span { from: 0, to: 0 });
-}
-
-#[test]
-fn nothing_is_in_an_empty_input(rt: HostRuntime) -> Result<(), Fail> {
-    let code = word_code(rt.alloc())?;
-    is_empty(&rt, &code);
-    Ok(())
-}
-
-fn stands_behind_each(rt: &impl Abort, code: &Code) {
-    let mut lexer = Lexer::new_str(code, "ab1c", emit);
-    assert_eq!(rt; lexer.remainder(), b"ab1c".as_slice());
-    assert_eq!(rt; lexer.slice(), b"".as_slice());
-    let _ = lexer.next();
-    assert_eq!(rt; lexer.span(), Span { from: 0, to: 2 });
-    assert_eq!(rt; lexer.slice(), b"ab".as_slice());
-    assert_eq!(rt; lexer.remainder(), b"1c".as_slice());
-    assert_eq!(rt; lexer.steps(), 2);
-    let _ = lexer.next();
-    let _ = lexer.next();
-    assert!(rt; lexer.next().is_none());
-    assert_eq!(rt; lexer.span(), Span { from: 4, to: 4 });
-    assert_eq!(rt; lexer.slice(), b"".as_slice());
-    assert!(rt; lexer.next().is_none());
-}
-
-#[test]
-fn a_lexer_stands_behind_its_last_item(rt: HostRuntime) -> Result<(), Fail> {
-    let code = word_code(rt.alloc())?;
-    stands_behind_each(&rt, &code);
-    Ok(())
+fn where_a_lexer_stands(rt: HostRuntime) -> Result<(), Fail> {
+    answers(
+        &rt,
+        rt.alloc(),
+        true,
+        &[("[a-z]+", 1, Fate::Token)],
+        &[
+            (
+                Ask::Walk(3, ""),
+                "0..0 by 0; none; 0..0 by 1; none; 0..0 by 1; none; ",
+            ),
+            (
+                Ask::Walk(6, "ab1c"),
+                "0..0 by 0; 0..2 by 2; 2..3 by 1; 3..4 by 2; none; 4..4 by 1; none; 4..4 by 1; none; ",
+            ),
+        ],
+    )?;
+    // the second try takes one byte and the end
+    answers(
+        &rt,
+        rt.alloc(),
+        true,
+        &[
+            ("a(?-u:\\b)", 1, Fate::Token),
+            ("a(?-u:\\B)", 1, Fate::Token),
+        ],
+        &[(
+            Ask::Walk(3, "aa"),
+            "0..0 by 0; 0..1 by 3; 1..2 by 3; none; ",
+        )],
+    )
 }
 
 #[test]
 fn a_callback_skips_or_refuses(rt: HostRuntime) -> Result<(), Fail> {
-    let alloc = rt.alloc();
-    let code = letter_code(alloc, leaf(true))?;
-    let skipped = lex_all(alloc, &code, b"aa", |_, _| Action::Skip)?;
-    assert_eq!(rt; shown(alloc, skipped.as_slice())?.as_str(), "");
-    let refused = lex_all(alloc, &code, b"aa", |_, _| Action::Error)?;
-    assert_eq!(rt;
-        shown(alloc, refused.as_slice())?.as_str(),
-        "error of 0 0..1, error of 0 1..2, "
-    );
-    let items = lex_all(
-        alloc,
-        &code,
-        b"aab",
-        |_, slice| if slice == b"a".as_slice() {
-            Action::Emit
-        } else {
-            Action::Error
-        },
-    )?;
-    assert_eq!(rt;
-        shown(alloc, items.as_slice())?.as_str(),
-        "0 at 0..1, 0 at 1..2, error 2..3, "
-    );
-    Ok(())
+    answers(
+        &rt,
+        rt.alloc(),
+        true,
+        &[("[a-z]+", 1, Fate::Called)],
+        &[
+            (
+                Ask::Items(Reply::Emit, b"ab1c"),
+                "0 at 0..2, error 2..3, 0 at 3..4, ",
+            ),
+            (Ask::Items(Reply::Skip, b"ab1c"), "error 2..3, "),
+            (
+                Ask::Items(Reply::Refuse, b"ab1c"),
+                "error of 0 0..2, error 2..3, error of 0 3..4, ",
+            ),
+            (
+                Ask::Items(Reply::EmitA, b"a1ab"),
+                "0 at 0..1, error 1..2, error of 0 2..4, ",
+            ),
+        ],
+    )
 }
 
 #[test]
-fn a_leaf_without_a_callback_asks_nobody(rt: HostRuntime) -> Result<(), Fail> {
-    let alloc = rt.alloc();
-    let code = letter_code(alloc, leaf(false))?;
-    let items = lex_all(alloc, &code, b"a", |_, _| Action::Error)?;
-    assert_eq!(rt; shown(alloc, items.as_slice())?.as_str(), "0 at 0..1, ");
-    Ok(())
-}
-
-#[test]
-fn an_emitted_skip_is_left_out(rt: HostRuntime) -> Result<(), Fail> {
-    let alloc = rt.alloc();
-    let kind = VariantKind::Skip;
-    let asked = letter_code(
-        alloc,
-        CodeLeaf {
-            kind,
-            has_callback: true,
-        },
-    )?;
-    assert_eq!(rt; lexed(alloc, &asked, b"aab")?.as_str(), "error 2..3, ");
-    let refused = lex_all(alloc, &asked, b"a", |_, _| Action::Error)?;
-    assert_eq!(rt;
-        shown(alloc, refused.as_slice())?.as_str(),
-        "error of 0 0..1, "
-    );
-    let plain = letter_code(
-        alloc,
-        CodeLeaf {
-            kind,
-            has_callback: false,
-        },
-    )?;
-    assert_eq!(rt; lexed(alloc, &plain, b"aa")?.as_str(), "");
-    Ok(())
+fn skips_are_left_out(rt: HostRuntime) -> Result<(), Fail> {
+    answers(
+        &rt,
+        rt.alloc(),
+        true,
+        &[
+            ("a", 1, Fate::CalledSkip),
+            ("b", 1, Fate::Skip),
+            ("c", 1, Fate::Token),
+        ],
+        &[
+            (Ask::Items(Reply::Emit, b"aabcd"), "2 at 3..4, error 4..5, "),
+            (
+                Ask::Items(Reply::Refuse, b"abc"),
+                "error of 0 0..1, 2 at 2..3, ",
+            ),
+        ],
+    )
 }
 
 #[test]
 fn errors_end_between_characters(rt: HostRuntime) -> Result<(), Fail> {
-    let alloc = rt.alloc();
-    let code = empty_code(alloc, true)?;
-    let items = lex_all(alloc, &code, "é€".as_bytes(), emit)?;
-    assert_eq!(rt;
-        shown(alloc, items.as_slice())?.as_str(),
-        "error 0..2, error 2..5, "
-    );
-    let code = empty_code(alloc, false)?;
-    let items = lex_all(alloc, &code, "é".as_bytes(), emit)?;
-    assert_eq!(rt;
-        shown(alloc, items.as_slice())?.as_str(),
-        "error 0..1, error 1..2, "
-    );
-    Ok(())
-}
-
-/// How much of the bytes is UTF-8, where they are refused.
-fn refusal(code: &Code, input: &[u8]) -> Option<usize> {
-    match Lexer::new_bytes(code, input, emit) {
-        Ok(_) => None,
-        Err(refused) => Some(refused.valid_up_to),
-    }
-}
-
-#[test]
-fn bytes_are_refused_in_utf8_mode_alone(rt: HostRuntime) -> Result<(), Fail> {
-    let alloc = rt.alloc();
-    let text = empty_code(alloc, true)?;
-    assert_eq!(rt; refusal(&text, b"\xFF"), Some(0));
-    assert_eq!(rt; refusal(&text, b"ab\xC3"), Some(2));
-    assert_eq!(rt; refusal(&text, b"ab\xC3\xA9"), None);
-    let bytes = empty_code(alloc, false)?;
-    assert_eq!(rt; refusal(&bytes, b"\xFF"), None);
-    Ok(())
-}
-
-fn first_item<'i>(code: &Code, input: &'i str) -> Option<Item<'i>> {
-    let mut lexer = Lexer::new_str(code, input, emit);
-    lexer.next()
+    answers(
+        &rt,
+        rt.alloc(),
+        true,
+        &[],
+        &[
+            (
+                Ask::Items(Reply::Emit, b"\xC3\xA9\xE2\x82\xAC"),
+                "error 0..2, error 2..5, ",
+            ),
+            (Ask::Utf8(b"\xFF"), "0"),
+            (Ask::Utf8(b"ab\xC3"), "2"),
+            (Ask::Utf8(b"ab\xC3\xA9"), ""),
+        ],
+    )?;
+    answers(
+        &rt,
+        rt.alloc(),
+        false,
+        &[],
+        &[
+            (
+                Ask::Items(Reply::Emit, b"\xC3\xA9"),
+                "error 0..1, error 1..2, ",
+            ),
+            (Ask::Utf8(b"\xFF"), ""),
+        ],
+    )
 }
 
 /// The first item, when lexer and code are gone.
-fn first_word<'i>(alloc: Global, input: &'i str) -> Result<Option<Item<'i>>, Fail> {
-    let code = word_code(alloc)?;
-    Ok(first_item(&code, input))
+fn first_item<'i>(alloc: Global, input: &'i str) -> Result<Option<Item<'i>>, Fail> {
+    let code = code_of(alloc, true, &[("[a-z]+", 1, Fate::Token)])?;
+    let mut lexer = Lexer::new_str(&code, input, emit);
+    Ok(lexer.next())
 }
 
 #[test]
 fn an_item_outlives_its_lexer(rt: HostRuntime) -> Result<(), Fail> {
-    let Some(Item::Token { slice, .. }) = first_word(rt.alloc(), "ab1")? else {
+    let Some(Item::Token { slice, .. }) = first_item(rt.alloc(), "ab1")? else {
         return Err(Fail::from("no token"));
     };
-    assert_eq!(rt; slice, b"ab".as_slice());
-    Ok(())
-}
-
-#[test]
-fn unsound_parts_are_refused(rt: HostRuntime) -> Result<(), Fail> {
-    let alloc = rt.alloc();
-    let mut states = Vec::new(alloc);
-    states.push(dead_end(alloc, early(0)))?;
-    assert!(rt;
-        Code::checked(alloc, parts(alloc, states, &[leaf(false)])?)?.is_none(),
-        "the root has a mark"
-    );
-    let mut states = Vec::new(alloc);
-    states.push(dead_end(alloc, None))?;
-    let mut twice = parts(alloc, states, &[])?;
-    twice.jump_tables.push([NOWHERE; 256])?;
-    twice.jump_tables.push([NOWHERE; 256])?;
-    assert!(rt;
-        Code::checked(alloc, twice)?.is_none(),
-        "two tables are equal"
-    );
-    let mut states = Vec::new(alloc);
-    states.push(CodeState {
-        fast_loop: None,
-        mark: None,
-        fork: by_range(alloc, b'a', b'a', 1)?,
-        at_end: None,
-    })?;
-    states.push(dead_end(alloc, late(0)))?;
-    assert!(rt;
-        Code::checked(alloc, parts(alloc, states, &[leaf(false)])?)?.is_none(),
-        "a late mark is one byte from the root"
-    );
-    let mut states = Vec::new(alloc);
-    states.push(CodeState {
-        fast_loop: None,
-        mark: None,
-        fork: by_range(alloc, b'a', b'a', 2)?,
-        at_end: None,
-    })?;
-    states.push(dead_end(alloc, early(0)))?;
-    assert!(rt;
-        Code::checked(alloc, parts(alloc, states, &[leaf(false)])?)?.is_none(),
-        "there is no state 2"
-    );
+    assert!(rt; slice == b"ab".as_slice());
     Ok(())
 }
