@@ -2,7 +2,6 @@
 
 mod faults;
 mod generated;
-mod looks;
 
 use super::*;
 use std::process::Abort;
@@ -52,16 +51,27 @@ fn given(alloc: Global, source: &str, input: &[u8], machine: bool) -> Result<Str
     }
 }
 
-/// In both shapes the source gives this on the input.
-pub(super) fn gives(
+/// Whether in both shapes the source gives this on the input.
+fn gives(alloc: Global, source: &str, input: &[u8], wanted: &str) -> Result<bool, Fail> {
+    Ok(
+        given(alloc, source, input, true)?.as_str() == wanted
+            && given(alloc, source, input, false)?.as_str() == wanted,
+    )
+}
+
+/// In both shapes each source gives on the input what is said behind it.
+pub(super) fn give(
     rt: &impl Abort,
     alloc: Global,
-    source: &str,
-    input: &[u8],
-    wanted: &str,
+    cases: &[(&str, &[u8], &str)],
 ) -> Result<(), Fail> {
-    assert_eq!(rt; given(alloc, source, input, true)?.as_str(), wanted);
-    assert_eq!(rt; given(alloc, source, input, false)?.as_str(), wanted);
+    for case in cases {
+        assert!(rt;
+            gives(alloc, case.0, case.1, case.2)?,
+            "something else: {}",
+            case.0
+        );
+    }
     Ok(())
 }
 
@@ -83,175 +93,222 @@ enum Token {
 
 #[test]
 fn lexes_a_sentence(rt: HostRuntime) -> Result<(), Fail> {
-    let alloc = rt.alloc();
-    gives(
+    give(
         &rt,
-        alloc,
-        README,
-        b"Create ridiculously fast Lexers.",
-        "3 at 0..6, 3 at 7..19, 1 at 20..24, 3 at 25..31, 2 at 31..32, ",
-    )?;
-    gives(&rt, alloc, README, b"", "")
+        rt.alloc(),
+        &[
+            (
+                README,
+                b"Create ridiculously fast Lexers.",
+                "3 at 0..6, 3 at 7..19, 1 at 20..24, 3 at 25..31, 2 at 31..32, ",
+            ),
+            (README, b"", ""),
+        ],
+    )
 }
 
 #[test]
 fn takes_the_longest_match(rt: HostRuntime) -> Result<(), Fail> {
-    let alloc = rt.alloc();
-    for (source, input, wanted) in [
-        (
-            r#"enum T { #[regex("f(ee)?")] A }"#,
-            "fe",
-            "0 at 0..1, error 1..2, ",
-        ),
-        (
-            r#"enum T { #[regex("fe{0,2}")] A }"#,
-            "feee",
-            "0 at 0..3, error 3..4, ",
-        ),
-        (r#"enum T { #[regex("a*b")] A }"#, "aaa", "error 0..3, "),
-        (
-            r#"enum T { #[token("abcd")] A, #[token("a")] B }"#,
-            "abc",
-            "1 at 0..1, error 1..2, error 2..3, ",
-        ),
-        (
-            r#"enum T { #[regex("(?:aa)*[x&&y]")] A }"#,
-            "aaa",
-            "error 0..1, error 1..2, error 2..3, ",
-        ),
-        (r#"enum T { #[regex("a+?")] A }"#, "aaa", "0 at 0..3, "),
-        (
-            r#"enum T { #[regex("a(ba)*")] A }"#,
-            "ab",
-            "0 at 0..1, error 1..2, ",
-        ),
-        (
-            r#"enum T { #[token("x0")] A, #[token("x1")] B, #[token("y0")] C, #[token("y1")] D }"#,
-            "x0y1",
-            "0 at 0..2, 3 at 2..4, ",
-        ),
-        (
-            r#"enum T { #[regex("[x&&y]a{1048575}")] A }"#,
-            "aa",
-            "error 0..1, error 1..2, ",
-        ),
-        (
-            r#"enum T { #[regex("(a.*)+")] A }"#,
-            "ab\na",
-            "0 at 0..2, error 2..3, 0 at 3..4, ",
-        ),
-    ] {
-        gives(&rt, alloc, source, input.as_bytes(), wanted)?;
-    }
-    Ok(())
-}
-
-#[test]
-fn reads_long_words(rt: HostRuntime) -> Result<(), Fail> {
-    let alloc = rt.alloc();
-    for (input, wanted) in [
-        ("qqqqqqq1", "0 at 0..7, error 7..8, "),
-        ("qqqqqqqq1", "0 at 0..8, error 8..9, "),
-        ("qqqqqqqqq1", "0 at 0..9, error 9..10, "),
-        ("qqqqqqqqqqqqqqqq1", "0 at 0..16, error 16..17, "),
-        ("qqqqqqqqqqqqqqqqq1", "0 at 0..17, error 17..18, "),
-    ] {
-        gives(
-            &rt,
-            alloc,
-            r#"enum T { #[regex("[a-z]+")] A }"#,
-            input.as_bytes(),
-            wanted,
-        )?;
-    }
-    Ok(())
-}
-
-#[test]
-fn ends_errors_between_characters(rt: HostRuntime) -> Result<(), Fail> {
-    let alloc = rt.alloc();
-    gives(
+    give(
         &rt,
-        alloc,
-        "enum T { #[token(\"\u{e9}\")] A }",
-        "\u{e8}".as_bytes(),
-        "error 0..2, ",
-    )?;
-    gives(
-        &rt,
-        alloc,
-        "enum T { }",
-        "\u{e9}".as_bytes(),
-        "error 0..2, ",
+        rt.alloc(),
+        &[
+            (
+                r#"enum T { #[regex("f(ee)?")] A }"#,
+                b"fe",
+                "0 at 0..1, error 1..2, ",
+            ),
+            (
+                r#"enum T { #[regex("fe{0,2}")] A }"#,
+                b"feee",
+                "0 at 0..3, error 3..4, ",
+            ),
+            (r#"enum T { #[regex("a*b")] A }"#, b"aaa", "error 0..3, "),
+            (
+                r#"enum T { #[token("abcd")] A, #[token("a")] B }"#,
+                b"abc",
+                "1 at 0..1, error 1..2, error 2..3, ",
+            ),
+            (
+                r#"enum T { #[regex("(?:aa)*[x&&y]")] A }"#,
+                b"aaa",
+                "error 0..1, error 1..2, error 2..3, ",
+            ),
+            (r#"enum T { #[regex("a+?")] A }"#, b"aaa", "0 at 0..3, "),
+            (
+                r#"enum T { #[regex("a(ba)*")] A }"#,
+                b"ab",
+                "0 at 0..1, error 1..2, ",
+            ),
+            (
+                r#"enum T { #[token("x0")] A, #[token("x1")] B, #[token("y0")] C, #[token("y1")] D }"#,
+                b"x0y1",
+                "0 at 0..2, 3 at 2..4, ",
+            ),
+            (
+                r#"enum T { #[regex("[x&&y]a{1048575}")] A }"#,
+                b"aa",
+                "error 0..1, error 1..2, ",
+            ),
+            (
+                r#"enum T { #[regex("(a.*)+")] A }"#,
+                b"ab\na",
+                "0 at 0..2, error 2..3, 0 at 3..4, ",
+            ),
+            (
+                r#"enum T { #[regex("[a-z]+")] A }"#,
+                b"qqqqqqq1",
+                "0 at 0..7, error 7..8, ",
+            ),
+            (
+                r#"enum T { #[regex("[a-z]+")] A }"#,
+                b"qqqqqqqq1",
+                "0 at 0..8, error 8..9, ",
+            ),
+            (
+                r#"enum T { #[regex("[a-z]+")] A }"#,
+                b"qqqqqqqqq1",
+                "0 at 0..9, error 9..10, ",
+            ),
+            (
+                r#"enum T { #[regex("[a-z]+")] A }"#,
+                b"qqqqqqqqqqqqqqqq1",
+                "0 at 0..16, error 16..17, ",
+            ),
+            (
+                r#"enum T { #[regex("[a-z]+")] A }"#,
+                b"qqqqqqqqqqqqqqqqq1",
+                "0 at 0..17, error 17..18, ",
+            ),
+        ],
     )
-}
-
-#[test]
-fn reads_bytes(rt: HostRuntime) -> Result<(), Fail> {
-    let alloc = rt.alloc();
-    gives(
-        &rt,
-        alloc,
-        r#"#[logos(utf8 = false)] enum T { #[regex(b"\xFF+")] A }"#,
-        b"\xFF\xFF\x00",
-        "0 at 0..2, error 2..3, ",
-    )?;
-    gives(
-        &rt,
-        alloc,
-        r#"enum T { #[regex(b"\xFF+")] A }"#,
-        b"a",
-        "17..25 Utf8Pattern: UTF-8 mode is requested, but the pattern b\"\\xFF+\" of variant `::A` can match invalid utf8.\nYou can disable UTF-8 mode with #[logos(utf8 = false)]; ",
-    )?;
-    gives(
-        &rt,
-        alloc,
-        r#"#[logos(utf8 = false)] enum T { #[token(b"a")] A }"#,
-        b"a\xFF",
-        "0 at 0..1, error 1..2, ",
-    )
-}
-
-#[test]
-fn refuses_what_is_no_text(rt: HostRuntime) -> Result<(), Fail> {
-    let alloc = rt.alloc();
-    let source = r#"enum T { #[token("a")] A }"#;
-    gives(&rt, alloc, source, b"\xFF", "not UTF-8 from 0 on")?;
-    gives(&rt, alloc, source, b"a\xFF", "not UTF-8 from 1 on")
 }
 
 #[test]
 fn reads_classes(rt: HostRuntime) -> Result<(), Fail> {
-    let alloc = rt.alloc();
-    for (source, input, wanted) in [
-        (
-            r#"enum T { #[regex("[a-z&&[^aeiou]--x]+")] A }"#,
-            "bcx",
-            "0 at 0..2, error 2..3, ",
-        ),
-        (
-            r#"enum T { #[regex(r"\d+")] A }"#,
-            "7\u{663}",
-            "0 at 0..3, ",
-        ),
-        (
-            "enum T { #[regex(\"(?i)\u{df}\")] A }",
-            "\u{1e9e}",
-            "0 at 0..3, ",
-        ),
-        (
-            r#"enum T { #[regex("(?i)k")] A }"#,
-            "\u{212a}",
-            "0 at 0..3, ",
-        ),
-        (
-            r#"enum T { #[regex("(?i)[^k]")] A }"#,
-            "\u{212a}",
-            "error 0..3, ",
-        ),
-        (r#"enum T { #[regex("(?i)[^k]")] A }"#, "j", "0 at 0..1, "),
-    ] {
-        gives(&rt, alloc, source, input.as_bytes(), wanted)?;
-    }
-    Ok(())
+    give(
+        &rt,
+        rt.alloc(),
+        &[
+            (
+                r#"enum T { #[regex("[a-z&&[^aeiou]--x]+")] A }"#,
+                b"bcx",
+                "0 at 0..2, error 2..3, ",
+            ),
+            (
+                r#"enum T { #[regex(r"\d+")] A }"#,
+                b"7\xD9\xA3",
+                "0 at 0..3, ",
+            ),
+            (
+                "enum T { #[regex(\"(?i)\u{df}\")] A }",
+                b"\xE1\xBA\x9E",
+                "0 at 0..3, ",
+            ),
+            (
+                r#"enum T { #[regex("(?i)k")] A }"#,
+                b"\xE2\x84\xAA",
+                "0 at 0..3, ",
+            ),
+            (
+                r#"enum T { #[regex("(?i)[^k]")] A }"#,
+                b"\xE2\x84\xAA",
+                "error 0..3, ",
+            ),
+            (r#"enum T { #[regex("(?i)[^k]")] A }"#, b"j", "0 at 0..1, "),
+        ],
+    )
+}
+
+#[test]
+fn looks_around(rt: HostRuntime) -> Result<(), Fail> {
+    give(
+        &rt,
+        rt.alloc(),
+        &[
+            (
+                r#"enum T { #[regex(r"a(?-u:\b)")] A, #[regex(r"a(?-u:\B)")] B }"#,
+                b"aa",
+                "1 at 0..1, 0 at 1..2, ",
+            ),
+            (
+                r#"enum T { #[regex("(?m)a$")] A }"#,
+                b"a\nb",
+                "0 at 0..1, error 1..2, error 2..3, ",
+            ),
+            (
+                r#"enum T { #[regex(r"a(?-u:\b)")] A }"#,
+                b"a\xC3\xA9",
+                "0 at 0..1, error 1..3, ",
+            ),
+            (
+                r#"enum T { #[regex(r"xa(?-u:\b)b")] A }"#,
+                b"xab",
+                "error 0..1, error 1..2, error 2..3, ",
+            ),
+            (
+                r#"enum T { #[regex("(?Rm)a$")] A }"#,
+                b"a\r\na",
+                "0 at 0..1, error 1..2, error 2..3, 0 at 3..4, ",
+            ),
+            (
+                r#"enum T { #[regex("(?m)a$")] A }"#,
+                b"a\r\na",
+                "error 0..1, error 1..2, error 2..3, 0 at 3..4, ",
+            ),
+            (
+                r#"enum T { #[regex(r"(?Rm)\r$")] A }"#,
+                b"\r\n",
+                "error 0..1, error 1..2, ",
+            ),
+            (
+                r#"enum T { #[regex(r"(?Rm)\r$")] A }"#,
+                b"\r\r",
+                "0 at 0..1, 0 at 1..2, ",
+            ),
+            (
+                r#"enum T { #[regex(r"(?Rm)\r^a")] A }"#,
+                b"\ra",
+                "0 at 0..2, ",
+            ),
+            (r#"enum T { #[regex("(?R).")] A }"#, b"\r", "error 0..1, "),
+        ],
+    )
+}
+
+#[test]
+fn reads_text_and_bytes(rt: HostRuntime) -> Result<(), Fail> {
+    give(
+        &rt,
+        rt.alloc(),
+        &[
+            (r#"enum T { #[token("é")] A }"#, b"\xC3\xA8", "error 0..2, "),
+            ("enum T { }", b"\xC3\xA9", "error 0..2, "),
+            (
+                r#"#[logos(utf8 = false)] enum T { #[regex(b"\xFF+")] A }"#,
+                b"\xFF\xFF\x00",
+                "0 at 0..2, error 2..3, ",
+            ),
+            (
+                r#"enum T { #[regex(b"\xFF+")] A }"#,
+                b"a",
+                "17..25 Utf8Pattern: UTF-8 mode is requested, but the pattern b\"\\xFF+\" of variant `::A` can match invalid utf8.\nYou can disable UTF-8 mode with #[logos(utf8 = false)]; ",
+            ),
+            (
+                r#"#[logos(utf8 = false)] enum T { #[token(b"a")] A }"#,
+                b"a\xFF",
+                "0 at 0..1, error 1..2, ",
+            ),
+            (
+                r#"enum T { #[token("a")] A }"#,
+                b"\xFF",
+                "not UTF-8 from 0 on",
+            ),
+            (
+                r#"enum T { #[token("a")] A }"#,
+                b"a\xFF",
+                "not UTF-8 from 1 on",
+            ),
+        ],
+    )
 }

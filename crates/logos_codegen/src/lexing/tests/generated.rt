@@ -173,7 +173,7 @@ fn agree(
         let input = word(alloc, number)?;
         let wanted = plain(alloc, texts, skips, input.as_bytes())?;
         let found = machine(alloc, &generated.code, input.as_str())?;
-        assert_eq!(rt; found.as_str(), wanted.as_str());
+        assert!(rt; found.as_str() == wanted.as_str(), "other items");
     }
     Ok(())
 }
