@@ -141,7 +141,7 @@ mod tests {
     use super::*;
     use crate::pattern::plain_token_priority;
     use logos_token::token::{Literal, TokenError, tokenize};
-    use std::alloc::{AllocError, Global};
+    use std::alloc::Global;
     use std::process::Abort;
     use std::test::Fail;
 
@@ -153,14 +153,15 @@ mod tests {
     /// What is done with a leaf whose pattern is that of `"ab"`.
     #[derive(Clone, Copy)]
     enum Set<'t> {
-        Nothing,
+        /// The priority 7.
+        Priority,
         /// The priority of a `token`, and a variant.
         Variant,
         /// The priority 7, and the callback that these tokens name.
         Label(&'t str),
-        /// The same, and then no callback.
+        /// A callback, and then none.
         NoLabel(&'t str),
-        /// The callback `|lex| lex.bump(1)`, at 0..17.
+        /// The priority 7, and the callback `|lex| lex.bump(1)` at 0..17.
         Inline,
     }
 
@@ -178,36 +179,51 @@ mod tests {
         Ok(Some(Callback::from(InlineCallback { arg, body, span })))
     }
 
-    fn leaf(alloc: Global, set: Set<'_>) -> Result<Leaf<'_>, TokenError> {
-        let leaf = Leaf::new(AB.span, Pattern::compile_plain(alloc, &AB)?);
+    fn callback(alloc: Global, set: Set<'_>) -> Result<Option<Callback<'_>>, TokenError> {
         match set {
-            Set::Nothing => Ok(leaf),
-            Set::Variant => Ok(
-                leaf.priority(plain_token_priority(&AB))
-                    .variant_kind(VariantKind::Unit(Ident {
-                        text: "A",
-                        span: AB.span,
-                    })),
-            ),
-            Set::Label(text) => Ok(leaf.priority(7).callback(label(alloc, text)?)),
-            Set::NoLabel(text) => Ok(leaf.callback(label(alloc, text)?).callback(None)),
-            Set::Inline => Ok(leaf.callback(inline(alloc)?)),
+            Set::Label(text) | Set::NoLabel(text) => label(alloc, text),
+            Set::Inline => inline(alloc),
+            _ => Ok(None),
         }
     }
 
+    /// The leaf, as it is set.
+    fn with<'s>(leaf: Leaf<'s>, set: Set<'s>, callback: Option<Callback<'s>>) -> Leaf<'s> {
+        match set {
+            Set::Variant => leaf
+                .priority(plain_token_priority(&AB))
+                .variant_kind(VariantKind::Unit(Ident {
+                    text: "A",
+                    span: AB.span,
+                })),
+            Set::NoLabel(_) => leaf.callback(callback).callback(None),
+            _ => leaf.priority(7).callback(callback),
+        }
+    }
+
+    fn leaf(alloc: Global, set: Set<'_>) -> Result<Leaf<'_>, TokenError> {
+        let callback = callback(alloc, set)?;
+        let leaf = Leaf::new(AB.span, Pattern::compile_plain(alloc, &AB)?);
+        Ok(with(leaf, set, callback))
+    }
+
     /// The leaf, its priority, and where its callback stands.
-    fn shown(alloc: Global, leaf: &Leaf<'_>) -> Result<String, AllocError> {
+    fn shown(alloc: Global, set: Set<'_>) -> Result<String, TokenError> {
+        let leaf = leaf(alloc, set)?;
         let priority = leaf.priority;
         match &leaf.callback {
-            Some(callback) => format!(in alloc; "{leaf} {priority} {:?}", callback.span()),
-            None => format!(in alloc; "{leaf} {priority}"),
+            Some(callback) => Ok(format!(in alloc; "{leaf} {priority} {:?}", callback.span())?),
+            None => Ok(format!(in alloc; "{leaf} {priority}")?),
         }
     }
 
     fn are_shown(rt: &impl Abort, alloc: Global, cases: &[(Set<'_>, &str)]) -> Result<(), Fail> {
         for case in cases {
-            let text = shown(alloc, &leaf(alloc, case.0)?)?;
-            assert!(rt; text.as_str() == case.1, "another leaf: {text}");
+            assert!(rt;
+                shown(alloc, case.0)?.as_str() == case.1,
+                "another leaf: {}",
+                case.1
+            );
         }
         Ok(())
     }
@@ -218,7 +234,7 @@ mod tests {
             &rt,
             rt.alloc(),
             &[
-                (Set::Nothing, "#[token(\"ab\")] ::<skip> 0"),
+                (Set::Priority, "#[token(\"ab\")] ::<skip> 7"),
                 (Set::Variant, "#[token(\"ab\")] ::A 4"),
                 (
                     Set::Label("  a::b "),
@@ -231,7 +247,7 @@ mod tests {
                 (Set::NoLabel("  a::b "), "#[token(\"ab\")] ::<skip> 0"),
                 (
                     Set::Inline,
-                    "#[token(\"ab\")] ::<skip> 0 Span { from: 0, to: 17 }",
+                    "#[token(\"ab\")] ::<skip> 7 Span { from: 0, to: 17 }",
                 ),
             ],
         )

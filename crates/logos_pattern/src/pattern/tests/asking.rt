@@ -190,6 +190,21 @@ fn push_literal(out: &mut String, literal: &Literal<'_>) -> Result<(), AllocErro
     )
 }
 
+/// Adds what is told of the pattern in a literal: whether it is escaped, and whether case is ignored.
+fn push_value(
+    alloc: Global,
+    out: &mut String,
+    literal: &Literal<'_>,
+    flags: (bool, bool),
+    told: Told,
+) -> Result<(), Memory> {
+    let regex = literal.escape(alloc, flags.0)?;
+    let source = literal.token().text;
+    let unicode = literal.unicode();
+    let read = Pattern::compile(alloc, flags.0, &regex, source, unicode, flags.1);
+    Ok(push_read(out, read, told)?)
+}
+
 /// Adds the answer of a literal.
 fn push_answer(
     alloc: Global,
@@ -202,13 +217,7 @@ fn push_answer(
             escaped,
             ignore_case,
             told,
-        } => {
-            let regex = literal.escape(alloc, escaped)?;
-            let source = literal.token().text;
-            let unicode = literal.unicode();
-            let read = Pattern::compile(alloc, escaped, &regex, source, unicode, ignore_case);
-            push_read(out, read, told)?;
-        }
+        } => push_value(alloc, out, literal, (escaped, ignore_case), told)?,
         Ask::Token(told) => push_told(out, &Pattern::compile_lit(alloc, literal)?, told)?,
         Ask::Escape { escaped } => write!(out, "{:?}", literal.escape(alloc, escaped)?.as_str())?,
         _ => push_literal(out, literal)?,
@@ -230,32 +239,40 @@ fn answer(alloc: Global, ask: Ask, text: &str) -> Result<String, Memory> {
     Ok(out)
 }
 
-/// On each line stands a text, and behind ` => ` its answer.
-fn answers_all(rt: &impl Abort, alloc: Global, ask: Ask, rows: &str) -> Result<(), Fail> {
+/// Whether the text in front of ` => ` has the answer behind it.
+fn is_answered(alloc: Global, ask: Ask, row: &str) -> Result<bool, Fail> {
+    let (text, expected) = row.split_once(" => ").ok_or("no row")?;
+    Ok(answer(alloc, ask, text)?.as_str() == expected)
+}
+
+fn are_answered(rt: &impl Abort, alloc: Global, ask: Ask, rows: &str) -> Result<(), Fail> {
     for row in rows.lines() {
-        let (text, expected) = row.split_once(" => ").ok_or("no row")?;
-        assert!(rt;
-            answer(alloc, ask, text)?.as_str() == expected,
-            "another answer: {row}"
-        );
+        assert!(rt; is_answered(alloc, ask, row)?, "another answer: {row}");
     }
     Ok(())
 }
 
-/// Each text answers as is said behind it.
+/// On each line stands a text, and behind ` => ` its answer.
 pub(super) fn answers(rt: &impl Abort, alloc: Global, cases: &[(Ask, &str)]) -> Result<(), Fail> {
     for case in cases {
-        answers_all(rt, alloc, case.0, case.1)?;
+        are_answered(rt, alloc, case.0, case.1)?;
     }
     Ok(())
 }
 
-/// The first part so many times, the second, the third as often as the first, and the last.
-fn nested(alloc: Global, times: usize, parts: [&str; 4]) -> Result<String, AllocError> {
-    let [open, inside, close, after] = parts;
+/// So many times what opens, what is inside, as many times what closes, what is behind it, and the
+/// answer.
+pub(super) type Nested<'t> = (usize, &'t str, &'t str, &'t str, &'t str, &'t str);
+
+fn is_nested_answered(alloc: Global, told: Told, case: &Nested<'_>) -> Result<bool, AllocError> {
+    let (times, open, inside, close, after, expected) = *case;
     let opening = open.repeat(alloc, times)?;
     let closing = close.repeat(alloc, times)?;
-    format!(in alloc; "{opening}{inside}{closing}{after}")
+    let text = format!(in alloc; "{opening}{inside}{closing}{after}")?;
+    let read = Pattern::compile(alloc, false, &text, "", true, false);
+    let mut out = String::new(alloc);
+    push_read(&mut out, read, told)?;
+    Ok(out.as_str() == expected)
 }
 
 /// Each nested text, as a regular expression, answers as is said behind it.
@@ -263,17 +280,14 @@ pub(super) fn nested_answers(
     rt: &impl Abort,
     alloc: Global,
     told: Told,
-    cases: &[(usize, [&str; 4], &str)],
+    cases: &[Nested<'_>],
 ) -> Result<(), Fail> {
-    let ask = Ask::Regex {
-        unicode: true,
-        told,
-    };
     for case in cases {
-        let text = nested(alloc, case.0, case.1)?;
         assert!(rt;
-            answer(alloc, ask, &text)?.as_str() == case.2,
-            "another answer: {text}"
+            is_nested_answered(alloc, told, case)?,
+            "another answer: {} {}",
+            case.1,
+            case.5
         );
     }
     Ok(())

@@ -1,6 +1,6 @@
 //! What is refused, and where.
 
-use super::asking::{Ask, Told, answers, nested_answers};
+use super::asking::{Ask, Nested, Told, answers, nested_answers};
 use std::test::Fail;
 
 #[test]
@@ -247,39 +247,39 @@ a\B => UnicodeWordBoundary at 1
     )
 }
 
-/// Counts are read before the limit is looked at.
+/// Groups, brackets and operators that nest. Counts are read before the limit is looked at.
+const NESTED: [Nested<'static>; 21] = [
+    (250, "(", "a", ")", "", "Some(2) true false"),
+    (251, "(", "a", ")", "", "too deep"),
+    (250, "(?:", "a", ")", "", "Some(2) true false"),
+    (251, "(?:", "a", ")", "", "too deep"),
+    (250, "[", "a", "]", "", "Some(2) true false"),
+    (251, "[", "a", "]", "", "too deep"),
+    (250, "", "a", "+", "", "Some(2) true false"),
+    (251, "", "a", "+", "", "too deep"),
+    (250, "", "a", "{1}", "", "Some(2) true false"),
+    (251, "", "a", "{0}", "", "too deep"),
+    (249, "(", "[a]", ")", "", "Some(2) true false"),
+    (250, "(", "[a]", ")", "", "too deep"),
+    (
+        249,
+        "(",
+        "(?i)[[:alpha:]&&a]",
+        ")",
+        "",
+        "Some(2) true false",
+    ),
+    (125, "(", "a", "+)", "", "Some(2) true false"),
+    (126, "(", "a", "+)", "", "too deep"),
+    (300, "(", "", "", "", "too deep"),
+    (1000, "(a)", "", "", "", "Some(2000) true false"),
+    (249, "(", "a*", ")", "", "Some(0) true false"),
+    (250, "(", "a*", ")", "", "too deep"),
+    (250, "(?i-s:", "a", ")", "", "Some(2) true false"),
+    (250, "", "a", "+", "{3,2}", "CountOrder at 0"),
+];
+
 #[test]
 fn nesting(rt: HostRuntime) -> Result<(), Fail> {
-    nested_answers(
-        &rt,
-        rt.alloc(),
-        Told::Measures,
-        &[
-            (250, ["(", "a", ")", ""], "Some(2) true false"),
-            (251, ["(", "a", ")", ""], "too deep"),
-            (250, ["(?:", "a", ")", ""], "Some(2) true false"),
-            (251, ["(?:", "a", ")", ""], "too deep"),
-            (250, ["[", "a", "]", ""], "Some(2) true false"),
-            (251, ["[", "a", "]", ""], "too deep"),
-            (250, ["", "a", "+", ""], "Some(2) true false"),
-            (251, ["", "a", "+", ""], "too deep"),
-            (250, ["", "a", "{1}", ""], "Some(2) true false"),
-            (251, ["", "a", "{0}", ""], "too deep"),
-            (249, ["(", "[a]", ")", ""], "Some(2) true false"),
-            (250, ["(", "[a]", ")", ""], "too deep"),
-            (
-                249,
-                ["(", "(?i)[[:alpha:]&&a]", ")", ""],
-                "Some(2) true false",
-            ),
-            (125, ["(", "a", "+)", ""], "Some(2) true false"),
-            (126, ["(", "a", "+)", ""], "too deep"),
-            (300, ["(", "", "", ""], "too deep"),
-            (1000, ["(a)", "", "", ""], "Some(2000) true false"),
-            (249, ["(", "a*", ")", ""], "Some(0) true false"),
-            (250, ["(", "a*", ")", ""], "too deep"),
-            (250, ["(?i-s:", "a", ")", ""], "Some(2) true false"),
-            (250, ["", "a", "+", "{3,2}"], "CountOrder at 0"),
-        ],
-    )
+    nested_answers(&rt, rt.alloc(), Told::Measures, &NESTED)
 }

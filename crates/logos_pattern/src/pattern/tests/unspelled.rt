@@ -8,16 +8,21 @@ use crate::pattern::operand::operands_set;
 use std::alloc::{AllocError, Global};
 use std::test::Fail;
 
+/// Two literals and a look in a row.
+fn row(alloc: Global) -> Result<Vec<Hir>, AllocError> {
+    let mut parts = Vec::new(alloc);
+    parts.push(literal(Vec::from_slice(alloc, b"a")?))?;
+    parts.push(literal(Vec::from_slice(alloc, b"b")?))?;
+    parts.push(look(Look::Start))?;
+    Ok(parts)
+}
+
 /// Neighbouring literals that stand in a concatenation, and a literal behind it.
 fn joined(alloc: Global) -> Result<Hir, AllocError> {
-    let mut inner = Vec::new(alloc);
-    inner.push(literal(Vec::from_slice(alloc, b"a")?))?;
-    inner.push(literal(Vec::from_slice(alloc, b"b")?))?;
-    inner.push(look(Look::Start))?;
-    let mut outer = Vec::new(alloc);
-    outer.push(Hir::Concat(inner))?;
-    outer.push(literal(Vec::from_slice(alloc, b"c")?))?;
-    concat(outer)
+    let mut parts = Vec::new(alloc);
+    parts.push(Hir::Concat(row(alloc)?))?;
+    parts.push(literal(Vec::from_slice(alloc, b"c")?))?;
+    concat(parts)
 }
 
 /// A literal without bytes, and counts of which the greatest is below the least.
