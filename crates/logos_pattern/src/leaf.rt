@@ -141,108 +141,115 @@ mod tests {
     use super::*;
     use crate::pattern::plain_token_priority;
     use logos_token::token::{Literal, TokenError, tokenize};
-    use std::alloc::{AllocError, Global};
+    use std::alloc::Global;
     use std::process::Abort;
     use std::test::Fail;
 
-    const NOWHERE: Span = Span { from: 0, to: 0 };
-
     const AB: Literal<'static> = Literal {
         text: "\"ab\"",
-        span: NOWHERE,
+        span: Span { from: 0, to: 0 },
     };
 
-    /// A leaf with the pattern of `"ab"`.
-    fn plain(alloc: Global) -> Result<Leaf<'static>, AllocError> {
-        Ok(Leaf::new(NOWHERE, Pattern::compile_plain(alloc, &AB)?))
+    /// What is done with a leaf whose pattern is that of `"ab"`.
+    #[derive(Clone, Copy)]
+    enum Set<'t> {
+        /// The priority 7.
+        Priority,
+        /// The priority of a `token`, and a variant.
+        Variant,
+        /// The priority 7, and the callback that these tokens name.
+        Label(&'t str),
+        /// A callback, and then none.
+        NoLabel(&'t str),
+        /// The priority 7, and the callback `|lex| lex.bump(1)` at 0..17.
+        Inline,
     }
 
-    /// Asserts that the answer is `true`.
-    fn holds(rt: &impl Abort, answer: Result<bool, TokenError>) -> Result<(), Fail> {
-        assert!(rt; answer?);
+    fn label(alloc: Global, text: &str) -> Result<Option<Callback<'_>>, TokenError> {
+        Ok(Some(Callback::Label(tokenize(alloc, text)?)))
+    }
+
+    fn inline(alloc: Global) -> Result<Option<Callback<'static>>, TokenError> {
+        let arg = Ident {
+            text: "lex",
+            span: Span { from: 1, to: 4 },
+        };
+        let body = tokenize(alloc, "lex.bump(1)")?;
+        let span = Span { from: 0, to: 17 };
+        Ok(Some(Callback::from(InlineCallback { arg, body, span })))
+    }
+
+    fn callback(alloc: Global, set: Set<'_>) -> Result<Option<Callback<'_>>, TokenError> {
+        match set {
+            Set::Label(text) | Set::NoLabel(text) => label(alloc, text),
+            Set::Inline => inline(alloc),
+            _ => Ok(None),
+        }
+    }
+
+    /// The leaf, as it is set.
+    fn with<'s>(leaf: Leaf<'s>, set: Set<'s>, callback: Option<Callback<'s>>) -> Leaf<'s> {
+        match set {
+            Set::Variant => leaf
+                .priority(plain_token_priority(&AB))
+                .variant_kind(VariantKind::Unit(Ident {
+                    text: "A",
+                    span: AB.span,
+                })),
+            Set::NoLabel(_) => leaf.callback(callback).callback(None),
+            _ => leaf.priority(7).callback(callback),
+        }
+    }
+
+    fn leaf(alloc: Global, set: Set<'_>) -> Result<Leaf<'_>, TokenError> {
+        let callback = callback(alloc, set)?;
+        let leaf = Leaf::new(AB.span, Pattern::compile_plain(alloc, &AB)?);
+        Ok(with(leaf, set, callback))
+    }
+
+    /// The leaf, its priority, and where its callback stands.
+    fn shown(alloc: Global, set: Set<'_>) -> Result<String, TokenError> {
+        let leaf = leaf(alloc, set)?;
+        let priority = leaf.priority;
+        match &leaf.callback {
+            Some(callback) => Ok(format!(in alloc; "{leaf} {priority} {:?}", callback.span())?),
+            None => Ok(format!(in alloc; "{leaf} {priority}")?),
+        }
+    }
+
+    fn are_shown(rt: &impl Abort, alloc: Global, cases: &[(Set<'_>, &str)]) -> Result<(), Fail> {
+        for case in cases {
+            assert!(rt;
+                shown(alloc, case.0)?.as_str() == case.1,
+                "another leaf: {}",
+                case.1
+            );
+        }
         Ok(())
     }
 
-    fn prints_as(alloc: Global, leaf: &Leaf<'_>, expected: &str) -> Result<bool, TokenError> {
-        Ok(leaf.to_string(alloc)?.as_str() == expected)
-    }
-
-    fn skip_prints(alloc: Global) -> Result<bool, TokenError> {
-        let leaf = plain(alloc)?;
-        let kept = leaf.pattern.is_literal() & (leaf.pattern.source() == "\"ab\"");
-        Ok(kept & prints_as(alloc, &leaf, "#[token(\"ab\")] ::<skip>")?)
-    }
-
-    fn variant_prints(alloc: Global) -> Result<bool, TokenError> {
-        let name = Ident {
-            text: "A",
-            span: NOWHERE,
-        };
-        let leaf = plain(alloc)?
-            .priority(plain_token_priority(&AB))
-            .variant_kind(VariantKind::Unit(name));
-        Ok((leaf.priority == 4) & prints_as(alloc, &leaf, "#[token(\"ab\")] ::A")?)
-    }
-
     #[test]
-    fn prints(rt: HostRuntime) -> Result<(), Fail> {
-        holds(&rt, skip_prints(rt.alloc()))?;
-        holds(&rt, variant_prints(rt.alloc()))
-    }
-
-    /// The callback that these tokens name.
-    fn label(alloc: Global, text: &str) -> Result<Callback<'_>, TokenError> {
-        Ok(Callback::Label(tokenize(alloc, text)?))
-    }
-
-    /// Where `|lex| lex.bump(1)` stands, if it takes the first 17 bytes.
-    fn inline_span(alloc: Global) -> Result<Span, TokenError> {
-        let inline = Callback::from(InlineCallback {
-            arg: Ident {
-                text: "lex",
-                span: Span { from: 1, to: 4 },
-            },
-            body: tokenize(alloc, "lex.bump(1)")?,
-            span: Span { from: 0, to: 17 },
-        });
-        Ok(inline.span())
-    }
-
-    fn label_is_at(alloc: Global, text: &str, span: Span) -> Result<bool, TokenError> {
-        Ok(label(alloc, text)?.span() == span)
-    }
-
-    fn inline_is_at(alloc: Global, span: Span) -> Result<bool, TokenError> {
-        Ok(inline_span(alloc)? == span)
-    }
-
-    #[test]
-    fn spans_of_callbacks(rt: HostRuntime) -> Result<(), Fail> {
-        let alloc = rt.alloc();
-        holds(&rt, label_is_at(alloc, "  a::b ", Span { from: 2, to: 6 }))?;
-        holds(&rt, label_is_at(alloc, " ", NOWHERE))?;
-        holds(&rt, inline_is_at(alloc, Span { from: 0, to: 17 }))
-    }
-
-    fn is_labelled(leaf: &Leaf<'_>) -> bool {
-        let label = matches!(&leaf.callback, Some(Callback::Label(_)));
-        label & (leaf.priority == 7) & (leaf.pattern.source() == "\"ab\"")
-    }
-
-    fn has_none_at_first(alloc: Global) -> Result<bool, TokenError> {
-        Ok(plain(alloc)?.priority(7).callback.is_none())
-    }
-
-    fn keeps_its_label(alloc: Global) -> Result<bool, TokenError> {
-        let label = label(alloc, "  a::b ")?;
-        let leaf = plain(alloc)?.priority(7).callback(Some(label));
-        let labelled = is_labelled(&leaf);
-        Ok(labelled & leaf.callback(None).callback.is_none())
-    }
-
-    #[test]
-    fn keeps_callbacks(rt: HostRuntime) -> Result<(), Fail> {
-        holds(&rt, has_none_at_first(rt.alloc()))?;
-        holds(&rt, keeps_its_label(rt.alloc()))
+    fn leaves(rt: HostRuntime) -> Result<(), Fail> {
+        are_shown(
+            &rt,
+            rt.alloc(),
+            &[
+                (Set::Priority, "#[token(\"ab\")] ::<skip> 7"),
+                (Set::Variant, "#[token(\"ab\")] ::A 4"),
+                (
+                    Set::Label("  a::b "),
+                    "#[token(\"ab\")] ::<skip> 7 Span { from: 2, to: 6 }",
+                ),
+                (
+                    Set::Label(" "),
+                    "#[token(\"ab\")] ::<skip> 7 Span { from: 0, to: 0 }",
+                ),
+                (Set::NoLabel("  a::b "), "#[token(\"ab\")] ::<skip> 0"),
+                (
+                    Set::Inline,
+                    "#[token(\"ab\")] ::<skip> 7 Span { from: 0, to: 17 }",
+                ),
+            ],
+        )
     }
 }

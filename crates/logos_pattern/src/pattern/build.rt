@@ -398,6 +398,3 @@ pub(crate) fn alternation(all: Vec<Hir>) -> Result<Hir, AllocError>
     }
     choice(branches)
 }
-
-#[cfg(test)]
-mod tests;

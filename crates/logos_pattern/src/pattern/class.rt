@@ -151,18 +151,6 @@ impl RangeSet {
         Ok(RangeSet { ranges })
     }
 
-    /// Whether the character is a member.
-    pub(crate) fn contains(&self, c: char) -> bool
-        ensures { result ≡ set_of self.now c }
-    {
-        for range in &self.ranges {
-            if range.first <= c as u32 && c as u32 <= range.last {
-                return true;
-            }
-        }
-        false
-    }
-
     /// The characters up to `last` that are no members.
     pub(crate) fn complement(&self, last: char) -> Result<RangeSet, AllocError>
         ensures { IfOk result (λ set. set_of set ≡ complement last (set_of self.now)) }
@@ -239,5 +227,3 @@ impl RangeSet {
 }
 
 mod laws;
-#[cfg(test)]
-mod tests;

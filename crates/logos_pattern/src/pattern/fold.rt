@@ -100,6 +100,3 @@ pub(crate) fn fold_ascii(alloc: Global, set: &RangeSet) -> Result<RangeSet, Allo
     push_cases(&mut ranges, set.ranges())?;
     RangeSet::from_ranges(alloc, &ranges)
 }
-
-#[cfg(test)]
-mod tests;

@@ -173,6 +173,3 @@ impl<'s> Literal<'s> {
         Ok(text)
     }
 }
-
-#[cfg(test)]
-mod tests;

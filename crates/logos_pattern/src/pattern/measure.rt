@@ -187,6 +187,3 @@ pub(crate) fn check_for_greedy_all(hir: &Hir) -> bool
         }
     }
 }
-
-#[cfg(test)]
-mod tests;

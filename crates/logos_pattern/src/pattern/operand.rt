@@ -124,6 +124,3 @@ pub(crate) fn operands_set(alloc: Global, operands: &[Operand]) -> Result<RangeS
     let Effect { outside, .. } = effect_of(alloc, operands)?;
     Ok(outside)
 }
-
-#[cfg(test)]
-mod tests;

@@ -194,6 +194,3 @@ pub(crate) fn property_set(alloc: Global, set: Set) -> Result<RangeSet, AllocErr
 {
     from_runs(alloc, &set.ranges(alloc)?)
 }
-
-#[cfg(test)]
-mod tests;

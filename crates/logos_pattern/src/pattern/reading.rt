@@ -233,6 +233,3 @@ impl<'s> Pattern<'s> {
 pub fn one_tree()
     ensures { (flags : FlagsValue) (text : Text) (a b : Tree) (m n : ℕ) → Spells flags text a m → Spells flags text b n → (a ≡ b) × (m ≡ n) }
 {}
-
-#[cfg(test)]
-mod tests;

@@ -1,16 +1,19 @@
 //! What is refused, and where.
 
-use super::*;
-use crate::pattern::tests::answers::none_wrong;
+use super::asking::{Ask, Nested, Told, answers, nested_answers};
+use std::test::Fail;
 
 #[test]
 fn unclosed_and_unopened(rt: HostRuntime) -> Result<(), Fail> {
-    check(
+    answers(
         &rt,
         rt.alloc(),
-        true,
-        r#"
-(a => Unclosed at 0
+        &[(
+            Ask::Regex {
+                unicode: true,
+                told: Told::Tree,
+            },
+            r#"(a => Unclosed at 0
 a(b(c) => Unclosed at 1
 a(b(c => Unclosed at 3
 [a => Unclosed at 0
@@ -44,19 +47,22 @@ a{3,4 => Unclosed at 1
 a) => Unopened at 1
 (a))b => Unopened at 3
 ) => Unopened at 0
-😀) => Unopened at 4
-"#,
+😀) => Unopened at 4"#,
+        )],
     )
 }
 
 #[test]
-fn faults_of_operators(rt: HostRuntime) -> Result<(), Fail> {
-    check(
+fn faults_of_operators_and_ranges(rt: HostRuntime) -> Result<(), Fail> {
+    answers(
         &rt,
         rt.alloc(),
-        true,
-        r#"
-* => NothingToRepeat at 0
+        &[(
+            Ask::Regex {
+                unicode: true,
+                told: Told::Tree,
+            },
+            r#"* => NothingToRepeat at 0
 a|* => NothingToRepeat at 2
 (?i)* => NothingToRepeat at 4
 (+) => NothingToRepeat at 1
@@ -88,18 +94,29 @@ a{4294967296} => CountTooLarge at 0
 a{4294967296,} => CountTooLarge at 0
 a{99999999999999999999} => CountTooLarge at 0
 éa{0,4294967296} => CountTooLarge at 2
-"#,
+[z-a] => ClassRange at 1
+[xa-\d] => ClassRange at 2
+[\d-z] => ClassRange at 1
+[éb-a] => ClassRange at 3
+[x[b-a]] => ClassRange at 3
+[\x62-\x61] => ClassRange at 1
+[a-\pL] => ClassRange at 1
+[\p{Zs}-z] => ClassRange at 1"#,
+        )],
     )
 }
 
 #[test]
 fn faults_of_groups(rt: HostRuntime) -> Result<(), Fail> {
-    check(
+    answers(
         &rt,
         rt.alloc(),
-        true,
-        r#"
-a(?x)a => FlagUnsupported at 1
+        &[(
+            Ask::Regex {
+                unicode: true,
+                told: Told::Tree,
+            },
+            r#"a(?x)a => FlagUnsupported at 1
 (?ix:a) => FlagUnsupported at 0
 (?-x) => FlagUnsupported at 0
 (?I) => FlagSyntax at 0
@@ -130,19 +147,22 @@ a(?!b) => GroupSyntax at 1
 (?<.n>a) => GroupSyntax at 0
 (?<n-m>a) => GroupSyntax at 0
 (?<n>a)(?<n>b) => GroupSyntax at 7
-(?<n>a(?P<n>b)) => GroupSyntax at 6
-"#,
+(?<n>a(?P<n>b)) => GroupSyntax at 6"#,
+        )],
     )
 }
 
 #[test]
 fn faults_of_escapes(rt: HostRuntime) -> Result<(), Fail> {
-    check(
+    answers(
         &rt,
         rt.alloc(),
-        true,
-        r#"
-a\q => EscapeUnknown at 1
+        &[(
+            Ask::Regex {
+                unicode: true,
+                told: Told::Tree,
+            },
+            r#"a\q => EscapeUnknown at 1
 é\ => EscapeUnknown at 2
 \1 => EscapeUnknown at 0
 \é => EscapeUnknown at 0
@@ -173,8 +193,22 @@ a\q => EscapeUnknown at 1
 [a\uDC00] => HexNotScalar at 2
 \x{D800} => HexNotScalar at 0
 \uD800 => HexNotScalar at 0
-\U00110000 => HexNotScalar at 0
-\p{zzz} => UnknownProperty at 0
+\U00110000 => HexNotScalar at 0"#,
+        )],
+    )
+}
+
+#[test]
+fn faults_of_names_and_bytes(rt: HostRuntime) -> Result<(), Fail> {
+    answers(
+        &rt,
+        rt.alloc(),
+        &[(
+            Ask::Regex {
+                unicode: true,
+                told: Told::Tree,
+            },
+            r#"\p{zzz} => UnknownProperty at 0
 a\pX => UnknownProperty at 1
 \P => UnknownProperty at 0
 [a\p{zzz}] => UnknownProperty at 2
@@ -197,25 +231,7 @@ a\B => UnicodeWordBoundary at 1
 (?-u)\< => WordBoundaryForm at 5
 (?-u:\b)\b => UnicodeWordBoundary at 8
 \B{2} => UnicodeWordBoundary at 0
-"#,
-    )
-}
-
-#[test]
-fn faults_of_brackets(rt: HostRuntime) -> Result<(), Fail> {
-    check(
-        &rt,
-        rt.alloc(),
-        true,
-        r#"
-[z-a] => ClassRange at 1
-[xa-\d] => ClassRange at 2
-[\d-z] => ClassRange at 1
-[éb-a] => ClassRange at 3
-[x[b-a]] => ClassRange at 3
-[\x62-\x61] => ClassRange at 1
-[a-\pL] => ClassRange at 1
-[\p{Zs}-z] => ClassRange at 1
+\p{none} => UnknownProperty at 0
 (?-u)\p{Zs} => NotInBytes at 5
 (?-u)\p{zzz} => NotInBytes at 5
 (?-u)[é] => NotInBytes at 6
@@ -226,102 +242,44 @@ fn faults_of_brackets(rt: HostRuntime) -> Result<(), Fail> {
 (?-u)\P{^L} => NotInBytes at 5
 (?-u)[\p{sc=Greek}] => NotInBytes at 6
 (?-u)[\x{80}] => NotInBytes at 6
-(?-u)[[aé]] => NotInBytes at 8
-"#,
+(?-u)[[aé]] => NotInBytes at 8"#,
+        )],
     )
 }
 
-/// The text `before`, so many times `middle`, and `after`.
-fn repeated(
-    alloc: Global,
-    before: &str,
-    middle: &str,
-    times: usize,
-    after: &str,
-) -> Result<String, AllocError> {
-    let mut text = String::new(alloc);
-    text.push_str(before)?;
-    for _ in 0..times {
-        text.push_str(middle)?;
-    }
-    text.push_str(after)?;
-    Ok(text)
-}
-
-fn is_too_deep(alloc: Global, regex: &str) -> bool {
-    let read = Pattern::compile(alloc, false, regex, regex, true, false);
-    matches!(read, Err(PatternError::LimitPatternNesting))
-}
-
-fn is_read(alloc: Global, regex: &str) -> bool {
-    Pattern::compile(alloc, false, regex, regex, true, false).is_ok()
-}
-
-/// So many openings, and as many ends.
-fn nested(
-    alloc: Global,
-    open: &str,
-    inside: &str,
-    close: &str,
-    times: usize,
-) -> Result<String, AllocError> {
-    let ends = repeated(alloc, inside, close, times, "")?;
-    repeated(alloc, "", open, times, &ends)
-}
-
-/// Openings, what is inside, ends, how many of both, and whether all this nests too deep.
-const NESTED: [(&str, &str, &str, usize, bool); 20] = [
-    ("(", "a", ")", 250, false),
-    ("(", "a", ")", 251, true),
-    ("(?:", "a", ")", 250, false),
-    ("(?:", "a", ")", 251, true),
-    ("[", "a", "]", 250, false),
-    ("[", "a", "]", 251, true),
-    ("", "a", "+", 250, false),
-    ("", "a", "+", 251, true),
-    ("", "a", "{1}", 250, false),
-    ("", "a", "{0}", 251, true),
-    ("(", "[a]", ")", 249, false),
-    ("(", "[a]", ")", 250, true),
-    ("(", "(?i)[[:alpha:]&&a]", ")", 249, false),
-    ("(", "a", "+)", 125, false),
-    ("(", "a", "+)", 126, true),
-    ("(", "", "", 300, true),
-    ("(a)", "", "", 1000, false),
-    ("(", "a*", ")", 249, false),
-    ("(", "a*", ")", 250, true),
-    ("(?i-s:", "a", ")", 250, false),
+/// Groups, brackets and operators that nest. Counts are read before the limit is looked at.
+const NESTED: [Nested<'static>; 21] = [
+    (250, "(", "a", ")", "", "Some(2) true false"),
+    (251, "(", "a", ")", "", "too deep"),
+    (250, "(?:", "a", ")", "", "Some(2) true false"),
+    (251, "(?:", "a", ")", "", "too deep"),
+    (250, "[", "a", "]", "", "Some(2) true false"),
+    (251, "[", "a", "]", "", "too deep"),
+    (250, "", "a", "+", "", "Some(2) true false"),
+    (251, "", "a", "+", "", "too deep"),
+    (250, "", "a", "{1}", "", "Some(2) true false"),
+    (251, "", "a", "{0}", "", "too deep"),
+    (249, "(", "[a]", ")", "", "Some(2) true false"),
+    (250, "(", "[a]", ")", "", "too deep"),
+    (
+        249,
+        "(",
+        "(?i)[[:alpha:]&&a]",
+        ")",
+        "",
+        "Some(2) true false",
+    ),
+    (125, "(", "a", "+)", "", "Some(2) true false"),
+    (126, "(", "a", "+)", "", "too deep"),
+    (300, "(", "", "", "", "too deep"),
+    (1000, "(a)", "", "", "", "Some(2000) true false"),
+    (249, "(", "a*", ")", "", "Some(0) true false"),
+    (250, "(", "a*", ")", "", "too deep"),
+    (250, "(?i-s:", "a", ")", "", "Some(2) true false"),
+    (250, "", "a", "+", "{3,2}", "CountOrder at 0"),
 ];
-
-/// The number of the first case that is not as it says: so many openings, what is inside, as many
-/// ends, and whether all this nests too deep.
-fn wrong_nesting(
-    alloc: Global,
-    cases: &[(&str, &str, &str, usize, bool)],
-) -> Result<Option<usize>, AllocError> {
-    for (i, (open, inside, close, times, deep)) in cases.iter().enumerate() {
-        let regex = nested(alloc, open, inside, close, *times)?;
-        let right = if *deep {
-            is_too_deep(alloc, &regex)
-        } else {
-            is_read(alloc, &regex)
-        };
-        if !right {
-            return Ok(Some(i));
-        }
-    }
-    Ok(None)
-}
 
 #[test]
 fn nesting(rt: HostRuntime) -> Result<(), Fail> {
-    none_wrong(&rt, wrong_nesting(rt.alloc(), &NESTED))
-}
-
-#[test]
-fn counts_are_read_before_the_limit_is_looked_at(rt: HostRuntime) -> Result<(), Fail> {
-    let deep = repeated(rt.alloc(), "a", "+", 250, "{3,2}")?;
-    let answer = shown(rt.alloc(), true, false, &deep)?;
-    assert_eq!(rt; answer.as_str(), "CountOrder at 0");
-    Ok(())
+    nested_answers(&rt, rt.alloc(), Told::Measures, &NESTED)
 }
