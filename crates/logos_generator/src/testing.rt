@@ -5,7 +5,7 @@ use crate::generator::{Config, Generator};
 use logos_graph::graph::Graph;
 use logos_pattern::leaf::{Callback, Leaf, VariantKind};
 use logos_pattern::pattern::Pattern;
-use logos_token::token::{Ident, Span, tokenize};
+use logos_token::token::{Ident, Span, TokenStream, tokenize};
 use std::alloc::Global;
 use std::test::Fail;
 
@@ -66,5 +66,6 @@ fn code_of_leaves(
     let config = Config {
         use_state_machine_codegen: true,
     };
-    Ok(Generator::new(config, NAME, &graph).generate(alloc)?)
+    let this = TokenStream::from_ident(alloc, NAME)?;
+    Ok(Generator::new(config, NAME, &this, &graph, None).generate(alloc)?)
 }

@@ -1,11 +1,12 @@
 //! Leaves of a lexer: a pattern, its priority, and what becomes of its matches.
 
 ghost use Rattle.std.specs.Prelude.{◌≡◌, Some};
-ghost use Rattle.logos_pattern.specs.Leaf.{kind_text, leaf_text, callback_span};
+ghost use Rattle.logos_pattern.specs.Leaf.{kind_text, leaf_text, callback_span, callback_value, inline_value};
 ghost use Rattle.logos_pattern.specs.declared.leaf.Callback.TheVariants as callbacks;
 
 use crate::pattern::Pattern;
 use logos_token::token::{Ident, Span, TokenStream};
+use std::alloc::AllocError;
 use std::fmt;
 
 /// The number of a leaf.
@@ -58,6 +59,31 @@ impl<'s> From<InlineCallback<'s>> for Callback<'s> {
 
     fn from(inline: InlineCallback<'s>) -> Callback<'s> {
         Callback::Inline(inline)
+    }
+}
+
+impl Clone for Callback<'_> {
+    // A copy is of the same form, with the same tokens.
+    ghost is_clone = { λ callback copy. callback_value copy ≡ callback_value callback };
+
+    fn clone(&self) -> Result<Self, AllocError> {
+        match self {
+            Callback::Label(tokens) => Ok(Callback::Label(tokens.clone()?)),
+            Callback::Inline(inline) => Ok(Callback::Inline(inline.clone()?)),
+        }
+    }
+}
+
+impl Clone for InlineCallback<'_> {
+    // A copy has the same parameter, a body of the same tokens, and the same span.
+    ghost is_clone = { λ inline copy. inline_value copy ≡ inline_value inline };
+
+    fn clone(&self) -> Result<Self, AllocError> {
+        Ok(InlineCallback {
+            arg: self.arg,
+            body: self.body.clone()?,
+            span: self.span,
+        })
     }
 }
 
@@ -140,7 +166,7 @@ impl fmt::Display for Leaf<'_> {
 mod tests {
     use super::*;
     use crate::pattern::plain_token_priority;
-    use logos_token::token::{Literal, TokenError, tokenize};
+    use logos_token::token::{Literal, TokenError, print, tokenize};
     use std::alloc::{AllocError, Global};
     use std::process::Abort;
     use std::test::Fail;
@@ -195,17 +221,16 @@ mod tests {
         Ok(Callback::Label(tokenize(alloc, text)?))
     }
 
-    /// Where `|lex| lex.bump(1)` stands, if it takes the first 17 bytes.
-    fn inline_span(alloc: Global) -> Result<Span, TokenError> {
-        let inline = Callback::from(InlineCallback {
+    /// `|lex| lex.bump(1)`, if it takes the first 17 bytes.
+    fn inline(alloc: Global) -> Result<Callback<'static>, TokenError> {
+        Ok(Callback::from(InlineCallback {
             arg: Ident {
                 text: "lex",
                 span: Span { from: 1, to: 4 },
             },
             body: tokenize(alloc, "lex.bump(1)")?,
             span: Span { from: 0, to: 17 },
-        });
-        Ok(inline.span())
+        }))
     }
 
     fn label_is_at(alloc: Global, text: &str, span: Span) -> Result<bool, TokenError> {
@@ -213,7 +238,7 @@ mod tests {
     }
 
     fn inline_is_at(alloc: Global, span: Span) -> Result<bool, TokenError> {
-        Ok(inline_span(alloc)? == span)
+        Ok(inline(alloc)?.span() == span)
     }
 
     #[test]
@@ -222,6 +247,24 @@ mod tests {
         holds(&rt, label_is_at(alloc, "  a::b ", Span { from: 2, to: 6 }))?;
         holds(&rt, label_is_at(alloc, " ", NOWHERE))?;
         holds(&rt, inline_is_at(alloc, Span { from: 0, to: 17 }))
+    }
+
+    /// Whether a copy stands at the same place, with tokens that are printed as this text.
+    fn copies(alloc: Global, callback: &Callback<'_>, text: &str) -> Result<bool, Fail> {
+        let copy = callback.clone()?;
+        let tokens = match &copy {
+            Callback::Label(tokens) => tokens,
+            Callback::Inline(inline) => &inline.body,
+        };
+        Ok((copy.span() == callback.span()) & (print(alloc, tokens.run())?.as_str() == text))
+    }
+
+    #[test]
+    fn copies_of_callbacks(rt: HostRuntime) -> Result<(), Fail> {
+        let alloc = rt.alloc();
+        assert!(rt; copies(alloc, &label(alloc, "  a::b ")?, "a :: b")?);
+        assert!(rt; copies(alloc, &inline(alloc)?, "lex . bump ( 1 )")?);
+        Ok(())
     }
 
     fn is_labelled(leaf: &Leaf<'_>) -> bool {

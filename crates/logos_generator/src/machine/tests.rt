@@ -1,22 +1,35 @@
 mod patterns;
 
 use super::*;
-use crate::code::{CodeLeaf, CodeParts, CodeState, Condition, Fork, Mark, NOWHERE};
+use crate::code::{CodeLeaf, CodeParts, CodeState, Condition, Fork, Kept, Mark, NOWHERE};
 use crate::generator::Config;
 use logos_graph::byte_class::Comparisons;
-use logos_pattern::leaf::VariantKind;
-use logos_token::token::Ident;
+use logos_pattern::leaf::{Callback, VariantKind};
+use logos_token::token::{Ident, TokenStream};
 use std::ops::RangeInclusive;
 use std::process::Abort;
 use std::test::Fail;
 
-/// A leaf that gives tokens.
-fn leaf(has_callback: bool) -> CodeLeaf<'static> {
-    let span = Span { from: 0, to: 0 };
+const NAME: Ident<'static> = Ident {
+    text: "A",
+    span: Span { from: 0, to: 0 },
+};
+
+/// A leaf without a callback.
+fn leaf(kind: VariantKind<'static>) -> CodeLeaf<'static> {
     CodeLeaf {
-        kind: VariantKind::Unit(Ident { text: "A", span }),
-        has_callback,
+        kind,
+        callback: None,
     }
+}
+
+/// A leaf on whose matches a function is called.
+fn asked(alloc: Global, kind: VariantKind<'static>) -> Result<CodeLeaf<'static>, AllocError> {
+    let function = TokenStream::from_ident(alloc, NAME)?;
+    Ok(CodeLeaf {
+        kind,
+        callback: Some(Callback::Label(function)),
+    })
 }
 
 fn early(leaf: usize) -> Option<Mark> {
@@ -61,24 +74,34 @@ fn test_of(first: u8, last: u8) -> [u8; 256] {
     table
 }
 
-/// Parts with these states and leaves, and no tables.
-fn parts(
-    alloc: Global,
-    states: Vec<CodeState>,
-    leaves: &[CodeLeaf<'static>],
-) -> Result<CodeParts<'static>, AllocError> {
-    Ok(CodeParts {
+/// What is kept of an enum without an error callback.
+fn kept(alloc: Global) -> Result<Kept<'static>, AllocError> {
+    Ok(Kept {
         shape: Config {
             use_state_machine_codegen: true,
         },
-        name: Ident {
-            text: "Enum",
-            span: Span { from: 0, to: 0 },
-        },
+        name: NAME,
+        this: TokenStream::from_ident(alloc, NAME)?,
+        error_callback: None,
+    })
+}
+
+/// Parts with these states, so many leaves that give tokens, and no tables.
+fn parts(
+    alloc: Global,
+    states: Vec<CodeState>,
+    count: usize,
+) -> Result<CodeParts<'static>, AllocError> {
+    let mut leaves = Vec::new(alloc);
+    for _ in 0..count {
+        leaves.push(leaf(VariantKind::Unit(NAME)))?;
+    }
+    Ok(CodeParts {
+        kept: kept(alloc)?,
         states,
         bit_tables: Vec::new(alloc),
         jump_tables: Vec::new(alloc),
-        leaves: Vec::from_slice(alloc, leaves)?,
+        leaves,
         root: 0,
         utf8: true,
     })
@@ -94,7 +117,7 @@ fn star_code(alloc: Global) -> Result<Code<'static>, Fail> {
         at_end: None,
     })?;
     states.push(dead_end(alloc, early(0)))?;
-    let mut parts = parts(alloc, states, &[leaf(false)])?;
+    let mut parts = parts(alloc, states, 1)?;
     parts.bit_tables.push(test_of(b'a', b'a'))?;
     Ok(Code::checked(alloc, parts)?.ok_or("unsound")?)
 }
@@ -114,7 +137,7 @@ fn word_code(alloc: Global) -> Result<Code<'static>, Fail> {
         fork: Fork::Conditions(Vec::new(alloc)),
         at_end: None,
     })?;
-    let mut parts = parts(alloc, states, &[leaf(false)])?;
+    let mut parts = parts(alloc, states, 1)?;
     parts.bit_tables.push(test_of(b'a', b'z'))?;
     Ok(Code::checked(alloc, parts)?.ok_or("unsound")?)
 }
@@ -136,7 +159,7 @@ fn boundary_code(alloc: Global) -> Result<Code<'static>, Fail> {
     })?;
     states.push(dead_end(alloc, late(0)))?;
     states.push(dead_end(alloc, late(1)))?;
-    let mut parts = parts(alloc, states, &[leaf(false), leaf(false)])?;
+    let mut parts = parts(alloc, states, 2)?;
     let mut jumps = [2; 256];
     jumps[b'a' as usize] = 3;
     parts.jump_tables.push(jumps)?;
@@ -154,7 +177,8 @@ fn letter_code(alloc: Global, leaf: CodeLeaf<'static>) -> Result<Code<'static>, 
         at_end: None,
     })?;
     states.push(dead_end(alloc, early(0)))?;
-    let parts = parts(alloc, states, &[leaf])?;
+    let mut parts = parts(alloc, states, 0)?;
+    parts.leaves.push(leaf)?;
     Ok(Code::checked(alloc, parts)?.ok_or("unsound")?)
 }
 
@@ -162,7 +186,7 @@ fn letter_code(alloc: Global, leaf: CodeLeaf<'static>) -> Result<Code<'static>, 
 fn empty_code(alloc: Global, utf8: bool) -> Result<Code<'static>, Fail> {
     let mut states = Vec::new(alloc);
     states.push(dead_end(alloc, None))?;
-    let mut parts = parts(alloc, states, &[])?;
+    let mut parts = parts(alloc, states, 0)?;
     parts.utf8 = utf8;
     Ok(Code::checked(alloc, parts)?.ok_or("unsound")?)
 }
@@ -315,7 +339,7 @@ fn a_lexer_stands_behind_its_last_item(rt: HostRuntime) -> Result<(), Fail> {
 #[test]
 fn a_callback_skips_or_refuses(rt: HostRuntime) -> Result<(), Fail> {
     let alloc = rt.alloc();
-    let code = letter_code(alloc, leaf(true))?;
+    let code = letter_code(alloc, asked(alloc, VariantKind::Unit(NAME))?)?;
     let skipped = lex_all(alloc, &code, b"aa", |_, _| Action::Skip)?;
     assert_eq!(rt; shown(alloc, skipped.as_slice())?.as_str(), "");
     let refused = lex_all(alloc, &code, b"aa", |_, _| Action::Error)?;
@@ -343,7 +367,7 @@ fn a_callback_skips_or_refuses(rt: HostRuntime) -> Result<(), Fail> {
 #[test]
 fn a_leaf_without_a_callback_asks_nobody(rt: HostRuntime) -> Result<(), Fail> {
     let alloc = rt.alloc();
-    let code = letter_code(alloc, leaf(false))?;
+    let code = letter_code(alloc, leaf(VariantKind::Unit(NAME)))?;
     let items = lex_all(alloc, &code, b"a", |_, _| Action::Error)?;
     assert_eq!(rt; shown(alloc, items.as_slice())?.as_str(), "0 at 0..1, ");
     Ok(())
@@ -352,27 +376,14 @@ fn a_leaf_without_a_callback_asks_nobody(rt: HostRuntime) -> Result<(), Fail> {
 #[test]
 fn an_emitted_skip_is_left_out(rt: HostRuntime) -> Result<(), Fail> {
     let alloc = rt.alloc();
-    let kind = VariantKind::Skip;
-    let asked = letter_code(
-        alloc,
-        CodeLeaf {
-            kind,
-            has_callback: true,
-        },
-    )?;
-    assert_eq!(rt; lexed(alloc, &asked, b"aab")?.as_str(), "error 2..3, ");
-    let refused = lex_all(alloc, &asked, b"a", |_, _| Action::Error)?;
+    let code = letter_code(alloc, asked(alloc, VariantKind::Skip)?)?;
+    assert_eq!(rt; lexed(alloc, &code, b"aab")?.as_str(), "error 2..3, ");
+    let refused = lex_all(alloc, &code, b"a", |_, _| Action::Error)?;
     assert_eq!(rt;
         shown(alloc, refused.as_slice())?.as_str(),
         "error of 0 0..1, "
     );
-    let plain = letter_code(
-        alloc,
-        CodeLeaf {
-            kind,
-            has_callback: false,
-        },
-    )?;
+    let plain = letter_code(alloc, leaf(VariantKind::Skip))?;
     assert_eq!(rt; lexed(alloc, &plain, b"aa")?.as_str(), "");
     Ok(())
 }
@@ -441,12 +452,12 @@ fn unsound_parts_are_refused(rt: HostRuntime) -> Result<(), Fail> {
     let mut states = Vec::new(alloc);
     states.push(dead_end(alloc, early(0)))?;
     assert!(rt;
-        Code::checked(alloc, parts(alloc, states, &[leaf(false)])?)?.is_none(),
+        Code::checked(alloc, parts(alloc, states, 1)?)?.is_none(),
         "the root has a mark"
     );
     let mut states = Vec::new(alloc);
     states.push(dead_end(alloc, None))?;
-    let mut twice = parts(alloc, states, &[])?;
+    let mut twice = parts(alloc, states, 0)?;
     twice.jump_tables.push([NOWHERE; 256])?;
     twice.jump_tables.push([NOWHERE; 256])?;
     assert!(rt;
@@ -462,7 +473,7 @@ fn unsound_parts_are_refused(rt: HostRuntime) -> Result<(), Fail> {
     })?;
     states.push(dead_end(alloc, late(0)))?;
     assert!(rt;
-        Code::checked(alloc, parts(alloc, states, &[leaf(false)])?)?.is_none(),
+        Code::checked(alloc, parts(alloc, states, 1)?)?.is_none(),
         "a late mark is one byte from the root"
     );
     let mut states = Vec::new(alloc);
@@ -474,7 +485,7 @@ fn unsound_parts_are_refused(rt: HostRuntime) -> Result<(), Fail> {
     })?;
     states.push(dead_end(alloc, early(0)))?;
     assert!(rt;
-        Code::checked(alloc, parts(alloc, states, &[leaf(false)])?)?.is_none(),
+        Code::checked(alloc, parts(alloc, states, 1)?)?.is_none(),
         "there is no state 2"
     );
     Ok(())
