@@ -12,4 +12,4 @@ pub mod Stands
 pub mod Attempts
 pub mod LexerValue
 pub mod Order
-pub mod Keeps
+pub mod GeneratorValue

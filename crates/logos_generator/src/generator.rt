@@ -3,7 +3,7 @@
 ghost use Rattle.std.specs.Prelude.{◌≡◌, [], IfOk, map, option_copied};
 ghost use Rattle.logos_graph.specs.View.{rule_of};
 ghost use Rattle.logos_generator.specs.Headline.{RunsAs};
-ghost use Rattle.logos_generator.specs.Keeps.{IsCopy, Keeps};
+ghost use Rattle.logos_generator.specs.GeneratorValue.{IsCopy, KeepsGiven};
 
 mod fork;
 mod leaves;
@@ -41,7 +41,7 @@ impl<'g, 's> Model for Generator<'g, 's> {
     ghost use Rattle.std.specs.Coded.{codes};
     ghost use Rattle.std.specs.Prelude.{◌≡◌, [], option_copied};
     ghost use Rattle.logos_pattern.specs.contracts.pattern.hir.Hir as e;
-    ghost use Rattle.logos_generator.specs.Keeps.{GeneratorValue};
+    ghost use Rattle.logos_generator.specs.GeneratorValue.{GeneratorValue};
 
     ghost Value = { GeneratorValue };
 
@@ -81,7 +81,7 @@ impl<'g, 's> Generator<'g, 's> {
         ensures runs { IfOk result (λ code. RunsAs self.now.graph.states self.now.graph.utf8 code) }
         ensures mode { IfOk result (λ code. code.utf8 ≡ self.now.graph.utf8) }
         ensures uses { IfOk result (λ code. code.leaves ≡ map (λ leaf. (rule_of leaf).use_of) self.now.graph.leaves) }
-        ensures keeps { IfOk result (Keeps self.now) }
+        ensures keeps { IfOk result (KeepsGiven self.now) }
     {
         let kept = self.kept()?;
         let states = self.graph.iter_states();

@@ -1,7 +1,7 @@
 //! The leaves of a code, made of a graph's leaves.
 ghost use Rattle.std.specs.Prelude.{◌≡◌, IfOk, map};
 ghost use Rattle.logos_generator.specs.CodeView.{use_of};
-ghost use Rattle.logos_generator.specs.Keeps.{code_leaf_value, leaf_value};
+ghost use Rattle.logos_generator.specs.GeneratorValue.{code_leaf_value, leaf_value};
 ghost use Rattle.logos_generator.specs.StateView.{leaf_use};
 
 use crate::code::CodeLeaf;

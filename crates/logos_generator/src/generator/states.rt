@@ -4,7 +4,7 @@ ghost use Rattle.std.specs.List.{All, range_with_len};
 ghost use Rattle.logos_generator.specs.Headline.{RunsAs};
 ghost use Rattle.logos_generator.specs.Makes.{mark_made};
 ghost use Rattle.logos_generator.specs.CodeView.{mark_of, state_of};
-ghost use Rattle.logos_generator.specs.Keeps.{code_leaf_value, leaf_value};
+ghost use Rattle.logos_generator.specs.GeneratorValue.{code_leaf_value, leaf_value};
 ghost use Rattle.logos_graph.specs.FinishedGraph.{IsFinished};
 ghost use Rattle.logos_generator.specs.Nodes.{Extends, IsStateOf};
 ghost use Rattle.logos_graph.specs.GraphView.{state_number, state_type_of, graph_state_of};

@@ -70,15 +70,12 @@ fn skip_graph(alloc: Global) -> Result<Graph<'static>, Fail> {
         text: "\"a\"",
         span: NOWHERE,
     };
-    let skipped = Leaf::new(NOWHERE, Pattern::compile_plain(alloc, &literal)?)
-        .callback(Some(label(alloc, "skipped")?));
+    let skipped = Leaf::new(NOWHERE, Pattern::compile_plain(alloc, &literal)?).callback(Some(label(
+        alloc, "skipped",
+    )?));
     let mut leaves = Vec::new(alloc);
     leaves.push(skipped)?;
-    Ok(Graph::new(
-        alloc,
-        leaves,
-        GraphConfig { utf8_mode: true },
-    )?)
+    Ok(Graph::new(alloc, leaves, GraphConfig { utf8_mode: true })?)
 }
 
 /// The code of that graph for the enum `E<u8>`, on whose errors `failed` is called.

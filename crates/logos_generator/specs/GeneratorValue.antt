@@ -1,4 +1,4 @@
--- What a code value keeps of what its generator was given.
+-- What contracts see of a generator, and what a code value keeps of it.
 use Rattle.std.specs.Prelude.{◌≡◌, List, map, Option, option_map}
 use Rattle.logos_token.specs.Views.{stream_tokens}
 use Rattle.logos_pattern.specs.Leaf.{CallbackValue, callback_value}
@@ -32,6 +32,6 @@ pub record IsCopy (given kept : Kept) : Type 0 where
   pub error_callback : option_map callback_value kept.error_callback ≡ option_map callback_value given.error_callback
 
 -- the code keeps what its generator was given, and for each leaf of the graph what becomes of its matches
-pub record Keeps (generator : GeneratorValue) (code : CodeValue) : Type 0 where
+pub record KeepsGiven (generator : GeneratorValue) (code : CodeValue) : Type 0 where
   pub given : IsCopy generator.given code.kept
   pub leaves : map code_leaf_value code.kept_leaves ≡ map leaf_value generator.graph.leaves
