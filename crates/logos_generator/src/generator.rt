@@ -63,7 +63,7 @@ impl<'g, 's> Generator<'g, 's> {
         error_callback: Option<&'g Callback<'s>>,
     ) -> Generator<'g, 's>
         requires { graph.now.faults ≡ [] }
-        ensures { result ≡ record { given = record { shape = config.entry; name = name.entry; this = this.now; error_callback = option_copied error_callback.entry }; graph = graph.now } }
+        ensures { result ≡ record { given = record { shape = config; name = name.entry; this = this.now; error_callback = option_copied error_callback.entry }; graph = graph.now } }
     {
         Generator {
             config,
