@@ -1,7 +1,6 @@
 -- The leaves of a code, one after another.
-use Rattle.std.proofs.Common.{◌≡◌, ℕ, ◌+◌, ◌<◌, List, [], ◌∷◌, ◌++◌, length, drop, map, get_or, ap, sym, refl, ◌∙◌, append_assoc, Option, None, Some, option_map, option_copied, is_some, MatchOption, IsSomeAnd}
+use Rattle.std.proofs.Common.{◌≡◌, ℕ, ◌+◌, ◌<◌, List, [], ◌∷◌, ◌++◌, length, drop, map, get_or, ap, sym, refl, ◌∙◌, append_assoc, Option, None, Some, option_map, is_some}
 use Rattle.std.proofs.lemmas.List.{drop_more, map-append}
-use denote.Ref.{Bor}
 use Rattle.logos_pattern.specs.Leaf.{is_skip, callback_value}
 use Rattle.logos_pattern.specs.declared.leaf.Callback.{Callback}
 use Rattle.logos_pattern.specs.declared.leaf.Leaf.{Leaf}
@@ -39,11 +38,3 @@ uses_given (x ∷ xs) = rw (asks_alike x.callback, uses_given xs) refl
 -- leaves of the same values are used alike
 pub uses_alike : (made : List CodeLeaf) (leaves : List Leaf) → map code_leaf_value made ≡ map leaf_value leaves → map use_of made ≡ map leaf_use leaves
 uses_alike made leaves same = sym (uses_made made) ∙ ap (map use_by) same ∙ uses_given leaves
-
--- a copy of a callback, if there is one
-pub callback_copied : (callback : Option (Bor Callback)) (copy : Option Callback) →
-    MatchOption callback (copy ≡ None) (λ c. IsSomeAnd copy (λ d. callback_value d ≡ callback_value c.now)) →
-    option_map callback_value copy ≡ option_map callback_value (option_copied callback)
-callback_copied None copy is = rw is refl
-callback_copied (Some c) None is = absurd is
-callback_copied (Some c) (Some d) is = ap Some is

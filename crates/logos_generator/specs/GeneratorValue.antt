@@ -1,5 +1,5 @@
 -- What contracts see of a generator, and what a code value keeps of it.
-use Rattle.std.specs.Prelude.{◌≡◌, List, map, Option, option_map}
+use Rattle.std.specs.Prelude.{◌≡◌, map, Option, option_map}
 use Rattle.logos_token.specs.Views.{stream_tokens}
 use Rattle.logos_pattern.specs.Leaf.{CallbackValue, callback_value}
 use Rattle.logos_pattern.specs.declared.leaf.Leaf.{Leaf}

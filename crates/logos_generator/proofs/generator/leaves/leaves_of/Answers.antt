@@ -1,6 +1,6 @@
 use Rattle.std.proofs.Common.{◌≡◌, ◌∙◌, [], drop, map, append-nil, sym, arith}
 use Rattle.std.proofs.lemmas.List.{drop_all}
-use Rattle.logos_generator.specs.GeneratorValue.{code_leaf_value, leaf_value}
+use Rattle.logos_generator.specs.GeneratorValue.{code_leaf_value}
 use Rattle.logos_generator.proofs.LeafLemmas.{leaves_turn, uses_alike}
 use Rattle.logos_generator.proofs.generator.leaves.leaves_of.Goals as goal
 
