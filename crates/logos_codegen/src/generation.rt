@@ -21,7 +21,7 @@ use logos_generator::generator::{Config, Generator};
 use logos_graph::graph::{BuildError, Config as GraphConfig, Graph, GraphError};
 use logos_pattern::leaf::Leaf;
 use logos_token::error::{Errors, FaultCode, Memory};
-use logos_token::token::{Ident, Span};
+use logos_token::token::{Ident, Span, TokenStream};
 use std::alloc::Global;
 
 /// What a source gives.
@@ -135,6 +135,7 @@ pub fn generate<'s>(alloc: Global, src: &'s str, config: Config) -> Result<Gener
     ensures complete { (rules : List Rule) (utf8 : Bool) → IsAccepted src.now rules utf8 → IsWithinLimits src.now rules → IfErr result IsMemory }
 {
     let (graph, name) = accept(alloc, src)?;
-    let code = Generator::new(config, name, &graph).generate(alloc)?;
+    let this = TokenStream::from_ident(alloc, name)?;
+    let code = Generator::new(config, name, &this, &graph, None).generate(alloc)?;
     Ok(Generated { code, graph, name })
 }

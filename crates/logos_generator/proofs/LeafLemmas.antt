@@ -1,16 +1,40 @@
 -- The leaves of a code, one after another.
-use Rattle.std.proofs.Common.{◌≡◌, ℕ, ◌+◌, ◌<◌, List, [], ◌∷◌, ◌++◌, length, drop, map, get_or, ap, ◌∙◌, append_assoc}
+use Rattle.std.proofs.Common.{◌≡◌, ℕ, ◌+◌, ◌<◌, List, [], ◌∷◌, ◌++◌, length, drop, map, get_or, ap, sym, refl, ◌∙◌, append_assoc, Option, None, Some, option_map, is_some}
 use Rattle.std.proofs.lemmas.List.{drop_more, map-append}
+use Rattle.logos_pattern.specs.Leaf.{is_skip, callback_value}
+use Rattle.logos_pattern.specs.declared.leaf.Callback.{Callback}
 use Rattle.logos_pattern.specs.declared.leaf.Leaf.{Leaf}
+use Rattle.logos_graph.specs.Munch.{Use}
 use Rattle.logos_generator.specs.CodeView.{use_of}
+use Rattle.logos_generator.specs.GeneratorValue.{LeafValue, leaf_value, code_leaf_value}
 use Rattle.logos_generator.specs.StateView.{leaf_use}
 use Rattle.logos_generator.specs.declared.code.CodeLeaf.{CodeLeaf}
 
 -- one leaf more
 pub leaves_turn : (leaves : List Leaf) (i : ℕ) (d : Leaf) (old new : List CodeLeaf) (x : CodeLeaf) → i < length leaves → new ≡ old ++ x ∷ [] →
-    use_of x ≡ leaf_use (get_or leaves i d) → map use_of old ++ map leaf_use (drop i leaves) ≡ map leaf_use leaves →
-    map use_of new ++ map leaf_use (drop (i + 1) leaves) ≡ map leaf_use leaves
+    code_leaf_value x ≡ leaf_value (get_or leaves i d) → map code_leaf_value old ++ map leaf_value (drop i leaves) ≡ map leaf_value leaves →
+    map code_leaf_value new ++ map leaf_value (drop (i + 1) leaves) ≡ map leaf_value leaves
 leaves_turn leaves i d old new x lt is same before =
-    let split : map use_of (old ++ x ∷ []) ++ map leaf_use (drop (i + 1) leaves) ≡ map use_of old ++ (use_of x ∷ map leaf_use (drop (i + 1) leaves)) =
-    ap (λ l. l ++ map leaf_use (drop (i + 1) leaves)) (map-append use_of old (x ∷ [])) ∙ append_assoc (map use_of old) (use_of x ∷ []) (map leaf_use (drop (i + 1) leaves)) in
-    rw is (split ∙ ap (λ u. map use_of old ++ (u ∷ map leaf_use (drop (i + 1) leaves))) same ∙ (rw (drop_more leaves i d lt) at before))
+    let split : map code_leaf_value (old ++ x ∷ []) ++ map leaf_value (drop (i + 1) leaves) ≡ map code_leaf_value old ++ (code_leaf_value x ∷ map leaf_value (drop (i + 1) leaves)) =
+    ap (λ l. l ++ map leaf_value (drop (i + 1) leaves)) (map-append code_leaf_value old (x ∷ [])) ∙ append_assoc (map code_leaf_value old) (code_leaf_value x ∷ []) (map leaf_value (drop (i + 1) leaves)) in
+    rw is (split ∙ ap (λ u. map code_leaf_value old ++ (u ∷ map leaf_value (drop (i + 1) leaves))) same ∙ (rw (drop_more leaves i d lt) at before))
+
+-- what a leaf's value says of its use
+abbrev use_by : LeafValue → Use
+use_by leaf = record { skips = is_skip leaf.kind; asks = is_some leaf.callback }
+
+asks_alike : (callback : Option Callback) → is_some (option_map callback_value callback) ≡ is_some callback
+asks_alike None = refl
+asks_alike (Some callback) = refl
+
+uses_made : (made : List CodeLeaf) → map use_by (map code_leaf_value made) ≡ map use_of made
+uses_made [] = refl
+uses_made (x ∷ xs) = rw (asks_alike x.callback, uses_made xs) refl
+
+uses_given : (leaves : List Leaf) → map use_by (map leaf_value leaves) ≡ map leaf_use leaves
+uses_given [] = refl
+uses_given (x ∷ xs) = rw (asks_alike x.callback, uses_given xs) refl
+
+-- leaves of the same values are used alike
+pub uses_alike : (made : List CodeLeaf) (leaves : List Leaf) → map code_leaf_value made ≡ map leaf_value leaves → map use_of made ≡ map leaf_use leaves
+uses_alike made leaves same = sym (uses_made made) ∙ ap (map use_by) same ∙ uses_given leaves

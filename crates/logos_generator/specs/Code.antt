@@ -2,6 +2,8 @@
 use Rattle.std.specs.Prelude.{ℕ, Bool, List, Option}
 use Rattle.logos_graph.specs.Munch.{Use}
 use Rattle.logos_graph.specs.Bytes.{Comparison}
+use Rattle.logos_generator.specs.declared.code.CodeLeaf.{CodeLeaf}
+use Rattle.logos_generator.specs.declared.code.Kept.{Kept}
 
 -- a match of this leaf ends here, or one byte before where it is late
 pub record Mark : Type 0 where
@@ -36,3 +38,6 @@ pub record CodeValue : Type 0 where
   pub leaves : List Use
   pub root : ℕ
   pub utf8 : Bool
+  -- no run reads these
+  pub kept : Kept
+  pub kept_leaves : List CodeLeaf

@@ -1,5 +1,5 @@
 -- What contracts see of a code value.
-use Rattle.std.specs.Prelude.{◌≡◌, ℕ, ◌<◌, Bool, not, List, [], map, length, false, Option, Some, None, option_map, if◌then◌else◌, ◌==◌, slice_index, slice_index_or, slice_get}
+use Rattle.std.specs.Prelude.{◌≡◌, ℕ, ◌<◌, Bool, not, List, [], map, length, false, Option, Some, None, option_map, if◌then◌else◌, ◌==◌, is_some, slice_index, slice_index_or, slice_get}
 use Rattle.std.specs.Int.Bits.{bit_and}
 use Rattle.std.specs.Option.{option_map_or}
 use Rattle.logos_pattern.specs.Leaf.{is_skip}
@@ -47,7 +47,7 @@ state_of tables state = record {
 }
 
 abbrev pub use_of : CodeLeaf → Use
-use_of leaf = record { skips = is_skip leaf.kind; asks = leaf.has_callback }
+use_of leaf = record { skips = is_skip leaf.kind; asks = is_some leaf.callback }
 
 abbrev pub code_of : CodeParts → CodeValue
 code_of code = record {
@@ -56,6 +56,8 @@ code_of code = record {
   leaves = map use_of code.leaves.items;
   root = code.root;
   utf8 = code.utf8;
+  kept = code.kept;
+  kept_leaves = code.leaves.items;
 }
 
 -- a state without anything, for the states that are not there

@@ -12,3 +12,4 @@ pub mod Stands
 pub mod Attempts
 pub mod LexerValue
 pub mod Order
+pub mod GeneratorValue

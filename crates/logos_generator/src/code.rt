@@ -1,5 +1,6 @@
 //! Code values: what a lexer does in each state.
-ghost use Rattle.std.specs.Prelude.{◌≡◌, ◌<◌, false, length, option_map, IfOk};
+ghost use Rattle.std.specs.Prelude.{◌≡◌, ◌<◌, false, length, option_map, option_copied, IfOk};
+ghost use Rattle.logos_token.specs.Views.{stream_tokens, tokens_of};
 ghost use Rattle.logos_generator.specs.Headline.{IsSound};
 ghost use Rattle.logos_generator.specs.Makes.{stays};
 ghost use Rattle.logos_generator.specs.Runs.{target};
@@ -12,8 +13,8 @@ mod tests;
 
 use crate::generator::Config;
 use logos_graph::byte_class::Comparisons;
-use logos_pattern::leaf::{LeafId, VariantKind};
-use logos_token::token::Ident;
+use logos_pattern::leaf::{Callback, LeafId, VariantKind};
+use logos_token::token::{Ident, TokenStream, Tokens};
 use rows::rows_of;
 use std::alloc::{AllocError, Global};
 use std::marker::Model;
@@ -59,19 +60,30 @@ pub struct CodeState {
 }
 
 /// What becomes of the matches of a leaf.
-#[derive(Clone, Copy, Debug)]
+#[derive(Debug, Drop)]
 pub struct CodeLeaf<'s> {
     pub kind: VariantKind<'s>,
-    pub has_callback: bool,
+    /// What is called on a match, if anything is.
+    pub callback: Option<Callback<'s>>,
+}
+
+/// What a code value keeps as its generator was given it.
+#[derive(Drop)]
+pub(crate) struct Kept<'s> {
+    /// The shape of its text.
+    pub shape: Config,
+    /// The name of the enum.
+    pub name: Ident<'s>,
+    /// The type that the enum is.
+    pub this: TokenStream<'s>,
+    /// What is called on an error, if anything is.
+    pub error_callback: Option<Callback<'s>>,
 }
 
 /// What a code value is made of.
 #[derive(Drop)]
 pub(crate) struct CodeParts<'s> {
-    /// The shape of its text.
-    pub shape: Config,
-    /// The name of the enum.
-    pub name: Ident<'s>,
+    pub kept: Kept<'s>,
     pub states: Vec<CodeState>,
     /// Test number k is bit k mod 8 of the entries of table k / 8.
     pub bit_tables: Vec<[u8; 256]>,
@@ -113,6 +125,43 @@ impl<'s> Code<'s> {
     {
         let rows = rows_of(alloc, &parts)?;
         Ok(Code { parts, rows })
+    }
+}
+
+impl<'s> Code<'s> {
+    /// The shape of its text.
+    pub fn shape(&self) -> Config
+        ensures { result ≡ self.now.kept.shape }
+    {
+        self.parts.kept.shape
+    }
+
+    /// The name of the enum.
+    pub fn name(&self) -> Ident<'s>
+        ensures { result ≡ self.now.kept.name }
+    {
+        self.parts.kept.name
+    }
+
+    /// The type that the enum is: its name, and what it is given.
+    pub fn this(&self) -> Tokens<'_, 's>
+        ensures { tokens_of result ≡ stream_tokens self.now.kept.this }
+    {
+        self.parts.kept.this.run()
+    }
+
+    /// What is called on an error, if anything is.
+    pub fn error_callback(&self) -> Option<&Callback<'s>>
+        ensures { option_copied result ≡ self.now.kept.error_callback }
+    {
+        self.parts.kept.error_callback.as_ref()
+    }
+
+    /// What becomes of the matches of each leaf, in the order of their numbers.
+    pub fn leaves(&self) -> &[CodeLeaf<'s>]
+        ensures { result.now ≡ self.now.kept_leaves }
+    {
+        self.parts.leaves.as_slice()
     }
 }
 
@@ -173,7 +222,7 @@ impl Code<'_> {
         requires { leaf.0 < length self.now.leaves }
         ensures { result ≡ asks_for self.now leaf.0 }
     {
-        self.parts.leaves[leaf.0].has_callback
+        self.parts.leaves[leaf.0].callback.is_some()
     }
 
     /// Whether the matches of the leaf are left out.

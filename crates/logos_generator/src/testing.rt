@@ -35,12 +35,12 @@ fn leaf(alloc: Global, rule: &(&str, usize, Fate)) -> Result<Leaf<'static>, Fail
         leaf.kind = VariantKind::Unit(NAME);
     }
     if matches!(rule.2, Fate::Called | Fate::CalledSkip) {
-        leaf.callback = Some(Callback::Label(tokenize(alloc, "f")?));
+        leaf.callback = Some(Callback::Label(tokenize(alloc, "matched")?));
     }
     Ok(leaf)
 }
 
-/// The code of leaves.
+/// The code of leaves for the enum `A<u8>`, on whose errors `failed` is called.
 pub(crate) fn code_of(
     alloc: Global,
     utf8_mode: bool,
@@ -57,5 +57,9 @@ pub(crate) fn code_of(
     let config = Config {
         use_state_machine_codegen: true,
     };
-    Ok(Generator::new(config, NAME, &graph).generate(alloc)?)
+    let (this, failed) = (
+        tokenize(alloc, "A<u8>")?,
+        Callback::Label(tokenize(alloc, "failed")?),
+    );
+    Ok(Generator::new(config, NAME, &this, &graph, Some(&failed)).generate(alloc)?)
 }

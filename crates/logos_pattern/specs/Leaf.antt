@@ -3,12 +3,14 @@ use Rattle.std.specs.Prelude.{ℕ, ◌-◌, ◌*◌, Bool, true, false, List, �
 use Rattle.logos_pattern.specs.Tree.{Tree}
 use Rattle.logos_pattern.specs.Hir.{tree_of}
 use Rattle.logos_pattern.specs.declared.pattern.Pattern.{Pattern}
+use Rattle.logos_token.specs.declared.token.Ident.{Ident}
 use Rattle.logos_token.specs.declared.token.Span.{Span}
-use Rattle.logos_token.specs.Tokens.{run_span}
+use Rattle.logos_token.specs.Tokens.{TokenList, run_span}
 use Rattle.logos_token.specs.Views.{stream_tokens}
 use Rattle.logos_pattern.specs.declared.leaf.Leaf.{Leaf}
 use Rattle.logos_pattern.specs.declared.leaf.Callback.{Callback}
 use Rattle.logos_pattern.specs.declared.leaf.Callback.TheVariants.{Label, Inline}
+use Rattle.logos_pattern.specs.declared.leaf.InlineCallback.{InlineCallback}
 use Rattle.logos_pattern.specs.declared.leaf.VariantKind.{VariantKind}
 use Rattle.logos_pattern.specs.declared.leaf.VariantKind.TheVariants.{Unit as UnitVariant, Skip}
 
@@ -33,6 +35,18 @@ is_skip Skip = true
 abbrev pub callback_span : Callback → Span
 callback_span (Label tokens) = run_span (stream_tokens tokens)
 callback_span (Inline inline) = inline.span
+
+-- a callback by its tokens: those that name a function, or those of a body with a parameter
+pub data CallbackValue : Type 0 where
+  named : (tokens : TokenList) → CallbackValue
+  written : (arg : Ident) (body : TokenList) (span : Span) → CallbackValue
+
+abbrev pub inline_value : InlineCallback → CallbackValue
+inline_value inline = written inline.arg (stream_tokens inline.body) inline.span
+
+abbrev pub callback_value : Callback → CallbackValue
+callback_value (Label tokens) = named (stream_tokens tokens)
+callback_value (Inline inline) = inline_value inline
 
 -- it is asked what becomes of a match
 abbrev pub asks : Leaf → Bool

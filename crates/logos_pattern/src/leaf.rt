@@ -1,11 +1,12 @@
 //! Leaves of a lexer: a pattern, its priority, and what becomes of its matches.
 
 ghost use Rattle.std.specs.Prelude.{◌≡◌, Some};
-ghost use Rattle.logos_pattern.specs.Leaf.{kind_text, leaf_text, callback_span};
+ghost use Rattle.logos_pattern.specs.Leaf.{kind_text, leaf_text, callback_span, callback_value, inline_value};
 ghost use Rattle.logos_pattern.specs.declared.leaf.Callback.TheVariants as callbacks;
 
 use crate::pattern::Pattern;
 use logos_token::token::{Ident, Span, TokenStream};
+use std::alloc::AllocError;
 use std::fmt;
 
 /// The number of a leaf.
@@ -58,6 +59,31 @@ impl<'s> From<InlineCallback<'s>> for Callback<'s> {
 
     fn from(inline: InlineCallback<'s>) -> Callback<'s> {
         Callback::Inline(inline)
+    }
+}
+
+impl Clone for Callback<'_> {
+    // A copy is of the same form, with the same tokens.
+    ghost is_clone = { λ callback copy. callback_value copy ≡ callback_value callback };
+
+    fn clone(&self) -> Result<Self, AllocError> {
+        match self {
+            Callback::Label(tokens) => Ok(Callback::Label(tokens.clone()?)),
+            Callback::Inline(inline) => Ok(Callback::Inline(inline.clone()?)),
+        }
+    }
+}
+
+impl Clone for InlineCallback<'_> {
+    // A copy has the same parameter, a body of the same tokens, and the same span.
+    ghost is_clone = { λ inline copy. inline_value copy ≡ inline_value inline };
+
+    fn clone(&self) -> Result<Self, AllocError> {
+        Ok(InlineCallback {
+            arg: self.arg,
+            body: self.body.clone()?,
+            span: self.span,
+        })
     }
 }
 
@@ -140,7 +166,7 @@ impl fmt::Display for Leaf<'_> {
 mod tests {
     use super::*;
     use crate::pattern::plain_token_priority;
-    use logos_token::token::{Literal, TokenError, tokenize};
+    use logos_token::token::{Literal, TokenError, print, tokenize};
     use std::alloc::Global;
     use std::process::Abort;
     use std::test::Fail;
@@ -207,14 +233,26 @@ mod tests {
         Ok(with(leaf, set, callback))
     }
 
-    /// The leaf, its priority, and where its callback stands.
-    fn shown(alloc: Global, set: Set<'_>) -> Result<String, TokenError> {
+    /// The tokens of a copy of the callback, and where it stands.
+    fn copied(alloc: Global, callback: &Callback<'_>) -> Result<String, Fail> {
+        let copy = callback.clone()?;
+        let tokens = match &copy {
+            Callback::Label(tokens) => tokens,
+            Callback::Inline(inline) => &inline.body,
+        };
+        let text = print(alloc, tokens.run())?;
+        Ok(format!(in alloc; "{text} {}..{}", copy.span().from, copy.span().to)?)
+    }
+
+    /// The leaf, its priority, and a copy of its callback.
+    fn shown(alloc: Global, set: Set<'_>) -> Result<String, Fail> {
         let leaf = leaf(alloc, set)?;
         let priority = leaf.priority;
-        match &leaf.callback {
-            Some(callback) => Ok(format!(in alloc; "{leaf} {priority} {:?}", callback.span())?),
-            None => Ok(format!(in alloc; "{leaf} {priority}")?),
-        }
+        let callback = match &leaf.callback {
+            Some(callback) => copied(alloc, callback)?,
+            None => String::new(alloc),
+        };
+        Ok(format!(in alloc; "{leaf} {priority} {callback}")?)
     }
 
     fn are_shown(rt: &impl Abort, alloc: Global, cases: &[(Set<'_>, &str)]) -> Result<(), Fail> {
@@ -234,20 +272,17 @@ mod tests {
             &rt,
             rt.alloc(),
             &[
-                (Set::Priority, "#[token(\"ab\")] ::<skip> 7"),
-                (Set::Variant, "#[token(\"ab\")] ::A 4"),
+                (Set::Priority, "#[token(\"ab\")] ::<skip> 7 "),
+                (Set::Variant, "#[token(\"ab\")] ::A 4 "),
                 (
                     Set::Label("  a::b "),
-                    "#[token(\"ab\")] ::<skip> 7 Span { from: 2, to: 6 }",
+                    "#[token(\"ab\")] ::<skip> 7 a :: b 2..6",
                 ),
-                (
-                    Set::Label(" "),
-                    "#[token(\"ab\")] ::<skip> 7 Span { from: 0, to: 0 }",
-                ),
-                (Set::NoLabel("  a::b "), "#[token(\"ab\")] ::<skip> 0"),
+                (Set::Label(" "), "#[token(\"ab\")] ::<skip> 7  0..0"),
+                (Set::NoLabel("  a::b "), "#[token(\"ab\")] ::<skip> 0 "),
                 (
                     Set::Inline,
-                    "#[token(\"ab\")] ::<skip> 7 Span { from: 0, to: 17 }",
+                    "#[token(\"ab\")] ::<skip> 7 lex . bump ( 1 ) 0..17",
                 ),
             ],
         )

@@ -2,6 +2,7 @@
 
 use super::*;
 use crate::testing::{Fate, Rules, code_of};
+use logos_token::token::print;
 use std::alloc::Global;
 use std::process::Abort;
 use std::test::Fail;
@@ -111,18 +112,46 @@ fn push_tests(alloc: Global, text: &mut String, tables: &[[u8; 256]]) -> Result<
     Ok(())
 }
 
+/// Adds the tokens that name a callback.
+fn push_callback(
+    alloc: Global,
+    text: &mut String,
+    callback: Option<&Callback<'_>>,
+) -> Result<(), Fail> {
+    if let Some(Callback::Label(tokens)) = callback {
+        text.push_str("by ")?;
+        text.push_str(print(alloc, tokens.run())?.as_str())?;
+    }
+    text.push_str("; ")?;
+    Ok(())
+}
+
 /// What becomes of the matches of each leaf.
-fn push_leaves(text: &mut String, leaves: &[CodeLeaf<'_>]) -> Result<(), Fail> {
+fn push_leaves(alloc: Global, text: &mut String, leaves: &[CodeLeaf<'_>]) -> Result<(), Fail> {
     for leaf in leaves {
-        if leaf.has_callback {
-            text.push_str("called ")?;
-        }
         text.push_str(match leaf.kind {
-            VariantKind::Unit(_) => "token; ",
-            VariantKind::Skip => "skip; ",
+            VariantKind::Unit(_) => "token ",
+            VariantKind::Skip => "skip ",
         })?;
+        push_callback(alloc, text, leaf.callback.as_ref())?;
     }
     Ok(())
+}
+
+/// What the code keeps of what its generator was given: shape, name, type, error callback.
+fn kept(alloc: Global, code: &Code<'_>) -> Result<String, Fail> {
+    let mut text = String::new(alloc);
+    text.push_str(if code.shape().use_state_machine_codegen {
+        "one loop; "
+    } else {
+        "functions; "
+    })?;
+    text.push_str(code.name().text)?;
+    text.push_str("; ")?;
+    text.push_str(print(alloc, code.this())?.as_str())?;
+    text.push_str("; ")?;
+    push_callback(alloc, &mut text, code.error_callback())?;
+    Ok(text)
 }
 
 /// The nodes of the code: its states, then its jump tables, its tests, and its leaves.
@@ -138,7 +167,7 @@ fn nodes(alloc: Global, code: &Code<'_>) -> Result<String, Fail> {
     text.push_str("| ")?;
     push_tests(alloc, &mut text, &code.parts.bit_tables)?;
     text.push_str("| ")?;
-    push_leaves(&mut text, &code.parts.leaves)?;
+    push_leaves(alloc, &mut text, code.leaves())?;
     Ok(text)
 }
 
@@ -160,32 +189,32 @@ fn nodes_of_patterns(rt: HostRuntime) -> Result<(), Fail> {
             // cheap classes are compared, and the edge back is the loop's alone
             (
                 &[("[a-z]+", 1, Fate::Token)],
-                "to 1 by 2 operations ; loop 0 early 0 ; | | 0.0: 97 to 122, 26; | token; ",
+                "to 1 by 2 operations ; loop 0 early 0 ; | | 0.0: 97 to 122, 26; | token ; ",
             ),
             // dear classes are tested by bits, and equal tests share a number
             (
                 &[("[a-zA-Z]+", 1, Fate::Skip)],
-                "to 1 by test 0 ; loop 0 early 0 ; | | 0.0: 65 to 122, 52; | skip; ",
+                "to 1 by test 0 ; loop 0 early 0 ; | | 0.0: 65 to 122, 52; | skip ; ",
             ),
             // the root has a loop
             (
                 &[("a*b", 1, Fate::Called)],
-                "loop 0 to 1 by 1 operations ; early 0 ; | | 0.0: 97 to 97, 1; | called token; ",
+                "loop 0 to 1 by 1 operations ; early 0 ; | | 0.0: 97 to 97, 1; | token by matched; ",
             ),
             // three edges are a table: the edge back is counted, and left out
             (
                 &[("a*(?:b|cd)", 1, Fate::CalledSkip)],
-                "loop 0 table 0 ; early 0 ; to 1 by 1 operations ; | 98 to 1 99 to 2 ; | 0.0: 97 to 97, 1; | called skip; ",
+                "loop 0 table 0 ; early 0 ; to 1 by 1 operations ; | 98 to 1 99 to 2 ; | 0.0: 97 to 97, 1; | skip by matched; ",
             ),
             // equal tables are kept once
             (
                 &[("p", 1, Fate::Token), ("[pq](?:a|b0|c00)", 1, Fate::Token)],
-                "to 1 by 1 operations to 2 by 1 operations ; early 0 table 0 ; table 0 ; early 1 ; to 3 by 1 operations ; to 4 by 1 operations ; | 97 to 3 98 to 4 99 to 5 ; | | token; token; ",
+                "to 1 by 1 operations to 2 by 1 operations ; early 0 table 0 ; table 0 ; early 1 ; to 3 by 1 operations ; to 4 by 1 operations ; | 97 to 3 98 to 4 99 to 5 ; | | token ; token ; ",
             ),
             // the end leads to a late mark
             (
                 &[("a$", 3, Fate::Token), ("a", 2, Fate::Token)],
-                "to 1 by 1 operations ; to 2 by 0 operations end 3 ; late 1 ; late 0 ; | | | token; token; ",
+                "to 1 by 1 operations ; to 2 by 0 operations end 3 ; late 1 ; late 0 ; | | | token ; token ; ",
             ),
         ],
     )
@@ -208,7 +237,19 @@ fn the_ninth_test_stands_in_the_second_table(rt: HostRuntime) -> Result<(), Fail
                 ("7h*", 1, Fate::Token),
                 ("8i*", 1, Fate::Token),
             ],
-            "table 0 ; loop 0 early 0 ; loop 1 early 1 ; loop 2 early 2 ; loop 3 early 3 ; loop 4 early 4 ; loop 5 early 5 ; loop 6 early 6 ; loop 7 early 7 ; loop 8 early 8 ; | 48 to 1 49 to 2 50 to 3 51 to 4 52 to 5 53 to 6 54 to 7 55 to 8 56 to 9 ; | 0.0: 97 to 97, 1; 0.1: 98 to 98, 1; 0.2: 99 to 99, 1; 0.3: 100 to 100, 1; 0.4: 101 to 101, 1; 0.5: 102 to 102, 1; 0.6: 103 to 103, 1; 0.7: 104 to 104, 1; 1.0: 105 to 105, 1; | token; token; token; token; token; token; token; token; token; ",
+            "table 0 ; loop 0 early 0 ; loop 1 early 1 ; loop 2 early 2 ; loop 3 early 3 ; loop 4 early 4 ; loop 5 early 5 ; loop 6 early 6 ; loop 7 early 7 ; loop 8 early 8 ; | 48 to 1 49 to 2 50 to 3 51 to 4 52 to 5 53 to 6 54 to 7 55 to 8 56 to 9 ; | 0.0: 97 to 97, 1; 0.1: 98 to 98, 1; 0.2: 99 to 99, 1; 0.3: 100 to 100, 1; 0.4: 101 to 101, 1; 0.5: 102 to 102, 1; 0.6: 103 to 103, 1; 0.7: 104 to 104, 1; 1.0: 105 to 105, 1; | token ; token ; token ; token ; token ; token ; token ; token ; token ; ",
         )],
     )
+}
+
+/// The code of no rules keeps what its generator was given.
+fn is_kept(alloc: Global, wanted: &str) -> Result<bool, Fail> {
+    let code = code_of(alloc, true, &[])?;
+    Ok(kept(alloc, &code)?.as_str() == wanted)
+}
+
+#[test]
+fn what_was_given_is_kept(rt: HostRuntime) -> Result<(), Fail> {
+    assert!(rt; is_kept(rt.alloc(), "one loop; A; A < u8 >; by failed; ")?);
+    Ok(())
 }

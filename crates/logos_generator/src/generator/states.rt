@@ -4,27 +4,25 @@ ghost use Rattle.std.specs.List.{All, range_with_len};
 ghost use Rattle.logos_generator.specs.Headline.{RunsAs};
 ghost use Rattle.logos_generator.specs.Makes.{mark_made};
 ghost use Rattle.logos_generator.specs.CodeView.{mark_of, state_of};
+ghost use Rattle.logos_generator.specs.GeneratorValue.{code_leaf_value, leaf_value};
 ghost use Rattle.logos_graph.specs.FinishedGraph.{IsFinished};
 ghost use Rattle.logos_generator.specs.Nodes.{Extends, IsStateOf};
 ghost use Rattle.logos_graph.specs.GraphView.{state_number, state_type_of, graph_state_of};
 ghost use Rattle.logos_graph.specs.StatesView.{states_left};
 ghost use Rattle.logos_generator.specs.StateView.{leaf_use, AreStatesOf, AreTablesOf, IsCodable};
 
-use super::Config;
 use super::fork::{impl_fork, maybe_impl_fast_loop};
 use super::leaves::leaves_of;
 use super::tests_by_bits::tables_of;
-use crate::code::{Code, CodeParts, CodeState, Mark};
+use crate::code::{Code, CodeParts, CodeState, Kept, Mark};
 use indexmap::IndexSet;
 use logos_graph::graph::{Graph, State, StateData, StateType, States};
-use logos_token::token::Ident;
 use std::alloc::{AllocError, Global};
 
 /// The code of a graph, and of all its states.
 pub(super) fn code_of<'s>(
     alloc: Global,
-    shape: Config,
-    name: Ident<'s>,
+    kept: Kept<'s>,
     graph: &Graph<'s>,
     states: States,
 ) -> Result<Code<'s>, AllocError>
@@ -33,12 +31,13 @@ pub(super) fn code_of<'s>(
     ensures runs { IfOk result (λ code. RunsAs graph.now.states graph.now.utf8 code) }
     ensures mode { IfOk result (λ code. code.utf8 ≡ graph.now.utf8) }
     ensures leaves { IfOk result (λ code. code.leaves ≡ map leaf_use graph.now.leaves) }
+    ensures kept { IfOk result (λ code. code.kept ≡ kept.entry) }
+    ensures kept_leaves { IfOk result (λ code. map code_leaf_value code.kept_leaves ≡ map leaf_value graph.now.leaves) }
 {
     let tables = tables_made(alloc, graph, states)?;
     let leaves = leaves_of(alloc, graph.leaves())?;
     let parts = CodeParts {
-        shape,
-        name,
+        kept,
         states: tables.states,
         bit_tables: tables.bit_tables,
         jump_tables: tables.jump_tables,

@@ -5,7 +5,7 @@ ghost use Rattle.logos_token.specs.Flat.{IsFlat};
 use crate::error::Memory;
 use crate::token::entry::Entry;
 use crate::token::{Delimiter, Doc, Ident, Literal, Punct, Span};
-use std::alloc::Global;
+use std::alloc::{AllocError, Global};
 
 /// All tokens of a source.
 #[derive(Debug, Drop)]
@@ -47,8 +47,9 @@ pub struct TokenIter<'t, 's> {
 }
 
 impl<'s> TokenStream<'s> {
-    ghost use Rattle.std.specs.Prelude.{◌≡◌};
+    ghost use Rattle.std.specs.Prelude.{◌≡◌, IfOk};
     ghost use Rattle.logos_token.specs.Flat.{IsFlat, tokens_in};
+    ghost use Rattle.logos_token.specs.Tokens.{identifier, none, also};
     ghost use Rattle.logos_token.specs.Views.{stream_tokens, tokens_of};
 
     /// The tokens of these entries.
@@ -59,6 +60,14 @@ impl<'s> TokenStream<'s> {
         TokenStream { entries }
     }
 
+    /// A buffer with this identifier alone. It fails only where there is no memory for it.
+    pub fn from_ident(alloc: Global, ident: Ident<'s>) -> Result<TokenStream<'s>, AllocError>
+        ensures { IfOk result (λ stream. stream_tokens stream ≡ also (identifier ident.entry.text.now ident.entry.span) none) }
+    {
+        let entries = Vec::from_slice(alloc, &[Entry::Ident(ident)])?;
+        Ok(TokenStream { entries })
+    }
+
     /// All trees.
     pub fn run(&self) -> Tokens<'_, 's>
         ensures { tokens_of result ≡ stream_tokens self.now }
@@ -66,6 +75,19 @@ impl<'s> TokenStream<'s> {
         Tokens {
             entries: self.entries.as_slice(),
         }
+    }
+}
+
+impl Clone for TokenStream<'_> {
+    ghost use Rattle.std.specs.Prelude.{◌≡◌};
+    ghost use Rattle.logos_token.specs.Views.{stream_tokens};
+
+    // A copy has the same trees, with the same texts, spans and spacings.
+    ghost is_clone = { λ stream copy. stream_tokens copy ≡ stream_tokens stream };
+
+    fn clone(&self) -> Result<Self, AllocError> {
+        let entries = Vec::from_slice(*self.entries.allocator(), self.entries.as_slice())?;
+        Ok(TokenStream { entries })
     }
 }
 

@@ -1,5 +1,5 @@
 use super::{MaybeVoid, ToIdent, expect_punct, is_punct};
-use crate::token::{Span, TokenStream, Tokens, tokenize};
+use crate::token::{Ident, Span, TokenStream, Tokens, print, tokenize};
 use std::alloc::Global;
 use std::test::Fail;
 
@@ -64,5 +64,29 @@ fn are_replaced(alloc: Global, source: &str, text: &str) -> Result<bool, Fail> {
 #[test]
 fn tokens_or_none(rt: HostRuntime) -> Result<(), Fail> {
     assert!(rt; are_replaced(rt.alloc(), "a b (c)", "b ( c )")?);
+    Ok(())
+}
+
+/// A copy of the tokens of a source is printed as this text.
+fn copy_prints(alloc: Global, source: &str, text: &str) -> Result<bool, Fail> {
+    let copy = tokenize(alloc, source)?.clone()?;
+    Ok(print(alloc, copy.run())?.as_str() == text)
+}
+
+/// The identifier alone is printed as it is, and stands where it stands.
+fn stands_alone(alloc: Global, ident: Ident<'_>) -> Result<bool, Fail> {
+    let stream = TokenStream::from_ident(alloc, ident)?;
+    let printed = print(alloc, stream.run())?.as_str() == ident.text;
+    Ok(printed & (stream.run().span() == ident.span))
+}
+
+#[test]
+fn made_streams(rt: HostRuntime) -> Result<(), Fail> {
+    let alloc = rt.alloc();
+    let ident = Ident {
+        text: "Enum",
+        span: Span { from: 5, to: 9 },
+    };
+    assert!(rt; copy_prints(alloc, "a b (c)", "a b ( c )")? && stands_alone(alloc, ident)?);
     Ok(())
 }

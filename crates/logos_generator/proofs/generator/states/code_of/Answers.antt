@@ -25,8 +25,8 @@ tables_made-requires-clause-codable c = λ k d h.
 pub new-requires-clause-kept : goal.new-requires-clause-kept
 new-requires-clause-kept c =
     let t = c.in_ok-tables.ensures in
-    let parts : CodeParts = record { shape = c.args.shape; name = c.args.name; states = c.in_ok-tables.tables.states; bit_tables = c.in_ok-tables.tables.bit_tables; jump_tables = c.in_ok-tables.tables.jump_tables; leaves = c.in_ok-leaves.leaves; root = 0; utf8 = c.utf8_mode.result } in
-    let finished = subst (IsFinished c.args.graph.now.states) (same_count c.in_ok-leaves.leaves.items c.args.graph.now.leaves (rw c.leaves.ensures at c.in_ok-leaves.ensures)) c.requires.finished in
+    let parts : CodeParts = record { kept = c.args.kept; states = c.in_ok-tables.tables.states; bit_tables = c.in_ok-tables.tables.bit_tables; jump_tables = c.in_ok-tables.tables.jump_tables; leaves = c.in_ok-leaves.leaves; root = 0; utf8 = c.utf8_mode.result } in
+    let finished = subst (IsFinished c.args.graph.now.states) (same_count c.in_ok-leaves.leaves.items c.args.graph.now.leaves (rw c.leaves.ensures at c.in_ok-leaves.ensures.uses)) c.requires.finished in
     record { sound = parts_sound t.tests c.args.graph.now.states parts refl t.are t.hold t.fit finished; once = t.once }
 
 pub new-requires-clause-few : goal.new-requires-clause-few
@@ -38,8 +38,13 @@ pub returns-clause-runs : goal.returns-clause-runs
 returns-clause-runs c =
     let t = c.in_ok-tables.ensures in
     let graph = c.args.graph.now.states in
-    let parts : CodeParts = record { shape = c.args.shape; name = c.args.name; states = c.in_ok-tables.tables.states; bit_tables = c.in_ok-tables.tables.bit_tables; jump_tables = c.in_ok-tables.tables.jump_tables; leaves = c.in_ok-leaves.leaves; root = 0; utf8 = c.utf8_mode.result } in
-    let finished = subst (IsFinished graph) (same_count c.in_ok-leaves.leaves.items c.args.graph.now.leaves (rw c.leaves.ensures at c.in_ok-leaves.ensures)) c.requires.finished in
+    let parts : CodeParts = record { kept = c.args.kept; states = c.in_ok-tables.tables.states; bit_tables = c.in_ok-tables.tables.bit_tables; jump_tables = c.in_ok-tables.tables.jump_tables; leaves = c.in_ok-leaves.leaves; root = 0; utf8 = c.utf8_mode.result } in
+    let finished = subst (IsFinished graph) (same_count c.in_ok-leaves.leaves.items c.args.graph.now.leaves (rw c.leaves.ensures at c.in_ok-leaves.ensures.uses)) c.requires.finished in
     let runs : RunsAs graph c.args.graph.now.utf8 (code_of parts) = subst (λ u. RunsAs graph u (code_of parts)) c.utf8_mode.ensures
     (runs_as graph c.utf8_mode.result (code_of parts) (parts_made t.tests graph parts refl t.are t.hold t.fit finished)) in
     IfOk-weaker c.new.result (λ code. code ≡ code_of parts) (RunsAs graph c.args.graph.now.utf8) (λ code e. rw e runs) c.new.ensures
+
+pub returns-clause-kept : goal.returns-clause-kept
+returns-clause-kept c =
+    let parts : CodeParts = record { kept = c.args.kept; states = c.in_ok-tables.tables.states; bit_tables = c.in_ok-tables.tables.bit_tables; jump_tables = c.in_ok-tables.tables.jump_tables; leaves = c.in_ok-leaves.leaves; root = 0; utf8 = c.utf8_mode.result } in
+    IfOk-weaker c.new.result (λ code. code ≡ code_of parts) (λ code. code.kept ≡ c.args.kept) (λ code e. ap (λ code. code.kept) e) c.new.ensures

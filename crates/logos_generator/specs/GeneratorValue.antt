@@ -1,0 +1,37 @@
+-- What contracts see of a generator, and what a code value keeps of it.
+use Rattle.std.specs.Prelude.{◌≡◌, map, Option, option_map}
+use Rattle.logos_token.specs.Views.{stream_tokens}
+use Rattle.logos_pattern.specs.Leaf.{CallbackValue, callback_value}
+use Rattle.logos_pattern.specs.declared.leaf.Leaf.{Leaf}
+use Rattle.logos_pattern.specs.declared.leaf.VariantKind.{VariantKind}
+use Rattle.logos_graph.specs.View.{GraphValue}
+use Rattle.logos_generator.specs.Code.{CodeValue}
+use Rattle.logos_generator.specs.declared.code.CodeLeaf.{CodeLeaf}
+use Rattle.logos_generator.specs.declared.code.Kept.{Kept}
+
+pub record GeneratorValue : Type 0 where
+  pub given : Kept
+  pub graph : GraphValue
+
+-- what becomes of the matches of a leaf, its callback by its tokens
+pub record LeafValue : Type 0 where
+  pub kind : VariantKind
+  pub callback : Option CallbackValue
+
+abbrev pub leaf_value : Leaf → LeafValue
+leaf_value leaf = record { kind = leaf.kind; callback = option_map callback_value leaf.callback }
+
+abbrev pub code_leaf_value : CodeLeaf → LeafValue
+code_leaf_value leaf = record { kind = leaf.kind; callback = option_map callback_value leaf.callback }
+
+-- the same shape and name, and the same tokens
+pub record IsCopy (given kept : Kept) : Type 0 where
+  pub shape : kept.shape ≡ given.shape
+  pub name : kept.name ≡ given.name
+  pub this : stream_tokens kept.this ≡ stream_tokens given.this
+  pub error_callback : option_map callback_value kept.error_callback ≡ option_map callback_value given.error_callback
+
+-- the code keeps what its generator was given, and for each leaf of the graph what becomes of its matches
+pub record KeepsGiven (generator : GeneratorValue) (code : CodeValue) : Type 0 where
+  pub given : IsCopy generator.given code.kept
+  pub leaves : map code_leaf_value code.kept_leaves ≡ map leaf_value generator.graph.leaves
