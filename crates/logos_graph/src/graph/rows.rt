@@ -579,10 +579,20 @@ fn lists_of_the_automaton(rt: HostRuntime) -> Result<(), Fail> {
                 Ask::ListsAtEnd(&["\u{1f600}", "\u{1f601}"]),
                 "0 ;;",
             ),
-            (&[], Ask::Lists(&["", "a", "ab"]), ";;;"),
-            (&[], Ask::ListsAtEnd(&["", "a"]), ";;"),
             // the start, behind an a, behind one more byte, and where nothing matches any more
             (&[("a", 2)], Ask::Children, "4 1 256 0 "),
+        ],
+    )
+}
+
+#[test]
+fn lists_of_no_leaves(rt: HostRuntime) -> Result<(), Fail> {
+    answers(
+        &rt,
+        rt.alloc(),
+        &[
+            (&[], Ask::Lists(&["", "a", "ab"]), ";;;"),
+            (&[], Ask::ListsAtEnd(&["", "a"]), ";;"),
         ],
     )
 }
