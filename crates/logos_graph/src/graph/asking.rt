@@ -138,8 +138,16 @@ fn count_child(dfa: &Dfa, child: Option<StateId>) -> usize {
     count
 }
 
+fn count_states(dfa: &Dfa) -> usize {
+    let mut count = 0usize;
+    for _ in dfa.get_states() {
+        count = count.saturating_add(1);
+    }
+    count
+}
+
 fn push_children(alloc: Global, text: &mut String, dfa: &Dfa) -> Result<(), Fail> {
-    push_number(alloc, text, dfa.get_states().count())?;
+    push_number(alloc, text, count_states(dfa))?;
     for child in [
         behind(dfa, "a", false),
         behind(dfa, "b", false),
