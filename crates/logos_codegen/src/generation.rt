@@ -4,6 +4,7 @@ ghost use Rattle.std.specs.Prelude.{◌≡◌, ◌↔◌, ◌++◌, ℕ, Bool, L
 ghost use Rattle.logos_parser.specs.Values.{ident_slice};
 ghost use Rattle.logos_graph.specs.Munch.{Rule};
 ghost use Rattle.logos_graph.specs.Errors.{fault_of};
+ghost use Rattle.logos_graph.specs.Found.{FindsTheLongest};
 ghost use Rattle.logos_graph.specs.View.{rules_of};
 ghost use Rattle.logos_generator.specs.Headline.{IsLexer};
 ghost use Rattle.logos_codegen.specs.Texts.{named_leaf, listed_of};
@@ -22,7 +23,7 @@ use logos_graph::graph::{BuildError, Config as GraphConfig, Graph, GraphError};
 use logos_pattern::leaf::Leaf;
 use logos_token::error::{Errors, FaultCode, Memory};
 use logos_token::token::{Ident, Span, TokenStream};
-use std::alloc::Global;
+use std::alloc::{AllocError, Global};
 
 /// What a source gives.
 #[derive(Drop)]
@@ -114,6 +115,21 @@ fn accept<'s>(alloc: Global, src: &'s str) -> Result<(Graph<'s>, Ident<'s>), Ref
     Ok((graph, item.name))
 }
 
+// The code of a graph that finds the longest matches, for the enum with this name, which is this type.
+fn code_of<'g, 's>(
+    alloc: Global,
+    config: Config,
+    name: Ident<'s>,
+    this: &'g TokenStream<'s>,
+    graph: &'g Graph<'s>,
+) -> Result<Code<'s>, AllocError>
+    requires faultless { graph.now.faults ≡ [] }
+    requires finds { FindsTheLongest (rules_of graph.now.leaves) graph.now.utf8 graph.now.states }
+    ensures { IfOk result (IsLexer (rules_of graph.now.leaves) graph.now.utf8) }
+{
+    Generator::new(config, name, this, graph, None).generate(alloc)
+}
+
 /// The code of the lexer that a source says.
 ///
 /// The source is an enum, with `#[token("..")]` and `#[regex("..")]` on its variants and, in front of
@@ -136,6 +152,6 @@ pub fn generate<'s>(alloc: Global, src: &'s str, config: Config) -> Result<Gener
 {
     let (graph, name) = accept(alloc, src)?;
     let this = TokenStream::from_ident(alloc, name)?;
-    let code = Generator::new(config, name, &this, &graph, None).generate(alloc)?;
+    let code = code_of(alloc, config, name, &this, &graph)?;
     Ok(Generated { code, graph, name })
 }

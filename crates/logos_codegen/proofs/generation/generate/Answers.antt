@@ -1,5 +1,4 @@
 use Rattle.std.proofs.lemmas.Result.{err_from_is_err_and}
-use Rattle.logos_generator.proofs.Compose.{is_lexer_of}
 use Rattle.logos_codegen.proofs.AcceptLemmas.{not_refused}
 use Rattle.logos_codegen.proofs.generation.generate.Goals as goal
 
@@ -13,7 +12,7 @@ returns-in_err-code-clause-complete c = λ rules utf8 a limits.
     let p = err_from_is_err_and c.from_residual-in_err-code.result c.from_residual-in_err-code.ensures.1 in
     rw (p.1, p.2) tt
 
-pub returns-clause-lexer : goal.returns-clause-lexer
-returns-clause-lexer c =
-    is_lexer_of c.in_ok-graph.graph c.in_ok-code.code c.in_ok-graph.ensures.ok.finds (rw c.new.ensures at c.in_ok-code.ensures.runs)
-    (rw c.new.ensures at c.in_ok-code.ensures.mode) (rw c.new.ensures at c.in_ok-code.ensures.uses)
+pub returns-in_err-this-clause-complete : goal.returns-in_err-this-clause-complete
+returns-in_err-this-clause-complete c = λ rules utf8 a limits.
+    let p = err_from_is_err_and c.from_residual-in_err-this.result c.from_residual-in_err-this.ensures.1 in
+    rw (p.1, p.2) tt
