@@ -167,7 +167,7 @@ mod tests {
     use super::*;
     use crate::pattern::plain_token_priority;
     use logos_token::token::{Literal, TokenError, print, tokenize};
-    use std::alloc::Global;
+    use std::alloc::{AllocError, Global};
     use std::process::Abort;
     use std::test::Fail;
 
@@ -176,45 +176,29 @@ mod tests {
         span: Span { from: 0, to: 0 },
     };
 
-    /// What is done with a leaf whose pattern is that of `"ab"`.
+    /// What is done with a leaf whose pattern is that of `"ab"`, with some tokens at hand.
     #[derive(Clone, Copy)]
-    enum Set<'t> {
-        /// The priority 7.
-        Priority,
+    enum Set {
         /// The priority of a `token`, and a variant.
         Variant,
-        /// The priority 7, and the callback that these tokens name.
-        Label(&'t str),
-        /// A callback, and then none.
-        NoLabel(&'t str),
-        /// The priority 7, and the callback `|lex| lex.bump(1)` at 0..17.
+        /// The priority 7, and the callback that the tokens name.
+        Label,
+        /// The priority 7, and a callback at 0..17 with the tokens as its body.
         Inline,
+        /// The same callback, and then none.
+        Unset,
     }
 
-    fn label(alloc: Global, text: &str) -> Result<Option<Callback<'_>>, TokenError> {
-        Ok(Some(Callback::Label(tokenize(alloc, text)?)))
-    }
-
-    fn inline(alloc: Global) -> Result<Option<Callback<'static>>, TokenError> {
+    fn inline(body: TokenStream<'_>) -> Option<Callback<'_>> {
         let arg = Ident {
             text: "lex",
             span: Span { from: 1, to: 4 },
         };
-        let body = tokenize(alloc, "lex.bump(1)")?;
         let span = Span { from: 0, to: 17 };
-        Ok(Some(Callback::from(InlineCallback { arg, body, span })))
+        Some(Callback::from(InlineCallback { arg, body, span }))
     }
 
-    fn callback(alloc: Global, set: Set<'_>) -> Result<Option<Callback<'_>>, TokenError> {
-        match set {
-            Set::Label(text) | Set::NoLabel(text) => label(alloc, text),
-            Set::Inline => inline(alloc),
-            _ => Ok(None),
-        }
-    }
-
-    /// The leaf, as it is set.
-    fn with<'s>(leaf: Leaf<'s>, set: Set<'s>, callback: Option<Callback<'s>>) -> Leaf<'s> {
+    fn with<'s>(leaf: Leaf<'s>, set: Set, tokens: TokenStream<'s>) -> Leaf<'s> {
         match set {
             Set::Variant => leaf
                 .priority(plain_token_priority(&AB))
@@ -222,46 +206,35 @@ mod tests {
                     text: "A",
                     span: AB.span,
                 })),
-            Set::NoLabel(_) => leaf.callback(callback).callback(None),
-            _ => leaf.priority(7).callback(callback),
+            Set::Label => leaf.priority(7).callback(Some(Callback::Label(tokens))),
+            Set::Inline => leaf.priority(7).callback(inline(tokens)),
+            Set::Unset => leaf.callback(inline(tokens)).callback(None),
         }
     }
 
-    fn leaf(alloc: Global, set: Set<'_>) -> Result<Leaf<'_>, TokenError> {
-        let callback = callback(alloc, set)?;
+    fn leaf(alloc: Global, set: Set, tokens: &str) -> Result<Leaf<'_>, TokenError> {
+        let tokens = tokenize(alloc, tokens)?;
         let leaf = Leaf::new(AB.span, Pattern::compile_plain(alloc, &AB)?);
-        Ok(with(leaf, set, callback))
+        Ok(with(leaf, set, tokens))
     }
 
-    /// The tokens of a copy of the callback, and where it stands.
-    fn copied(alloc: Global, callback: &Callback<'_>) -> Result<String, Fail> {
-        let copy = callback.clone()?;
-        let tokens = match &copy {
-            Callback::Label(tokens) => tokens,
-            Callback::Inline(inline) => &inline.body,
-        };
-        let text = print(alloc, tokens.run())?;
-        Ok(format!(in alloc; "{text} {}..{}", copy.span().from, copy.span().to)?)
-    }
-
-    /// The leaf, its priority, and a copy of its callback.
-    fn shown(alloc: Global, set: Set<'_>) -> Result<String, Fail> {
-        let leaf = leaf(alloc, set)?;
+    /// The leaf, its priority, and where its callback stands.
+    fn shown(alloc: Global, leaf: Leaf<'_>) -> Result<String, AllocError> {
         let priority = leaf.priority;
-        let callback = match &leaf.callback {
-            Some(callback) => copied(alloc, callback)?,
-            None => String::new(alloc),
+        let span = match &leaf.callback {
+            Some(callback) => Some(callback.span()),
+            None => None,
         };
-        Ok(format!(in alloc; "{leaf} {priority} {callback}")?)
+        format!(in alloc; "{leaf} {priority} {span:?}")
     }
 
-    fn are_shown(rt: &impl Abort, alloc: Global, cases: &[(Set<'_>, &str)]) -> Result<(), Fail> {
+    fn is_shown(alloc: Global, case: (Set, &str, &str)) -> Result<bool, TokenError> {
+        Ok(shown(alloc, leaf(alloc, case.0, case.1)?)?.as_str() == case.2)
+    }
+
+    fn are_shown(rt: &impl Abort, alloc: Global, cases: &[(Set, &str, &str)]) -> Result<(), Fail> {
         for case in cases {
-            assert!(rt;
-                shown(alloc, case.0)?.as_str() == case.1,
-                "another leaf: {}",
-                case.1
-            );
+            assert!(rt; is_shown(alloc, *case)?, "another leaf: {}", case.2);
         }
         Ok(())
     }
@@ -272,19 +245,55 @@ mod tests {
             &rt,
             rt.alloc(),
             &[
-                (Set::Priority, "#[token(\"ab\")] ::<skip> 7 "),
-                (Set::Variant, "#[token(\"ab\")] ::A 4 "),
+                (Set::Variant, "", "#[token(\"ab\")] ::A 4 None"),
                 (
-                    Set::Label("  a::b "),
-                    "#[token(\"ab\")] ::<skip> 7 a :: b 2..6",
+                    Set::Label,
+                    "  a::b ",
+                    "#[token(\"ab\")] ::<skip> 7 Some(Span { from: 2, to: 6 })",
                 ),
-                (Set::Label(" "), "#[token(\"ab\")] ::<skip> 7  0..0"),
-                (Set::NoLabel("  a::b "), "#[token(\"ab\")] ::<skip> 0 "),
+                (
+                    Set::Label,
+                    " ",
+                    "#[token(\"ab\")] ::<skip> 7 Some(Span { from: 0, to: 0 })",
+                ),
                 (
                     Set::Inline,
-                    "#[token(\"ab\")] ::<skip> 7 lex . bump ( 1 ) 0..17",
+                    "lex.bump(1)",
+                    "#[token(\"ab\")] ::<skip> 7 Some(Span { from: 0, to: 17 })",
+                ),
+                (
+                    Set::Unset,
+                    "lex.bump(1)",
+                    "#[token(\"ab\")] ::<skip> 0 None",
                 ),
             ],
         )
+    }
+
+    /// Whether a copy stands at the same place, with tokens that are printed as this text.
+    fn copies(alloc: Global, callback: &Callback<'_>, text: &str) -> Result<bool, Fail> {
+        let copy = callback.clone()?;
+        let tokens = match &copy {
+            Callback::Label(tokens) => tokens,
+            Callback::Inline(inline) => &inline.body,
+        };
+        Ok((copy.span() == callback.span()) & (print(alloc, tokens.run())?.as_str() == text))
+    }
+
+    fn leaf_copies(alloc: Global, set: Set, tokens: &str, text: &str) -> Result<bool, Fail> {
+        let leaf = leaf(alloc, set, tokens)?;
+        match &leaf.callback {
+            Some(callback) => copies(alloc, callback, text),
+            None => Ok(false),
+        }
+    }
+
+    #[test]
+    fn copies_of_callbacks(rt: HostRuntime) -> Result<(), Fail> {
+        let alloc = rt.alloc();
+        let label = leaf_copies(alloc, Set::Label, "  a::b ", "a :: b")?;
+        let inline = leaf_copies(alloc, Set::Inline, "lex.bump(1)", "lex . bump ( 1 )")?;
+        assert!(rt; label & inline);
+        Ok(())
     }
 }

@@ -127,11 +127,11 @@ pub(super) fn push_tree(out: &mut String, hir: &Hir) -> Result<(), AllocError> {
 #[cycle(shown)]
 fn push_row(out: &mut String, open: &str, row: &[Hir]) -> Result<(), AllocError> {
     out.push_str(open)?;
-    let mut before = "";
-    for hir in row {
-        out.push_str(before)?;
+    for (i, hir) in row.iter().enumerate() {
+        if i > 0 {
+            out.push_str(" ")?;
+        }
         push_tree(out, hir)?;
-        before = " ";
     }
     out.push_str(")")
 }
@@ -178,8 +178,8 @@ fn literal<'s>(alloc: Global, text: &'s str) -> Result<Option<Literal<'s>>, Memo
     Literal::read(alloc, &token::Literal { text, span })
 }
 
-fn push_literal(out: &mut String, literal: &Literal<'_>) -> Result<(), AllocError> {
-    write!(
+fn push_literal(out: &mut String, literal: &Literal<'_>) -> Result<(), Memory> {
+    Ok(write!(
         out,
         "{} {:?} {} {:?} {}",
         literal.token().text,
@@ -187,7 +187,18 @@ fn push_literal(out: &mut String, literal: &Literal<'_>) -> Result<(), AllocErro
         literal.unicode(),
         literal.value(),
         token_priority(literal)
-    )
+    )?)
+}
+
+/// Adds the value of a literal as the text of a pattern.
+fn push_escaped(
+    alloc: Global,
+    out: &mut String,
+    literal: &Literal<'_>,
+    escaped: bool,
+) -> Result<(), Memory> {
+    let text = literal.escape(alloc, escaped)?;
+    Ok(write!(out, "{:?}", text.as_str())?)
 }
 
 /// Adds what is told of the pattern in a literal: whether it is escaped, and whether case is ignored.
@@ -205,8 +216,19 @@ fn push_value(
     Ok(push_read(out, read, told)?)
 }
 
+/// Adds what is told of the pattern of a `token`.
+fn push_token(
+    alloc: Global,
+    out: &mut String,
+    literal: &Literal<'_>,
+    told: Told,
+) -> Result<(), Memory> {
+    let pattern = Pattern::compile_lit(alloc, literal)?;
+    Ok(push_read(out, Ok(pattern), told)?)
+}
+
 /// Adds the answer of a literal.
-fn push_answer(
+fn push_of_literal(
     alloc: Global,
     out: &mut String,
     literal: &Literal<'_>,
@@ -217,32 +239,31 @@ fn push_answer(
             escaped,
             ignore_case,
             told,
-        } => push_value(alloc, out, literal, (escaped, ignore_case), told)?,
-        Ask::Token(told) => push_told(out, &Pattern::compile_lit(alloc, literal)?, told)?,
-        Ask::Escape { escaped } => write!(out, "{:?}", literal.escape(alloc, escaped)?.as_str())?,
-        _ => push_literal(out, literal)?,
+        } => push_value(alloc, out, literal, (escaped, ignore_case), told),
+        Ask::Token(told) => push_token(alloc, out, literal, told),
+        Ask::Escape { escaped } => push_escaped(alloc, out, literal, escaped),
+        _ => push_literal(out, literal),
     }
-    Ok(())
 }
 
-fn answer(alloc: Global, ask: Ask, text: &str) -> Result<String, Memory> {
-    let mut out = String::new(alloc);
+/// Adds the answer of a text.
+fn push_answer(alloc: Global, out: &mut String, ask: Ask, text: &str) -> Result<(), Memory> {
     if let Ask::Regex { unicode, told } = ask {
         let read = Pattern::compile(alloc, false, text, text, unicode, false);
-        push_read(&mut out, read, told)?;
-        return Ok(out);
+        return Ok(push_read(out, read, told)?);
     }
     match literal(alloc, text)? {
-        Some(literal) => push_answer(alloc, &mut out, &literal, ask)?,
-        None => out.push_str("none")?,
+        Some(literal) => push_of_literal(alloc, out, &literal, ask),
+        None => Ok(out.push_str("none")?),
     }
-    Ok(out)
 }
 
 /// Whether the text in front of ` => ` has the answer behind it.
 fn is_answered(alloc: Global, ask: Ask, row: &str) -> Result<bool, Fail> {
     let (text, expected) = row.split_once(" => ").ok_or("no row")?;
-    Ok(answer(alloc, ask, text)?.as_str() == expected)
+    let mut out = String::new(alloc);
+    push_answer(alloc, &mut out, ask, text)?;
+    Ok(out.as_str() == expected)
 }
 
 fn are_answered(rt: &impl Abort, alloc: Global, ask: Ask, rows: &str) -> Result<(), Fail> {
@@ -264,15 +285,19 @@ pub(super) fn answers(rt: &impl Abort, alloc: Global, cases: &[(Ask, &str)]) -> 
 /// answer.
 pub(super) type Nested<'t> = (usize, &'t str, &'t str, &'t str, &'t str, &'t str);
 
-fn is_nested_answered(alloc: Global, told: Told, case: &Nested<'_>) -> Result<bool, AllocError> {
-    let (times, open, inside, close, after, expected) = *case;
+fn nested(alloc: Global, case: &Nested<'_>) -> Result<String, AllocError> {
+    let (times, open, inside, close, after, _) = *case;
     let opening = open.repeat(alloc, times)?;
     let closing = close.repeat(alloc, times)?;
-    let text = format!(in alloc; "{opening}{inside}{closing}{after}")?;
+    format!(in alloc; "{opening}{inside}{closing}{after}")
+}
+
+fn is_nested_answered(alloc: Global, told: Told, case: &Nested<'_>) -> Result<bool, AllocError> {
+    let text = nested(alloc, case)?;
     let read = Pattern::compile(alloc, false, &text, "", true, false);
     let mut out = String::new(alloc);
     push_read(&mut out, read, told)?;
-    Ok(out.as_str() == expected)
+    Ok(out.as_str() == case.5)
 }
 
 /// Each nested text, as a regular expression, answers as is said behind it.
