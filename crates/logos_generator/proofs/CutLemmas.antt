@@ -1,5 +1,5 @@
 -- Matches of text, and the items of a text, start and end between characters.
-use Rattle.std.proofs.Common.{◌≡◌, ℕ, zero, suc, ◌+◌, ◌-◌, ◌<◌, ◌≤◌, Bool, true, false, ◌&&◌, nat_lt, List, [], ◌∷◌, ◌++◌, length, map, take, drop, All, Option, Some, None, IsSomeAnd, slice_get, slice_range, slice_index_or, if◌then◌else◌, refl, ap, ◌∙◌, subst, arith, inl, inr, IsUtf8, IsCharBoundary}
+use Rattle.std.proofs.Common.{◌≡◌, ℕ, zero, suc, ◌-◌, ◌<◌, ◌≤◌, Bool, true, false, ◌&&◌, nat_lt, List, [], ◌∷◌, ◌++◌, length, map, take, drop, All, Option, Some, None, IsSomeAnd, slice_get, slice_range, slice_index_or, if◌then◌else◌, refl, ap, ◌∙◌, subst, arith, inl, inr, IsUtf8, IsCharBoundary}
 use Rattle.std.specs.List.{list_all}
 use Rattle.std.proofs.lemmas.Bool.{ltb-true}
 use Rattle.std.proofs.lemmas.List.{length-take, length-drop}

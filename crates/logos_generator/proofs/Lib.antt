@@ -7,6 +7,7 @@ pub mod StandLemmas
 pub mod LexerLemmas
 pub mod SoundLemmas
 pub mod ScanLemmas
+pub mod StopLemmas
 pub mod FoundLemmas
 pub mod TurnLemmas
 pub mod RunLemmas

@@ -1,16 +1,7 @@
 -- What holds of each element of a list.
-use Rattle.std.proofs.Common.{◌≡◌, ℕ, zero, suc, ◌<◌, ◌≤◌, ◌↔◌, ◌⊎◌, ⊎_elim, Bool, true, false, IfSome, List, [], ◌∷◌, map, find, length, All, Some, None, option_map, slice_get, slice_index_or, get_or, sym, ◌∙◌, subst, arith, cond}
+use Rattle.std.proofs.Common.{◌≡◌, ℕ, zero, suc, ◌<◌, ◌↔◌, ◌⊎◌, ⊎_elim, List, [], ◌∷◌, map, length, All, slice_get, get_or, sym, arith}
 use Rattle.std.proofs.lemmas.List.{get_or-map, length-map}
-use Rattle.std.proofs.lemmas.Option.{get_or_from_slice_get, slice_get-get_or}
-use Rattle.std.proofs.lemmas.Slice.Eq.{bytes_eq-Decides}
-use Rattle.std.specs.Str.{bytes_eq}
-use Rattle.std.proofs.Math.ListN.{get_or-eq_default}
-use Rattle.logos_generator.specs.Code.{CodeValue, Condition, by_conditions}
-use Rattle.logos_generator.specs.Headline.{NamesFork, NamesCondition, NamesState}
-use Rattle.logos_generator.specs.Runs.{target, passes}
-use Rattle.logos_generator.specs.CodeView.{condition_of, branch_of, entry_of, jumps_of, fork_of, AreDifferent}
-use Rattle.logos_generator.specs.declared.code.Condition.{Condition as TheCondition}
-use Rattle.logos_generator.specs.declared.code.Fork.TheVariants.{Table}
+use Rattle.logos_generator.specs.CodeView.{AreDifferent}
 
 -- what holds of each element of a mapped list
 pub All-map-iff : {A B : Type 0} (P : B → Type 0) (f : A → B) (xs : List A) → All (λ x. P (f x)) xs ↔ All P (map f xs)

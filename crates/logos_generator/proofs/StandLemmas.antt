@@ -29,7 +29,7 @@ All-find P p (x ∷ xs) all = go (p x) (All-find P p xs (λ i d h. all (suc i) d
     go true later = all 0 x (omega arith)
     go false later = later
 
-looped-fits : (code : CodeValue) (loop : Option ℕ) (rest : List ℕ) → looped code loop rest ≤ length rest
+pub looped-fits : (code : CodeValue) (loop : Option ℕ) (rest : List ℕ) → looped code loop rest ≤ length rest
 looped-fits code None rest = omega arith
 looped-fits code (Some k) rest =
     let p = passes_test code.bit_tables k in

@@ -1,9 +1,7 @@
 //! Code values: what a lexer does in each state.
-ghost use Rattle.std.specs.Prelude.{◌≡◌, ◌<◌, false, length, option_map, option_copied, IfOk};
+ghost use Rattle.std.specs.Prelude.{◌≡◌, ◌<◌, length, option_map, option_copied, IfOk};
 ghost use Rattle.logos_token.specs.Views.{stream_tokens, tokens_of};
 ghost use Rattle.logos_generator.specs.Headline.{IsSound};
-ghost use Rattle.logos_generator.specs.Makes.{stays};
-ghost use Rattle.logos_generator.specs.Runs.{target};
 ghost use Rattle.logos_generator.specs.CodeView.{mark_of, entry_of, state_at, asks_for, skips_over, code_of, IsKept};
 ghost use Rattle.logos_generator.specs.Rows.{IsRow};
 
@@ -207,16 +205,6 @@ impl Code<'_> {
         self.parts.states[state].at_end
     }
 
-    /// Where a byte leads that the state's fast loop does not take.
-    #[inline]
-    pub(crate) fn target(&self, state: usize, byte: u8) -> Option<usize>
-        requires state { state < length self.now.states }
-        requires stops { stays self.now (state_at self.now state).fast_loop byte ≡ false }
-        ensures { result ≡ target self.now (state_at self.now state).fork byte }
-    {
-        target_of(self.rows[state][byte as usize])
-    }
-
     /// Whether a callback is asked for the matches of the leaf.
     pub(crate) fn asks(&self, leaf: LeafId) -> bool
         requires { leaf.0 < length self.now.leaves }
@@ -234,9 +222,9 @@ impl Code<'_> {
     }
 }
 
-/// The state that an entry of a jump table stands for.
+/// The state that an entry of a jump table stands for, or of a row for a byte that does not stay.
 #[inline]
-fn target_of(entry: u32) -> Option<usize>
+pub(crate) fn target_of(entry: u32) -> Option<usize>
     ensures { result ≡ entry_of entry }
 {
     if entry == NOWHERE {

@@ -1,5 +1,5 @@
 //! Rows: what each byte does in a state, found by one look.
-ghost use Rattle.std.specs.Prelude.{◌≡◌, ◌<◌, false, length, map, None, IfOk, IfSome, slice_index_or};
+ghost use Rattle.std.specs.Prelude.{◌≡◌, ◌==◌, ◌<◌, false, length, map, None, IfOk, IfSome, slice_index_or};
 ghost use Rattle.logos_graph.specs.Bytes.{comparison_of, some_compares};
 ghost use Rattle.logos_generator.specs.Bytes.{passes_test};
 ghost use Rattle.logos_generator.specs.Code.{by_conditions};
@@ -7,7 +7,7 @@ ghost use Rattle.logos_generator.specs.Headline.{IsSound, NamesTest, NamesState,
 ghost use Rattle.logos_generator.specs.Makes.{stays};
 ghost use Rattle.logos_generator.specs.Runs.{target, passes};
 ghost use Rattle.logos_generator.specs.CodeView.{condition_of, branch_of, fork_of, jumps_of, state_of, has_mask, code_of};
-ghost use Rattle.logos_generator.specs.Rows.{stays_by, IsEntry, IsRow, AreRows};
+ghost use Rattle.logos_generator.specs.Rows.{IsEntry, IsRow, AreRows};
 
 use super::{CodeParts, CodeState, Condition, Fork, NOWHERE, target_of};
 use logos_graph::byte_class::Comparisons;
@@ -16,12 +16,12 @@ use std::alloc::{AllocError, Global};
 /// The entry of a row for a byte that the state's fast loop takes.
 const STAYS: u32 = u32::MAX - 1;
 
-/// Whether the fast loop takes the byte, by the row of its state.
+/// Whether the fast loop takes a byte with this entry.
 #[inline]
-pub(crate) fn stays_by(row: &[u32; 256], byte: u8) -> bool
-    ensures { result ≡ stays_by row.now byte }
+pub(crate) fn is_staying(entry: u32) -> bool
+    ensures { result ≡ (entry == 4294967294) }
 {
-    row[byte as usize] == STAYS
+    entry == STAYS
 }
 
 /// The rows of all states.

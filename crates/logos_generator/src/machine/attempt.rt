@@ -1,12 +1,12 @@
 //! One try: from a place of the input to a match, an error or the end.
-ghost use Rattle.std.specs.Prelude.{◌≡◌, ◌+◌, ◌-◌, ◌<◌, ◌≤◌, ℕ, length, drop, option_map, IfSome, IsTrue, IsCharBoundary, ◌^◌, ◌↔◌};
+ghost use Rattle.std.specs.Prelude.{◌≡◌, ◌+◌, ◌-◌, ◌<◌, ◌≤◌, ℕ, max, length, slice_get, drop, option_map, IfSome, IsTrue, IsCharBoundary, ◌^◌, ◌↔◌};
 ghost use Rattle.logos_generator.specs.CodeView.{mark_of, state_at};
-ghost use Rattle.logos_generator.specs.Runs.{Does, Tries, EndsError, looped, marked, led};
+ghost use Rattle.logos_generator.specs.Runs.{Does, Tries, EndsError, target, looped, marked, led};
 ghost use Rattle.logos_generator.specs.Stands.{IsStand, StaysWithin};
 ghost use Rattle.logos_generator.specs.Attempts.{context_of, stand_of, turn_of, found_of};
 
-use super::fast_loop::staying_len;
-use crate::code::{Code, Mark};
+use super::fast_loop::stop_in;
+use crate::code::{Code, Mark, target_of};
 use logos_pattern::leaf::LeafId;
 
 /// Where a try stands as it enters a state.
@@ -38,33 +38,53 @@ pub(super) enum Found {
     Failed(usize),
 }
 
+/// Where a state's fast loop ends.
+#[derive(Clone, Copy)]
+struct Stop {
+    offset: usize,
+    /// Where the byte there leads, if a byte is there.
+    target: Option<Option<usize>>,
+}
+
 /// What the state does that is entered there.
 #[inline]
 fn run_state(code: &Code, input: &[u8], start: usize, at: Stand) -> Turn
     requires { IsStand code.now input.now start (stand_of at) }
     ensures { Does code.now input.now start (stand_of at) (turn_of result) }
 {
-    let offset = at.offset + loop_len(code, input, at.state, at.offset);
-    let context = marked(code.mark(at.state), offset, at.context);
-    if offset < input.len() {
-        return go_on(code.target(at.state, input[offset]), offset, context);
+    let stop = stop_of(code, input, at.state, at.offset);
+    let context = marked(code.mark(at.state), stop.offset, at.context);
+    match stop.target {
+        Some(target) => go_on(target, stop.offset, context),
+        None if at.state == code.root() && stop.offset == start => Turn::Returns,
+        None => go_on(code.at_end(at.state), stop.offset, context),
     }
-    if at.state == code.root() && offset == start {
-        return Turn::Returns;
-    }
-    go_on(code.at_end(at.state), offset, context)
 }
 
-/// How many bytes the state's fast loop takes.
+/// Where the state's fast loop ends.
 #[inline]
-fn loop_len(code: &Code, input: &[u8], state: usize, offset: usize) -> usize
+fn stop_of(code: &Code, input: &[u8], state: usize, offset: usize) -> Stop
     requires { state < length code.now.states }
-    ensures { result ≡ looped code.now (state_at code.now state).fast_loop (drop offset input.now) }
+    ensures offset { result.offset ≡ offset + looped code.now (state_at code.now state).fast_loop (drop offset input.now) }
+    ensures target { result.target ≡ option_map (target code.now (state_at code.now state).fork) (slice_get input.now result.offset) }
+    ensures within { result.offset ≤ max offset (length input.now) }
 {
-    if offset > input.len() {
-        return 0;
+    if offset >= input.len() {
+        return Stop {
+            offset,
+            target: None,
+        };
     }
-    staying_len(code.row(state), &input[offset..])
+    match stop_in(code.row(state), &input[offset..]) {
+        Some((len, entry)) => Stop {
+            offset: offset + len,
+            target: Some(target_of(entry)),
+        },
+        None => Stop {
+            offset: input.len(),
+            target: None,
+        },
+    }
 }
 
 /// The context behind a mark.

@@ -1,19 +1,35 @@
-//! Fast loops: how many bytes at the front stay in a state.
-ghost use Rattle.std.specs.Prelude.{◌≡◌};
-ghost use Rattle.std.specs.List.{prefix_len};
-ghost use Rattle.logos_generator.specs.Rows.{stays_by};
+//! Fast loops: where the bytes end that stay in a state.
+ghost use Rattle.logos_generator.specs.Rows.{StopsIn};
 
-use crate::code::rows::stays_by;
+use crate::code::rows::is_staying;
 
-/// How many bytes at the front stay in the state of the row.
+/// Where the bytes at the front end that stay in the state of the row: how many they are, and the entry of the byte behind them.
+/// Eight bytes are taken at a time while eight are there.
 #[inline]
-pub(super) fn staying_len(row: &[u32; 256], bytes: &[u8]) -> usize
-    ensures { result ≡ prefix_len (stays_by row.now) bytes.now }
+pub(super) fn stop_in(row: &[u32; 256], bytes: &[u8]) -> Option<(usize, u32)>
+    ensures { StopsIn row.now bytes.now result }
+{
+    let mut at = 0;
+    while bytes.len() - at >= 8 {
+        if let Some((i, entry)) = stop_in_few(row, &bytes[at..at + 8]) {
+            return Some((at + i, entry));
+        }
+        at += 8;
+    }
+    let (i, entry) = stop_in_few(row, &bytes[at..])?;
+    Some((at + i, entry))
+}
+
+/// The same for a few bytes. The compiler unrolls it where eight are handed over.
+#[inline]
+fn stop_in_few(row: &[u32; 256], bytes: &[u8]) -> Option<(usize, u32)>
+    ensures { StopsIn row.now bytes.now result }
 {
     for (i, byte) in bytes.iter().enumerate() {
-        if !stays_by(row, *byte) {
-            return i;
+        let entry = row[*byte as usize];
+        if !is_staying(entry) {
+            return Some((i, entry));
         }
     }
-    bytes.len()
+    None
 }
