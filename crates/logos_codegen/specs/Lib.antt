@@ -4,3 +4,4 @@ pub mod Rules
 pub mod Source
 pub mod Refusals
 pub mod Steps
+pub mod Kept

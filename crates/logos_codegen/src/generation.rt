@@ -1,15 +1,17 @@
 //! From a source text to the code of its lexer.
 
-ghost use Rattle.std.specs.Prelude.{◌≡◌, ◌↔◌, ◌++◌, ℕ, Bool, List, [], map, flat_map, true, IfOk, IfErr, OnOk, IsTrue};
+ghost use Rattle.std.specs.Prelude.{◌≡◌, ◌↔◌, ◌++◌, ℕ, Bool, List, [], map, flat_map, true, None, IfOk, IfErr, OnOk, IsTrue};
 ghost use Rattle.logos_parser.specs.Values.{ident_slice};
 ghost use Rattle.logos_graph.specs.Munch.{Rule};
 ghost use Rattle.logos_graph.specs.Errors.{fault_of};
 ghost use Rattle.logos_graph.specs.Found.{FindsTheLongest};
 ghost use Rattle.logos_graph.specs.View.{rules_of};
+ghost use Rattle.logos_generator.specs.GeneratorValue.{KeepsGiven};
 ghost use Rattle.logos_generator.specs.Headline.{IsLexer};
 ghost use Rattle.logos_codegen.specs.Texts.{named_leaf, listed_of};
 ghost use Rattle.logos_codegen.specs.Rules.{named_rule};
 ghost use Rattle.logos_codegen.specs.Source.{IsNamed, IsAccepted, IsRefused, IsWithinLimits};
+ghost use Rattle.logos_codegen.specs.Kept.{KeepsSource};
 ghost use Rattle.logos_codegen.specs.Refusals.{Refuses, IsMemory};
 ghost use Rattle.logos_codegen.specs.Steps.{IsLimit, ListsGraph, IsGraphMade};
 
@@ -125,7 +127,8 @@ fn code_of<'g, 's>(
 ) -> Result<Code<'s>, AllocError>
     requires faultless { graph.now.faults ≡ [] }
     requires finds { FindsTheLongest (rules_of graph.now.leaves) graph.now.utf8 graph.now.states }
-    ensures { IfOk result (IsLexer (rules_of graph.now.leaves) graph.now.utf8) }
+    ensures lexer { IfOk result (IsLexer (rules_of graph.now.leaves) graph.now.utf8) }
+    ensures keeps { IfOk result (KeepsGiven (record { given = record { shape = config; name = name.entry; this = this.now; error_callback = None }; graph = graph.now })) }
 {
     Generator::new(config, name, this, graph, None).generate(alloc)
 }
@@ -145,6 +148,8 @@ pub fn generate<'s>(alloc: Global, src: &'s str, config: Config) -> Result<Gener
     // At each place of each input the code finds exactly what maximal munch finds there.
     ensures lexer { IfOk result (λ made. IsLexer (rules_of made.graph.leaves) made.graph.utf8 made.code) }
     ensures name { IfOk result (λ made. IsNamed src.now (ident_slice made.name)) }
+    // The code keeps the shape, the name, and what becomes of the matches of each leaf.
+    ensures keeps { IfOk result (λ made. KeepsSource config (ident_slice made.name) made.graph.leaves made.code) }
     // What is refused has these faults.
     ensures refused { IfErr result (Refuses (IsRefused src.now)) }
     // What has no faults, and passes no limit, is not refused.

@@ -1,5 +1,8 @@
 //! The commands, over any files and any writers.
 
+ghost use Rattle.std.specs.Prelude.{◌≡◌, ◌≤◌, ◌⊎◌, ◌↔◌, MatchOption};
+ghost use Rattle.logos_program.specs.Commands.{IsLex};
+
 use logos_codegen::error::Errors;
 use logos_codegen::generator::Config;
 use logos_codegen::machine::{Action, Item};
@@ -21,28 +24,42 @@ pub trait Files {
     fn read(&mut self, path: &str) -> Result<Vec<u8>, FileError>;
 }
 
-/// Runs the command that the words name, and gives the exit status: 0 done, 1 refused, 2 usage,
-/// 3 files or memory. What is said at a status above 0 goes to `err`.
+/// Runs the command that the words name, and gives the exit status: 0 done, 1 refused, 2 for words
+/// that are no command, 3 files or memory. What is said at a status above 0 goes to `err`.
 pub fn run<F: Files, O: Write, E: Write>(
     alloc: Global,
     words: &[String],
     files: &mut F,
     out: &mut O,
     err: &mut E,
-) -> u8 {
-    let [command, file, input] = words else {
+) -> u8
+    ensures usage { (result ≡ 2) ↔ ¬ IsLex words.now }
+    ensures known { result ≤ 3 }
+{
+    let Some((file, input)) = lex_paths(words) else {
         return usage(err);
     };
-    if command.as_str() != "lex" {
-        return usage(err);
-    }
-    match lex(alloc, file.as_str(), input.as_str(), files, out) {
+    match lex(alloc, file, input, files, out) {
         Ok(()) => 0,
         Err(failure) => report(&failure, err),
     }
 }
 
-fn usage<E: Write>(err: &mut E) -> u8 {
+/// The paths of the source and of the input, where the words are `lex` and these.
+fn lex_paths(words: &[String]) -> Option<(&str, &str)>
+    ensures { MatchOption result (¬ IsLex words.now) (λ _. IsLex words.now) }
+{
+    match words {
+        [command, file, input] if command.as_str() == "lex" => {
+            Some((file.as_str(), input.as_str()))
+        }
+        _ => None,
+    }
+}
+
+fn usage<E: Write>(err: &mut E) -> u8
+    ensures { result ≡ 2 }
+{
     let _ = writeln!(err, "usage: logos gen|lex|strip|mermaid|export FILE ..");
     2
 }
@@ -74,7 +91,9 @@ impl From<LexSourceError> for Failure<'_> {
 }
 
 /// Writes the failure's lines, and gives its status.
-fn report<E: Write>(failure: &Failure<'_>, err: &mut E) -> u8 {
+fn report<E: Write>(failure: &Failure<'_>, err: &mut E) -> u8
+    ensures { (result ≡ 1) ⊎ (result ≡ 3) }
+{
     match failure {
         Failure::Refused(errors) => {
             let _ = write_faults(errors, err);

@@ -4,6 +4,7 @@ mod faults;
 mod generated;
 
 use super::*;
+use logos_pattern::leaf::VariantKind;
 use std::process::Abort;
 use std::test::Fail;
 
@@ -51,6 +52,26 @@ fn given(alloc: Global, source: &str, input: &[u8], machine: bool) -> Result<Str
     }
 }
 
+/// What the code of a source keeps, as text: its shape, its name, and what becomes of the matches of each leaf.
+fn kept(alloc: Global, source: &str, machine: bool) -> Result<String, Fail> {
+    let config = Config {
+        use_state_machine_codegen: machine,
+    };
+    let Ok(made) = generate(alloc, source, config) else {
+        return Err("refused".into());
+    };
+    let mut text = String::new(alloc);
+    let is_machine = made.code.shape().use_state_machine_codegen;
+    write!(text, "{is_machine} {}:", made.code.name().text)?;
+    for leaf in made.code.leaves() {
+        match leaf.kind {
+            VariantKind::Unit(name) => write!(text, " {}", name.text)?,
+            VariantKind::Skip => write!(text, " skipped")?,
+        }
+    }
+    Ok(text)
+}
+
 /// Whether in both shapes the source gives this on the input.
 fn gives(alloc: Global, source: &str, input: &[u8], wanted: &str) -> Result<bool, Fail> {
     Ok(
@@ -90,6 +111,17 @@ enum Token {
     Text,
 }
 "#;
+
+#[test]
+fn shape_and_names_are_kept(rt: HostRuntime) -> Result<(), Fail> {
+    let by_states = kept(rt.alloc(), README, true)?;
+    let by_functions = kept(rt.alloc(), README, false)?;
+    assert!(rt;
+        by_states.as_str() == "true Token: skipped Fast Period Text"
+            && by_functions.as_str() == "false Token: skipped Fast Period Text"
+    );
+    Ok(())
+}
 
 #[test]
 fn lexes_a_sentence(rt: HostRuntime) -> Result<(), Fail> {

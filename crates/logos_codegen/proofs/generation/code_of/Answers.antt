@@ -11,8 +11,8 @@ together : {T E : Type 0} (P Q R S : T → Type 0) (result : Result T E) → ((x
 together P Q R S (Ok x) by p q r = by x p q r
 together P Q R S (Err e) by p q r = tt
 
-pub returns : goal.returns
-returns c =
+pub returns-clause-lexer : goal.returns-clause-lexer
+returns-clause-lexer c =
     let graph = c.args.graph.now in
     together (RunsAs graph.states graph.utf8) (λ code. code.utf8 ≡ graph.utf8) (λ (code : CodeValue). code.leaves ≡ map (λ leaf. (rule_of leaf).use_of) graph.leaves)
     (IsLexer (rules_of graph.leaves) graph.utf8) c.generate.result (λ code runs mode uses. is_lexer_of graph code c.requires.finds runs mode uses)
