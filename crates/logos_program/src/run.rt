@@ -1,7 +1,7 @@
 //! The commands, over any files and any writers.
 
-ghost use Rattle.std.specs.Prelude.{◌≡◌, ◌≤◌, ◌⊎◌, ◌↔◌, MatchOption};
-ghost use Rattle.logos_program.specs.Commands.{IsLex};
+ghost use Rattle.std.specs.Prelude.{◌≡◌, ◌≤◌, ◌↔◌, MatchOption};
+ghost use Rattle.logos_program.specs.Commands.{IsLex, AreLexPaths, status_of};
 
 use logos_codegen::error::Errors;
 use logos_codegen::generator::Config;
@@ -47,7 +47,7 @@ pub fn run<F: Files, O: Write, E: Write>(
 
 /// The paths of the source and of the input, where the words are `lex` and these.
 fn lex_paths(words: &[String]) -> Option<(&str, &str)>
-    ensures { MatchOption result (¬ IsLex words.now) (λ _. IsLex words.now) }
+    ensures { MatchOption result (¬ IsLex words.now) (λ paths. AreLexPaths words.now paths.0.now paths.1.now) }
 {
     match words {
         [command, file, input] if command.as_str() == "lex" => {
@@ -75,12 +75,22 @@ enum Failure<'w> {
 }
 
 impl From<AllocError> for Failure<'_> {
+    ghost use Rattle.std.specs.Prelude.{◌≡◌};
+    ghost use Rattle.logos_program.specs.declared.run.Failure.TheVariants.{Memory as OutOfMemory};
+
+    ghost from_gives = { λ _ failure. failure ≡ OutOfMemory };
+
     fn from(_error: AllocError) -> Self {
         Failure::Memory
     }
 }
 
 impl From<LexSourceError> for Failure<'_> {
+    ghost use Rattle.std.specs.Prelude.{◌≡◌};
+    ghost use Rattle.logos_program.specs.Commands.{failure_of};
+
+    ghost from_gives = { λ error failure. failure ≡ failure_of error };
+
     fn from(error: LexSourceError) -> Self {
         match error {
             LexSourceError::Refused(errors) => Failure::Refused(errors),
@@ -92,7 +102,7 @@ impl From<LexSourceError> for Failure<'_> {
 
 /// Writes the failure's lines, and gives its status.
 fn report<E: Write>(failure: &Failure<'_>, err: &mut E) -> u8
-    ensures { (result ≡ 1) ⊎ (result ≡ 3) }
+    ensures { result ≡ status_of failure.now }
 {
     match failure {
         Failure::Refused(errors) => {
