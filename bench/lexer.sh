@@ -1,7 +1,8 @@
 #!/usr/bin/env bash
 # Measures `Lexer` beside scanners made by flex and re2c, of the same rules and on the same text: the
-# rules of a small language, and a text of 32 MiB that is made by a script. Prints a table of megabytes
-# a second and of the ratios to flex. Of ten runs, taken in turns, the fastest of each counts.
+# rules of a small language, and texts of 32 MiB that are made by a script: a program, words of forty
+# letters, blanks alone, and operators of one byte alone. Prints a table of megabytes a second and of the
+# ratios to flex. Of ten runs, taken in turns, the fastest of each counts.
 #
 # It needs flex, re2c and gcc, as in `apt-get install flex re2c gcc`. The program of bench/lexer is
 # built in a copy of the repository as `rt run` builds it, so the crates are proved first, where they
@@ -14,7 +15,10 @@ size=33554432
 copy=$(mktemp -d)
 trap 'rm -rf "$copy"' EXIT
 
-python3 "$bench/lexer/text.py" "$size" > "$copy/text"
+texts=(program words blanks operators)
+for text in "${texts[@]}"; do
+    python3 "$bench/lexer/text.py" "$size" "$text" > "$copy/$text"
+done
 flex -CF -o "$copy/flex.c" "$bench/lexer/flex.l"
 re2c -o "$copy/re2c.c" "$bench/lexer/re2c.re"
 for name in flex re2c; do
@@ -36,25 +40,32 @@ if ! (cd "$crate" && rt run -- "$bench/lexer/rules.rs" "$bench/lexer/rules.rs") 
     exit 1
 fi
 
-for _ in {1..10}; do
-    echo "lexer $("$crate/out/lexer_bench" "$bench/lexer/rules.rs" "$copy/text")"
-    echo "flex $("$copy/flex" "$copy/text")"
-    echo "re2c $("$copy/re2c" "$copy/text")"
+for text in "${texts[@]}"; do
+    for _ in {1..10}; do
+        echo "$text lexer $("$crate/out/lexer_bench" "$bench/lexer/rules.rs" "$copy/$text")"
+        echo "$text flex $("$copy/flex" "$copy/$text")"
+        echo "$text re2c $("$copy/re2c" "$copy/$text")"
+    done
 done > "$copy/runs"
 
 echo "$(nproc) cores, $(sed -n 's/^model name[^:]*: //p' /proc/cpuinfo | head -n 1)"
 echo
 awk -v size="$size" '
-    !($1 in best) || $2 < best[$1] { best[$1] = $2 }
-    { tokens[$1] = $3; errors[$1] = $4 }
+    !(($1, $2) in best) || $3 < best[$1, $2] { best[$1, $2] = $3 }
+    { tokens[$1, $2] = $4; errors[$1, $2] = $5 }
     END {
-        print "| Scanner | MB/s | Times flex | Tokens | Errors |"
-        print "|---|---|---|---|---|"
-        count = split("lexer flex re2c", names, " ")
-        for (i = 1; i <= count; i++) {
-            name = names[i]
-            printf "| %s | %.0f | %.2f | %d | %d |\n", name, size / best[name] / 1e6, best["flex"] / best[name], tokens[name], errors[name]
+        print "| Text | Scanner | MB/s | Times flex | Tokens | Errors |"
+        print "|---|---|---|---|---|---|"
+        split("program words blanks operators", texts, " ")
+        split("lexer flex re2c", names, " ")
+        for (t = 1; t <= 4; t++) {
+            text = texts[t]
+            for (i = 1; i <= 3; i++) {
+                name = names[i]
+                speed = size / best[text, name] / 1e6
+                printf "| %s | %s | %.0f | %.2f | %d | %d |\n", text, name, speed, best[text, "flex"] / best[text, name], tokens[text, name], errors[text, name]
+                different = different || tokens[text, name] != tokens[text, "flex"]
+            }
         }
-        same = tokens["lexer"] == tokens["flex"] && tokens["lexer"] == tokens["re2c"]
-        if (!same) { print "the scanners found different tokens" > "/dev/stderr"; exit 1 }
+        if (different) { print "the scanners found different tokens" > "/dev/stderr"; exit 1 }
     }' "$copy/runs"

@@ -1,4 +1,4 @@
-"""Writes a text of a small language to the standard output: as many bytes as the argument says."""
+"""Writes a text of a small language to the standard output: as many bytes as the first argument says, and of the kind that the second one names."""
 import random
 import sys
 
@@ -34,15 +34,22 @@ def blank(rng):
     return "\n" + " " * (4 * rng.randrange(5))
 
 
-def main():
-    size = int(sys.argv[1])
+def program():
     rng = random.Random(1)
     parts = []
     length = 0
     while length < 1 << 20:
         parts.append(token(rng) + blank(rng))
         length += len(parts[-1])
-    page = "".join(parts)
+    return "".join(parts)
+
+
+PAGES = {"program": program, "words": lambda: "a" * 40 + " ", "blanks": lambda: " ", "operators": lambda: "+"}
+
+
+def main():
+    size = int(sys.argv[1])
+    page = PAGES[sys.argv[2]]()
     text = page * (size // len(page) + 1)
     sys.stdout.write(text[:size])
 
