@@ -3,6 +3,7 @@ pub mod Examples
 pub mod InOrder
 pub mod CodeLemmas
 pub mod RowLemmas
+pub mod SignLemmas
 pub mod StandLemmas
 pub mod LexerLemmas
 pub mod SoundLemmas

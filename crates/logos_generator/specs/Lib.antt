@@ -13,3 +13,4 @@ pub mod Attempts
 pub mod LexerValue
 pub mod Order
 pub mod GeneratorValue
+pub mod Signs

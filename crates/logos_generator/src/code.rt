@@ -2,10 +2,12 @@
 ghost use Rattle.std.specs.Prelude.{◌≡◌, ◌<◌, length, option_map, option_copied, IfOk};
 ghost use Rattle.logos_token.specs.Views.{stream_tokens, tokens_of};
 ghost use Rattle.logos_generator.specs.Headline.{IsSound};
-ghost use Rattle.logos_generator.specs.CodeView.{mark_of, entry_of, state_at, asks_for, skips_over, code_of, IsKept};
+ghost use Rattle.logos_generator.specs.CodeView.{entry_of, state_at, asks_for, skips_over, code_of, IsKept};
 ghost use Rattle.logos_generator.specs.Rows.{IsRow};
+ghost use Rattle.logos_generator.specs.Signs.{mark_by};
 
 pub(crate) mod rows;
+pub(crate) mod signs;
 #[cfg(test)]
 mod tests;
 
@@ -14,6 +16,7 @@ use logos_graph::byte_class::Comparisons;
 use logos_pattern::leaf::{Callback, LeafId, VariantKind};
 use logos_token::token::{Ident, TokenStream, Tokens};
 use rows::rows_of;
+use signs::{Sign, signs_of};
 use std::alloc::{AllocError, Global};
 use std::marker::Model;
 
@@ -99,6 +102,8 @@ pub struct Code<'s> {
     parts: CodeParts<'s>,
     /// What each byte does in each state, so that running the code takes one look a byte.
     rows: Vec<[u32; 256]>,
+    /// What the mark of each state says.
+    signs: Vec<Sign>,
 }
 
 impl<'s> Model for Code<'s> {
@@ -108,10 +113,12 @@ impl<'s> Model for Code<'s> {
 
     ghost use Rattle.logos_generator.specs.CodeView.{code_of, IsKept};
     ghost use Rattle.logos_generator.specs.Rows.{AreRows};
+    ghost use Rattle.logos_generator.specs.Signs.{mark_by, AreSigns};
+    ghost use Rattle.std.specs.Prelude.{map};
 
     ghost view = { λ code. code_of code.parts };
 
-    ghost invariant = { λ code. IsKept code.parts × AreRows (code_of code.parts) code.rows.items };
+    ghost invariant = { λ code. IsKept code.parts × AreRows (code_of code.parts) code.rows.items × AreSigns (code_of code.parts) (map mark_by code.signs.items) };
 }
 
 impl<'s> Code<'s> {
@@ -122,7 +129,8 @@ impl<'s> Code<'s> {
         ensures { IfOk result (λ code. code ≡ code_of parts.entry) }
     {
         let rows = rows_of(alloc, &parts)?;
-        Ok(Code { parts, rows })
+        let signs = signs_of(alloc, &parts)?;
+        Ok(Code { parts, rows, signs })
     }
 }
 
@@ -188,12 +196,13 @@ impl Code<'_> {
         &self.rows[state]
     }
 
+    /// What the mark of the state says.
     #[inline]
-    pub(crate) fn mark(&self, state: usize) -> Option<Mark>
+    pub(crate) fn sign(&self, state: usize) -> Sign
         requires { state < length self.now.states }
-        ensures { option_map mark_of result ≡ (state_at self.now state).mark }
+        ensures { mark_by result ≡ (state_at self.now state).mark }
     {
-        self.parts.states[state].mark
+        self.signs[state]
     }
 
     /// Where the end of the input leads from the state.

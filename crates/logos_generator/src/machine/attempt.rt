@@ -1,12 +1,14 @@
 //! One try: from a place of the input to a match, an error or the end.
 ghost use Rattle.std.specs.Prelude.{◌≡◌, ◌+◌, ◌-◌, ◌<◌, ◌≤◌, ℕ, max, length, slice_get, drop, option_map, IfSome, IsTrue, IsCharBoundary, ◌^◌, ◌↔◌};
-ghost use Rattle.logos_generator.specs.CodeView.{mark_of, state_at};
-ghost use Rattle.logos_generator.specs.Runs.{Does, Tries, EndsError, target, looped, marked, led};
+ghost use Rattle.logos_generator.specs.CodeView.{state_at};
+ghost use Rattle.logos_generator.specs.Signs.{mark_by};
+ghost use Rattle.logos_generator.specs.Runs.{Does, Tries, EndsError, target, looped, marked};
 ghost use Rattle.logos_generator.specs.Stands.{IsStand, StaysWithin};
 ghost use Rattle.logos_generator.specs.Attempts.{context_of, stand_of, turn_of, found_of};
 
 use super::fast_loop::stop_in;
-use crate::code::{Code, Mark, target_of};
+use crate::code::signs::Sign;
+use crate::code::{Code, target_of};
 use logos_pattern::leaf::LeafId;
 
 /// Where a try stands as it enters a state.
@@ -53,11 +55,19 @@ fn run_state(code: &Code, input: &[u8], start: usize, at: Stand) -> Turn
     ensures { Does code.now input.now start (stand_of at) (turn_of result) }
 {
     let stop = stop_of(code, input, at.state, at.offset);
-    let context = marked(code.mark(at.state), stop.offset, at.context);
-    match stop.target {
-        Some(target) => go_on(target, stop.offset, context),
-        None if at.state == code.root() && stop.offset == start => Turn::Returns,
-        None => go_on(code.at_end(at.state), stop.offset, context),
+    let target = match stop.target {
+        Some(target) => target,
+        None if at.state == code.root() && stop.offset == start => return Turn::Returns,
+        None => code.at_end(at.state),
+    };
+    let context = marked(code.sign(at.state), stop.offset, at.context);
+    match target {
+        Some(state) => Turn::Enters(Stand {
+            state,
+            offset: stop.offset + 1,
+            context,
+        }),
+        None => Turn::Acts(context, stop.offset),
     }
 }
 
@@ -89,33 +99,14 @@ fn stop_of(code: &Code, input: &[u8], state: usize, offset: usize) -> Stop
 
 /// The context behind a mark.
 #[inline]
-fn marked(
-    mark: Option<Mark>,
-    offset: usize,
-    context: Option<(LeafId, usize)>,
-) -> Option<(LeafId, usize)>
-    requires { IfSome mark (λ m. IsTrue m.late → 0 < offset) }
-    ensures { context_of result ≡ marked (option_map mark_of mark) offset (context_of context) }
+fn marked(sign: Sign, offset: usize, context: Option<(LeafId, usize)>) -> Option<(LeafId, usize)>
+    requires { IfSome (mark_by sign) (λ m. IsTrue m.late → 0 < offset) }
+    ensures { context_of result ≡ marked (mark_by sign) offset (context_of context) }
 {
-    match mark {
-        Some(mark) => Some((mark.leaf, offset - mark.late as usize)),
-        None => context,
-    }
-}
-
-/// On to the target behind the offset, if there is one.
-#[inline]
-fn go_on(target: Option<usize>, offset: usize, context: Option<(LeafId, usize)>) -> Turn
-    requires { offset + 1 < 2 ^ 64 }
-    ensures { turn_of result ≡ led target offset (context_of context) }
-{
-    match target {
-        Some(state) => Turn::Enters(Stand {
-            state,
-            offset: offset + 1,
-            context,
-        }),
-        None => Turn::Acts(context, offset),
+    match sign {
+        Sign::Here(leaf) => Some((leaf, offset)),
+        Sign::Before(leaf) => Some((leaf, offset - 1)),
+        Sign::Nothing => context,
     }
 }
 
