@@ -3,15 +3,17 @@ use Rattle.std.proofs.Common.{◌≡◌, ℕ, zero, suc, ◌+◌, ◌-◌, ◌<�
 use Rattle.logos_graph.specs.Core.{Core, width, Exits, Steps}
 use Rattle.logos_graph.specs.Marks.{Has, IsSet}
 use Rattle.logos_graph.specs.Run.{width_of, StepsIn, ExitsIn}
-use Rattle.logos_graph.specs.Several.{ReadBy, LeftBy, OwesPlaces, OwesNumbers}
+use Rattle.logos_graph.specs.Several.{ReadBy, LeftBy, OwesPlaces, OwesNumbers, AreFirstStarts, AreStarts}
 use Rattle.logos_graph.specs.Stepped.{Stepped}
 use Rattle.logos_pattern.specs.declared.pattern.hir.Look.{Look}
-use Rattle.std.proofs.Common.{get_or, drop, map, drop-cons, add-one}
+use Rattle.std.proofs.Common.{get_or, slice_index, length-append, drop, map, drop-cons, add-one}
+use Rattle.std.proofs.lemmas.List.{get_or_append_left}
+use Rattle.std.proofs.Math.Seq.{get_or-append_seam}
 use Rattle.logos_graph.specs.Node.{core_of, is_measured, AreMeasured}
 use Rattle.logos_graph.specs.declared.node.Node.{Node}
 use Rattle.logos_graph.proofs.PlaceLemmas.{Exits-map, Steps-map}
 use Rattle.logos_graph.proofs.MarkLemmas.{Has-push, IsSet-push, IsSet-more}
-use Rattle.logos_graph.proofs.SteppedLemmas.{Steps-below}
+use Rattle.logos_graph.proofs.SteppedLemmas.{Steps-below, Exits-void, stepped_nothing}
 
 pub StepsIn-map : (ts : List Core) (test : Look → Bool) (x : ℕ) (M N : ℕ → Type 0) (d e : Type 0) (p : ℕ) →
     ((q : ℕ) → q < width_of ts → M q → N q) → (d → e) → StepsIn ts test x M d p → StepsIn ts test x N e p
@@ -206,3 +208,143 @@ module _ (nodes : List Node) (i : ℕ) (node : Node) (lt : i < length nodes) (is
       go [] i lt is h = absurd (omega (arith, lt))
       go (n ∷ nodes) zero lt is h = subst (λ n. IsTrue (is_measured n)) (sym is) h.0
       go (n ∷ nodes) (suc i) lt is h = go nodes i (omega (arith, lt)) is h.1
+
+-- where the places of the trees begin
+pub no_starts : (nodes : List Node) → AreFirstStarts nodes [] 0
+no_starts nodes = record { count = refl; begins = λ i lt. absurd (omega (arith, lt)) }
+
+pub more_starts : (nodes : List Node) (starts new : List ℕ) (base n : ℕ) → new ≡ starts ++ base ∷ [] → base + width_of (map core_of (drop n nodes)) ≡ width_of (map core_of nodes) →
+    AreFirstStarts nodes starts n → AreFirstStarts nodes new (n + 1)
+more_starts nodes starts new base n is placed s = record {
+  count = ap length is ∙ length-append starts (base ∷ []) ∙ ap (λ k. k + 1) s.count;
+  begins = λ i lt.
+      ⊎_elim
+      (λ (low : i < n).
+      let kept : slice_index new i ≡ slice_index starts i = ap (λ (xs : List ℕ). slice_index xs i) is ∙ get_or_append_left starts (base ∷ []) 0 i (omega (arith, s.count, low)) in
+      rw kept (s.begins i low))
+      (λ (last : i ≡ n).
+      let here : i ≡ length starts = last ∙ sym s.count in
+      let put : slice_index new i ≡ base = ap (λ (xs : List ℕ). slice_index xs i) is ∙ ap (λ k. slice_index (starts ++ base ∷ []) k) here ∙ get_or-append_seam starts base [] 0 in
+      rw put (rw last placed))
+      (low_or_last i n lt);
+}
+  where
+    low_or_last : (a b : ℕ) → a < b + 1 → (a < b) ⊎ (a ≡ b)
+    low_or_last a b lt = grind arith
+
+pub node_at : (nodes : List Node) (i : ℕ) → i < length nodes → (node : Node) × (node ≡ get_or nodes i node)
+node_at [] i lt = absurd (omega (arith, lt))
+node_at (n ∷ nodes) zero lt = (n, refl)
+node_at (n ∷ nodes) (suc i) lt = node_at nodes i (omega (arith, lt))
+
+module _ (nodes : List Node) (starts : List ℕ) (are : AreStarts nodes starts) where
+  pub first_start : slice_index starts 0 ≡ 0
+  first_start = let e : slice_index starts 0 + width_of (map core_of nodes) ≡ width_of (map core_of nodes) = are.begins 0 (omega arith) in omega (arith, e)
+
+  pub start_fits : (i : ℕ) (node : Node) → i < length nodes → node ≡ get_or nodes i node → slice_index starts i + width (core_of node) ≤ width_of (map core_of nodes)
+  start_fits i node lt is =
+      let e = are.begins i (omega (arith, lt)) in
+      let next = next_core nodes i node lt is in
+      omega (arith, rw next at e)
+
+  pub next_start : (i : ℕ) (node : Node) → i < length nodes → node ≡ get_or nodes i node → slice_index starts i + width (core_of node) ≡ slice_index starts (i + 1)
+  next_start i node lt is =
+      let e = are.begins i (omega (arith, lt)) in
+      let f = are.begins (i + 1) (omega (arith, lt)) in
+      let next = next_core nodes i node lt is in
+      omega (arith, rw next at e, f)
+
+  starts_rise : (d i : ℕ) → i + d ≤ length nodes → slice_index starts i ≤ slice_index starts (i + d)
+  starts_rise zero i le = let e : i ≡ i + 0 = omega arith in let f = ap (slice_index starts) e in omega (arith, f)
+  starts_rise (suc d) i le =
+      let node = node_at nodes i (omega (arith, le)) in
+      let next = next_start i node.0 (omega (arith, le)) node.1 in
+      let rest = starts_rise d (i + 1) (omega (arith, le)) in
+      let e : i + 1 + d ≡ i + suc d = omega arith in
+      let f = ap (slice_index starts) e in
+      omega (arith, next, rest, f)
+
+  -- trees without marks are passed
+  module _ (marks : List ℕ) where
+    abbrev pub Unmarked : ℕ → ℕ → Type 0
+    Unmarked i j = (q : ℕ) → slice_index starts i ≤ q → q < slice_index starts j → Has marks q → ⊥
+
+    passed : (P : ℕ → Type 0) → ((i : ℕ) → i < length nodes → Unmarked i (i + 1) → P i → P (i + 1)) →
+        (d i : ℕ) → i + d ≤ length nodes → Unmarked i (i + d) → P i → P (i + d)
+    passed P one zero i le none h = let e : i ≡ i + 0 = omega arith in subst P e h
+    passed P one (suc d) i le none h =
+        let e : i + 1 + d ≡ i + suc d = omega arith in
+        let f = ap (slice_index starts) e in
+        let first : Unmarked i (i + 1) = λ q low high. let up = starts_rise d (i + 1) (omega (arith, le)) in none q low (omega (arith, up, high, f)) in
+        let later : Unmarked (i + 1) (i + 1 + d) = λ q low high. let up = starts_rise 1 i (omega (arith, le)) in none q (omega (arith, up, low)) (omega (arith, high, f)) in
+        subst P e (passed P one d (i + 1) (omega (arith, le)) later (one i (omega (arith, le)) first h))
+
+    pub passed_to : (P : ℕ → Type 0) → ((i : ℕ) → i < length nodes → Unmarked i (i + 1) → P i → P (i + 1)) →
+        (i j : ℕ) → i ≤ j → j ≤ length nodes → Unmarked i j → P i → P j
+    passed_to P one i j le within none h =
+        let e : j ≡ i + (j - i) = omega (arith, le) in
+        subst P (sym e) (passed P one (j - i) i (omega (arith, le, within)) (subst (Unmarked i) e none) h)
+
+    pub none_in : (i : ℕ) (node : Node) → i < length nodes → node ≡ get_or nodes i node → Unmarked i (i + 1) →
+        (q : ℕ) → q < width (core_of node) → Has marks (slice_index starts i + q) → ⊥
+    none_in i node lt is none q below has =
+        let next = next_start i node lt is in
+        none (slice_index starts i + q) (omega arith) (omega (arith, next, below)) has
+
+    module _ (test : Look → Bool) (ts : List Core) where
+      abbrev NumbersFrom : Bool → List ℕ → ℕ → Type 0
+      NumbersFrom entered numbers i = OwesNumbers ts (map core_of (drop i nodes)) test (Has marks) (IsTrue entered) (slice_index starts i) i numbers
+
+      abbrev PlacesFrom : ℕ → Bool → List ℕ → ℕ → Type 0
+      PlacesFrom x entered places i = OwesPlaces ts (map core_of (drop i nodes)) test x (Has marks) (IsTrue entered) (slice_index starts i) places
+
+      -- a tree is asked
+      pub numbers_after : (entered left : Bool) (numbers new : List ℕ) (i : ℕ) (node : Node) → i < length nodes → node ≡ get_or nodes i node →
+          IsTrue left ↔ Exits (core_of node) test (λ p. Has marks (slice_index starts i + p)) (IsTrue entered) →
+          new ≡ (if left then numbers ++ i ∷ [] else numbers) → NumbersFrom entered numbers i → NumbersFrom entered new (i + 1)
+      numbers_after entered left numbers new i node lt is leaves made o =
+          rw (← next_start i node lt is)
+          (owes_numbers_step test (Has marks) (IsTrue entered) ts (map core_of (drop (i + 1) nodes)) (core_of node) (slice_index starts i) i numbers new left
+          (rw (next_core nodes i node lt is) at o) leaves made)
+
+      pub places_after : (x : ℕ) (entered left : Bool) (places new : List ℕ) (i : ℕ) (node : Node) → i < length nodes → node ≡ get_or nodes i node →
+          Stepped (core_of node) test x marks places new (slice_index starts i) entered left → PlacesFrom x entered places i → PlacesFrom x entered new (i + 1)
+      places_after x entered left places new i node lt is s o =
+          rw (← next_start i node lt is)
+          (owes_places_step test marks entered left ts (map core_of (drop (i + 1) nodes)) (core_of node) x (slice_index starts i) places new
+          (rw (next_core nodes i node lt is) at o) s)
+
+      out : IsTrue false → ⊥
+      out e = true≢false (sym e)
+
+      one_number : (numbers : List ℕ) (i : ℕ) → i < length nodes → Unmarked i (i + 1) → NumbersFrom false numbers i → NumbersFrom false numbers (i + 1)
+      one_number numbers i lt none o =
+          let node = node_at nodes i lt in
+          numbers_after false false numbers numbers i node.0 lt node.1
+          (
+            λ e. absurd (out e),
+            λ h. absurd (Exits-void (core_of node.0) test (Exits-map (core_of node.0) test _ _ _ ⊥ (none_in i node.0 lt node.1 none) out h)),
+          )
+          refl o
+
+      one_place : (x : ℕ) (places : List ℕ) (i : ℕ) → i < length nodes → Unmarked i (i + 1) → PlacesFrom x false places i → PlacesFrom x false places (i + 1)
+      one_place x places i lt none o =
+          let node = node_at nodes i lt in
+          places_after x false false places places i node.0 lt node.1
+          (stepped_nothing test x marks (core_of node.0) places (slice_index starts i) o.set (none_in i node.0 lt node.1 none)) o
+
+      pub pass_numbers : (entered : Bool) (numbers : List ℕ) (i j : ℕ) → i ≤ j → j ≤ length nodes → (IsTrue entered → j ≡ i) → Unmarked i j →
+          NumbersFrom entered numbers i → NumbersFrom entered numbers j
+      pass_numbers true numbers i j le within stays none o = subst (NumbersFrom true numbers) (sym (stays refl)) o
+      pass_numbers false numbers i j le within stays none o = passed_to (NumbersFrom false numbers) (one_number numbers) i j le within none o
+
+      pub pass_places : (x : ℕ) (entered : Bool) (places : List ℕ) (i j : ℕ) → i ≤ j → j ≤ length nodes → (IsTrue entered → j ≡ i) → Unmarked i j →
+          PlacesFrom x entered places i → PlacesFrom x entered places j
+      pass_places x true places i j le within stays none o = subst (PlacesFrom x true places) (sym (stays refl)) o
+      pass_places x false places i j le within stays none o = passed_to (PlacesFrom x false places) (one_place x places) i j le within none o
+
+      pub numbers_first : (entered : Bool) → ts ≡ map core_of nodes → NumbersFrom entered [] 0
+      numbers_first entered is = rw (first_start, is) (owes_numbers_all test (Has marks) (IsTrue entered) (map core_of nodes))
+
+      pub places_first : (x : ℕ) (entered : Bool) → ts ≡ map core_of nodes → PlacesFrom x entered [] 0
+      places_first x entered is = rw (first_start, is) (owes_places_all test (Has marks) (IsTrue entered) (map core_of nodes) x)

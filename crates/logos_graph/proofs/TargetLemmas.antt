@@ -1,13 +1,13 @@
 -- States are added, and rows of targets are filled.
-use Rattle.std.proofs.Common.{◌≡◌, ℕ, ◌+◌, ◌<◌, ◌⊎◌, Bool, true, false, List, [], ◌∷◌, length, slice_index, set, refl, sym, ◌∙◌, subst, ⊎_elim, arith}
+use Rattle.std.proofs.Common.{◌≡◌, ℕ, ◌+◌, ◌<◌, ◌⊎◌, Bool, true, false, IsTrue, Some, List, [], ◌∷◌, length, slice_index, set, refl, sym, ap, ◌∙◌, subst, ⊎_elim, arith}
 use Rattle.std.proofs.lemmas.List.{get_or-set_other}
 use Rattle.std.proofs.lemmas.Grind.{get_or-set_at}
-use Rattle.logos_graph.specs.Alike.{AreAlike}
+use Rattle.logos_graph.specs.Alike.{AreReadAlike}
 use Rattle.logos_graph.specs.Core.{Core}
-use Rattle.logos_graph.specs.Keys.{State, Grows, Extends, LeadsTo, EndsIn, IsNext, IsRow, kept_of}
+use Rattle.logos_graph.specs.Keys.{State, Grows, Extends, LeadsTo, EndsIn, IsAt, IsNext, IsRow, kept_of, is_start, state_of}
 use Rattle.logos_graph.specs.Kinds.{kind_of_byte}
+use Rattle.logos_graph.specs.Marks.{Has}
 use Rattle.logos_graph.specs.declared.key.Key.{Key}
-use Rattle.logos_graph.proofs.AlikeLemmas.{StepsIn-same}
 use Rattle.logos_graph.proofs.LookLemmas.{test_after}
 use Rattle.logos_graph.proofs.StepLemmas.{iff_trans}
 
@@ -63,17 +63,32 @@ module _ (ts : List Core) (looks : Bool) where
       go true (p ∷ places) = e
 
   -- a byte that is not told apart leads to the same state
-  next_alike : (s next : State) (x y : ℕ) → AreAlike ts x y → kind_of_byte x ≡ kind_of_byte y → IsNext ts looks s x next → IsNext ts looks s y next
+  next_alike : (s next : State) (x y : ℕ) → AreReadAlike ts (Has s.places) (IsTrue (is_start s.kind)) x y → kind_of_byte x ≡ kind_of_byte y → IsNext ts looks s x next → IsNext ts looks s y next
   next_alike s next x y alike e h =
       let test = test_after x y e s.kind in
       record {
         places = record {
           set = h.places.set;
-          has = λ q. iff_trans (rw test at h.places.has q) (StepsIn-same ts _ x y _ _ q alike);
+          has = λ q. iff_trans (rw test at h.places.has q) (alike _ q);
         };
         matches = rw test at h.matches;
         kind = h.kind ∙ same_kept next.places x y e;
       }
 
-  pub leads_alike : (ks : List Key) (i x y j : ℕ) → AreAlike ts x y → kind_of_byte x ≡ kind_of_byte y → LeadsTo ts looks ks i x j → LeadsTo ts looks ks i y j
-  leads_alike ks i x y j alike e h = record { from = h.from; to = h.to; from_is = h.from_is; to_is = h.to_is; next = next_alike h.from h.to x y alike e h.next }
+  same_state : (ks : List Key) (i : ℕ) (s r : State) → IsAt ks i s → IsAt ks i r → s ≡ r
+  same_state ks i s r a b = sym a.same ∙ ap state_of (some_same (sym a.is ∙ b.is)) ∙ b.same
+    where
+      some_same : {j k : Key} → Some j ≡ Some k → j ≡ k
+      some_same e = cc
+
+  pub leads_alike : (ks : List Key) (i x y j : ℕ) (s : State) → IsAt ks i s → AreReadAlike ts (Has s.places) (IsTrue (is_start s.kind)) x y → kind_of_byte x ≡ kind_of_byte y →
+      LeadsTo ts looks ks i x j → LeadsTo ts looks ks i y j
+  leads_alike ks i x y j s at alike e h =
+      let same = same_state ks i s h.from at h.from_is in
+      record {
+        from = h.from;
+        to = h.to;
+        from_is = h.from_is;
+        to_is = h.to_is;
+        next = next_alike h.from h.to x y (subst (λ (r : State). AreReadAlike ts (Has r.places) (IsTrue (is_start r.kind)) x y) same alike) e h.next;
+      }

@@ -1,5 +1,6 @@
 -- States of the automaton, by what they keep of the bytes read.
 use Rattle.std.specs.Prelude.{◌≡◌, ℕ, ◌+◌, ◌<◌, ◌≤◌, Bool, true, false, IsTrue, List, [], ◌∷◌, Some, None, length, map, slice_get, slice_index, slice_index_or}
+use Rattle.logos_graph.specs.Alike.{AreFirstBytes}
 use Rattle.logos_graph.specs.Core.{Core}
 use Rattle.logos_graph.specs.Kinds.{test_at, kind_of_byte}
 use Rattle.logos_graph.specs.Marks.{Has, IsRising}
@@ -98,6 +99,12 @@ pub record LeadsTo (ts : List Core) (looks : Bool) (ks : List Key) (i x j : ℕ)
   pub from_is : IsAt ks i from
   pub to_is : IsAt ks j to
   pub next : IsNext ts looks from x to
+
+-- the bytes that the state i tells apart from the one before are marked
+pub record AreFirstIn (ts : List Core) (ks : List Key) (i : ℕ) (first : List Bool) : Type 0 where
+  pub state : State
+  pub at : IsAt ks i state
+  pub are : AreFirstBytes ts (Has state.places) (IsTrue (is_start state.kind)) first
 
 -- the end leads from the state i to the state j
 pub record EndsIn (ts : List Core) (ks : List Key) (i j : ℕ) : Type 0 where

@@ -1,8 +1,10 @@
 -- Steps on several patterns, whose places stand one after another.
-use Rattle.std.specs.Prelude.{ℕ, ◌+◌, ◌-◌, ◌≤◌, ◌≡◌, ◌⊎◌, ◌↔◌, Bool, List, length}
+use Rattle.std.specs.Prelude.{ℕ, ◌+◌, ◌-◌, ◌<◌, ◌≤◌, ◌≡◌, ◌⊎◌, ◌↔◌, Bool, List, length, map, drop, slice_index}
 use Rattle.logos_graph.specs.Core.{Core}
 use Rattle.logos_graph.specs.Marks.{Has, IsSet}
+use Rattle.logos_graph.specs.Node.{core_of}
 use Rattle.logos_graph.specs.Run.{width_of, StepsIn, ExitsIn}
+use Rattle.logos_graph.specs.declared.node.Node.{Node}
 use Rattle.logos_pattern.specs.declared.pattern.hir.Look.{Look}
 
 -- just these places read the byte x
@@ -28,3 +30,12 @@ pub record OwesNumbers (ts rest : List Core) (test : Look → Bool) (M : ℕ →
   pub set : IsSet numbers n
   pub has : (k : ℕ) →
       (Has numbers k ⊎ ((n ≤ k) × ExitsIn rest (k - n) test (λ p. M (base + p)) entered)) ↔ ExitsIn ts k test M entered
+
+-- where the places of the first n trees begin
+pub record AreFirstStarts (nodes : List Node) (starts : List ℕ) (n : ℕ) : Type 0 where
+  pub count : length starts ≡ n
+  pub begins : (i : ℕ) → i < n → slice_index starts i + width_of (map core_of (drop i nodes)) ≡ width_of (map core_of nodes)
+
+-- where the places of each tree begin, and where those of the last one end
+abbrev pub AreStarts : List Node → List ℕ → Type 0
+AreStarts nodes starts = AreFirstStarts nodes starts (length nodes + 1)

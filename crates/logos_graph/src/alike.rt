@@ -1,16 +1,20 @@
 //! Bytes that no pattern tells apart.
-ghost use Rattle.std.specs.Prelude.{◌≡◌, ℕ, ◌+◌, ◌<◌, IsTrue, IsFalse, false, length, map, slice_index_or};
-ghost use Rattle.logos_graph.specs.Alike.{IsAlike, AreAlike};
+ghost use Rattle.std.specs.Prelude.{◌≡◌, ◌∷◌, ◌++◌, ◌<◌, ℕ, [], IsTrue, IsFalse, IfOk, OnOk, false, length, map, slice_index_or, if◌then◌else◌};
+ghost use Rattle.logos_graph.specs.Alike.{IsAlike, IsTold, AreTold, AreKindBytes, AreFirstBytes};
 ghost use Rattle.logos_graph.specs.Core as core;
 ghost use Rattle.logos_graph.specs.Kinds.{kind_of_byte};
+ghost use Rattle.logos_graph.specs.Marks.{IsRising, Has};
 ghost use Rattle.logos_graph.specs.Node.{core_of};
 ghost use Rattle.logos_graph.specs.Repeat.{spelled};
+ghost use Rattle.logos_graph.specs.Several.{AreStarts};
 ghost use Rattle.logos_graph.specs.Table.{reader_of};
 
 use crate::char_table::Table;
 use crate::look::kind_of;
 use crate::node::Node;
+use crate::several::next_tree;
 use crate::step::has_byte;
+use std::alloc::{AllocError, Global};
 
 /// Whether the rows differ.
 fn differ(row: Option<usize>, other: Option<usize>) -> bool
@@ -74,30 +78,95 @@ fn tells(node: &Node, one: u8, other: u8) -> bool
     }
 }
 
-/// Whether the bytes can be told apart by some tree, or by a look.
-fn some_tell(nodes: &[Node], one: u8, other: u8) -> bool
-    ensures alike { IsFalse result → AreAlike (map core_of nodes.now) one other }
-    ensures kind { IsFalse result → kind_of_byte one ≡ kind_of_byte other }
-{
-    if kind_of(one) != kind_of(other) {
-        return true;
-    }
-    for node in nodes {
-        if tells(node, one, other) {
-            return true;
-        }
-    }
-    false
+/// The bytes that a tree tells apart from the one before.
+#[derive(Drop)]
+pub struct Told {
+    pub bytes: Vec<u8>,
 }
 
-/// The bytes that are told apart from the one before.
-pub fn first_bytes(nodes: &[Node]) -> [bool; 256]
-    ensures { (byte : ℕ) → byte + 1 < 256 → slice_index_or result (byte + 1) false ≡ false →
-        AreAlike (map core_of nodes.now) byte (byte + 1) × (kind_of_byte byte ≡ kind_of_byte (byte + 1)) }
+/// Adds the byte if it is one of them.
+fn note(bytes: &mut Vec<u8>, byte: u8, is_one: bool) -> Result<(), AllocError>
+    ensures { OnOk result (bytes.new.items ≡ (if is_one then bytes.old.items ++ byte ∷ [] else bytes.old.items)) }
+{
+    if is_one {
+        bytes.push(byte)?;
+    }
+    Ok(())
+}
+
+/// The bytes that the tree tells apart from the one before.
+fn told_by(alloc: Global, node: &Node) -> Result<Told, AllocError>
+    ensures { IfOk result (λ told. IsTold (core_of node.now) told.bytes.items 256) }
+{
+    let mut bytes = Vec::new(alloc);
+    for byte in 1..256usize {
+        let is_told = tells(node, (byte - 1) as u8, byte as u8);
+        note(&mut bytes, byte as u8, is_told)?;
+    }
+    Ok(Told { bytes })
+}
+
+/// The same for each tree.
+pub fn told_by_each(alloc: Global, nodes: &[Node]) -> Result<Vec<Told>, AllocError>
+    ensures { IfOk result (λ told. AreTold nodes.now told.items (length nodes.now)) }
+{
+    let mut told = Vec::new(alloc);
+    let mut number = 0;
+    while number < nodes.len() {
+        told.push(told_by(alloc, &nodes[number])?)?;
+        number += 1;
+    }
+    Ok(told)
+}
+
+/// Whether looks can tell the bytes apart.
+fn kinds_differ(one: u8, other: u8) -> bool
+    ensures { IsFalse result → kind_of_byte one ≡ kind_of_byte other }
+{
+    kind_of(one) != kind_of(other)
+}
+
+/// The bytes that looks can tell apart from the one before.
+pub fn kind_bytes() -> [bool; 256]
+    ensures { AreKindBytes result }
 {
     let mut first = [true; 256];
     for byte in 1..256 {
-        first[byte] = some_tell(nodes, (byte - 1) as u8, byte as u8);
+        first[byte] = kinds_differ((byte - 1) as u8, byte as u8);
+    }
+    first
+}
+
+/// Marks the bytes.
+fn add_bytes(bytes: &[u8], first: &mut [bool; 256])
+    ensures { (byte : ℕ) → byte < 256 → slice_index_or first.new byte false ≡ false →
+        (slice_index_or first.old byte false ≡ false) × ¬ (Has bytes.now byte) }
+{
+    for byte in bytes {
+        first[*byte as usize] = true;
+    }
+}
+
+/// The bytes that the marks or looks can tell apart from the one before.
+pub fn first_bytes(
+    nodes: &[Node],
+    starts: &[usize],
+    told: &[Told],
+    kinds: &[bool; 256],
+    marks: &[usize],
+    entered: bool,
+) -> [bool; 256]
+    requires starts { AreStarts nodes.now starts.now }
+    requires told { AreTold nodes.now told.now (length nodes.now) }
+    requires kinds { AreKindBytes kinds.now }
+    requires rising { IsRising marks.now }
+    ensures { AreFirstBytes (map core_of nodes.now) (Has marks.now) (IsTrue entered) result }
+{
+    let mut first = *kinds;
+    let mut number = next_tree(starts, marks, entered, 0);
+    while number < nodes.len() {
+        add_bytes(&told[number].bytes, &mut first);
+        number = next_tree(starts, marks, entered, number + 1);
     }
     first
 }

@@ -5,6 +5,7 @@ ghost use Rattle.logos_graph.specs.Keys as keys;
 ghost use Rattle.logos_graph.specs.Marks.{IsRising};
 ghost use Rattle.logos_graph.specs.Node.{core_of, AreMeasured};
 ghost use Rattle.logos_graph.specs.Run.{width_of};
+ghost use Rattle.logos_graph.specs.Several.{AreStarts};
 
 use crate::look::{Context, Kind, kind_of};
 use crate::node::Node;
@@ -35,7 +36,7 @@ fn kept_of(looks: bool, places: &[usize], byte: u8) -> Kind
 }
 
 /// Whether nothing was read.
-fn is_start(kind: Kind) -> bool
+pub fn is_start(kind: Kind) -> bool
     ensures { result ≡ keys.is_start kind }
 {
     matches!(kind, Kind::Start)
@@ -56,12 +57,14 @@ pub fn start_key(alloc: Global) -> Key
 pub fn step_key(
     alloc: Global,
     nodes: &[Node],
+    starts: &[usize],
     looks: bool,
     key: &Key,
     byte: u8,
 ) -> Result<Key, AllocError>
     requires fits { width_of (map core_of nodes.now) < 2 ^ 64 }
     requires measured { AreMeasured nodes.now }
+    requires starts { AreStarts nodes.now starts.now }
     requires rising { IsRising key.now.places.items }
     ensures { IfOk result (λ made. keys.IsNext (map core_of nodes.now) looks (keys.state_of key.now) byte (keys.state_of made)) }
 {
@@ -69,7 +72,7 @@ pub fn step_key(
         before: key.kind,
         after: Some(byte),
     };
-    let reached = step_all(alloc, nodes, &key.places, is_start(key.kind), at, byte)?;
+    let reached = step_all(alloc, nodes, starts, &key.places, is_start(key.kind), at, byte)?;
     Ok(Key {
         kind: kept_of(looks, &reached.places, byte),
         places: reached.places,
@@ -78,9 +81,15 @@ pub fn step_key(
 }
 
 /// The state after the end.
-pub fn end_key(alloc: Global, nodes: &[Node], key: &Key) -> Result<Key, AllocError>
+pub fn end_key(
+    alloc: Global,
+    nodes: &[Node],
+    starts: &[usize],
+    key: &Key,
+) -> Result<Key, AllocError>
     requires fits { width_of (map core_of nodes.now) < 2 ^ 64 }
     requires measured { AreMeasured nodes.now }
+    requires starts { AreStarts nodes.now starts.now }
     requires rising { IsRising key.now.places.items }
     ensures { IfOk result (λ made. keys.IsLast (map core_of nodes.now) (keys.state_of key.now) (keys.state_of made)) }
 {
@@ -88,7 +97,7 @@ pub fn end_key(alloc: Global, nodes: &[Node], key: &Key) -> Result<Key, AllocErr
         before: key.kind,
         after: None,
     };
-    let matches = exits_all(alloc, nodes, &key.places, is_start(key.kind), at)?;
+    let matches = exits_all(alloc, nodes, starts, &key.places, is_start(key.kind), at)?;
     Ok(Key {
         places: Vec::new(alloc),
         kind: Kind::Unseen,

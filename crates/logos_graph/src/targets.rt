@@ -1,12 +1,13 @@
 //! The targets of the states of an automaton, while it is built.
-ghost use Rattle.std.specs.Prelude.{Bool, ◌≡◌, ◌^◌, ◌<◌, ◌≤◌, ◌+◌, ℕ, false, IsFalse, IfOk, OnOk, length, map, slice_index_or};
-ghost use Rattle.logos_graph.specs.Alike.{AreAlike};
-ghost use Rattle.logos_graph.specs.Keys.{AreRising, AreReached, Extends, LeadsTo, EndsIn, IsRow};
-ghost use Rattle.logos_graph.specs.Kinds.{kind_of_byte};
+ghost use Rattle.std.specs.Prelude.{Bool, ◌≡◌, ◌^◌, ◌<◌, ◌≤◌, ◌+◌, IsFalse, IfOk, OnOk, length, map};
+ghost use Rattle.logos_graph.specs.Alike.{AreTold, AreKindBytes};
+ghost use Rattle.logos_graph.specs.Keys.{AreRising, AreReached, AreFirstIn, Extends, LeadsTo, EndsIn, IsRow};
 ghost use Rattle.logos_graph.specs.Node.{core_of, AreMeasured};
 ghost use Rattle.logos_graph.specs.Run.{width_of};
+ghost use Rattle.logos_graph.specs.Several.{AreStarts};
 
-use crate::key::{Key, end_key, number_of, step_key};
+use crate::alike::{Told, first_bytes};
+use crate::key::{Key, end_key, is_start, number_of, step_key};
 use crate::node::Node;
 use indexmap::IndexSet;
 use std::alloc::{AllocError, Global};
@@ -18,6 +19,7 @@ pub type Row = [u32; 256];
 fn target_of(
     alloc: Global,
     nodes: &[Node],
+    starts: &[usize],
     looks: bool,
     states: &mut IndexSet<Key>,
     state: usize,
@@ -25,6 +27,7 @@ fn target_of(
 ) -> Result<u32, AllocError>
     requires fits { width_of (map core_of nodes.now) < 2 ^ 64 }
     requires measured { AreMeasured nodes.now }
+    requires starts { AreStarts nodes.now starts.now }
     requires within { state < length states.old.keys }
     requires rising { AreRising states.old.keys }
     requires reached { AreReached (map core_of nodes.now) looks states.old.keys }
@@ -33,7 +36,7 @@ fn target_of(
     ensures leads { IfOk result (λ target. LeadsTo (map core_of nodes.now) looks states.new.keys state byte target) }
 {
     let made = match states.get_index(state) {
-        Some(key) => step_key(alloc, nodes, looks, key, byte)?,
+        Some(key) => step_key(alloc, nodes, starts, looks, key, byte)?,
         None => unreachable!(),
     };
     let target = number_of(states, made)?;
@@ -44,11 +47,13 @@ fn target_of(
 pub fn end_of(
     alloc: Global,
     nodes: &[Node],
+    starts: &[usize],
     states: &mut IndexSet<Key>,
     state: usize,
 ) -> Result<u32, AllocError>
     requires fits { width_of (map core_of nodes.now) < 2 ^ 64 }
     requires measured { AreMeasured nodes.now }
+    requires starts { AreStarts nodes.now starts.now }
     requires within { state < length states.old.keys }
     requires rising { AreRising states.old.keys }
     requires few { length states.old.keys < 2 ^ 31 }
@@ -56,7 +61,7 @@ pub fn end_of(
     ensures ends { IfOk result (λ target. EndsIn (map core_of nodes.now) states.new.keys state target) }
 {
     let made = match states.get_index(state) {
-        Some(key) => end_key(alloc, nodes, key)?,
+        Some(key) => end_key(alloc, nodes, starts, key)?,
         None => unreachable!(),
     };
     let target = number_of(states, made)?;
@@ -67,6 +72,7 @@ pub fn end_of(
 fn next_target(
     alloc: Global,
     nodes: &[Node],
+    starts: &[usize],
     looks: bool,
     states: &mut IndexSet<Key>,
     state: usize,
@@ -76,6 +82,7 @@ fn next_target(
 ) -> Result<u32, AllocError>
     requires fits { width_of (map core_of nodes.now) < 2 ^ 64 }
     requires measured { AreMeasured nodes.now }
+    requires starts { AreStarts nodes.now starts.now }
     requires within { state < length states.old.keys }
     requires rising { AreRising states.old.keys }
     requires reached { AreReached (map core_of nodes.now) looks states.old.keys }
@@ -85,38 +92,72 @@ fn next_target(
     ensures leads { IfOk result (λ target. LeadsTo (map core_of nodes.now) looks states.new.keys state byte target) }
 {
     if is_first {
-        return target_of(alloc, nodes, looks, states, state, byte);
+        return target_of(alloc, nodes, starts, looks, states, state, byte);
     }
     Ok(before)
 }
 
-/// All targets of a state by bytes, where `first` has the bytes that can be told apart from the one before.
+/// The bytes that a state tells apart from the one before.
+fn first_in(
+    nodes: &[Node],
+    starts: &[usize],
+    told: &[Told],
+    kinds: &[bool; 256],
+    states: &IndexSet<Key>,
+    state: usize,
+) -> [bool; 256]
+    requires starts { AreStarts nodes.now starts.now }
+    requires told { AreTold nodes.now told.now (length nodes.now) }
+    requires kinds { AreKindBytes kinds.now }
+    requires within { state < length states.now.keys }
+    requires rising { AreRising states.now.keys }
+    ensures { AreFirstIn (map core_of nodes.now) states.now.keys state result }
+{
+    match states.get_index(state) {
+        Some(key) => first_bytes(
+            nodes,
+            starts,
+            told,
+            kinds,
+            &key.places,
+            is_start(key.kind),
+        ),
+        None => unreachable!(),
+    }
+}
+
+/// All targets of a state by bytes, where `told` has the bytes that each tree tells apart, and `kinds` those that looks do.
 pub fn row_of(
     alloc: Global,
     nodes: &[Node],
+    starts: &[usize],
     looks: bool,
-    first: &[bool; 256],
+    told: &[Told],
+    kinds: &[bool; 256],
     states: &mut IndexSet<Key>,
     state: usize,
 ) -> Result<Row, AllocError>
     requires fits { width_of (map core_of nodes.now) < 2 ^ 64 }
     requires measured { AreMeasured nodes.now }
+    requires starts { AreStarts nodes.now starts.now }
     requires within { state < length states.old.keys }
     requires rising { AreRising states.old.keys }
     requires reached { AreReached (map core_of nodes.now) looks states.old.keys }
     requires few { length states.old.keys < 2 ^ 30 }
-    requires same { (byte : ℕ) → byte + 1 < 256 → slice_index_or first.now (byte + 1) false ≡ false →
-        AreAlike (map core_of nodes.now) byte (byte + 1) × (kind_of_byte byte ≡ kind_of_byte (byte + 1)) }
+    requires told { AreTold nodes.now told.now (length nodes.now) }
+    requires kinds { AreKindBytes kinds.now }
     ensures extends { OnOk result (Extends (map core_of nodes.now) looks states.old.keys states.new.keys 257) }
     ensures row { IfOk result (λ row. IsRow (map core_of nodes.now) looks states.new.keys state row 256) }
     ensures wide { IfOk result (λ row. length row ≡ 256) }
 {
+    let first = first_in(nodes, starts, told, kinds, states, state);
     let mut row = [0; 256];
-    row[0] = target_of(alloc, nodes, looks, states, state, 0)?;
+    row[0] = target_of(alloc, nodes, starts, looks, states, state, 0)?;
     for byte in 1..256 {
         row[byte] = next_target(
             alloc,
             nodes,
+            starts,
             looks,
             states,
             state,

@@ -1,23 +1,24 @@
 //! The automaton of leaves: one loop over its states, from the start on, until each has its targets.
-ghost use Rattle.std.specs.Prelude.{◌≡◌, ◌^◌, ◌<◌, ◌≤◌, ◌+◌, ℕ, [], Bool, List, false, IfOk, IfErr, OnOk, length, map, vec_len, slice_index_or};
-ghost use Rattle.logos_graph.specs.Alike.{AreAlike};
+ghost use Rattle.std.specs.Prelude.{◌≡◌, ◌^◌, ◌<◌, ◌≤◌, ◌+◌, [], Bool, List, IfOk, IfErr, OnOk, length, map, vec_len};
+ghost use Rattle.logos_graph.specs.Alike.{AreTold, AreKindBytes};
 ghost use Rattle.logos_graph.specs.Building.{IsUnderway, FailsOn, FailsFor};
 ghost use Rattle.logos_graph.specs.Core.{Core};
 ghost use Rattle.logos_graph.specs.DfaView.{dfa_of};
 ghost use Rattle.logos_graph.specs.Keys.{AreDistinct, AreReached, IsBuilt};
-ghost use Rattle.logos_graph.specs.Kinds.{kind_of_byte};
 ghost use Rattle.logos_graph.specs.Node.{core_of, AreMeasured};
 ghost use Rattle.logos_graph.specs.Run.{width_of};
+ghost use Rattle.logos_graph.specs.Several.{AreStarts};
 ghost use Rattle.logos_graph.specs.Size.{size_of};
 ghost use Rattle.logos_graph.specs.View.{AllStart, IsTotal, ReadsOneByteLate, rules_of};
 
 use super::Dfa;
 use super::leaves::prepare_leaves;
-use crate::alike::first_bytes;
+use crate::alike::{Told, kind_bytes, told_by_each};
 use crate::graph::BuildError;
 use crate::key::{Key, number_of, start_key};
 use crate::measures::some_leaf_has_look;
 use crate::node::Node;
+use crate::several::starts_of;
 use crate::targets::{Row, end_of, row_of};
 use indexmap::IndexSet;
 use logos_pattern::leaf::Leaf;
@@ -35,20 +36,24 @@ fn only_start(alloc: Global) -> Result<IndexSet<Key>, AllocError>
     Ok(states)
 }
 
-/// Adds the targets of the first state that has none yet, where `first` has the bytes that can be told apart from the one before.
+/// Adds the targets of the first state that has none yet, where `told` has the bytes that each tree tells apart, and `kinds` those
+/// that looks do.
 fn fill_next(
     alloc: Global,
     nodes: &[Node],
+    starts: &[usize],
     looks: bool,
-    first: &[bool; 256],
+    told: &[Told],
+    kinds: &[bool; 256],
     states: &mut IndexSet<Key>,
     rows: &mut Vec<Row>,
     ends: &mut Vec<u32>,
 ) -> Result<(), BuildError>
     requires fits { width_of (map core_of nodes.now) < 2 ^ 64 }
     requires measured { AreMeasured nodes.now }
-    requires same { (byte : ℕ) → byte + 1 < 256 → slice_index_or first.now (byte + 1) false ≡ false →
-        AreAlike (map core_of nodes.now) byte (byte + 1) × (kind_of_byte byte ≡ kind_of_byte (byte + 1)) }
+    requires starts { AreStarts nodes.now starts.now }
+    requires told { AreTold nodes.now told.now (length nodes.now) }
+    requires kinds { AreKindBytes kinds.now }
     requires left { vec_len rows.old < length states.old.keys }
     requires underway { IsUnderway (map core_of nodes.now) looks states.old.keys rows.old.items ends.old.items }
     ensures underway { OnOk result (IsUnderway (map core_of nodes.now) looks states.new.keys rows.new.items ends.new.items) }
@@ -56,8 +61,8 @@ fn fill_next(
     ensures fails { IfErr result (FailsOn (map core_of nodes.now) looks) }
 {
     let state = rows.len();
-    let row = row_of(alloc, nodes, looks, first, states, state)?;
-    let end = end_of(alloc, nodes, states, state)?;
+    let row = row_of(alloc, nodes, starts, looks, told, kinds, states, state)?;
+    let end = end_of(alloc, nodes, starts, states, state)?;
     if states.len() > MAX_STATES {
         return Err(BuildError::LimitStates);
     }
@@ -76,7 +81,9 @@ fn build_nodes(alloc: Global, nodes: &[Node], looks: bool) -> Result<Dfa, BuildE
     ensures few { IfOk result (λ dfa. length dfa.states.keys ≤ 65536) }
     ensures fails { IfErr result (FailsOn (map core_of nodes.now) looks) }
 {
-    let first = first_bytes(nodes);
+    let starts = starts_of(alloc, nodes)?;
+    let told = told_by_each(alloc, nodes)?;
+    let kinds = kind_bytes();
     let mut states = only_start(alloc)?;
     let mut rows = Vec::new(alloc);
     let mut ends = Vec::new(alloc);
@@ -84,8 +91,10 @@ fn build_nodes(alloc: Global, nodes: &[Node], looks: bool) -> Result<Dfa, BuildE
         fill_next(
             alloc,
             nodes,
+            &starts,
             looks,
-            &first,
+            &told,
+            &kinds,
             &mut states,
             &mut rows,
             &mut ends,
