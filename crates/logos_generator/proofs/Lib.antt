@@ -18,3 +18,4 @@ pub mod NodeLemmas
 pub mod MadeLemmas
 pub mod LeafLemmas
 pub mod CutLemmas
+pub mod LookLemmas

@@ -1,10 +1,9 @@
 -- Rows, and what a state does by its row.
-use Rattle.std.proofs.Common.{◌≡◌, ℕ, suc, ◌+◌, ◌<◌, ◌⊎◌, ⊎_elim, ◌++◌, Bool, true, false, IfSome, ◌==◌, cond, List, [], ◌∷◌, length, drop, get_or, slice_index_or, Option, Some, None, refl, sym, ap, subst, ◌∙◌, arith, length-drop, Fits, w8}
+use Rattle.std.proofs.Common.{◌≡◌, ℕ, suc, ◌+◌, ◌<◌, ◌⊎◌, inl, inr, ⊎_elim, ◌++◌, Bool, true, false, IfSome, ◌==◌, cond, List, [], ◌∷◌, length, drop, get_or, slice_index_or, slice_get, Option, Some, None, refl, sym, ap, subst, ◌∙◌, arith, length-drop, Fits, w8}
 use Rattle.std.proofs.Math.Facts.{Fits-lt-pow}
-use Rattle.std.proofs.lemmas.List.{get_or-map, get_or-drop, get_or_append_left, get_or_push}
+use Rattle.std.proofs.lemmas.List.{length-map, get_or-map, get_or-drop, get_or_append_left, get_or_push}
 use Rattle.std.proofs.lemmas.List.Folds.{length-prefix_len}
 use Rattle.std.proofs.lemmas.List.Sums.{take_while-cons, prefix_len_stops}
-use Rattle.std.proofs.lemmas.Bool.{ne_eqb}
 use Rattle.std.proofs.lemmas.Option.{get_or_from_slice_get, slice_get-get_or}
 use Rattle.std.proofs.lemmas.Grind.{get_or_default_zero}
 use Rattle.std.specs.List.{prefix_len, take_while}
@@ -14,9 +13,11 @@ use Rattle.logos_generator.specs.Code.{CodeValue, CodeState, Fork}
 use Rattle.logos_generator.specs.Headline.{NamesFork, NamesState}
 use Rattle.logos_generator.specs.CodeView.{state_at, state_of, code_of, no_state}
 use Rattle.logos_generator.specs.Makes.{stays}
-use Rattle.logos_generator.specs.Rows.{stays_by, IsEntry, IsRow}
+use Rattle.logos_generator.specs.Rows.{stays_by, IsStepOf, Says, IsEntry, IsRow}
 use Rattle.logos_generator.specs.Runs.{looped, target}
 use Rattle.logos_generator.proofs.StandLemmas.{target_there}
+use Rattle.logos_generator.specs.declared.code.rows.Step.{Step}
+use Rattle.logos_generator.specs.declared.code.rows.Step.TheVariants.{Leads, Closes, Halts, Unsaid}
 use Rattle.logos_generator.specs.declared.code.CodeParts.{CodeParts}
 use Rattle.logos_generator.specs.declared.code.CodeState.{CodeState as TheState}
 
@@ -93,16 +94,45 @@ target_named code fork b (Some t) names is = target_there code fork b t names (s
 true_false : true ≡ false → ⊥
 true_false e = cc
 
--- the entries of a byte that stays, of one that leads to a state, and of one that leads nowhere
+-- a state of the parts, as it is got
+pub state_got : (parts : CodeParts) (s : ℕ) (state : TheState) → s < length parts.states.items → state ≡ get_or parts.states.items s state →
+    slice_get (code_of parts).states s ≡ Some (state_of parts.jump_tables.items state)
+state_got parts s state h is =
+    slice_get-get_or (code_of parts).states s no_state (rw length-map h) ∙ ap Some (state_there parts s state h is)
+
+-- an entry stands for one step
+pub same_step : (entry : ℕ) (a b : Step) → IsStepOf entry a → IsStepOf entry b → b ≡ a
+same_step entry (Leads s) (Leads t) f g = ap Leads (omega (arith, f.0, g.0))
+same_step entry (Leads s) (Closes t) f g = absurd (omega (arith, f.0, f.1, g.0, g.1))
+same_step entry (Leads s) (Halts t) f g = absurd (omega (arith, f.0, f.1, g.0, g.1))
+same_step entry (Leads s) Unsaid f g = absurd (omega (arith, f.0, f.1, g))
+same_step entry (Closes s) (Leads t) f g = absurd (omega (arith, f.0, f.1, g.0, g.1))
+same_step entry (Closes s) (Closes t) f g = ap (λ n. Closes (record { 0 = n })) (omega (arith, f.0, g.0))
+same_step entry (Closes s) (Halts t) f g = absurd (omega (arith, f.0, f.1, g.0, g.1))
+same_step entry (Closes s) Unsaid f g = absurd (omega (arith, f.0, f.1, g))
+same_step entry (Halts s) (Leads t) f g = absurd (omega (arith, f.0, f.1, g.0, g.1))
+same_step entry (Halts s) (Closes t) f g = absurd (omega (arith, f.0, f.1, g.0, g.1))
+same_step entry (Halts s) (Halts t) f g = ap (λ n. Halts (record { 0 = n })) (omega (arith, f.0, g.0))
+same_step entry (Halts s) Unsaid f g = absurd (omega (arith, f.0, f.1, g))
+same_step entry Unsaid (Leads t) f g = absurd (omega (arith, f, g.0, g.1))
+same_step entry Unsaid (Closes t) f g = absurd (omega (arith, f, g.0, g.1))
+same_step entry Unsaid (Halts t) f g = absurd (omega (arith, f, g.0, g.1))
+same_step entry Unsaid Unsaid f g = refl
+
+-- the largest entry says nothing
+unsaid_step : (b : Step) → IsStepOf 4294967295 b → b ≡ Unsaid
+unsaid_step b g = same_step 4294967295 Unsaid b (omega arith) g
+
 module _ (code : CodeValue) (state : CodeState) (b : ℕ) where
+  -- the entry of a byte that stays
   pub entry_stays : stays code state.fast_loop b ≡ true → IsEntry code state b 4294967294
-  entry_stays e = record { taken = sym e; leads = λ f. absurd (true_false (sym e ∙ f)) }
+  entry_stays e = record { taken = sym e; says = λ f. absurd (true_false (sym e ∙ f)) }
 
-  pub entry_leads : (t : ℕ) → stays code state.fast_loop b ≡ false → Some t ≡ target code state.fork b → t < 4294967294 → IsEntry code state b t
-  entry_leads t e is h = record {
-    taken = ne_eqb t 4294967294 (λ f. omega (arith, f, h)) ∙ sym e;
-    leads = λ _. let f : (t == 4294967295) ≡ false = ne_eqb t 4294967295 (λ g. omega (arith, g, h)) in rw f is;
-  }
-
-  pub entry_nowhere : stays code state.fast_loop b ≡ false → None ≡ target code state.fork b → IsEntry code state b 4294967295
-  entry_nowhere e is = record { taken = sym e; leads = λ _. is }
+  -- the entry of a step
+  pub entry_steps : (entry : ℕ) (step : Step) → stays code state.fast_loop b ≡ false → (IsStepOf entry step ⊎ (entry ≡ 4294967295)) → (entry == 4294967294) ≡ false →
+      Says code state b step → IsEntry code state b entry
+  entry_steps entry step e is moves said = record { taken = moves ∙ sym e; says = λ _ other g. go other g is }
+    where
+      go : (other : Step) → IsStepOf entry other → (IsStepOf entry step ⊎ (entry ≡ 4294967295)) → Says code state b other
+      go other g (inl f) = subst (Says code state b) (sym (same_step entry step other f g)) said
+      go other g (inr f) = subst (Says code state b) (sym (unsaid_step other (subst (λ n. IsStepOf n other) f g))) tt

@@ -330,3 +330,10 @@ module _ (code : CodeValue) (sound : IsSound code) (bytes : List ℕ) (start : �
 
   pub stands_over : (at : Stand) → Stands at → Does code bytes start at returns → length bytes ≤ start
   stands_over at s d = does_return at s d.0 d.1 d.2
+
+-- the root has no mark
+pub unmarked_root : (code : CodeValue) → IsSound code → (bytes : List ℕ) (s : ℕ) (state : CodeState) {mark : Mark} → s ≡ code.root → slice_get code.states s ≡ Some state → state.mark ≡ Some mark → ⊥
+unmarked_root code sound bytes s state e is marks =
+    let here : slice_get code.states code.root ≡ Some state = rw e at is in
+    let root : IsRoot code state = rw here at sound.root in
+    some_none (sym root.mark ∙ marks)

@@ -1,5 +1,5 @@
 -- Where a fast loop stops, by the bytes of a block, and by a row.
-use Rattle.std.proofs.Common.{◌≡◌, ℕ, ◌+◌, ◌<◌, ◌≤◌, Bool, false, ◌==◌, cond, List, length, take, drop, get_or, Option, Some, None, option_map, slice_get, refl, sym, ap, ◌∙◌, arith, length-drop, length-take, drop-drop}
+use Rattle.std.proofs.Common.{◌≡◌, ℕ, ◌+◌, ◌<◌, ◌≤◌, Bool, false, ◌==◌, cond, List, length, take, drop, get_or, Option, Some, None, option_map, slice_get, refl, sym, ap, subst, ◌∙◌, arith, length-drop, length-take, drop-drop}
 use Rattle.std.proofs.lemmas.Bool.{ne_eqb, eq-eqb}
 use Rattle.std.proofs.lemmas.List.{take-append-drop, get_or-drop, get_or-take}
 use Rattle.std.proofs.lemmas.List.Elements.{All-drop}
@@ -9,9 +9,9 @@ use Rattle.std.specs.Prelude.{slice_index}
 use Rattle.std.specs.List.{prefix_len}
 use Rattle.logos_pattern.specs.Text.{IsBytes}
 use Rattle.logos_generator.specs.Code.{CodeValue, CodeState}
-use Rattle.logos_generator.specs.CodeView.{entry_of}
+use Rattle.logos_generator.specs.declared.code.rows.Step.{Step}
 use Rattle.logos_generator.specs.Makes.{stays}
-use Rattle.logos_generator.specs.Rows.{stays_by, StopsIn, IsRow}
+use Rattle.logos_generator.specs.Rows.{stays_by, StopsIn, IsRow, IsStepOf, Says}
 use Rattle.logos_generator.specs.Runs.{looped, target}
 use Rattle.logos_generator.proofs.RowLemmas.{looped_by_row, loop_stops}
 use Rattle.logos_generator.proofs.StandLemmas.{looped-fits}
@@ -50,6 +50,13 @@ block_found row bytes at n stop before found =
       (rw (← get_or-drop at bytes stop.0 0, ← get_or-take n (drop at bytes) stop.0 0 (omega (arith, l, found.0))) found.2),
     )
 
+-- where a state's fast loop stops at a byte, and what the entry there says
+pub record EndsAt (code : CodeValue) (state : CodeState) (bytes : List ℕ) (at : ℕ) (stop : ℕ × ℕ) : Type 0 where
+  pub there : at + stop.0 < length bytes
+  pub here : at + stop.0 ≡ at + looped code state.fast_loop (drop at bytes)
+  pub leads : Some (target code state.fork (get_or bytes (at + stop.0) 0)) ≡ option_map (target code state.fork) (slice_get bytes (at + stop.0))
+  pub says : (step : Step) → IsStepOf stop.1 step → Says code state (get_or bytes (at + stop.0) 0) step
+
 -- where a state's fast loop ends, by its row
 module _ (code : CodeValue) (state : CodeState) (bytes : List ℕ) where
   abbrev pub Ends : ℕ → ℕ → Option (Option ℕ) → Type 0
@@ -72,7 +79,7 @@ module _ (code : CodeValue) (state : CodeState) (bytes : List ℕ) where
         let l = loops in
         (omega (arith, l, all, within, length-drop at bytes), none_behind (length bytes) (omega arith))
 
-    pub ends_at : (stop : ℕ × ℕ) → StopsIn row (drop at bytes) (Some stop) → (at + stop.0 < length bytes) × Ends at (at + stop.0) (Some (entry_of stop.1))
+    pub ends_at : (stop : ℕ × ℕ) → StopsIn row (drop at bytes) (Some stop) → EndsAt code state bytes at stop
     ends_at stop found =
         let l = loops in
         let there : at + stop.0 < length bytes = omega (arith, found.0, length-drop at bytes) in
@@ -81,4 +88,9 @@ module _ (code : CodeValue) (state : CodeState) (bytes : List ℕ) where
         let stops : stays code state.fast_loop b ≡ false = rw (← here) at (loop_stops code state.fast_loop bytes at 0 (rw here at there)) in
         let small : b < 256 = are (at + stop.0) 0 there in
         let entry : stop.1 ≡ slice_index row b = rw (get_or-drop at bytes stop.0 0) at found.2 in
-        (there, (here, rw (slice_get-get_or bytes (at + stop.0) 0 there, entry, (is b small).leads stops) refl))
+        record {
+          there = there;
+          here = here;
+          leads = rw (slice_get-get_or bytes (at + stop.0) 0 there) refl;
+          says = λ step f. (is b small).says stops step (subst (λ n. IsStepOf n step) entry f);
+        }

@@ -14,3 +14,4 @@ pub mod LexerValue
 pub mod Order
 pub mod GeneratorValue
 pub mod Signs
+pub mod Looks

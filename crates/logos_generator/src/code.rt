@@ -3,7 +3,8 @@ ghost use Rattle.std.specs.Prelude.{◌≡◌, ◌<◌, length, option_map, opti
 ghost use Rattle.logos_token.specs.Views.{stream_tokens, tokens_of};
 ghost use Rattle.logos_generator.specs.Headline.{IsSound};
 ghost use Rattle.logos_generator.specs.CodeView.{entry_of, state_at, asks_for, skips_over, code_of, IsKept};
-ghost use Rattle.logos_generator.specs.Rows.{IsRow};
+ghost use Rattle.logos_generator.specs.Runs.{target};
+ghost use Rattle.logos_generator.specs.Rows.{IsRow, SaysAtEnd};
 ghost use Rattle.logos_generator.specs.Signs.{mark_by};
 
 pub(crate) mod rows;
@@ -15,7 +16,7 @@ use crate::generator::Config;
 use logos_graph::byte_class::Comparisons;
 use logos_pattern::leaf::{Callback, LeafId, VariantKind};
 use logos_token::token::{Ident, TokenStream, Tokens};
-use rows::rows_of;
+use rows::{Step, rows_of};
 use signs::{Sign, signs_of};
 use std::alloc::{AllocError, Global};
 use std::marker::Model;
@@ -124,8 +125,7 @@ impl<'s> Model for Code<'s> {
 impl<'s> Code<'s> {
     /// The code of these parts.
     pub(crate) fn new(alloc: Global, parts: CodeParts<'s>) -> Result<Code<'s>, AllocError>
-        requires kept { IsKept parts }
-        requires few { length parts.states.items < 4294967295 }
+        requires { IsKept parts }
         ensures { IfOk result (λ code. code ≡ code_of parts.entry) }
     {
         let rows = rows_of(alloc, &parts)?;
@@ -196,6 +196,31 @@ impl Code<'_> {
         &self.rows[state]
     }
 
+    /// Where the byte leads from the state.
+    pub(crate) fn target(&self, state: usize, byte: u8) -> Option<usize>
+        requires { state < length self.now.states }
+        ensures { result ≡ target self.now (state_at self.now state).fork byte }
+    {
+        self.parts.target(&self.parts.states[state].fork, byte)
+    }
+
+    /// What the end of the input does in the state.
+    #[inline]
+    pub(crate) fn last_step(&self, state: usize) -> Step
+        requires { state < length self.now.states }
+        ensures says { SaysAtEnd (state_at self.now state) result }
+        ensures sound { IsSound self.now }
+    {
+        let _ = &self.parts;
+        if self.at_end(state).is_some() {
+            return Step::Unsaid;
+        }
+        match self.sign(state) {
+            Sign::Here(leaf) => Step::Halts(leaf),
+            _ => Step::Unsaid,
+        }
+    }
+
     /// What the mark of the state says.
     #[inline]
     pub(crate) fn sign(&self, state: usize) -> Sign
@@ -231,9 +256,8 @@ impl Code<'_> {
     }
 }
 
-/// The state that an entry of a jump table stands for, or of a row for a byte that does not stay.
-#[inline]
-pub(crate) fn target_of(entry: u32) -> Option<usize>
+/// The state that an entry of a jump table stands for.
+fn target_of(entry: u32) -> Option<usize>
     ensures { result ≡ entry_of entry }
 {
     if entry == NOWHERE {

@@ -4,11 +4,13 @@ ghost use Rattle.logos_generator.specs.CodeView.{state_at};
 ghost use Rattle.logos_generator.specs.Signs.{mark_by};
 ghost use Rattle.logos_generator.specs.Runs.{Does, Tries, EndsError, target, looped, marked};
 ghost use Rattle.logos_generator.specs.Stands.{IsStand, StaysWithin};
+ghost use Rattle.logos_generator.specs.Looks.{SeesBy, FindsSoon};
 ghost use Rattle.logos_generator.specs.Attempts.{context_of, stand_of, turn_of, found_of};
 
-use super::fast_loop::stop_in;
+use super::fast_loop::{first_stop, stop_in};
+use crate::code::Code;
+use crate::code::rows::{Step, step_of};
 use crate::code::signs::Sign;
-use crate::code::{Code, target_of};
 use logos_pattern::leaf::LeafId;
 
 /// Where a try stands as it enters a state.
@@ -86,9 +88,9 @@ fn stop_of(code: &Code, input: &[u8], state: usize, offset: usize) -> Stop
         };
     }
     match stop_in(code.row(state), &input[offset..]) {
-        Some((len, entry)) => Stop {
+        Some((len, _)) => Stop {
             offset: offset + len,
-            target: Some(target_of(entry)),
+            target: Some(code.target(state, input[offset + len])),
         },
         None => Stop {
             offset: input.len(),
@@ -147,7 +149,64 @@ fn is_continuation(byte: u8) -> bool
 }
 
 /// What is found from a place of the input on, and the number of states entered.
+#[inline]
 pub(super) fn attempt(code: &Code, input: &[u8], start: usize) -> (Found, usize)
+    requires { start ≤ length input.now }
+    ensures tries { Tries code.now input.now start (found_of result.0) result.1 }
+    ensures within { StaysWithin code.now input.now start (found_of result.0) }
+    ensures few { result.1 ≤ (length input.now - start) + 2 }
+{
+    match match_soon(code, input, start) {
+        Some((leaf, to, steps)) => (Found::Matched(leaf, to), steps),
+        None => attempt_with_marks(code, input, start),
+    }
+}
+
+/// A match that ends in the state in which the try does: no mark has to be kept for it. Its leaf, its end, and the
+/// number of states entered.
+#[inline]
+fn match_soon(code: &Code, input: &[u8], start: usize) -> Option<(LeafId, usize, usize)>
+    requires { start ≤ length input.now }
+    ensures { IfSome result (λ r. FindsSoon code.now input.now start r.0.0 r.1 r.2) }
+{
+    let mut seen = look(code, input, code.root(), start)?;
+    let mut before = 0;
+    loop {
+        let (stop, entry) = seen;
+        match step_of(entry) {
+            Step::Leads(next) => match look(code, input, next, stop + 1) {
+                Some(later) => seen = later,
+                None => {
+                    return match code.last_step(next) {
+                        Step::Halts(leaf) => Some((leaf, input.len(), before + 2)),
+                        _ => None,
+                    };
+                }
+            },
+            Step::Closes(leaf) => return Some((leaf, stop + 1, before + 2)),
+            Step::Halts(leaf) => return Some((leaf, stop, before + 1)),
+            Step::Unsaid => return None,
+        }
+        before += 1;
+    }
+}
+
+/// Where the state's fast loop ends, and the entry of the byte there, if one is there.
+#[inline]
+fn look(code: &Code, input: &[u8], state: usize, offset: usize) -> Option<(usize, u32)>
+    requires state { state < length code.now.states }
+    requires within { offset ≤ length input.now }
+    ensures { SeesBy code.now input.now state offset result }
+{
+    match first_stop(code.row(state), &input[offset..]) {
+        Some((len, entry)) => Some((offset + len, entry)),
+        None => None,
+    }
+}
+
+/// The same as `attempt`, where the marks passed are kept.
+#[inline(never)]
+fn attempt_with_marks(code: &Code, input: &[u8], start: usize) -> (Found, usize)
     requires { start ≤ length input.now }
     ensures tries { Tries code.now input.now start (found_of result.0) result.1 }
     ensures within { StaysWithin code.now input.now start (found_of result.0) }

@@ -3,6 +3,24 @@ ghost use Rattle.logos_generator.specs.Rows.{StopsIn};
 
 use crate::code::rows::is_staying;
 
+/// The same as `stop_in`. One byte is looked at by itself, since in most states the first one leads on.
+#[inline]
+pub(super) fn first_stop(row: &[u32; 256], bytes: &[u8]) -> Option<(usize, u32)>
+    ensures { StopsIn row.now bytes.now result }
+{
+    let [byte, rest @ ..] = bytes else {
+        return None;
+    };
+    let entry = row[*byte as usize];
+    if !is_staying(entry) {
+        return Some((0, entry));
+    }
+    match stop_in(row, rest) {
+        Some((len, entry)) => Some((len + 1, entry)),
+        None => None,
+    }
+}
+
 /// Where the bytes at the front end that stay in the state of the row: how many they are, and the entry of the byte behind them.
 /// Eight bytes are taken at a time while eight are there.
 #[inline]

@@ -4,10 +4,10 @@ use Rattle.logos_generator.proofs.CodeLemmas.{state_names}
 use Rattle.logos_generator.proofs.RowLemmas.{rows_turn}
 use Rattle.logos_generator.proofs.code.rows.rows_of.Goals as goal
 
-pub row_of-requires-clause-names : goal.row_of-requires-clause-names
-row_of-requires-clause-names c =
+pub row_of-requires : goal.row_of-requires
+row_of-requires c =
     let h : c.loop-state.state-index < length c.args.parts.now.states.items = rw c.deref-state-items.ensures.value at c.loop-state-test.true in
-    state_names c.args.parts.now c.loop-state.state-index c.state-item.result c.requires.sound (rw length-map h) (rw c.deref-state-items.ensures.value at c.state-item.is)
+    state_names c.args.parts.now c.loop-state.state-index c.state-item.result c.requires (rw length-map h) (rw c.deref-state-items.ensures.value at c.state-item.is)
 
 pub loop-state-preserved : goal.loop-state-preserved
 loop-state-preserved c =

@@ -22,17 +22,12 @@ tables_made-requires-clause-codable c = λ k d h.
     let few = c.requires.finished.few in
     record { separated = f.neat.separated; targets = λ i e l. let t = f.targets i e l in omega (arith, t, few) }
 
-pub new-requires-clause-kept : goal.new-requires-clause-kept
-new-requires-clause-kept c =
+pub new-requires : goal.new-requires
+new-requires c =
     let t = c.in_ok-tables.ensures in
     let parts : CodeParts = record { kept = c.args.kept; states = c.in_ok-tables.tables.states; bit_tables = c.in_ok-tables.tables.bit_tables; jump_tables = c.in_ok-tables.tables.jump_tables; leaves = c.in_ok-leaves.leaves; root = 0; utf8 = c.utf8_mode.result } in
     let finished = subst (IsFinished c.args.graph.now.states) (same_count c.in_ok-leaves.leaves.items c.args.graph.now.leaves (rw c.leaves.ensures at c.in_ok-leaves.ensures.uses)) c.requires.finished in
     record { sound = parts_sound t.tests c.args.graph.now.states parts refl t.are t.hold t.fit finished; once = t.once }
-
-pub new-requires-clause-few : goal.new-requires-clause-few
-new-requires-clause-few c =
-    let few = c.requires.finished.few in
-    omega (arith, few, c.in_ok-tables.ensures.are.count)
 
 pub returns-clause-runs : goal.returns-clause-runs
 returns-clause-runs c =

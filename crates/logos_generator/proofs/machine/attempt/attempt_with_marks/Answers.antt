@@ -3,7 +3,7 @@ use Rattle.logos_graph.specs.Munch.{matched, failed, ended}
 use Rattle.logos_generator.specs.Runs.{Does, acts, goes_on, is_over, acts_on}
 use Rattle.logos_generator.specs.Attempts.{stand_of}
 use Rattle.logos_generator.proofs.StandLemmas.{stands_next, stands_match, stands_fault, stands_over}
-use Rattle.logos_generator.proofs.machine.attempt.attempt.Goals as goal
+use Rattle.logos_generator.proofs.machine.attempt.attempt_with_marks.Goals as goal
 
 pub returns-in-Acts-Some-default-clause-tries : goal.returns-in-Acts-Some-default-clause-tries
 returns-in-Acts-Some-default-clause-tries c =

@@ -3,7 +3,7 @@ use Rattle.logos_graph.specs.Munch.{Found}
 use Rattle.logos_generator.specs.Runs.{Goes, Tries}
 use Rattle.logos_generator.specs.Stands.{IsStand}
 use Rattle.logos_generator.specs.Attempts.{stand_of}
-use Rattle.logos_generator.proofs.machine.attempt.attempt.Given as goal
+use Rattle.logos_generator.proofs.machine.attempt.attempt_with_marks.Given as goal
 
 -- what goes on from here is the whole try
 abbrev pub invariant-loop-next : goal.invariant-loop-next
