@@ -119,10 +119,10 @@ misread_excludes tokens value fault e (misfit m is) = misfit_excludes tokens val
 
 -- the reading of an enum within the limits is not ended by a fault
 ends_excludes : (source : List ℕ) (rules : List Rule) (value : EnumValue) (item : Span) (fault : ListedFault) → Says source value item → IsWithinLimits source rules → EndsReading source fault → ⊥
-ends_excludes source rules value item fault says limits (source_limit l is) = let s = limits.short in omega arith
+ends_excludes source rules value item fault says limits (source_limit l is) = let s = limits.sizes.short in omega arith
 ends_excludes source rules value item fault says limits (nesting_limit deep is) =
     let more = deep-excludes source _ says.tokens deep says.spelled in
-    let most = limits.shallow says.tokens says.spelled in
+    let most = limits.sizes.shallow says.tokens says.spelled in
     omega arith
 ends_excludes source rules value item fault says limits (unreadable u is) = unreadable-excludes source _ _ says.tokens u says.spelled
 ends_excludes source rules value item fault says limits (misread {tokens} s m) =
@@ -134,7 +134,7 @@ graph_lists_none : (source : List ℕ) (leaves : List NamedRule) (item : Span) (
 graph_lists_none source leaves item faults none limits (graph_faults graph small are e) =
     let same : graph ≡ [] = faults_once (rules_in leaves) graph [] are none in
     e ∙ ap (flat_map (listed_of (names_in leaves) item)) same
-graph_lists_none source leaves item faults none limits (size_limit more e) = let small = limits.small in absurd (omega arith)
+graph_lists_none source leaves item faults none limits (size_limit more e) = let small = limits.sizes.small in absurd (omega arith)
 graph_lists_none source leaves item faults none limits (states_limit small start more e) = absurd (limits.few_keys more)
 
 -- a source is accepted in one way

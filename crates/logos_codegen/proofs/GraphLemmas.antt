@@ -1,5 +1,5 @@
 -- What the graph of the leaves lists, and what all steps list together.
-use Rattle.std.proofs.Common.{◌≡◌, ◌≢◌, ℕ, ◌<◌, ◌≤◌, ◌^◌, Bool, List, [], ◌∷◌, ◌++◌, map, flat_map, Option, Some, None, refl, sym, ◌∙◌, ap, inl, inr}
+use Rattle.std.proofs.Common.{◌≡◌, ◌≢◌, ℕ, ◌<◌, ◌≤◌, ◌^◌, Bool, List, [], ◌∷◌, ◌++◌, length, map, flat_map, Option, Some, None, refl, sym, ◌∙◌, ap, inl, inr}
 use Rattle.std.proofs.lemmas.Bool.{cases_lt}
 use Rattle.logos_token.specs.declared.token.Span.{Span}
 use Rattle.logos_token.specs.Faults.{Fault as ListedFault}
@@ -7,7 +7,6 @@ use Rattle.logos_pattern.specs.declared.leaf.Leaf.{Leaf}
 use Rattle.logos_parser.specs.Values.{EnumValue}
 use Rattle.logos_graph.specs.Munch.{Rule}
 use Rattle.logos_graph.specs.Faults.{AreFaults}
-use Rattle.logos_graph.specs.Found.{FindsTheLongest}
 use Rattle.logos_graph.specs.Size.{size_of}
 use Rattle.logos_graph.specs.View.{GraphValue, rule_of, rules_of}
 use Rattle.logos_graph.specs.GraphOf.{IsGraphOf, Refuses}
@@ -15,7 +14,7 @@ use Rattle.logos_graph.specs.declared.graph.BuildError.{BuildError}
 use Rattle.logos_graph.specs.declared.graph.BuildError.TheVariants.{LimitSize, LimitStates, Memory}
 use Rattle.logos_codegen.specs.Texts.{named_leaf, listed_of}
 use Rattle.logos_codegen.specs.Rules.{NamedRule, named_rule, rules_in, names_in, GiveAll, utf8_faults, GraphLists, graph_faults, size_limit, states_limit, AreListed}
-use Rattle.logos_codegen.specs.Source.{Says, IsAccepted, IsRefused, faulty}
+use Rattle.logos_codegen.specs.Source.{Says, IsShallow, IsAccepted, IsRefused, faulty}
 use Rattle.logos_codegen.specs.Steps.{IsLimit, ListsGraph, IsGraphMade}
 use Rattle.logos_codegen.proofs.Listing.{lists_some}
 
@@ -81,6 +80,12 @@ graph_faultless leaves item faults none (graph_faults graph small are e) =
 graph_faultless leaves item faults none (size_limit more e) = absurd (cc)
 graph_faultless leaves item faults none (states_limit small start more e) = absurd (cc)
 
+-- the graph's part is empty only within the limit of size
+graph_small : (leaves : List NamedRule) (item : Span) (faults : List ListedFault) → faults ≡ [] → GraphLists leaves item faults → size_of (rules_in leaves) ≤ 2 ^ 20
+graph_small leaves item faults none (graph_faults graph small are e) = small
+graph_small leaves item faults none (size_limit more e) = absurd (cc)
+graph_small leaves item faults none (states_limit small start more e) = small
+
 -- where nothing is listed the source is accepted
 pub nothing_listed : (source : List ℕ) (enum : EnumValue) (item : Span) (faults : List ListedFault) (leaves : List NamedRule) → Says source enum item → AreListed enum item faults leaves → faults ≡ [] →
     IsAccepted source (rules_in leaves) enum.utf8
@@ -120,15 +125,28 @@ module _ (enum : EnumValue) (item : Span) (leaves : List Leaf) (first second thi
   refused source says some = faulty says all_listed some
 
   -- where nothing is listed, the graph is that of an accepted source
-  pub accepted : (source : List ℕ) → Says source enum item → last ≡ [] → (value : GraphValue) → graph ≡ Some value → IsGraphMade source value
-  accepted source says none value is =
-      let given = graphs.is value is in
-      let made = given.0 in
-      let faultless : value.faults ≡ [] = given.1 (both_empty third graphs.faults (sym graphs.all ∙ none)).1 in
-      let longest : FindsTheLongest (rules_of leaves) enum.utf8 value.states = made.finds faultless in
+  pub accepted : (source : List ℕ) → length source ≤ 16777216 → IsShallow source → Says source enum item → last ≡ [] → (value : GraphValue) → graph ≡ Some value →
+      IsGraphMade source value
+  accepted source short shallow says none value is =
+      let held = graphs.is value is in
+      let made = held.0 in
+      let both = both_empty third graphs.faults (sym graphs.all ∙ none) in
+      let faultless : value.faults ≡ [] = held.1 both.1 in
       let source_is = nothing_listed source enum item last (map named_rule leaves) says all_listed none in
+      let listed = all_listed in
+      let first = both_empty (listed.definition_faults ++ utf8_faults enum.utf8 (map named_rule leaves)) listed.graph_faults (sym listed.all ∙ none) in
+      let definitions = both_empty listed.definition_faults (utf8_faults enum.utf8 (map named_rule leaves)) first.0 in
+      let small = graph_small (map named_rule leaves) item graphs.faults both.1 graphs.listed in
       record {
         accepted = rw (made.leaves_are, made.mode, ← rules_are leaves) source_is;
-        faultless = faultless;
-        finds = rw (made.leaves_are, made.mode) longest;
+        of_source = record {
+          enum = enum;
+          item = item;
+          says = says;
+          give = rw (made.leaves_are, sym definitions.0) listed.give;
+          same_mode = made.mode;
+          of_leaves = rw (made.leaves_are, made.mode) made;
+          faultless = faultless;
+        };
+        sizes = record { short = short; shallow = shallow; small = rw (made.leaves_are, ← rules_are leaves) small };
       }

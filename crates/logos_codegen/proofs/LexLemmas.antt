@@ -19,10 +19,10 @@ use Rattle.logos_token.specs.declared.error.fault_code.FaultCode.TheVariants.{Ut
 use Rattle.logos_token.specs.Faults.{Fault as ListedFault}
 use Rattle.logos_pattern.specs.Measure.{is_text}
 use Rattle.logos_codegen.specs.Texts.{fault_at, utf8_text}
-use Rattle.logos_generator.specs.Order.{AreInOrder}
+use Rattle.logos_generator.specs.Order.{AreInOrder, Parts, IsMatch}
 use Rattle.logos_generator.specs.Runs.{CodeFinds, Runs}
 use Rattle.logos_generator.proofs.Compose.{runs_iff}
-use Rattle.logos_generator.proofs.InOrder.{in_order}
+use Rattle.logos_generator.proofs.InOrder.{in_order, parted}
 use Rattle.logos_codegen.specs.Rules.{NamedRule, rules_in, utf8_faults}
 use Rattle.logos_codegen.specs.Source.{IsAccepted}
 use Rattle.logos_codegen.specs.Refusals.{IsMemory, IsUnlexed, IsJust, IsNoRefusal, IsThatRefusal}
@@ -104,6 +104,12 @@ module _ (source : List ℕ) (rules : List Rule) (utf8 : Bool) (code : CodeValue
     pub are_in_order : AreInOrder (length bytes) 0 items
     are_in_order = in_order rules callback utf8 bytes (omega arith) items_are
 
+    pub are_parts : (others : List Rule) (other : Bool) → IsAccepted source others other → Parts (IsMatch others bytes) (length bytes) 0 items
+    are_parts others other a =
+        let same = accepted_once source rules others utf8 other accepted a in
+        let items' : Items others callback other bytes 0 items = rw (same.0, same.1) at items_are in
+        parted others callback other bytes (omega arith) items'
+
     pub are_cut : (others : List Rule) → IsAccepted source others true → All (IsCut bytes) items
     are_cut others a =
         let same = accepted_once source rules others utf8 true accepted a in
@@ -141,6 +147,11 @@ module _ (source : List ℕ) (rules : List Rule) (utf8 : Bool) (code : CodeValue
       IfOk result (λ items. AreInOrder (length bytes) 0 (map item_of items.items))
   order_of_result (Ok items) r text = are_in_order source rules utf8 code accepted lexer callback bytes (map item_of items.items) (input_of text) r
   order_of_result (Err error) r text = tt
+
+  pub parts_of_result : (result : Result (Vec TheItem Global) LexSourceError) → IfOk result (λ items. Runs code callback bytes 0 (map item_of items.items)) → IfOk result (λ items. IsTrue code.utf8 → IsUtf8 bytes) →
+      (others : List Rule) (other : Bool) → IsAccepted source others other → IfOk result (λ items. Parts (IsMatch others bytes) (length bytes) 0 (map item_of items.items))
+  parts_of_result (Ok items) r text others other a = are_parts source rules utf8 code accepted lexer callback bytes (map item_of items.items) (input_of text) r others other a
+  parts_of_result (Err error) r text others other a = tt
 
   pub cut_of_result : (result : Result (Vec TheItem Global) LexSourceError) → IfOk result (λ items. Runs code callback bytes 0 (map item_of items.items)) → IfOk result (λ items. IsTrue code.utf8 → IsUtf8 bytes) →
       (others : List Rule) → IsAccepted source others true → IfOk result (λ items. All (IsCut bytes) (map item_of items.items))

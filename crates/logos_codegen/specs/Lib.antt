@@ -5,3 +5,4 @@ pub mod Source
 pub mod Refusals
 pub mod Steps
 pub mod Kept
+pub mod SourceGraph

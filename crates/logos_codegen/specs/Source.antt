@@ -40,10 +40,14 @@ pub data IsMisread (tokens : TokenList) (fault : ListedFault) : Type 0 where
   misfit : {span : Span} → IsMisfit tokens span →
       fault ≡ fault_at Grammar (codes "the enum is not well formed") span → IsMisread tokens fault
 
+-- the one fault of a source that is longer than the limit
+abbrev pub too_long : List ℕ → ListedFault
+too_long source = fault_at LimitSource (codes "limit LimitSource passed") (record { from = 0; to = length source })
+
 -- The fault stands in the source and ends its reading: a limit is passed, there are no tokens, or they are no enum.
 pub data EndsReading (source : List ℕ) (fault : ListedFault) : Type 0 where
   source_limit : 16777216 < length source →
-      fault ≡ fault_at LimitSource (codes "limit LimitSource passed") (record { from = 0; to = length source }) → EndsReading source fault
+      fault ≡ too_long source → EndsReading source fault
   nesting_limit : {span : Span} → IsTooDeep source span →
       fault ≡ fault_at LimitTokenNesting (codes "limit LimitTokenNesting passed") span → EndsReading source fault
   unreadable : {kind : LexicalKind} {span : Span} → IsUnreadable source kind span →
@@ -69,10 +73,18 @@ pub data IsRefused (source : List ℕ) (faults : List ListedFault) : Type 0 wher
   faulty : {enum : EnumValue} {item : Span} {leaves : List NamedRule} →
       Says source enum item → AreListed enum item faults leaves → faults ≢ [] → IsRefused source faults
 
--- A source with these rules that no limit refuses, but for the nesting of patterns, which is a fault of its definition: the
--- length, the nesting of delimiters, the size of the trees, and the number of keys.
-pub record IsWithinLimits (source : List ℕ) (rules : List Rule) : Type 0 where
+-- the tokens of the source nest no deeper than the limit
+abbrev pub IsShallow : List ℕ → Type 0
+IsShallow source = (tokens : TokenList) → Spells source tokens → depth_of tokens ≤ 128
+
+-- The length of the source and the nesting of its delimiters are within their limits, and so is the size of the trees of the rules.
+pub record IsWithinSizes (source : List ℕ) (rules : List Rule) : Type 0 where
   pub short : length source ≤ 16777216
-  pub shallow : (tokens : TokenList) → Spells source tokens → depth_of tokens ≤ 128
+  pub shallow : IsShallow source
   pub small : size_of rules ≤ 2 ^ 20
+
+-- A source with these rules that no limit refuses, but for the nesting of patterns, which is a fault of its definition: it is
+-- within the sizes, and has no more keys than the limit of states.
+pub record IsWithinLimits (source : List ℕ) (rules : List Rule) : Type 0 where
+  pub sizes : IsWithinSizes source rules
   pub few_keys : ¬ HasMoreKeys rules 65536

@@ -5,13 +5,13 @@ use Rattle.logos_token.specs.declared.error.fault_code.FaultCode.TheVariants.{Li
 use Rattle.logos_token.specs.Faults.{Fault as ListedFault}
 use Rattle.logos_pattern.specs.declared.leaf.Leaf.{Leaf}
 use Rattle.logos_graph.specs.View.{GraphValue, rules_of}
-use Rattle.logos_graph.specs.Found.{FindsTheLongest}
 use Rattle.logos_graph.specs.GraphOf.{IsGraphOf}
 use Rattle.logos_graph.specs.declared.graph.BuildError.{BuildError}
 use Rattle.logos_graph.specs.declared.graph.BuildError.TheVariants.{LimitSize, LimitStates, Memory}
 use Rattle.logos_codegen.specs.Texts.{fault_at, size_text, states_text}
 use Rattle.logos_codegen.specs.Rules.{named_rule, GraphLists}
-use Rattle.logos_codegen.specs.Source.{IsAccepted}
+use Rattle.logos_codegen.specs.Source.{IsAccepted, IsWithinSizes}
+use Rattle.logos_codegen.specs.SourceGraph.{IsSourceGraph}
 
 -- what a limit adds to the faults before it
 abbrev pub IsLimit : BuildError → Span → List ListedFault → List ListedFault → Type 0
@@ -27,8 +27,8 @@ pub record ListsGraph (leaves : List Leaf) (utf8 : Bool) (item : Span) (before a
   pub missing : graph ≡ None → faults ≢ []
   pub is : (value : GraphValue) → graph ≡ Some value → IsGraphOf leaves utf8 value × (faults ≡ [] → value.faults ≡ [])
 
--- the graph of a source without faults: it finds at each place of each input what maximal munch finds there
+-- the graph of a source without faults, which has these rules and is within the sizes
 pub record IsGraphMade (source : List ℕ) (graph : GraphValue) : Type 0 where
   pub accepted : IsAccepted source (rules_of graph.leaves) graph.utf8
-  pub faultless : graph.faults ≡ []
-  pub finds : FindsTheLongest (rules_of graph.leaves) graph.utf8 graph.states
+  pub of_source : IsSourceGraph source graph
+  pub sizes : IsWithinSizes source (rules_of graph.leaves)

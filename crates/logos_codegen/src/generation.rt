@@ -1,16 +1,17 @@
 //! From a source text to the code of its lexer.
 
-ghost use Rattle.std.specs.Prelude.{◌≡◌, ◌↔◌, ◌++◌, ℕ, Bool, List, [], map, flat_map, true, None, IfOk, IfErr, OnOk, IsTrue};
+ghost use Rattle.std.specs.Prelude.{◌≡◌, ◌<◌, ◌↔◌, ◌∷◌, ◌++◌, ℕ, Bool, List, [], length, map, flat_map, true, None, IfOk, IfErr, IsErrAnd, OnOk, IsTrue};
 ghost use Rattle.logos_parser.specs.Values.{ident_slice};
 ghost use Rattle.logos_graph.specs.Munch.{Rule};
 ghost use Rattle.logos_graph.specs.Errors.{fault_of};
-ghost use Rattle.logos_graph.specs.Found.{FindsTheLongest};
+ghost use Rattle.logos_graph.specs.GraphOf.{IsGraphOf};
 ghost use Rattle.logos_graph.specs.View.{rules_of};
 ghost use Rattle.logos_generator.specs.GeneratorValue.{KeepsGiven};
 ghost use Rattle.logos_generator.specs.Headline.{IsLexer};
 ghost use Rattle.logos_codegen.specs.Texts.{named_leaf, listed_of};
 ghost use Rattle.logos_codegen.specs.Rules.{named_rule};
-ghost use Rattle.logos_codegen.specs.Source.{IsNamed, IsAccepted, IsRefused, IsWithinLimits};
+ghost use Rattle.logos_codegen.specs.Source.{IsNamed, IsAccepted, IsRefused, IsWithinSizes, IsWithinLimits, too_long};
+ghost use Rattle.logos_codegen.specs.SourceGraph.{IsSourceGraph};
 ghost use Rattle.logos_codegen.specs.Kept.{KeepsSource};
 ghost use Rattle.logos_codegen.specs.Refusals.{Refuses, IsMemory};
 ghost use Rattle.logos_codegen.specs.Steps.{IsLimit, ListsGraph, IsGraphMade};
@@ -103,6 +104,7 @@ fn accept<'s>(alloc: Global, src: &'s str) -> Result<(Graph<'s>, Ident<'s>), Ref
     ensures ok { IfOk result (λ read. IsGraphMade src.now read.0) }
     ensures name { IfOk result (λ read. IsNamed src.now (ident_slice read.1)) }
     ensures err { IfErr result (Refuses (IsRefused src.now)) }
+    ensures long { 16777216 < length src.now → IsErrAnd result (Refuses (λ faults. faults ≡ too_long src.now ∷ [])) }
 {
     let (item, span) = read_source(alloc, src)?;
     let mut errors = Errors::new(alloc);
@@ -125,8 +127,8 @@ fn code_of<'g, 's>(
     this: &'g TokenStream<'s>,
     graph: &'g Graph<'s>,
 ) -> Result<Code<'s>, AllocError>
+    requires of_leaves { IsGraphOf graph.now.leaves graph.now.utf8 graph.now }
     requires faultless { graph.now.faults ≡ [] }
-    requires finds { FindsTheLongest (rules_of graph.now.leaves) graph.now.utf8 graph.now.states }
     ensures lexer { IfOk result (IsLexer (rules_of graph.now.leaves) graph.now.utf8) }
     ensures keeps { IfOk result (KeepsGiven (record { given = record { shape = config; name = name.entry; this = this.now; error_callback = None }; graph = graph.now })) }
 {
@@ -145,6 +147,10 @@ fn code_of<'g, 's>(
 pub fn generate<'s>(alloc: Global, src: &'s str, config: Config) -> Result<Generated<'s>, Refusal>
     // The source has no faults, and these are its rules and its mode.
     ensures accepted { IfOk result (λ made. IsAccepted src.now (rules_of made.graph.leaves) made.graph.utf8) }
+    // The graph is that of the source's leaves, so it can be handed on to a generator.
+    ensures graph { IfOk result (λ made. IsSourceGraph src.now made.graph) }
+    // The length of the source, its nesting and the size of its trees are within their limits.
+    ensures within { IfOk result (λ made. IsWithinSizes src.now (rules_of made.graph.leaves)) }
     // At each place of each input the code finds exactly what maximal munch finds there.
     ensures lexer { IfOk result (λ made. IsLexer (rules_of made.graph.leaves) made.graph.utf8 made.code) }
     ensures name { IfOk result (λ made. IsNamed src.now (ident_slice made.name)) }
@@ -152,6 +158,8 @@ pub fn generate<'s>(alloc: Global, src: &'s str, config: Config) -> Result<Gener
     ensures keeps { IfOk result (λ made. KeepsSource config (ident_slice made.name) made.graph.leaves made.code) }
     // What is refused has these faults.
     ensures refused { IfErr result (Refuses (IsRefused src.now)) }
+    // A source that is longer than the limit has that one fault.
+    ensures long { 16777216 < length src.now → IsErrAnd result (Refuses (λ faults. faults ≡ too_long src.now ∷ [])) }
     // What has no faults, and passes no limit, is not refused.
     ensures complete { (rules : List Rule) (utf8 : Bool) → IsAccepted src.now rules utf8 → IsWithinLimits src.now rules → IfErr result IsMemory }
 {

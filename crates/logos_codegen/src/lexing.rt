@@ -7,7 +7,7 @@ ghost use Rattle.logos_graph.specs.Munch.{Rule};
 ghost use Rattle.logos_generator.specs.Headline.{IsCut};
 ghost use Rattle.logos_generator.specs.Items.{Items};
 ghost use Rattle.logos_generator.specs.LexerValue.{answers_of, item_of};
-ghost use Rattle.logos_generator.specs.Order.{AreInOrder};
+ghost use Rattle.logos_generator.specs.Order.{AreInOrder, Parts, IsMatch};
 ghost use Rattle.logos_generator.specs.Runs.{Runs};
 ghost use Rattle.logos_codegen.specs.Source.{IsAccepted, IsWithinLimits};
 ghost use Rattle.logos_codegen.specs.Refusals.{IsUnlexed, IsJust, IsNoRefusal};
@@ -122,6 +122,9 @@ pub fn lex_source<'i, C: Fn(LeafId, &[u8]) -> Action + Drop>(
     // The items are those of maximal munch, by the rules of a source without faults; in UTF-8 mode, of UTF-8.
     ensures items { IfOk result (λ items. (rules : List Rule) × (utf8 : Bool) × IsAccepted src.now rules utf8 × (IsTrue utf8 → IsUtf8 input.now) × Items rules (answers_of C.Fn callbacks) utf8 input.now 0 (map item_of items.items)) }
     ensures in_order { IfOk result (λ items. AreInOrder (length input.now) 0 (map item_of items.items)) }
+    // Together with the matches that are left out, the items part the input in order.
+    ensures parts { (rules : List Rule) (utf8 : Bool) → IsAccepted src.now rules utf8 →
+        IfOk result (λ items. Parts (IsMatch rules input.now) (length input.now) 0 (map item_of items.items)) }
     // In UTF-8 mode each item starts and ends between characters.
     ensures cut { (rules : List Rule) → IsAccepted src.now rules true → IfOk result (λ items. All (IsCut input.now) (map item_of items.items)) }
     ensures err { IfErr result (IsJust src.now input.now) }

@@ -16,5 +16,5 @@ pub use logos_generator::{code, generator, machine};
 pub use logos_graph::graph;
 pub use logos_parser::parser;
 pub use logos_pattern::{leaf, pattern};
-pub use logos_token::{error, token};
+pub use logos_token::{error, token, util};
 pub use refusal::Refusal;

@@ -1,6 +1,6 @@
 //! Reads the enum that a source says.
 
-ghost use Rattle.std.specs.Prelude.{◌≡◌, ◌∷◌, [], codes, IfOk, IfErr};
+ghost use Rattle.std.specs.Prelude.{◌≡◌, ◌<◌, ◌≤◌, ◌∷◌, [], codes, length, IfOk, IfErr, IsErrAnd};
 ghost use Rattle.logos_token.specs.Faults.{Fault as ListedFault};
 ghost use Rattle.logos_token.specs.Tokens.{run_span};
 ghost use Rattle.logos_token.specs.Views.{stream_tokens};
@@ -8,7 +8,7 @@ ghost use Rattle.logos_token.specs.Refusals.{IsRefusal};
 ghost use Rattle.logos_parser.specs.Values.{enum_value};
 ghost use Rattle.logos_parser.specs.Enum.{IsEnum};
 ghost use Rattle.logos_codegen.specs.Texts.{fault_at};
-ghost use Rattle.logos_codegen.specs.Source.{Says, lexical_text, IsMisread, EndsReading};
+ghost use Rattle.logos_codegen.specs.Source.{Says, lexical_text, IsMisread, IsShallow, too_long, EndsReading};
 ghost use Rattle.logos_codegen.specs.Refusals.{Refuses, MatchReadError};
 
 use crate::refusal::Refusal;
@@ -83,7 +83,8 @@ fn read_tokens<'s>(alloc: Global, stream: &TokenStream<'s>) -> Result<(ItemEnum<
 // Why a source gives no tokens.
 fn unreadable(alloc: Global, src: &str, error: TokenError) -> Refusal
     requires { IsRefusal src.now error }
-    ensures { Refuses (λ faults. (fault : ListedFault) × EndsReading src.now fault × (faults ≡ fault ∷ [])) result }
+    ensures ends { Refuses (λ faults. (fault : ListedFault) × EndsReading src.now fault × (faults ≡ fault ∷ [])) result }
+    ensures long { error ≡ TokenError.LimitSource → Refuses (λ faults. faults ≡ too_long src.now ∷ []) result }
 {
     match error {
         TokenError::Lexical { kind, span } => {
@@ -111,7 +112,10 @@ fn unreadable(alloc: Global, src: &str, error: TokenError) -> Refusal
 /// The enum that the source says, and the span of all its tokens.
 pub(crate) fn read_source<'s>(alloc: Global, src: &'s str) -> Result<(ItemEnum<'s>, Span), Refusal>
     ensures ok { IfOk result (λ read. Says src.now (enum_value read.0) read.1) }
+    ensures short { IfOk result (λ read. length src.now ≤ 16777216) }
+    ensures shallow { IfOk result (λ read. IsShallow src.now) }
     ensures err { IfErr result (Refuses (λ faults. (fault : ListedFault) × EndsReading src.now fault × (faults ≡ fault ∷ []))) }
+    ensures long { 16777216 < length src.now → IsErrAnd result (Refuses (λ faults. faults ≡ too_long src.now ∷ [])) }
 {
     match tokenize(alloc, src) {
         Ok(stream) => read_tokens(alloc, &stream),

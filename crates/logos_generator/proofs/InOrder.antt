@@ -1,5 +1,5 @@
 -- Items are in order.
-use Rattle.std.proofs.Common.{ℕ, ◌<◌, ◌≤◌, Bool, true, false, List, [], ◌∷◌, ◌++◌, length, map, slice_range, if◌then◌else◌, arith}
+use Rattle.std.proofs.Common.{◌≡◌, ℕ, ◌<◌, ◌≤◌, Bool, true, false, List, [], ◌∷◌, ◌++◌, length, map, Some, None, slice_range, if◌then◌else◌, arith}
 use Rattle.std.proofs.lemmas.List.{length-drop}
 use Rattle.std.proofs.lemmas.Str.{IsCharBoundary-end}
 use Rattle.logos_graph.specs.Munch.{Use, Rule, IsBest, IsStop}
@@ -7,7 +7,7 @@ use Rattle.logos_graph.proofs.Unique.{rule_within}
 use Rattle.logos_generator.specs.declared.machine.Action.{Action}
 use Rattle.logos_generator.specs.declared.machine.Action.TheVariants.{Emit, Skip, Error}
 use Rattle.logos_generator.specs.Items.{Callback, Item, token, error, items_of, over, match, fault, Items}
-use Rattle.logos_generator.specs.Order.{AreInOrder}
+use Rattle.logos_generator.specs.Order.{AreInOrder, Parts, all_parted, token_part, error_part, part_left_out, IsMatch}
 
 -- what is in order from a place on is so from an earlier one on
 pub in_order_earlier : (end at before : ℕ) (items : List Item) → before ≤ at → AreInOrder end at items → AreInOrder end before items
@@ -45,3 +45,28 @@ module _ (rules : List Rule) (callback : Callback) (utf8 : Bool) (bytes : List �
       (in_order (best_within rules bytes from to leaf inside s) l) answer
   in_order inside (fault from to rest s l) =
       (omega arith, s.2.may_stop.nonempty, in_order (stop_within rules utf8 bytes from to s.0 s.2) l)
+
+-- what is found at each place parts the input
+module _ (rules : List Rule) (callback : Callback) (utf8 : Bool) (bytes : List ℕ) where
+  abbrev PartsHere : ℕ → List Item → Type 0
+  PartsHere = Parts (IsMatch rules bytes) (length bytes)
+
+  emitted_parts : (from to leaf : ℕ) (rest : List Item) → IsBest rules bytes from to leaf → PartsHere to rest →
+      (skips : Bool) → PartsHere from ((if skips then [] else token leaf from to (slice_range bytes from to) ∷ []) ++ rest)
+  emitted_parts from to leaf rest best after true = part_left_out from to rest best.nonempty (leaf, best) after
+  emitted_parts from to leaf rest best after false = token_part leaf from to (slice_range bytes from to) rest best.nonempty after
+
+  match_parts : (from to leaf : ℕ) (rest : List Item) → IsBest rules bytes from to leaf → PartsHere to rest →
+      (answer : Action) → PartsHere from (items_of (map (λ rule. rule.use_of) rules) callback bytes answer leaf from to ++ rest)
+  match_parts from to leaf rest best after Emit = emitted_parts from to leaf rest best after _
+  match_parts from to leaf rest best after Skip = part_left_out from to rest best.nonempty (leaf, best) after
+  match_parts from to leaf rest best after Error = error_part (Some leaf) from to (slice_range bytes from to) rest best.nonempty after
+
+  pub parted : {from : ℕ} {items : List Item} → from ≤ length bytes → Items rules callback utf8 bytes from items → PartsHere from items
+  parted inside (over from s) =
+      let here : from ≡ length bytes = omega (arith, inside, s) in
+      rw here all_parted
+  parted inside (match from to leaf answer rest s a l) =
+      match_parts from to leaf rest s (parted (best_within rules bytes from to leaf inside s) l) answer
+  parted inside (fault from to rest s l) =
+      error_part None from to (slice_range bytes from to) rest s.2.may_stop.nonempty (parted (stop_within rules utf8 bytes from to s.0 s.2) l)

@@ -10,7 +10,7 @@ ghost use Rattle.logos_generator.specs.Code.{CodeValue};
 ghost use Rattle.logos_generator.specs.Headline.{IsCut, IsLexer, RunsAs};
 ghost use Rattle.logos_generator.specs.Items.{Item, Items};
 ghost use Rattle.logos_generator.specs.LexerValue.{answers_of};
-ghost use Rattle.logos_generator.specs.Order.{AreInOrder};
+ghost use Rattle.logos_generator.specs.Order.{AreInOrder, Parts, IsMatch};
 ghost use Rattle.logos_generator.specs.Runs.{Runs};
 
 use crate::machine::Action;
@@ -20,6 +20,13 @@ use logos_pattern::leaf::LeafId;
 /// input.
 pub fn items_are_in_order<C: Fn(LeafId, &[u8]) -> Action>(callback: &C)
     ensures { (rules : List Rule) (utf8 : Bool) (bytes : List ℕ) (from : ℕ) (items : List Item) → from ≤ length bytes → Items rules (answers_of C.Fn callback.now) utf8 bytes from items → AreInOrder (length bytes) from items }
+{}
+
+/// The spans of the items of maximal munch, together with those of the matches that are left out, part the input
+/// in order, and none is empty.
+pub fn items_part_the_input<C: Fn(LeafId, &[u8]) -> Action>(callback: &C)
+    ensures { (rules : List Rule) (utf8 : Bool) (bytes : List ℕ) (from : ℕ) (items : List Item) → from ≤ length bytes →
+        Items rules (answers_of C.Fn callback.now) utf8 bytes from items → Parts (IsMatch rules bytes) (length bytes) from items }
 {}
 
 /// A code that runs as a graph does, whose leaves are used as the graph's, is a lexer of the graph's

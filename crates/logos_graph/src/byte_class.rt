@@ -202,6 +202,3 @@ impl Comparisons {
         *self.range.start() <= byte && byte <= *self.range.end() && !self.except.contains(&byte)
     }
 }
-
-#[cfg(test)]
-mod tests;

@@ -2,22 +2,15 @@
 
 ghost use Rattle.std.specs.Prelude.{◌≡◌};
 
-#[cfg(test)]
-mod asking;
-#[cfg(test)]
-mod comparison;
 mod evidence;
 mod making;
 mod mermaid;
 mod printing;
-#[cfg(test)]
-mod rounds;
-#[cfg(test)]
-mod rows;
 mod states;
 mod value;
 
-use crate::byte_class::ByteClass;
+pub use crate::byte_class::{ByteClass, Comparisons};
+pub use crate::dfa::{Dfa, StateId};
 pub use evidence::Telling;
 use logos_pattern::leaf::LeafId;
 use std::alloc::{AllocError, AllocFailed};
@@ -121,6 +114,3 @@ impl PartialEq for StateData {
         self.state_type == other.state_type && self.normal == other.normal && self.eoi == other.eoi
     }
 }
-
-#[cfg(test)]
-mod tests;

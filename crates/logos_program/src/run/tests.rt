@@ -99,7 +99,7 @@ fn lexes(rt: HostRuntime) -> Result<(), Fail> {
         ("enum T { #[token(\"abcd\")] A, #[token(\"a\")] B }", "", ""),
         ("enum T { }", "\u{e9}", "error 0..2\n"),
         (
-            "#[logos(skip r\"[ \\t\\n\\f]+\")] enum Token { #[token(\"fast\")] Fast, #[token(\".\")] Period, #[regex(\"[a-zA-Z]+\")] Text }",
+            "#[derive(Logos, Debug, PartialEq)]\n#[logos(skip r\"[ \\t\\n\\f]+\")] // Ignore this regex pattern between tokens\nenum Token {\n    // Tokens can be literal strings, of any length.\n    #[token(\"fast\")]\n    Fast,\n\n    #[token(\".\")]\n    Period,\n\n    // Or regular expressions.\n    #[regex(\"[a-zA-Z]+\")]\n    Text,\n}\n",
             "Create ridiculously fast Lexers.",
             "token 3 0..6\ntoken 3 7..19\ntoken 1 20..24\ntoken 3 25..31\ntoken 2 31..32\n",
         ),

@@ -31,4 +31,4 @@ returns-clause-ok c =
     let given = rw c.deref.ensures.value at c.in_ok-leaves.ensures in
     let text = rw c.deref-2.ensures.value at c.in_ok-list_not_utf8.ensures in
     accepted (enum_value c.in_ok-item.item) c.in_ok-item.span c.in_ok-leaves.leaves.items c.new-errors.result c.leaves_of.new.errors c.list_not_utf8.new.errors c.graph_of.new.errors c.in_ok-graph.field-0
-    c.new-errors.ensures given text c.in_ok-graph.ensures c.args.src.now c.in_ok-item.ensures.ok (c.is_faultless.ensures.0 c.if-not-is_faultless.false) c.in-Some.graph c.in-Some.is
+    c.new-errors.ensures given text c.in_ok-graph.ensures c.args.src.now c.in_ok-item.ensures.short c.in_ok-item.ensures.shallow c.in_ok-item.ensures.ok (c.is_faultless.ensures.0 c.if-not-is_faultless.false) c.in-Some.graph c.in-Some.is

@@ -1,7 +1,7 @@
 use Rattle.std.proofs.lemmas.Result.{err_from_is_err_and}
 use Rattle.logos_graph.specs.View.{rules_of}
 use Rattle.logos_generator.specs.LexerValue.{answers_of}
-use Rattle.logos_codegen.proofs.LexLemmas.{memory_no_refusal, are_bytes, items_of_result, order_of_result, cut_of_result, unlexed_just, unlexed_no_refusal}
+use Rattle.logos_codegen.proofs.LexLemmas.{memory_no_refusal, are_bytes, items_of_result, order_of_result, parts_of_result, cut_of_result, unlexed_just, unlexed_no_refusal}
 use Rattle.logos_codegen.proofs.lexing.lex_source.Goals as goal
 
 pub returns-in_err-generated-clause-accepted : goal.returns-in_err-generated-clause-accepted
@@ -19,6 +19,12 @@ pub returns-clause-in_order : goal.returns-clause-in_order
 returns-clause-in_order g c =
     let made = c.in_ok-generated.ensures in
     order_of_result c.args.src.now (rules_of c.in_ok-generated.generated.graph.leaves) c.in_ok-generated.generated.graph.utf8 c.in_ok-generated.generated.code made.accepted made.lexer
+    (answers_of g.C.Fn c.args.callbacks) c.args.input.now (are_bytes c.args.input.now c.type_inv.input) c.lex_input.result c.lex_input.ensures.items c.lex_input.ensures.text
+
+pub returns-clause-parts : goal.returns-clause-parts
+returns-clause-parts g c =
+    let made = c.in_ok-generated.ensures in
+    parts_of_result c.args.src.now (rules_of c.in_ok-generated.generated.graph.leaves) c.in_ok-generated.generated.graph.utf8 c.in_ok-generated.generated.code made.accepted made.lexer
     (answers_of g.C.Fn c.args.callbacks) c.args.input.now (are_bytes c.args.input.now c.type_inv.input) c.lex_input.result c.lex_input.ensures.items c.lex_input.ensures.text
 
 pub returns-clause-cut : goal.returns-clause-cut

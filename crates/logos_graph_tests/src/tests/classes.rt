@@ -1,4 +1,6 @@
-use super::*;
+use logos_graph::graph::{ByteClass, Comparisons};
+use std::alloc::{AllocError, Global};
+use std::ops::RangeInclusive;
 use std::test::Fail;
 
 fn class(alloc: Global, ranges: &[(u8, u8)]) -> Result<ByteClass, AllocError> {

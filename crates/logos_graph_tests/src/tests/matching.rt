@@ -2,8 +2,8 @@
 
 ghost use Rattle.std.specs.Prelude.{◌<◌};
 
-use super::*;
-use crate::dfa::{Dfa, Matches};
+use logos_graph::dfa::Matches;
+use logos_graph::graph::{Config, Dfa, Graph, GraphError, State, StateData};
 use logos_pattern::leaf::{Leaf, LeafId};
 use logos_pattern::pattern::{Class, Hir, Look, Pattern, Range};
 use logos_token::token::Span;
@@ -352,14 +352,14 @@ pub(super) fn found(graph: &Graph<'_>, text: &[u8]) -> Option<(LeafId, usize)> {
     }
 }
 
-const BYTES: [u8; 4] = [b'a', b'\n', 0xC3, 0xA9];
+const BYTES: [u8; 6] = [b'a', b'b', b'\n', b'\r', 0xC3, 0xA9];
 
 /// Writes the text with a number among all of five bytes.
 fn fill(text: &mut [u8; 5], number: usize) {
     let mut left = number;
     for place in 0..5 {
-        text[place] = BYTES[left % 4];
-        left /= 4;
+        text[place] = BYTES[left % 6];
+        left /= 6;
     }
 }
 
@@ -383,7 +383,7 @@ fn is_right(graph: &Graph<'_>, length: usize, count: usize) -> bool {
 
 /// The same for all lengths below a number up to 6.
 fn is_right_up_to(graph: &Graph<'_>, lengths: usize) -> bool {
-    let counts = [1, 4, 16, 64, 256, 1024];
+    let counts = [1, 6, 36, 216, 1296, 7776];
     for (length, count) in counts.iter().enumerate().take(lengths) {
         if !is_right(graph, length, *count) {
             return false;
@@ -449,12 +449,104 @@ pub(super) fn leaves_of<'s>(
     Ok(leaves)
 }
 
-/// Whether the errors come before the automaton.
-fn is_early(errors: &[GraphError]) -> bool {
-    matches!(
-        errors.first(),
-        Some(GraphError::NoUniversalStart | GraphError::EmptyMatch(_))
-    )
+/// Whether a tree can be passed without a byte.
+fn passable(hir: &Hir) -> bool {
+    match hir {
+        Hir::Empty | Hir::Look(_) => true,
+        Hir::Literal(_) | Hir::Class(_) => false,
+        Hir::Capture(sub) => passable(sub),
+        Hir::Repetition { min, sub, .. } => *min == 0 || passable(sub),
+        Hir::Concat(parts) => {
+            for part in parts {
+                if !passable(part) {
+                    return false;
+                }
+            }
+            true
+        }
+        Hir::Alternation(branches) => {
+            for branch in branches {
+                if passable(branch) {
+                    return true;
+                }
+            }
+            false
+        }
+    }
+}
+
+/// Whether a tree can meet a look before its first byte.
+fn leads(hir: &Hir) -> bool {
+    match hir {
+        Hir::Empty | Hir::Literal(_) | Hir::Class(_) => false,
+        Hir::Look(_) => true,
+        Hir::Capture(sub) => leads(sub),
+        Hir::Repetition { sub, .. } => leads(sub),
+        Hir::Concat(parts) => {
+            for part in parts {
+                if leads(part) {
+                    return true;
+                }
+                if !passable(part) {
+                    return false;
+                }
+            }
+            false
+        }
+        Hir::Alternation(branches) => {
+            for branch in branches {
+                if leads(branch) {
+                    return true;
+                }
+            }
+            false
+        }
+    }
+}
+
+/// The bits of the leaves that can be passed without a byte.
+fn passable_leaves(leaves: &[Leaf<'_>]) -> u32 {
+    let mut bits = 0;
+    for (number, leaf) in leaves.iter().enumerate() {
+        if passable(leaf.pattern.hir()) {
+            bits |= bit(number);
+        }
+    }
+    bits
+}
+
+/// The bits of the leaves that errors name as matching nothing; `None` where another error stands among them.
+fn empty_leaves(errors: &[GraphError]) -> Option<u32> {
+    let mut bits = 0;
+    for error in errors {
+        match error {
+            GraphError::EmptyMatch(leaf) => bits |= bit(leaf.0),
+            _ => return None,
+        }
+    }
+    Some(bits)
+}
+
+/// Whether the errors are those that come before the automaton, where one of them stands: a missing start alone, else each
+/// leaf that matches nothing.
+fn are_first_errors(leaves: &[Leaf<'_>], errors: &[GraphError]) -> bool {
+    if leaves.iter().any(|leaf| leads(leaf.pattern.hir())) {
+        return errors.len() == 1 && matches!(errors.first(), Some(GraphError::NoUniversalStart));
+    }
+    empty_leaves(errors) == Some(passable_leaves(leaves))
+}
+
+/// Whether there is an error that comes before the automaton.
+fn has_first_errors(leaves: &[Leaf<'_>]) -> bool {
+    leaves.iter().any(|leaf| leads(leaf.pattern.hir()) || passable(leaf.pattern.hir()))
+}
+
+/// Whether graph and automaton of some leaves are as matching by its definition says.
+fn is_as_defined(alloc: Global, graph: &Graph<'_>, lengths: usize) -> Result<bool, Fail> {
+    if has_first_errors(graph.leaves()) {
+        return Ok(are_first_errors(graph.leaves(), graph.errors()) && state_count(graph) == 0);
+    }
+    Ok(is_right_up_to(graph, lengths) && are_told(alloc, graph)?)
 }
 
 #[test]
@@ -465,11 +557,13 @@ fn generated_leaves_match_as_defined(rt: HostRuntime) -> Result<(), Fail> {
     for set in 0..300usize {
         let leaves = leaves_of(alloc, &mut random, set % 10 == 0)?;
         let graph = Graph::new(alloc, leaves, Config { utf8_mode: false })?;
-        if !is_early(graph.errors()) {
-            assert!(rt; is_right_up_to(&graph, if set % 30 == 1 { 6 } else { 4 }));
-            assert!(rt; are_told(alloc, &graph)?);
+        if !has_first_errors(graph.leaves()) {
             tried = tried.saturating_add(1);
         }
+        assert!(rt;
+            is_as_defined(alloc, &graph, if set % 30 == 1 { 5 } else { 4 })?,
+            "another graph or another error"
+        );
     }
     assert!(rt; tried > 100);
     Ok(())

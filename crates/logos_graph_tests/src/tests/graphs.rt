@@ -1,7 +1,6 @@
 // Graphs of whole patterns: their states, charts and faults, and what they list and find.
 
 use super::asking::{Ask, answers};
-use super::*;
 use std::test::Fail;
 
 #[test]

@@ -1,0 +1,8 @@
+//! Graphs, automata and classes of bytes, asked by tables and compared with plain definitions.
+
+mod asking;
+mod classes;
+mod graphs;
+mod matching;
+mod partition;
+mod states;
