@@ -31,5 +31,5 @@ static double now(void)
 /* Prints the seconds, the tokens without blanks, and the bytes that no rule matches. */
 static void report(double start, double end, unsigned long tokens, unsigned long errors)
 {
-    printf("%.3f %lu %lu\n", end - start, tokens, errors);
+    printf("%.6f %lu %lu\n", end - start, tokens, errors);
 }

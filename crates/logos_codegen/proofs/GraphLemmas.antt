@@ -1,5 +1,5 @@
 -- What the graph of the leaves lists, and what all steps list together.
-use Rattle.std.proofs.Common.{◌≡◌, ◌≢◌, ℕ, ◌<◌, ◌≤◌, ◌^◌, Bool, List, [], ◌∷◌, ◌++◌, length, map, flat_map, Option, Some, None, refl, sym, ◌∙◌, ap, inl, inr}
+use Rattle.std.proofs.Common.{◌≡◌, ◌≢◌, ℕ, ◌<◌, ◌≤◌, ◌^◌, Bool, List, [], ◌∷◌, ◌++◌, length, map, flat_map, Option, Some, None, refl, sym, subst, ◌∙◌, ap, inl, inr}
 use Rattle.std.proofs.lemmas.Bool.{cases_lt}
 use Rattle.logos_token.specs.declared.token.Span.{Span}
 use Rattle.logos_token.specs.Faults.{Fault as ListedFault}
@@ -145,7 +145,7 @@ module _ (enum : EnumValue) (item : Span) (leaves : List Leaf) (first second thi
           says = says;
           give = rw (made.leaves_are, sym definitions.0) listed.give;
           same_mode = made.mode;
-          of_leaves = rw (made.leaves_are, made.mode) made;
+          of_leaves = subst (λ (given : List Leaf). IsGraphOf given value.utf8 value) (sym made.leaves_are) (subst (λ (mode : Bool). IsGraphOf leaves mode value) (sym made.mode) made);
           faultless = faultless;
         };
         sizes = record { short = short; shallow = shallow; small = rw (made.leaves_are, ← rules_are leaves) small };

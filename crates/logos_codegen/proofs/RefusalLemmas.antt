@@ -1,17 +1,18 @@
 -- Refusals with faults that stand.
-use Rattle.std.proofs.Common.{◌≡◌, ℕ, List, [], ◌∷◌, codes, refl, ap, Result, Ok, Err, IfErr}
+use Rattle.std.proofs.Common.{◌≡◌, ℕ, ◌≤◌, List, [], ◌∷◌, codes, refl, ap, Result, Ok, Err, IfOk, IfErr}
 use Rattle.logos_token.specs.declared.token.Span.{Span}
 use Rattle.logos_token.specs.declared.error.fault_code.FaultCode.TheVariants.{NotAnEnum as NotAnEnumCode, Grammar as GrammarCode, Lexical as LexicalCode, LimitTokenNesting as LimitTokenNestingCode}
 use Rattle.logos_token.specs.declared.token.lexeme.LexicalKind.{LexicalKind}
 use Rattle.logos_token.specs.Spelling.{Spells, IsUnreadable, IsTooDeep}
 use Rattle.logos_token.specs.Faults.{Fault as ListedFault}
-use Rattle.logos_token.specs.Tokens.{TokenList, run_span}
+use Rattle.logos_token.specs.Tokens.{TokenList, run_span, depth_of}
+use Rattle.logos_token.proofs.SpellingLaws.{spells-one}
 use Rattle.logos_parser.specs.declared.parser.ReadError.{ReadError}
 use Rattle.logos_parser.specs.declared.parser.ReadError.TheVariants.{NotAnEnum, Grammar, Memory as OutOfMemory}
 use Rattle.logos_parser.specs.ReadErrors.{IfNotAnEnum, IfGrammar}
 use Rattle.logos_parser.specs.Enum.{IsAnnounced, IsMisfit}
 use Rattle.logos_codegen.specs.Texts.{fault_at}
-use Rattle.logos_codegen.specs.Source.{lexical_text, IsMisread, no_enum, misfit, EndsReading, nesting_limit, unreadable, misread, IsRefused, unread}
+use Rattle.logos_codegen.specs.Source.{lexical_text, IsMisread, no_enum, misfit, IsShallow, EndsReading, nesting_limit, unreadable, misread, IsRefused, unread}
 use Rattle.logos_codegen.specs.Refusals.{Refuses, MatchReadError}
 use Rattle.logos_codegen.specs.declared.refusal.Refusal.{Refusal}
 use Rattle.logos_codegen.specs.declared.refusal.Refusal.TheVariants.{Errors, Memory}
@@ -63,3 +64,9 @@ result_ends source tokens (Err error) s h = misread_ends source tokens error s h
 -- a fault that ends the reading is a reason to refuse
 pub ends_refuses : (source : List ℕ) (error : Refusal) → Refuses (OneEnds source) error → Refuses (IsRefused source) error
 ends_refuses source error r = refuses_by (OneEnds source) (IsRefused source) (λ faults m. unread m.1 m.2) error r
+
+-- what spells tokens that nest no deeper than the limit spells no others
+pub shallow_result : {T E : Type 0} (source : List ℕ) (tokens : TokenList) (result : Result T E) → Spells source tokens → depth_of tokens ≤ 128 →
+    IfOk result (λ read. IsShallow source)
+shallow_result source tokens (Ok value) s shallow = λ other t. rw (← spells-one source tokens other s t) shallow
+shallow_result source tokens (Err error) s shallow = tt
