@@ -96,9 +96,9 @@ join (literal text) rest = with_text text rest
 join t rest = t ∷ rest
 
 -- the parts with neighbouring literals joined
-abbrev pub joined : List Tree → List Tree
-joined [] = []
-joined (t ∷ rest) = join t (joined rest)
+abbrev pub junction : List Tree → List Tree
+junction [] = []
+junction (t ∷ rest) = join t (junction rest)
 
 -- one part is itself, none is `Empty`
 abbrev pub in_a_row : List Tree → Tree
@@ -108,7 +108,7 @@ in_a_row (t ∷ u ∷ rest) = concat (trees (t ∷ u ∷ rest))
 
 -- a concatenation: flattened, without `Empty`, neighbouring literals joined
 abbrev pub concat_of : List Tree → Tree
-concat_of parts = in_a_row (joined (flat_map parts_of parts))
+concat_of parts = in_a_row (junction (flat_map parts_of parts))
 
 -- ---- alternations
 

@@ -7,15 +7,15 @@ use Rattle.logos_hir.specs.Sets.{Set, intersection, difference, symmetric_differ
 use Rattle.logos_hir.specs.RangeSets.{set_of}
 
 -- two sets, by the operator between them
-abbrev pub combined : SetOperator → Set → Set → Set
-combined Intersection = intersection
-combined Difference = difference
-combined SymmetricDifference = symmetric_difference
+abbrev pub combination : SetOperator → Set → Set → Set
+combination Intersection = intersection
+combination Difference = difference
+combination SymmetricDifference = symmetric_difference
 
 -- the operands before, and one more; the first one has no operator, and nothing is before it
 abbrev pub with_operand : Option SetOperator → Set → Set → Set
 with_operand None before set = set
-with_operand (Some op) before set = combined op before set
+with_operand (Some op) before set = combination op before set
 
 -- what operands make of a set, from the left
 abbrev pub with_operands : List Operand → Set → Set

@@ -80,13 +80,11 @@ pub fn is_byteless(hir: &Hir) -> bool
     }
 }
 
+/// Whether the greatest count is this one.
 fn is_most(n: u32, max: Option<u32>) -> bool
     ensures { result ≡ is_most n max }
 {
-    match max {
-        Some(max) => max == n,
-        None => false,
-    }
+    max == Some(n)
 }
 
 /// A greatest count cut to at most 1.
@@ -176,6 +174,7 @@ fn push_part(parts: &mut Vec<Hir>, part: Hir) -> Result<(), AllocError>
     }
 }
 
+/// Adds parts one by one behind the others.
 fn push_parts(parts: &mut Vec<Hir>, inner: Vec<Hir>) -> Result<(), AllocError>
     ensures { OnOk result (map tree_of parts.new.items ≡ add_parts (map tree_of parts.old.items) (map tree_of inner.items)) }
 {
@@ -185,6 +184,7 @@ fn push_parts(parts: &mut Vec<Hir>, inner: Vec<Hir>) -> Result<(), AllocError>
     Ok(())
 }
 
+/// Whether the tree is a literal.
 fn is_literal(hir: &Hir) -> bool
     ensures { result ≡ is_literal_tree (tree_of hir.now) }
 {
@@ -260,6 +260,7 @@ fn sole_char(alloc: Global, bytes: &[u8]) -> Result<Option<char>, AllocError>
     }
 }
 
+/// The characters of a text.
 fn characters(alloc: Global, text: &str) -> Result<Vec<char>, AllocError>
     ensures { IfOk result (λ v. v.items ≡ chars text.now) }
 {

@@ -7,7 +7,8 @@ ghost use Rattle.logos_hir.specs.Hir.{pairs};
 ghost use Rattle.logos_hir.specs.Sets.{in_range, in_ranges};
 ghost use Rattle.logos_hir.specs.RangeSets.{set_of};
 ghost use Rattle.logos_hir.specs.Fold.{fold_case, fold_ascii};
-ghost use Rattle.logos_hir.specs.inside.FoldSteps.{in_values, in_image, moved};
+ghost use Rattle.logos_hir.specs.inside.SetSteps.{Adds};
+ghost use Rattle.logos_hir.specs.inside.FoldSteps.{in_values, in_image, shift};
 
 use crate::hir::Range;
 use crate::sets::RangeSet;
@@ -25,7 +26,7 @@ fn within(table: &[(u32, u32)], range: Range) -> &[(u32, u32)]
 
 /// Adds what the pairs end with.
 fn push_values(out: &mut Vec<Range>, table: &[(u32, u32)]) -> Result<(), AllocError>
-    ensures { OnOk result ((c : ℕ) → in_ranges (pairs out.new.items) c ≡ (in_ranges (pairs out.old.items) c || in_values table.now c)) }
+    ensures { OnOk result (Adds (pairs out.old.items) (pairs out.new.items) (in_values table.now)) }
 {
     for (_, value) in table {
         out.push(Range {
@@ -38,7 +39,7 @@ fn push_values(out: &mut Vec<Range>, table: &[(u32, u32)]) -> Result<(), AllocEr
 
 /// Adds the other characters that share a simple folding with one in the ranges.
 fn push_folds(out: &mut Vec<Range>, ranges: &[Range]) -> Result<(), AllocError>
-    ensures { OnOk result ((c : ℕ) → in_ranges (pairs out.new.items) c ≡ (in_ranges (pairs out.old.items) c || in_image fold_pairs (in_ranges (pairs ranges.now)) c)) }
+    ensures { OnOk result (Adds (pairs out.old.items) (pairs out.new.items) (in_image fold_pairs (in_ranges (pairs ranges.now)))) }
 {
     let table = case::fold_pairs();
     for range in ranges {
@@ -57,7 +58,7 @@ pub fn fold_case(alloc: Global, set: &RangeSet) -> Result<RangeSet, AllocError>
 }
 
 /// Adds the numbers of the range from `first` to `last`, moved so that `first` becomes `to`.
-fn push_moved(
+fn push_shift(
     out: &mut Vec<Range>,
     range: Range,
     first: u32,
@@ -66,7 +67,8 @@ fn push_moved(
 ) -> Result<(), AllocError>
     requires order { first ≤ last }
     requires small { last + to < 2 ^ 32 }
-    ensures { OnOk result ((c : ℕ) → in_ranges (pairs out.new.items) c ≡ (in_ranges (pairs out.old.items) c || moved first last to (in_range (range.first, range.last)) c)) }
+    ensures { OnOk result ((c : ℕ) → in_ranges (pairs out.new.items) c ≡
+        (in_ranges (pairs out.old.items) c || shift first last to (in_range (range.first, range.last)) c)) }
 {
     let start = range.first.max(first);
     let end = range.last.min(last);
@@ -82,12 +84,12 @@ fn push_moved(
 
 /// Adds the other case of each ASCII letter in the ranges.
 fn push_cases(out: &mut Vec<Range>, ranges: &[Range]) -> Result<(), AllocError>
-    ensures { OnOk result ((c : ℕ) → in_ranges (pairs out.new.items) c ≡
-        (in_ranges (pairs out.old.items) c || (moved 65 90 97 (in_ranges (pairs ranges.now)) c || moved 97 122 65 (in_ranges (pairs ranges.now)) c))) }
+    ensures { OnOk result (Adds (pairs out.old.items) (pairs out.new.items) (λ c.
+        shift 65 90 97 (in_ranges (pairs ranges.now)) c || shift 97 122 65 (in_ranges (pairs ranges.now)) c)) }
 {
     for range in ranges {
-        push_moved(out, *range, 65, 90, 97)?;
-        push_moved(out, *range, 97, 122, 65)?;
+        push_shift(out, *range, 65, 90, 97)?;
+        push_shift(out, *range, 97, 122, 65)?;
     }
     Ok(())
 }

@@ -12,6 +12,7 @@ ghost use Rattle.logos_hir.specs.Measure.{fitted, is_same, is_text, all_text, is
 use crate::hir::{Class, Hir, Range};
 use crate::sets::LAST_CHAR;
 
+/// The number of characters of a text.
 fn char_count(text: &str) -> usize
     ensures { result ≡ length (chars text.now) }
 {
@@ -30,6 +31,7 @@ fn text_size(bytes: &[u8]) -> usize
 
 // Below, `None` stands for a number that passes `usize`.
 
+/// A value so many times.
 fn times(count: u32, value: Option<usize>) -> Option<usize>
     ensures { (n : ℕ) → value ≡ fitted n → result ≡ fitted (count * n) }
 {
@@ -39,12 +41,14 @@ fn times(count: u32, value: Option<usize>) -> Option<usize>
     (count as usize).checked_mul(value?)
 }
 
+/// The sum of two values.
 fn plus(a: Option<usize>, b: Option<usize>) -> Option<usize>
     ensures { (m n : ℕ) → a ≡ fitted m → b ≡ fitted n → result ≡ fitted (m + n) }
 {
     a?.checked_add(b?)
 }
 
+/// The least of two values.
 fn least(a: Option<usize>, b: Option<usize>) -> Option<usize>
     ensures { (m n : ℕ) → a ≡ fitted m → b ≡ fitted n → result ≡ fitted (min m n) }
 {
@@ -71,6 +75,7 @@ pub fn priority(hir: &Hir) -> Option<usize>
     }
 }
 
+/// The priority of a concatenation.
 #[cycle(priority)]
 fn sum_of_priorities(parts: &[Hir]) -> Option<usize>
     ensures { result ≡ fitted (sum_of_values (trees (map tree_of parts.now))) }
@@ -82,6 +87,7 @@ fn sum_of_priorities(parts: &[Hir]) -> Option<usize>
     sum
 }
 
+/// The priority of an alternation.
 #[cycle(priority)]
 fn least_priority(branches: &[Hir]) -> Option<usize>
     ensures { result ≡ fitted (least_value (trees (map tree_of branches.now))) }
@@ -116,6 +122,7 @@ pub fn is_utf8(hir: &Hir) -> bool
     }
 }
 
+/// Whether the bytes are UTF-8.
 fn are_utf8(bytes: &[u8]) -> bool
     ensures { result ≡ is_utf8 bytes.now }
 {
@@ -125,6 +132,7 @@ fn are_utf8(bytes: &[u8]) -> bool
     }
 }
 
+/// Whether all numbers in the ranges are ASCII.
 fn are_ascii(ranges: &[Range]) -> bool
     ensures { result ≡ list_all (λ r. nat_lt r.1 128) (pairs ranges.now) }
 {
@@ -136,6 +144,7 @@ fn are_ascii(ranges: &[Range]) -> bool
     true
 }
 
+/// Whether the ranges are the same.
 fn same(a: &[Range], b: &[Range]) -> bool
     ensures { result ≡ pointwise is_same (pairs a.now) (pairs b.now) }
 {
@@ -152,6 +161,7 @@ fn is_all(last: u32, ranges: &[Range]) -> bool
     same(ranges, &all) | same(ranges, &but_lf) | same(ranges, &but_line_ends)
 }
 
+/// Whether the tree is a class that a dot can stand for.
 fn is_dot(hir: &Hir) -> bool
     ensures { result ≡ is_dot (tree_of hir.now) }
 {

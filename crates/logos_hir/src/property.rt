@@ -41,6 +41,7 @@ pub enum PerlKind {
     Word,
 }
 
+/// The first and the last member of each run of an ASCII class.
 #[tactic(auto, using(std::proofs::lemmas::Bool::Decides::nat_tests))]
 fn ascii_runs(kind: AsciiKind) -> &'static [(u32, u32)]
     ensures { (c : ℕ) → in_ranges result.now c ≡ ascii_set kind c }
@@ -173,6 +174,7 @@ pub fn property_named(alloc: Global, name: &[char]) -> Result<Option<Set>, Alloc
     Ok(property_normalized(&name))
 }
 
+/// The set of a property by its normalized name.
 fn property_normalized(name: &[u8]) -> Option<Set>
     ensures { result ≡ property_normalized name.now }
 {

@@ -5,7 +5,7 @@ ghost use Rattle.std.specs.List.Sorted.{IsNonDecreasingBy};
 ghost use lib.Utf8.{scalar};
 ghost use Rattle.logos_hir.specs.Hir.{pairs};
 ghost use Rattle.logos_hir.specs.Sets.{AreCanonical, in_range, in_ranges, is_range, next};
-ghost use Rattle.logos_hir.specs.inside.SetSteps.{IsPlace, AreRanges, free_from, in_gap};
+ghost use Rattle.logos_hir.specs.inside.SetSteps.{IsPlace, AreRanges, free_from, in_gap, AddsCharacters, HasCharacters};
 
 use crate::hir::Range;
 use std::alloc::{AllocError, Global};
@@ -49,7 +49,7 @@ fn push_gap(out: &mut Vec<Range>, first: u32, end: u32, last: u32) -> Result<(),
     requires free { free_from 0 (pairs out.old.items) ≤ first }
     ensures canonical { OnOk result (AreCanonical (pairs out.new.items)) }
     ensures free { (n : ℕ) → first ≤ n → end < n → OnOk result (free_from 0 (pairs out.new.items) ≤ n) }
-    ensures members { OnOk result ((c : ℕ) → scalar c ≡ true → in_ranges (pairs out.new.items) c ≡ (in_ranges (pairs out.old.items) c || in_gap first end last c)) }
+    ensures members { OnOk result (AddsCharacters (pairs out.old.items) (pairs out.new.items) (in_gap first end last)) }
 {
     if first >= end {
         return Ok(());
@@ -68,7 +68,7 @@ fn gaps(alloc: Global, ranges: &[Range], last: u32) -> Result<Vec<Range>, AllocE
     requires sorted { IsNonDecreasingBy (λ r. r.first) ranges.now }
     requires last { scalar last ≡ true }
     ensures canonical { IfOk result (λ out. AreCanonical (pairs out.items)) }
-    ensures members { IfOk result (λ out. (c : ℕ) → scalar c ≡ true → in_ranges (pairs out.items) c ≡ (nat_le c last && not (in_ranges (pairs ranges.now) c))) }
+    ensures members { IfOk result (λ out. HasCharacters (pairs out.items) (λ c. nat_le c last && not (in_ranges (pairs ranges.now) c))) }
 {
     let mut out = Vec::new(alloc);
     let mut first = 0;
@@ -108,7 +108,8 @@ fn last_char(c: u32) -> u32
 fn push_chars(out: &mut Vec<Range>, range: Range) -> Result<(), AllocError>
     requires { AreRanges (pairs out.old.items) }
     ensures ranges { OnOk result (AreRanges (pairs out.new.items)) }
-    ensures members { OnOk result ((c : ℕ) → scalar c ≡ true → in_ranges (pairs out.new.items) c ≡ (in_ranges (pairs out.old.items) c || in_range (range.first, range.last) c)) }
+    ensures members { OnOk result ((c : ℕ) → scalar c ≡ true →
+        in_ranges (pairs out.new.items) c ≡ (in_ranges (pairs out.old.items) c || in_range (range.first, range.last) c)) }
 {
     let first = first_char(range.first);
     let last = last_char(range.last);
@@ -122,7 +123,7 @@ fn push_chars(out: &mut Vec<Range>, range: Range) -> Result<(), AllocError>
 /// The ranges cut to characters, where they have some.
 fn chars_of(alloc: Global, ranges: &[Range]) -> Result<Vec<Range>, AllocError>
     ensures ranges { IfOk result (λ out. AreRanges (pairs out.items)) }
-    ensures members { IfOk result (λ out. (c : ℕ) → scalar c ≡ true → in_ranges (pairs out.items) c ≡ in_ranges (pairs ranges.now) c) }
+    ensures members { IfOk result (λ out. HasCharacters (pairs out.items) (in_ranges (pairs ranges.now))) }
 {
     let mut out = Vec::new(alloc);
     for range in ranges {

@@ -48,12 +48,17 @@ impl<'s> Pattern<'s> {
         ignore_case: bool,
     ) -> Result<Pattern<'s>, PatternError>
         // What is read is spelled so.
-        ensures found { IfOk result (λ p. IsFound (first_flags unicode ignore_case) (chars regex.now) (tree_of p.hir)) }
+        ensures found { IfOk result (λ p. IsFound (first_flags unicode ignore_case)
+            (chars regex.now) (tree_of p.hir)) }
         // What is refused has no tree, or only one that is nested too deep, or memory ran out.
-        ensures refused { IfErr result (Refuses (first_flags unicode ignore_case) (chars regex.now)) }
+        ensures refused { IfErr result (Refuses (first_flags unicode ignore_case)
+            (chars regex.now)) }
         // What has a tree within the limit is read.
-        ensures complete { (depth : ℕ) → depth ≤ 250 → IsSpelled (first_flags unicode ignore_case) (chars regex.now) depth → IfErr result (λ e. e ≡ errors.Memory) }
-        ensures kept { IfOk result (λ p. (p.is_literal ≡ is_literal) × (p.source.now ≡ source.now)) }
+        ensures complete { (depth : ℕ) → depth ≤ 250 →
+            IsSpelled (first_flags unicode ignore_case) (chars regex.now) depth →
+            IfErr result (λ e. e ≡ errors.Memory) }
+        ensures kept { IfOk result (λ p. (p.is_literal ≡ is_literal) ×
+            (p.source.now ≡ source.now)) }
     {
         let flags = Flags {
             unicode,
@@ -77,8 +82,10 @@ impl<'s> Pattern<'s> {
     /// The pattern of a `token`: it matches the bytes that the literal holds, and nothing else.
     /// It fails only where there is no memory.
     pub fn compile_lit(alloc: Global, literal: &Literal<'s>) -> Result<Pattern<'s>, Memory>
-        ensures tree { IfOk result (λ pattern. pattern_tree pattern ≡ literal_tree (held_bytes literal.now)) }
-        ensures source { IfOk result (λ pattern. source_of pattern ≡ (token_of literal.now).text.now) }
+        ensures tree { IfOk result (λ pattern. pattern_tree pattern ≡
+            literal_tree (held_bytes literal.now)) }
+        ensures source { IfOk result (λ pattern. source_of pattern ≡
+            (token_of literal.now).text.now) }
         ensures literal { IfOk result (λ pattern. IsTrue (is_token pattern)) }
     {
         let hir = literal_hir(alloc, literal.value())?;

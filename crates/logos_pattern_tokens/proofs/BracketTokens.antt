@@ -21,7 +21,7 @@ use Rattle.logos_pattern_tokens.specs.Token.{Text, ◌>>=◌, cut_at}
 use Rattle.logos_pattern_tokens.specs.Escapes.{begins, escape_at}
 use Rattle.logos_pattern_tokens.specs.Spelling.{NotBegins, Lacks, Escapes}
 use Rattle.logos_pattern_tokens.specs.bracket.Spelling.{code_of, Symbols, plain, escaped, escaped_byte, operator_letter, begins_operator, begins_item, begins_range, class_text, IsClass, NoClass, Leads, dashes, one_bracket, Opens, positive, negative, BracketTakes, closes, operator, class, opens, one, range, perl, property as property_item}
-use Rattle.logos_pattern_tokens.specs.bracket.Reader.{symbol_of, last_at, ordered, ranged_at, lone_at, escaped_item, item_at, dashes_from, lead_at, open_at, class_end, name_end, colon_at, class_at, inner_at, operator_of, bracket_token_at}
+use Rattle.logos_pattern_tokens.specs.bracket.Reader.{symbol_of, last_at, range_token, range_at, lone_at, escape_item, item_at, dashes_from, lead_at, open_at, class_end, name_end, colon_at, class_at, inner_at, operator_of, bracket_token_at}
 use Rattle.logos_pattern_tokens.proofs.Picks.{IsTaken, pick, pick_is, bind_taken, map_taken, apart, cut_found, cut_there}
 use Rattle.logos_pattern_tokens.proofs.EscapeLemmas.{escape_taken, escape_is}
 
@@ -154,15 +154,15 @@ last_taken (c ∷ rest) =
     (λ e. plain c rest (eqb-false c 92 e))
 
 -- a symbol at the front of an item
-ranged_taken : (a : Symbol) (text rest : Text) → begins_item text ≡ true → Symbols a text rest → IsTaken BracketTakes text (ranged_at a rest)
-unfolding ranged_at ordered
-ranged_taken a text rest item s = pick BracketTakes text (begins_range rest) (last_at (drop 1 rest) >>= ordered a) (Some (tokens.Item (items.One a), rest)) (λ e. in_range rest e s) (λ e. one a text rest item s e)
+ranged_taken : (a : Symbol) (text rest : Text) → begins_item text ≡ true → Symbols a text rest → IsTaken BracketTakes text (range_at a rest)
+unfolding range_at range_token
+ranged_taken a text rest item s = pick BracketTakes text (begins_range rest) (last_at (drop 1 rest) >>= range_token a) (Some (tokens.Item (items.One a), rest)) (λ e. in_range rest e s) (λ e. one a text rest item s e)
   where
-    ends : (after : Text) → begins_range (45 ∷ after) ≡ true → Symbols a text (45 ∷ after) → (o : Option (Symbol × Text)) → IsTaken Symbols after o → IsTaken BracketTakes text (o >>= ordered a)
+    ends : (after : Text) → begins_range (45 ∷ after) ≡ true → Symbols a text (45 ∷ after) → (o : Option (Symbol × Text)) → IsTaken Symbols after o → IsTaken BracketTakes text (o >>= range_token a)
     ends after e k None h = tt
     ends after e k (Some x) h = pick BracketTakes text (leb (code_of a) (code_of x.0)) (Some (tokens.Item (items.Range a x.0), x.1)) None (λ le. range a x.0 text after x.1 item k e h (leb-true _ _ le)) (λ _. tt)
 
-    in_range : (rest : Text) → begins_range rest ≡ true → Symbols a text rest → IsTaken BracketTakes text (last_at (drop 1 rest) >>= ordered a)
+    in_range : (rest : Text) → begins_range rest ≡ true → Symbols a text rest → IsTaken BracketTakes text (last_at (drop 1 rest) >>= range_token a)
     in_range [] e k = absurd cc
     in_range (c ∷ []) e k = absurd cc
     in_range (c ∷ d ∷ tail) e k =
@@ -186,8 +186,8 @@ begins_escape (c ∷ t) = from (eqb 92 c)
     from true = refl
     from false = refl
 
-escaped_item_taken : (a : Atom) (text rest : Text) → Escapes a text rest → IsTaken BracketTakes (92 ∷ text) (escaped_item a rest)
-unfolding escaped_item
+escaped_item_taken : (a : Atom) (text rest : Text) → Escapes a text rest → IsTaken BracketTakes (92 ∷ text) (escape_item a rest)
+unfolding escape_item
 escaped_item_taken (atoms.Character c) text rest h = ranged_taken (Character c) (92 ∷ text) rest (begins_escape text) (escaped c text rest h)
 escaped_item_taken (atoms.Byte b) text rest h = ranged_taken (Byte b) (92 ∷ text) rest (begins_escape text) (escaped_byte b text rest h)
 escaped_item_taken atoms.Dot text rest h = tt
@@ -203,9 +203,9 @@ item_taken : (t : Text) → begins_item t ≡ true → IsTaken BracketTakes t (i
 unfolding item_at
 item_taken [] e = tt
 item_taken (c ∷ rest) item =
-    pick BracketTakes (c ∷ rest) (eqb c 92) (escape_at rest >>= (λ x. escaped_item x.0 x.1)) (ranged_at (Character c) rest)
-    (λ e. subst (λ k. IsTaken BracketTakes (k ∷ rest) (escape_at rest >>= (λ x. escaped_item x.0 x.1))) (sym (eqb-true c 92 e))
-    (bound_escape BracketTakes rest (92 ∷ rest) (λ x. escaped_item x.0 x.1) (λ a after h. escaped_item_taken a rest after h)))
+    pick BracketTakes (c ∷ rest) (eqb c 92) (escape_at rest >>= (λ x. escape_item x.0 x.1)) (range_at (Character c) rest)
+    (λ e. subst (λ k. IsTaken BracketTakes (k ∷ rest) (escape_at rest >>= (λ x. escape_item x.0 x.1))) (sym (eqb-true c 92 e))
+    (bound_escape BracketTakes rest (92 ∷ rest) (λ x. escape_item x.0 x.1) (λ a after h. escaped_item_taken a rest after h)))
     (λ e. ranged_taken (Character c) (c ∷ rest) rest item (plain c rest (eqb-false c 92 e)))
 
 -- ---- classes of ASCII characters
@@ -354,44 +354,44 @@ symbol_is s text rest (escaped c inner tail e) = escaped_last inner ∙ ap (λ (
 symbol_is s text rest (escaped_byte b inner tail e) = escaped_last inner ∙ ap (λ (x : Option (Atom × Text)). x >>= (λ y. option_map (λ r. (r, y.1)) (symbol_of y.0))) (escape_is (atoms.Byte b) inner tail e)
 
 -- an item by its first symbol
-plain_item : (c : ℕ) (rest : Text) → c ≢ 92 → item_at (c ∷ rest) ≡ ranged_at (Character c) rest
+plain_item : (c : ℕ) (rest : Text) → c ≢ 92 → item_at (c ∷ rest) ≡ range_at (Character c) rest
 unfolding item_at
 plain_item c rest ne = let e : eqb c 92 ≡ false = ne_eqb c 92 ne in rw e refl
 
-escaped_front : (t : Text) → item_at (92 ∷ t) ≡ (escape_at t >>= (λ x. escaped_item x.0 x.1))
+escaped_front : (t : Text) → item_at (92 ∷ t) ≡ (escape_at t >>= (λ x. escape_item x.0 x.1))
 unfolding item_at
 escaped_front t = refl
 
-character_item : (c : ℕ) (rest : Text) → escaped_item (atoms.Character c) rest ≡ ranged_at (Character c) rest
-unfolding escaped_item
+character_item : (c : ℕ) (rest : Text) → escape_item (atoms.Character c) rest ≡ range_at (Character c) rest
+unfolding escape_item
 character_item c rest = refl
 
-byte_item : (b : ℕ) (rest : Text) → escaped_item (atoms.Byte b) rest ≡ ranged_at (Byte b) rest
-unfolding escaped_item
+byte_item : (b : ℕ) (rest : Text) → escape_item (atoms.Byte b) rest ≡ range_at (Byte b) rest
+unfolding escape_item
 byte_item b rest = refl
 
-perl_item : (kind : PerlKind) (negated : Bool) (rest : Text) → escaped_item (atoms.Perl kind negated) rest ≡ lone_at (items.Perl kind negated) rest
-unfolding escaped_item
+perl_item : (kind : PerlKind) (negated : Bool) (rest : Text) → escape_item (atoms.Perl kind negated) rest ≡ lone_at (items.Perl kind negated) rest
+unfolding escape_item
 perl_item kind negated rest = refl
 
-set_item : (set : Set) (negated : Bool) (rest : Text) → escaped_item (atoms.Property set negated) rest ≡ lone_at (items.Property set negated) rest
-unfolding escaped_item
+set_item : (set : Set) (negated : Bool) (rest : Text) → escape_item (atoms.Property set negated) rest ≡ lone_at (items.Property set negated) rest
+unfolding escape_item
 set_item set negated rest = refl
 
-by_escape : (a : Atom) (text rest : Text) → Escapes a text rest → item_at (92 ∷ text) ≡ escaped_item a rest
-by_escape a text rest e = escaped_front text ∙ ap (λ (x : Option (Atom × Text)). x >>= (λ y. escaped_item y.0 y.1)) (escape_is a text rest e)
+by_escape : (a : Atom) (text rest : Text) → Escapes a text rest → item_at (92 ∷ text) ≡ escape_item a rest
+by_escape a text rest e = escaped_front text ∙ ap (λ (x : Option (Atom × Text)). x >>= (λ y. escape_item y.0 y.1)) (escape_is a text rest e)
 
-item_is : (s : Symbol) (text rest : Text) → Symbols s text rest → item_at text ≡ ranged_at s rest
+item_is : (s : Symbol) (text rest : Text) → Symbols s text rest → item_at text ≡ range_at s rest
 item_is s text rest (plain c tail ne) = plain_item c tail ne
 item_is s text rest (escaped c inner tail e) = by_escape (atoms.Character c) inner tail e ∙ character_item c tail
 item_is s text rest (escaped_byte b inner tail e) = by_escape (atoms.Byte b) inner tail e ∙ byte_item b tail
 
-one_is : (s : Symbol) (rest : Text) → begins_range rest ≡ false → ranged_at s rest ≡ Some (tokens.Item (items.One s), rest)
-unfolding ranged_at
+one_is : (s : Symbol) (rest : Text) → begins_range rest ≡ false → range_at s rest ≡ Some (tokens.Item (items.One s), rest)
+unfolding range_at
 one_is s rest e = rw e refl
 
-range_is : (a b : Symbol) (after rest : Text) → begins_range (45 ∷ after) ≡ true → Symbols b after rest → code_of a ≤ code_of b → ranged_at a (45 ∷ after) ≡ Some (tokens.Item (items.Range a b), rest)
-unfolding ranged_at ordered
+range_is : (a b : Symbol) (after rest : Text) → begins_range (45 ∷ after) ≡ true → Symbols b after rest → code_of a ≤ code_of b → range_at a (45 ∷ after) ≡ Some (tokens.Item (items.Range a b), rest)
+unfolding range_at range_token
 range_is a b after rest e s le =
     let in_order : leb (code_of a) (code_of b) ≡ true = le-leb _ _ le in
     rw (e, symbol_is b after rest s, in_order) refl

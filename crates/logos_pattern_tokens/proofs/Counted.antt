@@ -1,7 +1,7 @@
 -- Operators: what is read is written there, and what is written is read.
 use Rattle.std.proofs.Common.{◌≡◌, ℕ, ◌+◌, ◌*◌, ◌-◌, ◌<◌, ◌≤◌, Bool, true, false, cond, eqb, ltb, leb, [], ◌∷◌, ◌++◌, length, Option, Some, None, refl, sym, ap, subst, ◌∙◌, arith, append_assoc, length-append, IfSome, leb-true, le-leb, ne_eqb}
 use Rattle.std.proofs.lemmas.Bool.{eqb-true, eqb-false, ltb-true, lt-ltb, cond-true}
-use Rattle.logos_pattern_tokens.specs.Token.{Text, Token, repeats, is_digit, lazy_at, number_from, fits, number_at, counted_at, ordered_at, most_at, bounds_at, count_at}
+use Rattle.logos_pattern_tokens.specs.Token.{Text, Token, repeats, is_digit, lazy_at, number_from, fits, number_at, count_end, order_at, most_at, bounds_at, count_at}
 use Rattle.logos_pattern_tokens.specs.Spelling.{AreDigits, value_from, Writes, Counts, star, plus, question, exactly, at_least, between, NotBegins, Takes, greedy, lazy}
 use Rattle.logos_pattern_tokens.proofs.Picks.{IsTaken, pick, pick_is, bind_taken, outside}
 
@@ -67,8 +67,8 @@ lazy_taken s least most k (c ∷ rest) = from (eqb c 63) refl
     from true e = subst (λ x. Takes (repeats (record { least = least; most = most; lazy = true })) (s ++ x ∷ rest) rest) (sym (eqb-true c 63 e)) (lazy s rest least most k)
     from false e = greedy s (c ∷ rest) least most k (eqb-false c 63 e)
 
-counted_taken : (front : Text) (least : ℕ) (most : Option ℕ) → Counts (front ++ 125 ∷ []) least most → (t : Text) → IsTaken Takes (front ++ t) (counted_at least most t)
-unfolding counted_at
+counted_taken : (front : Text) (least : ℕ) (most : Option ℕ) → Counts (front ++ 125 ∷ []) least most → (t : Text) → IsTaken Takes (front ++ t) (count_end least most t)
+unfolding count_end
 counted_taken front least most k [] = tt
 counted_taken front least most k (c ∷ rest) =
     pick_is Takes c 125 (λ x. front ++ x ∷ rest) (Some (lazy_at least most rest)) None
@@ -76,22 +76,22 @@ counted_taken front least most k (c ∷ rest) =
     tt
 
 most_taken : (ds : Text) (n : ℕ) → Writes ds n → (t : Text) → IsTaken Takes ((123 ∷ ds) ++ 44 ∷ t) (most_at n t)
-unfolding most_at ordered_at
+unfolding most_at order_at
 most_taken ds n w [] = tt
 most_taken ds n w (c ∷ rest) =
     pick_is Takes c 125 (λ x. (123 ∷ ds) ++ 44 ∷ x ∷ rest) (Some (lazy_at n None rest)) _
     (subst (λ x. Takes (lazy_at n None rest).0 x (lazy_at n None rest).1) (append_assoc (123 ∷ ds) (44 ∷ 125 ∷ []) rest) (lazy_taken ((123 ∷ ds) ++ 44 ∷ 125 ∷ []) n None (at_least ds n w) rest))
-    (bind_taken Takes _ (number_at (c ∷ rest)) (ordered_at n) _ (number_taken (c ∷ rest)) (λ x h.
+    (bind_taken Takes _ (number_at (c ∷ rest)) (order_at n) _ (number_taken (c ∷ rest)) (λ x h.
     let front : Text = (123 ∷ ds) ++ 44 ∷ h.0 in
     let e : (123 ∷ ds) ++ 44 ∷ c ∷ rest ≡ front ++ x.1 = ap (λ (y : Text). (123 ∷ ds) ++ 44 ∷ y) h.1 ∙ sym (append_assoc (123 ∷ ds) (44 ∷ h.0) x.1) in
-    subst (λ y. IsTaken Takes y (ordered_at n x)) (sym e)
-    (pick Takes (front ++ x.1) (leb n x.0) (counted_at n (Some x.0) x.1) None (λ le. counted_taken front n (Some x.0) (between ds h.0 n x.0 w h.2 (leb-true _ _ le)) x.1) (λ _. tt))))
+    subst (λ y. IsTaken Takes y (order_at n x)) (sym e)
+    (pick Takes (front ++ x.1) (leb n x.0) (count_end n (Some x.0) x.1) None (λ le. counted_taken front n (Some x.0) (between ds h.0 n x.0 w h.2 (leb-true _ _ le)) x.1) (λ _. tt))))
 
 bounds_taken : (ds : Text) (n : ℕ) → Writes ds n → (t : Text) → IsTaken Takes ((123 ∷ ds) ++ t) (bounds_at n t)
 unfolding bounds_at
 bounds_taken ds n w [] = tt
 bounds_taken ds n w (c ∷ rest) =
-    pick_is Takes c 44 (λ x. (123 ∷ ds) ++ x ∷ rest) (most_at n rest) (counted_at n (Some n) (c ∷ rest)) (most_taken ds n w rest) (counted_taken (123 ∷ ds) n (Some n) (exactly ds n w) (c ∷ rest))
+    pick_is Takes c 44 (λ x. (123 ∷ ds) ++ x ∷ rest) (most_at n rest) (count_end n (Some n) (c ∷ rest)) (most_taken ds n w rest) (counted_taken (123 ∷ ds) n (Some n) (exactly ds n w) (c ∷ rest))
 
 pub count_taken : (t : Text) → IsTaken Takes (123 ∷ t) (count_at t)
 unfolding count_at
@@ -125,7 +125,7 @@ number_is (d ∷ ds) n rest w ends =
     ∙ fitting n rest w.fits
 
 most_is : (ds : Text) (n m : ℕ) (rest : Text) → Writes ds m → n ≤ m → most_at n (ds ++ 125 ∷ rest) ≡ Some (lazy_at n (Some m) rest)
-unfolding most_at ordered_at counted_at
+unfolding most_at order_at count_end
 most_is [] n m rest w le = absurd (let h = w.some_digit in omega arith)
 most_is (d ∷ ds) n m rest w le =
     let other : eqb d 125 ≡ false = outside is_digit d 125 w.digits_only.0 refl in
@@ -133,7 +133,7 @@ most_is (d ∷ ds) n m rest w le =
     rw (other, number_is (d ∷ ds) m (125 ∷ rest) w refl, ordered) refl
 
 count_exactly : (n : ℕ) (rest : Text) → bounds_at n (125 ∷ rest) ≡ Some (lazy_at n (Some n) rest)
-unfolding bounds_at counted_at
+unfolding bounds_at count_end
 count_exactly n rest = refl
 
 count_at_least : (n : ℕ) (rest : Text) → bounds_at n (44 ∷ 125 ∷ rest) ≡ Some (lazy_at n None rest)

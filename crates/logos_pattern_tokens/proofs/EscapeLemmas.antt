@@ -6,15 +6,15 @@ use Rattle.unicode.specs.declared.sets.Set.{Set}
 use Rattle.logos_pattern_tokens.specs.declared.token.Atom.{Atom}
 use Rattle.logos_pattern_tokens.specs.declared.token.Atom.TheVariants.{Character, Byte, Boundary, Property}
 use Rattle.logos_pattern_tokens.specs.Token.{Text, ◌>>=◌, is_among, hex_digit, hex_from, scalar_of, only_scalar, cut_at}
-use Rattle.logos_pattern_tokens.specs.Escapes.{single_of, formed_property, property_of, property_at, braced_at, fixed_at, byte_at, hex_at, boundary_at, single_at, escape_at}
+use Rattle.logos_pattern_tokens.specs.Escapes.{single_of, plain_property, property_of, property_at, braces_at, fixed_at, byte_at, hex_at, boundary_at, single_at, escape_at}
 use Rattle.logos_pattern_tokens.specs.Spelling.{NotBegins, Lacks, property_letter, Escapes, single, two_digits, four_digits, eight_digits, any_digits, boundary, property, named_property}
 use Rattle.logos_pattern_tokens.proofs.Picks.{IsTaken, pick, pick_is, bind_taken, map_taken, apart, cut_found, cut_there}
 
 -- ---- what is read is written there
 
-property_of_taken : (text : Text) (negated : Bool) (name rest : Text) → ((set : Set) → formed_property name ≡ Some set → Escapes (Property set negated) text rest) → IsTaken Escapes text (property_of negated name rest)
+property_of_taken : (text : Text) (negated : Bool) (name rest : Text) → ((set : Set) → plain_property name ≡ Some set → Escapes (Property set negated) text rest) → IsTaken Escapes text (property_of negated name rest)
 unfolding property_of
-property_of_taken text negated name rest h = map_taken Escapes text (formed_property name) (λ set. (Property set negated, rest)) h
+property_of_taken text negated name rest h = map_taken Escapes text (plain_property name) (λ set. (Property set negated, rest)) h
 
 property_taken : (negated : Bool) (t : Text) → IsTaken Escapes (property_letter negated ∷ t) (property_at negated t)
 unfolding property_at
@@ -26,8 +26,8 @@ property_taken negated (c ∷ rest) =
     subst (λ y. Escapes (Property set negated) (property_letter negated ∷ y) x.1) (ap (λ k. k ∷ x.0 ++ 125 ∷ x.1) (sym (eqb-true c 123 e)) ∙ ap (λ (y : Text). c ∷ y) (sym h.1)) (named_property negated x.0 x.1 set h.0 is))))
     (λ e. property_of_taken _ negated (c ∷ []) rest (λ set is. property negated c rest set (eqb-false c 123 e) is))
 
-braced_taken : (letter : ℕ) → is_among letter (120 ∷ 117 ∷ 85 ∷ []) ≡ true → (t : Text) → IsTaken Escapes (letter ∷ 123 ∷ t) (braced_at t)
-unfolding braced_at
+braced_taken : (letter : ℕ) → is_among letter (120 ∷ 117 ∷ 85 ∷ []) ≡ true → (t : Text) → IsTaken Escapes (letter ∷ 123 ∷ t) (braces_at t)
+unfolding braces_at
 braced_taken letter among t =
     bind_taken Escapes _ (cut_at 125 t) (λ x. cond (eqb (length x.0) 0) None (option_map (λ n. (Character n, x.1)) (scalar_of x.0))) _ (cut_found 125 t) (λ x h.
     pick Escapes _ (eqb (length x.0) 0) None (option_map (λ n. (Character n, x.1)) (scalar_of x.0)) (λ _. tt)
@@ -71,7 +71,7 @@ hex_taken : (letter : ℕ) → is_among letter (120 ∷ 117 ∷ 85 ∷ []) ≡ t
 unfolding hex_at
 hex_taken letter among [] = tt
 hex_taken letter among (c ∷ rest) =
-    pick_is Escapes c 123 (λ x. letter ∷ x ∷ rest) (braced_at rest) _ (braced_taken letter among rest)
+    pick_is Escapes c 123 (λ x. letter ∷ x ∷ rest) (braces_at rest) _ (braced_taken letter among rest)
     (let P : ℕ → Type 0 = λ k. IsTaken Escapes (k ∷ c ∷ rest) (cond (eqb k 120) (byte_at (c ∷ rest)) (cond (eqb k 117) (fixed_at 4 (c ∷ rest)) (fixed_at 8 (c ∷ rest)))) in
     one_of_three P letter 120 117 85 among (byte_taken (c ∷ rest)) (fixed_taken 117 4 four_digits (c ∷ rest)) (fixed_taken 85 8 eight_digits (c ∷ rest)))
 
@@ -139,22 +139,22 @@ byte_is digits rest n size is =
     let long : leb 2 (length (digits ++ rest)) ≡ true = le-leb _ _ (omega (arith, length-append digits rest)) in
     rw (long, take_at digits rest 2 size, is, drop_at digits rest 2 size) refl
 
-braced_is : (digits rest : Text) (n : ℕ) → 0 < length digits → scalar_of digits ≡ Some n → braced_at (digits ++ 125 ∷ rest) ≡ Some (Character n, rest)
-unfolding braced_at
+braced_is : (digits rest : Text) (n : ℕ) → 0 < length digits → scalar_of digits ≡ Some n → braces_at (digits ++ 125 ∷ rest) ≡ Some (Character n, rest)
+unfolding braces_at
 braced_is digits rest n some is =
     let found = cut_there 125 digits rest (no_end 125 refl 0 n digits (hex_of_scalar digits n is)) in
     let size : eqb (length digits) 0 ≡ false = ne_eqb (length digits) 0 (λ e. omega arith) in
     rw (found, size, is) refl
 
-property_is : (negated : Bool) (name rest : Text) (set : Set) → formed_property name ≡ Some set → property_of negated name rest ≡ Some (Property set negated, rest)
+property_is : (negated : Bool) (name rest : Text) (set : Set) → plain_property name ≡ Some set → property_of negated name rest ≡ Some (Property set negated, rest)
 unfolding property_of
 property_is negated name rest set is = rw is refl
 
-one_property : (negated : Bool) (c : ℕ) (rest : Text) (set : Set) → c ≢ 123 → formed_property (c ∷ []) ≡ Some set → property_at negated (c ∷ rest) ≡ Some (Property set negated, rest)
+one_property : (negated : Bool) (c : ℕ) (rest : Text) (set : Set) → c ≢ 123 → plain_property (c ∷ []) ≡ Some set → property_at negated (c ∷ rest) ≡ Some (Property set negated, rest)
 unfolding property_at
 one_property negated c rest set ne is = let other : eqb c 123 ≡ false = ne_eqb c 123 ne in rw other (property_is negated (c ∷ []) rest set is)
 
-braced_property : (negated : Bool) (name rest : Text) (set : Set) → Lacks 125 name → formed_property name ≡ Some set → property_at negated (123 ∷ name ++ 125 ∷ rest) ≡ Some (Property set negated, rest)
+braced_property : (negated : Bool) (name rest : Text) (set : Set) → Lacks 125 name → plain_property name ≡ Some set → property_at negated (123 ∷ name ++ 125 ∷ rest) ≡ Some (Property set negated, rest)
 unfolding property_at
 braced_property negated name rest set lacks is = rw (cut_there 125 name rest lacks) (property_is negated name rest set is)
 
@@ -167,7 +167,7 @@ hex_letter : (letter : ℕ) (t : Text) → is_among letter (120 ∷ 117 ∷ 85 �
 unfolding escape_at
 hex_letter letter t among = rw among refl
 
-braces_front : (letter : ℕ) (t : Text) → hex_at letter (123 ∷ t) ≡ braced_at t
+braces_front : (letter : ℕ) (t : Text) → hex_at letter (123 ∷ t) ≡ braces_at t
 unfolding hex_at
 braces_front letter t = refl
 

@@ -5,7 +5,7 @@ use Rattle.logos_pattern_tokens.specs.declared.token.Change.{Change}
 use Rattle.logos_pattern_tokens.specs.declared.openings.Letters.{Letters}
 use Rattle.logos_pattern_tokens.specs.Flags.{no_change, with_letter, Letters as Turns, no_letter, a_letter, Settings, only_on, some_off}
 use Rattle.logos_pattern_tokens.specs.Token.{Text, Token, opens, sets, plain, ◌>>=◌}
-use Rattle.logos_pattern_tokens.specs.Openings.{dash, next_letter, ended, letters_from, no_letters}
+use Rattle.logos_pattern_tokens.specs.Openings.{dash, next_letter, setting_end, letters_from, no_letters}
 use Rattle.logos_pattern_tokens.proofs.Picks.{IsTaken, pick, pick_is}
 
 -- the letters are read from this state on, to this change
@@ -30,8 +30,8 @@ pub record Spelled (s : Letters) (text : Text) (token : Token) (rest : Text) : T
 abbrev Reads : Letters → Token → Text → Text → Type 0
 Reads s token text rest = Spelled s text token rest
 
-ended_taken : (s : Letters) (token : Token) (text rest : Text) → Ends s.change text token rest → IsTaken (Reads s) text (ended s token rest)
-unfolding ended
+ended_taken : (s : Letters) (token : Token) (text rest : Text) → Ends s.change text token rest → IsTaken (Reads s) text (setting_end s token rest)
+unfolding setting_end
 ended_taken s token text rest e =
     pick (Reads s) text s.pending None (Some (token, rest)) (λ _. tt) (λ done. record { letters = []; change = s.change; end = text; completes = stops s done; ends = e; is_text = refl })
 
@@ -44,8 +44,8 @@ pub letters_taken : (s : Letters) (text : Text) → IsTaken (Reads s) text (lett
 letters_taken s [] = tt
 letters_taken s (c ∷ rest) =
     let here : ℕ → Text = λ x. x ∷ rest in
-    pick_is (Reads s) c 41 here (ended s (sets s.change) rest) _ (ended_taken s (sets s.change) (41 ∷ rest) rest (closes_setting s.change rest))
-    (pick_is (Reads s) c 58 here (ended s (opens (plain s.change)) rest) _ (ended_taken s (opens (plain s.change)) (58 ∷ rest) rest (opens_group s.change rest))
+    pick_is (Reads s) c 41 here (setting_end s (sets s.change) rest) _ (ended_taken s (sets s.change) (41 ∷ rest) rest (closes_setting s.change rest))
+    (pick_is (Reads s) c 58 here (setting_end s (opens (plain s.change)) rest) _ (ended_taken s (opens (plain s.change)) (58 ∷ rest) rest (opens_group s.change rest))
     (from (λ t. letters_taken t rest) (next_letter s c) refl))
   where
     from : ((t : Letters) → IsTaken (Reads t) rest (letters_from t rest)) → (o : Option Letters) → next_letter s c ≡ o → IsTaken (Reads s) (c ∷ rest) (o >>= λ t. letters_from t rest)
@@ -65,8 +65,8 @@ pub no_letter_at : (s : Letters) (d : ℕ) → eqb d 45 ≡ false → with_lette
 unfolding next_letter
 no_letter_at s d e none = rw (e, none) refl
 
-ended_is : (s : Letters) (token : Token) (rest : Text) → s.pending ≡ false → ended s token rest ≡ Some (token, rest)
-unfolding ended
+ended_is : (s : Letters) (token : Token) (rest : Text) → s.pending ≡ false → setting_end s token rest ≡ Some (token, rest)
+unfolding setting_end
 ended_is s token rest e = rw e refl
 
 ends_are : (s : Letters) (end rest : Text) (token : Token) → s.pending ≡ false → Ends s.change end token rest → letters_from s end ≡ Some (token, rest)
@@ -176,26 +176,26 @@ settings_of letters change k = from (on_state no_letters letters change refl k)
     from (then_off front off half e turns offs some) = subst (λ x. Settings x change) (sym e) (some_off front off half change some turns offs)
 
 -- the letters are read, and what follows them
-turned : (change last : Change) (on : Bool) (letters : Text) → Turns change on letters last → (pending : Bool) (tail : Text) (final : Change) →
+letters_turn : (change last : Change) (on : Bool) (letters : Text) → Turns change on letters last → (pending : Bool) (tail : Text) (final : Change) →
     ((p : Bool) → ((0 < length letters) ⊎ (pending ≡ false) → p ≡ false) → Completes (record { change = last; on = on; pending = p }) tail final) →
     Completes (record { change = change; on = on; pending = pending }) (letters ++ tail) final
-turned change last on letters (no_letter same value) pending tail final then = then pending (λ h. from h)
+letters_turn change last on letters (no_letter same value) pending tail final then = then pending (λ h. from h)
   where
     from : ((0 < length {A = ℕ} []) ⊎ (pending ≡ false)) → pending ≡ false
     from (inl h) = absurd (omega arith)
     from (inr e) = e
-turned change last on letters (a_letter now next end value letter others is turns) pending tail final then =
+letters_turn change last on letters (a_letter now next end value letter others is turns) pending tail final then =
     goes (record { change = now; on = value; pending = pending }) (record { change = next; on = value; pending = false }) letter (others ++ tail) final
     (letter_next (record { change = now; on = value; pending = pending }) letter next is)
-    (turned next end value others turns false tail final (λ p h. then p (λ _. h (inr refl))))
+    (letters_turn next end value others turns false tail final (λ p h. then p (λ _. h (inr refl))))
 
 pub completes_of : (letters : Text) (change : Change) → Settings letters change → Completes no_letters letters change
 completes_of letters change (only_on on last some turns) =
     subst (λ x. Completes no_letters x last) (append-nil on)
-    (turned no_change last true on turns true [] last (λ p h. stops (record { change = last; on = true; pending = p }) (h (inl some))))
+    (letters_turn no_change last true on turns true [] last (λ p h. stops (record { change = last; on = true; pending = p }) (h (inl some))))
 completes_of letters change (some_off on off half last some turns offs) =
-    turned no_change half true on turns true (45 ∷ off) last (λ p h.
+    letters_turn no_change half true on turns true (45 ∷ off) last (λ p h.
     let s : Letters = record { change = half; on = true; pending = p } in
     goes s (record { change = half; on = false; pending = true }) 45 off last (dash_next s ∙ dash_is s refl)
     (subst (λ x. Completes (record { change = half; on = false; pending = true }) x last) (append-nil off)
-    (turned half last false off offs true [] last (λ q k. stops (record { change = last; on = false; pending = q }) (k (inl some))))))
+    (letters_turn half last false off offs true [] last (λ q k. stops (record { change = last; on = false; pending = q }) (k (inl some))))))

@@ -8,7 +8,7 @@ use Rattle.logos_pattern_tokens.specs.Flags.{no_change, Settings}
 use Rattle.logos_pattern_tokens.specs.Token.{Text, Token, atom, bar, opens, closes, sets, capturing, named, plain, is_meta, cut_at, lazy_at, count_at}
 use Rattle.logos_pattern_tokens.specs.Escapes.{escape_at}
 use Rattle.logos_pattern_tokens.specs.Openings.{is_name, name_at, python_at, letters_from, no_letters, option_at, group_at}
-use Rattle.logos_pattern_tokens.specs.Reader.{escaped_at, token_at}
+use Rattle.logos_pattern_tokens.specs.Reader.{escape_token_at, token_at}
 use Rattle.logos_pattern_tokens.specs.Spelling.{NotBegins, Lacks, star, plus, question, Escapes, Takes, bare, escaped, dot, caret, dollar, branch, open_capture, open_named, open_python, open_plain, open_flags, setting, close_group, greedy, lazy}
 use Rattle.logos_pattern_tokens.proofs.Picks.{IsTaken, pick, pick_is, bind_taken, cut_found, cut_there}
 use Rattle.logos_pattern_tokens.proofs.Counted.{lazy_taken, count_taken, lazy_no, lazy_yes, counts_are}
@@ -58,8 +58,8 @@ group_taken (c ∷ rest) =
     (λ e. subst (λ x. IsTaken Takes (40 ∷ x ∷ rest) (option_at rest)) (sym (eqb-true c 63 e)) (option_taken rest))
     (λ e. open_capture (c ∷ rest) (eqb-false c 63 e))
 
-escaped_taken : (t : Text) → IsTaken Takes (92 ∷ t) (escaped_at t)
-unfolding escaped_at
+escaped_taken : (t : Text) → IsTaken Takes (92 ∷ t) (escape_token_at t)
+unfolding escape_token_at
 escaped_taken t = from (escape_at t) (escape_taken t)
   where
     from : (o : Option (Atom × Text)) → IsTaken Escapes t o → IsTaken Takes (92 ∷ t) (option_map (λ x. (atom x.0, x.1)) o)
@@ -86,7 +86,7 @@ is_taken (c ∷ rest) =
     step 43 (Some (lazy_at 1 None rest)) _ (lazy_taken (43 ∷ []) 1 None plus rest) (λ f.
     step 63 (Some (lazy_at 0 (Some 1) rest)) _ (lazy_taken (63 ∷ []) 0 (Some 1) question rest) (λ g.
     step 123 (count_at rest) _ (count_taken rest) (λ h.
-    step 92 (escaped_at rest) _ (escaped_taken rest) (λ i.
+    step 92 (escape_token_at rest) _ (escaped_taken rest) (λ i.
     step 46 (Some (atom Dot, rest)) _ (dot rest) (λ j.
     step 94 (Some (atom Caret, rest)) _ (caret rest) (λ k.
     step 36 (Some (atom Dollar, rest)) _ (dollar rest) (λ l.
@@ -139,7 +139,7 @@ bare_is c rest is =
         from false e = refl
 
 escaped_is : (a : Atom) (text rest : Text) → Escapes a text rest → token_at (92 ∷ text) ≡ Some (atom a, rest)
-unfolding token_at escaped_at
+unfolding token_at escape_token_at
 escaped_is a text rest e = rw (escape_is a text rest e) refl
 
 brace_is : (t : Text) → token_at (123 ∷ t) ≡ count_at t

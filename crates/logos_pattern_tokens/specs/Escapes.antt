@@ -43,11 +43,11 @@ abbrev pub is_form : Text → Bool
 is_form name = is_among 61 name || is_among 58 name || begins 94 name
 
 -- the set of a property's name
-unfoldable pub formed_property : Text → Option Set
-formed_property name = if is_form name then None else property_named name
+unfoldable pub plain_property : Text → Option Set
+plain_property name = if is_form name then None else property_named name
 
 unfoldable pub property_of : Bool → Text → Text → Option (Atom × Text)
-property_of negated name rest = option_map (λ set. (Property set negated, rest)) (formed_property name)
+property_of negated name rest = option_map (λ set. (Property set negated, rest)) (plain_property name)
 
 -- `{name}`, or one character
 unfoldable pub property_at : Bool → Text → Option (Atom × Text)
@@ -57,8 +57,8 @@ property_at negated (c ∷ rest) =
     else property_of negated (c ∷ []) rest
 
 -- hex digits up to `}`
-unfoldable pub braced_at : Text → Option (Atom × Text)
-braced_at text = cut_at 125 text >>= λ x. if length x.0 == 0 then None else option_map (λ n. (Character n, x.1)) (scalar_of x.0)
+unfoldable pub braces_at : Text → Option (Atom × Text)
+braces_at text = cut_at 125 text >>= λ x. if length x.0 == 0 then None else option_map (λ n. (Character n, x.1)) (scalar_of x.0)
 
 -- so many hex digits
 unfoldable pub fixed_at : ℕ → Text → Option (Atom × Text)
@@ -73,7 +73,7 @@ byte_at text = if nat_le 2 (length text) then option_map (λ n. (Byte n, drop 2 
 unfoldable pub hex_at : ℕ → Text → Option (Atom × Text)
 hex_at letter [] = None
 hex_at letter (c ∷ rest) =
-    if c == 123 then braced_at rest
+    if c == 123 then braces_at rest
     else if letter == 120 then byte_at (c ∷ rest)
     else if letter == 117 then fixed_at 4 (c ∷ rest)
     else fixed_at 8 (c ∷ rest)

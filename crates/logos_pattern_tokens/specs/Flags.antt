@@ -36,8 +36,8 @@ pub data Settings : List ℕ → Change → Type 0 where
       Letters half false off change → Settings (on ++ 45 ∷ off) change
 
 -- the flags behind a setting
-abbrev pub changed : Change → Flags → Flags
-changed change flags = record {
+abbrev pub flags_after : Change → Flags → Flags
+flags_after change flags = record {
   unicode = unwrap_or change.unicode flags.unicode;
   ignore_case = unwrap_or change.ignore_case flags.ignore_case;
   multi_line = unwrap_or change.multi_line flags.multi_line;

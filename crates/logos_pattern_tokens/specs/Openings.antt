@@ -44,15 +44,15 @@ next_letter s c =
     else option_map (λ change. record s { change = change; pending = false }) (with_letter s.change s.on c)
 
 -- the token that ends the letters, where none is missing
-unfoldable pub ended : Letters → Token → Text → Option (Token × Text)
-ended s token rest = if s.pending then None else Some (token, rest)
+unfoldable pub setting_end : Letters → Token → Text → Option (Token × Text)
+setting_end s token rest = if s.pending then None else Some (token, rest)
 
 -- letters up to `)` or `:`
 abbrev pub letters_from : Letters → Text → Option (Token × Text)
 letters_from s [] = None
 letters_from s (c ∷ rest) =
-    if c == 41 then ended s (sets s.change) rest
-    else if c == 58 then ended s (opens (plain s.change)) rest
+    if c == 41 then setting_end s (sets s.change) rest
+    else if c == 58 then setting_end s (opens (plain s.change)) rest
     else next_letter s c >>= λ t. letters_from t rest
 
 -- before the first letter

@@ -6,8 +6,8 @@ use Rattle.logos_pattern_tokens.specs.Escapes.{escape_at}
 use Rattle.logos_pattern_tokens.specs.Openings.{group_at}
 
 -- after a backslash
-unfoldable pub escaped_at : Text → Option (Token × Text)
-escaped_at text = option_map (λ x. (atom x.0, x.1)) (escape_at text)
+unfoldable pub escape_token_at : Text → Option (Token × Text)
+escape_token_at text = option_map (λ x. (atom x.0, x.1)) (escape_at text)
 
 -- the token at the front and what follows it; a bracket has no such token
 unfoldable pub token_at : Text → Option (Token × Text)
@@ -20,7 +20,7 @@ token_at (c ∷ rest) =
     else if c == 43 then Some (lazy_at 1 None rest)
     else if c == 63 then Some (lazy_at 0 (Some 1) rest)
     else if c == 123 then count_at rest
-    else if c == 92 then escaped_at rest
+    else if c == 92 then escape_token_at rest
     else if c == 46 then Some (atom Dot, rest)
     else if c == 94 then Some (atom Caret, rest)
     else if c == 36 then Some (atom Dollar, rest)

@@ -6,7 +6,7 @@ use Rattle.logos_pattern_tokens.specs.declared.token.Atom.{Atom}
 use Rattle.logos_pattern_tokens.specs.declared.token.Atom.TheVariants.{Character, Byte, Dot, Caret, Dollar, Boundary, Property}
 use Rattle.logos_pattern_tokens.specs.Flags.{no_change, Settings}
 use Rattle.logos_pattern_tokens.specs.Token.{Text, Token, atom, bar, opens, closes, sets, repeats, capturing, named, plain, is_among, is_meta, is_digit, hex_from, scalar_of}
-use Rattle.logos_pattern_tokens.specs.Escapes.{single_of, formed_property}
+use Rattle.logos_pattern_tokens.specs.Escapes.{single_of, plain_property}
 use Rattle.logos_pattern_tokens.specs.Openings.{is_name}
 
 -- the text does not begin with the character
@@ -65,9 +65,9 @@ pub data Escapes : Atom → Text → Text → Type 0 where
   -- `\b`, with no brace behind it
   boundary : (rest : Text) → NotBegins 123 rest → Escapes (Boundary false) (98 ∷ rest) rest
   -- `\pX`, `\p{name}`
-  property : (negated : Bool) (c : ℕ) (rest : Text) (set : Set) → c ≢ 123 → formed_property (c ∷ []) ≡ Some set →
+  property : (negated : Bool) (c : ℕ) (rest : Text) (set : Set) → c ≢ 123 → plain_property (c ∷ []) ≡ Some set →
       Escapes (Property set negated) (property_letter negated ∷ c ∷ rest) rest
-  named_property : (negated : Bool) (name rest : Text) (set : Set) → Lacks 125 name → formed_property name ≡ Some set →
+  named_property : (negated : Bool) (name rest : Text) (set : Set) → Lacks 125 name → plain_property name ≡ Some set →
       Escapes (Property set negated) (property_letter negated ∷ 123 ∷ name ++ 125 ∷ rest) rest
 
 -- ---- tokens

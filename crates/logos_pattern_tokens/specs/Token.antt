@@ -120,24 +120,24 @@ lazy_at least most (c ∷ rest) =
     else (repeats (record { least = least; most = most; lazy = false }), c ∷ rest)
 
 -- `}` after the counts
-unfoldable pub counted_at : ℕ → Option ℕ → Text → Option (Token × Text)
-counted_at least most [] = None
-counted_at least most (c ∷ rest) = if c == 125 then Some (lazy_at least most rest) else None
+unfoldable pub count_end : ℕ → Option ℕ → Text → Option (Token × Text)
+count_end least most [] = None
+count_end least most (c ∷ rest) = if c == 125 then Some (lazy_at least most rest) else None
 
-unfoldable pub ordered_at : ℕ → ℕ × Text → Option (Token × Text)
-ordered_at least x = if nat_le least x.0 then counted_at least (Some x.0) x.1 else None
+unfoldable pub order_at : ℕ → ℕ × Text → Option (Token × Text)
+order_at least x = if nat_le least x.0 then count_end least (Some x.0) x.1 else None
 
 -- after `{n,`
 unfoldable pub most_at : ℕ → Text → Option (Token × Text)
 most_at least [] = None
 most_at least (c ∷ rest) =
     if c == 125 then Some (lazy_at least None rest)
-    else number_at (c ∷ rest) >>= ordered_at least
+    else number_at (c ∷ rest) >>= order_at least
 
 -- after `{n`
 unfoldable pub bounds_at : ℕ → Text → Option (Token × Text)
 bounds_at least [] = None
-bounds_at least (c ∷ rest) = if c == 44 then most_at least rest else counted_at least (Some least) (c ∷ rest)
+bounds_at least (c ∷ rest) = if c == 44 then most_at least rest else count_end least (Some least) (c ∷ rest)
 
 -- after `{`
 unfoldable pub count_at : Text → Option (Token × Text)

@@ -1,7 +1,7 @@
 //! Numbers in a pattern, and the operators with counts.
 
 ghost use Rattle.std.specs.Prelude.{◌≡◌, ◌==◌, option_map, position};
-ghost use Rattle.logos_pattern_tokens.specs.Token.{Gives, token_view, is_digit, hex_digit, hex_from, scalar_of, cut_at, number_from, fits, number_at, lazy_at, counted_at, ordered_at, most_at, bounds_at, count_at};
+ghost use Rattle.logos_pattern_tokens.specs.Token.{Gives, token_view, is_digit, hex_digit, hex_from, scalar_of, cut_at, number_from, fits, number_at, lazy_at, count_end, order_at, most_at, bounds_at, count_at};
 
 use crate::error::{Fault, Kind};
 use crate::token::{Operator, Token};
@@ -43,12 +43,14 @@ pub fn cut_at(end: char, text: &[char]) -> Option<(&[char], &[char])>
     }
 }
 
+/// Where the character stands first.
 fn place_of(end: char, text: &[char]) -> Option<usize>
     ensures { result ≡ position (λ c. c == end) text.now }
 {
     text.iter().position(|c| *c == end)
 }
 
+/// Whether it is an ASCII digit.
 fn is_digit(c: char) -> bool
     ensures { result ≡ is_digit c }
 {
@@ -79,6 +81,7 @@ fn number_from(start: u32, text: &[char]) -> Option<(u32, &[char])>
     }
 }
 
+/// The number at the front, and what follows it.
 #[tactic(auto, unfolding(crate::specs::Token::number_at))]
 fn number_at(text: &[char]) -> Result<(u32, &[char]), Fault>
     ensures { Gives (λ x. (x.0, x.1.now)) result (number_at text.now) }
@@ -119,13 +122,13 @@ pub fn lazy_at<'t>(least: u32, most: Option<u32>, text: &'t [char]) -> (Token<'t
 }
 
 /// The brace after the counts.
-#[tactic(auto, unfolding(crate::specs::Token::counted_at))]
-fn counted_at<'t>(
+#[tactic(auto, unfolding(crate::specs::Token::count_end))]
+fn count_end<'t>(
     least: u32,
     most: Option<u32>,
     text: &'t [char],
 ) -> Result<(Token<'t>, &'t [char]), Fault>
-    ensures { Gives (λ x. (token_view x.0, x.1.now)) result (counted_at least most text.now) }
+    ensures { Gives (λ x. (token_view x.0, x.1.now)) result (count_end least most text.now) }
 {
     match text {
         ['}', rest @ ..] => Ok(lazy_at(least, most, rest)),
@@ -135,7 +138,7 @@ fn counted_at<'t>(
 }
 
 /// What follows `{n,`.
-#[tactic(auto, unfolding(crate::specs::Token::most_at, crate::specs::Token::ordered_at))]
+#[tactic(auto, unfolding(crate::specs::Token::most_at, crate::specs::Token::order_at))]
 fn most_at(least: u32, text: &[char]) -> Result<(Token<'_>, &[char]), Fault>
     ensures { Gives (λ x. (token_view x.0, x.1.now)) result (most_at least text.now) }
 {
@@ -147,7 +150,7 @@ fn most_at(least: u32, text: &[char]) -> Result<(Token<'_>, &[char]), Fault>
             if least > most {
                 return Err(Fault::Syntax(Kind::CountOrder));
             }
-            counted_at(least, Some(most), rest)
+            count_end(least, Some(most), rest)
         }
     }
 }
@@ -160,7 +163,7 @@ fn bounds_at(least: u32, text: &[char]) -> Result<(Token<'_>, &[char]), Fault>
     match text {
         [] => Err(Fault::Syntax(Kind::Unclosed)),
         [',', rest @ ..] => most_at(least, rest),
-        _ => counted_at(least, Some(least), text),
+        _ => count_end(least, Some(least), text),
     }
 }
 

@@ -2,7 +2,7 @@
 
 ghost use Rattle.std.specs.Prelude.{◌≡◌, MatchResult};
 ghost use Rattle.logos_pattern_tokens.specs.Token.{Gives, is_among};
-ghost use Rattle.logos_pattern_tokens.specs.Escapes.{is_escapable, single_of, begins, is_form, formed_property, property_of, property_at, braced_at, fixed_at, byte_at, hex_at, boundary_at, single_at, escape_at};
+ghost use Rattle.logos_pattern_tokens.specs.Escapes.{is_escapable, single_of, begins, is_form, plain_property, property_of, property_at, braces_at, fixed_at, byte_at, hex_at, boundary_at, single_at, escape_at};
 
 use crate::counts::{cut_at, hex_digit, scalar_of};
 use crate::error::{Fault, Kind};
@@ -11,6 +11,7 @@ use logos_hir::property::{PerlKind, property_named};
 use std::alloc::Global;
 use unicode::sets::Set;
 
+/// Whether a backslash lets the character stand for itself.
 fn is_escapable(c: char) -> bool
     ensures { result ≡ is_escapable c }
 {
@@ -44,12 +45,14 @@ fn single_of(c: char) -> Option<Atom>
     }
 }
 
+/// Whether the character stands in the name.
 fn contains(name: &[char], c: char) -> bool
     ensures { result ≡ is_among c name.now }
 {
     name.contains(&c)
 }
 
+/// Whether the name has a value, or is negated.
 fn is_form(name: &[char]) -> bool
     ensures { result ≡ is_form name.now }
 {
@@ -57,9 +60,9 @@ fn is_form(name: &[char]) -> bool
 }
 
 /// The set of a property's name.
-#[tactic(auto, unfolding(crate::specs::Escapes::formed_property))]
-fn formed_property(alloc: Global, name: &[char]) -> Result<Set, Fault>
-    ensures { Gives (λ set. set) result (formed_property name.now) }
+#[tactic(auto, unfolding(crate::specs::Escapes::plain_property))]
+fn plain_property(alloc: Global, name: &[char]) -> Result<Set, Fault>
+    ensures { Gives (λ set. set) result (plain_property name.now) }
 {
     if is_form(name) {
         return Err(Fault::Syntax(Kind::PropertyForm));
@@ -70,6 +73,7 @@ fn formed_property(alloc: Global, name: &[char]) -> Result<Set, Fault>
     }
 }
 
+/// The property with this name.
 #[tactic(auto, unfolding(crate::specs::Escapes::property_of))]
 fn property_of<'t>(
     alloc: Global,
@@ -79,7 +83,7 @@ fn property_of<'t>(
 ) -> Result<(Atom, &'t [char]), Fault>
     ensures { Gives (λ x. (x.0, x.1.now)) result (property_of negated name.now rest.now) }
 {
-    let set = formed_property(alloc, name)?;
+    let set = plain_property(alloc, name)?;
     Ok((Atom::Property(set, negated), rest))
 }
 
@@ -105,12 +109,12 @@ fn property_at(alloc: Global, negated: bool, text: &[char]) -> Result<(Atom, &[c
 }
 
 /// Hex digits up to a brace.
-#[tactic(auto, unfolding(crate::specs::Escapes::braced_at))]
-fn braced_at(text: &[char]) -> Result<(Atom, &[char]), Fault>
-    ensures { Gives (λ x. (x.0, x.1.now)) result (braced_at text.now) }
+#[tactic(auto, unfolding(crate::specs::Escapes::braces_at))]
+fn braces_at(text: &[char]) -> Result<(Atom, &[char]), Fault>
+    ensures { Gives (λ x. (x.0, x.1.now)) result (braces_at text.now) }
 {
     let Some((digits, rest)) = cut_at('}', text) else {
-        return Err(Fault::Syntax(unclosed_digits(text)));
+        return Err(Fault::Syntax(digits_fault(text)));
     };
     if digits.is_empty() {
         return Err(Fault::Syntax(Kind::HexSyntax));
@@ -120,7 +124,7 @@ fn braced_at(text: &[char]) -> Result<(Atom, &[char]), Fault>
 }
 
 /// What is wrong with digits that no brace follows.
-fn unclosed_digits(digits: &[char]) -> Kind {
+fn digits_fault(digits: &[char]) -> Kind {
     if digits.iter().all(|c| hex_digit(*c).is_some()) {
         Kind::Unclosed
     } else {
@@ -162,7 +166,7 @@ fn hex_at(letter: char, text: &[char]) -> Result<(Atom, &[char]), Fault>
 {
     match text {
         [] => Err(Fault::Syntax(Kind::HexSyntax)),
-        ['{', rest @ ..] => braced_at(rest),
+        ['{', rest @ ..] => braces_at(rest),
         _ => match letter {
             'x' => byte_at(text),
             'u' => fixed_at(4, text),

@@ -3,19 +3,21 @@
 ghost use Rattle.std.specs.Prelude.{◌≡◌};
 ghost use Rattle.logos_pattern_tokens.specs.Flags.{no_change, set_once, with_letter};
 ghost use Rattle.logos_pattern_tokens.specs.Token.{Gives, token_view, sets, opens, plain};
-ghost use Rattle.logos_pattern_tokens.specs.Openings.{is_name_start, is_name_part, are_name_parts, is_name, name_at, python_at, dash, next_letter, ended, letters_from, no_letters, option_at, group_at};
+ghost use Rattle.logos_pattern_tokens.specs.Openings.{is_name_start, is_name_part, are_name_parts, is_name, name_at, python_at, dash, next_letter, setting_end, letters_from, no_letters, option_at, group_at};
 
 use crate::counts::cut_at;
 use crate::error::{Fault, Kind};
 use crate::token::{Change, Opening, Token};
 use unicode::properties::{GeneralCategory, GeneralCategoryGroup, is_alphabetic};
 
+/// Whether a name may start with the character.
 fn is_name_start(c: char) -> bool
     ensures { result ≡ is_name_start c }
 {
     c == '_' || is_alphabetic(c)
 }
 
+/// Whether a name may go on with the character.
 fn is_name_part(c: char) -> bool
     ensures { result ≡ is_name_part c }
 {
@@ -24,12 +26,14 @@ fn is_name_part(c: char) -> bool
         || matches!(c, '.' | '[' | ']')
 }
 
+/// Whether a name may go on with each of the characters.
 fn are_name_parts(text: &[char]) -> bool
     ensures { result ≡ are_name_parts text.now }
 {
     text.iter().all(|c| is_name_part(*c))
 }
 
+/// Whether it is the name of a group.
 fn is_name(text: &[char]) -> bool
     ensures { result ≡ is_name text.now }
 {
@@ -40,7 +44,7 @@ fn is_name(text: &[char]) -> bool
 }
 
 /// What is wrong with a name that no `>` follows.
-fn unclosed_name(text: &[char]) -> Kind {
+fn name_fault(text: &[char]) -> Kind {
     if text.is_empty() || is_name(text) {
         Kind::Unclosed
     } else {
@@ -54,7 +58,7 @@ fn name_at(text: &[char]) -> Result<(Token<'_>, &[char]), Fault>
     ensures { Gives (λ x. (token_view x.0, x.1.now)) result (name_at text.now) }
 {
     let Some((name, rest)) = cut_at('>', text) else {
-        return Err(Fault::Syntax(unclosed_name(text)));
+        return Err(Fault::Syntax(name_fault(text)));
     };
     if !is_name(name) {
         return Err(Fault::Syntax(Kind::GroupSyntax));
@@ -84,6 +88,7 @@ pub struct Letters {
     pending: bool,
 }
 
+/// A flag setting that leaves each flag.
 fn no_change() -> Change
     ensures { result ≡ no_change }
 {
@@ -107,6 +112,7 @@ fn set_once(flag: Option<bool>, on: bool) -> Result<Option<bool>, Fault>
     }
 }
 
+/// A flag setting with one more letter, which turns its flag on or off.
 fn with_letter(change: Change, on: bool, letter: char) -> Result<Change, Fault>
     ensures { Gives (λ x. x) result (with_letter change on letter) }
 {
@@ -140,6 +146,7 @@ fn dash(letters: Letters) -> Result<Letters, Fault>
     }
 }
 
+/// A letter or the dash behind other letters.
 #[tactic(auto, unfolding(crate::specs::Openings::next_letter))]
 fn next_letter(letters: Letters, c: char) -> Result<Letters, Fault>
     ensures { Gives (λ x. x) result (next_letter letters c) }
@@ -155,13 +162,15 @@ fn next_letter(letters: Letters, c: char) -> Result<Letters, Fault>
     })
 }
 
-#[tactic(auto, unfolding(crate::specs::Openings::ended))]
-fn ended<'t>(
+/// The token at the end of a flag setting.
+#[tactic(auto, unfolding(crate::specs::Openings::setting_end))]
+fn setting_end<'t>(
     letters: Letters,
     token: Token<'t>,
     rest: &'t [char],
 ) -> Result<(Token<'t>, &'t [char]), Fault>
-    ensures { Gives (λ x. (token_view x.0, x.1.now)) result (ended letters (token_view token.entry) rest.now) }
+    ensures { Gives (λ x. (token_view x.0, x.1.now)) result
+        (setting_end letters (token_view token.entry) rest.now) }
 {
     if letters.pending {
         Err(Fault::Syntax(Kind::FlagSyntax))
@@ -178,10 +187,10 @@ fn letters_from(start: Letters, text: &[char]) -> Result<(Token<'_>, &[char]), F
     let mut rest = text;
     while let [c, after @ ..] = rest {
         if *c == ')' {
-            return ended(letters, Token::Setting(letters.change), after);
+            return setting_end(letters, Token::Setting(letters.change), after);
         }
         if *c == ':' {
-            return ended(letters, Token::Open(Opening::Plain(letters.change)), after);
+            return setting_end(letters, Token::Open(Opening::Plain(letters.change)), after);
         }
         letters = next_letter(letters, *c)?;
         rest = after;
@@ -203,6 +212,7 @@ fn option_at(text: &[char]) -> Result<(Token<'_>, &[char]), Fault>
     }
 }
 
+/// The letters before the first one.
 fn no_letters() -> Letters
     ensures { result ≡ no_letters }
 {

@@ -2,7 +2,7 @@
 
 ghost use Rattle.std.specs.Prelude.{◌≡◌};
 ghost use Rattle.logos_pattern_tokens.specs.Token.{Gives, token_view};
-ghost use Rattle.logos_pattern_tokens.specs.Reader.{escaped_at, token_at};
+ghost use Rattle.logos_pattern_tokens.specs.Reader.{escape_token_at, token_at};
 
 use crate::counts::{count_at, lazy_at};
 use crate::error::{Fault, Kind};
@@ -12,9 +12,9 @@ use crate::token::{Atom, Token};
 use std::alloc::Global;
 
 /// What follows a backslash, as a token.
-#[tactic(auto, unfolding(crate::specs::Reader::escaped_at))]
-fn escaped_at(alloc: Global, text: &[char]) -> Result<(Token<'_>, &[char]), Fault>
-    ensures { Gives (λ x. (token_view x.0, x.1.now)) result (escaped_at text.now) }
+#[tactic(auto, unfolding(crate::specs::Reader::escape_token_at))]
+fn escape_token_at(alloc: Global, text: &[char]) -> Result<(Token<'_>, &[char]), Fault>
+    ensures { Gives (λ x. (token_view x.0, x.1.now)) result (escape_token_at text.now) }
 {
     let (atom, rest) = escape_at(alloc, text)?;
     Ok((Token::Atom(atom), rest))
@@ -36,7 +36,7 @@ pub fn token_at(alloc: Global, text: &[char]) -> Result<(Token<'_>, &[char]), Fa
         '+' => Ok(lazy_at(1, None, rest)),
         '?' => Ok(lazy_at(0, Some(1), rest)),
         '{' => count_at(rest),
-        '\\' => escaped_at(alloc, rest),
+        '\\' => escape_token_at(alloc, rest),
         '.' => Ok((Token::Atom(Atom::Dot), rest)),
         '^' => Ok((Token::Atom(Atom::Caret), rest)),
         '$' => Ok((Token::Atom(Atom::Dollar), rest)),

@@ -15,7 +15,7 @@ use Rattle.logos_hir.specs.Build.{one_char_of, one_byte_of, repetition_of, conca
 use Rattle.logos_pattern_tokens.specs.Token.{Text, Opening, capturing, named, plain, Token, atom, bracketed}
 use Rattle.logos_hir.specs.Property.{perl_set}
 use Rattle.logos_pattern_tokens.specs.bracket.Form.{Bracket}
-use Rattle.logos_syntax.specs.bracket.Meaning.{folded, turned, bracket_set, BracketFits, bracket_depth}
+use Rattle.logos_syntax.specs.bracket.Meaning.{case_closure, set_or_complement, bracket_set, BracketFits, bracket_depth}
 use Rattle.logos_syntax.specs.Written.{Branches, first, next, Items, nothing, piece, setting, Piece, simple, class, group, repeated, branches_tokens, Cuts, NamesDiffer, items_flags, branches_flags, inner_flags}
 
 -- ---- atoms
@@ -26,7 +26,7 @@ one_of flags set = if flags.unicode then one_char_of set else one_byte_of set
 
 -- the number, and under `i` what has the same letter
 abbrev pub same_as : Flags → ℕ → Set
-same_as flags c = folded flags (only_chars (λ d. d == c))
+same_as flags c = case_closure flags (only_chars (λ d. d == c))
 
 -- A character stands for itself. Outside ASCII it has no other case where bytes are matched.
 abbrev pub character_tree : Flags → ℕ → Tree
@@ -59,8 +59,8 @@ atom_tree flags Dollar = look (end_look flags)
 atom_tree flags TextStart = look Start
 atom_tree flags TextEnd = look End
 atom_tree flags (Boundary negated) = look (if negated then WordAsciiNegate else WordAscii)
-atom_tree flags (Perl kind negated) = one_of flags (turned flags negated (folded flags (only_chars (perl_set kind flags.unicode))))
-atom_tree flags (Property set negated) = one_of flags (turned flags negated (folded flags (only_chars (in_set set))))
+atom_tree flags (Perl kind negated) = one_of flags (set_or_complement flags negated (case_closure flags (only_chars (perl_set kind flags.unicode))))
+atom_tree flags (Property set negated) = one_of flags (set_or_complement flags negated (case_closure flags (only_chars (in_set set))))
 
 -- word boundaries where bytes are matched, properties where characters are
 abbrev pub atom_fits : Flags → Atom → Bool
@@ -92,8 +92,8 @@ captures capturing = true
 captures (named name) = true
 captures (plain change) = false
 
-abbrev pub wrapped : Bool → Tree → Tree
-wrapped captured tree = if captured then capture tree else tree
+abbrev pub group_tree : Bool → Tree → Tree
+group_tree captured tree = if captured then capture tree else tree
 
 -- an operator is lazy with `?`, under `U` without it
 abbrev pub is_greedy : Flags → Operator → Bool
@@ -113,7 +113,7 @@ abbrev mutual
   pub piece_tree : Flags → Piece → Tree
   piece_tree flags (simple a) = atom_tree flags a
   piece_tree flags (class b) = class_tree flags b
-  piece_tree flags (group opening bs) = wrapped (captures opening) (alternation_of (branch_list (inner_flags opening flags) bs))
+  piece_tree flags (group opening bs) = group_tree (captures opening) (alternation_of (branch_list (inner_flags opening flags) bs))
   piece_tree flags (repeated p op) = repetition_of op.least op.most (is_greedy flags op) (piece_tree flags p)
 
 abbrev pub written_tree : Flags → Branches → Tree

@@ -5,7 +5,7 @@ use Rattle.logos_pattern_tokens.specs.declared.token.Flags.{Flags}
 use Rattle.logos_pattern_tokens.specs.declared.token.Change.{Change}
 use Rattle.logos_pattern_tokens.specs.declared.token.Operator.{Operator}
 use Rattle.logos_pattern_tokens.specs.declared.token.Atom.{Atom}
-use Rattle.logos_pattern_tokens.specs.Flags.{changed}
+use Rattle.logos_pattern_tokens.specs.Flags.{flags_after}
 use Rattle.logos_pattern_tokens.specs.Token.{Text, Opening, capturing, named, plain, Token, atom, bracketed, bar, opens, closes, sets, repeats}
 use Rattle.logos_pattern_tokens.specs.bracket.Form.{Bracket}
 use Rattle.logos_pattern_tokens.specs.bracket.Spelling.{Encloses}
@@ -81,7 +81,7 @@ NamesDiffer seen (token ∷ tokens) = IsNew seen token × NamesDiffer (with_name
 abbrev pub items_flags : Flags → Items → Flags
 items_flags flags nothing = flags
 items_flags flags (piece its p) = items_flags flags its
-items_flags flags (setting its change) = changed change (items_flags flags its)
+items_flags flags (setting its change) = flags_after change (items_flags flags its)
 
 abbrev pub branches_flags : Flags → Branches → Flags
 branches_flags flags (first its) = items_flags flags its
@@ -91,4 +91,4 @@ branches_flags flags (next bs its) = items_flags (branches_flags flags bs) its
 abbrev pub inner_flags : Opening → Flags → Flags
 inner_flags capturing flags = flags
 inner_flags (named name) flags = flags
-inner_flags (plain change) flags = changed change flags
+inner_flags (plain change) flags = flags_after change flags

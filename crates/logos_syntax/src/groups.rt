@@ -2,15 +2,15 @@
 
 ghost use Rattle.std.specs.Prelude.{◌≤◌, ◌≡◌, ◌+◌, ◌<◌, length, map, IfOk, OnOk, Some, unwrap_or, vec_len};
 ghost use Rattle.logos_hir.specs.Hir.{tree_of};
-ghost use Rattle.logos_pattern_tokens.specs.Flags.{changed};
+ghost use Rattle.logos_pattern_tokens.specs.Flags.{flags_after};
 ghost use Rattle.logos_pattern_tokens.specs.Token.{opening_view, token_view, closes, opens, repeats, sets, bracketed, atom as token_atom};
 ghost use Rattle.logos_pattern_tokens.specs.bracket.Form.{Bracket};
 ghost use Rattle.logos_hir.specs.RangeSets.{set_of};
 ghost use Rattle.logos_syntax.specs.bracket.Meaning.{bracket_set, bracket_depth};
 ghost use Rattle.logos_syntax.specs.Written.{inner_flags};
-ghost use Rattle.logos_syntax.specs.Grammar.{captures, wrapped, is_greedy};
+ghost use Rattle.logos_syntax.specs.Grammar.{captures, group_tree, is_greedy};
 
-use crate::bracket::stack::{Found, MAX_NESTING};
+use crate::bracket::stack::{BracketValue, MAX_NESTING};
 use crate::translate::{atom_fits, atom_tree, one_of};
 use logos_hir::build;
 use logos_hir::hir::Hir;
@@ -31,7 +31,7 @@ pub(crate) struct Part {
 
 /// The inside of a group so far.
 #[derive(Drop)]
-pub(crate) struct Level {
+pub(crate) struct OpenGroup {
     flags: Flags,
     /// The group is a capture.
     captured: bool,
@@ -46,14 +46,16 @@ pub(crate) struct Level {
     ghost shallow: { inner ≤ 250 },
 }
 
+/// The groups that are open.
 #[derive(Drop)]
-pub(crate) struct Machine {
-    top: Level,
+pub(crate) struct Groups {
+    top: OpenGroup,
     /// The groups around it, the outermost first.
-    below: Vec<Level>,
+    below: Vec<OpenGroup>,
     ghost shallow: { vec_len below ≤ 250 },
 }
 
+/// What a flag is behind a setting.
 fn set_or(change: Option<bool>, flag: bool) -> bool
     ensures { result ≡ unwrap_or change flag }
 {
@@ -61,8 +63,8 @@ fn set_or(change: Option<bool>, flag: bool) -> bool
 }
 
 /// The flags behind a flag setting.
-fn changed(change: Change, flags: Flags) -> Flags
-    ensures { result ≡ changed change flags }
+fn flags_after(change: Change, flags: Flags) -> Flags
+    ensures { result ≡ flags_after change flags }
 {
     Flags {
         unicode: set_or(change.unicode, flags.unicode),
@@ -80,10 +82,11 @@ fn inner_flags(opening: Opening<'_>, flags: Flags) -> Flags
 {
     match opening {
         Opening::Capture | Opening::Named(_) => flags,
-        Opening::Plain(change) => changed(change, flags),
+        Opening::Plain(change) => flags_after(change, flags),
     }
 }
 
+/// Whether the group is a capture.
 fn captures(opening: Opening<'_>) -> bool
     ensures { result ≡ captures (opening_view opening.entry) }
 {
@@ -93,6 +96,7 @@ fn captures(opening: Opening<'_>) -> bool
     }
 }
 
+/// Whether the operator takes as many as it can.
 fn is_greedy(flags: Flags, op: Operator) -> bool
     ensures { result ≡ is_greedy flags op }
 {
@@ -100,8 +104,8 @@ fn is_greedy(flags: Flags, op: Operator) -> bool
 }
 
 /// A group that may be a capture.
-fn wrapped(alloc: Global, captured: bool, tree: Hir) -> Result<Hir, AllocError>
-    ensures { IfOk result (λ hir. tree_of hir ≡ wrapped captured (tree_of tree)) }
+fn group_tree(alloc: Global, captured: bool, tree: Hir) -> Result<Hir, AllocError>
+    ensures { IfOk result (λ hir. tree_of hir ≡ group_tree captured (tree_of tree)) }
 {
     if captured {
         return build::capture(alloc, tree);
@@ -109,15 +113,16 @@ fn wrapped(alloc: Global, captured: bool, tree: Hir) -> Result<Hir, AllocError>
     Ok(tree)
 }
 
-impl Level {
-    ghost use Rattle.logos_syntax.specs.inside.Groups.{Group, fresh, all_parts, put, set, next_branch, all_branches, finished, repeat};
+impl OpenGroup {
+    ghost use Rattle.logos_syntax.specs.inside.Groups.{Group, fresh, all_parts, put, set, next_branch, all_branches, whole_tree, repeat};
     ghost use Rattle.logos_syntax.specs.inside.GroupsView.{part_view, group_view, Repeats};
 
-    fn new(alloc: Global, flags: Flags, captured: bool, level: usize, left: usize) -> Level
+    /// A group of which nothing is read but its opening.
+    fn new(alloc: Global, flags: Flags, captured: bool, level: usize, left: usize) -> OpenGroup
         requires { level ≤ 250 }
         ensures { group_view result ≡ fresh flags captured level }
     {
-        Level {
+        OpenGroup {
             flags,
             captured,
             branches: Vec::new(alloc),
@@ -138,6 +143,7 @@ impl Level {
         Ok(())
     }
 
+    /// Adds what an operator could repeat.
     fn put(&mut self, part: Part) -> Result<(), AllocError>
         ensures { OnOk result (group_view self.new ≡ put (group_view self.old) (part_view part)) }
     {
@@ -147,6 +153,7 @@ impl Level {
         Ok(())
     }
 
+    /// Sets the flags for what follows.
     fn set(&mut self, flags: Flags) -> Result<(), AllocError>
         ensures { OnOk result (group_view self.new ≡ set (group_view self.old) flags) }
     {
@@ -155,6 +162,7 @@ impl Level {
         Ok(())
     }
 
+    /// Ends a branch.
     fn next_branch(&mut self) -> Result<(), AllocError>
         ensures { OnOk result (group_view self.new ≡ next_branch (group_view self.old)) }
     {
@@ -167,15 +175,17 @@ impl Level {
 
     /// The whole group, once it is closed.
     fn finish(mut self, alloc: Global) -> Result<Hir, AllocError>
-        ensures { IfOk result (λ hir. tree_of hir ≡ finished (group_view self)) }
+        ensures { IfOk result (λ hir. tree_of hir ≡ whole_tree (group_view self)) }
     {
         self.next_branch()?;
         let captured = self.captured;
-        wrapped(alloc, captured, build::alternation(self.branches)?)
+        group_tree(alloc, captured, build::alternation(self.branches)?)
     }
 
+    /// Repeats what stands last.
     fn repeat(&mut self, alloc: Global, op: Operator, left: usize) -> Result<(), Stop>
-        ensures { Repeats result (repeat (group_view self.old) op (group_view self.old).last) (group_view self.new) }
+        ensures { Repeats result (repeat (group_view self.old) op (group_view self.old).last)
+            (group_view self.new) }
     {
         let Some(part) = self.last.take() else {
             return Err(Stop::Syntax {
@@ -196,16 +206,17 @@ impl Level {
     }
 }
 
-impl Machine {
+impl Groups {
     ghost use Rattle.std.specs.Prelude.{[]};
-    ghost use Rattle.logos_syntax.specs.inside.Groups.{State, start, finished, step};
+    ghost use Rattle.logos_syntax.specs.inside.Groups.{State, start, whole_tree, step};
     ghost use Rattle.logos_syntax.specs.inside.GroupsView.{state_view, Steps, Ends};
 
-    pub(crate) fn new(alloc: Global, flags: Flags, left: usize) -> Machine
+    /// The whole pattern as a group that nothing is read of.
+    pub(crate) fn new(alloc: Global, flags: Flags, left: usize) -> Groups
         ensures { state_view result ≡ start flags }
     {
-        Machine {
-            top: Level::new(alloc, flags, false, 0, left),
+        Groups {
+            top: OpenGroup::new(alloc, flags, false, 0, left),
             below: Vec::new(alloc),
         }
     }
@@ -238,6 +249,7 @@ impl Machine {
         }
     }
 
+    /// Adds an atom.
     fn atom(&mut self, alloc: Global, atom: Atom, left: usize) -> Result<(), Stop>
         ensures { Steps (state_view self.old) (token_atom atom) result (state_view self.new) }
     {
@@ -258,33 +270,38 @@ impl Machine {
     pub(crate) fn class(
         &mut self,
         alloc: Global,
-        found: Found,
+        found: BracketValue,
         left: usize,
     ) -> Result<(), AllocError>
         requires { found.depth ≤ 250 }
-        ensures { (b : Bracket) → set_of found.set ≡ bracket_set (state_view self.old).top.flags b → found.depth ≡ length (state_view self.old).below + bracket_depth b
+        ensures { (b : Bracket) → set_of found.set ≡
+            bracket_set (state_view self.old).top.flags b → found.depth ≡
+            length (state_view self.old).below + bracket_depth b
             → OnOk result (step (state_view self.old) (bracketed b) ≡ Some (state_view self.new)) }
     {
-        let Found { set, depth } = found;
+        let BracketValue { set, depth } = found;
         let tree = one_of(alloc, self.top.flags, set)?;
         self.top.put(Part { tree, depth, left })?;
         Ok(())
     }
 
+    /// Opens a group.
     fn open(&mut self, alloc: Global, opening: Opening<'_>, left: usize) -> Result<(), Stop>
-        ensures { Steps (state_view self.old) (opens (opening_view opening.entry)) result (state_view self.new) }
+        ensures { Steps (state_view self.old) (opens (opening_view opening.entry)) result
+            (state_view self.new) }
     {
         if self.below.len() >= MAX_NESTING {
             return Err(Stop::LimitPatternNesting);
         }
         let flags = inner_flags(opening, self.top.flags);
         let level = self.below.len() + 1;
-        let inside = Level::new(alloc, flags, captures(opening), level, left);
+        let inside = OpenGroup::new(alloc, flags, captures(opening), level, left);
         let outside = mem::replace(&mut self.top, inside);
         self.below.push(outside)?;
         Ok(())
     }
 
+    /// Closes the innermost group.
     fn close(&mut self, alloc: Global, left: usize) -> Result<(), Stop>
         ensures { Steps (state_view self.old) closes result (state_view self.new) }
     {
@@ -302,21 +319,25 @@ impl Machine {
         Ok(())
     }
 
+    /// Sets flags in the innermost group.
     fn setting(&mut self, change: Change) -> Result<(), Stop>
         ensures { Steps (state_view self.old) (sets change) result (state_view self.new) }
     {
-        let flags = changed(change, self.top.flags);
+        let flags = flags_after(change, self.top.flags);
         Ok(self.top.set(flags)?)
     }
 
+    /// Repeats what stands last in the innermost group.
     fn repeat(&mut self, alloc: Global, op: Operator, left: usize) -> Result<(), Stop>
         ensures { Steps (state_view self.old) (repeats op) result (state_view self.new) }
     {
         self.top.repeat(alloc, op, left)
     }
 
+    /// Takes the next token.
     pub(crate) fn step(&mut self, alloc: Global, token: Token<'_>, left: usize) -> Result<(), Stop>
-        ensures { Steps (state_view self.old) (token_view token.entry) result (state_view self.new) }
+        ensures { Steps (state_view self.old) (token_view token.entry) result
+            (state_view self.new) }
     {
         match token {
             Token::Atom(atom) => self.atom(alloc, atom, left),

@@ -17,6 +17,7 @@ pub(crate) struct Names {
 impl Names {
     ghost use Rattle.logos_syntax.specs.inside.Names.{HasNames, Admits};
 
+    /// No names.
     pub(crate) fn new(alloc: Global) -> Names
         ensures { HasNames result [] }
     {
@@ -27,7 +28,9 @@ impl Names {
 
     /// Adds a name, and says whether it is a new one.
     fn add(&mut self, alloc: Global, name: &[char]) -> Result<bool, AllocError>
-        ensures { (seen : List Text) → HasNames self.old seen → IfOk result (λ added. (added ≡ not (list_any (bytes_eq name.now) seen)) × HasNames self.new (name.now ∷ seen)) }
+        ensures { (seen : List Text) → HasNames self.old seen →
+            IfOk result (λ added. (added ≡ not (list_any (bytes_eq name.now) seen)) ×
+            HasNames self.new (name.now ∷ seen)) }
     {
         let key = Vec::from_slice(alloc, name)?;
         Ok(self.seen.insert(key)?)
@@ -35,7 +38,8 @@ impl Names {
 
     /// Adds the name of a group, if it has one, and says whether it is a new one.
     pub(crate) fn admit(&mut self, alloc: Global, token: Token<'_>) -> Result<bool, AllocError>
-        ensures { (seen : List Text) → HasNames self.old seen → IfOk result (λ admitted. Admits seen (token_view token.entry) admitted self.new) }
+        ensures { (seen : List Text) → HasNames self.old seen →
+            IfOk result (λ admitted. Admits seen (token_view token.entry) admitted self.new) }
     {
         match token {
             Token::Open(Opening::Named(name)) => {

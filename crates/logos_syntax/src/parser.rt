@@ -7,10 +7,10 @@ ghost use Rattle.logos_pattern_tokens.specs.Token.{Text};
 ghost use Rattle.logos_hir.specs.Tree.{Tree};
 ghost use Rattle.logos_hir.specs.Hir.{tree_of};
 ghost use Rattle.logos_syntax.specs.Grammar.{Spells, IsFound, Refuses};
-ghost use Rattle.logos_syntax.specs.inside.Reading.{Stopped};
+ghost use Rattle.logos_syntax.specs.inside.Reading.{StopsText};
 
 use crate::bracket::parser::{read_bracket, stop_for};
-use crate::groups::Machine;
+use crate::groups::Groups;
 use crate::names::Names;
 use logos_hir::hir::Hir;
 use logos_pattern_tokens::error::{Fault, Kind, PatternError, Stop};
@@ -20,24 +20,25 @@ use std::alloc::{AllocError, Global};
 
 /// A pattern that is being read.
 #[derive(Drop)]
-pub(crate) struct Reader {
-    machine: Machine,
+pub(crate) struct Parser {
+    groups: Groups,
     names: Names,
 }
 
-impl Reader {
+impl Parser {
     ghost use Rattle.logos_syntax.specs.inside.Names.{HasNames};
     ghost use Rattle.logos_syntax.specs.inside.GroupsView.{state_view};
     ghost use Rattle.logos_syntax.specs.inside.BracketView.{IsStopOf};
     ghost use Rattle.logos_syntax.specs.inside.Groups.{start};
-    ghost use Rattle.logos_syntax.specs.inside.Reading.{ReadsToken, ReadsTaken};
+    ghost use Rattle.logos_syntax.specs.inside.Reading.{ReadsToken, ReadsSimple};
 
-    fn new(alloc: Global, flags: Flags, left: usize) -> Reader
-        ensures machine { state_view result.machine ≡ start flags }
+    /// A parser at the front of a text of so many characters.
+    fn new(alloc: Global, flags: Flags, left: usize) -> Parser
+        ensures groups { state_view result.groups ≡ start flags }
         ensures names { HasNames result.names [] }
     {
-        Reader {
-            machine: Machine::new(alloc, flags, left),
+        Parser {
+            groups: Groups::new(alloc, flags, left),
             names: Names::new(alloc),
         }
     }
@@ -52,7 +53,7 @@ impl Reader {
                 left: text.len(),
             },
             (Fault::Syntax(kind), ['{', ..]) => self.count_stop(kind, text.len()),
-            (fault, _) => stop_for(self.machine.flags(), fault, text),
+            (fault, _) => stop_for(self.groups.flags(), fault, text),
         }
     }
 
@@ -60,7 +61,7 @@ impl Reader {
     fn count_stop(&self, kind: Kind, left: usize) -> Stop
         ensures { IsStopOf (faults.Syntax kind) result }
     {
-        match (kind, self.machine.repeated()) {
+        match (kind, self.groups.repeated()) {
             (_, None) => Stop::Syntax {
                 kind: Kind::NothingToRepeat,
                 left,
@@ -72,21 +73,25 @@ impl Reader {
 
     /// Reads a bracket from behind its first character.
     fn bracket<'t>(&mut self, alloc: Global, inside: &'t [char]) -> Result<&'t [char], Stop>
-        ensures { (seen : List Text) → HasNames self.old.names seen → ReadsToken (state_view self.old.machine) seen (91 ∷ inside.now) result (state_view self.new.machine) self.new.names }
+        ensures { (seen : List Text) → HasNames self.old.names seen →
+            ReadsToken (state_view self.old.groups) seen (91 ∷ inside.now) result
+            (state_view self.new.groups) self.new.names }
     {
         let left = inside.len().saturating_add(1);
-        let flags = self.machine.flags();
-        let (found, rest) = match read_bracket(alloc, flags, self.machine.depth(), inside) {
+        let flags = self.groups.flags();
+        let (found, rest) = match read_bracket(alloc, flags, self.groups.depth(), inside) {
             Ok(found) => found,
             Err(stop) => return Err(stop),
         };
-        self.machine.class(alloc, found, left)?;
+        self.groups.class(alloc, found, left)?;
         Ok(rest)
     }
 
     /// Reads a token that is no bracket.
     fn simple<'t>(&mut self, alloc: Global, text: &'t [char]) -> Result<&'t [char], Stop>
-        ensures { (seen : List Text) → HasNames self.old.names seen → ReadsTaken (state_view self.old.machine) seen text.now result (state_view self.new.machine) self.new.names }
+        ensures { (seen : List Text) → HasNames self.old.names seen →
+            ReadsSimple (state_view self.old.groups) seen text.now result
+            (state_view self.new.groups) self.new.names }
     {
         let (token, rest) = match token_at(alloc, text) {
             Ok(found) => found,
@@ -98,14 +103,17 @@ impl Reader {
                 left: text.len(),
             });
         }
-        if let Err(stop) = self.machine.step(alloc, token, text.len()) {
+        if let Err(stop) = self.groups.step(alloc, token, text.len()) {
             return Err(stop);
         }
         Ok(rest)
     }
 
+    /// Reads the token at the front.
     fn token<'t>(&mut self, alloc: Global, text: &'t [char]) -> Result<&'t [char], Stop>
-        ensures { (seen : List Text) → HasNames self.old.names seen → ReadsToken (state_view self.old.machine) seen text.now result (state_view self.new.machine) self.new.names }
+        ensures { (seen : List Text) → HasNames self.old.names seen →
+            ReadsToken (state_view self.old.groups) seen text.now result
+            (state_view self.new.groups) self.new.names }
     {
         let [c, inside @ ..] = text else {
             return self.simple(alloc, text);
@@ -128,17 +136,17 @@ fn group_kind(kind: Kind, text: &[char]) -> Kind {
 /// Reads the whole text.
 fn run(alloc: Global, flags: Flags, text: &[char]) -> Result<Hir, Stop>
     ensures found { IfOk result (λ hir. IsFound flags text.now (tree_of hir)) }
-    ensures stopped { IfErr result (Stopped flags text.now) }
+    ensures stopped { IfErr result (StopsText flags text.now) }
 {
-    let mut reader = Reader::new(alloc, flags, text.len());
+    let mut parser = Parser::new(alloc, flags, text.len());
     let mut rest = text;
     while !rest.is_empty() {
-        rest = match reader.token(alloc, rest) {
+        rest = match parser.token(alloc, rest) {
             Ok(after) => after,
             Err(stop) => return Err(stop),
         };
     }
-    reader.machine.finish(alloc)
+    parser.groups.finish(alloc)
 }
 
 /// The number of bytes of the characters.
@@ -151,8 +159,8 @@ fn byte_len(text: &[char]) -> usize {
 }
 
 /// The error of a stop, by the place where it is.
-fn located(text: &[char], stop: Stop) -> PatternError
-    ensures { (flags : FlagsValue) (t : Text) → Stopped flags t stop → Refuses flags t result }
+fn error_at(text: &[char], stop: Stop) -> PatternError
+    ensures { (flags : FlagsValue) (t : Text) → StopsText flags t stop → Refuses flags t result }
 {
     match stop {
         Stop::Syntax { kind, left } => {
@@ -167,6 +175,7 @@ fn located(text: &[char], stop: Stop) -> PatternError
     }
 }
 
+/// The characters of a text.
 fn characters(alloc: Global, regex: &str) -> Result<Vec<char>, AllocError>
     ensures { IfOk result (λ v. v.items ≡ chars regex.now) }
 {
@@ -185,11 +194,12 @@ pub fn parse(alloc: Global, flags: Flags, regex: &str) -> Result<Hir, PatternErr
     let text = characters(alloc, regex)?;
     match run(alloc, flags, &text) {
         Ok(hir) => Ok(hir),
-        Err(stop) => Err(located(&text, stop)),
+        Err(stop) => Err(error_at(&text, stop)),
     }
 }
 
 /// A text has at most one tree.
 pub fn one_tree()
-    ensures { (flags : FlagsValue) (text : Text) (a b : Tree) (m n : ℕ) → Spells flags text a m → Spells flags text b n → (a ≡ b) × (m ≡ n) }
+    ensures { (flags : FlagsValue) (text : Text) (a b : Tree) (m n : ℕ) → Spells flags text a m →
+        Spells flags text b n → (a ≡ b) × (m ≡ n) }
 {}

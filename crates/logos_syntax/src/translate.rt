@@ -5,10 +5,10 @@ ghost use Rattle.logos_hir.specs.Tree.{literal};
 ghost use Rattle.logos_hir.specs.Hir.{tree_of};
 ghost use Rattle.logos_hir.specs.Sets.{only_chars};
 ghost use Rattle.logos_hir.specs.RangeSets.{set_of};
-ghost use Rattle.logos_syntax.specs.bracket.Meaning.{turned, folded};
+ghost use Rattle.logos_syntax.specs.bracket.Meaning.{set_or_complement, case_closure};
 ghost use Rattle.logos_syntax.specs.Grammar.{one_of, same_as, character_tree, byte_tree, dot_set, start_look, end_look, atom_tree, atom_fits};
 
-use crate::bracket::translate::{folded, number_set, turned};
+use crate::bracket::translate::{case_closure, number_set, set_or_complement};
 use logos_hir::build;
 use logos_hir::hir::{Hir, Look, Range};
 use logos_hir::property::{perl_set, property_set};
@@ -31,11 +31,11 @@ fn same_as(alloc: Global, flags: Flags, code: u32) -> Result<RangeSet, AllocErro
     ensures { IfOk result (λ set. set_of set ≡ same_as flags code) }
 {
     let only = number_set(alloc, code)?;
-    folded(alloc, flags, only)
+    case_closure(alloc, flags, only)
 }
 
 /// The bytes of a character.
-fn encoded(alloc: Global, c: char) -> Result<Hir, AllocError>
+fn encoding(alloc: Global, c: char) -> Result<Hir, AllocError>
     ensures { IfOk result (λ hir. tree_of hir ≡ literal (encode_utf8 c)) }
 {
     let mut buffer = [0; 4];
@@ -43,15 +43,17 @@ fn encoded(alloc: Global, c: char) -> Result<Hir, AllocError>
     Ok(Hir::Literal(Vec::from_slice(alloc, bytes)?))
 }
 
+/// A character by itself, under `i` in each case.
 fn character(alloc: Global, flags: Flags, c: char) -> Result<Hir, AllocError>
     ensures { IfOk result (λ hir. tree_of hir ≡ character_tree flags c) }
 {
     if flags.ignore_case && (flags.unicode || c.is_ascii()) {
         return one_of(alloc, flags, same_as(alloc, flags, c as u32)?);
     }
-    encoded(alloc, c)
+    encoding(alloc, c)
 }
 
+/// A byte, or the character with its number.
 fn byte(alloc: Global, flags: Flags, b: u8) -> Result<Hir, AllocError>
     ensures { IfOk result (λ hir. tree_of hir ≡ byte_tree flags b) }
 {
@@ -79,6 +81,7 @@ fn dot_set(alloc: Global, flags: Flags) -> Result<RangeSet, AllocError>
     RangeSet::from_ranges(alloc, &[Range::new(0, 9), Range::new(11, last)])
 }
 
+/// What `^` asks for.
 fn start_look(flags: Flags) -> Look
     ensures { result ≡ start_look flags }
 {
@@ -89,6 +92,7 @@ fn start_look(flags: Flags) -> Look
     }
 }
 
+/// What `$` asks for.
 fn end_look(flags: Flags) -> Look
     ensures { result ≡ end_look flags }
 {
@@ -99,6 +103,7 @@ fn end_look(flags: Flags) -> Look
     }
 }
 
+/// A word boundary, or a place that is none.
 fn boundary(negated: bool) -> Look
     ensures { result ≡ (if negated then Look.WordAsciiNegate else Look.WordAscii) }
 {
@@ -111,12 +116,18 @@ fn boundary(negated: bool) -> Look
 
 /// One of a class, or of its complement.
 fn class(alloc: Global, flags: Flags, negated: bool, set: RangeSet) -> Result<Hir, AllocError>
-    ensures { IfOk result (λ hir. tree_of hir ≡ one_of flags (turned flags negated (folded flags (set_of set)))) }
+    ensures { IfOk result (λ hir. tree_of hir ≡
+        one_of flags (set_or_complement flags negated (case_closure flags (set_of set)))) }
 {
-    let same_letters = folded(alloc, flags, set)?;
-    one_of(alloc, flags, turned(flags, negated, same_letters)?)
+    let same_letters = case_closure(alloc, flags, set)?;
+    one_of(
+        alloc,
+        flags,
+        set_or_complement(flags, negated, same_letters)?,
+    )
 }
 
+/// The tree of an atom.
 pub(crate) fn atom_tree(alloc: Global, flags: Flags, atom: Atom) -> Result<Hir, AllocError>
     ensures { IfOk result (λ hir. tree_of hir ≡ atom_tree flags atom) }
 {

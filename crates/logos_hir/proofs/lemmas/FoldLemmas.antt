@@ -16,7 +16,7 @@ use Rattle.unicode.proofs.TableComputing.{tables}
 use Rattle.unicode.proofs.RangedFacts.{points_ok, Stepped-at_points}
 use Rattle.logos_hir.specs.Sets.{Set, members, only_chars, in_range, in_ranges}
 use Rattle.logos_hir.specs.Fold.{any_below, fold_case, fold_ascii}
-use Rattle.logos_hir.specs.inside.FoldSteps.{in_values, in_image, moved}
+use Rattle.logos_hir.specs.inside.FoldSteps.{in_values, in_image, shift}
 use Rattle.logos_hir.proofs.lemmas.RangeLemmas.{or_assoc, or_false, char_bound, same_chars}
 
 same_tests : (a b : Bool) → (a ≡ true → b ≡ true) → (b ≡ true → a ≡ true) → a ≡ b
@@ -230,10 +230,10 @@ folded_members xs ys h = same_chars (in_ranges ys) (folds) (λ c hc. h c ∙ sam
 -- ---- ASCII letters
 
 pub moved_range : (r : ℕ × ℕ) (first last to start end c : ℕ) → start ≡ max r.0 first → end ≡ min r.1 last → start ≤ end → first ≤ last →
-    in_range (start - first + to, end - first + to) c ≡ moved first last to (in_range r) c
+    in_range (start - first + to, end - first + to) c ≡ shift first last to (in_range r) c
 moved_range r first last to start end c es ee le order = grind (arith, nat_tests)
 
-pub moved_union : (first last to : ℕ) (a b : Set) (c : ℕ) → moved first last to (λ d. a d || b d) c ≡ (moved first last to a c || moved first last to b c)
+pub moved_union : (first last to : ℕ) (a b : Set) (c : ℕ) → shift first last to (λ d. a d || b d) c ≡ (shift first last to a c || shift first last to b c)
 moved_union first last to a b c = shared (nat_le to c && nat_le c (to + (last - first))) (a (c - to + first)) (b (c - to + first))
   where
     shared : (x y z : Bool) → (x && (y || z)) ≡ ((x && y) || (x && z))
@@ -251,7 +251,7 @@ small_char c lt = grind (arith, nat_tests)
 
 -- the three kinds of numbers: an upper-case letter, a lower-case one, any other
 cased_upper : (s : Set) (c : ℕ) → 65 ≤ c → c < 91 →
-    (scalar c && (s c || (moved 65 90 97 s c || moved 97 122 65 s c))) ≡ fold_ascii (only_chars s) c
+    (scalar c && (s c || (shift 65 90 97 s c || shift 97 122 65 s c))) ≡ fold_ascii (only_chars s) c
 cased_upper s c a b =
     let low : to_ascii_lowercase c ≡ c + 32 = grind (arith, nat_tests) in
     let high : to_ascii_uppercase c ≡ c = grind (arith, nat_tests) in
@@ -261,8 +261,8 @@ cased_upper s c a b =
     let last : nat_le c 90 ≡ true = le-leb c 90 (omega arith) in
     let char : scalar c ≡ true = small_char c (omega arith) in
     let other : scalar (c + 32) ≡ true = small_char (c + 32) (omega arith) in
-    let left : (scalar c && (s c || (moved 65 90 97 s c || moved 97 122 65 s c))) ≡ (s c || s (c + 32)) =
-    ap (λ b. b && (s c || (moved 65 90 97 s c || moved 97 122 65 s c))) char
+    let left : (scalar c && (s c || (shift 65 90 97 s c || shift 97 122 65 s c))) ≡ (s c || s (c + 32)) =
+    ap (λ b. b && (s c || (shift 65 90 97 s c || shift 97 122 65 s c))) char
     ∙ ap₂ (λ x y. s c || (((x && nat_le c 122) && s (c - 97 + 65)) || ((y && nat_le c 90) && s (c - 65 + 97)))) lower upper
     ∙ ap₂ (λ x n. s c || (x && s n)) last from in
     let right : fold_ascii (only_chars s) c ≡ (s (c + 32) || s c) =
@@ -270,7 +270,7 @@ cased_upper s c a b =
     left ∙ or_comm (s c) (s (c + 32)) ∙ sym right
 
 cased_lower : (s : Set) (c : ℕ) → 97 ≤ c → c < 123 →
-    (scalar c && (s c || (moved 65 90 97 s c || moved 97 122 65 s c))) ≡ fold_ascii (only_chars s) c
+    (scalar c && (s c || (shift 65 90 97 s c || shift 97 122 65 s c))) ≡ fold_ascii (only_chars s) c
 cased_lower s c a b =
     let low : to_ascii_lowercase c ≡ c = grind (arith, nat_tests) in
     let high : to_ascii_uppercase c ≡ c - 32 = grind (arith, nat_tests) in
@@ -280,8 +280,8 @@ cased_lower s c a b =
     let upper : nat_le c 90 ≡ false = lt-leb c 90 (omega arith) in
     let char : scalar c ≡ true = small_char c (omega arith) in
     let other : scalar (c - 32) ≡ true = small_char (c - 32) (omega arith) in
-    let left : (scalar c && (s c || (moved 65 90 97 s c || moved 97 122 65 s c))) ≡ (s c || (s (c - 32) || ((nat_le 65 c && false) && s (c - 65 + 97)))) =
-    ap (λ b. b && (s c || (moved 65 90 97 s c || moved 97 122 65 s c))) char
+    let left : (scalar c && (s c || (shift 65 90 97 s c || shift 97 122 65 s c))) ≡ (s c || (s (c - 32) || ((nat_le 65 c && false) && s (c - 65 + 97)))) =
+    ap (λ b. b && (s c || (shift 65 90 97 s c || shift 97 122 65 s c))) char
     ∙ ap₂ (λ x y. s c || (((x && y) && s (c - 97 + 65)) || ((nat_le 65 c && nat_le c 90) && s (c - 65 + 97)))) first last
     ∙ ap₂ (λ x n. s c || (s n || ((nat_le 65 c && x) && s (c - 65 + 97)))) upper from in
     let right : fold_ascii (only_chars s) c ≡ (s c || s (c - 32)) =
@@ -295,7 +295,7 @@ cased_lower s c a b =
     gone false false z = refl
 
 cased_other : (s : Set) (c : ℕ) → (c < 65) ⊎ ((91 ≤ c) × (c < 97)) ⊎ (123 ≤ c) →
-    (scalar c && (s c || (moved 65 90 97 s c || moved 97 122 65 s c))) ≡ fold_ascii (only_chars s) c
+    (scalar c && (s c || (shift 65 90 97 s c || shift 97 122 65 s c))) ≡ fold_ascii (only_chars s) c
 cased_other s c h =
     let low : to_ascii_lowercase c ≡ c = grind (arith, nat_tests) in
     let high : to_ascii_uppercase c ≡ c = grind (arith, nat_tests) in
@@ -308,12 +308,12 @@ cased_other s c h =
     twice true = refl
     twice false = refl
 
-pub cased_members : (xs ys : List (ℕ × ℕ)) → ((c : ℕ) → in_ranges ys c ≡ (in_ranges xs c || (moved 65 90 97 (in_ranges xs) c || moved 97 122 65 (in_ranges xs) c))) →
+pub cased_members : (xs ys : List (ℕ × ℕ)) → ((c : ℕ) → in_ranges ys c ≡ (in_ranges xs c || (shift 65 90 97 (in_ranges xs) c || shift 97 122 65 (in_ranges xs) c))) →
     members ys ≡ fold_ascii (members xs)
 cased_members xs ys h = fun_ext (λ c. ap (λ b. scalar c && b) (h c) ∙ at c (cases_lt c 65) (cases_lt c 91) (cases_lt c 97) (cases_lt c 123))
   where
     at : (c : ℕ) → (c < 65) ⊎ (65 ≤ c) → (c < 91) ⊎ (91 ≤ c) → (c < 97) ⊎ (97 ≤ c) → (c < 123) ⊎ (123 ≤ c) →
-        (scalar c && (in_ranges xs c || (moved 65 90 97 (in_ranges xs) c || moved 97 122 65 (in_ranges xs) c))) ≡ fold_ascii (only_chars (in_ranges xs)) c
+        (scalar c && (in_ranges xs c || (shift 65 90 97 (in_ranges xs) c || shift 97 122 65 (in_ranges xs) c))) ≡ fold_ascii (only_chars (in_ranges xs)) c
     at c (inl a) h i j = cased_other (in_ranges xs) c (inl a)
     at c (inr a) (inl b) i j = cased_upper (in_ranges xs) c a b
     at c (inr a) (inr b) (inl d) j = cased_other (in_ranges xs) c (inr (inl (b, d)))

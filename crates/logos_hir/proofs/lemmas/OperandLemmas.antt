@@ -11,12 +11,12 @@ use Rattle.logos_hir.specs.declared.sets.operands.Operand.{Operand}
 use Rattle.logos_hir.specs.Hir.{pairs}
 use Rattle.logos_hir.specs.Sets.{Set, members, union, intersection, difference, complement, in_ranges}
 use Rattle.logos_hir.specs.RangeSets.{set_of}
-use Rattle.logos_hir.specs.Operands.{combined}
+use Rattle.logos_hir.specs.Operands.{combination}
 use Rattle.logos_hir.specs.Operands.{with_operand, with_operands}
-use Rattle.logos_hir.specs.inside.Effects.{chosen, Makes}
+use Rattle.logos_hir.specs.inside.Effects.{selection, Makes}
 use Rattle.logos_hir.proofs.lemmas.RangeLemmas.{char_bound}
 
-pub chosen_by_parts : (test inside outside : Set) → union (intersection test inside) (difference outside test) ≡ chosen test inside outside
+pub chosen_by_parts : (test inside outside : Set) → union (intersection test inside) (difference outside test) ≡ selection test inside outside
 chosen_by_parts test inside outside = fun_ext (λ c. at (test c) (inside c) (outside c))
   where
     at : (t a b : Bool) → ((t && a) || (b && not t)) ≡ cond t a b
@@ -35,7 +35,7 @@ complement_at set c h = rw (h, le-leb c 0x10_FFFF (char_bound c h)) refl
 
 -- what the function makes of members is in the second set, and what it adds is in the first
 abbrev pub IsMade : Set → Set → (Set → Set) → Type 0
-IsMade outside inside f = (before : Set) (c : ℕ) → scalar c ≡ true → f before c ≡ chosen before inside outside c
+IsMade outside inside f = (before : Set) (c : ℕ) → scalar c ≡ true → f before c ≡ selection before inside outside c
 
 pub no_operand : IsMade (λ c. false) (complement 0x10_FFFF (λ c. false)) (λ before. before)
 no_operand before c h = at (before c) (complement_at (λ n. false) c h)
@@ -51,21 +51,21 @@ first_operand set before c h = at (before c)
     at true = refl
     at false = refl
 
-pub by_intersection : (set : Set) → IsMade (λ c. false) set (λ before. combined Intersection before set)
+pub by_intersection : (set : Set) → IsMade (λ c. false) set (λ before. combination Intersection before set)
 by_intersection set before c h = at (before c)
   where
     at : (b : Bool) → (b && set c) ≡ cond b (set c) false
     at true = refl
     at false = refl
 
-pub by_difference : (set : Set) → IsMade (λ c. false) (complement 0x10_FFFF set) (λ before. combined Difference before set)
+pub by_difference : (set : Set) → IsMade (λ c. false) (complement 0x10_FFFF set) (λ before. combination Difference before set)
 by_difference set before c h = at (before c) (complement_at set c h)
   where
     at : (b : Bool) → complement 0x10_FFFF set c ≡ not (set c) → (b && not (set c)) ≡ cond b (complement 0x10_FFFF set c) false
     at true e = sym e
     at false e = refl
 
-pub by_symmetric_difference : (set : Set) → IsMade set (complement 0x10_FFFF set) (λ before. combined SymmetricDifference before set)
+pub by_symmetric_difference : (set : Set) → IsMade set (complement 0x10_FFFF set) (λ before. combination SymmetricDifference before set)
 by_symmetric_difference set before c h = at (before c) (complement_at set c h)
   where
     at : (b : Bool) → complement 0x10_FFFF set c ≡ not (set c) → cond b (not (set c)) (set c) ≡ cond b (complement 0x10_FFFF set c) (set c)
@@ -76,10 +76,10 @@ by_symmetric_difference set before c h = at (before c) (complement_at set c h)
 pub same_made : (outside outside2 inside inside2 : Set) (f f2 : Set → Set) → outside ≡ outside2 → inside ≡ inside2 → ((before : Set) → f before ≡ f2 before) →
     IsMade outside2 inside2 f2 → IsMade outside inside f
 same_made outside outside2 inside inside2 f f2 eo ei ef h before c char =
-    ap (λ (s : Set). s c) (ef before) ∙ h before c char ∙ ap₂ (λ (i o : Set). chosen before i o c) (sym ei) (sym eo)
+    ap (λ (s : Set). s c) (ef before) ∙ h before c char ∙ ap₂ (λ (i o : Set). selection before i o c) (sym ei) (sym eo)
 
 -- one effect, and then another
-pub made_then : (o i p j : Set) (f g : Set → Set) → IsMade o i f → IsMade p j g → IsMade (chosen o j p) (chosen i j p) (λ before. g (f before))
+pub made_then : (o i p j : Set) (f g : Set → Set) → IsMade o i f → IsMade p j g → IsMade (selection o j p) (selection i j p) (λ before. g (f before))
 made_then o i p j f g hf hg before c h =
     hg (f before) c h ∙ ap (λ b. cond b (j c) (p c)) (hf before c h) ∙ at (before c)
   where

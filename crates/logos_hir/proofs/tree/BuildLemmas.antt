@@ -15,7 +15,7 @@ use Rattle.std.specs.Str.{is_utf8, IsUtf8}
 use Rattle.std.proofs.lemmas.Str.{IsUtf8-from_is_utf8, is_utf8-from_IsUtf8}
 use Rattle.logos_hir.specs.Tree.{Tree, empty, literal, byte_class, char_class, look, repetition, capture, concat, alternation, trees}
 use Rattle.logos_hir.specs.Sets.{Set, members, intersection, in_range, AreCanonical}
-use Rattle.logos_hir.specs.Build.{sole_item, sole_char, chars_or, choice_of, all_ranges, char_ranges_of, list_of, branches_of, join, with_text, joined, in_a_row, sole_member, char_tree, byte_tree, one_char_of, one_byte_of}
+use Rattle.logos_hir.specs.Build.{sole_item, sole_char, chars_or, choice_of, all_ranges, char_ranges_of, list_of, branches_of, join, with_text, junction, in_a_row, sole_member, char_tree, byte_tree, one_char_of, one_byte_of}
 use Rattle.logos_hir.specs.inside.BuildSteps.{part_text, add_text, add_part, add_parts, is_literal_tree, are_apart}
 use Rattle.logos_hir.proofs.lemmas.SameMembers.{char_ranges_same, byte_ranges_same, sole_member_is_member}
 
@@ -123,19 +123,19 @@ join-add_part x y zs = go (part y)
     go (is_text b e) = rw e (join-add_text x zs b)
     go (is_other f g p w) = ap (join x) (g zs) ∙ join-push x y zs w ∙ sym (g (join x zs))
 
-joined-push : (xs : List Tree) (y : Tree) → joined (xs ++ y ∷ []) ≡ add_part (joined xs) y
-joined-push [] y = go (part y)
+junction-push : (xs : List Tree) (y : Tree) → junction (xs ++ y ∷ []) ≡ add_part (junction xs) y
+junction-push [] y = go (part y)
   where
     go : Part y → join y [] ≡ add_part [] y
     go (is_text b e) = rw e refl
     go (is_other f g p w) = f [] ∙ sym (g [])
-joined-push (x ∷ xs) y = ap (join x) (joined-push xs y) ∙ join-add_part x y (joined xs)
+junction-push (x ∷ xs) y = ap (join x) (junction-push xs y) ∙ join-add_part x y (junction xs)
 
 -- parts joined from the left are parts joined
-pub joined-append : (xs ys : List Tree) → joined (xs ++ ys) ≡ add_parts (joined xs) ys
-joined-append xs [] = ap joined (append-nil xs)
-joined-append xs (y ∷ ys) =
-    ap joined (sym (append_assoc xs (y ∷ []) ys)) ∙ joined-append (xs ++ y ∷ []) ys ∙ ap (λ ps. add_parts ps ys) (joined-push xs y)
+pub junction-append : (xs ys : List Tree) → junction (xs ++ ys) ≡ add_parts (junction xs) ys
+junction-append xs [] = ap junction (append-nil xs)
+junction-append xs (y ∷ ys) =
+    ap junction (sym (append_assoc xs (y ∷ []) ys)) ∙ junction-append (xs ++ y ∷ []) ys ∙ ap (λ ps. add_parts ps ys) (junction-push xs y)
 
 -- parts that do not join stay as they are
 join-apart : (t : Tree) (rest : List Tree) → are_apart (is_literal_tree t) rest ≡ true → join t rest ≡ t ∷ rest
@@ -153,14 +153,14 @@ join-apart t rest h = go (part t)
     go (is_text a e) = ap (λ (x : Tree). join x rest) e ∙ behind a rest (ap (λ (x : Tree). are_apart (is_literal_tree x) rest) (sym e) ∙ h) ∙ ap (λ (x : Tree). x ∷ rest) (sym e)
     go (is_other f g p w) = f rest
 
-joined-apart : (behind : Bool) (ts : List Tree) → are_apart behind ts ≡ true → joined ts ≡ ts
-joined-apart behind [] h = refl
-joined-apart behind (t ∷ rest) h =
+junction-apart : (behind : Bool) (ts : List Tree) → are_apart behind ts ≡ true → junction ts ≡ ts
+junction-apart behind [] h = refl
+junction-apart behind (t ∷ rest) h =
     let p = and_parts (not (behind && is_literal_tree t)) (are_apart (is_literal_tree t) rest) h in
-    ap (join t) (joined-apart (is_literal_tree t) rest p.1) ∙ join-apart t rest p.1
+    ap (join t) (junction-apart (is_literal_tree t) rest p.1) ∙ join-apart t rest p.1
 
 pub first_parts : (ts : List Tree) → are_apart false ts ≡ true → ts ≡ add_parts [] ts
-first_parts ts h = sym (joined-apart false ts h) ∙ joined-append [] ts
+first_parts ts h = sym (junction-apart false ts h) ∙ junction-append [] ts
 
 pub nil_from_length : {X : Type 0} (xs : List X) → length xs ≡ 0 → xs ≡ []
 nil_from_length [] h = refl

@@ -6,9 +6,9 @@ use Rattle.logos_hir.specs.Sets.{Set}
 use Rattle.logos_hir.specs.RangeSets.{set_of}
 
 -- the members of the one set that are in the test, and those of the other that are not
-abbrev pub chosen : Set → Set → Set → Set
-chosen test inside outside c = if test c then inside c else outside c
+abbrev pub selection : Set → Set → Set → Set
+selection test inside outside c = if test c then inside c else outside c
 
 -- of each character of a set, and of each that it lacks, the effect says what the function makes of it
 abbrev pub Makes : Effect → (Set → Set) → Type 0
-Makes effect f = (before : Set) (c : ℕ) → scalar c ≡ true → f before c ≡ chosen before (set_of effect.inside) (set_of effect.outside) c
+Makes effect f = (before : Set) (c : ℕ) → scalar c ≡ true → f before c ≡ selection before (set_of effect.inside) (set_of effect.outside) c

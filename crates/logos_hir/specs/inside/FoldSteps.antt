@@ -12,5 +12,5 @@ abbrev pub in_image : List (ℕ × ℕ) → Set → Set
 in_image table set c = list_any (λ p. set p.0 && (p.1 == c)) table
 
 -- the members from the first to the last one, moved so that the first becomes another
-abbrev pub moved : ℕ → ℕ → ℕ → Set → Set
-moved first last to set c = (nat_le to c && nat_le c (to + (last - first))) && set (c - to + first)
+abbrev pub shift : ℕ → ℕ → ℕ → Set → Set
+shift first last to set c = (nat_le to c && nat_le c (to + (last - first))) && set (c - to + first)

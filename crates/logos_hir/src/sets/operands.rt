@@ -2,8 +2,8 @@
 
 ghost use Rattle.std.specs.Prelude.{◌≡◌, false, IfOk};
 ghost use Rattle.logos_hir.specs.RangeSets.{set_of};
-ghost use Rattle.logos_hir.specs.inside.Effects.{chosen, Makes};
-ghost use Rattle.logos_hir.specs.Operands.{with_operands};
+ghost use Rattle.logos_hir.specs.inside.Effects.{selection, Makes};
+ghost use Rattle.logos_hir.specs.Operands.{combination, with_operands};
 
 use crate::sets::RangeSet;
 use std::alloc::{AllocError, Global};
@@ -27,8 +27,8 @@ pub struct Operand {
 }
 
 /// Two sets, by the operator between them.
-pub fn combined(op: SetOperator, a: &RangeSet, b: &RangeSet) -> Result<RangeSet, AllocError>
-    ensures { IfOk result (λ set. set_of set ≡ combined op (set_of a.now) (set_of b.now)) }
+pub fn combination(op: SetOperator, a: &RangeSet, b: &RangeSet) -> Result<RangeSet, AllocError>
+    ensures { IfOk result (λ set. set_of set ≡ combination op (set_of a.now) (set_of b.now)) }
 {
     match op {
         SetOperator::Intersection => a.intersection(b),
@@ -45,12 +45,14 @@ pub struct Effect {
     inside: RangeSet,
 }
 
+/// The set without members.
 fn nothing(alloc: Global) -> Result<RangeSet, AllocError>
     ensures { IfOk result (λ set. set_of set ≡ (λ c. false)) }
 {
     RangeSet::from_ranges(alloc, &[])
 }
 
+/// A set with the same members.
 fn copy(alloc: Global, set: &RangeSet) -> Result<RangeSet, AllocError>
     ensures { IfOk result (λ out. set_of out ≡ set_of set.now) }
 {
@@ -58,8 +60,8 @@ fn copy(alloc: Global, set: &RangeSet) -> Result<RangeSet, AllocError>
 }
 
 /// The members of `inside` that are in the test, and those of `outside` that are not.
-fn choice(test: &RangeSet, inside: &RangeSet, outside: &RangeSet) -> Result<RangeSet, AllocError>
-    ensures { IfOk result (λ set. set_of set ≡ chosen (set_of test.now) (set_of inside.now) (set_of outside.now)) }
+fn selection(test: &RangeSet, inside: &RangeSet, outside: &RangeSet) -> Result<RangeSet, AllocError>
+    ensures { IfOk result (λ set. set_of set ≡ selection (set_of test.now) (set_of inside.now) (set_of outside.now)) }
 {
     test.intersection(inside)?.union(&outside.difference(test)?)
 }
@@ -68,7 +70,7 @@ impl Effect {
     ghost use Rattle.std.specs.Prelude.{IfOk};
     ghost use Rattle.logos_hir.specs.Sets.{Set};
     ghost use Rattle.logos_hir.specs.RangeSets.{set_of};
-    ghost use Rattle.logos_hir.specs.Operands.{combined};
+    ghost use Rattle.logos_hir.specs.Operands.{combination};
     ghost use Rattle.logos_hir.specs.Operands.{with_operand};
     ghost use Rattle.logos_hir.specs.inside.Effects.{Makes};
 
@@ -83,7 +85,7 @@ impl Effect {
 
     /// The effect of an operand behind an operator.
     fn behind(alloc: Global, op: SetOperator, set: &RangeSet) -> Result<Effect, AllocError>
-        ensures { IfOk result (λ effect. Makes effect (λ before. combined op before (set_of set.now))) }
+        ensures { IfOk result (λ effect. Makes effect (λ before. combination op before (set_of set.now))) }
     {
         match op {
             SetOperator::Intersection => Ok(Effect {
@@ -119,14 +121,14 @@ impl Effect {
         ensures { IfOk result (λ effect. (f g : Set → Set) → Makes self.now f → Makes other.now g → Makes effect (λ before. g (f before))) }
     {
         Ok(Effect {
-            outside: choice(&self.outside, &other.inside, &other.outside)?,
-            inside: choice(&self.inside, &other.inside, &other.outside)?,
+            outside: selection(&self.outside, &other.inside, &other.outside)?,
+            inside: selection(&self.inside, &other.inside, &other.outside)?,
         })
     }
 }
 
-/// What the operands make of a set, from the left. Halves are put together, so that each range is
-/// gone over as often as the operands can be halved.
+/// What the operands make of a set, from the left. The effects of both
+/// halves are put together, so that each range is gone over as often as the operands can be halved.
 fn effect_of(alloc: Global, operands: &[Operand]) -> Result<Effect, AllocError>
     ensures { IfOk result (λ effect. Makes effect (with_operands operands.now)) }
 {

@@ -32,27 +32,27 @@ last_at (c ∷ rest) =
     if c == 92 then escape_at rest >>= (λ x. option_map (λ s. (s, x.1)) (symbol_of x.0))
     else Some (Character c, rest)
 
-unfoldable pub ordered : Symbol → Symbol × Text → Option (BracketToken × Text)
-ordered a x = if nat_le (code_of a) (code_of x.0) then Some (tokens.Item (items.Range a x.0), x.1) else None
+unfoldable pub range_token : Symbol → Symbol × Text → Option (BracketToken × Text)
+range_token a x = if nat_le (code_of a) (code_of x.0) then Some (tokens.Item (items.Range a x.0), x.1) else None
 
 -- a character, or the range that it begins
-unfoldable pub ranged_at : Symbol → Text → Option (BracketToken × Text)
-ranged_at a rest = if begins_range rest then last_at (drop 1 rest) >>= ordered a else Some (tokens.Item (items.One a), rest)
+unfoldable pub range_at : Symbol → Text → Option (BracketToken × Text)
+range_at a rest = if begins_range rest then last_at (drop 1 rest) >>= range_token a else Some (tokens.Item (items.One a), rest)
 
 -- a class, which begins no range
 unfoldable pub lone_at : Item → Text → Option (BracketToken × Text)
 lone_at item rest = if begins_range rest then None else Some (tokens.Item item, rest)
 
-unfoldable pub escaped_item : Atom → Text → Option (BracketToken × Text)
-escaped_item (atoms.Character c) rest = ranged_at (Character c) rest
-escaped_item (atoms.Byte b) rest = ranged_at (Byte b) rest
-escaped_item (atoms.Perl kind negated) rest = lone_at (items.Perl kind negated) rest
-escaped_item (atoms.Property set negated) rest = lone_at (items.Property set negated) rest
-escaped_item _ rest = None
+unfoldable pub escape_item : Atom → Text → Option (BracketToken × Text)
+escape_item (atoms.Character c) rest = range_at (Character c) rest
+escape_item (atoms.Byte b) rest = range_at (Byte b) rest
+escape_item (atoms.Perl kind negated) rest = lone_at (items.Perl kind negated) rest
+escape_item (atoms.Property set negated) rest = lone_at (items.Property set negated) rest
+escape_item _ rest = None
 
 unfoldable pub item_at : Text → Option (BracketToken × Text)
 item_at [] = None
-item_at (c ∷ rest) = if c == 92 then escape_at rest >>= (λ x. escaped_item x.0 x.1) else ranged_at (Character c) rest
+item_at (c ∷ rest) = if c == 92 then escape_at rest >>= (λ x. escape_item x.0 x.1) else range_at (Character c) rest
 
 -- ---- openings
 

@@ -3,7 +3,7 @@
 ghost use Rattle.std.specs.Prelude.{◌≡◌, ◌+◌, ◌≤◌, Option, Some, MatchOption, option_map};
 ghost use Rattle.logos_pattern_tokens.specs.Token.{Gives};
 ghost use Rattle.logos_pattern_tokens.specs.bracket.Spelling.{code_of, begins_operator, begins_range};
-ghost use Rattle.logos_pattern_tokens.specs.bracket.Reader.{symbol_of, last_at, ordered, ranged_at, lone_at, escaped_item, item_at, dashes_from, lead_at, open_at, class_end, name_end, colon_at, class_at, inner_at, operator_of, bracket_token_at};
+ghost use Rattle.logos_pattern_tokens.specs.bracket.Reader.{symbol_of, last_at, range_token, range_at, lone_at, escape_item, item_at, dashes_from, lead_at, open_at, class_end, name_end, colon_at, class_at, inner_at, operator_of, bracket_token_at};
 
 use crate::bracket::token::{BracketToken, Item, Lead, Symbol};
 use crate::counts::cut_at;
@@ -34,6 +34,7 @@ fn begins_range(text: &[char]) -> bool
     }
 }
 
+/// Whether the character and the next one are an operator.
 fn begins_operator(c: char, rest: &[char]) -> bool
     ensures { result ≡ begins_operator c rest.now }
 {
@@ -80,13 +81,14 @@ fn last_at(alloc: Global, text: &[char]) -> Result<(Symbol, &[char]), Fault>
     }
 }
 
-#[tactic(auto, unfolding(crate::specs::bracket::Reader::ordered))]
-fn ordered<'t>(
+/// The range from one end to the other, which is not before it.
+#[tactic(auto, unfolding(crate::specs::bracket::Reader::range_token))]
+fn range_token<'t>(
     first: Symbol,
     last: Symbol,
     rest: &'t [char],
 ) -> Result<(BracketToken, &'t [char]), Fault>
-    ensures { Gives (λ x. (x.0, x.1.now)) result (ordered first (last, rest.now)) }
+    ensures { Gives (λ x. (x.0, x.1.now)) result (range_token first (last, rest.now)) }
 {
     if code_of(first) > code_of(last) {
         return Err(Fault::Syntax(Kind::ClassRange));
@@ -95,15 +97,15 @@ fn ordered<'t>(
 }
 
 /// A character, or the range that it begins.
-#[tactic(auto, unfolding(crate::specs::bracket::Reader::ranged_at))]
-fn ranged_at(alloc: Global, first: Symbol, rest: &[char]) -> Result<(BracketToken, &[char]), Fault>
-    ensures { Gives (λ x. (x.0, x.1.now)) result (ranged_at first rest.now) }
+#[tactic(auto, unfolding(crate::specs::bracket::Reader::range_at))]
+fn range_at(alloc: Global, first: Symbol, rest: &[char]) -> Result<(BracketToken, &[char]), Fault>
+    ensures { Gives (λ x. (x.0, x.1.now)) result (range_at first rest.now) }
 {
     if !begins_range(rest) {
         return Ok((BracketToken::Item(Item::One(first)), rest));
     }
     let (last, after) = last_at(alloc, &rest[1..])?;
-    ordered(first, last, after)
+    range_token(first, last, after)
 }
 
 /// A class, which begins no range.
@@ -117,13 +119,14 @@ fn lone_at(item: Item, rest: &[char]) -> Result<(BracketToken, &[char]), Fault>
     Ok((BracketToken::Item(item), rest))
 }
 
-#[tactic(auto, unfolding(crate::specs::bracket::Reader::escaped_item))]
-fn escaped_item(alloc: Global, atom: Atom, rest: &[char]) -> Result<(BracketToken, &[char]), Fault>
-    ensures { Gives (λ x. (x.0, x.1.now)) result (escaped_item atom rest.now) }
+/// The item that begins with an escape.
+#[tactic(auto, unfolding(crate::specs::bracket::Reader::escape_item))]
+fn escape_item(alloc: Global, atom: Atom, rest: &[char]) -> Result<(BracketToken, &[char]), Fault>
+    ensures { Gives (λ x. (x.0, x.1.now)) result (escape_item atom rest.now) }
 {
     match atom {
-        Atom::Character(c) => ranged_at(alloc, Symbol::Character(c), rest),
-        Atom::Byte(b) => ranged_at(alloc, Symbol::Byte(b), rest),
+        Atom::Character(c) => range_at(alloc, Symbol::Character(c), rest),
+        Atom::Byte(b) => range_at(alloc, Symbol::Byte(b), rest),
         Atom::Perl(kind, negated) => lone_at(Item::Perl(kind, negated), rest),
         Atom::Property(set, negated) => lone_at(Item::Property(set, negated), rest),
         _ => Err(Fault::Syntax(Kind::EscapeUnknown)),
@@ -139,9 +142,9 @@ fn item_at(alloc: Global, text: &[char]) -> Result<(BracketToken, &[char]), Faul
         [] => Err(Fault::Syntax(Kind::Unclosed)),
         ['\\', rest @ ..] => {
             let (atom, after) = escape_at(alloc, rest)?;
-            escaped_item(alloc, atom, after)
+            escape_item(alloc, atom, after)
         }
-        [c, rest @ ..] => ranged_at(alloc, Symbol::Character(*c), rest),
+        [c, rest @ ..] => range_at(alloc, Symbol::Character(*c), rest),
     }
 }
 
@@ -211,6 +214,7 @@ fn class_end<'t>(
     }
 }
 
+/// The class with the name up to a colon.
 #[tactic(auto, unfolding(crate::specs::bracket::Reader::name_end))]
 fn name_end(negated: bool, text: &[char]) -> Option<(BracketToken, &[char])>
     ensures { option_map (λ x. (x.0, x.1.now)) result ≡ name_end negated text.now }
@@ -259,6 +263,7 @@ fn inner_at(text: &[char]) -> (BracketToken, &[char])
     }
 }
 
+/// The operator that is this character twice.
 fn operator_of(c: char) -> SetOperator
     ensures { result ≡ operator_of c }
 {

@@ -10,7 +10,7 @@ use Rattle.logos_pattern_tokens.specs.declared.bracket.token.BracketToken.{Brack
 use Rattle.logos_pattern_tokens.specs.declared.bracket.token.BracketToken.TheVariants.{Item, Open, Operator, Close}
 use Rattle.logos_pattern_tokens.specs.Token.{Text, Gives}
 use Rattle.std.specs.Borrow.{Bor}
-use Rattle.logos_syntax.specs.declared.bracket.stack.Found.{Found}
+use Rattle.logos_syntax.specs.declared.bracket.stack.BracketValue.{BracketValue}
 use Rattle.logos_pattern_tokens.specs.bracket.Form.{Bracket, bracket}
 use Rattle.logos_pattern_tokens.specs.bracket.Spelling.{Opens, Encloses}
 use Rattle.logos_syntax.specs.bracket.Meaning.{BracketFits, bracket_depth}
@@ -68,7 +68,7 @@ empty_text [] e = refl
 empty_text (c ∷ t) e = let h = eqb-true (length (c ∷ t)) 0 (sym e) in absurd (omega arith)
 
 -- the inside behind an opening is a bracket
-whole_bracket : (flags : Flags) (base : ℕ) (text : Text) (n : Bool) (d : Lead) (rest : Text) (r : Result (Found × Bor Text) Stop) → Opens n d text rest → ReadsInside flags base n d rest r → ReadsBracket flags base text r
+whole_bracket : (flags : Flags) (base : ℕ) (text : Text) (n : Bool) (d : Lead) (rest : Text) (r : Result (BracketValue × Bor Text) Stop) → Opens n d text rest → ReadsInside flags base n d rest r → ReadsBracket flags base text r
 whole_bracket flags base text n d rest (Ok x) o h = record {
   written = bracket n d h.inside;
   encloses = (rest, o, h.cut);
@@ -79,7 +79,7 @@ whole_bracket flags base text n d rest (Ok x) o h = record {
 }
 whole_bracket flags base text n d rest (Err e) o h = refuted (Denies flags base e) n d text rest o h
 
-pub bracket_at : (flags : Flags) (base : ℕ) (text : Text) (n : Bool) (d : Lead) (rest : Text) (r : Result (Found × Bor Text) Stop) → n ≡ (open_at text).0 → d ≡ (open_at text).1 → rest ≡ (open_at text).2 → ReadsInside flags base n d rest r → ReadsBracket flags base text r
+pub bracket_at : (flags : Flags) (base : ℕ) (text : Text) (n : Bool) (d : Lead) (rest : Text) (r : Result (BracketValue × Bor Text) Stop) → n ≡ (open_at text).0 → d ≡ (open_at text).1 → rest ≡ (open_at text).2 → ReadsInside flags base n d rest r → ReadsBracket flags base text r
 bracket_at flags base text n d rest r en ed er h =
     let o : Opens n d text rest = subst (λ x. Opens x d text rest) (sym en) (subst (λ x. Opens (open_at text).0 x text rest) (sym ed) (subst (λ x. Opens (open_at text).0 (open_at text).1 text x) (sym er) (open_taken text))) in
     whole_bracket flags base text n d rest r o h

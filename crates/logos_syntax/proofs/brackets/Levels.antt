@@ -9,8 +9,8 @@ use Rattle.logos_pattern_tokens.specs.declared.bracket.token.BracketToken.TheVar
 use Rattle.logos_hir.specs.Sets.{Set, union}
 use Rattle.logos_pattern_tokens.specs.bracket.Form.{Bracket, bracket, Operands, lone, joined, Members, nobody, member, nested}
 use Rattle.logos_pattern_tokens.specs.bracket.Spelling.{bracket_tokens, operands_tokens, members_tokens}
-use Rattle.logos_syntax.specs.bracket.Meaning.{turned, item_set, lead_set, bracket_set, operands_set, members_set, bracket_depth, operands_depth, members_depth}
-use Rattle.logos_syntax.specs.inside.BracketStack.{Frame, Frames, opened, value, whole, close, bracket_step}
+use Rattle.logos_syntax.specs.bracket.Meaning.{set_or_complement, item_set, lead_set, bracket_set, operands_set, members_set, bracket_depth, operands_depth, members_depth}
+use Rattle.logos_syntax.specs.inside.BracketStack.{Frame, Frames, fresh_frame, value, whole, close, bracket_step}
 use Rattle.logos_syntax.specs.inside.BracketStack.{with_before}
 
 -- a bracket that is open: the operands before the last one, with the operator behind them, and the last one
@@ -92,7 +92,7 @@ abbrev pub walk : Place → List BracketToken → Option Place
 walk p [] = Some p
 walk p (token ∷ others) = option_and_then (λ q. walk q others) (advance p token)
 
--- ---- each step of the machine is a step on brackets
+-- ---- each step of the parser is a step on brackets
 
 pub length-below_of : (flags : Flags) (base : ℕ) (k : Stack) → length (below_of flags base k) ≡ size k
 length-below_of flags base bottom = refl
@@ -106,7 +106,7 @@ pub value_of : (flags : Flags) (level : ℕ) (l : Level) → value (frame_of fla
 value_of flags level l = value_inside flags l.lead l.before l.members
 
 pub whole_of : (flags : Flags) (level : ℕ) (l : Level) → whole flags (frame_of flags level l) ≡ bracket_set flags (level_bracket l)
-whole_of flags level l = ap (turned flags l.negated) (value_of flags level l)
+whole_of flags level l = ap (set_or_complement flags l.negated) (value_of flags level l)
 
 pub depth_inside : (b : Option (Operands × SetOperator)) (ms : Members) → operands_depth (inside b ms) ≡ inside_depth b ms
 depth_inside None ms = refl
@@ -153,7 +153,7 @@ step_is flags base p (Item item) = ap (to_frame flags base p.stack) (item_is fla
 step_is flags base p (Open negated lead) =
     let e = length-below_of flags base p.stack in
     let n : base + length (below_of flags base p.stack) + 2 ≡ base + suc (size p.stack) + 1 + 0 = omega arith in
-    ap (λ (m : ℕ). Some (record { top = opened negated lead m; below = frame_of flags (base + size p.stack + 1) p.level ∷ below_of flags base p.stack })) n
+    ap (λ (m : ℕ). Some (record { top = fresh_frame negated lead m; below = frame_of flags (base + size p.stack + 1) p.level ∷ below_of flags base p.stack })) n
 step_is flags base p (Operator op) = ap (to_frame flags base p.stack) (operator_is flags (base + size p.stack + 1) p.level op)
 step_is flags base p Close = close_is flags base p.level p.stack
 

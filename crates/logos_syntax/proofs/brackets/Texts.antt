@@ -1,4 +1,4 @@
--- Whole brackets: how a text is cut into their tokens, and what the machine's answers say of it.
+-- Whole brackets: how a text is cut into their tokens, and what the parser's answers say of it.
 use Rattle.std.proofs.Common.{◌≡◌, ℕ, ◌+◌, ◌<◌, ◌≤◌, max, Bool, false, ◌⊎◌, inl, inr, List, [], ◌∷◌, ◌++◌, Option, Some, None, refl, sym, ap, subst, ◌∙◌, arith, append_assoc, append-nil, option_map, option_and_then, IfSome}
 use Rattle.logos_pattern_tokens.specs.declared.token.Flags.{Flags}
 use Rattle.logos_pattern_tokens.specs.declared.bracket.token.Item.{Item as ItemOf}
@@ -11,7 +11,7 @@ use Rattle.logos_pattern_tokens.specs.bracket.Form.{Bracket, bracket, Operands, 
 use Rattle.logos_pattern_tokens.specs.bracket.Spelling.{operands_tokens, BracketTakes, BracketCuts, Opens, Encloses}
 use Rattle.logos_syntax.specs.bracket.Meaning.{bracket_set, item_fits, TokensFit, BracketFits, bracket_depth}
 use Rattle.logos_pattern_tokens.specs.bracket.Reader.{bracket_token_at}
-use Rattle.logos_syntax.specs.inside.BracketStack.{Frame, Frames, whole, close, bracket_step, opened}
+use Rattle.logos_syntax.specs.inside.BracketStack.{Frame, Frames, whole, close, bracket_step, fresh_frame}
 use Rattle.logos_syntax.specs.inside.BracketView.{MayStand}
 use Rattle.logos_pattern_tokens.proofs.Picks.{IsTaken}
 use Rattle.logos_pattern_tokens.proofs.BracketTokens.{open_is, bracket_token_taken, bracket_token_is}
@@ -44,14 +44,14 @@ snoc_split {A = A} (x ∷ xs) (t ∷ ts) c others e = from (snoc_split xs ts c o
 taken : (text rest : Text) (t : BracketToken) → bracket_token_at text ≡ Some (t, rest) → BracketTakes t text rest
 taken text rest t e = let h = subst (IsTaken BracketTakes text) e (bracket_token_taken text) in h
 
-abbrev Found : Type 0
-Found = BracketToken × Text
+abbrev Front : Type 0
+Front = BracketToken × Text
 
 pub one_token : (text : Text) (t u : BracketToken) (rest after : Text) → BracketTakes t text rest → BracketTakes u text after → (t ≡ u) × (rest ≡ after)
 one_token text t u rest after a b =
-    let e : ◌≡◌ {A = Option Found} (Some (t, rest)) (Some (u, after)) = sym (bracket_token_is t text rest a) ∙ bracket_token_is u text after b in
-    let same : ◌≡◌ {A = Found} (t, rest) (u, after) = cc in
-    (ap (λ (x : Found). x.0) same, ap (λ (x : Found). x.1) same)
+    let e : ◌≡◌ {A = Option Front} (Some (t, rest)) (Some (u, after)) = sym (bracket_token_is t text rest a) ∙ bracket_token_is u text after b in
+    let same : ◌≡◌ {A = Front} (t, rest) (u, after) = cc in
+    (ap (λ (x : Front). x.0) same, ap (λ (x : Front). x.1) same)
 
 pub cuts_more : (text : Text) (ts : List BracketToken) (rest : Text) (t : BracketToken) (after : Text) → BracketCuts text ts rest → BracketTakes t rest after → BracketCuts text (ts ++ t ∷ []) after
 cuts_more text [] rest t after same e = (after, subst (λ x. BracketTakes t x after) (sym same) e, refl)
@@ -161,21 +161,21 @@ same_whole os qs text rest after h k = from (compare (operands_tokens os ++ Clos
 
 -- the openings agree
 record SameOpening (n m : Bool) (d e : Lead) (rest after : Text) : Type 0 where
-  turned : n ≡ m
+  sign : n ≡ m
   lead : d ≡ e
   behind : rest ≡ after
 
 one_opening : (n m : Bool) (d e : Lead) (text rest after : Text) → Opens n d text rest → Opens m e text after → SameOpening n m d e rest after
 one_opening n m d e text rest after a b =
     let same : ◌≡◌ {A = Bool × Lead × Text} (n, d, rest) (m, e, after) = sym (open_is n d text rest a) ∙ open_is m e text after b in
-    record { turned = ap (λ (x : Bool × Lead × Text). x.0) same; lead = ap (λ (x : Bool × Lead × Text). x.1) same; behind = ap (λ (x : Bool × Lead × Text). x.2) same }
+    record { sign = ap (λ (x : Bool × Lead × Text). x.0) same; lead = ap (λ (x : Bool × Lead × Text). x.1) same; behind = ap (λ (x : Bool × Lead × Text). x.2) same }
 
 -- a text begins with at most one bracket
 pub one_bracket : (a b : Bracket) (text rest after : Text) → Encloses a text rest → Encloses b text after → (a ≡ b) × (rest ≡ after)
 one_bracket (bracket n d os) (bracket m e qs) text rest after h k =
     let o = one_opening n m d e text h.0 k.0 h.1 k.1 in
     let w = same_whole os qs h.0 rest after h.2 (subst (λ x. BracketCuts x (operands_tokens qs ++ Close ∷ []) after) (sym o.behind) k.2) in
-    (ap (λ x. bracket x d os) o.turned ∙ ap (λ x. bracket m x os) o.lead ∙ ap (bracket m e) w.0, w.1)
+    (ap (λ x. bracket x d os) o.sign ∙ ap (λ x. bracket m x os) o.lead ∙ ap (bracket m e) w.0, w.1)
 
 -- ---- refusals
 
@@ -188,7 +188,7 @@ pub refuted : (Claim : Bracket → Type 0) (negated : Bool) (lead : Lead) (text 
     (b : Bracket) (rest : Text) → Encloses b text rest → Claim b
 refuted Claim negated lead text after o h (bracket m e os) rest k =
     let same = one_opening negated m lead e text after k.0 o k.1 in
-    subst (λ x. Claim (bracket x e os)) same.turned (subst (λ x. Claim (bracket negated x os)) same.lead
+    subst (λ x. Claim (bracket x e os)) same.sign (subst (λ x. Claim (bracket negated x os)) same.lead
     (h os rest (subst (λ x. BracketCuts x (operands_tokens os ++ Close ∷ []) rest) (sym same.behind) k.2)))
 
 -- there is no token
@@ -288,12 +288,12 @@ pub record InBracket (flags : Flags) (base : ℕ) (negated : Bool) (lead : Lead)
   pub fits : TokensFit flags walked_to.tokens
   pub frames : s ≡ frames_of flags base place
 
-pub at_opening : (flags : Flags) (base : ℕ) (negated : Bool) (lead : Lead) (text : Text) (s : Frames) → s ≡ record { top = opened negated lead (base + 1); below = [] } → InBracket flags base negated lead text text s
+pub at_opening : (flags : Flags) (base : ℕ) (negated : Bool) (lead : Lead) (text : Text) (s : Frames) → s ≡ record { top = fresh_frame negated lead (base + 1); below = [] } → InBracket flags base negated lead text text s
 at_opening flags base negated lead text s e = record {
   place = starting negated lead bottom;
   walked_to = record { tokens = []; cut = refl; walks = refl };
   fits = tt;
-  frames = e ∙ ap (λ (n : ℕ). record { top = opened negated lead n; below = [] }) (let m : base + 1 ≡ base + 0 + 1 + 0 = omega arith in m);
+  frames = e ∙ ap (λ (n : ℕ). record { top = fresh_frame negated lead n; below = [] }) (let m : base + 1 ≡ base + 0 + 1 + 0 = omega arith in m);
 }
 
 fits_more : (flags : Flags) (ts : List BracketToken) (t : BracketToken) → TokensFit flags ts → MayStand flags t → TokensFit flags (ts ++ t ∷ [])

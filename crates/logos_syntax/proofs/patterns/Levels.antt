@@ -1,16 +1,16 @@
--- The machine's states are those of patterns read so far: an open group's inside is itself a pattern.
+-- The parser's states are those of patterns read so far: an open group's inside is itself a pattern.
 use Rattle.std.proofs.Common.{◌≡◌, ℕ, suc, ◌+◌, max, Bool, false, List, [], ◌∷◌, ◌++◌, length, Option, Some, None, refl, sym, ap, ◌∙◌, arith, option_map}
 use Rattle.logos_pattern_tokens.specs.declared.token.Flags.{Flags}
 use Rattle.logos_pattern_tokens.specs.declared.token.Change.{Change}
 use Rattle.logos_pattern_tokens.specs.declared.token.Operator.{Operator}
 use Rattle.logos_hir.specs.Tree.{Tree}
 use Rattle.logos_hir.specs.Build.{repetition_of, concat_of, alternation_of}
-use Rattle.logos_pattern_tokens.specs.Flags.{changed}
+use Rattle.logos_pattern_tokens.specs.Flags.{flags_after}
 use Rattle.logos_pattern_tokens.specs.Token.{Opening, Token, atom, bracketed, bar, opens, closes, sets, repeats}
 use Rattle.logos_syntax.specs.Written.{Branches, first, next, Items, nothing, piece, setting, Piece, simple, class, group, repeated, items_flags, branches_flags, inner_flags}
 use Rattle.logos_syntax.specs.bracket.Meaning.{bracket_depth}
-use Rattle.logos_syntax.specs.Grammar.{branch_list, item_list, piece_tree, branches_depth, items_depth, piece_depth, captures, wrapped, is_greedy}
-use Rattle.logos_syntax.specs.inside.Groups.{Part, Group, State, with_last, all_branches, put, set, next_branch, fresh, finished, repeat, close, step}
+use Rattle.logos_syntax.specs.Grammar.{branch_list, item_list, piece_tree, branches_depth, items_depth, piece_depth, captures, group_tree, is_greedy}
+use Rattle.logos_syntax.specs.inside.Groups.{Part, Group, State, with_last, all_branches, put, set, next_branch, fresh, whole_tree, repeat, close, step}
 
 -- the inside of a group so far: the branches before the last one, and the last one
 pub record Level : Type 0 where
@@ -120,7 +120,7 @@ advance p closes = close_level p.level p.stack
 advance p (sets change) = Some (with_level p (record { before = p.level.before; items = setting p.level.items change }))
 advance p (repeats op) = option_map (λ its. with_level p (record { before = p.level.before; items = its })) (repeated_items p.level.items op)
 
--- ---- each step of the machine is a step on patterns
+-- ---- each step of the parser is a step on patterns
 
 pub length-below_of : (flags : Flags) (k : Stack) → length (below_of flags k) ≡ size k
 length-below_of flags bottom = refl
@@ -155,8 +155,8 @@ pub all_branches_of : (flags : Flags) (captured : Bool) (level : ℕ) (l : Level
 all_branches_of flags captured level l =
     ap (λ ps. earlier flags l.before ++ concat_of ps ∷ []) (all_items level (branch_flags flags l.before) l.items) ∙ branches_inside flags l.before l.items
 
-pub finished_of : (flags : Flags) (captured : Bool) (level : ℕ) (l : Level) → finished (group_of flags captured level l) ≡ wrapped captured (alternation_of (branch_list flags (level_inside l)))
-finished_of flags captured level l = ap (λ bs. wrapped captured (alternation_of bs)) (all_branches_of flags captured level l)
+pub finished_of : (flags : Flags) (captured : Bool) (level : ℕ) (l : Level) → whole_tree (group_of flags captured level l) ≡ group_tree captured (alternation_of (branch_list flags (level_inside l)))
+finished_of flags captured level l = ap (λ bs. group_tree captured (alternation_of bs)) (all_branches_of flags captured level l)
 
 put_is : (flags : Flags) (captured : Bool) (level : ℕ) (l : Level) (p : Piece) (t : Tree) (k : ℕ) → t ≡ piece_tree (level_flags flags l) p → k ≡ level + piece_depth p →
     put (group_of flags captured level l) (t, k) ≡ group_of flags captured level (with_piece l p)
@@ -180,9 +180,9 @@ bar_is flags captured level l =
     ∙ ap (make (branches_flags flags (level_inside l)) (branch_list flags (level_inside l))) inner
 
 set_is : (flags : Flags) (captured : Bool) (level : ℕ) (l : Level) (change : Change) →
-    set (group_of flags captured level l) (changed change (level_flags flags l)) ≡ group_of flags captured level (record { before = l.before; items = setting l.items change })
+    set (group_of flags captured level l) (flags_after change (level_flags flags l)) ≡ group_of flags captured level (record { before = l.before; items = setting l.items change })
 set_is flags captured level l change =
-    let make : List Tree → ℕ → Group = λ ps inner. record { flags = changed change (level_flags flags l); captured = captured; branches = earlier flags l.before; parts = ps; last = None; inner = inner } in
+    let make : List Tree → ℕ → Group = λ ps inner. record { flags = flags_after change (level_flags flags l); captured = captured; branches = earlier flags l.before; parts = ps; last = None; inner = inner } in
     ap (λ ps. make ps (level + inside_depth l.before l.items)) (all_items level (branch_flags flags l.before) l.items)
     ∙ ap (λ d. make (item_list (branch_flags flags l.before) l.items) (level + d)) (sym (depth_setting l.before l.items change))
 

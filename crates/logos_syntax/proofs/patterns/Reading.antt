@@ -1,11 +1,11 @@
--- What the machine reads is a pattern, and each pattern is read.
+-- What the parser reads is a pattern, and each pattern is read.
 use Rattle.std.proofs.Common.{◌≡◌, ◌≤◌, false, List, [], ◌∷◌, ◌++◌, Option, Some, None, refl, sym, ap, subst, ◌∙◌, arith, append_assoc, append-nil, option_map, IfSome}
 use Rattle.logos_pattern_tokens.specs.declared.token.Flags.{Flags}
 use Rattle.logos_pattern_tokens.specs.declared.token.Operator.{Operator}
 use Rattle.logos_pattern_tokens.specs.Token.{Token, atom, bracketed, bar, opens, closes, sets, repeats}
 use Rattle.logos_syntax.specs.Written.{Branches, first, next, Items, nothing, piece, setting, Piece, simple, class, group, repeated, branches_tokens, items_tokens, piece_tokens}
 use Rattle.logos_syntax.specs.Grammar.{branches_depth, written_tree, TokenFits, BranchesFit, ItemsFit, PieceFits}
-use Rattle.logos_syntax.specs.inside.Groups.{Part, Group, State, start, finished, step, Runs, stays, goes, deepest, repeat, close}
+use Rattle.logos_syntax.specs.inside.Groups.{Part, Group, State, start, whole_tree, step, Runs, stays, goes, deepest, repeat, close}
 use Rattle.logos_syntax.proofs.patterns.Levels.{Level, Stack, bottom, over, Place, inside, branch_flags, level_flags, level_inside, with_level, with_piece, put_piece, front_flags, state_of, advance, close_level, moved, step_is, repeated_items, finished_of, inside_depth, depth_inside}
 
 -- ---- runs
@@ -134,7 +134,7 @@ advance_adds flags p (repeats op) z e = from (repeated_items p.level.items op) r
           fits = λ f g. (f.0, inside_fits (front_flags flags p.stack) p.level.before p.level.items jts r.1 f.1);
         }) h
 
--- what the machine has read
+-- what the parser has read
 pub record IsRead (flags : Flags) (ts : List Token) (s : State) : Type 0 where
   pub place : Place
   pub state : s ≡ state_of flags place
@@ -226,7 +226,7 @@ mutual
       runs_on (at_level flags k (at b its)) (at_level flags k (at b (piece its p))) (at_level flags k (at b (piece its (repeated p op)))) (piece_tokens p) (repeats op ∷ [])
       (piece_run p b its flags k f) (go flags k (at b (piece its p)) (repeats op) (record { level = at b (piece its (repeated p op)); stack = k }) tt refl)
 
--- where the machine is after a whole pattern
+-- where the parser is after a whole pattern
 pub whole_runs : (flags : Flags) (bs : Branches) → BranchesFit flags bs → Runs (start flags) (branches_tokens bs) (at_level flags bottom (level_of bs))
 whole_runs flags bs f = branches_run bs flags bottom f
 
@@ -237,7 +237,7 @@ depth-level_of (next bs its) = refl
 pub whole_depth : (flags : Flags) (bs : Branches) → deepest (at_level flags bottom (level_of bs)) ≡ branches_depth bs
 whole_depth flags bs = let e = depth-level_of bs in omega arith
 
--- ---- no step makes the machine less deep
+-- ---- no step makes the parser less deep
 
 abbrev IsDeeper : State → Option State → Type 0
 IsDeeper s o = IfSome o (λ t. deepest s ≤ deepest t)
@@ -273,7 +273,7 @@ pub record IsWhole (flags : Flags) (ts : List Token) (s : State) : Type 0 where
   pub branches : Branches
   pub tokens : branches_tokens branches ≡ ts
   pub fits : BranchesFit flags branches
-  pub tree : finished s.top ≡ written_tree flags branches
+  pub tree : whole_tree s.top ≡ written_tree flags branches
   pub depth : s.top.inner ≡ branches_depth branches
 
 pub is_whole : (flags : Flags) (ts : List Token) (s : State) → s.below ≡ [] → IsRead flags ts s → IsWhole flags ts s
@@ -284,10 +284,10 @@ is_whole flags ts s ended r = from r.place.level r.place.stack r.state r.tokens 
       branches = level_inside l;
       tokens = tokens;
       fits = fits.1;
-      tree = ap (λ (x : State). finished x.top) state ∙ finished_of flags false 0 l;
+      tree = ap (λ (x : State). whole_tree x.top) state ∙ finished_of flags false 0 l;
       depth = ap (λ (x : State). x.top.inner) state ∙ (let d = depth_inside l.before l.items in omega arith);
     }
     from l (over k outer opening) state tokens fits = let h = ap (λ (x : State). x.below) state in absurd cc
 
-pub tree_level_of : (flags : Flags) (bs : Branches) → finished (at_level flags bottom (level_of bs)).top ≡ written_tree flags bs
+pub tree_level_of : (flags : Flags) (bs : Branches) → whole_tree (at_level flags bottom (level_of bs)).top ≡ written_tree flags bs
 tree_level_of flags bs = finished_of flags false 0 (level_of bs) ∙ ap (written_tree flags) (inside-level_of bs)

@@ -1,11 +1,11 @@
--- A whole text: how it is cut into tokens, and what the machine's answers say of it.
+-- A whole text: how it is cut into tokens, and what the parser's answers say of it.
 use Rattle.std.proofs.Common.{◌≡◌, ◌≢◌, ℕ, ◌+◌, ◌<◌, ◌≤◌, true, false, List, [], ◌∷◌, ◌++◌, length, Option, Some, None, Result, Ok, Err, IfOk, IfErr, refl, sym, ap, subst, ◌∙◌, arith, append-nil}
 use lib.ListN.{get_or}
 use Rattle.logos_pattern_tokens.specs.declared.error.Stop.{Stop}
 use Rattle.logos_pattern_tokens.specs.declared.error.Stop.TheVariants as stops
 use Rattle.logos_pattern_tokens.specs.declared.token.Flags.{Flags}
 use Rattle.logos_syntax.specs.declared.names.Names.{Names}
-use Rattle.logos_syntax.specs.declared.bracket.stack.Found.{Found as FoundSet}
+use Rattle.logos_syntax.specs.declared.bracket.stack.BracketValue.{BracketValue as FoundSet}
 use Rattle.logos_hir.specs.declared.hir.Hir.{Hir}
 use Rattle.logos_hir.specs.Hir.{tree_of}
 use Rattle.logos_hir.specs.Tree.{Tree}
@@ -21,13 +21,13 @@ use Rattle.logos_pattern_tokens.specs.Spelling.{Takes}
 use Rattle.logos_pattern_tokens.specs.bracket.Form.{Bracket}
 use Rattle.logos_pattern_tokens.specs.bracket.Spelling.{Encloses}
 use Rattle.logos_syntax.specs.bracket.Meaning.{bracket_set, BracketFits, bracket_depth}
-use Rattle.logos_syntax.specs.inside.BracketView.{IsFound as IsFoundBracket, Denies, IsStopOf}
+use Rattle.logos_syntax.specs.inside.BracketView.{IsBracketValue, Denies, IsStopOf}
 use Rattle.logos_syntax.specs.Written.{Branches, branches_tokens, Starts, taken, enclosed, Cuts, IsNew, with_name, NamesDiffer}
 use Rattle.logos_syntax.specs.Grammar.{written_tree, branches_depth, TokenFits, Spells, IsSpelled, IsFound, Refuses}
-use Rattle.logos_syntax.specs.inside.Groups.{State, start, finished, step, Runs, stays, deepest}
+use Rattle.logos_syntax.specs.inside.Groups.{State, start, whole_tree, step, Runs, stays, deepest}
 use Rattle.logos_syntax.specs.inside.GroupsView.{Steps, Ends}
 use Rattle.logos_syntax.specs.inside.Names.{HasNames, Admits}
-use Rattle.logos_syntax.specs.inside.Reading.{GoesOn, StopsAt, ReadsToken, ReadsTaken, names_behind, HasRead, Stopped}
+use Rattle.logos_syntax.specs.inside.Reading.{GoesOn, StopsAt, ReadsToken, ReadsSimple, names_behind, HasRead, StopsText}
 use Rattle.logos_pattern_tokens.proofs.Picks.{IsTaken}
 use Rattle.logos_pattern_tokens.proofs.TokenLemmas.{is_taken, taken_is}
 use Rattle.logos_syntax.proofs.brackets.Texts.{one_bracket}
@@ -109,7 +109,7 @@ differ_behind : (seen : List Text) (ts us : List Token) → NamesDiffer seen (ts
 differ_behind seen [] us h = h
 differ_behind seen (t ∷ ts) us h = differ_behind (with_name seen t) ts us h.1
 
--- ---- what the machine has read
+-- ---- what the parser has read
 
 pub nothing_read : (flags : Flags) (text : Text) (s : State) (names : Names) → s ≡ start flags → HasNames names [] → HasRead flags text text s names
 nothing_read flags text s names is has = record { tokens = []; cut = refl; run = subst (Runs (start flags) []) (sym is) (stays (start flags)); differ = tt; has = has }
@@ -142,8 +142,8 @@ later flags text rest s names r tree depth p =
 
 -- ---- refusals
 
--- what the machine stops at says of the text
-pub stopped : (flags : Flags) (text rest : Text) (s : State) (names : Names) (stop : Stop) → (r : HasRead flags text rest s names) → 0 < length rest → ((t : Token) (after : Text) → Starts t rest after → StopsAt stop s (names_behind [] r.tokens) t) → Stopped flags text stop
+-- what the parser stops at says of the text
+pub stopped : (flags : Flags) (text rest : Text) (s : State) (names : Names) (stop : Stop) → (r : HasRead flags text rest s names) → 0 < length rest → ((t : Token) (after : Text) → Starts t rest after → StopsAt stop s (names_behind [] r.tokens) t) → StopsText flags text stop
 stopped flags text rest s names (stops.Syntax kind left) r some stop = λ depth spelled. let l = later flags text rest s names r spelled.0 depth spelled.1 in from _ l.more l.cut l.run l.differ
   where
     from : (u : State) (more : List Token) → Cuts rest more [] → Runs s more u → NamesDiffer (names_behind [] r.tokens) more → ⊥
@@ -170,14 +170,14 @@ stopped flags text rest s names stops.Memory r some stop = tt
 
 -- a group is open at the end
 pub still_open : (flags : Flags) (text : Text) (s : State) (names : Names) → HasRead flags text [] s names → (s.below ≡ [] → ⊥) → (depth : ℕ) → IsSpelled flags text depth → ⊥
-still_open flags text s names r opened depth spelled =
+still_open flags text s names r shut depth spelled =
     let l = later flags text [] s names r spelled.0 depth spelled.1 in
     let ran = subst (λ x. Runs s x (at_level flags bottom (level_of spelled.1.written))) (no_cut l.more l.cut) l.run in
-    opened (ap (λ (x : State). x.below) (no_runs s (at_level flags bottom (level_of spelled.1.written)) ran))
+    shut (ap (λ (x : State). x.below) (no_runs s (at_level flags bottom (level_of spelled.1.written)) ran))
 
 -- ---- what is found
 
-pub found : (flags : Flags) (text : Text) (s : State) (names : Names) (tree : Tree) → HasRead flags text [] s names → s.below ≡ [] → tree ≡ finished s.top → s.top.inner ≤ 250 → IsFound flags text tree
+pub found : (flags : Flags) (text : Text) (s : State) (names : Names) (tree : Tree) → HasRead flags text [] s names → s.below ≡ [] → tree ≡ whole_tree s.top → s.top.inner ≤ 250 → IsFound flags text tree
 found flags text s names tree r ended is shallow =
     let w = is_whole flags r.tokens s ended (is_read flags r.tokens s r.run) in (
       s.top.inner,
@@ -202,7 +202,7 @@ one flags text a b m n p q =
     let end = at_level flags bottom (level_of q.written) in
     let ran : Runs (start flags) (branches_tokens p.written ++ []) end = subst (λ x. Runs (start flags) x end) (tokens ∙ sym (append-nil (branches_tokens p.written))) (whole_runs flags q.written q.fit) in
     let states : last ≡ end = no_runs last end (runs_behind (start flags) last end (branches_tokens p.written) [] (whole_runs flags p.written p.fit) ran) in
-    let trees : written_tree flags p.written ≡ written_tree flags q.written = sym (tree_level_of flags p.written) ∙ ap (λ (s : State). finished s.top) states ∙ tree_level_of flags q.written in
+    let trees : written_tree flags p.written ≡ written_tree flags q.written = sym (tree_level_of flags p.written) ∙ ap (λ (s : State). whole_tree s.top) states ∙ tree_level_of flags q.written in
     let depths : branches_depth p.written ≡ branches_depth q.written = sym (whole_depth flags p.written) ∙ ap deepest states ∙ whole_depth flags q.written in
     (sym p.is_tree ∙ trees ∙ q.is_tree, sym p.is_depth ∙ depths ∙ q.is_depth)
 
@@ -214,7 +214,7 @@ bracket_stops s seen text flags base (stops.Syntax kind left) set is h t rest (e
 bracket_stops s seen text flags base stops.LimitPatternNesting set is h t rest (enclosed b x r k) = (_, refl, (let deep = h b r k in omega arith))
 bracket_stops s seen text flags base stops.Memory set is h t rest (enclosed b x r k) = tt
 
-pub bracket_goes : (s u : State) (seen : List Text) (names : Names) (text rest : Text) (flags : Flags) (base : ℕ) (f : FoundSet) → flags ≡ s.top.flags → base ≡ length s.below → HasNames names seen → IsFoundBracket flags base text f rest →
+pub bracket_goes : (s u : State) (seen : List Text) (names : Names) (text rest : Text) (flags : Flags) (base : ℕ) (f : FoundSet) → flags ≡ s.top.flags → base ≡ length s.below → HasNames names seen → IsBracketValue flags base text f rest →
     ((b : Bracket) → set_of f.set ≡ bracket_set s.top.flags b → f.depth ≡ length s.below + bracket_depth b → step s (bracketed b) ≡ Some u) → GoesOn s seen (91 ∷ text) u names rest
 bracket_goes s u seen names text rest flags base f set is has b h = record {
   token = bracketed b.written;
@@ -258,7 +258,7 @@ simple_goes s u seen text rest token names r is new h = record {
   has = new.1;
 }
 
-pub not_bracket : (s u : State) (seen : List Text) (text : Text) (r : Result (Bor Text) Stop) (names : Names) → ((x : Text) → text ≡ 91 ∷ x → ⊥) → ReadsTaken s seen text r u names → ReadsToken s seen text r u names
+pub not_bracket : (s u : State) (seen : List Text) (text : Text) (r : Result (Bor Text) Stop) (names : Names) → ((x : Text) → text ≡ 91 ∷ x → ⊥) → ReadsSimple s seen text r u names → ReadsToken s seen text r u names
 not_bracket s u seen text (Ok rest) names other h = h
 not_bracket s u seen text (Err stop) names other h = λ t rest k. from t text rest k other h
   where
@@ -282,10 +282,10 @@ refused_as flags text depth errors.Memory small spelled h = refl
 
 -- ---- the end
 
-pub ended : (flags : Flags) (text rest : Text) (s : State) (names : Names) (r : Result Hir Stop) → rest ≡ [] → HasRead flags text rest s names → Ends r s → IfOk r (λ hir. IsFound flags text (tree_of hir)) × IfErr r (Stopped flags text)
+pub ended : (flags : Flags) (text rest : Text) (s : State) (names : Names) (r : Result Hir Stop) → rest ≡ [] → HasRead flags text rest s names → Ends r s → IfOk r (λ hir. IsFound flags text (tree_of hir)) × IfErr r (StopsText flags text)
 ended flags text rest s names r none read h = from r h (subst (λ x. HasRead flags text x s names) none read)
   where
-    from : (r : Result Hir Stop) → Ends r s → HasRead flags text [] s names → IfOk r (λ hir. IsFound flags text (tree_of hir)) × IfErr r (Stopped flags text)
+    from : (r : Result Hir Stop) → Ends r s → HasRead flags text [] s names → IfOk r (λ hir. IsFound flags text (tree_of hir)) × IfErr r (StopsText flags text)
     from (Ok hir) h read = (found flags text s names (tree_of hir) read h.0 h.1 h.2, tt)
     from (Err (stops.Syntax kind left)) h read = (tt, still_open flags text s names read h)
     from (Err stops.LimitPatternNesting) h read = absurd h

@@ -23,12 +23,12 @@ abbrev pub last_of : Flags → ℕ
 last_of flags = if flags.unicode then 0x10FFFF else 255
 
 -- a set as the flags have it: under `i` with all that has the same letters
-abbrev pub folded : Flags → Set → Set
-folded flags set = if flags.ignore_case then (if flags.unicode then fold_case set else fold_ascii set) else set
+abbrev pub case_closure : Flags → Set → Set
+case_closure flags set = if flags.ignore_case then (if flags.unicode then fold_case set else fold_ascii set) else set
 
 -- the set, or its complement
-abbrev pub turned : Flags → Bool → Set → Set
-turned flags negated set = if negated then complement (last_of flags) set else set
+abbrev pub set_or_complement : Flags → Bool → Set → Set
+set_or_complement flags negated set = if negated then complement (last_of flags) set else set
 
 -- the set of an item without its negation, before the flags
 abbrev pub item_test : Flags → Item → Set
@@ -46,7 +46,7 @@ is_negated (items.Property set negated) = negated
 is_negated (items.Ascii kind negated) = negated
 
 abbrev pub item_set : Flags → Item → Set
-item_set flags item = turned flags (is_negated item) (folded flags (only_chars (item_test flags item)))
+item_set flags item = set_or_complement flags (is_negated item) (case_closure flags (only_chars (item_test flags item)))
 
 -- the literals at the front, which have no other case
 abbrev pub lead_set : Lead → Set
@@ -55,12 +55,12 @@ lead_set LoneBracket = λ c. c == 93
 
 abbrev mutual
   pub bracket_set : Flags → Bracket → Set
-  bracket_set flags (bracket negated lead inside) = turned flags negated (operands_set flags lead inside)
+  bracket_set flags (bracket negated lead inside) = set_or_complement flags negated (operands_set flags lead inside)
 
   -- operators are read from the left
   pub operands_set : Flags → Lead → Operands → Set
   operands_set flags lead (lone ms) = members_set flags (lead_set lead) ms
-  operands_set flags lead (joined os op ms) = combined op (operands_set flags lead os) (members_set flags (λ c. false) ms)
+  operands_set flags lead (joined os op ms) = combination op (operands_set flags lead os) (members_set flags (λ c. false) ms)
 
   -- the members together with those before them
   pub members_set : Flags → Set → Members → Set

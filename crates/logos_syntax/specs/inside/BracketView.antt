@@ -8,7 +8,7 @@ use Rattle.logos_pattern_tokens.specs.declared.bracket.token.BracketToken.{Brack
 use Rattle.logos_pattern_tokens.specs.declared.bracket.token.BracketToken.TheVariants.{Item, Open, Operator, Close}
 use Rattle.logos_syntax.specs.declared.bracket.stack.Frame.{Frame as FrameValue}
 use Rattle.logos_syntax.specs.declared.bracket.stack.Frames.{Frames as FramesValue}
-use Rattle.logos_syntax.specs.declared.bracket.stack.Found.{Found}
+use Rattle.logos_syntax.specs.declared.bracket.stack.BracketValue.{BracketValue}
 use Rattle.logos_hir.specs.Hir.{pairs}
 use Rattle.logos_hir.specs.Sets.{members}
 use Rattle.logos_hir.specs.RangeSets.{set_of}
@@ -58,7 +58,7 @@ BracketSteps flags base old token (Err stops.LimitPatternNesting) new = TooDeep 
 BracketSteps flags base old token (Err stops.Memory) new = Unit {0}
 
 -- the set, and how deep it is, of a bracket whose inside stands at the text
-pub record IsInside (flags : Flags) (base : ℕ) (negated : Bool) (lead : Lead) (text : Text) (found : Found) (rest : Text) : Type 0 where
+pub record IsInside (flags : Flags) (base : ℕ) (negated : Bool) (lead : Lead) (text : Text) (found : BracketValue) (rest : Text) : Type 0 where
   pub inside : Operands
   pub cut : BracketCuts text (operands_tokens inside ++ Close ∷ []) rest
   pub fits : BracketFits flags (bracket negated lead inside)
@@ -72,12 +72,12 @@ Denies flags base (stops.Syntax kind left) b = BracketFits flags b → ⊥
 Denies flags base stops.LimitPatternNesting b = 250 < base + bracket_depth b
 Denies flags base stops.Memory b = Unit {0}
 
-abbrev pub ReadsInside : Flags → ℕ → Bool → Lead → Text → Result (Found × Bor Text) Stop → Type 0
+abbrev pub ReadsInside : Flags → ℕ → Bool → Lead → Text → Result (BracketValue × Bor Text) Stop → Type 0
 ReadsInside flags base negated lead text (Ok x) = IsInside flags base negated lead text x.0 x.1.now
 ReadsInside flags base negated lead text (Err e) = (inside : Operands) (rest : Text) → BracketCuts text (operands_tokens inside ++ Close ∷ []) rest → Denies flags base e (bracket negated lead inside)
 
 -- the set, and how deep it is, of a bracket that stands at the text, behind `[`
-pub record IsFound (flags : Flags) (base : ℕ) (text : Text) (found : Found) (rest : Text) : Type 0 where
+pub record IsBracketValue (flags : Flags) (base : ℕ) (text : Text) (found : BracketValue) (rest : Text) : Type 0 where
   pub written : Bracket
   pub encloses : Encloses written text rest
   pub fits : BracketFits flags written
@@ -85,8 +85,8 @@ pub record IsFound (flags : Flags) (base : ℕ) (text : Text) (found : Found) (r
   pub is_depth : found.depth ≡ base + bracket_depth written
   pub shallow : found.depth ≤ 250
 
-abbrev pub ReadsBracket : Flags → ℕ → Text → Result (Found × Bor Text) Stop → Type 0
-ReadsBracket flags base text (Ok x) = IsFound flags base text x.0 x.1.now
+abbrev pub ReadsBracket : Flags → ℕ → Text → Result (BracketValue × Bor Text) Stop → Type 0
+ReadsBracket flags base text (Ok x) = IsBracketValue flags base text x.0 x.1.now
 ReadsBracket flags base text (Err e) = (b : Bracket) (rest : Text) → Encloses b text rest → Denies flags base e b
 
 -- a fault as a stop

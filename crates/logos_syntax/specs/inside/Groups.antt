@@ -5,11 +5,11 @@ use Rattle.logos_pattern_tokens.specs.declared.token.Flags.{Flags}
 use Rattle.logos_pattern_tokens.specs.declared.token.Operator.{Operator}
 use Rattle.logos_hir.specs.Tree.{Tree}
 use Rattle.logos_hir.specs.Build.{repetition_of, concat_of, alternation_of}
-use Rattle.logos_pattern_tokens.specs.Flags.{changed}
+use Rattle.logos_pattern_tokens.specs.Flags.{flags_after}
 use Rattle.logos_pattern_tokens.specs.Token.{Token, atom, bracketed, bar, opens, closes, sets, repeats}
 use Rattle.logos_syntax.specs.Written.{inner_flags}
 use Rattle.logos_syntax.specs.bracket.Meaning.{bracket_depth}
-use Rattle.logos_syntax.specs.Grammar.{atom_tree, class_tree, captures, wrapped, is_greedy, TokenFits}
+use Rattle.logos_syntax.specs.Grammar.{atom_tree, class_tree, captures, group_tree, is_greedy, TokenFits}
 
 -- a tree, and how deep its innermost place is in the whole pattern
 abbrev pub Part : Type 0
@@ -55,19 +55,19 @@ all_branches g = g.branches ++ concat_of (all_parts g) ∷ []
 abbrev pub next_branch : Group → Group
 next_branch g = record g { branches = all_branches g; parts = []; last = None }
 
-abbrev pub finished : Group → Tree
-finished g = wrapped g.captured (alternation_of (all_branches g))
+abbrev pub whole_tree : Group → Tree
+whole_tree g = group_tree g.captured (alternation_of (all_branches g))
 
-abbrev pub repeated_part : Flags → Operator → Part → Part
-repeated_part flags op part = (repetition_of op.least op.most (is_greedy flags op) part.0, part.1 + 1)
+abbrev pub repetition_part : Flags → Operator → Part → Part
+repetition_part flags op part = (repetition_of op.least op.most (is_greedy flags op) part.0, part.1 + 1)
 
 abbrev pub close : Group → List Group → Option State
 close top [] = None
-close top (g ∷ gs) = Some (record { top = put g (finished top, top.inner); below = gs })
+close top (g ∷ gs) = Some (record { top = put g (whole_tree top, top.inner); below = gs })
 
 abbrev pub repeat : Group → Operator → Option Part → Option Group
 repeat g op None = None
-repeat g op (Some part) = Some (record g { last = Some (repeated_part g.flags op part); inner = max g.inner (part.1 + 1) })
+repeat g op (Some part) = Some (record g { last = Some (repetition_part g.flags op part); inner = max g.inner (part.1 + 1) })
 
 -- the step of a token that may stand here
 abbrev pub step : State → Token → Option State
@@ -76,10 +76,10 @@ step s (bracketed b) = Some (record s { top = put s.top (class_tree s.top.flags 
 step s bar = Some (record s { top = next_branch s.top })
 step s (opens opening) = Some (record { top = fresh (inner_flags opening s.top.flags) (captures opening) (length s.below + 1); below = s.top ∷ s.below })
 step s closes = close s.top s.below
-step s (sets change) = Some (record s { top = set s.top (changed change s.top.flags) })
+step s (sets change) = Some (record s { top = set s.top (flags_after change s.top.flags) })
 step s (repeats op) = option_map (λ g. record s { top = g }) (repeat s.top op s.top.last)
 
--- the machine reads tokens, each of which may stand where it stands
+-- the parser reads tokens, each of which may stand where it stands
 pub data Runs : State → List Token → State → Type 0 where
   stays : (s : State) → Runs s [] s
   goes : (s t u : State) (token : Token) (tokens : List Token) → TokenFits s.top.flags token → step s token ≡ Some t → Runs t tokens u → Runs s (token ∷ tokens) u

@@ -1,21 +1,21 @@
--- What the machine's values stand for, and what its functions promise.
+-- What the parser's values stand for, and what its functions promise.
 use Rattle.std.specs.Prelude.{◌≡◌, ◌≢◌, ◌<◌, ◌≤◌, [], map, reverse, Option, Some, None, Result, Ok, Err}
 use Rattle.std.specs.Option.{option_map}
 use Rattle.logos_pattern_tokens.specs.declared.error.Stop.{Stop}
 use Rattle.logos_pattern_tokens.specs.declared.error.Stop.TheVariants as stops
 use Rattle.logos_hir.specs.declared.hir.Hir.{Hir}
 use Rattle.logos_syntax.specs.declared.groups.Part.{Part as PartValue}
-use Rattle.logos_syntax.specs.declared.groups.Level.{Level}
-use Rattle.logos_syntax.specs.declared.groups.Machine.{Machine}
+use Rattle.logos_syntax.specs.declared.groups.OpenGroup.{OpenGroup}
+use Rattle.logos_syntax.specs.declared.groups.Groups.{Groups}
 use Rattle.logos_hir.specs.Hir.{tree_of}
 use Rattle.logos_pattern_tokens.specs.Token.{Token}
 use Rattle.logos_syntax.specs.Grammar.{TokenFits}
-use Rattle.logos_syntax.specs.inside.Groups.{Part, Group, State, step, finished, deepest}
+use Rattle.logos_syntax.specs.inside.Groups.{Part, Group, State, step, whole_tree, deepest}
 
 abbrev pub part_view : PartValue → Part
 part_view p = (tree_of p.tree, p.depth)
 
-abbrev pub group_view : Level → Group
+abbrev pub group_view : OpenGroup → Group
 group_view l = record {
   flags = l.flags;
   captured = l.captured;
@@ -25,7 +25,7 @@ group_view l = record {
   inner = l.inner;
 }
 
-abbrev pub state_view : Machine → State
+abbrev pub state_view : Groups → State
 state_view m = record { top = group_view m.top; below = reverse (map group_view m.below.items) }
 
 -- what a step did, or why there is none: the token does not fit, or a place is too deep
@@ -41,9 +41,9 @@ Repeats (Err (stops.Syntax kind left)) read new = read ≡ None
 Repeats (Err stops.LimitPatternNesting) read new = (g : Group) × (read ≡ Some g) × (250 < g.inner)
 Repeats (Err stops.Memory) read new = Unit {0}
 
--- the tree of a machine that has no group open
+-- the tree of a parser that has no group open
 abbrev pub Ends : Result Hir Stop → State → Type 0
-Ends (Ok hir) s = (s.below ≡ []) × (tree_of hir ≡ finished s.top) × (s.top.inner ≤ 250)
+Ends (Ok hir) s = (s.below ≡ []) × (tree_of hir ≡ whole_tree s.top) × (s.top.inner ≤ 250)
 Ends (Err (stops.Syntax kind left)) s = s.below ≢ []
 Ends (Err stops.LimitPatternNesting) s = ⊥
 Ends (Err stops.Memory) s = Unit {0}

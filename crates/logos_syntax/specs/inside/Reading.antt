@@ -14,7 +14,7 @@ use Rattle.logos_syntax.specs.inside.Names.{HasNames}
 
 -- ---- one token
 
--- a token stands at the text, may stand there behind these names, and the machine goes on
+-- a token stands at the text, may stand there behind these names, and the parser goes on
 pub record GoesOn (old : State) (seen : List Text) (text : Text) (new : State) (names : Names) (rest : Text) : Type 0 where
   pub token : Token
   pub starts : Starts token text rest
@@ -34,9 +34,9 @@ ReadsToken old seen text (Ok rest) new names = GoesOn old seen text new names re
 ReadsToken old seen text (Err stop) new names = (token : Token) (rest : Text) → Starts token text rest → StopsAt stop old seen token
 
 -- the same of tokens that are no brackets
-abbrev pub ReadsTaken : State → List Text → Text → Result (Bor Text) Stop → State → Names → Type 0
-ReadsTaken old seen text (Ok rest) new names = GoesOn old seen text new names rest.now
-ReadsTaken old seen text (Err stop) new names = (token : Token) (rest : Text) → Takes token text rest → StopsAt stop old seen token
+abbrev pub ReadsSimple : State → List Text → Text → Result (Bor Text) Stop → State → Names → Type 0
+ReadsSimple old seen text (Ok rest) new names = GoesOn old seen text new names rest.now
+ReadsSimple old seen text (Err stop) new names = (token : Token) (rest : Text) → Takes token text rest → StopsAt stop old seen token
 
 -- ---- the whole text
 
@@ -54,7 +54,7 @@ pub record HasRead (flags : Flags) (text rest : Text) (s : State) (names : Names
   pub has : HasNames names (names_behind [] tokens)
 
 -- what a stop says of the text
-abbrev pub Stopped : Flags → Text → Stop → Type 0
-Stopped flags text (stops.Syntax kind left) = (depth : ℕ) → IsSpelled flags text depth → ⊥
-Stopped flags text stops.LimitPatternNesting = (depth : ℕ) → IsSpelled flags text depth → 250 < depth
-Stopped flags text stops.Memory = Unit {0}
+abbrev pub StopsText : Flags → Text → Stop → Type 0
+StopsText flags text (stops.Syntax kind left) = (depth : ℕ) → IsSpelled flags text depth → ⊥
+StopsText flags text stops.LimitPatternNesting = (depth : ℕ) → IsSpelled flags text depth → 250 < depth
+StopsText flags text stops.Memory = Unit {0}

@@ -3,9 +3,8 @@
 ghost use Rattle.std.specs.Prelude.{◌≡◌, ◌<◌, ◌≤◌};
 ghost use Rattle.logos_syntax.specs.inside.BracketView.{IsStopOf, ReadsInside, ReadsBracket};
 
-use crate::bracket::stack::{Found, Frames, MAX_NESTING};
+use crate::bracket::stack::{BracketOpening, BracketValue, Frames, MAX_NESTING};
 use logos_pattern_tokens::bracket::reader::{bracket_token_at, open_at};
-use logos_pattern_tokens::bracket::token::Lead;
 use logos_pattern_tokens::error::{Fault, Kind, Stop};
 use logos_pattern_tokens::token::Flags;
 use std::alloc::Global;
@@ -60,15 +59,13 @@ fn read_inside(
     alloc: Global,
     flags: Flags,
     base: usize,
-    negated: bool,
-    lead: Lead,
-    left: usize,
+    opening: BracketOpening,
     text: &[char],
-) -> Result<(Found, &[char]), Stop>
+) -> Result<(BracketValue, &[char]), Stop>
     requires { base < 250 }
-    ensures { ReadsInside flags base negated lead text.now result }
+    ensures { ReadsInside flags base opening.negated opening.lead text.now result }
 {
-    let mut frames = Frames::new(alloc, negated, lead, base + 1, left)?;
+    let mut frames = Frames::new(alloc, opening, base + 1)?;
     let mut rest = text;
     while !rest.is_empty() {
         let (token, after) = match bracket_token_at(alloc, rest) {
@@ -95,7 +92,7 @@ pub(crate) fn read_bracket(
     flags: Flags,
     base: usize,
     text: &[char],
-) -> Result<(Found, &[char]), Stop>
+) -> Result<(BracketValue, &[char]), Stop>
     requires { base ≤ 250 }
     ensures { ReadsBracket flags base text.now result }
 {
@@ -104,5 +101,10 @@ pub(crate) fn read_bracket(
     }
     let (negated, lead, inside) = open_at(text);
     let left = text.len().saturating_add(1);
-    read_inside(alloc, flags, base, negated, lead, left, inside)
+    let opening = BracketOpening {
+        negated,
+        lead,
+        left,
+    };
+    read_inside(alloc, flags, base, opening, inside)
 }

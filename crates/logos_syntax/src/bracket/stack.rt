@@ -4,10 +4,10 @@ ghost use Rattle.std.specs.Prelude.{◌≡◌, ◌+◌, ◌≤◌, ◌<◌, [], 
 ghost use Rattle.logos_hir.specs.Hir.{pairs};
 ghost use Rattle.logos_hir.specs.Sets.{members};
 
-use crate::bracket::translate::{item_fits, lead_ranges, push_item, push_set, turned};
+use crate::bracket::translate::{item_fits, lead_ranges, push_item, push_set, set_or_complement};
 use logos_hir::hir::Range;
 use logos_hir::sets::RangeSet;
-use logos_hir::sets::operands::{Operand, SetOperator, combined, operands_set};
+use logos_hir::sets::operands::{Operand, SetOperator, combination, operands_set};
 use logos_pattern_tokens::bracket::token::{BracketToken, Item, Lead};
 use logos_pattern_tokens::error::{Kind, Stop};
 use logos_pattern_tokens::token::Flags;
@@ -16,6 +16,14 @@ use std::mem;
 
 /// How many groups, brackets and repetitions may be around one place.
 pub(crate) const MAX_NESTING: usize = 250;
+
+/// How a bracket opens, and the number of characters from there on.
+#[derive(Clone, Copy)]
+pub(crate) struct BracketOpening {
+    pub negated: bool,
+    pub lead: Lead,
+    pub left: usize,
+}
 
 /// The inside of a bracket so far.
 #[derive(Drop)]
@@ -34,6 +42,7 @@ pub(crate) struct Frame {
     ghost shallow: { inner ≤ 250 },
 }
 
+/// The brackets that are open.
 #[derive(Drop)]
 pub(crate) struct Frames {
     top: Frame,
@@ -44,33 +53,28 @@ pub(crate) struct Frames {
 
 /// The set of a bracket, and how deep its innermost place is in the whole pattern.
 #[derive(Drop)]
-pub(crate) struct Found {
+pub(crate) struct BracketValue {
     pub set: RangeSet,
     pub depth: usize,
 }
 
 impl Frame {
     ghost use Rattle.logos_hir.specs.RangeSets.{set_of};
-    ghost use Rattle.logos_syntax.specs.inside.BracketStack.{opened, value, whole};
+    ghost use Rattle.logos_syntax.specs.inside.BracketStack.{fresh_frame, value, whole};
     ghost use Rattle.logos_syntax.specs.inside.BracketView.{frame_view};
 
-    fn new(
-        alloc: Global,
-        negated: bool,
-        lead: Lead,
-        level: usize,
-        left: usize,
-    ) -> Result<Frame, AllocError>
+    /// A bracket of which nothing is read but its opening.
+    fn new(alloc: Global, opening: BracketOpening, level: usize) -> Result<Frame, AllocError>
         requires { level ≤ 250 }
-        ensures { IfOk result (λ f. frame_view f ≡ opened negated lead level) }
+        ensures { IfOk result (λ f. frame_view f ≡ fresh_frame opening.negated opening.lead level) }
     {
         Ok(Frame {
-            negated,
+            negated: opening.negated,
             before: Vec::new(alloc),
             operator: None,
-            ranges: lead_ranges(alloc, lead)?,
+            ranges: lead_ranges(alloc, opening.lead)?,
             inner: level,
-            left,
+            left: opening.left,
         })
     }
 
@@ -81,7 +85,7 @@ impl Frame {
         let here = RangeSet::from_ranges(alloc, &self.ranges)?;
         match self.operator {
             None => Ok(here),
-            Some(op) => combined(op, &operands_set(alloc, &self.before)?, &here),
+            Some(op) => combination(op, &operands_set(alloc, &self.before)?, &here),
         }
     }
 
@@ -89,35 +93,37 @@ impl Frame {
     fn whole(&self, alloc: Global, flags: Flags) -> Result<RangeSet, AllocError>
         ensures { IfOk result (λ set. set_of set ≡ whole flags (frame_view self.now)) }
     {
-        turned(flags, self.negated, self.value(alloc)?)
+        set_or_complement(flags, self.negated, self.value(alloc)?)
     }
 }
 
 impl Frames {
     ghost use Rattle.std.specs.Prelude.{not, ◌==◌};
     ghost use Rattle.logos_hir.specs.RangeSets.{set_of};
-    ghost use Rattle.logos_syntax.specs.inside.BracketStack.{opened, whole};
+    ghost use Rattle.logos_syntax.specs.inside.BracketStack.{fresh_frame, whole};
     ghost use Rattle.logos_syntax.specs.inside.BracketView.{frame_view, frames_view, BracketSteps};
 
+    /// One bracket that is open.
     pub(crate) fn new(
         alloc: Global,
-        negated: bool,
-        lead: Lead,
+        opening: BracketOpening,
         level: usize,
-        left: usize,
     ) -> Result<Frames, AllocError>
         requires { level ≤ 250 }
-        ensures { IfOk result (λ m. frames_view m ≡ record { top = opened negated lead level; below = [] }) }
+        ensures { IfOk result (λ m. frames_view m ≡
+            record { top = fresh_frame opening.negated opening.lead level; below = [] }) }
     {
         Ok(Frames {
-            top: Frame::new(alloc, negated, lead, level, left)?,
+            top: Frame::new(alloc, opening, level)?,
             below: Vec::new(alloc),
         })
     }
 
     /// The token ends the outermost bracket.
     pub(crate) fn ends_by(&self, token: BracketToken) -> bool
-        ensures { MatchBool result ((token ≡ BracketToken.Close) × ((frames_view self.now).below ≡ [])) (token ≡ BracketToken.Close → (frames_view self.now).below ≡ [] → ⊥) }
+        ensures { MatchBool result ((token ≡ BracketToken.Close) ×
+            ((frames_view self.now).below ≡ [])) (token ≡
+            BracketToken.Close → (frames_view self.now).below ≡ [] → ⊥) }
     {
         match token {
             BracketToken::Close => self.below.is_empty(),
@@ -131,16 +137,19 @@ impl Frames {
     }
 
     /// The whole bracket, once it is closed.
-    pub(crate) fn finish(&self, alloc: Global, flags: Flags) -> Result<Found, AllocError>
-        ensures { IfOk result (λ found. (set_of found.set ≡ whole flags (frames_view self.now).top) × (found.depth ≡ (frames_view self.now).top.inner) × (found.depth ≤ 250)) }
+    pub(crate) fn finish(&self, alloc: Global, flags: Flags) -> Result<BracketValue, AllocError>
+        ensures { IfOk result (λ found. (set_of found.set ≡
+            whole flags (frames_view self.now).top) ×
+            (found.depth ≡ (frames_view self.now).top.inner) × (found.depth ≤ 250)) }
     {
         let set = self.top.whole(alloc, flags)?;
-        Ok(Found {
+        Ok(BracketValue {
             set,
             depth: self.top.inner,
         })
     }
 
+    /// Adds an item to the innermost bracket.
     fn item(
         &mut self,
         alloc: Global,
@@ -149,7 +158,8 @@ impl Frames {
         item: Item,
         left: usize,
     ) -> Result<(), Stop>
-        ensures { BracketSteps flags base (frames_view self.old) (BracketToken.Item item) result (frames_view self.new) }
+        ensures { BracketSteps flags base (frames_view self.old) (BracketToken.Item item) result
+            (frames_view self.new) }
     {
         if !item_fits(flags, item) {
             return Err(Stop::Syntax {
@@ -161,28 +171,29 @@ impl Frames {
         Ok(())
     }
 
+    /// Opens a bracket in the innermost one.
     fn open(
         &mut self,
         alloc: Global,
         flags: Flags,
         base: usize,
-        negated: bool,
-        lead: Lead,
-        left: usize,
+        opening: BracketOpening,
     ) -> Result<(), Stop>
         requires { base ≤ 250 }
-        ensures { BracketSteps flags base (frames_view self.old) (BracketToken.Open negated lead) result (frames_view self.new) }
+        ensures { BracketSteps flags base (frames_view self.old)
+            (BracketToken.Open opening.negated opening.lead) result (frames_view self.new) }
     {
         let level = base + self.below.len() + 2;
         if level > MAX_NESTING {
             return Err(Stop::LimitPatternNesting);
         }
-        let inside = Frame::new(alloc, negated, lead, level, left)?;
+        let inside = Frame::new(alloc, opening, level)?;
         let outside = mem::replace(&mut self.top, inside);
         self.below.push(outside)?;
         Ok(())
     }
 
+    /// Ends the operand of the innermost bracket.
     fn operator(
         &mut self,
         alloc: Global,
@@ -190,7 +201,8 @@ impl Frames {
         base: usize,
         op: SetOperator,
     ) -> Result<(), Stop>
-        ensures { BracketSteps flags base (frames_view self.old) (BracketToken.Operator op) result (frames_view self.new) }
+        ensures { BracketSteps flags base (frames_view self.old) (BracketToken.Operator op) result
+            (frames_view self.new) }
     {
         let set = RangeSet::from_ranges(alloc, &self.top.ranges)?;
         let operator = self.top.operator;
@@ -200,8 +212,10 @@ impl Frames {
         Ok(())
     }
 
+    /// Closes the innermost bracket, which stands in another one.
     fn close(&mut self, alloc: Global, flags: Flags, base: usize, left: usize) -> Result<(), Stop>
-        ensures { BracketSteps flags base (frames_view self.old) BracketToken.Close result (frames_view self.new) }
+        ensures { BracketSteps flags base (frames_view self.old) BracketToken.Close result
+            (frames_view self.new) }
     {
         let Some(outside) = self.below.pop() else {
             return Err(Stop::Syntax {
@@ -216,6 +230,7 @@ impl Frames {
         Ok(())
     }
 
+    /// Takes the next token.
     pub(crate) fn step(
         &mut self,
         alloc: Global,
@@ -225,11 +240,23 @@ impl Frames {
         left: usize,
     ) -> Result<(), Stop>
         requires { base ≤ 250 }
-        ensures { BracketSteps flags base (frames_view self.old) token result (frames_view self.new) }
+        ensures { BracketSteps flags base (frames_view self.old) token result
+            (frames_view self.new) }
     {
         match token {
             BracketToken::Item(item) => self.item(alloc, flags, base, item, left),
-            BracketToken::Open(negated, lead) => self.open(alloc, flags, base, negated, lead, left),
+            BracketToken::Open(negated, lead) => {
+                self.open(
+                    alloc,
+                    flags,
+                    base,
+                    BracketOpening {
+                        negated,
+                        lead,
+                        left,
+                    },
+                )
+            }
             BracketToken::Operator(op) => self.operator(alloc, flags, base, op),
             BracketToken::Close => self.close(alloc, flags, base, left),
         }

@@ -5,8 +5,8 @@ ghost use Rattle.logos_hir.specs.Hir.{pairs};
 ghost use Rattle.logos_hir.specs.Sets.{only_chars, members, union, in_range};
 ghost use Rattle.logos_pattern_tokens.specs.bracket.Spelling.{code_of};
 ghost use Rattle.logos_hir.specs.RangeSets.{set_of};
-ghost use Rattle.logos_syntax.specs.bracket.Meaning.{last_of, folded, turned, item_test, is_negated, item_set, lead_set, symbol_fits, item_fits};
-ghost use Rattle.logos_hir.specs.Operands.{combined};
+ghost use Rattle.logos_syntax.specs.bracket.Meaning.{last_of, case_closure, set_or_complement, item_test, is_negated, item_set, lead_set, symbol_fits, item_fits};
+ghost use Rattle.logos_hir.specs.Operands.{combination};
 
 use logos_hir::fold::{fold_ascii, fold_case};
 use logos_hir::hir::Range;
@@ -26,8 +26,12 @@ fn last_of(flags: Flags) -> char
 }
 
 /// Under `i` the set with all that has the same letters.
-pub(crate) fn folded(alloc: Global, flags: Flags, set: RangeSet) -> Result<RangeSet, AllocError>
-    ensures { IfOk result (λ out. set_of out ≡ folded flags (set_of set)) }
+pub(crate) fn case_closure(
+    alloc: Global,
+    flags: Flags,
+    set: RangeSet,
+) -> Result<RangeSet, AllocError>
+    ensures { IfOk result (λ out. set_of out ≡ case_closure flags (set_of set)) }
 {
     if !flags.ignore_case {
         return Ok(set);
@@ -39,8 +43,12 @@ pub(crate) fn folded(alloc: Global, flags: Flags, set: RangeSet) -> Result<Range
 }
 
 /// The set, or its complement.
-pub(crate) fn turned(flags: Flags, negated: bool, set: RangeSet) -> Result<RangeSet, AllocError>
-    ensures { IfOk result (λ out. set_of out ≡ turned flags negated (set_of set)) }
+pub(crate) fn set_or_complement(
+    flags: Flags,
+    negated: bool,
+    set: RangeSet,
+) -> Result<RangeSet, AllocError>
+    ensures { IfOk result (λ out. set_of out ≡ set_or_complement flags negated (set_of set)) }
 {
     if negated {
         return set.complement(last_of(flags));
@@ -62,8 +70,10 @@ pub(crate) fn number_set(alloc: Global, code: u32) -> Result<RangeSet, AllocErro
     range_set(alloc, code, code)
 }
 
+/// The characters from one symbol to the other.
 fn symbols_set(alloc: Global, first: Symbol, last: Symbol) -> Result<RangeSet, AllocError>
-    ensures { IfOk result (λ set. set_of set ≡ only_chars (in_range (code_of first, code_of last))) }
+    ensures { IfOk result (λ set. set_of set ≡ only_chars
+        (in_range (code_of first, code_of last))) }
 {
     range_set(alloc, code_of(first), code_of(last))
 }
@@ -81,6 +91,7 @@ fn item_test(alloc: Global, flags: Flags, item: Item) -> Result<RangeSet, AllocE
     }
 }
 
+/// Whether the item is negated.
 fn is_negated(item: Item) -> bool
     ensures { result ≡ is_negated item }
 {
@@ -90,12 +101,13 @@ fn is_negated(item: Item) -> bool
     }
 }
 
+/// The set of an item.
 fn item_set(alloc: Global, flags: Flags, item: Item) -> Result<RangeSet, AllocError>
     ensures { IfOk result (λ set. set_of set ≡ item_set flags item) }
 {
     let test = item_test(alloc, flags, item)?;
-    let same_letters = folded(alloc, flags, test)?;
-    turned(flags, is_negated(item), same_letters)
+    let same_letters = case_closure(alloc, flags, test)?;
+    set_or_complement(flags, is_negated(item), same_letters)
 }
 
 /// The ends of an item that is a range as it stands.
@@ -119,7 +131,8 @@ pub(crate) fn push_item(
     flags: Flags,
     item: Item,
 ) -> Result<(), AllocError>
-    ensures { OnOk result (members (pairs ranges.new.items) ≡ union (members (pairs ranges.old.items)) (item_set flags item)) }
+    ensures { OnOk result (members (pairs ranges.new.items) ≡
+        union (members (pairs ranges.old.items)) (item_set flags item)) }
 {
     match plain_ends(flags, item) {
         Some((first, last)) => push_range(ranges, first, last),
@@ -129,7 +142,8 @@ pub(crate) fn push_item(
 
 /// Adds a range.
 fn push_range(ranges: &mut Vec<Range>, first: u32, last: u32) -> Result<(), AllocError>
-    ensures { OnOk result (members (pairs ranges.new.items) ≡ union (members (pairs ranges.old.items)) (members ((first, last) ∷ []))) }
+    ensures { OnOk result (members (pairs ranges.new.items) ≡
+        union (members (pairs ranges.old.items)) (members ((first, last) ∷ []))) }
 {
     ranges.push(Range { first, last })?;
     Ok(())
@@ -137,7 +151,8 @@ fn push_range(ranges: &mut Vec<Range>, first: u32, last: u32) -> Result<(), Allo
 
 /// Adds a set.
 pub(crate) fn push_set(ranges: &mut Vec<Range>, set: &RangeSet) -> Result<(), AllocError>
-    ensures { OnOk result (members (pairs ranges.new.items) ≡ union (members (pairs ranges.old.items)) (set_of set.now)) }
+    ensures { OnOk result (members (pairs ranges.new.items) ≡
+        union (members (pairs ranges.old.items)) (set_of set.now)) }
 {
     ranges.extend_from_slice(set.ranges())?;
     Ok(())
@@ -154,6 +169,7 @@ pub(crate) fn lead_ranges(alloc: Global, lead: Lead) -> Result<Vec<Range>, Alloc
     }
 }
 
+/// Where bytes are matched, a character is ASCII.
 fn symbol_fits(flags: Flags, symbol: Symbol) -> bool
     ensures { result ≡ symbol_fits flags symbol }
 {

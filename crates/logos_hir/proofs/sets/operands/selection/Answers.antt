@@ -2,7 +2,7 @@ use Rattle.std.proofs.Common.{◌≡◌, IfOk, ap₂, subst, ◌∙◌}
 use Rattle.logos_hir.specs.Sets.{Set, union}
 use Rattle.logos_hir.specs.RangeSets.{set_of}
 use Rattle.logos_hir.proofs.lemmas.OperandLemmas.{chosen_by_parts}
-use Rattle.logos_hir.proofs.sets.operands.choice.Goals as goal
+use Rattle.logos_hir.proofs.sets.operands.selection.Goals as goal
 
 pub returns : goal.returns
 returns c =

@@ -2,7 +2,7 @@ use Rattle.std.proofs.Common.{◌≡◌, ap, Some}
 use Rattle.std.specs.Option.{option_map}
 use Rattle.logos_syntax.specs.inside.GroupsView.{part_view, group_view}
 use Rattle.logos_syntax.proofs.patterns.Depth.{repeats_deep}
-use Rattle.logos_syntax.proofs.groups.Level.repeat.Goals as goal
+use Rattle.logos_syntax.proofs.groups.OpenGroup.repeat.Goals as goal
 
 pub returns-then-part-ge-MAX_NESTING : goal.returns-then-part-ge-MAX_NESTING
 returns-then-part-ge-MAX_NESTING c =

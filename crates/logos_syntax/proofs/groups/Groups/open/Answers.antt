@@ -1,7 +1,7 @@
 use Rattle.std.proofs.Common.{map, refl, arith}
 use Rattle.std.proofs.lemmas.List.{length-map, length-reverse}
 use Rattle.logos_syntax.specs.inside.GroupsView.{group_view}
-use Rattle.logos_syntax.proofs.groups.Machine.open.Goals as goal
+use Rattle.logos_syntax.proofs.groups.Groups.open.Goals as goal
 
 pub returns-then-len-ge-MAX_NESTING : goal.returns-then-len-ge-MAX_NESTING
 returns-then-len-ge-MAX_NESTING c =

@@ -3,7 +3,7 @@ use Rattle.logos_hir.specs.Hir.{pairs}
 use Rattle.logos_hir.specs.Sets.{in_ranges}
 use Rattle.logos_hir.proofs.lemmas.RangeLemmas.{pairs-push, in_ranges-push}
 use Rattle.logos_hir.proofs.lemmas.FoldLemmas.{moved_range}
-use Rattle.logos_hir.proofs.fold.push_moved.Goals as goal
+use Rattle.logos_hir.proofs.fold.push_shift.Goals as goal
 
 pub returns : goal.returns
 returns c = λ x.
