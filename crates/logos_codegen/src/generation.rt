@@ -2,8 +2,8 @@
 
 ghost use Rattle.std.specs.Prelude.{◌≡◌, ◌↔◌, ◌++◌, ℕ, Bool, List, [], map, flat_map, true, None, IfOk, IfErr, OnOk, IsTrue};
 ghost use Rattle.logos_parser.specs.Values.{ident_slice};
-ghost use Rattle.logos_graph.specs.Munch.{Rule};
-ghost use Rattle.logos_graph.specs.Errors.{fault_of};
+ghost use Rattle.logos_automaton.specs.Munch.{Rule};
+ghost use Rattle.logos_automaton.specs.Errors.{fault_of};
 ghost use Rattle.logos_graph.specs.Found.{FindsTheLongest};
 ghost use Rattle.logos_graph.specs.View.{rules_of};
 ghost use Rattle.logos_generator.specs.GeneratorValue.{KeepsGiven};

@@ -2,7 +2,7 @@
 
 use super::comparison::{found, state_count};
 use super::*;
-use crate::dfa::{Dfa, StateId};
+use logos_automaton::dfa::{Dfa, StateId};
 use logos_pattern::leaf::Leaf;
 use logos_pattern::pattern::Pattern;
 use logos_token::token::Span;

@@ -3,7 +3,7 @@
 ghost use Rattle.std.specs.Prelude.{◌<◌};
 
 use super::*;
-use crate::dfa::{Dfa, Matches};
+use logos_automaton::dfa::{Dfa, Matches};
 use logos_pattern::leaf::{Leaf, LeafId};
 use logos_pattern::pattern::{Class, Hir, Look, Pattern, Range};
 use logos_token::token::Span;

@@ -2,7 +2,7 @@
 
 use super::comparison::{Random, leaves_of, state_count};
 use super::*;
-use crate::dfa::StateId;
+use logos_automaton::dfa::StateId;
 use logos_pattern::leaf::Leaf;
 use std::alloc::Global;
 use std::test::Fail;
@@ -49,7 +49,7 @@ fn children_of(alloc: Global, graph: &Graph<'_>, state: StateId) -> Result<Vec<u
         return Ok(children);
     }
     for child in graph.dfa().iter_children(state) {
-        children.push(child.0)?;
+        children.push(child.index())?;
     }
     Ok(children)
 }
@@ -148,7 +148,7 @@ fn staying(
 fn plain_of(alloc: Global, graph: &Graph<'_>, most: usize) -> Result<Option<Plain>, Fail> {
     let (mut children, mut all) = (Vec::new(alloc), Vec::new(alloc));
     for state in graph.dfa().get_states() {
-        if state.0 != children.len() || state.0 >= most {
+        if state.index() != children.len() || state.index() >= most {
             return Ok(None);
         }
         children.push(children_of(alloc, graph, state)?)?;
@@ -159,7 +159,7 @@ fn plain_of(alloc: Global, graph: &Graph<'_>, most: usize) -> Result<Option<Plai
         early.push(shared(&all, targets))?;
     }
     let late = needed(alloc, &children, &all, &early)?;
-    let stays = staying(alloc, graph.dfa().start().0, &children, &late, &early)?;
+    let stays = staying(alloc, graph.dfa().start().index(), &children, &late, &early)?;
     Ok(Some(Plain {
         children,
         late,
