@@ -21,9 +21,9 @@ use Rattle.logos_parser.specs.Values.{DefinitionValue, EnumValue}
 use Rattle.logos_parser.specs.Enum.{IsEnum}
 use Rattle.logos_parser.proofs.Reading.{one_enum, misfit_excludes}
 use Rattle.logos_parser.proofs.Misfits.{enum-announced}
-use Rattle.logos_graph.specs.Munch.{Rule}
-use Rattle.logos_graph.specs.Faults.{AreFaults}
-use Rattle.logos_graph.proofs.OneFaults.{faults_once}
+use Rattle.logos_automaton.specs.Munch.{Rule}
+use Rattle.logos_automaton.specs.Faults.{AreFaults}
+use Rattle.logos_automaton.proofs.ambiguity.OneFaults.{faults_once}
 use Rattle.logos_codegen.specs.Held.{Held, of_text, of_bytes, IsHeldIn, bytes_of, is_text, pattern_in, HasTree}
 use Rattle.logos_codegen.specs.Texts.{listed_of}
 use Rattle.logos_codegen.specs.Rules.{NamedRule, Gives, no_value, token, no_tree, too_deep, pattern, tree_faults, leaf_with, GiveAll, rules_in, names_in, utf8_faults, GraphLists, graph_faults, size_limit, states_limit}

@@ -5,13 +5,13 @@ use Rattle.logos_token.specs.declared.token.Span.{Span}
 use Rattle.logos_token.specs.Faults.{Fault as ListedFault}
 use Rattle.logos_pattern.specs.declared.leaf.Leaf.{Leaf}
 use Rattle.logos_parser.specs.Values.{EnumValue}
-use Rattle.logos_graph.specs.Munch.{Rule}
-use Rattle.logos_graph.specs.Faults.{AreFaults}
-use Rattle.logos_graph.specs.Size.{size_of}
+use Rattle.logos_automaton.specs.Munch.{Rule}
+use Rattle.logos_automaton.specs.Faults.{AreFaults}
+use Rattle.logos_automaton.specs.Measures.{size_of}
 use Rattle.logos_graph.specs.View.{GraphValue, rule_of, rules_of}
 use Rattle.logos_graph.specs.GraphOf.{IsGraphOf, Refuses}
-use Rattle.logos_graph.specs.declared.graph.BuildError.{BuildError}
-use Rattle.logos_graph.specs.declared.graph.BuildError.TheVariants.{LimitSize, LimitStates, Memory}
+use Rattle.logos_automaton.specs.declared.errors.BuildError.{BuildError}
+use Rattle.logos_automaton.specs.declared.errors.BuildError.TheVariants.{LimitSize, LimitStates, Memory}
 use Rattle.logos_codegen.specs.Texts.{named_leaf, listed_of}
 use Rattle.logos_codegen.specs.Rules.{NamedRule, named_rule, rules_in, names_in, GiveAll, utf8_faults, GraphLists, graph_faults, size_limit, states_limit, AreListed}
 use Rattle.logos_codegen.specs.Source.{Says, IsShallow, IsAccepted, IsRefused, faulty}

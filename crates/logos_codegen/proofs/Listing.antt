@@ -3,9 +3,9 @@ use Rattle.std.proofs.Common.{◌≡◌, ℕ, zero, suc, Bool, true, false, List
 use Rattle.std.proofs.lemmas.Option.{slice_get-map}
 use Rattle.logos_token.specs.declared.token.Span.{Span}
 use Rattle.logos_token.specs.Faults.{Fault as ListedFault}
-use Rattle.logos_graph.specs.Munch.{Rule}
-use Rattle.logos_graph.specs.Ambiguity.{IsAmbiguous}
-use Rattle.logos_graph.specs.Faults.{Fault, no_universal_start, empty_match, disambiguation, some_leads, some_passable, ArePassable, AreAmbiguous, AreFaults}
+use Rattle.logos_automaton.specs.Munch.{Rule}
+use Rattle.logos_automaton.specs.Ambiguity.{IsAmbiguous}
+use Rattle.logos_automaton.specs.Faults.{Fault, no_universal_start, empty_match, disambiguation, some_leads, some_passable, ArePassable, AreAmbiguous, AreFaults}
 use Rattle.logos_codegen.specs.Texts.{NamedLeaf, listed_of}
 use Rattle.logos_codegen.specs.Rules.{NamedRule, rules_in, names_in}
 

@@ -5,7 +5,7 @@ use Rattle.logos_token.specs.Faults.{Fault as ListedFault}
 use Rattle.logos_token.specs.declared.token.Span.{Span}
 use Rattle.logos_parser.specs.declared.parser.ReadError.{ReadError}
 use Rattle.logos_parser.specs.declared.parser.ReadError.TheVariants.{NotAnEnum, Grammar, Memory as NoMemoryToRead}
-use Rattle.logos_graph.specs.Munch.{Rule}
+use Rattle.logos_automaton.specs.Munch.{Rule}
 use Rattle.logos_generator.specs.Code.{CodeValue}
 use Rattle.logos_codegen.specs.Source.{IsAccepted, IsRefused}
 use Rattle.logos_codegen.specs.declared.refusal.Refusal.{Refusal}

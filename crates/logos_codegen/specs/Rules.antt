@@ -11,11 +11,12 @@ use Rattle.logos_pattern.specs.Measure.{fitted, has_greedy_dot, is_text}
 use Rattle.logos_pattern.specs.Priority.{value}
 use Rattle.logos_pattern.specs.Tree.{Tree}
 use Rattle.logos_parser.specs.Values.{KindValue, of_token, of_regex, of_skip, DefinitionValue, EnumValue}
-use Rattle.logos_graph.specs.Munch.{Rule}
-use Rattle.logos_graph.specs.View.{rule_of, AllStart}
-use Rattle.logos_graph.specs.Faults.{Fault, AreFaults}
-use Rattle.logos_graph.specs.Size.{size_of}
-use Rattle.logos_graph.specs.Places.{HasMoreKeys}
+use Rattle.logos_automaton.specs.Munch.{Rule}
+use Rattle.logos_graph.specs.View.{rule_of}
+use Rattle.logos_automaton.specs.Faults.{AllStart}
+use Rattle.logos_automaton.specs.Faults.{Fault, AreFaults}
+use Rattle.logos_automaton.specs.Measures.{size_of}
+use Rattle.logos_automaton.specs.ReadKeys.{HasMoreKeys}
 use Rattle.logos_codegen.specs.Held.{Held, IsHeldIn, bytes_of, HasTree, HasDepth}
 use Rattle.logos_codegen.specs.Texts.{NamedLeaf, named_leaf, fault_at, not_text, regex_text, nesting_text, greedy_text, overflow_text, utf8_text, size_text, states_text, listed_of}
 

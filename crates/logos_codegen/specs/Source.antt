@@ -9,10 +9,10 @@ use Rattle.logos_token.specs.Tokens.{TokenList, run_span, depth_of}
 use Rattle.logos_token.specs.Spelling.{Spells, IsUnreadable, IsTooDeep}
 use Rattle.logos_parser.specs.Values.{Slice, EnumValue}
 use Rattle.logos_parser.specs.Enum.{IsAnnounced, IsEnum, IsMisfit}
-use Rattle.logos_graph.specs.Munch.{Rule}
-use Rattle.logos_graph.specs.Faults.{AreFaults}
-use Rattle.logos_graph.specs.Size.{size_of}
-use Rattle.logos_graph.specs.Places.{HasMoreKeys}
+use Rattle.logos_automaton.specs.Munch.{Rule}
+use Rattle.logos_automaton.specs.Faults.{AreFaults}
+use Rattle.logos_automaton.specs.Measures.{size_of}
+use Rattle.logos_automaton.specs.ReadKeys.{HasMoreKeys}
 use Rattle.logos_codegen.specs.Texts.{fault_at}
 use Rattle.logos_codegen.specs.Rules.{NamedRule, GiveAll, utf8_faults, rules_in, AreListed}
 

@@ -6,8 +6,8 @@ use Rattle.logos_token.specs.Faults.{Fault as ListedFault}
 use Rattle.logos_pattern.specs.declared.leaf.Leaf.{Leaf}
 use Rattle.logos_graph.specs.View.{GraphValue, rules_of}
 use Rattle.logos_graph.specs.GraphOf.{IsGraphOf}
-use Rattle.logos_graph.specs.declared.graph.BuildError.{BuildError}
-use Rattle.logos_graph.specs.declared.graph.BuildError.TheVariants.{LimitSize, LimitStates, Memory}
+use Rattle.logos_automaton.specs.declared.errors.BuildError.{BuildError}
+use Rattle.logos_automaton.specs.declared.errors.BuildError.TheVariants.{LimitSize, LimitStates, Memory}
 use Rattle.logos_codegen.specs.Texts.{fault_at, size_text, states_text}
 use Rattle.logos_codegen.specs.Rules.{named_rule, GraphLists}
 use Rattle.logos_codegen.specs.Source.{IsAccepted, IsWithinSizes}

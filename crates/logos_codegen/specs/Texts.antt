@@ -12,7 +12,7 @@ use Rattle.logos_pattern.specs.declared.pattern.error.Kind.{Kind}
 use Rattle.logos_pattern.specs.declared.pattern.error.Kind.TheVariants as kinds
 use Rattle.logos_pattern.specs.Leaf.{leaf_text, source_of, kind_text}
 use Rattle.logos_pattern.specs.declared.leaf.Leaf.{Leaf}
-use Rattle.logos_graph.specs.Faults.{Fault, no_universal_start, empty_match, disambiguation}
+use Rattle.logos_automaton.specs.Faults.{Fault, no_universal_start, empty_match, disambiguation}
 
 -- a leaf as a fault names it
 pub record NamedLeaf : Type 0 where

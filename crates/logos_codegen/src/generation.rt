@@ -2,8 +2,8 @@
 
 ghost use Rattle.std.specs.Prelude.{◌≡◌, ◌<◌, ◌↔◌, ◌∷◌, ◌++◌, ℕ, Bool, List, [], length, map, flat_map, true, None, IfOk, IfErr, IsErrAnd, OnOk, IsTrue};
 ghost use Rattle.logos_parser.specs.Values.{ident_slice};
-ghost use Rattle.logos_graph.specs.Munch.{Rule};
-ghost use Rattle.logos_graph.specs.Errors.{fault_of};
+ghost use Rattle.logos_automaton.specs.Munch.{Rule};
+ghost use Rattle.logos_automaton.specs.Errors.{fault_of};
 ghost use Rattle.logos_graph.specs.GraphOf.{IsGraphOf};
 ghost use Rattle.logos_graph.specs.View.{rules_of};
 ghost use Rattle.logos_generator.specs.GeneratorValue.{KeepsGiven};

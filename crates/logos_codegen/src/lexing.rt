@@ -3,7 +3,7 @@
 ghost use Rattle.std.specs.Prelude.{◌≡◌, ℕ, List, Bool, map, length, true, IfOk, IfErr, IsTrue, MatchResult};
 ghost use Rattle.std.specs.List.{All};
 ghost use Rattle.std.specs.Str.{IsUtf8, IsValidUpTo};
-ghost use Rattle.logos_graph.specs.Munch.{Rule};
+ghost use Rattle.logos_automaton.specs.Munch.{Rule};
 ghost use Rattle.logos_generator.specs.Headline.{IsCut};
 ghost use Rattle.logos_generator.specs.Items.{Items};
 ghost use Rattle.logos_generator.specs.LexerValue.{answers_of, item_of};

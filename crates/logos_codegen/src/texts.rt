@@ -2,7 +2,7 @@
 
 ghost use Rattle.std.specs.Prelude.{◌≡◌, ◌++◌, ◌==◌, ◌∷◌, [], map, flat_map, slice_get, option_map, if◌then◌else◌, IfOk, OnOk, string_bytes};
 ghost use Rattle.std.specs.Option.{option_map_or};
-ghost use Rattle.logos_graph.specs.Errors.{fault_of, numbers};
+ghost use Rattle.logos_automaton.specs.Errors.{fault_of, numbers};
 ghost use Rattle.logos_codegen.specs.Texts.{named_leaf, fault_at, line_of, other_lines, empty_match_faults, disambiguation_text, disambiguation_faults, listed_of, kind_name, regex_text, utf8_text, IsPatternFault};
 
 use logos_graph::graph::GraphError;

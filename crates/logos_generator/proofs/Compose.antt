@@ -2,7 +2,7 @@
 use Rattle.std.proofs.Common.{◌≡◌, ◌↔◌, ℕ, Bool, List, [], ◌∷◌, map, refl, ap, ◌∙◌}
 use Rattle.logos_pattern.specs.declared.leaf.Leaf.{Leaf}
 use Rattle.logos_graph.specs.View.{GraphValue, rule_of, rules_of}
-use Rattle.logos_graph.specs.Munch.{Use, Rule, Found, ended, matched, failed, Finds}
+use Rattle.logos_automaton.specs.Munch.{Use, Rule, Found, ended, matched, failed, Finds}
 use Rattle.logos_generator.specs.Code.{CodeValue}
 use Rattle.logos_generator.specs.Runs.{CodeFinds, Runs}
 use Rattle.logos_generator.specs.Items.{Callback, Search, Item, Items, Lexes, over, match, fault}

@@ -10,7 +10,7 @@ use Rattle.logos_pattern.specs.Text.{StandsAt}
 use Rattle.logos_pattern.specs.Tree.{Tree, empty, literal, byte_class, char_class, look, repetition, capture, concat, alternation, Trees, none, also}
 use Rattle.logos_pattern.specs.Matches.{Matches, Pieces, MatchesInOrder, SomeMatches}
 use Rattle.logos_pattern.specs.Measure.{is_text, all_text}
-use Rattle.logos_graph.specs.Munch.{Use, Rule, RuleMatches}
+use Rattle.logos_automaton.specs.Munch.{Use, Rule, RuleMatches}
 use Rattle.logos_generator.specs.declared.machine.Action.{Action}
 use Rattle.logos_generator.specs.declared.machine.Action.TheVariants.{Emit, Skip, Error}
 use Rattle.logos_generator.specs.Headline.{IsCut}

@@ -1,6 +1,6 @@
 -- The steps of a code value at small inputs.
 use Rattle.std.proofs.Common.{ℕ, zero, suc, ◌<◌, true, false, List, [], ◌∷◌, ◌++◌, None, Some, refl, arith}
-use Rattle.logos_graph.specs.Munch.{matched, failed}
+use Rattle.logos_automaton.specs.Munch.{matched, failed}
 use Rattle.logos_generator.specs.Code.{CodeValue, by_comparisons, by_conditions}
 use Rattle.logos_generator.specs.Runs.{Tries, goes_on, acts_on}
 use Rattle.logos_generator.specs.declared.code.Kept.{Kept}

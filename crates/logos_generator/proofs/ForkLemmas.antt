@@ -3,7 +3,7 @@ use Rattle.std.proofs.Common.{◌≡◌, ℕ, zero, suc, ◌+◌, ◌<◌, Bool,
 use Rattle.std.specs.Option.{option_or}
 use Rattle.std.specs.declared.ops.RangeInclusive.{RangeInclusive}
 use Rattle.std.proofs.lemmas.List.{drop_more, map-append}
-use Rattle.logos_graph.specs.Graph.{is_in}
+use Rattle.logos_places.specs.ByteRanges.{is_in}
 use Rattle.logos_graph.specs.Bytes.{bounds}
 use Rattle.logos_graph.specs.declared.byte_class.ByteClass.{ByteClass}
 use Rattle.logos_graph.specs.declared.graph.State.{State}

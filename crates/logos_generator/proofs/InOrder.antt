@@ -2,8 +2,8 @@
 use Rattle.std.proofs.Common.{◌≡◌, ℕ, ◌<◌, ◌≤◌, Bool, true, false, List, [], ◌∷◌, ◌++◌, length, map, Some, None, slice_range, if◌then◌else◌, arith}
 use Rattle.std.proofs.lemmas.List.{length-drop}
 use Rattle.std.proofs.lemmas.Str.{IsCharBoundary-end}
-use Rattle.logos_graph.specs.Munch.{Use, Rule, IsBest, IsStop}
-use Rattle.logos_graph.proofs.Unique.{rule_within}
+use Rattle.logos_automaton.specs.Munch.{Use, Rule, IsBest, IsStop}
+use Rattle.logos_automaton.proofs.munch.Unique.{rule_within}
 use Rattle.logos_generator.specs.declared.machine.Action.{Action}
 use Rattle.logos_generator.specs.declared.machine.Action.TheVariants.{Emit, Skip, Error}
 use Rattle.logos_generator.specs.Items.{Callback, Item, token, error, items_of, over, match, fault, Items}

@@ -4,7 +4,7 @@ use Rattle.std.proofs.lemmas.List.{drop_more, map-append}
 use Rattle.logos_pattern.specs.Leaf.{is_skip, callback_value}
 use Rattle.logos_pattern.specs.declared.leaf.Callback.{Callback}
 use Rattle.logos_pattern.specs.declared.leaf.Leaf.{Leaf}
-use Rattle.logos_graph.specs.Munch.{Use}
+use Rattle.logos_automaton.specs.Munch.{Use}
 use Rattle.logos_generator.specs.CodeView.{use_of}
 use Rattle.logos_generator.specs.GeneratorValue.{LeafValue, leaf_value, code_leaf_value}
 use Rattle.logos_generator.specs.StateView.{leaf_use}

@@ -1,6 +1,6 @@
 -- Steps of a lexer.
 use Rattle.std.proofs.Common.{◌≡◌, ℕ, Bool, true, false, if◌then◌else◌, List, [], ◌∷◌, ◌++◌, Option, Some, None, slice_range, subst}
-use Rattle.logos_graph.specs.Munch.{Use, ended, matched, failed}
+use Rattle.logos_automaton.specs.Munch.{Use, ended, matched, failed}
 use Rattle.logos_generator.specs.declared.machine.Action.{Action}
 use Rattle.logos_generator.specs.declared.machine.Action.TheVariants.{Emit, Skip, Error}
 use Rattle.logos_generator.specs.Items.{Callback, Item, token, error, items_of, skips, MayAnswer, over, match, fault}

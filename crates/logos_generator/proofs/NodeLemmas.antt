@@ -4,7 +4,8 @@ use Rattle.std.specs.Option.{option_map_or}
 use Rattle.std.proofs.lemmas.Option.{slice_get-get_or, get_or_from_slice_get, slice_get_within}
 use Rattle.std.proofs.Math.ListN.{get_or-eq_default}
 use Rattle.std.proofs.lemmas.Bool.Decides.{eqb_tells}
-use Rattle.logos_graph.specs.Graph.{GraphState, is_in}
+use Rattle.logos_graph.specs.Graph.{GraphState}
+use Rattle.logos_places.specs.ByteRanges.{is_in}
 use Rattle.logos_generator.specs.Bytes.{passes_test}
 use Rattle.logos_generator.specs.Code.{CodeValue, Condition, by_comparisons, by_test, Fork, by_conditions, by_table}
 use Rattle.logos_generator.specs.Runs.{passes, target}

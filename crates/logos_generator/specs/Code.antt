@@ -1,6 +1,6 @@
 -- A code value: what a lexer does in each state.
 use Rattle.std.specs.Prelude.{ℕ, Bool, List, Option}
-use Rattle.logos_graph.specs.Munch.{Use}
+use Rattle.logos_automaton.specs.Munch.{Use}
 use Rattle.logos_graph.specs.Bytes.{Comparison}
 use Rattle.logos_generator.specs.declared.code.CodeLeaf.{CodeLeaf}
 use Rattle.logos_generator.specs.declared.code.Kept.{Kept}

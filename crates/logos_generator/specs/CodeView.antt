@@ -3,7 +3,7 @@ use Rattle.std.specs.Prelude.{◌≡◌, ℕ, ◌<◌, Bool, not, List, [], map,
 use Rattle.std.specs.Int.Bits.{bit_and}
 use Rattle.std.specs.Option.{option_map_or}
 use Rattle.logos_pattern.specs.Leaf.{is_skip}
-use Rattle.logos_graph.specs.Munch.{Use}
+use Rattle.logos_automaton.specs.Munch.{Use}
 use Rattle.logos_graph.specs.Bytes.{comparison_of}
 use Rattle.logos_generator.specs.Code.{CodeValue, CodeState, Mark, Condition, by_comparisons, by_test, Fork, by_conditions, by_table}
 use Rattle.logos_generator.specs.Headline.{IsSound}

@@ -3,7 +3,7 @@ use Rattle.std.specs.Prelude.{◌≡◌, ℕ, Bool, List, map, [], ◌∷◌, �
 use Rattle.std.specs.Option.{option_map_or}
 use Rattle.logos_generator.specs.declared.machine.Action.{Action}
 use Rattle.logos_generator.specs.declared.machine.Action.TheVariants.{Emit, Skip, Error}
-use Rattle.logos_graph.specs.Munch.{Use, Rule, Found, ended, matched, failed, Finds}
+use Rattle.logos_automaton.specs.Munch.{Use, Rule, Found, ended, matched, failed, Finds}
 
 -- an item, its span, and the input at its span
 pub data Item : Type 0 where

@@ -5,7 +5,7 @@ use Rattle.std.specs.Fn.{FnReturns}
 use denote.Param.Members.{Shared}
 use denote.Ref.{Bor}
 use Rattle.logos_generator.specs.Code.{CodeValue}
-use Rattle.logos_graph.specs.Munch.{Found}
+use Rattle.logos_automaton.specs.Munch.{Found}
 use Rattle.logos_generator.specs.Items.{Callback, Item, token, error, MayAnswer, items_of}
 use Rattle.logos_generator.specs.Runs.{Runs, Tries}
 use Rattle.logos_generator.specs.declared.machine.Action.{Action}

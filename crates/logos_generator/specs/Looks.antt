@@ -1,6 +1,6 @@
 -- What contracts see of a look from a state on.
 use Rattle.std.specs.Prelude.{◌≡◌, ℕ, ◌+◌, ◌-◌, ◌<◌, ◌≤◌, List, length, drop, Option, Some, None}
-use Rattle.logos_graph.specs.Munch.{matched}
+use Rattle.logos_automaton.specs.Munch.{matched}
 use Rattle.logos_generator.specs.Code.{CodeValue}
 use Rattle.logos_generator.specs.CodeView.{state_at}
 use Rattle.logos_generator.specs.Rows.{IsStepOf}

@@ -1,7 +1,8 @@
 -- The nodes that a generator makes of a graph's state, by the byte sets that it tests by bits.
 use Rattle.std.specs.Prelude.{◌≡◌, ℕ, ◌<◌, ◌≤◌, Bool, false, not, ◌&&◌, ◌==◌, List, [], ◌∷◌, ◌++◌, length, sum_by, Option, Some, None, option_map, MatchBool, MatchOption, IsSomeAnd, if◌then◌else◌, find, slice_get, slice_index_or}
 use Rattle.std.specs.Option.{option_map_or, option_or}
-use Rattle.logos_graph.specs.Graph.{GraphState, is_in}
+use Rattle.logos_graph.specs.Graph.{GraphState}
+use Rattle.logos_places.specs.ByteRanges.{is_in}
 use Rattle.logos_graph.specs.FinishedGraph.{Edge}
 use Rattle.logos_graph.specs.Bytes.{Comparison, operations, joined, some_compares}
 use Rattle.logos_generator.specs.Code.{CodeState, Condition, by_comparisons, by_test, Fork, by_conditions, by_table}

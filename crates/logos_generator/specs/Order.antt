@@ -1,6 +1,6 @@
 -- The order of items.
 use Rattle.std.specs.Prelude.{ℕ, ◌<◌, ◌≤◌, List, [], ◌∷◌, Option}
-use Rattle.logos_graph.specs.Munch.{Rule, IsBest}
+use Rattle.logos_automaton.specs.Munch.{Rule, IsBest}
 use Rattle.logos_generator.specs.Items.{Item, token, error}
 
 -- The spans lie between the place and the end, none is empty, and each starts no earlier than the one before it ends.

@@ -5,7 +5,7 @@ use Rattle.std.specs.Option.{option_map_or}
 use Rattle.logos_graph.specs.Bytes.{some_compares}
 use Rattle.logos_generator.specs.Bytes.{passes_test}
 use Rattle.logos_generator.specs.Code.{CodeValue, CodeState, Mark, Condition, by_comparisons, by_test, Fork, by_conditions, by_table}
-use Rattle.logos_graph.specs.Munch.{Found, ended, matched, failed}
+use Rattle.logos_automaton.specs.Munch.{Found, ended, matched, failed}
 use Rattle.logos_generator.specs.Items.{Callback, Item, Lexes}
 
 -- Where a try stands as it enters a state.

@@ -1,6 +1,6 @@
 -- Where a try can stand in a sound code.
 use Rattle.std.specs.Prelude.{◌≡◌, ℕ, ◌+◌, ◌<◌, ◌≤◌, ◌⊎◌, List, length, Option, None, IfSome}
-use Rattle.logos_graph.specs.Munch.{Found, ended, matched, failed}
+use Rattle.logos_automaton.specs.Munch.{Found, ended, matched, failed}
 use Rattle.logos_generator.specs.Code.{CodeValue}
 use Rattle.logos_generator.specs.CodeView.{state_at}
 use Rattle.logos_generator.specs.Headline.{IsLate}

@@ -3,7 +3,7 @@ use Rattle.std.specs.Prelude.{◌≡◌, ℕ, ◌<◌, ◌≤◌, ◌*◌, Bool,
 use Rattle.std.specs.List.{All}
 use Rattle.logos_pattern.specs.declared.leaf.Leaf.{Leaf}
 use Rattle.logos_graph.specs.Graph.{GraphState}
-use Rattle.logos_graph.specs.Munch.{Use}
+use Rattle.logos_automaton.specs.Munch.{Use}
 use Rattle.logos_graph.specs.View.{rule_of}
 use Rattle.logos_graph.specs.Bytes.{AreSeparated}
 use Rattle.logos_generator.specs.declared.code.CodeState.{CodeState as TheState}

@@ -4,7 +4,7 @@ ghost use Rattle.std.specs.Prelude.{◌≡◌, ℕ, ◌≤◌, ◌↔◌, Bool, 
 ghost use Rattle.std.specs.List.{All};
 ghost use Rattle.logos_pattern.specs.Measure.{is_text};
 ghost use Rattle.logos_graph.specs.Found.{FindsTheLongest, IsInput};
-ghost use Rattle.logos_graph.specs.Munch.{Rule};
+ghost use Rattle.logos_automaton.specs.Munch.{Rule};
 ghost use Rattle.logos_graph.specs.View.{GraphValue, rule_of, rules_of};
 ghost use Rattle.logos_generator.specs.Code.{CodeValue};
 ghost use Rattle.logos_generator.specs.Headline.{IsCut, IsLexer, RunsAs};

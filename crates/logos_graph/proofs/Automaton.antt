@@ -2,10 +2,11 @@
 use Rattle.std.proofs.Common.{◌≡◌, ℕ, suc, Bool, true, false, ◌||◌, List, [], ◌∷◌, ◌++◌, map, length, Contains, IsSomeAnd, IsTrue, MatchBool, slice_get, Option, Some, None, option_and_then, refl, sym, ◌∙◌, arith}
 use Rattle.logos_pattern.specs.Text.{IsBytes}
 use Rattle.logos_pattern.specs.Priority.{passable}
-use Rattle.logos_graph.specs.Munch.{Rule, RuleMatches}
-use Rattle.logos_graph.specs.Ambiguity.{IsAmbiguous}
-use Rattle.logos_graph.specs.Faults.{no_universal_start, empty_match, disambiguation, some_leads, some_passable, ArePassable, AreAmbiguous, AreFaults}
-use Rattle.logos_graph.specs.View.{Automaton, dfa_next, dfa_after, dfa_at_end, Lists, ReadsOneByteLate, AllStart}
+use Rattle.logos_automaton.specs.Munch.{Rule, RuleMatches}
+use Rattle.logos_automaton.specs.Ambiguity.{IsAmbiguous}
+use Rattle.logos_automaton.specs.Faults.{no_universal_start, empty_match, disambiguation, some_leads, some_passable, ArePassable, AreAmbiguous, AreFaults}
+use Rattle.logos_automaton.specs.Automaton.{Automaton, dfa_next, dfa_after, dfa_at_end, Lists, ReadsOneByteLate}
+use Rattle.logos_automaton.specs.Faults.{AllStart}
 use Rattle.logos_graph.specs.Walk.{Edges, reach, MarksOneByteLate, IsLateMark, edges_of_automaton}
 use Rattle.logos_graph.proofs.First.{first_marks, none_contained}
 

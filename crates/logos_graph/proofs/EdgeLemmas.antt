@@ -9,9 +9,9 @@ use Rattle.std.specs.List.{All}
 use Rattle.std.specs.List.Sorted.{IsStrictlyIncreasing}
 use Rattle.logos_graph.specs.Bytes.{AreSeparated, AreSeparatedFrom}
 use Rattle.logos_graph.specs.FinishedGraph.{Edge, edge_leads, AreNeat}
-use Rattle.logos_graph.specs.Graph.{is_in}
+use Rattle.logos_places.specs.ByteRanges.{is_in}
 use Rattle.logos_graph.specs.GraphView.{edge_of, state_number}
-use Rattle.logos_graph.specs.Marks.{IsRising, IsFirstFrom}
+use Rattle.logos_places.specs.Marks.{IsRising, IsFirstFrom}
 use Rattle.logos_graph.specs.Rows.{target_of}
 use Rattle.logos_graph.specs.States.{targets, with_range, with_run, IsEdgeOf, AreEdgesOf}
 use Rattle.logos_graph.specs.declared.byte_class.ByteClass.{ByteClass}

@@ -5,12 +5,12 @@ use Rattle.logos_pattern.specs.Text.{IsBytes}
 use Rattle.logos_graph.specs.Found.{FindsTheLongest, mark_after, mark_of}
 use Rattle.logos_graph.specs.Graph.{StateType, GraphState}
 use Rattle.logos_graph.specs.Merge.{IsMerged}
-use Rattle.logos_graph.specs.Munch.{Rule, Found, Finds}
+use Rattle.logos_automaton.specs.Munch.{Rule, Found, Finds}
 use Rattle.logos_graph.specs.Reduce.{size, to, mark, type_of, edges, IsKeptOrSpare, IsSettled, IsPrunedTable}
 use Rattle.logos_graph.specs.ReduceNumber.{IsNumbered}
 use Rattle.logos_graph.specs.ReduceShown.{IsRaw, Shows}
 use Rattle.logos_graph.specs.Rows.{target_in}
-use Rattle.logos_graph.specs.View.{AllStart}
+use Rattle.logos_automaton.specs.Faults.{AllStart}
 use Rattle.logos_graph.specs.Walk.{Edges, to_mark, MarksOneByteLate, WalkFinds, edges_of}
 use Rattle.logos_graph.specs.declared.reduce.blocks.Split.{Split}
 use Rattle.logos_graph.specs.declared.reduce.table.Table.{Table}

@@ -6,16 +6,17 @@ use Rattle.std.proofs.lemmas.List.Elements.{All-cons, All-nil}
 use Rattle.std.specs.List.{find}
 use Rattle.logos_pattern.specs.Text.{IsBytes}
 use Rattle.logos_graph.specs.FinishedGraph.{IsLate, IsUnmarked, NamesLeaves, IsFit}
-use Rattle.logos_graph.specs.Graph.{StateType, GraphState, is_in, next_by, next_at_end, walk, type_after}
+use Rattle.logos_graph.specs.Graph.{StateType, GraphState, next_by, next_at_end, walk, type_after}
+use Rattle.logos_places.specs.ByteRanges.{is_in}
 use Rattle.logos_graph.specs.Least.{IsLeast, IsEvidence}
 use Rattle.logos_graph.specs.Merge.{led, IsMerged, IsHistory}
-use Rattle.logos_graph.specs.Munch.{Rule}
+use Rattle.logos_automaton.specs.Munch.{Rule}
 use Rattle.logos_graph.specs.Reduce.{size, to, mark, type_of, edges, AllAccepted, IsOfUse, IsKeptOrSpare, IsSettled, IsPrunedTable}
 use Rattle.logos_graph.specs.ReduceNumber.{ComesBefore, IsFirstInto, IsNumbered}
 use Rattle.logos_graph.specs.ReduceShown.{IsReached, IsRaw, Shows}
 use Rattle.logos_graph.specs.Reduced as reduced
 use Rattle.logos_graph.specs.Rows.{target_of}
-use Rattle.logos_graph.specs.View.{AllStart}
+use Rattle.logos_automaton.specs.Faults.{AllStart}
 use Rattle.logos_graph.specs.Walk.{Edges, reach, Leads, to_mark, onward, to_end, MarksOneByteLate, edges_of}
 use Rattle.logos_graph.specs.declared.reduce.blocks.Split.{Split}
 use Rattle.logos_graph.specs.declared.reduce.table.Table.{Table}

@@ -5,8 +5,8 @@ use Rattle.std.proofs.lemmas.Bool.Decides.{nat_tests}
 use Rattle.std.proofs.lemmas.List.Kept.{IsStrictlyIncreasing-filter}
 use Rattle.std.specs.List.Sorted.{IsStrictlyIncreasing}
 use Rattle.logos_pattern.specs.Text.{IsBytes}
-use Rattle.logos_graph.specs.Munch.{Rule, RuleMatches, IsFirst, priority_of}
-use Rattle.logos_graph.specs.Ambiguity.{IsHighest, IsAmbiguous}
+use Rattle.logos_automaton.specs.Munch.{Rule, RuleMatches, IsFirst, priority_of}
+use Rattle.logos_automaton.specs.Ambiguity.{IsHighest, IsAmbiguous}
 use Rattle.logos_graph.specs.First.{first_of, higher}
 use Rattle.logos_graph.proofs.Raw.{FirstOrNone}
 

@@ -3,12 +3,12 @@ use Rattle.std.proofs.Common.{◌≡◌, ◌↔◌, ℕ, zero, suc, ◌+◌, ◌
 use Rattle.std.proofs.lemmas.List.Elements.{All-cons, All-nil, All-drop}
 use Rattle.std.proofs.lemmas.Bool.{cases_lt}
 use Rattle.logos_pattern.specs.Text.{IsBytes}
-use Rattle.logos_graph.specs.Munch.{Rule, RuleMatches, IsBest, NoMatch, Grows, MayStop, Found, ended, matched, failed, Finds}
+use Rattle.logos_automaton.specs.Munch.{Rule, RuleMatches, IsBest, NoMatch, Grows, MayStop, Found, ended, matched, failed, Finds}
 use Rattle.logos_pattern.proofs.Laws.{passes}
 use Rattle.logos_pattern.proofs.Order.{InOrder, matches_order}
-use Rattle.logos_graph.proofs.Unique.{rule_within, finds_one}
-use Rattle.logos_graph.specs.Faults.{some_passable}
-use Rattle.logos_graph.specs.View.{AllStart}
+use Rattle.logos_automaton.proofs.munch.Unique.{rule_within, finds_one}
+use Rattle.logos_automaton.specs.Faults.{some_passable}
+use Rattle.logos_automaton.specs.Faults.{AllStart}
 use Rattle.logos_graph.specs.Graph.{StateType}
 use Rattle.logos_graph.specs.Walk.{Edges, last_mark, followed, MarksOneByteLate, MayEnd, IsUnmarked, WalkFinds}
 use Rattle.logos_graph.proofs.Raw.{BestBelow, FirstOrNone, raw_marks, raw_covers, GrowsUpTo}

@@ -3,9 +3,9 @@ use Rattle.std.proofs.Common.{◌≡◌, ◌↔◌, ℕ, zero, suc, ◌+◌, ◌
 use Rattle.std.proofs.lemmas.List.Elements.{All-append, All-cons, All-nil, All-take}
 use Rattle.std.proofs.lemmas.Bool.{cases_lt}
 use Rattle.logos_pattern.specs.Text.{IsBytes}
-use Rattle.logos_graph.specs.Munch.{Rule, RuleMatches, IsFirst, Grows}
-use Rattle.logos_graph.proofs.Window.{rule_within_text}
-use Rattle.logos_graph.specs.Faults.{some_leads}
+use Rattle.logos_automaton.specs.Munch.{Rule, RuleMatches, IsFirst, Grows}
+use Rattle.logos_automaton.proofs.munch.Window.{rule_within_text}
+use Rattle.logos_automaton.specs.Faults.{some_leads}
 use Rattle.logos_graph.specs.Graph.{StateType}
 use Rattle.logos_graph.specs.Reduced.{IsMarked}
 use Rattle.logos_graph.specs.Walk.{Edges, marked, last_mark, reach, Leads, to_mark, onward, to_end, Covers, NoneMatches, IsLateMark, MarksOneByteLate}

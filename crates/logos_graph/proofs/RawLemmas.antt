@@ -10,16 +10,17 @@ use Rattle.std.specs.Option.{MatchOption}
 use Rattle.logos_pattern.specs.Matches.{Matches}
 use Rattle.logos_pattern.specs.Text.{IsBytes}
 use Rattle.logos_pattern.specs.declared.leaf.Leaf.{Leaf}
-use Rattle.logos_graph.specs.Ambiguity.{IsAmbiguous}
+use Rattle.logos_automaton.specs.Ambiguity.{IsAmbiguous}
 use Rattle.logos_graph.specs.First.{first_of, higher}
-use Rattle.logos_graph.specs.Munch.{Rule, RuleMatches, IsFirst, priority_of}
+use Rattle.logos_automaton.specs.Munch.{Rule, RuleMatches, IsFirst, priority_of}
 use Rattle.logos_graph.specs.RawTable.{best_with, IsMarkOf, AreRawRows}
 use Rattle.logos_graph.specs.Reduce.{size, to, mark, type_of, edges}
 use Rattle.logos_graph.specs.ReduceShown.{IsRaw, IsReached}
 use Rattle.logos_graph.specs.Reduced.{IsMarked}
 use Rattle.logos_graph.specs.Rows.{target_by, target_in, AreWide, IsClosed}
 use Rattle.logos_graph.specs.RowsKept.{rows_of}
-use Rattle.logos_graph.specs.View.{Automaton, dfa_next, dfa_after, dfa_at_end, Lists, IsTotal, ReadsOneByteLate, rule_of, rules_of}
+use Rattle.logos_automaton.specs.Automaton.{Automaton, dfa_next, dfa_after, dfa_at_end, Lists, IsTotal, ReadsOneByteLate}
+use Rattle.logos_graph.specs.View.{rule_of, rules_of}
 use Rattle.logos_graph.specs.Walk.{Edges, reach, Leads, to_mark, onward, to_end, NoneMatches, IsLateMark, MarksOneByteLate}
 use Rattle.logos_graph.specs.declared.reduce.table.Mark.{Mark}
 use Rattle.logos_graph.specs.declared.reduce.table.Table.{Table}

@@ -3,7 +3,7 @@ use Rattle.std.proofs.Common.{◌≡◌, ◌↔◌, ℕ, zero, suc, ◌+◌, ◌
 use Rattle.std.specs.Option.{option_map_or}
 use Rattle.logos_graph.specs.Found as found
 use Rattle.logos_graph.specs.Graph.{StateType, GraphState, next_by, next_at_end, walk, type_after}
-use Rattle.logos_graph.specs.Munch.{Found, ended, matched, failed}
+use Rattle.logos_automaton.specs.Munch.{Found, ended, matched, failed}
 use Rattle.logos_graph.specs.Walk.{Edges, marked, last_mark, followed, MayEnd, edges_of, GraphFindsByWalk}
 
 -- a mark does not go by the one before

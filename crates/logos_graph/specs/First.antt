@@ -1,6 +1,6 @@
 -- The leaf of a state's late mark.
 use Rattle.std.specs.Prelude.{ℕ, List, [], ◌∷◌, Option, Some, None, nat_lt, if◌then◌else◌}
-use Rattle.logos_graph.specs.Munch.{Rule, priority_of}
+use Rattle.logos_automaton.specs.Munch.{Rule, priority_of}
 
 module _ (rules : List Rule) where
   -- the leaf, or the other one if that has a higher priority

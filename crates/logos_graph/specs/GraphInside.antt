@@ -1,7 +1,7 @@
 -- What contracts see of a graph, and what its fields keep.
 use Rattle.std.specs.Prelude.{◌≡◌, ◌≢◌, [], map, length, IsSome, IfSome}
-use Rattle.logos_graph.specs.DfaView.{dfa_of}
-use Rattle.logos_graph.specs.Errors.{fault_of}
+use Rattle.logos_automaton.specs.DfaView.{dfa_of}
+use Rattle.logos_automaton.specs.Errors.{fault_of}
 use Rattle.logos_graph.specs.FinishedGraph.{IsFinished}
 use Rattle.logos_graph.specs.GraphView.{graph_state_of}
 use Rattle.logos_graph.specs.ReduceShown.{Shows}

@@ -1,16 +1,17 @@
 -- What a graph promises of the leaves that it is made from.
-use Rattle.std.specs.Prelude.{◌≡◌, ◌^◌, ◌<◌, Bool, List, []}
+use Rattle.std.specs.Prelude.{◌≡◌, ◌^◌, ◌<◌, ◌≤◌, Bool, List, [], length}
 use Rattle.logos_pattern.specs.declared.leaf.Leaf.{Leaf}
-use Rattle.logos_graph.specs.Faults.{AreFaults}
+use Rattle.logos_automaton.specs.Faults.{Fault, AreFaults, AllStart}
 use Rattle.logos_graph.specs.Found.{FindsTheLongest}
 use Rattle.logos_graph.specs.Least.{IsLeast}
-use Rattle.logos_graph.specs.Munch.{Rule}
-use Rattle.logos_graph.specs.Places.{HasMoreKeys}
+use Rattle.logos_automaton.specs.Munch.{Rule}
+use Rattle.logos_automaton.specs.ReadKeys.{HasMoreKeys}
 use Rattle.logos_graph.specs.Reduced.{IsReduced}
-use Rattle.logos_graph.specs.Size.{size_of}
-use Rattle.logos_graph.specs.View.{rules_of, GraphValue, ReadsOneByteLate, AllStart}
-use Rattle.logos_graph.specs.declared.graph.BuildError.{BuildError}
-use Rattle.logos_graph.specs.declared.graph.BuildError.TheVariants.{LimitSize, LimitStates, Memory}
+use Rattle.logos_automaton.specs.Measures.{size_of}
+use Rattle.logos_graph.specs.View.{rules_of, GraphValue}
+use Rattle.logos_automaton.specs.Automaton.{Automaton, IsTotal, ReadsOneByteLate}
+use Rattle.logos_automaton.specs.declared.errors.BuildError.{BuildError}
+use Rattle.logos_automaton.specs.declared.errors.BuildError.TheVariants.{LimitSize, LimitStates, Memory}
 
 pub record IsGraphOf (leaves : List Leaf) (utf8 : Bool) (graph : GraphValue) : Type 0 where
   pub leaves_are : graph.leaves ≡ leaves
@@ -29,3 +30,10 @@ abbrev pub Refuses : List Rule → BuildError → Type 0
 Refuses rules LimitSize = 2 ^ 20 < size_of rules
 Refuses rules LimitStates = AllStart rules × HasMoreKeys rules 65536
 Refuses rules Memory = Unit {0}
+
+-- an automaton and the faults that were found of the rules
+pub record AreFindings (rules : List Rule) (dfa : Automaton) (faults : List Fault) : Type 0 where
+  pub total : IsTotal dfa
+  pub few : length dfa.matches ≤ 65536
+  pub late : AllStart rules → ReadsOneByteLate rules dfa
+  pub faults_are : AreFaults rules faults

@@ -2,9 +2,9 @@
 use Rattle.std.specs.Prelude.{◌≡◌, ℕ, ◌<◌, List, Option, None, IfSome, Some, length, slice_get}
 use Rattle.std.specs.List.{All}
 use Rattle.logos_graph.specs.First.{first_of, higher}
-use Rattle.logos_graph.specs.Munch.{Rule}
+use Rattle.logos_automaton.specs.Munch.{Rule}
 use Rattle.logos_graph.specs.Rows.{target_in}
-use Rattle.logos_graph.specs.View.{Automaton, dfa_next}
+use Rattle.logos_automaton.specs.Automaton.{Automaton, dfa_next}
 use Rattle.logos_graph.specs.declared.reduce.table.Mark.{Mark}
 
 module _ (rules : List Rule) (leaves : ℕ) where

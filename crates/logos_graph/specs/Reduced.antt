@@ -3,7 +3,7 @@ use Rattle.std.specs.Prelude.{◌≡◌, ◌≢◌, ℕ, ◌<◌, ◌≤◌, ◌
 use Rattle.std.specs.List.Sorted.{IsStrictlyIncreasing}
 use Rattle.std.specs.List.{All}
 use Rattle.logos_pattern.specs.Text.{IsBytes}
-use Rattle.logos_graph.specs.Munch.{Rule, IsFirst}
+use Rattle.logos_automaton.specs.Munch.{Rule, IsFirst}
 use Rattle.logos_graph.specs.Graph.{StateType, GraphState, walk, next_by, next_at_end, type_after}
 
 -- it is the one that matches all the bytes, whatever byte follows and also at the end

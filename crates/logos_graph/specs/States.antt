@@ -3,8 +3,9 @@ use Rattle.std.specs.Prelude.{◌≡◌, ◌≢◌, ℕ, ◌-◌, ◌<◌, ◌�
 use Rattle.std.specs.List.{All}
 use Rattle.logos_graph.specs.Bytes.{AreSeparated}
 use Rattle.logos_graph.specs.FinishedGraph.{Edge, edge_leads}
-use Rattle.logos_graph.specs.Graph.{GraphState, is_in}
-use Rattle.logos_graph.specs.Marks.{IsRising}
+use Rattle.logos_graph.specs.Graph.{GraphState}
+use Rattle.logos_places.specs.ByteRanges.{is_in}
+use Rattle.logos_places.specs.Marks.{IsRising}
 use Rattle.logos_graph.specs.Reduce.{to, mark, type_of}
 use Rattle.logos_graph.specs.declared.reduce.table.Table.{Table}
 

@@ -1,6 +1,6 @@
 //! Sets of bytes, and the comparisons that test for them.
 ghost use Rattle.std.specs.Prelude.{◌≡◌, ℕ, ◌<◌, ◌≤◌, ◌↔◌, ◌||◌, not, IsTrue, IfOk, OnOk, OnErr, false, [], ◌∷◌, length, map, drop, slice_index_or};
-ghost use Rattle.logos_graph.specs.Graph.{is_in};
+ghost use Rattle.logos_places.specs.ByteRanges.{is_in};
 ghost use Rattle.logos_graph.specs.Bytes.{bounds, ranges_of, has_byte, AreSeparated, comparison_of, compares, some_compares, joined, operations};
 
 pub(crate) mod text;

@@ -10,10 +10,10 @@ mod states;
 mod value;
 
 pub use crate::byte_class::{ByteClass, Comparisons};
-pub use crate::dfa::{Dfa, StateId};
+pub use logos_automaton::dfa::{Children, Dfa, Matches, StateId};
 pub use evidence::Telling;
+pub use logos_automaton::errors::{BuildError, GraphError};
 use logos_pattern::leaf::LeafId;
-use std::alloc::{AllocError, AllocFailed};
 pub use value::{Graph, States};
 
 /// The options of a graph.
@@ -21,51 +21,6 @@ pub use value::{Graph, States};
 pub struct Config {
     /// Whether inputs are UTF-8, so that an error ends between characters.
     pub utf8_mode: bool,
-}
-
-/// A fault of a list of leaves.
-#[derive(Debug, Drop)]
-pub enum GraphError {
-    /// A pattern can meet a look before its first byte.
-    NoUniversalStart,
-    /// The leaf's pattern can match nothing.
-    EmptyMatch(LeafId),
-    /// These leaves have the highest priority among all that match some text. They are in
-    /// ascending order, two or more.
-    Disambiguation(Vec<LeafId>),
-}
-
-/// Why there is no graph.
-#[derive(Clone, Copy, Debug, PartialEq, Eq)]
-pub enum BuildError {
-    /// The size of all trees passes 1,048,576.
-    LimitSize,
-    /// The automaton has more than 65,536 states.
-    LimitStates,
-    /// Memory ran out.
-    Memory,
-}
-
-impl From<AllocError> for BuildError {
-    ghost use Rattle.std.specs.Prelude.{◌≡◌};
-    ghost use Rattle.logos_graph.specs.declared.graph.BuildError.TheVariants.{Memory};
-
-    ghost from_gives = { λ _ e. e ≡ Memory };
-
-    fn from(_error: AllocError) -> BuildError {
-        BuildError::Memory
-    }
-}
-
-impl<T: Drop> From<AllocFailed<T>> for BuildError {
-    ghost use Rattle.std.specs.Prelude.{◌≡◌};
-    ghost use Rattle.logos_graph.specs.declared.graph.BuildError.TheVariants.{Memory};
-
-    ghost from_gives = { λ _ e. e ≡ Memory };
-
-    fn from(_error: AllocFailed<T>) -> BuildError {
-        BuildError::Memory
-    }
 }
 
 /// A state of a graph.

@@ -1,8 +1,8 @@
 //! Laws of the definitions, proved and called by nobody: each function's contract is a law.
 
 ghost use Rattle.std.specs.Prelude.{◌≡◌, ℕ, ◌≤◌, Bool, List, length};
-ghost use Rattle.logos_graph.specs.Munch.{Rule, Found, Finds};
-ghost use Rattle.logos_graph.specs.Faults.{Fault, AreFaults};
+ghost use Rattle.logos_automaton.specs.Munch.{Rule, Found, Finds};
+ghost use Rattle.logos_automaton.specs.Faults.{Fault, AreFaults};
 
 /// Maximal munch finds one thing at a place.
 pub fn one_is_found()

@@ -2,24 +2,11 @@
 
 #![tactic(auto)]
 
-mod alike;
 pub mod byte_class;
-mod char_table;
-pub mod dfa;
-mod exits;
-mod faults;
 pub mod graph;
-mod key;
 pub mod laws;
-mod look;
-mod marks;
-mod measures;
-mod node;
-mod prepare;
-mod ranges;
+mod leaves;
 mod raw_table;
 mod reduce;
-mod several;
-mod step;
-mod table;
-mod targets;
+
+pub use logos_automaton::dfa;

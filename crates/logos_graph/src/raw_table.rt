@@ -1,24 +1,35 @@
 //! The automaton of leaves as a table, with late marks alone.
 ghost use Rattle.std.specs.Prelude.{◌≡◌, ℕ, ◌+◌, ◌<◌, ◌^◌, Some, IfOk, IfSome, List, [], length, vec_len, slice_index, slice_get};
 ghost use Rattle.std.specs.List.{All};
-ghost use Rattle.logos_graph.specs.DfaView.{dfa_of};
-ghost use Rattle.logos_graph.specs.Faults.{AreFaults};
+ghost use Rattle.logos_automaton.specs.DfaView.{dfa_of};
+ghost use Rattle.logos_automaton.specs.Faults.{AreFaults};
 ghost use Rattle.logos_graph.specs.FinishedGraph.{NamesLeaves};
+ghost use Rattle.logos_automaton.specs.Munch.{priority_of};
 ghost use Rattle.logos_graph.specs.First.{first_of};
 ghost use Rattle.logos_graph.specs.RawTable.{best_with, IsRawMark, IsMarkOf, AreRawRows};
 ghost use Rattle.logos_graph.specs.Reduce.{size, mark, type_of, edges, mark_in};
 ghost use Rattle.logos_graph.specs.ReduceShown.{IsRaw};
 ghost use Rattle.logos_graph.specs.Rows.{target_by, IsClosed};
 ghost use Rattle.logos_graph.specs.RowsKept.{rows_of};
-ghost use Rattle.logos_graph.specs.View.{rules_of, IsTotal, ReadsOneByteLate};
+ghost use Rattle.logos_graph.specs.View.{rules_of};
+ghost use Rattle.logos_automaton.specs.Automaton.{IsTotal, ReadsOneByteLate};
 ghost use Rattle.logos_graph.specs.Walk.{MarksOneByteLate};
 
-use crate::dfa::Dfa;
-use crate::faults::priority_at;
 use crate::reduce::{Mark, Row, Rows, Table};
-use crate::targets;
+use logos_automaton::dfa::parts::{end_at, leaves_at, row_at, state_count};
+use logos_automaton::dfa::{Dfa, Row as ByteRow};
 use logos_pattern::leaf::Leaf;
 use std::alloc::{AllocError, Global};
+
+/// The priority of a leaf, or 0 if there is no leaf with this number.
+fn priority_at(leaves: &[Leaf<'_>], leaf: usize) -> usize
+    ensures { result ≡ priority_of (rules_of leaves.now) leaf }
+{
+    match leaves.get(leaf) {
+        Some(leaf) => leaf.priority,
+        None => 0,
+    }
+}
 
 /// The leaf, if it has a higher priority than the best one before it, or else that one.
 fn best_with(leaves: &[Leaf<'_>], best: Option<usize>, leaf: usize) -> usize
@@ -68,14 +79,14 @@ fn raw_marks(alloc: Global, leaves: &[Leaf<'_>], dfa: &Dfa) -> Result<Vec<Mark>,
         IsMarkOf (rules_of leaves.now) (length leaves.now) (dfa_of dfa.now) s (mark_in marks.items s)) }
 {
     let mut marks = Vec::new(alloc);
-    for state in 0..dfa.len() {
-        marks.push(raw_mark(leaves, dfa.matches(state)))?;
+    for state in 0..state_count(dfa) {
+        marks.push(raw_mark(leaves, leaves_at(dfa, state)))?;
     }
     Ok(marks)
 }
 
 /// A row of a state: its targets by bytes, and by the end.
-fn raw_row(row: &targets::Row, end: u32) -> Row
+fn raw_row(row: &ByteRow, end: u32) -> Row
     requires few { (k : ℕ) → k < 256 → slice_index row.now k + 1 < 2 ^ 32 }
     requires end { end + 1 < 2 ^ 32 }
     ensures bytes { (k : ℕ) → k < 256 → target_by result k ≡ Some (slice_index row.now k) }
@@ -95,8 +106,8 @@ fn raw_rows(alloc: Global, dfa: &Dfa) -> Result<Rows, AllocError>
     ensures { IfOk result (λ rows. AreRawRows (dfa_of dfa.now) (rows_of rows) (length (dfa_of dfa.now).matches)) }
 {
     let mut rows = Rows::new(alloc);
-    for state in 0..dfa.len() {
-        rows.push(&raw_row(dfa.row(state), dfa.end(state)))?;
+    for state in 0..state_count(dfa) {
+        rows.push(&raw_row(row_at(dfa, state), end_at(dfa, state)))?;
     }
     Ok(rows)
 }

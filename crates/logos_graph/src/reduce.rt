@@ -4,12 +4,12 @@ ghost use Rattle.logos_graph.specs.FinishedGraph.{NamesLeaves, IsFit};
 ghost use Rattle.logos_graph.specs.Found.{FindsTheLongest};
 ghost use Rattle.logos_graph.specs.Graph.{GraphState};
 ghost use Rattle.logos_graph.specs.Least.{IsLeast};
-ghost use Rattle.logos_graph.specs.Munch.{Rule};
+ghost use Rattle.logos_automaton.specs.Munch.{Rule};
 ghost use Rattle.logos_graph.specs.Reduce.{size, mark, type_of, edges};
 ghost use Rattle.logos_graph.specs.ReduceShown.{IsRaw, Shows};
 ghost use Rattle.logos_graph.specs.Reduced.{IsReduced};
 ghost use Rattle.logos_graph.specs.Tellable.{IsTellable};
-ghost use Rattle.logos_graph.specs.View.{AllStart};
+ghost use Rattle.logos_automaton.specs.Faults.{AllStart};
 ghost use Rattle.logos_graph.specs.Walk.{MarksOneByteLate};
 
 mod blocks;

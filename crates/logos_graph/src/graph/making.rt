@@ -1,23 +1,28 @@
 // From leaves to their graph.
-ghost use Rattle.std.specs.Prelude.{◌≡◌, ◌^◌, ◌<◌, ◌≤◌, [], IfOk, IfErr, length};
-ghost use Rattle.logos_graph.specs.DfaView.{dfa_of};
-ghost use Rattle.logos_graph.specs.Faults.{AreFaults};
-ghost use Rattle.logos_graph.specs.GraphOf.{IsGraphOf, Refuses};
-ghost use Rattle.logos_graph.specs.Size.{size_of};
-ghost use Rattle.logos_graph.specs.View.{rules_of, AllStart, IsTotal, ReadsOneByteLate};
-ghost use Rattle.logos_graph.specs.declared.graph.BuildError.TheVariants.{Memory, LimitSize};
+ghost use Rattle.std.specs.Prelude.{◌≡◌, ◌^◌, ◌<◌, ◌≤◌, [], IfOk, IfErr, length, map};
+ghost use Rattle.logos_automaton.specs.DfaView.{dfa_of};
+ghost use Rattle.logos_automaton.specs.Faults.{AreFaults};
+ghost use Rattle.logos_automaton.specs.Errors.{fault_of};
+ghost use Rattle.logos_automaton.specs.View as views;
+ghost use Rattle.logos_graph.specs.GraphOf.{IsGraphOf, AreFindings, Refuses};
+ghost use Rattle.logos_automaton.specs.Measures.{size_of};
+ghost use Rattle.logos_graph.specs.View.{rules_of};
+ghost use Rattle.logos_automaton.specs.Faults.{AllStart};
+ghost use Rattle.logos_automaton.specs.Automaton.{IsTotal, ReadsOneByteLate};
+ghost use Rattle.logos_automaton.specs.declared.errors.BuildError.TheVariants.{Memory, LimitSize};
 
-use super::{BuildError, Config, Graph};
-use crate::dfa::Dfa;
-use crate::dfa::build::build;
-use crate::faults::graph_errors;
-use crate::measures::{is_size_within, some_leaf_is_passable, some_leaf_leads};
+use super::{BuildError, Config, Graph, GraphError};
+use crate::leaves::{is_size_within, rule_views};
 use crate::raw_table::raw_table;
 use crate::reduce::reduce;
+use logos_automaton::dfa::Dfa;
+use logos_automaton::dfa::build::build;
+use logos_automaton::faults::graph_errors;
+use logos_automaton::rule::{RuleView, some_leads, some_passable};
 use logos_pattern::leaf::Leaf;
 use std::alloc::Global;
 
-/// The automaton of no leaves.
+/// The automaton of no rules.
 fn automaton_of_none(alloc: Global) -> Result<Dfa, BuildError>
     ensures total { IfOk result (λ dfa. IsTotal (dfa_of dfa)) }
     ensures few { IfOk result (λ dfa. length (dfa_of dfa).matches ≤ 65536) }
@@ -29,21 +34,49 @@ fn automaton_of_none(alloc: Global) -> Result<Dfa, BuildError>
     }
 }
 
-/// The automaton of the leaves, if each of their patterns takes a byte before it looks or matches, and else of no leaves.
-fn automaton(alloc: Global, leaves: &[Leaf<'_>]) -> Result<Dfa, BuildError>
-    requires { size_of (rules_of leaves.now) ≤ 2 ^ 20 }
-    ensures late { IfOk result (λ dfa. AllStart (rules_of leaves.now) → ReadsOneByteLate (rules_of leaves.now) (dfa_of dfa)) }
+/// The automaton of the rules, if each of their trees takes a byte before it looks or matches, and else of no rules.
+fn automaton(alloc: Global, rules: &[RuleView<'_>]) -> Result<Dfa, BuildError>
+    requires { size_of (views.rules_of rules.now) ≤ 2 ^ 20 }
+    ensures late { IfOk result (λ dfa. AllStart (views.rules_of rules.now) → ReadsOneByteLate (views.rules_of rules.now) (dfa_of dfa)) }
     ensures total { IfOk result (λ dfa. IsTotal (dfa_of dfa)) }
     ensures few { IfOk result (λ dfa. length (dfa_of dfa).matches ≤ 65536) }
+    ensures err { IfErr result (Refuses (views.rules_of rules.now)) }
+{
+    if some_leads(rules) {
+        return automaton_of_none(alloc);
+    }
+    if some_passable(rules) {
+        return automaton_of_none(alloc);
+    }
+    build(alloc, rules)
+}
+
+/// An automaton, and the faults of its rules.
+#[derive(Drop)]
+struct Findings {
+    dfa: Dfa,
+    errors: Vec<GraphError>,
+}
+
+/// The automaton and the faults of rules.
+fn rule_findings(alloc: Global, rules: &[RuleView<'_>]) -> Result<Findings, BuildError>
+    requires { size_of (views.rules_of rules.now) ≤ 2 ^ 20 }
+    ensures found { IfOk result (λ made. AreFindings (views.rules_of rules.now) (dfa_of made.dfa) (map fault_of made.errors.items)) }
+    ensures err { IfErr result (Refuses (views.rules_of rules.now)) }
+{
+    let dfa = automaton(alloc, rules)?;
+    let errors = graph_errors(alloc, rules, &dfa)?;
+    Ok(Findings { dfa, errors })
+}
+
+/// The automaton and the faults of leaves.
+fn leaf_findings(alloc: Global, leaves: &[Leaf<'_>]) -> Result<Findings, BuildError>
+    requires { size_of (rules_of leaves.now) ≤ 2 ^ 20 }
+    ensures found { IfOk result (λ made. AreFindings (rules_of leaves.now) (dfa_of made.dfa) (map fault_of made.errors.items)) }
     ensures err { IfErr result (Refuses (rules_of leaves.now)) }
 {
-    if some_leaf_leads(leaves) {
-        return automaton_of_none(alloc);
-    }
-    if some_leaf_is_passable(leaves) {
-        return automaton_of_none(alloc);
-    }
-    build(alloc, leaves)
+    let rules = rule_views(alloc, leaves)?;
+    rule_findings(alloc, &rules)
 }
 
 /// The graph of leaves without faults.
@@ -87,8 +120,7 @@ impl<'s> Graph<'s> {
         if !is_size_within(&leaves) {
             return Err(BuildError::LimitSize);
         }
-        let dfa = automaton(alloc, &leaves)?;
-        let errors = graph_errors(alloc, &leaves, &dfa)?;
+        let Findings { dfa, errors } = leaf_findings(alloc, &leaves)?;
         if !errors.is_empty() {
             return Ok(Graph::refused(alloc, leaves, config, dfa, errors));
         }

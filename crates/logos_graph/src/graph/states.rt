@@ -4,7 +4,7 @@ ghost use Rattle.std.specs.List.{All};
 ghost use Rattle.logos_graph.specs.Bytes.{bounds};
 ghost use Rattle.logos_graph.specs.FinishedGraph.{AreNeat, IsFit, IsFinished};
 ghost use Rattle.logos_graph.specs.GraphView.{edge_of, graph_state_of, leaf_number, state_number, state_type_of};
-ghost use Rattle.logos_graph.specs.Marks.{IsRising, IsFirstFrom};
+ghost use Rattle.logos_places.specs.Marks.{IsRising, IsFirstFrom};
 ghost use Rattle.logos_graph.specs.Reduce.{size, to, mark, type_of};
 ghost use Rattle.logos_graph.specs.ReduceShown.{Shows};
 ghost use Rattle.logos_graph.specs.Rows.{target_by};

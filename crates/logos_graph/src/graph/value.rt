@@ -1,8 +1,8 @@
 // A graph, and what it is asked for.
 ghost use Rattle.std.specs.Prelude.{◌≡◌, ◌≢◌, ℕ, ◌-◌, ◌<◌, ◌↔◌, [], IsTrue, IfOk, Some, length, map, slice_get, string_bytes};
 ghost use Rattle.std.specs.List.{range_with_len};
-ghost use Rattle.logos_graph.specs.DfaView.{dfa_of};
-ghost use Rattle.logos_graph.specs.Errors.{fault_of};
+ghost use Rattle.logos_automaton.specs.DfaView.{dfa_of};
+ghost use Rattle.logos_automaton.specs.Errors.{fault_of};
 ghost use Rattle.logos_graph.specs.FinishedGraph.{IsFit, IsFinished};
 ghost use Rattle.logos_graph.specs.GraphView.{graph_state_of, state_number};
 ghost use Rattle.logos_graph.specs.Mermaid.{mermaid_of};
@@ -14,8 +14,8 @@ use super::mermaid::chart;
 use super::printing::Listing;
 use super::states::states_of;
 use super::{Config, GraphError, State, StateData};
-use crate::dfa::Dfa;
 use crate::reduce::Reduced;
+use logos_automaton::dfa::Dfa;
 use logos_pattern::leaf::Leaf;
 use logos_token::error::Memory;
 use std::alloc::{AllocError, Global};

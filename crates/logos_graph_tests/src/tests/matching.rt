@@ -2,8 +2,7 @@
 
 ghost use Rattle.std.specs.Prelude.{◌<◌};
 
-use logos_graph::dfa::Matches;
-use logos_graph::graph::{Config, Dfa, Graph, GraphError, State, StateData};
+use logos_graph::graph::{Config, Dfa, Graph, GraphError, Matches, State, StateData};
 use logos_pattern::leaf::{Leaf, LeafId};
 use logos_pattern::pattern::{Class, Hir, Look, Pattern, Range};
 use logos_token::token::Span;

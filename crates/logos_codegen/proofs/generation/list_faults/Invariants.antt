@@ -1,5 +1,5 @@
 use Rattle.std.proofs.Common.{◌≡◌, ◌++◌, map, flat_map, drop}
-use Rattle.logos_graph.specs.Errors.{fault_of}
+use Rattle.logos_automaton.specs.Errors.{fault_of}
 use Rattle.logos_codegen.specs.Texts.{named_leaf, listed_of}
 use Rattle.logos_codegen.proofs.generation.list_faults.Given as goal
 

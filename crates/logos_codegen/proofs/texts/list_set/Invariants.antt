@@ -1,5 +1,5 @@
 use Rattle.std.proofs.Common.{◌≡◌, ◌++◌, map, flat_map, drop}
-use Rattle.logos_graph.specs.Errors.{numbers}
+use Rattle.logos_automaton.specs.Errors.{numbers}
 use Rattle.logos_codegen.specs.Texts.{named_leaf, disambiguation_faults}
 use Rattle.logos_codegen.proofs.texts.list_set.Given as goal
 

@@ -1,5 +1,5 @@
 use Rattle.std.proofs.Common.{◌≡◌, ◌++◌, map, drop, string_bytes}
-use Rattle.logos_graph.specs.Errors.{numbers}
+use Rattle.logos_automaton.specs.Errors.{numbers}
 use Rattle.logos_codegen.specs.Texts.{named_leaf, other_lines}
 use Rattle.logos_codegen.proofs.texts.push_lines.Given as goal
 

@@ -1,5 +1,5 @@
 use Rattle.std.proofs.Common.{◌≡◌, ℕ, ◌-◌, ◌<◌, ◌≤◌, true, false, List, [], ◌++◌, map, slice_index_or}
-use Rattle.logos_graph.specs.Graph.{is_in}
+use Rattle.logos_places.specs.ByteRanges.{is_in}
 use Rattle.logos_graph.specs.Bytes.{bounds, AreSeparatedFrom}
 use Rattle.logos_graph.proofs.byte_class.ranges_of_table.Given as goal
 

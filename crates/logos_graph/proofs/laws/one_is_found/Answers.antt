@@ -1,4 +1,4 @@
-use Rattle.logos_graph.proofs.Unique.{finds_one}
+use Rattle.logos_automaton.proofs.munch.Unique.{finds_one}
 use Rattle.logos_graph.proofs.laws.one_is_found.Goals as goal
 
 pub returns : goal.returns

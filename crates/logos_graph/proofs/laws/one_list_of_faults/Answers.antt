@@ -1,4 +1,4 @@
-use Rattle.logos_graph.proofs.OneFaults.{faults_once}
+use Rattle.logos_automaton.proofs.ambiguity.OneFaults.{faults_once}
 use Rattle.logos_graph.proofs.laws.one_list_of_faults.Goals as goal
 
 pub returns : goal.returns

@@ -1,5 +1,5 @@
 use Rattle.std.proofs.Common.{None, length, arith}
-use Rattle.logos_graph.specs.DfaView.{dfa_of}
+use Rattle.logos_automaton.specs.DfaView.{dfa_of}
 use Rattle.logos_graph.specs.RawTable.{IsMarkOf}
 use Rattle.logos_graph.specs.View.{rules_of}
 use Rattle.logos_graph.proofs.PushLemmas.{pushed}
@@ -9,5 +9,5 @@ pub loop-state-preserved : goal.loop-state-preserved
 loop-state-preserved c = (
   omega (arith, c.in_ok-push.ensures.len),
   pushed (IsMarkOf (rules_of c.args.leaves.now) (length c.args.leaves.now) (dfa_of c.args.dfa.now)) c.loop-state.marks.items c.push.new.self.items c.raw_mark.result (record { accept = None; early = None }) c.loop-state.state
-      c.in_ok-push.ensures.items (omega arith) c.loop-state.invariant.1 (c.matches.result.now, c.matches.ensures, c.raw_mark.ensures),
+      c.in_ok-push.ensures.items (omega arith) c.loop-state.invariant.1 (c.leaves_at.result.now, c.leaves_at.ensures, c.raw_mark.ensures),
 )

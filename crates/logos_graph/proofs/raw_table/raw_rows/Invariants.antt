@@ -1,4 +1,4 @@
-use Rattle.logos_graph.specs.DfaView.{dfa_of}
+use Rattle.logos_automaton.specs.DfaView.{dfa_of}
 use Rattle.logos_graph.specs.RawTable.{AreRawRows}
 use Rattle.logos_graph.specs.RowsKept.{rows_of}
 use Rattle.logos_graph.proofs.raw_table.raw_rows.Given as goal

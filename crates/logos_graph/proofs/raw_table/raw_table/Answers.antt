@@ -1,6 +1,6 @@
 use Rattle.std.proofs.Common.{◌≡◌, ℕ, ◌<◌, ◌≤◌, Option, None, IfSome, length, refl, sym, ◌∙◌, ap, subst, arith, List, Vec, Global, vec_len}
 use Rattle.std.proofs.lemmas.List.{get_or_past}
-use Rattle.logos_graph.specs.DfaView.{dfa_of}
+use Rattle.logos_automaton.specs.DfaView.{dfa_of}
 use Rattle.logos_graph.specs.Reduce.{size, mark, mark_in}
 use Rattle.logos_graph.specs.RawTable.{IsMarkOf, AreRawRows}
 use Rattle.logos_graph.specs.declared.reduce.table.Mark.{Mark}
@@ -12,7 +12,8 @@ use Rattle.logos_graph.specs.declared.reduce.table.Table.{Table}
 use Rattle.logos_graph.proofs.Automaton.{no_faults}
 use Rattle.logos_graph.proofs.RawLemmas.{raw_closed, is_raw, raw_late}
 use Rattle.logos_graph.proofs.RowLemmas.{rows_wide}
-use Rattle.logos_graph.specs.View.{Automaton, rules_of}
+use Rattle.logos_automaton.specs.Automaton.{Automaton}
+use Rattle.logos_graph.specs.View.{rules_of}
 use Rattle.logos_graph.proofs.raw_table.raw_table.Goals as goal
 
 wide : (rows : Rows) → AreWide (rows_of rows)

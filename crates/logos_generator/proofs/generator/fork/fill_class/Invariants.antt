@@ -1,5 +1,5 @@
 use Rattle.std.proofs.Common.{◌≡◌, ℕ, ◌<◌, map, drop, slice_index}
-use Rattle.logos_graph.specs.Graph.{is_in}
+use Rattle.logos_places.specs.ByteRanges.{is_in}
 use Rattle.logos_graph.specs.Bytes.{bounds}
 use Rattle.logos_generator.specs.CodeView.{entry_of}
 use Rattle.logos_generator.specs.Nodes.{hit}

@@ -1,5 +1,5 @@
 use Rattle.std.proofs.Common.{◌≡◌, ◌≤◌, length, [], ◌∷◌, refl, arith}
-use Rattle.logos_graph.specs.Munch.{matched, failed, ended}
+use Rattle.logos_automaton.specs.Munch.{matched, failed, ended}
 use Rattle.logos_generator.specs.Items.{items_of}
 use Rattle.logos_generator.specs.Runs.{Tries}
 use Rattle.logos_generator.specs.Stands.{IsMatch}

@@ -1,5 +1,5 @@
 use Rattle.std.proofs.Common.{◌≡◌, ◌+◌, suc, Some, None, refl, arith}
-use Rattle.logos_graph.specs.Munch.{matched, failed, ended}
+use Rattle.logos_automaton.specs.Munch.{matched, failed, ended}
 use Rattle.logos_generator.specs.Runs.{Does, acts, goes_on, is_over, acts_on}
 use Rattle.logos_generator.specs.Attempts.{stand_of}
 use Rattle.logos_generator.proofs.StandLemmas.{stands_next, stands_match, stands_fault, stands_over}

@@ -1,5 +1,5 @@
 use Rattle.std.proofs.Common.{ℕ, ◌+◌, ◌-◌, ◌≤◌, length}
-use Rattle.logos_graph.specs.Munch.{Found}
+use Rattle.logos_automaton.specs.Munch.{Found}
 use Rattle.logos_generator.specs.Runs.{Goes, Tries}
 use Rattle.logos_generator.specs.Stands.{IsStand}
 use Rattle.logos_generator.specs.Attempts.{stand_of}

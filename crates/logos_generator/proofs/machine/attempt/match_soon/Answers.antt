@@ -1,6 +1,6 @@
 use Rattle.std.proofs.Common.{◌≡◌, suc, ◌+◌, length, Some, None, refl, subst, arith}
 use Rattle.std.proofs.lemmas.Option.{slice_get_past}
-use Rattle.logos_graph.specs.Munch.{matched}
+use Rattle.logos_automaton.specs.Munch.{matched}
 use Rattle.logos_generator.specs.Rows.{IsStepOf, SaysAtEnd}
 use Rattle.logos_generator.specs.CodeView.{state_at}
 use Rattle.logos_generator.specs.Runs.{Stand, Goes, goes_on, acts_on}

@@ -1,5 +1,5 @@
 use Rattle.std.proofs.Common.{◌≡◌, map, drop}
-use Rattle.logos_graph.specs.Graph.{is_in}
+use Rattle.logos_places.specs.ByteRanges.{is_in}
 use Rattle.logos_graph.specs.Bytes.{bounds}
 use Rattle.logos_graph.proofs.byte_class.ByteClass.has.Given as goal
 

@@ -1,10 +1,11 @@
 use Rattle.std.proofs.Common.{ℕ, ◌<◌, List, [], length, sym, subst}
 use Rattle.logos_pattern.specs.declared.leaf.Leaf.{Leaf}
-use Rattle.logos_graph.specs.DfaView.{dfa_of}
-use Rattle.logos_graph.specs.Faults.{AreFaults}
+use Rattle.logos_automaton.specs.DfaView.{dfa_of}
+use Rattle.logos_automaton.specs.Faults.{AreFaults}
 use Rattle.logos_graph.specs.FinishedGraph.{NamesLeaves}
 use Rattle.logos_graph.specs.Reduce.{size, mark, type_of, edges}
-use Rattle.logos_graph.specs.View.{rules_of, ReadsOneByteLate}
+use Rattle.logos_graph.specs.View.{rules_of}
+use Rattle.logos_automaton.specs.Automaton.{ReadsOneByteLate}
 use Rattle.logos_graph.specs.Walk.{MarksOneByteLate}
 use Rattle.logos_graph.proofs.Automaton.{no_faults}
 use Rattle.logos_graph.proofs.graph.making.finished.Goals as goal

@@ -1,5 +1,5 @@
 use Rattle.std.proofs.Common.{length, map, ap, refl}
-use Rattle.logos_graph.specs.Errors.{fault_of}
+use Rattle.logos_automaton.specs.Errors.{fault_of}
 use Rattle.logos_graph.proofs.graph.value.Graph.finished.Goals as goal
 
 pub invariant_of-result : goal.invariant_of-result

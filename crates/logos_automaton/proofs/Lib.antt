@@ -1,0 +1,4 @@
+pub mod ambiguity
+pub mod keys
+pub mod munch
+pub mod runs

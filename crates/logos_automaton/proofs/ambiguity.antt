@@ -1,0 +1,5 @@
+pub mod OneFaults
+pub mod PassableLemmas
+pub mod SameMembers
+pub mod SetOrder
+pub mod TopLemmas

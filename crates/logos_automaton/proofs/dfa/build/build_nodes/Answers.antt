@@ -1,0 +1,23 @@
+use Rattle.std.proofs.Common.{map, arith}
+use Rattle.logos_places.specs.Node.{core_of}
+use Rattle.logos_automaton.proofs.runs.BuildingLemmas.{start_there, rows_wide, rows_within, ends_within}
+use Rattle.logos_automaton.proofs.dfa.build.build_nodes.Goals as goal
+
+pub loop-alloc-init : goal.loop-alloc-init
+loop-alloc-init c = rw (c.new-rows.ensures.items, c.new-ends.ensures.items) (c.in_ok-states.ensures c.args.looks (map core_of c.args.nodes.now))
+
+pub invariant_of-result : goal.invariant_of-result
+invariant_of-result c =
+    let ts = map core_of c.args.nodes.now in
+    let u = c.loop-alloc.invariant in
+    let ks = c.loop-alloc.states.keys in
+    let rows = c.loop-alloc.rows.items in
+    let ends = c.loop-alloc.ends.items in
+    record {
+      rows_there = omega (arith, u.within);
+      ends_there = omega (arith, u.within, u.ends_count);
+      start_there = start_there ts c.args.looks ks rows ends u;
+      wide = rows_wide ts c.args.looks ks rows ends u;
+      leads = rows_within ts c.args.looks ks rows ends u;
+      ends_within = ends_within ts c.args.looks ks rows ends u;
+    }

@@ -1,0 +1,8 @@
+use Rattle.std.proofs.Common.{◌≡◌, ◌++◌, drop}
+use Rattle.logos_automaton.specs.TopSets.{with_priority}
+use Rattle.logos_automaton.specs.View.{rules_of}
+use Rattle.logos_automaton.proofs.faults.with_priority.Given as goal
+
+-- what is kept, with what is to be kept, is all of it
+abbrev pub invariant-loop-leaf : goal.invariant-loop-leaf
+invariant-loop-leaf l = l.kept.items ++ with_priority (rules_of l.rules) l.priority (drop l.leaf-index l.listed) ≡ with_priority (rules_of l.rules) l.priority l.listed

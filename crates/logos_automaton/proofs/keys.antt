@@ -1,0 +1,4 @@
+pub mod AlikeLemmas
+pub mod KeyLemmas
+pub mod LimitLemmas
+pub mod TargetLemmas

@@ -1,0 +1,94 @@
+-- States are added, and rows of targets are filled.
+use Rattle.std.proofs.Common.{◌≡◌, ℕ, ◌+◌, ◌<◌, ◌⊎◌, Bool, true, false, IsTrue, Some, List, [], ◌∷◌, length, slice_index, set, refl, sym, ap, ◌∙◌, subst, ⊎_elim, arith}
+use Rattle.std.proofs.lemmas.List.{get_or-set_other}
+use Rattle.std.proofs.lemmas.Grind.{get_or-set_at}
+use Rattle.logos_automaton.specs.Alike.{AreReadAlike}
+use Rattle.logos_places.specs.Core.{Core}
+use Rattle.logos_automaton.specs.Keys.{State, Grows, Extends, LeadsTo, EndsIn, IsAt, IsNext, IsRow, kept_of, is_start, state_of}
+use Rattle.logos_places.specs.Kinds.{kind_of_byte}
+use Rattle.logos_places.specs.Marks.{Has}
+use Rattle.logos_automaton.specs.declared.key.Key.{Key}
+use Rattle.logos_places.proofs.steps.LookLemmas.{test_after}
+use Rattle.logos_places.proofs.steps.StepLemmas.{iff_trans}
+
+module _ (ts : List Core) (looks : Bool) where
+  pub extends_none : (ks : List Key) (n : ℕ) → Extends ts looks ks ks n
+  extends_none ks n = record {
+    grows = record { keeps = λ i s h. h };
+    rising = λ h. h;
+    distinct = λ h. h;
+    reached = λ h. h;
+    longer = omega arith;
+    few = omega arith;
+  }
+
+  pub extends_both : (a b c : List Key) (m n : ℕ) → Extends ts looks a b m → Extends ts looks b c n → Extends ts looks a c (m + n)
+  extends_both a b c m n f g = record {
+    grows = record { keeps = λ i s h. g.grows.keeps i s (f.grows.keeps i s h) };
+    rising = λ h. g.rising (f.rising h);
+    distinct = λ h. g.distinct (f.distinct h);
+    reached = λ h. g.reached (f.reached h);
+    longer = omega (arith, f.longer, g.longer);
+    few = omega (arith, f.few, g.few);
+  }
+
+  pub leads_grown : (a b : List Key) (i x j : ℕ) → Grows a b → LeadsTo ts looks a i x j → LeadsTo ts looks b i x j
+  leads_grown a b i x j g h = record { from = h.from; to = h.to; from_is = g.keeps i h.from h.from_is; to_is = g.keeps j h.to h.to_is; next = h.next }
+
+  pub ends_grown : (a b : List Key) (i j : ℕ) → Grows a b → EndsIn ts a i j → EndsIn ts b i j
+  ends_grown a b i j g h = record { from = h.from; to = h.to; from_is = g.keeps i h.from h.from_is; to_is = g.keeps j h.to h.to_is; last = h.last }
+
+  below_or_same : (a b : ℕ) → a < b + 1 → (a < b) ⊎ (a ≡ b)
+  below_or_same a b lt = grind arith
+
+  -- one more target
+  pub row_more : (a b : List Key) (i : ℕ) (row : List ℕ) (n target : ℕ) → Grows a b → n < length row → IsRow ts looks a i row n → LeadsTo ts looks b i n target →
+      IsRow ts looks b i (set row n target) (n + 1)
+  row_more a b i row n target g lt all new x below =
+      ⊎_elim
+      (λ (l : x < n).
+      let kept : slice_index (set row n target) x ≡ slice_index row x = get_or-set_other row n x target 0 (λ e. omega (arith, e, l)) in
+      rw kept (leads_grown a b i x (slice_index row x) g (all x l)))
+      (λ (e : x ≡ n).
+      let put : slice_index (set row n target) x ≡ target = get_or-set_at row n x target 0 e lt in
+      rw put (subst (λ k. LeadsTo ts looks b i k target) (sym e) new))
+      (below_or_same x n below)
+
+  same_kept : (places : List ℕ) (x y : ℕ) → kind_of_byte x ≡ kind_of_byte y → kept_of looks places x ≡ kept_of looks places y
+  same_kept places x y e = go looks places
+    where
+      go : (b : Bool) (places : List ℕ) → kept_of b places x ≡ kept_of b places y
+      go b [] = refl
+      go false (p ∷ places) = refl
+      go true (p ∷ places) = e
+
+  -- a byte that is not told apart leads to the same state
+  next_alike : (s next : State) (x y : ℕ) → AreReadAlike ts (Has s.places) (IsTrue (is_start s.kind)) x y → kind_of_byte x ≡ kind_of_byte y → IsNext ts looks s x next → IsNext ts looks s y next
+  next_alike s next x y alike e h =
+      let test = test_after x y e s.kind in
+      record {
+        places = record {
+          set = h.places.set;
+          has = λ q. iff_trans (rw test at h.places.has q) (alike _ q);
+        };
+        matches = rw test at h.matches;
+        kind = h.kind ∙ same_kept next.places x y e;
+      }
+
+  same_state : (ks : List Key) (i : ℕ) (s r : State) → IsAt ks i s → IsAt ks i r → s ≡ r
+  same_state ks i s r a b = sym a.same ∙ ap state_of (some_same (sym a.is ∙ b.is)) ∙ b.same
+    where
+      some_same : {j k : Key} → Some j ≡ Some k → j ≡ k
+      some_same e = cc
+
+  pub leads_alike : (ks : List Key) (i x y j : ℕ) (s : State) → IsAt ks i s → AreReadAlike ts (Has s.places) (IsTrue (is_start s.kind)) x y → kind_of_byte x ≡ kind_of_byte y →
+      LeadsTo ts looks ks i x j → LeadsTo ts looks ks i y j
+  leads_alike ks i x y j s at alike e h =
+      let same = same_state ks i s h.from at h.from_is in
+      record {
+        from = h.from;
+        to = h.to;
+        from_is = h.from_is;
+        to_is = h.to_is;
+        next = next_alike h.from h.to x y (subst (λ (r : State). AreReadAlike ts (Has r.places) (IsTrue (is_start r.kind)) x y) same alike) e h.next;
+      }

@@ -1,0 +1,4 @@
+pub mod Examples
+pub mod Outside
+pub mod Unique
+pub mod Window

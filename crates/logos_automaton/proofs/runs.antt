@@ -1,0 +1,5 @@
+pub mod BuildingLemmas
+pub mod DfaLemmas
+pub mod RuleLemmas
+pub mod RunLemmas
+pub mod TotalLemmas

@@ -1,0 +1,16 @@
+pub mod Alike
+pub mod Ambiguity
+pub mod Automaton
+pub mod Building
+pub mod DfaView
+pub mod Errors
+pub mod Faults
+pub mod Keys
+pub mod Measures
+pub mod Munch
+pub mod ReadKeys
+pub mod Rules
+pub mod Targets
+pub mod TopSets
+pub mod View
+pub mod Walks

@@ -1,0 +1,65 @@
+-- The keys of byte strings, which bound the states of the automaton.
+use Rattle.std.specs.Prelude.{◌≡◌, ℕ, ◌+◌, ◌<◌, min, max, ◌↔◌, ◌⊎◌, Bool, ◌||◌, false, true, List, [], ◌∷◌, ◌++◌, length, take, Option, Some, None, if◌then◌else◌, ◌==◌, slice_get, IfSome, IsSomeAnd, encode_utf8, AllPairs}
+use Rattle.std.specs.List.{list_any}
+use Rattle.std.specs.Char.{IsScalar}
+use Rattle.logos_pattern.specs.Text.{IsBytes, InRanges, StandsAt}
+use Rattle.logos_pattern.specs.Tree.{Tree, empty, literal, byte_class, char_class, look, repetition, capture, concat, alternation, Trees, none, also}
+use Rattle.logos_pattern.specs.Looks.{is_word}
+use Rattle.logos_pattern.specs.Matches.{Matches, Pieces}
+use Rattle.logos_automaton.specs.Munch.{Rule, RuleMatches}
+use Rattle.logos_places.specs.Places.{Place, Reads, has_look}
+
+pub data Kind : Type 0 where
+  unseen : Kind
+  word : Kind
+  cr : Kind
+  lf : Kind
+  other : Kind
+
+-- what looks see of a byte
+abbrev pub kind_of : ℕ → Kind
+kind_of b = if is_word (Some b) then word else if b == 13 then cr else if b == 10 then lf else other
+
+-- A byte string that the automaton has read: nothing, some bytes and a last one, or some bytes and the end.
+pub data Read : Type 0 where
+  nothing : Read
+  upto : List ℕ → ℕ → Read
+  whole : List ℕ → Read
+
+module _ (rules : List Rule) where
+  abbrev pub seen_kind : ℕ → Kind
+  seen_kind b = if list_any (λ rule. has_look rule.tree) rules then kind_of b else unseen
+
+  -- the place of the rule can have read the last byte
+  abbrev pub HasRead : ℕ → Place → List ℕ → ℕ → Type 0
+  HasRead leaf place before last =
+      IsSomeAnd (slice_get rules leaf) (λ rule. Reads rule.tree (before ++ last ∷ []) 0 place (length before))
+
+  -- two byte strings have the same key
+  pub record SameAfter (u : List ℕ) (b : ℕ) (v : List ℕ) (c : ℕ) : Type 0 where
+    pub places : (leaf : ℕ) (place : Place) → HasRead leaf place u b ↔ HasRead leaf place v c
+    pub kind : seen_kind b ≡ seen_kind c
+    pub leaves : (leaf : ℕ) → RuleMatches rules leaf (u ++ b ∷ []) 0 (length u) ↔ RuleMatches rules leaf (v ++ c ∷ []) 0 (length v)
+
+  abbrev pub SameKey : Read → Read → Type 0
+  SameKey nothing nothing = Unit {0}
+  SameKey (upto u b) (upto v c) = SameAfter u b v c
+  SameKey (whole u) (whole v) = (leaf : ℕ) → RuleMatches rules leaf u 0 (length u) ↔ RuleMatches rules leaf v 0 (length v)
+  SameKey nothing (upto v c) = ⊥
+  SameKey nothing (whole v) = ⊥
+  SameKey (upto u b) nothing = ⊥
+  SameKey (upto u b) (whole v) = ⊥
+  SameKey (whole u) nothing = ⊥
+  SameKey (whole u) (upto v c) = ⊥
+
+  abbrev pub IsRead : Read → Type 0
+  IsRead nothing = Unit {0}
+  IsRead (upto u b) = IsBytes (u ++ b ∷ [])
+  IsRead (whole u) = IsBytes u
+
+  -- there are more keys than the limit
+  pub record HasMoreKeys (limit : ℕ) : Type 0 where
+    pub strings : List Read
+    pub many : limit < length strings
+    pub are_bytes : (i : ℕ) → IfSome (slice_get strings i) IsRead
+    pub different : AllPairs (λ x y. ¬ SameKey x y) strings

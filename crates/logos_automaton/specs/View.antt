@@ -1,0 +1,11 @@
+-- What contracts see of rules.
+use Rattle.std.specs.Prelude.{List, map}
+use Rattle.logos_pattern.specs.Hir.{tree_of}
+use Rattle.logos_automaton.specs.Munch.{Rule}
+use Rattle.logos_automaton.specs.declared.rule.RuleView.{RuleView}
+
+abbrev pub rule_of : RuleView → Rule
+rule_of view = record { tree = tree_of view.tree.now; priority = view.priority; use_of = record { skips = view.skips; asks = view.asks } }
+
+abbrev pub rules_of : List RuleView → List Rule
+rules_of = map rule_of

@@ -1,0 +1,23 @@
+-- What the iterators over an automaton still give.
+use Rattle.std.specs.Prelude.{ℕ, ◌-◌, List, [], ◌∷◌, ◌++◌, Option, Some, None}
+use Rattle.std.specs.List.{range_with_len}
+use Rattle.logos_automaton.specs.declared.dfa.walks.Matches.{Matches}
+use Rattle.logos_automaton.specs.declared.dfa.walks.Children.{Children}
+use Rattle.logos_automaton.specs.declared.dfa.walks.States.{States}
+
+-- the numbers of leaves
+abbrev pub matches_left : Matches → List ℕ
+matches_left matches = matches.leaves.now
+
+-- the one, if there is one
+abbrev pub at_most_one : Option ℕ → List ℕ
+at_most_one None = []
+at_most_one (Some n) = n ∷ []
+
+-- the numbers of states, as targets by bytes and then by the end
+abbrev pub children_left : Children → List ℕ
+children_left children = children.row.now ++ at_most_one children.end
+
+-- the numbers of states, ascending
+abbrev pub states_left : States → List ℕ
+states_left states = range_with_len states.next (states.count - states.next)

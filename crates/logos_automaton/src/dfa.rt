@@ -1,0 +1,27 @@
+//! The automaton of leaves, which reads matches one byte late.
+ghost use Rattle.std.specs.Prelude.{◌≡◌, ◌<◌, length, vec_len};
+ghost use Rattle.logos_automaton.specs.Targets.{AreByteRows, LeadWithin, EndWithin};
+
+pub mod build;
+pub mod parts;
+pub mod walks;
+
+use crate::key::Key;
+pub use crate::row::Row;
+use indexmap::IndexSet;
+pub use walks::{Children, Matches, StateId, States};
+
+/// An automaton that reads bytes and the end of the input. A state lists the leaves that match all bytes but the last one,
+/// or all of them where the end was read. Each state has a target by each byte and by the end.
+#[derive(Drop)]
+pub struct Dfa {
+    states: IndexSet<Key>,
+    rows: Vec<Row>,
+    ends: Vec<u32>,
+    ghost rows_there: { vec_len rows ≡ length states.keys },
+    ghost ends_there: { vec_len ends ≡ length states.keys },
+    ghost start_there: { 0 < length states.keys },
+    ghost wide: { AreByteRows rows.items },
+    ghost leads: { LeadWithin rows.items (length states.keys) },
+    ghost ends_within: { EndWithin ends.items (length states.keys) },
+}

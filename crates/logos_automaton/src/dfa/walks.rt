@@ -1,0 +1,175 @@
+//! Walks of an automaton, from state to state.
+ghost use Rattle.std.specs.Prelude.{◌≤◌};
+
+use super::Dfa;
+use super::parts::leaves_at;
+use logos_pattern::leaf::LeafId;
+
+/// A state of an automaton, by its number.
+#[derive(Clone, Copy, Debug, PartialEq, Eq)]
+pub struct StateId(pub(crate) usize);
+
+/// The leaves that a state lists, ascending.
+#[derive(Clone, Copy, Debug)]
+pub struct Matches<'d> {
+    leaves: &'d [usize],
+}
+
+/// The targets of a state: by each byte from 0 to 255, and then by the end. Targets that are equal come more than once.
+#[derive(Clone, Copy, Debug)]
+pub struct Children<'d> {
+    row: &'d [u32],
+    end: Option<u32>,
+}
+
+/// States of an automaton, ascending.
+#[derive(Clone, Copy, Debug)]
+pub struct States {
+    next: usize,
+    count: usize,
+    ghost ordered: { next ≤ count },
+}
+
+impl StateId {
+    ghost use Rattle.std.specs.Prelude.{◌≡◌};
+
+    /// The number of the state. The start's is 0.
+    pub fn index(self) -> usize
+        ensures { result ≡ self.0 }
+    {
+        self.0
+    }
+}
+
+impl Dfa {
+    ghost use Rattle.std.specs.Prelude.{◌≡◌, ◌<◌, ◌↔◌, ℕ, IsTrue, Some, length, slice_get};
+    ghost use Rattle.std.specs.List.{All, range_with_len};
+    ghost use Rattle.logos_automaton.specs.DfaView.{dfa_of};
+    ghost use Rattle.logos_automaton.specs.Automaton.{dfa_next};
+    ghost use Rattle.logos_automaton.specs.Walks.{matches_left, children_left, states_left};
+
+    /// The state before the first byte.
+    pub fn start(&self) -> StateId
+        ensures start { result.0 ≡ (dfa_of self.now).start }
+        ensures within { result.0 < length (dfa_of self.now).matches }
+    {
+        StateId(0)
+    }
+
+    /// Whether the automaton has the state.
+    pub fn contains(&self, state: StateId) -> bool
+        ensures { IsTrue result ↔ (state.0 < length (dfa_of self.now).matches) }
+    {
+        state.0 < self.rows.len()
+    }
+
+    /// The target of a state by a byte. The state is one of this automaton.
+    pub fn next_state(&self, state: StateId, byte: u8) -> StateId
+        requires { state.0 < length (dfa_of self.now).matches }
+        ensures next { dfa_next (dfa_of self.now) (Some state.0) byte ≡ Some result.0 }
+        ensures within { result.0 < length (dfa_of self.now).matches }
+    {
+        StateId(self.rows[state.0][byte as usize] as usize)
+    }
+
+    /// The target of a state by the end of the input. The state is one of this automaton.
+    pub fn next_eoi_state(&self, state: StateId) -> StateId
+        requires { state.0 < length (dfa_of self.now).matches }
+        ensures next { slice_get (dfa_of self.now).at_end state.0 ≡ Some result.0 }
+        ensures within { result.0 < length (dfa_of self.now).matches }
+    {
+        StateId(self.ends[state.0] as usize)
+    }
+
+    /// The leaves that a state lists, ascending. The state is one of this automaton.
+    pub fn iter_matches(&self, state: StateId) -> Matches<'_>
+        requires { state.0 < length (dfa_of self.now).matches }
+        ensures { slice_get (dfa_of self.now).matches state.0 ≡ Some (matches_left result) }
+    {
+        Matches {
+            leaves: leaves_at(self, state.0),
+        }
+    }
+
+    /// The targets of a state: by each byte from 0 to 255, and then by the end. The state is one of this automaton.
+    pub fn iter_children(&self, state: StateId) -> Children<'_>
+        requires { state.0 < length (dfa_of self.now).matches }
+        ensures count { length (children_left result) ≡ 257 }
+        ensures by_byte { (byte : ℕ) → byte < 256 → slice_get (children_left result) byte ≡ dfa_next (dfa_of self.now) (Some state.0) byte }
+        ensures at_end { slice_get (children_left result) 256 ≡ slice_get (dfa_of self.now).at_end state.0 }
+        ensures within { All (λ child. child < length (dfa_of self.now).matches) (children_left result) }
+    {
+        Children {
+            row: &self.rows[state.0],
+            end: Some(self.ends[state.0]),
+        }
+    }
+
+    /// The start and all states that are reached from it in any number of steps, ascending: all states of the automaton.
+    pub fn get_states(&self) -> States
+        ensures { states_left result ≡ range_with_len 0 (length (dfa_of self.now).matches) }
+    {
+        States {
+            next: 0,
+            count: self.rows.len(),
+        }
+    }
+}
+
+impl Iterator for Matches<'_> {
+    type Item = LeafId;
+
+    ghost use Rattle.std.specs.Iterator.{YieldsFirstBy, item_count};
+    ghost use Rattle.logos_automaton.specs.Walks.{matches_left};
+
+    ghost next_gives = { YieldsFirstBy (λ leaf. leaf.0) matches_left };
+
+    ghost remaining = { item_count matches_left };
+
+    fn next(&mut self) -> Option<LeafId> {
+        let (first, rest) = self.leaves.split_first()?;
+        self.leaves = rest;
+        Some(LeafId(*first))
+    }
+}
+
+impl Iterator for Children<'_> {
+    type Item = StateId;
+
+    ghost use Rattle.std.specs.Iterator.{YieldsFirstBy, item_count};
+    ghost use Rattle.logos_automaton.specs.Walks.{children_left};
+
+    ghost next_gives = { YieldsFirstBy (λ state. state.0) children_left };
+
+    ghost remaining = { item_count children_left };
+
+    fn next(&mut self) -> Option<StateId> {
+        if let Some((first, rest)) = self.row.split_first() {
+            self.row = rest;
+            return Some(StateId(*first as usize));
+        }
+        let end = self.end?;
+        self.end = None;
+        Some(StateId(end as usize))
+    }
+}
+
+impl Iterator for States {
+    type Item = StateId;
+
+    ghost use Rattle.std.specs.Iterator.{YieldsFirstBy, item_count};
+    ghost use Rattle.logos_automaton.specs.Walks.{states_left};
+
+    ghost next_gives = { YieldsFirstBy (λ state. state.0) states_left };
+
+    ghost remaining = { item_count states_left };
+
+    fn next(&mut self) -> Option<StateId> {
+        if self.next == self.count {
+            return None;
+        }
+        let state = StateId(self.next);
+        self.next += 1;
+        Some(state)
+    }
+}

@@ -1,0 +1,49 @@
+//! Faults of rules, and why there is no automaton.
+
+use logos_pattern::leaf::LeafId;
+use std::alloc::{AllocError, AllocFailed};
+
+/// A fault of a list of leaves.
+#[derive(Debug, Drop)]
+pub enum GraphError {
+    /// A pattern can meet a look before its first byte.
+    NoUniversalStart,
+    /// The leaf's pattern can match nothing.
+    EmptyMatch(LeafId),
+    /// These leaves have the highest priority among all that match some text. They are in
+    /// ascending order, two or more.
+    Disambiguation(Vec<LeafId>),
+}
+
+/// Why there is no graph.
+#[derive(Clone, Copy, Debug, PartialEq, Eq)]
+pub enum BuildError {
+    /// The size of all trees passes 1,048,576.
+    LimitSize,
+    /// The automaton has more than 65,536 states.
+    LimitStates,
+    /// Memory ran out.
+    Memory,
+}
+
+impl From<AllocError> for BuildError {
+    ghost use Rattle.std.specs.Prelude.{◌≡◌};
+    ghost use Rattle.logos_automaton.specs.declared.errors.BuildError.TheVariants.{Memory};
+
+    ghost from_gives = { λ _ e. e ≡ Memory };
+
+    fn from(_error: AllocError) -> BuildError {
+        BuildError::Memory
+    }
+}
+
+impl<T: Drop> From<AllocFailed<T>> for BuildError {
+    ghost use Rattle.std.specs.Prelude.{◌≡◌};
+    ghost use Rattle.logos_automaton.specs.declared.errors.BuildError.TheVariants.{Memory};
+
+    ghost from_gives = { λ _ e. e ≡ Memory };
+
+    fn from(_error: AllocFailed<T>) -> BuildError {
+        BuildError::Memory
+    }
+}

@@ -1,0 +1,195 @@
+//! The faults of a list of leaves.
+ghost use Rattle.std.specs.Prelude.{◌≡◌, ℕ, ◌≤◌, ◌⊎◌, ◌↔◌, IfOk, OnOk, List, map, Contains, vec_len};
+ghost use Rattle.logos_automaton.specs.DfaView.{dfa_of};
+ghost use Rattle.logos_automaton.specs.Errors.{fault_of, numbers};
+ghost use Rattle.logos_automaton.specs.Faults.{AreFaults, ArePassable, AreAmbiguous, Ascends, empty_match, disambiguation};
+ghost use Rattle.logos_automaton.specs.Munch.{priority_of};
+ghost use Rattle.logos_automaton.specs.TopSets.{highest_of, with_priority, top_of, IsTopSet, IsTopIn, AreTopSets};
+ghost use Rattle.logos_automaton.specs.View.{rules_of};
+ghost use Rattle.logos_automaton.specs.Faults.{AllStart};
+ghost use Rattle.logos_automaton.specs.Automaton.{IsTotal, ReadsOneByteLate};
+
+use crate::dfa::Dfa;
+use crate::dfa::parts::{leaves_at, state_count};
+use crate::errors::GraphError;
+use crate::measures::passable;
+use crate::rule::{RuleView, some_leads, some_passable};
+use logos_pattern::leaf::LeafId;
+use std::alloc::{AllocError, Global};
+use std::collections::BTreeSet;
+
+/// The leaves whose trees can be passed without a byte, ascending.
+pub fn passable_leaves(alloc: Global, rules: &[RuleView<'_>]) -> Result<Vec<LeafId>, AllocError>
+    ensures { IfOk result (λ passed. ArePassable (rules_of rules.now) (numbers passed.items)) }
+{
+    let mut passed = Vec::new(alloc);
+    for (number, rule) in rules.iter().enumerate() {
+        if passable(rule.tree) {
+            passed.push(LeafId(number))?;
+        }
+    }
+    Ok(passed)
+}
+
+/// The priority of a leaf, or 0 if there is no leaf with this number.
+pub fn priority_at(rules: &[RuleView<'_>], leaf: usize) -> usize
+    ensures { result ≡ priority_of (rules_of rules.now) leaf }
+{
+    match rules.get(leaf) {
+        Some(rule) => rule.priority,
+        None => 0,
+    }
+}
+
+/// The highest priority among the leaves listed, or 0 if there is none.
+fn highest(rules: &[RuleView<'_>], listed: &[usize]) -> usize
+    ensures { result ≡ highest_of (rules_of rules.now) listed.now }
+{
+    let mut highest = 0;
+    for leaf in listed {
+        highest = priority_at(rules, *leaf).max(highest);
+    }
+    highest
+}
+
+/// Those of the leaves listed that have this priority.
+fn with_priority(
+    alloc: Global,
+    rules: &[RuleView<'_>],
+    listed: &[usize],
+    priority: usize,
+) -> Result<Vec<usize>, AllocError>
+    ensures { IfOk result (λ kept. kept.items ≡ with_priority (rules_of rules.now) priority listed.now) }
+{
+    let mut kept = Vec::new(alloc);
+    for leaf in listed {
+        if priority_at(rules, *leaf) == priority {
+            kept.push(*leaf)?;
+        }
+    }
+    Ok(kept)
+}
+
+/// Adds the set of the leaves of highest priority among those listed, if there are two or more.
+fn add_top_set(
+    alloc: Global,
+    rules: &[RuleView<'_>],
+    listed: &[usize],
+    sets: &mut BTreeSet<Vec<usize>>,
+) -> Result<(), AllocError>
+    ensures { OnOk result ((set : List ℕ) → Contains (map (λ v. v.items) sets.new.keys) set
+        ↔ (Contains (map (λ v. v.items) sets.old.keys) set ⊎ IsTopSet (rules_of rules.now) listed.now set)) }
+{
+    if listed.len() < 2 {
+        return Ok(());
+    }
+    let top = with_priority(alloc, rules, listed, highest(rules, listed))?;
+    if top.len() < 2 {
+        return Ok(());
+    }
+    add_set(sets, top)
+}
+
+/// Adds a set, if it is new.
+fn add_set(sets: &mut BTreeSet<Vec<usize>>, set: Vec<usize>) -> Result<(), AllocError>
+    ensures { OnOk result ((other : List ℕ) → Contains (map (λ v. v.items) sets.new.keys) other
+        ↔ (Contains (map (λ v. v.items) sets.old.keys) other ⊎ (other ≡ set.items))) }
+{
+    sets.insert(set)?;
+    Ok(())
+}
+
+/// The sets of two or more leaves that have the highest priority among all leaves that a state lists.
+fn top_sets(
+    alloc: Global,
+    rules: &[RuleView<'_>],
+    dfa: &Dfa,
+) -> Result<BTreeSet<Vec<usize>>, AllocError>
+    ensures { IfOk result (λ sets. (set : List ℕ) →
+        Contains (map (λ v. v.items) sets.keys) set ↔ IsTopIn (rules_of rules.now) (dfa_of dfa.now).matches set) }
+{
+    let mut sets = BTreeSet::new(alloc);
+    for state in 0..state_count(dfa) {
+        add_top_set(alloc, rules, leaves_at(dfa, state), &mut sets)?;
+    }
+    Ok(sets)
+}
+
+/// The leaves with these numbers.
+fn leaf_ids(alloc: Global, set: &[usize]) -> Result<Vec<LeafId>, AllocError>
+    ensures { IfOk result (λ ids. numbers ids.items ≡ set.now) }
+{
+    let mut ids = Vec::new(alloc);
+    for leaf in set {
+        ids.push(LeafId(*leaf))?;
+    }
+    Ok(ids)
+}
+
+/// The sets in order.
+fn in_order(alloc: Global, sets: &BTreeSet<Vec<usize>>) -> Result<Vec<Vec<LeafId>>, AllocError>
+    ensures ascends { IfOk result (λ named. Ascends (map (λ set. numbers set.items) named.items)) }
+    ensures same { IfOk result (λ named. map (λ set. numbers set.items) named.items ≡ map (λ v. v.items) sets.now.keys) }
+{
+    let mut named = Vec::new(alloc);
+    for set in sets {
+        let ids = leaf_ids(alloc, set)?;
+        named.push(ids)?;
+    }
+    Ok(named)
+}
+
+/// The sets of leaves that can't be told apart: each is once there, and they ascend.
+pub fn ambiguous_sets(
+    alloc: Global,
+    rules: &[RuleView<'_>],
+    dfa: &Dfa,
+) -> Result<Vec<Vec<LeafId>>, AllocError>
+    requires total { IsTotal (dfa_of dfa.now) }
+    ensures { IfOk result (λ sets. ReadsOneByteLate (rules_of rules.now) (dfa_of dfa.now) → AllStart (rules_of rules.now) →
+        AreAmbiguous (rules_of rules.now) (map (λ set. numbers set.items) sets.items)) }
+{
+    let sets = top_sets(alloc, rules, dfa)?;
+    in_order(alloc, &sets)
+}
+
+/// The faults of leaves that can match nothing.
+fn empty_matches(alloc: Global, passed: Vec<LeafId>) -> Result<Vec<GraphError>, AllocError>
+    ensures { IfOk result (λ errors. map fault_of errors.items ≡ map empty_match (numbers passed.items)) }
+{
+    let mut errors = Vec::new(alloc);
+    for leaf in &passed {
+        errors.push(GraphError::EmptyMatch(*leaf))?;
+    }
+    Ok(errors)
+}
+
+/// The faults of sets that can't be told apart.
+fn disambiguations(alloc: Global, sets: Vec<Vec<LeafId>>) -> Result<Vec<GraphError>, AllocError>
+    ensures { IfOk result (λ errors. map fault_of errors.items ≡ map disambiguation (map (λ set. numbers set.items) sets.items)) }
+{
+    let mut errors = Vec::new(alloc);
+    for set in sets {
+        errors.push(GraphError::Disambiguation(set))?;
+    }
+    Ok(errors)
+}
+
+/// The faults of leaves and of their automaton.
+pub fn graph_errors(
+    alloc: Global,
+    rules: &[RuleView<'_>],
+    dfa: &Dfa,
+) -> Result<Vec<GraphError>, AllocError>
+    requires total { IsTotal (dfa_of dfa.now) }
+    ensures { IfOk result (λ errors. (AllStart (rules_of rules.now) → ReadsOneByteLate (rules_of rules.now) (dfa_of dfa.now)) →
+        AreFaults (rules_of rules.now) (map fault_of errors.items)) }
+{
+    if some_leads(rules) {
+        return Ok(vec![in alloc; GraphError::NoUniversalStart]?);
+    }
+    if some_passable(rules) {
+        return empty_matches(alloc, passable_leaves(alloc, rules)?);
+    }
+    disambiguations(alloc, ambiguous_sets(alloc, rules, dfa)?)
+}

@@ -1,0 +1,13 @@
+//! The automaton of rules, which reads matches one byte late, and the faults of rules.
+
+#![tactic(auto)]
+
+mod alike;
+pub mod dfa;
+pub mod errors;
+pub mod faults;
+mod key;
+pub mod measures;
+mod nodes;
+mod row;
+pub mod rule;

@@ -1,0 +1,207 @@
+//! Measures of trees. None of them takes memory.
+ghost use Rattle.std.specs.Prelude.{◌≡◌, ℕ, ◌+◌, ◌*◌, ◌^◌, ◌≤◌, ◌↔◌, IsTrue, length, max, map};
+ghost use Rattle.logos_pattern.specs.Hir.{class_tree, tree_of};
+ghost use Rattle.logos_pattern.specs.Priority as tree;
+ghost use Rattle.logos_pattern.specs.Tree.{trees};
+ghost use Rattle.logos_automaton.specs.Measures.{IsWithinLimit};
+ghost use Rattle.logos_places.specs.Places as places;
+ghost use Rattle.logos_places.specs.Size.{size, sizes};
+
+use logos_pattern::pattern::{Class, Hir};
+
+/// The greatest size that all trees may have.
+const SIZE_LIMIT: usize = 1 << 20;
+
+/// Whether the tree can be passed without a byte.
+#[cycle(passable)]
+pub fn passable(hir: &Hir) -> bool
+    ensures { result ≡ tree.passable (tree_of hir.now) }
+{
+    match hir {
+        Hir::Empty | Hir::Look(_) => true,
+        Hir::Literal(bytes) => bytes.is_empty(),
+        Hir::Class(_) => false,
+        Hir::Repetition { min, sub, .. } => *min == 0 || passable(sub),
+        Hir::Capture(sub) => passable(sub),
+        Hir::Concat(parts) => all_passable(parts),
+        Hir::Alternation(branches) => some_passable(branches),
+    }
+}
+
+/// Whether all of the trees can be passed.
+#[cycle(passable)]
+fn all_passable(parts: &[Hir]) -> bool
+    ensures { result ≡ tree.all_passable (trees (map tree_of parts.now)) }
+{
+    for part in parts {
+        if !passable(part) {
+            return false;
+        }
+    }
+    true
+}
+
+/// Whether one of the trees can be passed.
+#[cycle(passable)]
+fn some_passable(branches: &[Hir]) -> bool
+    ensures { result ≡ tree.some_passable (trees (map tree_of branches.now)) }
+{
+    for branch in branches {
+        if passable(branch) {
+            return true;
+        }
+    }
+    false
+}
+
+/// Whether the tree can meet a look before its first byte.
+#[cycle(leads)]
+pub fn leads(hir: &Hir) -> bool
+    ensures { result ≡ tree.leads (tree_of hir.now) }
+{
+    match hir {
+        Hir::Empty | Hir::Literal(_) | Hir::Class(_) => false,
+        Hir::Look(_) => true,
+        Hir::Repetition { sub, .. } | Hir::Capture(sub) => leads(sub),
+        Hir::Concat(parts) => leads_in_order(parts),
+        Hir::Alternation(branches) => some_leads(branches),
+    }
+}
+
+/// Whether one of the trees leads, and all before it can be passed.
+#[cycle(leads)]
+fn leads_in_order(parts: &[Hir]) -> bool
+    ensures { result ≡ tree.leads_in_order (trees (map tree_of parts.now)) }
+{
+    for part in parts {
+        if leads(part) {
+            return true;
+        }
+        if !passable(part) {
+            return false;
+        }
+    }
+    false
+}
+
+/// Whether one of the trees leads.
+#[cycle(leads)]
+fn some_leads(branches: &[Hir]) -> bool
+    ensures { result ≡ tree.some_leads (trees (map tree_of branches.now)) }
+{
+    for branch in branches {
+        if leads(branch) {
+            return true;
+        }
+    }
+    false
+}
+
+/// Whether the tree has a look.
+#[cycle(has_look)]
+pub fn has_look(hir: &Hir) -> bool
+    ensures { result ≡ places.has_look (tree_of hir.now) }
+{
+    match hir {
+        Hir::Empty | Hir::Literal(_) | Hir::Class(_) => false,
+        Hir::Look(_) => true,
+        Hir::Repetition { sub, .. } | Hir::Capture(sub) => has_look(sub),
+        Hir::Concat(parts) | Hir::Alternation(parts) => some_has_look(parts),
+    }
+}
+
+/// Whether one of the trees has a look.
+#[cycle(has_look)]
+fn some_has_look(hirs: &[Hir]) -> bool
+    ensures { result ≡ places.some_has_look (trees (map tree_of hirs.now)) }
+{
+    for hir in hirs {
+        if has_look(hir) {
+            return true;
+        }
+    }
+    false
+}
+
+// Below, `None` stands for a size beyond the limit.
+
+fn limited(size: usize) -> Option<usize>
+    ensures { IsWithinLimit size result }
+{
+    if size > SIZE_LIMIT {
+        return None;
+    }
+    Some(size)
+}
+
+pub fn plus(a: Option<usize>, b: Option<usize>) -> Option<usize>
+    ensures { (m n : ℕ) → IsWithinLimit m a → IsWithinLimit n b → IsWithinLimit (m + n) result }
+{
+    limited(a?.checked_add(b?)?)
+}
+
+/// How often the body of a repetition counts.
+fn copies(min: u32, max: Option<u32>) -> usize
+    ensures count { result ≡ places.copies min max }
+    ensures some { 1 ≤ result }
+    ensures few { result ≤ 2 ^ 32 }
+{
+    match max {
+        None => min as usize + 1,
+        Some(max) => (max as usize).max(1),
+    }
+}
+
+fn times(body: Option<usize>, min: u32, max: Option<u32>) -> Option<usize>
+    ensures { (n : ℕ) → IsWithinLimit n body → IsWithinLimit (n * places.copies min max) result }
+{
+    limited(body?.checked_mul(copies(min, max))?)
+}
+
+/// The size of a class.
+fn class_size(class: &Class) -> Option<usize>
+    ensures { IsWithinLimit (size (class_tree class.now)) result }
+{
+    match class {
+        Class::Bytes(_) => Some(1),
+        Class::Characters(ranges) => ranges_size(ranges.len()),
+    }
+}
+
+/// The size of a class of characters of so many ranges.
+fn ranges_size(ranges: usize) -> Option<usize>
+    ensures { IsWithinLimit (max 1 (4 * ranges)) result }
+{
+    if ranges > SIZE_LIMIT {
+        return None;
+    }
+    limited((4 * ranges).max(1))
+}
+
+/// The size of the tree, if it is within the limit.
+#[cycle(size)]
+pub fn limited_size(hir: &Hir) -> Option<usize>
+    ensures { IsWithinLimit (size (tree_of hir.now)) result }
+{
+    match hir {
+        Hir::Empty => Some(0),
+        Hir::Look(_) => Some(1),
+        Hir::Literal(bytes) => limited(bytes.len()),
+        Hir::Class(class) => class_size(class),
+        Hir::Repetition { min, max, sub, .. } => times(limited_size(sub), *min, *max),
+        Hir::Capture(sub) => limited_size(sub),
+        Hir::Concat(parts) | Hir::Alternation(parts) => limited_sizes(parts),
+    }
+}
+
+/// The sum of the sizes, if it is within the limit.
+#[cycle(size)]
+fn limited_sizes(hirs: &[Hir]) -> Option<usize>
+    ensures { IsWithinLimit (sizes (trees (map tree_of hirs.now))) result }
+{
+    let mut sum = Some(0);
+    for hir in hirs {
+        sum = plus(sum, limited_size(hir));
+    }
+    sum
+}

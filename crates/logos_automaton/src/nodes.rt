@@ -1,0 +1,25 @@
+//! The trees of leaves, made ready for the automaton.
+ghost use Rattle.std.specs.Prelude.{◌^◌, ◌≤◌, IfOk, map};
+ghost use Rattle.logos_places.specs.Node.{core_of, AreMeasured};
+ghost use Rattle.logos_automaton.specs.Rules.{AreRuleCores};
+ghost use Rattle.logos_automaton.specs.Measures.{size_of};
+ghost use Rattle.logos_automaton.specs.View.{rules_of};
+
+use crate::rule::RuleView;
+use logos_places::node::Node;
+use logos_places::prepare::prepare;
+use std::alloc::{AllocError, Global};
+
+/// The trees of the leaves, made ready.
+pub fn nodes_of(alloc: Global, rules: &[RuleView<'_>]) -> Result<Vec<Node>, AllocError>
+    requires { size_of (rules_of rules.now) ≤ 2 ^ 20 }
+    ensures cores { IfOk result (λ nodes. AreRuleCores (rules_of rules.now) (map core_of nodes.items)) }
+    ensures measured { IfOk result (λ nodes. AreMeasured nodes.items) }
+{
+    let mut nodes = Vec::new(alloc);
+    for rule in rules {
+        let node = prepare(alloc, rule.tree)?;
+        nodes.push(node)?;
+    }
+    Ok(nodes)
+}

@@ -1,0 +1,56 @@
+//! What an automaton needs of a leaf.
+ghost use Rattle.std.specs.Prelude.{◌≡◌};
+ghost use Rattle.logos_automaton.specs.Faults as faults;
+ghost use Rattle.logos_automaton.specs.Rules as inner;
+ghost use Rattle.logos_automaton.specs.View.{rules_of};
+
+use crate::measures::{has_look, leads, passable};
+use logos_pattern::pattern::Hir;
+
+/// The rule that a leaf stands for, with the leaf's tree.
+#[derive(Clone, Copy)]
+pub struct RuleView<'h> {
+    /// The tree of the leaf's pattern.
+    pub tree: &'h Hir,
+    pub priority: usize,
+    /// Whether matches are left out.
+    pub skips: bool,
+    /// Whether a callback is asked for each match.
+    pub asks: bool,
+}
+
+/// Whether the tree of some rule can meet a look before its first byte.
+pub fn some_leads(rules: &[RuleView<'_>]) -> bool
+    ensures { result ≡ faults.some_leads (rules_of rules.now) }
+{
+    for rule in rules {
+        if leads(rule.tree) {
+            return true;
+        }
+    }
+    false
+}
+
+/// Whether the tree of some rule can be passed without a byte.
+pub fn some_passable(rules: &[RuleView<'_>]) -> bool
+    ensures { result ≡ faults.some_passable (rules_of rules.now) }
+{
+    for rule in rules {
+        if passable(rule.tree) {
+            return true;
+        }
+    }
+    false
+}
+
+/// Whether the tree of some rule has a look.
+pub fn some_look(rules: &[RuleView<'_>]) -> bool
+    ensures { result ≡ inner.some_look (rules_of rules.now) }
+{
+    for rule in rules {
+        if has_look(rule.tree) {
+            return true;
+        }
+    }
+    false
+}

@@ -1,8 +1,0 @@
-use Rattle.std.proofs.Common.{◌≡◌, max, drop}
-use Rattle.logos_graph.specs.TopSets.{highest_of}
-use Rattle.logos_graph.specs.View.{rules_of}
-use Rattle.logos_graph.proofs.faults.highest.Given as goal
-
--- the highest so far, with that of what is left, is the highest of all
-abbrev pub invariant-loop-leaf : goal.invariant-loop-leaf
-invariant-loop-leaf l = max (highest_of (rules_of l.leaves) (drop l.leaf-index l.listed)) l.highest ≡ highest_of (rules_of l.leaves) l.listed

@@ -1,6 +1,0 @@
-use Rattle.std.proofs.Common.{◌≡◌, ◌++◌, drop}
-use Rattle.logos_graph.specs.Errors.{numbers}
-use Rattle.logos_graph.proofs.faults.leaf_ids.Given as goal
-
-abbrev pub invariant-loop-leaf : goal.invariant-loop-leaf
-invariant-loop-leaf l = numbers l.ids.items ++ drop l.leaf-index l.set ≡ l.set

@@ -1,9 +1,0 @@
-use Rattle.std.proofs.Common.{ℕ, List, ◌↔◌, map, Contains}
-use Rattle.logos_graph.specs.DfaView.{dfa_of}
-use Rattle.logos_graph.specs.View.{rules_of}
-use Rattle.logos_graph.proofs.TopLemmas.{IsTopBelow}
-use Rattle.logos_graph.proofs.faults.top_sets.Given as goal
-
--- the sets of the states so far
-abbrev pub invariant-loop-state : goal.invariant-loop-state
-invariant-loop-state l = (set : List ℕ) → Contains (map (λ v. v.items) l.sets.keys) set ↔ IsTopBelow (rules_of l.leaves) l.state (dfa_of l.dfa).matches set

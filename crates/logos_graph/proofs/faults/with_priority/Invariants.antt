@@ -1,8 +1,0 @@
-use Rattle.std.proofs.Common.{◌≡◌, ◌++◌, drop}
-use Rattle.logos_graph.specs.TopSets.{with_priority}
-use Rattle.logos_graph.specs.View.{rules_of}
-use Rattle.logos_graph.proofs.faults.with_priority.Given as goal
-
--- what is kept, with what is to be kept, is all of it
-abbrev pub invariant-loop-leaf : goal.invariant-loop-leaf
-invariant-loop-leaf l = l.kept.items ++ with_priority (rules_of l.leaves) l.priority (drop l.leaf-index l.listed) ≡ with_priority (rules_of l.leaves) l.priority l.listed

@@ -1,9 +1,0 @@
-use Rattle.std.proofs.Common.{◌≡◌, map, drop}
-use Rattle.logos_pattern.specs.Tree.{trees}
-use Rattle.logos_pattern.specs.Hir.{tree_of}
-use Rattle.logos_graph.specs.Places.{some_has_look}
-use Rattle.logos_graph.proofs.measures.+has_look.Given as goal
-
--- one has a look exactly if one that is left has
-abbrev pub invariant-some_has_look-loop-hir : goal.invariant-some_has_look-loop-hir
-invariant-some_has_look-loop-hir l = some_has_look (trees (map tree_of (drop l.hir-index l.hirs))) ≡ some_has_look (trees (map tree_of l.hirs))

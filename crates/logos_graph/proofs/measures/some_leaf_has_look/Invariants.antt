@@ -1,8 +1,0 @@
-use Rattle.std.proofs.Common.{◌≡◌, drop}
-use Rattle.logos_graph.specs.Rules.{some_look}
-use Rattle.logos_graph.specs.View.{rules_of}
-use Rattle.logos_graph.proofs.measures.some_leaf_has_look.Given as goal
-
--- the whole is as what is left
-abbrev pub invariant-loop-leaf : goal.invariant-loop-leaf
-invariant-loop-leaf l = some_look (rules_of (drop l.leaf-index l.leaves)) ≡ some_look (rules_of l.leaves)

@@ -1,7 +1,0 @@
--- What contracts see of an automaton.
-use Rattle.logos_graph.specs.Keys.{automaton_of}
-use Rattle.logos_graph.specs.View.{Automaton}
-use Rattle.logos_graph.specs.declared.dfa.Dfa.{Dfa}
-
-abbrev pub dfa_of : Dfa → Automaton
-dfa_of dfa = automaton_of 0 dfa.states.keys dfa.rows.items dfa.ends.items

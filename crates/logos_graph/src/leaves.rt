@@ -1,0 +1,47 @@
+//! What an automaton needs of leaves.
+ghost use Rattle.std.specs.Prelude.{◌≡◌, ◌^◌, ◌≤◌, ◌↔◌, IsTrue, IfOk};
+ghost use Rattle.logos_automaton.specs.Measures.{size_of};
+ghost use Rattle.logos_automaton.specs.View as views;
+ghost use Rattle.logos_graph.specs.View.{rule_of, rules_of};
+
+use logos_automaton::measures::{limited_size, plus};
+use logos_automaton::rule::RuleView;
+use logos_pattern::leaf::{Leaf, VariantKind};
+use std::alloc::{AllocError, Global};
+
+/// Whether the size of all trees is at most 1,048,576. It takes no memory.
+pub(crate) fn is_size_within(leaves: &[Leaf<'_>]) -> bool
+    ensures { IsTrue result ↔ (size_of (rules_of leaves.now) ≤ 2 ^ 20) }
+{
+    let mut sum = Some(0);
+    for leaf in leaves {
+        sum = plus(sum, limited_size(leaf.pattern.hir()));
+    }
+    sum.is_some()
+}
+
+/// The rule that a leaf stands for.
+fn rule_view<'l>(leaf: &'l Leaf<'_>) -> RuleView<'l>
+    ensures { views.rule_of result ≡ rule_of leaf.now }
+{
+    RuleView {
+        tree: leaf.pattern.hir(),
+        priority: leaf.priority,
+        skips: matches!(leaf.kind, VariantKind::Skip),
+        asks: leaf.callback.is_some(),
+    }
+}
+
+/// The rules that leaves stand for.
+pub(crate) fn rule_views<'l>(
+    alloc: Global,
+    leaves: &'l [Leaf<'_>],
+) -> Result<Vec<RuleView<'l>>, AllocError>
+    ensures { IfOk result (λ rules. views.rules_of rules.items ≡ rules_of leaves.now) }
+{
+    let mut rules = Vec::new(alloc);
+    for leaf in leaves {
+        rules.push(rule_view(leaf))?;
+    }
+    Ok(rules)
+}

@@ -1,0 +1,3 @@
+pub mod classes
+pub mod steps
+pub mod trees

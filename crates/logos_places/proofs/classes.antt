@@ -1,0 +1,7 @@
+pub mod BuildLemmas
+pub mod CharacterLemmas
+pub mod ClassLemmas
+pub mod RangeLemmas
+pub mod ReaderLemmas
+pub mod TableLemmas
+pub mod TextLemmas

@@ -1,0 +1,149 @@
+use Rattle.std.proofs.Common.{◌≡◌, ◌+◌, ◌-◌, ◌*◌, inr, ⊎_elim, IsTrue, false, true≢false, sym, ap, ◌∙◌, arith, rules}
+use Rattle.logos_places.specs.Core as core
+use Rattle.logos_places.specs.Core.{Core, width, Exits}
+use Rattle.logos_places.specs.Kinds.{test_at}
+use Rattle.logos_places.specs.Node.{core_of}
+use Rattle.logos_places.specs.declared.node.Node.{the_lemmas}
+use Rattle.logos_places.proofs.trees.NodeLemmas.{core-Literal, core-Cat, core-Alt, core-Repeat, width-Literal, width-Cat, width-Alt, pair-Cat, pair-Alt, repeat-Repeat, width-Repeat}
+use Rattle.logos_places.proofs.steps.StepLemmas.{iff_trans, exits_cat, exits_alt}
+use Rattle.logos_places.proofs.steps.SteppedLemmas.{at_least-some}
+use Rattle.logos_places.proofs.steps.JumpLemmas.{exits_nothing, front_step, front_skip, up_to_step, up_to_skip}
+use Rattle.logos_places.proofs.places.exits.+exits.Goals as goal
+
+pub exits-returns-then-not-any_mark : goal.exits-returns-then-not-any_mark
+exits-returns-then-not-any_mark t c =
+    rw c.if-not-entered.true
+    (exits_nothing (core_of c.args.node.now) (test_at c.args.at) _
+    (λ q lt has. true≢false (sym (c.any_mark.ensures.1 (q, omega (arith, lt, c.width.ensures), has)) ∙ c.if-not-any_mark.true)))
+
+pub exits-exits_literal-requires-clause-fits : goal.exits-exits_literal-requires-clause-fits
+exits-exits_literal-requires-clause-fits t c =
+    let fits = rw c.in-Literal.is at c.requires.fits in
+    rw c.deref.ensures.value (omega (arith, fits, width-Literal c.in-Literal.text))
+
+pub exits-exits-requires : goal.exits-exits-requires
+exits-exits-requires t c =
+    let h = rw c.in-Cat.is at c.requires.measured in
+    let p = pair-Cat _ _ c.in-Cat.first c.in-Cat.second h in
+    let fits = rw c.in-Cat.is at c.requires.fits in
+    let w = width-Cat _ _ _ _ h in (
+      search (rules, the_lemmas),
+      (rw c.deref-in-Cat-2.ensures (omega (arith, fits, w, p.whole_is)), (rw c.deref-in-Cat-2.ensures p.second, c.requires.rising)),
+    )
+
+pub exits-exits-other-requires : goal.exits-exits-other-requires
+exits-exits-other-requires t c =
+    let h = rw c.in-Alt.is at c.requires.measured in
+    let p = pair-Alt _ _ c.in-Alt.first c.in-Alt.second h in
+    let fits = rw c.in-Alt.is at c.requires.fits in
+    let w = width-Alt _ _ _ _ h in (
+      search (rules, the_lemmas),
+      (rw c.deref-in-Alt-2.ensures (omega (arith, fits, w, p.whole_is)), (rw c.deref-in-Alt-2.ensures p.second, c.requires.rising)),
+    )
+
+pub exits-exits_repeat-requires : goal.exits-exits_repeat-requires
+exits-exits_repeat-requires t c =
+    let h = rw c.in-Repeat.is at c.requires.measured in
+    let p = repeat-Repeat _ _ _ c.in-Repeat.body h in
+    let fits = rw c.in-Repeat.is at c.requires.fits in
+    let w = width-Repeat _ _ _ _ h in (
+      search (rules, the_lemmas),
+      (omega (arith, fits, w), (p.ordered, (rw c.deref-in-Repeat.ensures p.each_is, (rw c.deref-in-Repeat.ensures p.body_is, c.requires.rising)))),
+    )
+
+pub exits-returns-in-Literal : goal.exits-returns-in-Literal
+exits-returns-in-Literal t c =
+    rw (c.in-Literal.is, core-Literal c.in-Literal.text) (rw c.deref.ensures.value at c.exits_literal.ensures (test_at c.args.at))
+
+pub exits-returns-in-Cat : goal.exits-returns-in-Cat
+exits-returns-in-Cat t c =
+    let p = pair-Cat _ _ c.in-Cat.first c.in-Cat.second (rw c.in-Cat.is at c.requires.measured) in
+    rw (ap core_of c.in-Cat.is ∙ core-Cat _ _ _ _)
+    (exits_cat (test_at c.args.at) c.args.marks.now (core_of c.in-Cat.first.value) (core_of c.in-Cat.second.value)
+    c.args.base c.in-Cat.split (IsTrue c.args.entered) c.exits-left.result c.exits.result p.split_is
+    (rw c.deref-in-Cat.ensures at c.exits-left.ensures)
+    (rw c.deref-in-Cat-2.ensures at c.exits.ensures))
+
+pub exits-returns-in-Alt : goal.exits-returns-in-Alt
+exits-returns-in-Alt t c =
+    let p = pair-Alt _ _ c.in-Alt.first c.in-Alt.second (rw c.in-Alt.is at c.requires.measured) in
+    rw (ap core_of c.in-Alt.is ∙ core-Alt _ _ _ _)
+    (exits_alt (test_at c.args.at) c.args.marks.now (core_of c.in-Alt.first.value) (core_of c.in-Alt.second.value)
+    c.args.base c.in-Alt.split (IsTrue c.args.entered) c.exits-one.result c.exits-other.result p.split_is
+    (rw c.deref-in-Alt.ensures at c.exits-one.ensures)
+    (rw c.deref-in-Alt-2.ensures at c.exits-other.ensures))
+
+pub exits-returns-in-Repeat : goal.exits-returns-in-Repeat
+exits-returns-in-Repeat t c =
+    rw (ap core_of c.in-Repeat.is ∙ core-Repeat _ _ _ _) (rw c.deref-in-Repeat.ensures at c.exits_repeat.ensures)
+
+pub exits_copies-loop-done-init : goal.exits_copies-loop-done-init
+exits_copies-loop-done-init t c =
+    let a = core_of c.args.body.now in
+    let n = c.next_copy-done.ensures in
+    let all : c.args.count - 0 ≡ c.args.count = omega arith in
+    let start : c.args.base + c.args.each * 0 ≡ c.args.base = omega arith in
+    record {
+      within = n.bound;
+      same = λ b. rw (all, start) at
+          (front_skip (test_at c.args.at) c.args.marks.now a c.args.each c.args.base c.requires.each b 0 c.next_copy-done.result c.args.count c.args.entered
+          n.after n.bound n.stays n.unmarked);
+    }
+
+pub exits_copies-loop-done-preserved : goal.exits_copies-loop-done-preserved
+exits_copies-loop-done-preserved t c =
+    let a = core_of c.args.body.now in
+    let n = c.next_copy-done-in-loop-done.ensures in
+    let test = test_at c.args.at in
+    record {
+      within = n.bound;
+      same = λ b. iff_trans
+          (front_skip test c.args.marks.now a c.args.each c.args.base c.requires.each b (c.loop-done.done + 1) c.next_copy-done-in-loop-done.result c.args.count
+          c.exits-left.result n.after n.bound n.stays n.unmarked)
+          (iff_trans
+          (front_step test c.args.marks.now a c.args.each c.args.base c.requires.each b c.loop-done.done c.args.count c.loop-done.left c.exits-left.result
+          c.loop-done-test.true c.exits-left.ensures)
+          (c.loop-done.invariant.same b));
+    }
+
+pub exits_copies-returns : goal.exits_copies-returns
+exits_copies-returns t c =
+    let none : c.args.count - c.loop-done.done ≡ 0 = omega arith in
+    let all : c.loop-done.done ≡ c.args.count = omega arith in
+    λ b. rw all at (rw none at c.loop-done.invariant.same b)
+
+pub exits_repeat-returns-else-least-eq0 : goal.exits_repeat-returns-else-least-eq0
+exits_repeat-returns-else-least-eq0 t c =
+    let a = core_of c.args.body.now in
+    rw (c.in-None.is, at_least-some c.args.least a c.if-least-eq0.false)
+    (iff_trans c.exits.ensures (c.exits_copies-front-else-least-eq0.ensures (core.plus a)))
+
+pub exits_up_to-loop-done-init : goal.exits_up_to-loop-done-init
+exits_up_to-loop-done-init t c =
+    let a = core_of c.args.body.now in
+    let n = c.next_copy-done.ensures in
+    let all : c.args.count - 0 ≡ c.args.count = omega arith in
+    let start : c.args.base + c.args.each * 0 ≡ c.args.base = omega arith in
+    record {
+      within = n.bound;
+      same = iff_trans (rw (all, start) at
+          (up_to_skip (test_at c.args.at) c.args.marks.now a c.args.each c.args.base c.requires.each 0 c.next_copy-done.result c.args.count false c.args.entered
+          n.after n.bound n.stays n.unmarked))
+          (λ h. ⊎_elim (λ e. absurd (true≢false (sym e))) (λ u. u) h, inr);
+    }
+
+pub exits_up_to-loop-done-preserved : goal.exits_up_to-loop-done-preserved
+exits_up_to-loop-done-preserved t c =
+    let a = core_of c.args.body.now in
+    let n = c.next_copy-done-in-loop-done.ensures in
+    let test = test_at c.args.at in
+    record {
+      within = n.bound;
+      same = iff_trans
+          (up_to_skip test c.args.marks.now a c.args.each c.args.base c.requires.each (c.loop-done.done + 1) c.next_copy-done-in-loop-done.result c.args.count
+          _ c.exits-left.result n.after n.bound n.stays n.unmarked)
+          (iff_trans
+          (up_to_step test c.args.marks.now a c.args.each c.args.base c.requires.each c.loop-done.done c.args.count c.loop-done.any c.loop-done.left c.exits-left.result
+          c.loop-done-test.true c.exits-left.ensures)
+          c.loop-done.invariant.same);
+    }

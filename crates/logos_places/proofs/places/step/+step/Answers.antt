@@ -1,0 +1,174 @@
+use Rattle.std.proofs.Common.{Bool, ◌≡◌, ℕ, ◌+◌, ◌-◌, ◌*◌, ◌≤◌, false, true≢false, sym, ap, ◌∙◌, arith, rules}
+use Rattle.std.proofs.Math.Nat.{mul-le-mul_left}
+use Rattle.std.proofs.lemmas.Result.{IfOk-weaker}
+use Rattle.logos_pattern.specs.Hir.{pairs}
+use Rattle.logos_pattern.specs.declared.pattern.hir.Look.{Look}
+use Rattle.logos_places.specs.ByteRanges.{is_in}
+use Rattle.logos_places.specs.Core as core
+use Rattle.logos_places.specs.Core.{Core, width}
+use Rattle.logos_places.specs.Kinds.{test_at}
+use Rattle.logos_places.specs.Node.{core_of}
+use Rattle.logos_places.specs.Repeat.{in_front, up_to}
+use Rattle.logos_places.specs.inside.Stepped.{Stepped}
+use Rattle.logos_places.specs.Table.{reader_of}
+use Rattle.logos_places.specs.declared.node.Node.{the_lemmas}
+use Rattle.logos_places.proofs.trees.NodeLemmas.{core-Bytes, core-Characters, core-Cat, core-Alt, width-Literal, pair-Cat, pair-Alt, repeat-Repeat, width-Repeat}
+use Rattle.logos_places.proofs.steps.StepLemmas.{again_iff}
+use Rattle.logos_places.proofs.steps.SteppedLemmas.{stepped_nothing, stepped_cat, stepped_alt, stepped_plus, owes_all, owes_done, at_least-some}
+use Rattle.logos_places.proofs.steps.OweLemmas.{owes_front_step, owes_front_skip, owes_up_to_step, owes_up_to_skip}
+use Rattle.logos_places.proofs.places.step.+step.Goals as goal
+
+pub step-returns-then-not-any_mark : goal.step-returns-then-not-any_mark
+step-returns-then-not-any_mark t c =
+    rw c.if-not-entered.true
+    (stepped_nothing (test_at c.args.at) c.args.byte c.args.marks.now (core_of c.args.node.now) _ c.args.base c.requires.set
+    (λ q lt has. true≢false (sym (c.any_mark.ensures.1 (q, omega (arith, lt, c.width.ensures), has)) ∙ c.if-not-any_mark.true)))
+
+pub step-step_literal-requires-clause-fits : goal.step-step_literal-requires-clause-fits
+step-step_literal-requires-clause-fits t c =
+    let fits = rw c.in-Literal.is at c.requires.fits in
+    rw c.deref.ensures.value (omega (arith, fits, width-Literal c.in-Literal.text))
+
+pub step-step_repeat-requires : goal.step-step_repeat-requires
+step-step_repeat-requires t c =
+    let h = rw c.in-Repeat.is at c.requires.measured in
+    let p = repeat-Repeat _ _ _ c.in-Repeat.body h in
+    let fits = rw c.in-Repeat.is at c.requires.fits in
+    let w = width-Repeat _ _ _ _ h in (
+      search (rules, the_lemmas),
+      (omega (arith, fits, w), (p.ordered, (rw c.deref-in-Repeat.ensures p.each_is, (rw c.deref-in-Repeat.ensures p.body_is, (c.requires.rising, c.requires.set))))),
+    )
+
+pub step-returns-in-Bytes : goal.step-returns-in-Bytes
+step-returns-in-Bytes t c =
+    rw (ap core_of c.in-Bytes.is ∙ core-Bytes _)
+    (IfOk-weaker _ _ _
+    (λ left (s : (k : ℕ → Bool) (test : Look → Bool) → k c.args.byte ≡ c.has_byte.result → Stepped (core.byte_in k) test c.args.byte c.args.marks.now
+    c.args.next.now.items c.step_byte.new.next.items c.args.base c.args.entered left).
+    s (is_in (pairs c.in-Bytes.ranges.items)) (test_at c.args.at) (sym (rw c.deref-in-Bytes.ensures.value at c.has_byte.ensures)))
+    c.step_byte.ensures)
+
+pub step-returns-in-Characters : goal.step-returns-in-Characters
+step-returns-in-Characters t c =
+    rw (ap core_of c.in-Characters.is ∙ core-Characters _)
+    (IfOk-weaker _ _ _
+    (λ left (s : (test : Look → Bool) → Stepped (core.character (reader_of c.in-Characters.table)) test c.args.byte c.args.marks.now
+    c.args.next.now.items c.step_characters.new.next.items c.args.base c.args.entered left). s (test_at c.args.at))
+    c.step_characters.ensures)
+
+pub step-returns-in_ok-left-in-Cat : goal.step-returns-in_ok-left-in-Cat
+step-returns-in_ok-left-in-Cat t c =
+    let p = pair-Cat _ _ c.in-Cat.first c.in-Cat.second (rw c.in-Cat.is at c.requires.measured) in
+    rw (ap core_of c.in-Cat.is ∙ core-Cat _ _ _ _)
+    (IfOk-weaker _ _ _
+    (λ last s. stepped_cat (test_at c.args.at) c.args.byte c.args.marks.now (core_of c.in-Cat.first.value) (core_of c.in-Cat.second.value)
+    _ c.step.new.next.items _ c.args.base c.in-Cat.split c.args.entered c.in_ok-left-in-Cat.left last p.split_is c.requires.set
+    (rw c.deref-in-Cat.ensures at c.in_ok-left-in-Cat.ensures)
+    (rw c.deref-in-Cat-2.ensures at s))
+    c.step-in-Cat.ensures)
+
+pub step-returns-in_ok-other-in-Alt : goal.step-returns-in_ok-other-in-Alt
+step-returns-in_ok-other-in-Alt t c =
+    let p = pair-Alt _ _ c.in-Alt.first c.in-Alt.second (rw c.in-Alt.is at c.requires.measured) in
+    rw (ap core_of c.in-Alt.is ∙ core-Alt _ _ _ _)
+    (stepped_alt (test_at c.args.at) c.args.byte c.args.marks.now (core_of c.in-Alt.first.value) (core_of c.in-Alt.second.value)
+    _ c.step-in-Alt.new.next.items _ c.args.base c.in-Alt.split c.args.entered c.in_ok-one-in-Alt.one c.in_ok-other-in-Alt.other p.split_is
+    (rw c.deref-in-Alt.ensures at c.in_ok-one-in-Alt.ensures)
+    (rw c.deref-in-Alt-2.ensures at c.in_ok-other-in-Alt.ensures))
+
+pub step_copies-step-requires : goal.step_copies-step-requires
+step_copies-step-requires t c =
+    let more : c.loop-done.done + 1 ≤ c.args.count = omega arith in
+    let few = mul-le-mul_left c.args.each more in (
+      search (rules, the_lemmas),
+      (omega (arith, c.requires.fits, c.requires.each, few), (c.requires.measured, (c.requires.rising, (c.loop-done.invariant.owes core.empty).set))),
+    )
+
+pub step_copies-loop-done-init : goal.step_copies-loop-done-init
+step_copies-loop-done-init t c =
+    let a = core_of c.args.body.now in
+    let n = c.next_copy-done.ensures in
+    let start : c.args.base + c.args.each * 0 ≡ c.args.base = omega arith in
+    let all : c.args.count - 0 ≡ c.args.count = omega arith in
+    record {
+      within = n.bound;
+      owes = λ b. owes_front_skip (test_at c.args.at) c.args.byte c.args.marks.now (in_front c.args.count a b) c.args.next.now.items c.args.base c.args.entered
+          a c.args.each c.requires.each b 0 c.next_copy-done.result c.args.count c.args.next.now.items c.args.entered false n.after n.bound n.stays n.unmarked
+          (rw (start, all) (owes_all (test_at c.args.at) c.args.byte c.args.marks.now (in_front c.args.count a b) c.args.next.now.items c.args.base c.args.entered c.requires.set));
+    }
+
+pub step_copies-loop-done-preserved : goal.step_copies-loop-done-preserved
+step_copies-loop-done-preserved t c =
+    let a = core_of c.args.body.now in
+    let n = c.next_copy-done-in-loop-done.ensures in
+    let test = test_at c.args.at in
+    record {
+      within = n.bound;
+      owes = λ b. owes_front_skip test c.args.byte c.args.marks.now (in_front c.args.count a b) c.args.next.now.items c.args.base c.args.entered
+          a c.args.each c.requires.each b (c.loop-done.done + 1) c.next_copy-done-in-loop-done.result c.args.count _ c.in_ok-left.left false n.after n.bound n.stays n.unmarked
+          (owes_front_step test c.args.byte c.args.marks.now (in_front c.args.count a b) c.args.next.now.items c.args.base c.args.entered
+          a c.args.each c.requires.each b c.loop-done.done c.args.count c.loop-done.next.items _ c.loop-done.left c.in_ok-left.left false c.loop-done-test.true
+          (c.loop-done.invariant.owes b) c.in_ok-left.ensures);
+    }
+
+pub step_copies-returns : goal.step_copies-returns
+step_copies-returns t c =
+    let none : c.args.count - c.loop-done.done ≡ 0 = omega arith in
+    let all : c.loop-done.done ≡ c.args.count = omega arith in
+    λ b. rw all at (rw none at c.loop-done.invariant.owes b)
+
+pub step_plus-returns : goal.step_plus-returns
+step_plus-returns t c =
+    let a = core_of c.args.body.now in
+    stepped_plus (test_at c.args.at) c.args.byte c.args.marks.now a _ _ c.args.base c.args.entered _ c.exits-left.result _
+    (again_iff (test_at c.args.at) c.args.marks.now a c.args.base c.args.entered c.exits-left.result c.exits-left.ensures)
+    c.in_ok-step.ensures c.exits-left.ensures
+
+pub step_up_to-loop-done-init : goal.step_up_to-loop-done-init
+step_up_to-loop-done-init t c =
+    let a = core_of c.args.body.now in
+    let n = c.next_copy-done.ensures in
+    let start : c.args.base + c.args.each * 0 ≡ c.args.base = omega arith in
+    let all : c.args.count - 0 ≡ c.args.count = omega arith in
+    record {
+      within = n.bound;
+      owes = owes_up_to_skip (test_at c.args.at) c.args.byte c.args.marks.now (up_to c.args.count a) c.args.next.now.items c.args.base c.args.entered
+          a c.args.each c.requires.each 0 c.next_copy-done.result c.args.count c.args.next.now.items c.args.entered false n.after n.bound n.stays n.unmarked
+          (rw (start, all) (owes_all (test_at c.args.at) c.args.byte c.args.marks.now (up_to c.args.count a) c.args.next.now.items c.args.base c.args.entered c.requires.set));
+    }
+
+pub step_up_to-loop-done-preserved : goal.step_up_to-loop-done-preserved
+step_up_to-loop-done-preserved t c =
+    let a = core_of c.args.body.now in
+    let n = c.next_copy-done-in-loop-done.ensures in
+    let test = test_at c.args.at in
+    record {
+      within = n.bound;
+      owes = owes_up_to_skip test c.args.byte c.args.marks.now (up_to c.args.count a) c.args.next.now.items c.args.base c.args.entered
+          a c.args.each c.requires.each (c.loop-done.done + 1) c.next_copy-done-in-loop-done.result c.args.count _ c.in_ok-left.left _ n.after n.bound n.stays n.unmarked
+          (owes_up_to_step test c.args.byte c.args.marks.now (up_to c.args.count a) c.args.next.now.items c.args.base c.args.entered
+          a c.args.each c.requires.each c.loop-done.done c.args.count c.loop-done.next.items _ c.loop-done.left c.in_ok-left.left c.loop-done.any c.loop-done-test.true
+          c.loop-done.invariant.owes c.in_ok-left.ensures);
+    }
+
+pub step_repeat-returns-in_ok-front-in-Some : goal.step_repeat-returns-in_ok-front-in-Some
+step_repeat-returns-in_ok-front-in-Some t c =
+    let a = core_of c.args.body.now in
+    rw c.in-Some.is
+    (IfOk-weaker _ _ _
+    (λ last s. owes_done (test_at c.args.at) c.args.byte c.args.marks.now
+    (in_front c.args.least a (up_to (c.in-Some.most - c.args.least) a)) c.args.next.now.items c.args.base c.args.entered
+    (up_to (c.in-Some.most - c.args.least) a) c.step_copies.new.next.items _ _ c.in_ok-front-in-Some.front last false
+    (c.in_ok-front-in-Some.ensures (up_to (c.in-Some.most - c.args.least) a)) s)
+    c.step_up_to.ensures)
+
+pub step_repeat-returns-in_ok-front-in-None : goal.step_repeat-returns-in_ok-front-in-None
+step_repeat-returns-in_ok-front-in-None t c =
+    let a = core_of c.args.body.now in
+    rw (c.in-None.is, at_least-some c.args.least a c.if-least-eq0.false)
+    (IfOk-weaker _ _ _
+    (λ last s. owes_done (test_at c.args.at) c.args.byte c.args.marks.now
+    (in_front (c.args.least - 1) a (core.plus a)) c.args.next.now.items c.args.base c.args.entered
+    (core.plus a) c.step_copies-else-least-eq0.new.next.items _ _ c.in_ok-front-in-None.front last false
+    (c.in_ok-front-in-None.ensures (core.plus a)) s)
+    c.step_plus-else-least-eq0.ensures)

@@ -1,0 +1,27 @@
+use Rattle.std.proofs.Common.{◌+◌, ◌-◌, ◌*◌, ◌≤◌, false}
+use Rattle.logos_places.specs.Core.{Core}
+use Rattle.logos_places.specs.Kinds.{test_at}
+use Rattle.logos_places.specs.Node.{core_of}
+use Rattle.logos_places.specs.Repeat.{in_front, up_to}
+use Rattle.logos_places.specs.inside.Stepped.{Owes}
+use Rattle.logos_places.proofs.places.step.+step.Given as goal
+
+abbrev pub invariant-step_copies-loop-done : goal.invariant-step_copies-loop-done
+invariant-step_copies-loop-done l = record {
+  within : l.done ≤ l.count;
+  owes : (b : Core) → Owes (in_front l.count (core_of l.body) b) (in_front (l.count - l.done) (core_of l.body) b)
+      (test_at l.at) l.byte l.marks l.initial.next.items l.next.items l.base (l.base + l.each * l.done) l.entered l.left false;
+}
+
+abbrev pub invariant-step_up_to-loop-done : goal.invariant-step_up_to-loop-done
+invariant-step_up_to-loop-done l = record {
+  within : l.done ≤ l.count;
+  owes : Owes (up_to l.count (core_of l.body)) (up_to (l.count - l.done) (core_of l.body))
+      (test_at l.at) l.byte l.marks l.initial.next.items l.next.items l.base (l.base + l.each * l.done) l.entered l.left l.any;
+}
+
+abbrev pub decreases-step_copies-loop-done : goal.decreases-step_copies-loop-done
+decreases-step_copies-loop-done l = l.count - l.done
+
+abbrev pub decreases-step_up_to-loop-done : goal.decreases-step_up_to-loop-done
+decreases-step_up_to-loop-done l = l.count - l.done

@@ -1,0 +1,14 @@
+use Rattle.std.proofs.Common.{◌+◌, ◌-◌, ◌≤◌, Bool, false, length, drop}
+use Rattle.logos_places.specs.Repeat.{spelled}
+use Rattle.logos_places.specs.inside.Stepped.{Owes}
+use Rattle.logos_pattern.specs.declared.pattern.hir.Look.{Look}
+use Rattle.logos_places.proofs.places.step.step_literal.Given as goal
+
+abbrev pub invariant-loop-done : goal.invariant-loop-done
+invariant-loop-done l = record {
+  within : l.done ≤ length l.text;
+  owes : (test : Look → Bool) → Owes (spelled l.text) (spelled (drop l.done l.text)) test l.byte l.marks l.fn.next.items l.next.items l.base (l.base + l.done) l.entered l.left false;
+}
+
+abbrev pub decreases-loop-done : goal.decreases-loop-done
+decreases-loop-done l = length l.text - l.done

@@ -1,0 +1,9 @@
+pub mod CharStepLemmas
+pub mod JumpLemmas
+pub mod LookLemmas
+pub mod MarkLemmas
+pub mod OweLemmas
+pub mod PlaceLemmas
+pub mod SeveralLemmas
+pub mod StepLemmas
+pub mod SteppedLemmas

@@ -1,0 +1,10 @@
+pub mod CopyLemmas
+pub mod IsCoreLemmas
+pub mod NodeLemmas
+pub mod PartLemmas
+pub mod PrepareLemmas
+pub mod ReadLemmas
+pub mod RepeatLemmas
+pub mod RepetitionLemmas
+pub mod TreesLemmas
+pub mod WidthLemmas

@@ -1,0 +1,262 @@
+// The table of a reader that reads a character of a class.
+ghost use Rattle.std.specs.Prelude.{zero, min, ◌≡◌, ℕ, ◌+◌, ◌-◌, ◌*◌, ◌/◌, ◌%◌, ◌^◌, ◌<◌, ◌≤◌, ◌||◌, OnOk, IfOk, IfSome, Bool, None, slice_index_or, length, vec_len};
+ghost use Rattle.logos_places.specs.Characters.{size, lead, after_byte};
+ghost use Rattle.logos_places.specs.Ranges.{in_ranges, AreParts, from_floor};
+ghost use Rattle.logos_places.specs.Table as table;
+ghost use Rattle.logos_places.specs.Reader.{is_char_in, IsReaderOf};
+ghost use Rattle.logos_pattern.specs.Hir.{pairs};
+
+use crate::characters::ranges::{CharRange, clip, scalars};
+use crate::characters::reader::Table;
+use indexmap::IndexSet;
+use logos_pattern::pattern::Range;
+use std::alloc::{AllocError, Global};
+
+/// What is left of a character that is begun: so many bytes, and the offsets in the block that they pick from.
+#[derive(PartialEq, Eq, Hash, Drop)]
+pub struct Rest {
+    pub left: u8,
+    pub offsets: Vec<CharRange>,
+}
+
+/// The number of a row, which is added if it is new.
+fn number_of(rests: &mut IndexSet<Rest>, rest: Rest) -> Result<usize, AllocError>
+    ensures grows { OnOk result (table.Grows rests.old.keys rests.new.keys) }
+    ensures stored { IfOk result (λ i. table.IsAt rests.new.keys i (table.row_of rest)) }
+    ensures longer { OnOk result (length rests.old.keys ≤ length rests.new.keys) }
+    ensures rests { 0 < rest.left → rest.left ≤ 3 → table.AreRests rests.old.keys → OnOk result (table.AreRests rests.new.keys) }
+    ensures weight { (n : ℕ) → OnOk result (table.weight n rests.new.keys ≤ table.weight n rests.old.keys + (1 + 64 * table.led_to (rest.left - 1))) }
+{
+    let (i, _) = rests.insert_full(rest)?;
+    Ok(i)
+}
+
+/// The row for these offsets, if there are any.
+fn place(
+    rests: &mut IndexSet<Rest>,
+    left: u8,
+    offsets: Vec<CharRange>,
+) -> Result<Option<usize>, AllocError>
+    requires small { left ≤ 3 }
+    requires parts { AreParts (size left) offsets.items }
+    requires rests { table.AreRests rests.old.keys }
+    ensures grows { OnOk result (table.Grows rests.old.keys rests.new.keys) }
+    ensures longer { OnOk result (length rests.old.keys ≤ length rests.new.keys) }
+    ensures rests { OnOk result (table.AreRests rests.new.keys) }
+    ensures finds { IfOk result (table.Finds rests.new.keys left (in_ranges offsets.items)) }
+    ensures weight { (n : ℕ) → OnOk result (table.weight n rests.new.keys ≤ table.weight n rests.old.keys + table.led_to left) }
+{
+    if offsets.is_empty() {
+        return Ok(None);
+    }
+    if left == 0 {
+        return Ok(Some(0));
+    }
+    let i = number_of(rests, Rest { left, offsets })?;
+    Ok(Some(i))
+}
+
+/// The row for the members from `floor` on in a block from `start` on, if there is any.
+fn row_for(
+    alloc: Global,
+    rests: &mut IndexSet<Rest>,
+    left: u8,
+    ranges: &[CharRange],
+    floor: u32,
+    start: u32,
+) -> Result<Option<usize>, AllocError>
+    requires small { left ≤ 3 }
+    requires fits { start + size left < 2 ^ 32 }
+    requires rests { table.AreRests rests.old.keys }
+    ensures grows { OnOk result (table.Grows rests.old.keys rests.new.keys) }
+    ensures longer { OnOk result (length rests.old.keys ≤ length rests.new.keys) }
+    ensures rests { OnOk result (table.AreRests rests.new.keys) }
+    ensures finds { IfOk result (table.Finds rests.new.keys left (from_floor (in_ranges ranges.now) floor start)) }
+    ensures weight { (n : ℕ) → OnOk result (table.weight n rests.new.keys ≤ table.weight n rests.old.keys + table.led_to left) }
+{
+    let offsets = clip(alloc, ranges, floor, start, block_size(left))?;
+    place(rests, left, offsets)
+}
+
+/// The row after a first byte, if there is any.
+fn first_for(
+    alloc: Global,
+    rests: &mut IndexSet<Rest>,
+    ranges: &[CharRange],
+    byte: u8,
+) -> Result<Option<usize>, AllocError>
+    requires rests { table.AreRests rests.old.keys }
+    ensures grows { OnOk result (table.Grows rests.old.keys rests.new.keys) }
+    ensures longer { OnOk result (length rests.old.keys ≤ length rests.new.keys) }
+    ensures rests { OnOk result (table.AreRests rests.new.keys) }
+    ensures finds { IfOk result (table.FindsFirst rests.new.keys (in_ranges ranges.now) (lead byte)) }
+    ensures weight { OnOk result (table.weight 0 rests.new.keys + table.first_weight byte ≤ table.weight 0 rests.old.keys + table.first_weight (byte + 1)) }
+{
+    let value = byte as u32;
+    if value < 0x80 {
+        return row_for(alloc, rests, 0, ranges, 0, value);
+    }
+    if value < 0xC0 {
+        return Ok(None);
+    }
+    if value < 0xE0 {
+        return row_for(alloc, rests, 1, ranges, 0x80, (value - 0xC0) * 64);
+    }
+    if value < 0xF0 {
+        return row_for(alloc, rests, 2, ranges, 0x800, (value - 0xE0) * 4096);
+    }
+    if value < 0xF8 {
+        return row_for(alloc, rests, 3, ranges, 0x1_0000, (value - 0xF0) * 262144);
+    }
+    Ok(None)
+}
+
+/// What is left after one more byte, the one at `part` of the 64.
+fn after(alloc: Global, rest: &Rest, left: u8, part: u32) -> Result<Vec<CharRange>, AllocError>
+    requires small { left < 3 }
+    requires part { part < 64 }
+    ensures parts { IfOk result (λ v. AreParts (size left) v.items) }
+    ensures members { IfOk result (λ v. (o : ℕ) → o < size left → in_ranges v.items o ≡ from_floor (in_ranges rest.now.offsets.items) 0 (part * size left) o) }
+{
+    let size = block_size(left);
+    clip(alloc, &rest.offsets, 0, part * size, size)
+}
+
+/// The row after the byte at `part` of the 64, if there is any.
+fn next_for(
+    alloc: Global,
+    rests: &mut IndexSet<Rest>,
+    row: usize,
+    part: u32,
+) -> Result<Option<usize>, AllocError>
+    requires rests { table.AreRests rests.old.keys }
+    requires part { part < 64 }
+    ensures grows { OnOk result (table.Grows rests.old.keys rests.new.keys) }
+    ensures longer { OnOk result (length rests.old.keys ≤ length rests.new.keys) }
+    ensures rests { OnOk result (table.AreRests rests.new.keys) }
+    ensures finds { (r : table.Row) → table.IsAt rests.old.keys row r → IfOk result (table.FindsNext rests.new.keys r r.left (0x80 + part)) }
+    ensures weight { (r : table.Row) → table.IsAt rests.old.keys row r → (n : ℕ) → OnOk result (table.weight n rests.new.keys ≤ table.weight n rests.old.keys + table.led_to (r.left - 1)) }
+{
+    let rest = match rests.get_index(row) {
+        None => return Ok(None),
+        Some(rest) => rest,
+    };
+    if rest.left == 0 {
+        return Ok(None);
+    }
+    let left = rest.left - 1;
+    let offsets = after(alloc, rest, left, part)?;
+    place(rests, left, offsets)
+}
+
+fn block_size(left: u8) -> u32
+    requires { left ≤ 3 }
+    ensures size { result ≡ size left }
+    ensures some { 0 < result }
+{
+    match left {
+        0 => 1,
+        1 => 64,
+        2 => 4096,
+        _ => 262144,
+    }
+}
+
+/// The rows after all first bytes.
+fn first_cells(
+    alloc: Global,
+    rests: &mut IndexSet<Rest>,
+    ranges: &[CharRange],
+) -> Result<Vec<Option<usize>>, AllocError>
+    requires rests { table.AreRests rests.old.keys }
+    ensures rests { OnOk result (table.AreRests rests.new.keys) }
+    ensures long { IfOk result (λ cells. vec_len cells ≡ 256) }
+    ensures cells { IfOk result (λ cells. (b : ℕ) → b < 256 → table.FindsFirst rests.new.keys (in_ranges ranges.now) (lead b) (slice_index_or cells.items b None)) }
+    ensures weight { OnOk result (table.weight 0 rests.new.keys + table.first_weight 0 ≤ table.weight 0 rests.old.keys + table.first_weight 256) }
+{
+    let mut cells: Vec<Option<usize>> = Vec::new(alloc);
+    for byte in 0..256_u32 {
+        let to = first_for(alloc, rests, ranges, byte as u8)?;
+        cells.push(to)?;
+    }
+    Ok(cells)
+}
+
+/// Adds the rows after one row and each byte that goes on.
+fn follow_row(
+    alloc: Global,
+    rests: &mut IndexSet<Rest>,
+    row: usize,
+    cells: &mut Vec<Option<usize>>,
+) -> Result<(), AllocError>
+    requires rests { table.AreRests rests.old.keys }
+    requires there { row < length rests.old.keys }
+    requires long { vec_len cells.old ≡ 64 * row }
+    requires cells { (j : ℕ) → j < 64 * row → table.IsCell rests.old.keys cells.old.items j }
+    requires fits { 64 * row + 64 < 2 ^ 64 }
+    ensures grows { OnOk result (table.Grows rests.old.keys rests.new.keys) }
+    ensures longer { OnOk result (length rests.old.keys ≤ length rests.new.keys) }
+    ensures rests { OnOk result (table.AreRests rests.new.keys) }
+    ensures long { OnOk result (vec_len cells.new ≡ 64 * (row + 1)) }
+    ensures cells { OnOk result ((j : ℕ) → j < 64 * (row + 1) → table.IsCell rests.new.keys cells.new.items j) }
+    ensures weight { OnOk result (table.weight (row + 1) rests.new.keys + 1 ≤ table.weight row rests.old.keys) }
+{
+    for part in 0..64_u32 {
+        let to = next_for(alloc, rests, row, part)?;
+        cells.push(to)?;
+    }
+    Ok(())
+}
+
+/// The rows after each row and each byte that goes on.
+fn follow_cells(alloc: Global, rests: &mut IndexSet<Rest>) -> Result<Vec<Option<usize>>, AllocError>
+    requires rests { table.AreRests rests.old.keys }
+    requires small { table.weight 0 rests.old.keys ≤ 34_361 }
+    ensures grows { OnOk result (table.Grows rests.old.keys rests.new.keys) }
+    ensures rests { OnOk result (table.AreRests rests.new.keys) }
+    ensures few { OnOk result (length rests.new.keys ≤ 34_361) }
+    ensures long { IfOk result (λ cells. vec_len cells ≡ 64 * length rests.new.keys) }
+    ensures cells { IfOk result (λ cells. (j : ℕ) → j < vec_len cells → table.IsCell rests.new.keys cells.items j) }
+{
+    let mut cells: Vec<Option<usize>> = Vec::new(alloc);
+    let mut row = 0;
+    while row < rests.len() {
+        follow_row(alloc, rests, row, &mut cells)?;
+        row += 1;
+    }
+    Ok(cells)
+}
+
+/// The rows with the end alone.
+fn start(alloc: Global) -> Result<IndexSet<Rest>, AllocError>
+    ensures rests { IfOk result (λ rests. table.AreRests rests.keys) }
+    ensures weight { IfOk result (λ rests. table.weight 0 rests.keys ≡ 1) }
+{
+    let mut rests = IndexSet::new(alloc);
+    let mut offsets = Vec::new(alloc);
+    offsets.push(CharRange { first: 0, last: 0 })?;
+    rests.insert_full(Rest { left: 0, offsets })?;
+    Ok(rests)
+}
+
+/// The table of the characters of the ranges.
+fn build(alloc: Global, ranges: &[CharRange]) -> Result<Table, AllocError>
+    ensures { IfOk result (λ made. IsReaderOf (in_ranges ranges.now) (table.reader_of made)) }
+{
+    let mut rests = start(alloc)?;
+    let first = first_cells(alloc, &mut rests, ranges)?;
+    let follow = follow_cells(alloc, &mut rests)?;
+    Ok(Table {
+        rows: rests.len(),
+        first,
+        follow,
+    })
+}
+
+/// The table of the class of the characters of these ranges.
+pub fn table_of(alloc: Global, ranges: &[Range]) -> Result<Table, AllocError>
+    ensures { IfOk result (λ made. IsReaderOf (is_char_in (pairs ranges.now)) (table.reader_of made)) }
+{
+    let ranges = scalars(alloc, ranges)?;
+    build(alloc, &ranges)
+}

@@ -1,0 +1,7 @@
+//! Steps from marked places to those that read the next byte.
+
+pub mod all;
+pub(crate) mod exits;
+pub mod look;
+pub(crate) mod set;
+pub mod step;

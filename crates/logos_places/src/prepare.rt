@@ -1,0 +1,174 @@
+//! From a pattern's tree to the tree that the automaton steps on.
+ghost use Rattle.std.specs.Prelude.{◌≡◌, ℕ, ◌+◌, ◌^◌, ◌<◌, ◌≤◌, IsTrue, IfOk, Bool, true, length, map, vec_len};
+ghost use Rattle.logos_pattern.specs.Tree.{trees, repetition};
+ghost use Rattle.logos_pattern.specs.Hir.{class_tree, tree_of};
+ghost use Rattle.logos_places.specs.Core as core;
+ghost use Rattle.logos_places.specs.IsCore.{IsCoreOf};
+ghost use Rattle.logos_places.specs.Node.{core_of, is_measured, AreMeasured};
+ghost use Rattle.logos_places.specs.inside.Joined.{pair_up, of_none, IsJoined, AreCoresOf};
+ghost use Rattle.logos_places.specs.Run.{width_of};
+ghost use Rattle.logos_places.specs.Size.{size, sizes};
+
+use crate::characters::build::table_of;
+use crate::node::{Node, width};
+use logos_pattern::pattern::{Class, Hir};
+use std::alloc::{AllocError, Global};
+
+/// The class, made ready.
+fn prepare_class(alloc: Global, class: &Class) -> Result<Node, AllocError>
+    ensures stands { IfOk result (λ node. IsCoreOf (class_tree class.now) (core_of node)) }
+    ensures measured { IfOk result (λ node. IsTrue (is_measured node)) }
+{
+    match class {
+        Class::Bytes(ranges) => Ok(Node::Bytes(Vec::from_slice(alloc, ranges)?)),
+        Class::Characters(ranges) => Ok(Node::Characters(table_of(alloc, ranges)?)),
+    }
+}
+
+/// The one after the other, or one of the two.
+fn pair(alloc: Global, in_order: bool, first: Node, second: Node) -> Result<Node, AllocError>
+    requires first { IsTrue (is_measured first) }
+    requires second { IsTrue (is_measured second) }
+    requires fits { core.width (core_of first) + core.width (core_of second) < 2 ^ 64 }
+    ensures stands { IfOk result (λ node. core_of node ≡ pair_up in_order (core_of first) (core_of second)) }
+    ensures measured { IfOk result (λ node. IsTrue (is_measured node)) }
+{
+    let split = width(&first);
+    let width = split + width(&second);
+    let first = Box::new(alloc, first)?;
+    let second = Box::new(alloc, second)?;
+    if in_order {
+        return Ok(Node::Cat {
+            split,
+            width,
+            first,
+            second,
+        });
+    }
+    Ok(Node::Alt {
+        split,
+        width,
+        first,
+        second,
+    })
+}
+
+/// No node at all.
+fn none_of(in_order: bool) -> Node
+    ensures stands { core_of result ≡ of_none in_order }
+    ensures measured { IsTrue (is_measured result) }
+{
+    if in_order {
+        return Node::Empty;
+    }
+    Node::Void
+}
+
+/// The only node, if there is one.
+fn sole(in_order: bool, mut nodes: Vec<Node>) -> Node
+    requires measured { AreMeasured nodes.items }
+    requires few { vec_len nodes < 2 }
+    ensures stands { IsJoined in_order (map core_of nodes.items) (core_of result) }
+    ensures measured { IsTrue (is_measured result) }
+{
+    let Some(node) = nodes.pop() else {
+        return none_of(in_order);
+    };
+    node
+}
+
+/// All of them in order, or one of them, in pairs of about the same length.
+fn join(alloc: Global, in_order: bool, mut nodes: Vec<Node>) -> Result<Node, AllocError>
+    requires measured { AreMeasured nodes.items }
+    requires fits { width_of (map core_of nodes.items) < 2 ^ 64 }
+    ensures stands { IfOk result (λ node. IsJoined in_order (map core_of nodes.items) (core_of node)) }
+    ensures measured { IfOk result (λ node. IsTrue (is_measured node)) }
+{
+    if nodes.len() < 2 {
+        return Ok(sole(in_order, nodes));
+    }
+    let second = nodes.split_off(nodes.len() / 2)?;
+    let first = join(alloc, in_order, nodes)?;
+    let second = join(alloc, in_order, second)?;
+    pair(alloc, in_order, first, second)
+}
+
+/// The same count.
+fn widen(count: Option<u32>) -> Option<usize>
+    ensures { result ≡ count }
+{
+    match count {
+        None => None,
+        Some(count) => Some(count as usize),
+    }
+}
+
+/// The tree, made ready. It has to be of a size within the limit.
+#[cycle(prepare)]
+pub fn prepare(alloc: Global, hir: &Hir) -> Result<Node, AllocError>
+    requires { size (tree_of hir.now) ≤ 2 ^ 20 }
+    ensures stands { IfOk result (λ node. IsCoreOf (tree_of hir.now) (core_of node)) }
+    ensures measured { IfOk result (λ node. IsTrue (is_measured node)) }
+{
+    match hir {
+        Hir::Empty => Ok(Node::Empty),
+        Hir::Literal(bytes) => Ok(Node::Literal(Vec::from_slice(alloc, bytes)?)),
+        Hir::Class(class) => prepare_class(alloc, class),
+        Hir::Look(look) => Ok(Node::Look(*look)),
+        Hir::Repetition { min, max, sub, .. } => prepare_repetition(alloc, *min, *max, sub),
+        Hir::Capture(sub) => prepare(alloc, sub),
+        Hir::Concat(parts) => {
+            let nodes = prepare_all(alloc, parts)?;
+            join(alloc, true, nodes)
+        }
+        Hir::Alternation(branches) => {
+            let nodes = prepare_all(alloc, branches)?;
+            join(alloc, false, nodes)
+        }
+    }
+}
+
+/// The same for a repetition.
+#[cycle(prepare)]
+fn prepare_repetition(
+    alloc: Global,
+    min: u32,
+    max: Option<u32>,
+    sub: &Hir,
+) -> Result<Node, AllocError>
+    requires { size (repetition min max true (tree_of sub.now)) ≤ 2 ^ 20 }
+    ensures stands { IfOk result (λ node. (greedy : Bool) → IsCoreOf (repetition min max greedy (tree_of sub.now)) (core_of node)) }
+    ensures measured { IfOk result (λ node. IsTrue (is_measured node)) }
+{
+    if let Some(most) = max {
+        if most < min {
+            return Ok(Node::Void);
+        }
+        if most == 0 {
+            return Ok(Node::Empty);
+        }
+    }
+    let body = prepare(alloc, sub)?;
+    let each = width(&body);
+    Ok(Node::Repeat {
+        least: min as usize,
+        most: widen(max),
+        each,
+        body: Box::new(alloc, body)?,
+    })
+}
+
+/// The same for each tree of a list.
+#[cycle(prepare)]
+fn prepare_all(alloc: Global, hirs: &[Hir]) -> Result<Vec<Node>, AllocError>
+    requires { sizes (trees (map tree_of hirs.now)) ≤ 2 ^ 20 }
+    ensures stand { IfOk result (λ nodes. AreCoresOf (trees (map tree_of hirs.now)) (map core_of nodes.items)) }
+    ensures measured { IfOk result (λ nodes. AreMeasured nodes.items) }
+{
+    let mut nodes = Vec::new(alloc);
+    for hir in hirs {
+        let node = prepare(alloc, hir)?;
+        nodes.push(node)?;
+    }
+    Ok(nodes)
+}
