@@ -1,13 +1,13 @@
 -- What a string or byte string literal holds, as a function of its text.
 use Rattle.std.specs.Prelude.{ℕ, zero, suc, ◌+◌, ◌==◌, ◌&&◌, nat_le, Bool, true, false, if◌then◌else◌, List, [], ◌++◌, length, slice_index, Option, Some, None, option_map, string_bytes}
 use Rattle.std.specs.Option.{option_and_then}
-use Rattle.logos_token.specs.LexemeOpenings.{hashes, opening_at}
-use Rattle.logos_token.specs.LexemeEnds.{body_of}
-use Rattle.logos_token.specs.HeldPieces.{piece_at}
-use Rattle.logos_token.specs.declared.token.lexeme.openings.Content.{Content}
-use Rattle.logos_token.specs.declared.token.lexeme.openings.Content.TheVariants.{Text as Characters, Bytes as Octets, C}
-use Rattle.logos_token.specs.declared.token.lexeme.openings.Opening.{Opening}
-use Rattle.logos_token.specs.declared.token.lexeme.openings.Opening.TheVariants.{Quotes, Raw}
+use Rattle.logos_lexeme.specs.LexemeOpenings.{hashes, opening_at}
+use Rattle.logos_lexeme.specs.LexemeEnds.{body_of}
+use Rattle.logos_lexeme.specs.LiteralPieces.{piece_at}
+use Rattle.logos_lexeme.specs.declared.lexeme.openings.Content.{Content}
+use Rattle.logos_lexeme.specs.declared.lexeme.openings.Content.TheVariants.{Text as Characters, Bytes as Octets, C}
+use Rattle.logos_lexeme.specs.declared.lexeme.openings.Opening.{Opening}
+use Rattle.logos_lexeme.specs.declared.lexeme.openings.Opening.TheVariants.{Quotes, Raw}
 use Rattle.logos_token.specs.declared.token.value.LiteralValue.{LiteralValue}
 use Rattle.logos_token.specs.declared.token.value.LiteralValue.TheVariants.{Text, Bytes}
 

@@ -1,4 +1,4 @@
-use Rattle.logos_token.proofs.HeldLaws.{held-value}
+use Rattle.logos_token.proofs.values.HeldLaws.{held-value}
 use Rattle.logos_token.proofs.token.Literal.value.Goals as goal
 
 pub returns-clause-held : goal.returns-clause-held
