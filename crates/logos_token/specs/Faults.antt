@@ -1,6 +1,6 @@
 -- A fault, as a reader sees it.
 use Rattle.std.specs.Prelude.{ℕ, List, Option}
-use Rattle.logos_token.specs.declared.token.Span.{Span}
+use Rattle.logos_lexeme.specs.declared.lexeme.Span.{Span}
 use Rattle.logos_token.specs.declared.error.fault_code.FaultCode.{FaultCode}
 
 pub record Fault : Type 0 where

@@ -1,12 +1,12 @@
 -- What string literals hold.
-use Rattle.std.specs.Prelude.{◌≡◌, ◌≢◌, ℕ, ◌-◌, Bool, true, false, List, Option, Some, None, string_bytes}
-use Rattle.logos_token.specs.LexemeOpenings.{opening_at}
-use Rattle.logos_token.specs.LexemeEnds.{Ends, body_of}
-use Rattle.logos_token.specs.LiteralBodies.{Holds}
-use Rattle.logos_token.specs.declared.token.lexeme.openings.Content.{Content}
-use Rattle.logos_token.specs.declared.token.lexeme.openings.Content.TheVariants.{Text as Characters, Bytes as Octets, C}
-use Rattle.logos_token.specs.declared.token.lexeme.openings.Opening.{Opening}
-use Rattle.logos_token.specs.declared.token.lexeme.openings.Opening.TheVariants.{Quotes, Raw}
+use Rattle.std.specs.Prelude.{◌≡◌, ℕ, ◌-◌, true, false, List, Option, Some, None, string_bytes}
+use Rattle.logos_lexeme.specs.LexemeOpenings.{opening_at}
+use Rattle.logos_lexeme.specs.LexemeEnds.{Ends, body_of}
+use Rattle.logos_lexeme.specs.LiteralBodies.{Holds}
+use Rattle.logos_lexeme.specs.declared.lexeme.openings.Content.{Content}
+use Rattle.logos_lexeme.specs.declared.lexeme.openings.Content.TheVariants.{Text as Characters, Bytes as Octets}
+use Rattle.logos_lexeme.specs.declared.lexeme.openings.Opening.{Opening}
+use Rattle.logos_lexeme.specs.declared.lexeme.openings.Opening.TheVariants.{Quotes, Raw}
 use Rattle.logos_token.specs.declared.token.value.LiteralValue.{LiteralValue}
 use Rattle.logos_token.specs.declared.token.value.LiteralValue.TheVariants.{Text, Bytes}
 
@@ -21,12 +21,6 @@ pub record BeginsWithString (text : List ℕ) (content : Content) (held : List �
   pub end : ℕ
   pub ends : Ends text 0 (opening_at text 0) end
   pub holds : HoldsIn text (opening_at text 0) end content held
-
--- the value of a string whose pieces fill this span, if it has one; a C string has none here
-abbrev pub IsHeld : Bool → Content → List ℕ → ℕ → ℕ → Option LiteralValue → Type 0
-IsHeld escapes content bytes from to None = content ≢ C → (held : List ℕ) → Holds escapes content bytes from to held → ⊥
-IsHeld escapes content bytes from to (Some (Text value)) = (content ≡ Characters) × Holds escapes Characters bytes from to (string_bytes value)
-IsHeld escapes content bytes from to (Some (Bytes value)) = (content ≡ Octets) × Holds escapes Octets bytes from to value.items
 
 -- the text of a string or the bytes of a byte string, with which a text begins, if it does
 abbrev pub IsValue : List ℕ → Option LiteralValue → Type 0

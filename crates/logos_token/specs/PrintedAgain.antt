@@ -1,8 +1,8 @@
 -- Tokens without the places where they stand, and the runs whose printed text spells them again.
 use Rattle.std.specs.Prelude.{◌≡◌, ℕ, List}
-use Rattle.logos_token.specs.declared.token.Span.{Span}
-use Rattle.logos_token.specs.declared.token.Spacing.TheVariants.{Joint}
-use Rattle.logos_token.specs.declared.token.Delimiter.{Delimiter}
+use Rattle.logos_lexeme.specs.declared.lexeme.Span.{Span}
+use Rattle.logos_lexeme.specs.declared.lexeme.Spacing.TheVariants.{Joint}
+use Rattle.logos_lexeme.specs.declared.lexeme.Delimiter.{Delimiter}
 use Rattle.logos_token.specs.Tokens.{Token, identifier, punctuation, literal, doc, group, TokenList, none, also, append}
 use Rattle.logos_token.specs.Spelling.{Spells}
 

@@ -1,10 +1,10 @@
 -- The printed text of tokens: their lexemes with one space in between, none behind joint punctuation, and a line's end behind a line comment.
 use Rattle.std.specs.Prelude.{ℕ, Bool, false, ◌==◌, List, [], ◌∷◌, ◌++◌, codes, fold, if◌then◌else◌}
 use Rattle.std.specs.Char.{encode_utf8}
-use Rattle.logos_token.specs.declared.token.Spacing.{Spacing}
-use Rattle.logos_token.specs.declared.token.Spacing.TheVariants.{Alone, Joint}
-use Rattle.logos_token.specs.declared.token.Delimiter.{Delimiter}
-use Rattle.logos_token.specs.declared.token.Delimiter.TheVariants.{Parenthesis, Bracket, Brace}
+use Rattle.logos_lexeme.specs.declared.lexeme.Spacing.{Spacing}
+use Rattle.logos_lexeme.specs.declared.lexeme.Spacing.TheVariants.{Alone, Joint}
+use Rattle.logos_lexeme.specs.declared.lexeme.Delimiter.{Delimiter}
+use Rattle.logos_lexeme.specs.declared.lexeme.Delimiter.TheVariants.{Parenthesis, Bracket, Brace}
 use Rattle.logos_token.specs.Tokens.{Token, identifier, punctuation, literal, doc, group, TokenList, none, also}
 
 -- the text of a lexeme, and what parts it from the next one

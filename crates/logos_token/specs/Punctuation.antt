@@ -1,6 +1,6 @@
 -- Single punctuation characters.
 use Rattle.std.specs.Prelude.{ℕ, Bool, false, ◌==◌, Option, Some, None, if◌then◌else◌}
-use Rattle.logos_token.specs.declared.token.Spacing.TheVariants.{Alone, Joint}
+use Rattle.logos_lexeme.specs.declared.lexeme.Spacing.TheVariants.{Alone, Joint}
 use Rattle.logos_token.specs.declared.token.views.TokenTree.{TokenTree}
 use Rattle.logos_token.specs.Tokens.{Token, identifier, punctuation, literal, doc, group}
 use Rattle.logos_token.specs.Views.{tree_of}

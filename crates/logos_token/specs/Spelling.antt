@@ -1,14 +1,14 @@
 -- The tokens that a source spells: it is pieces in turn, and these are the lexemes of the tokens.
 use Rattle.std.specs.Prelude.{◌≡◌, ℕ, ◌+◌, ◌-◌, ◌<◌, ◌≤◌, max, Bool, true, false, List, [], ◌∷◌, ◌++◌, length, slice_index, slice_range, Option, Some, None, if◌then◌else◌}
-use Rattle.logos_token.specs.declared.token.Span.{Span}
-use Rattle.logos_token.specs.declared.token.Delimiter.{Delimiter}
-use Rattle.logos_token.specs.declared.token.Delimiter.TheVariants.{Parenthesis, Bracket, Brace}
-use Rattle.logos_token.specs.declared.token.lexeme.Kind.{Kind}
-use Rattle.logos_token.specs.declared.token.lexeme.Kind.TheVariants.{Gap, Identifier, Literal, Doc, Punctuation, Opening, Closing}
-use Rattle.logos_token.specs.declared.token.lexeme.LexicalKind.{LexicalKind}
-use Rattle.logos_token.specs.declared.token.lexeme.LexicalKind.TheVariants.{Unbalanced}
+use Rattle.logos_lexeme.specs.declared.lexeme.Span.{Span}
+use Rattle.logos_lexeme.specs.declared.lexeme.Delimiter.{Delimiter}
+use Rattle.logos_lexeme.specs.declared.lexeme.Delimiter.TheVariants.{Parenthesis, Bracket, Brace}
+use Rattle.logos_lexeme.specs.declared.lexeme.Kind.{Kind}
+use Rattle.logos_lexeme.specs.declared.lexeme.Kind.TheVariants.{Gap, Identifier, Literal, Doc, Punctuation, Opening, Closing}
+use Rattle.logos_lexeme.specs.declared.lexeme.LexicalKind.{LexicalKind}
+use Rattle.logos_lexeme.specs.declared.lexeme.LexicalKind.TheVariants.{Unbalanced}
 use Rattle.logos_token.specs.Tokens.{Token, identifier, punctuation, literal, doc, group, TokenList, none, also, span_of}
-use Rattle.logos_token.specs.Lexemes.{IsNext, IsStuck}
+use Rattle.logos_lexeme.specs.Lexemes.{IsNext, IsStuck}
 
 -- a piece of a source
 pub record Piece : Type 0 where

@@ -1,8 +1,8 @@
 -- Token trees: tokens, and groups with the tokens inside them.
 use Rattle.std.specs.Prelude.{◌≡◌, ℕ, ◌+◌, max, List, Option, Some, None}
-use Rattle.logos_token.specs.declared.token.Span.{Span}
-use Rattle.logos_token.specs.declared.token.Spacing.{Spacing}
-use Rattle.logos_token.specs.declared.token.Delimiter.{Delimiter}
+use Rattle.logos_lexeme.specs.declared.lexeme.Span.{Span}
+use Rattle.logos_lexeme.specs.declared.lexeme.Spacing.{Spacing}
+use Rattle.logos_lexeme.specs.declared.lexeme.Delimiter.{Delimiter}
 
 mutual
   -- a token with its span; texts are bytes of the source

@@ -2,7 +2,6 @@
 
 mod entry;
 mod laws;
-pub mod lexeme;
 mod literal_text;
 mod printing;
 mod reader;
@@ -12,33 +11,12 @@ mod value;
 mod views;
 
 pub use laws::{prints_back, prints_runs_back};
-pub use lexeme::LexicalKind;
+pub use logos_lexeme::lexeme;
+pub use logos_lexeme::lexeme::{Delimiter, LexicalKind, Spacing, Span};
 pub use printing::print;
 pub use reader::{TokenError, spelled_in_order, spells_once, tokenize};
 pub use value::LiteralValue;
 pub use views::{Group, TokenIter, TokenStream, TokenTree, Tokens};
-
-/// The bytes of the source from `from` up to `to`, which it leaves out.
-#[derive(Clone, Copy, Debug, PartialEq, Eq)]
-pub struct Span {
-    pub from: usize,
-    pub to: usize,
-}
-
-/// Whether another punctuation follows directly.
-#[derive(Clone, Copy, Debug, PartialEq, Eq)]
-pub enum Spacing {
-    Alone,
-    Joint,
-}
-
-/// What encloses a group.
-#[derive(Clone, Copy, Debug, PartialEq, Eq)]
-pub enum Delimiter {
-    Parenthesis,
-    Bracket,
-    Brace,
-}
 
 /// An identifier.
 #[derive(Clone, Copy, Debug)]

@@ -5,7 +5,7 @@ ghost use Rattle.logos_token.specs.Spelling.{Spells};
 ghost use Rattle.logos_token.specs.Tokens.{TokenList, none};
 ghost use Rattle.logos_token.specs.Views.{tokens_of};
 ghost use Rattle.logos_token.specs.Printing.{opening_text, closing_text, gap_behind, is_line_comment, printed};
-ghost use Rattle.logos_token.specs.PrintingSteps.{printed_of, whole, left_of};
+ghost use Rattle.logos_token.specs.inside.PrintingSteps.{printed_of, whole, left_of};
 
 use crate::error::Memory;
 use crate::token::{Delimiter, Group, Spacing, TokenTree, Tokens};
@@ -71,7 +71,7 @@ impl Printer {
     ghost use Rattle.logos_token.specs.Tokens.{group};
     ghost use Rattle.logos_token.specs.Views.{tree_of, inside_of};
     ghost use Rattle.logos_token.specs.Printing.{print_part, spaced, opening_text, token_parts};
-    ghost use Rattle.logos_token.specs.PrintingSteps.{printed_of};
+    ghost use Rattle.logos_token.specs.inside.PrintingSteps.{printed_of};
 
     /// Adds a lexeme.
     fn add(&mut self, text: &str, gap: &'static str) -> Result<(), Memory>

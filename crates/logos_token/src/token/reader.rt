@@ -1,18 +1,18 @@
 //! Reading a source into tokens.
 ghost use Rattle.std.specs.Prelude.{◌≡◌, ℕ, ◌<◌, ◌≤◌, ◌↔◌, List, [], ◌∷◌, ◌++◌, map, length, IfOk, IfErr, OnOk, MatchResult, IsTrue};
 ghost use Rattle.std.specs.Str.{IsCharBoundary};
-ghost use Rattle.logos_token.specs.Lexemes.{IsNext};
+ghost use Rattle.logos_lexeme.specs.Lexemes.{IsNext};
 ghost use Rattle.logos_token.specs.Tokens.{TokenList, depth_of};
 ghost use Rattle.logos_token.specs.Flat.{value_of};
 ghost use Rattle.logos_token.specs.Views.{stream_tokens};
 ghost use Rattle.logos_token.specs.Spelling.{Spells, RunStands};
-ghost use Rattle.logos_token.specs.Reading.{IsRead};
+ghost use Rattle.logos_token.specs.inside.Reading.{IsRead};
 ghost use Rattle.logos_token.specs.Refusals.{IsRefusal, SpellsNothing, IsErrOf};
 
 use crate::token::entry::Entry;
-use crate::token::lexeme::{Kind, LexicalKind, lexeme_at};
 use crate::token::views::TokenStream;
 use crate::token::{Delimiter, Doc, Ident, Literal, Punct, Span};
+use logos_lexeme::lexeme::{Kind, LexicalKind, lexeme_at};
 use std::alloc::{AllocError, AllocFailed, Global};
 
 /// The most bytes that a source may have.

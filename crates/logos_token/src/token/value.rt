@@ -1,20 +1,23 @@
 //! What string literals hold.
 
-ghost use Rattle.std.specs.Prelude.{◌≡◌, ℕ, ◌+◌, ◌<◌, ◌≤◌, ◌++◌, ◌⊎◌, ◌==◌, ◌&&◌, ◌||◌, List, length, slice_index, slice_range, string_bytes, IfOk, OnOk, MatchOption};
+ghost use Rattle.std.specs.Prelude.{◌≡◌, ℕ, ◌+◌, ◌<◌, ◌≤◌, ◌++◌, ◌⊎◌, ◌==◌, ◌&&◌, ◌||◌, List, length, slice_index, slice_range, string_bytes, option_map, IfOk, OnOk, MatchOption};
 ghost use Rattle.std.specs.Str.{IsCharBoundary};
-ghost use Rattle.logos_token.specs.LiteralBodies.{Holds};
-ghost use Rattle.logos_token.specs.LiteralReads.{bytes_of, IsRest, IsAdded, IsAscii};
-ghost use Rattle.logos_token.specs.LiteralValues.{IsHeld, IsValue};
+ghost use Rattle.logos_lexeme.specs.LiteralBodies.{Holds};
+ghost use Rattle.logos_lexeme.specs.LiteralBodies.{bytes_of};
+ghost use Rattle.logos_token.specs.inside.ValueReads.{IsRest, IsAdded, IsAscii};
+ghost use Rattle.logos_token.specs.LiteralValues.{IsValue};
+ghost use Rattle.logos_token.specs.inside.ValueReads.{IsHeld};
+ghost use Rattle.logos_token.specs.Held.{held, held_value};
 
 #[cfg(test)]
 mod tests;
 
 use crate::error::Memory;
 use crate::token::Literal;
-use crate::token::lexeme::bodies::{Piece, piece_at};
-use crate::token::lexeme::characters::byte_at;
-use crate::token::lexeme::ends::{end_of, prefix_of};
-use crate::token::lexeme::openings::{Content, Opening, opening_at};
+use logos_lexeme::lexeme::bodies::{Piece, piece_at};
+use logos_lexeme::lexeme::characters::byte_at;
+use logos_lexeme::lexeme::ends::{end_of, prefix_of};
+use logos_lexeme::lexeme::openings::{Content, Opening, opening_at};
 use std::alloc::{AllocError, Global};
 
 /// What a string literal holds.
@@ -215,7 +218,8 @@ impl Literal<'_> {
     /// read and each CR LF as LF; its suffix is left out. `None` where the literal is no such
     /// string, or breaks its rules. `Memory` where there is none for the value.
     pub fn value(&self, alloc: Global) -> Result<Option<LiteralValue>, Memory>
-        ensures { IfOk result (λ value. IsValue self.now.text.now value) }
+        ensures value { IfOk result (λ value. IsValue self.now.text.now value) }
+        ensures held { IfOk result (λ value. option_map held_value value ≡ held self.now.text.now) }
     {
         Ok(string_value(alloc, self.text)?)
     }

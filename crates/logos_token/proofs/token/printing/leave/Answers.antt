@@ -1,5 +1,5 @@
-use Rattle.logos_token.specs.PrintingSteps.{printed_of}
-use Rattle.logos_token.proofs.PrintingLemmas.{leave-whole, leave-left}
+use Rattle.logos_token.specs.inside.PrintingSteps.{printed_of}
+use Rattle.logos_token.proofs.printing.PrintingLemmas.{leave-whole, leave-left}
 use Rattle.logos_token.proofs.token.printing.leave.Goals as goal
 
 pub returns-clause-ok : goal.returns-clause-ok

@@ -2,7 +2,7 @@ use Rattle.std.proofs.Common.{rules, ◌≡◌, string_bytes, sym, subst}
 use Rattle.logos_token.specs.Views.{tokens_of}
 use Rattle.logos_token.specs.Printing.{printed}
 use Rattle.logos_token.specs.PrintedAgain.{SpellsAgain}
-use Rattle.logos_token.proofs.PrintRuns.{prints_run_again}
+use Rattle.logos_token.proofs.printing.PrintRuns.{prints_run_again}
 use Rattle.logos_token.proofs.token.printing.print.Goals as goal
 
 pub returns-clause-back : goal.returns-clause-back

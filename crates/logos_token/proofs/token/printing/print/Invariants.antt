@@ -1,6 +1,6 @@
 use Rattle.std.proofs.Common.{◌≡◌, []}
 use Rattle.logos_token.specs.Views.{tokens_of}
-use Rattle.logos_token.specs.PrintingSteps.{printed_of, whole, left_of}
+use Rattle.logos_token.specs.inside.PrintingSteps.{printed_of, whole, left_of}
 use Rattle.logos_token.proofs.token.printing.print.Given as goal
 
 abbrev pub invariant-trees : goal.invariant-trees

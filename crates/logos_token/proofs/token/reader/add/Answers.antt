@@ -1,18 +1,18 @@
 use Rattle.std.proofs.Common.{◌≡◌, ℕ, List, [], ◌∷◌, ◌++◌, map, refl, ◌∙◌, ap, slice_index, slice_range, arith}
 use Rattle.std.proofs.lemmas.List.{map_push}
 use Rattle.std.proofs.lemmas.Result.{on_ok_weaker}
-use Rattle.logos_token.specs.declared.token.Span.{Span}
+use Rattle.logos_lexeme.specs.declared.lexeme.Span.{Span}
 use Rattle.logos_token.specs.declared.token.reader.Begun.{Begun}
 use Rattle.logos_token.specs.declared.token.entry.Entry.{Entry}
 use Rattle.logos_token.specs.declared.token.entry.Entry.TheVariants.{Ident, Punct, Literal, Doc}
-use Rattle.logos_token.specs.declared.token.lexeme.Kind.{Kind}
+use Rattle.logos_lexeme.specs.declared.lexeme.Kind.{Kind}
 use Rattle.logos_token.specs.Tokens.{Token, identifier, punctuation, literal, doc}
 use Rattle.logos_token.specs.Flat.{value_of, flat_token}
-use Rattle.logos_token.specs.Lexemes.{IsNext}
+use Rattle.logos_lexeme.specs.Lexemes.{IsNext}
 use Rattle.logos_token.specs.Spelling.{leaf, lexeme_of, token_lexemes}
-use Rattle.logos_token.specs.Reading.{IsRead}
-use Rattle.logos_token.proofs.ReadingLemmas.{read-gap, read-leaf}
-use Rattle.logos_token.proofs.LexemeLaws.{next_advances}
+use Rattle.logos_token.specs.inside.Reading.{IsRead}
+use Rattle.logos_token.proofs.reading.ReadingLemmas.{read-gap, read-leaf}
+use Rattle.logos_lexeme.proofs.LexemeLaws.{next_advances}
 use Rattle.logos_token.proofs.token.reader.add.Goals as goal
 
 -- a piece is not empty, and stands in the source

@@ -1,7 +1,7 @@
 use Rattle.std.proofs.Common.{◌≡◌, ◌<◌, ◌≤◌, length, map, arith, ◌∙◌}
 use Rattle.std.proofs.lemmas.List.{map_push, length-map}
 use Rattle.logos_token.specs.Flat.{value_of}
-use Rattle.logos_token.proofs.ReadingLemmas.{read-opening, read-too_deep}
+use Rattle.logos_token.proofs.reading.ReadingLemmas.{read-opening, read-too_deep}
 use Rattle.logos_token.proofs.token.reader.begin_group.Goals as goal
 
 pub returns-then-len-ge-MAX_NESTING-clause-err : goal.returns-then-len-ge-MAX_NESTING-clause-err

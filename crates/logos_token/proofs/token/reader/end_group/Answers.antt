@@ -1,8 +1,8 @@
 use Rattle.std.proofs.Common.{◌≡◌, ◌+◌, ◌≤◌, [], length, map, arith, ◌∙◌}
 use Rattle.std.proofs.lemmas.List.{nil_from_length, length-map, map-set}
 use Rattle.logos_token.specs.Flat.{value_of}
-use Rattle.logos_token.proofs.ReadingLemmas.{read-unmatched}
-use Rattle.logos_token.proofs.ClosingLemmas.{read-apart, read-closing, top-within}
+use Rattle.logos_token.proofs.reading.ReadingLemmas.{read-unmatched}
+use Rattle.logos_token.proofs.reading.ClosingLemmas.{read-apart, read-closing, top-within}
 use Rattle.logos_token.proofs.token.reader.end_group.Goals as goal
 use Rattle.logos_token.proofs.token.reader.end_group.Goals.{In-Some, In_default}
 

@@ -1,8 +1,8 @@
 use Rattle.std.proofs.Common.{◌≡◌, ◌∙◌, [], arith}
 use Rattle.std.proofs.lemmas.List.{nil_from_length}
-use Rattle.logos_token.proofs.RunLemmas.{IsFlat-from_flat, tokens_in-from_flat}
-use Rattle.logos_token.proofs.ReadingLemmas.{read-whole}
-use Rattle.logos_token.proofs.ClosingLemmas.{read-unclosed}
+use Rattle.logos_token.proofs.reading.RunLemmas.{IsFlat-from_flat, tokens_in-from_flat}
+use Rattle.logos_token.proofs.reading.ReadingLemmas.{read-whole}
+use Rattle.logos_token.proofs.reading.ClosingLemmas.{read-unclosed}
 use Rattle.logos_token.proofs.token.reader.finish.Goals as goal
 use Rattle.logos_token.proofs.token.reader.finish.Goals.{In-None}
 

@@ -1,4 +1,4 @@
-use Rattle.logos_token.proofs.SpellingLaws.{spells-one}
+use Rattle.logos_token.proofs.reading.SpellingLaws.{spells-one}
 use Rattle.logos_token.proofs.token.reader.spells_once.Goals as goal
 
 pub returns : goal.returns

@@ -3,12 +3,12 @@ use Rattle.std.proofs.lemmas.Str.{IsCharBoundary-start}
 use Rattle.std.proofs.lemmas.Result.{err_from_is_err_and, IfOk-weaker}
 use Rattle.logos_token.specs.Flat.{value_of}
 use Rattle.logos_token.specs.Views.{stream_tokens}
-use Rattle.logos_token.specs.Reading.{IsRead}
+use Rattle.logos_token.specs.inside.Reading.{IsRead}
 use Rattle.logos_token.specs.Spelling.{Spells, IsUnreadable, broken}
-use Rattle.logos_token.proofs.PieceLemmas.{piece-advances, piece-boundary}
-use Rattle.logos_token.proofs.ReadingLemmas.{marks, read-start, read-front}
-use Rattle.logos_token.proofs.SpellingLaws.{unreadable-excludes}
-use Rattle.logos_token.proofs.RefusalLemmas.{refused-nothing, refused-memory, result-nothing, result-complete}
+use Rattle.logos_token.proofs.reading.PieceLemmas.{piece-advances, piece-boundary}
+use Rattle.logos_token.proofs.reading.ReadingLemmas.{marks, read-start, read-front}
+use Rattle.logos_token.proofs.reading.SpellingLaws.{unreadable-excludes}
+use Rattle.logos_token.proofs.reading.RefusalLemmas.{refused-nothing, refused-memory, result-nothing, result-complete}
 use Rattle.logos_token.proofs.token.reader.tokenize.Goals as goal
 use Rattle.logos_token.proofs.token.reader.tokenize.Goals.{In-Err, After-finish}
 

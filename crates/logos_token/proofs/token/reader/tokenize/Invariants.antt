@@ -1,7 +1,7 @@
 use Rattle.std.proofs.Common.{◌-◌, ◌≤◌, length, map}
 use Rattle.std.specs.Str.{IsCharBoundary}
 use Rattle.logos_token.specs.Flat.{value_of}
-use Rattle.logos_token.specs.Reading.{IsRead}
+use Rattle.logos_token.specs.inside.Reading.{IsRead}
 use Rattle.logos_token.proofs.token.reader.tokenize.Given as goal
 
 abbrev pub invariant-loop-from : goal.invariant-loop-from

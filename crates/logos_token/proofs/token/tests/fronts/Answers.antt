@@ -1,4 +1,4 @@
-use Rattle.logos_token.proofs.CountLemmas.{IsRestOf-self, IsRestOf-rest}
+use Rattle.logos_token.proofs.reading.CountLemmas.{IsRestOf-self, IsRestOf-rest}
 use Rattle.logos_token.proofs.token.tests.fronts.Goals as goal
 
 pub before-requires : goal.before-requires

@@ -1,8 +1,8 @@
 use Rattle.std.proofs.Common.{◌≡◌, ◌⊎◌, get_or, arith}
-use Rattle.logos_token.specs.LiteralReads.{bytes_of}
-use Rattle.logos_token.specs.declared.token.lexeme.openings.Content.TheVariants.{Text}
-use Rattle.logos_token.proofs.ValueLaws.{rest-stuck, rest-piece, ascii_piece, says-boundary, special_ascii}
-use Rattle.logos_token.proofs.BodyLaws.{Says-moves}
+use Rattle.logos_lexeme.specs.LiteralBodies.{bytes_of}
+use Rattle.logos_lexeme.specs.declared.lexeme.openings.Content.TheVariants.{Text}
+use Rattle.logos_token.proofs.values.ValueLaws.{rest-stuck, rest-piece, ascii_piece, says-boundary, special_ascii}
+use Rattle.logos_lexeme.proofs.BodyLaws.{Says-moves}
 use Rattle.logos_token.proofs.token.value.add_text.Goals as goal
 use Rattle.logos_token.proofs.token.value.add_text.Goals.{In-Some}
 

@@ -1,7 +1,7 @@
 use Rattle.std.proofs.Common.{◌<◌, arith}
-use Rattle.logos_token.specs.LiteralReads.{bytes_of}
-use Rattle.logos_token.specs.declared.token.lexeme.openings.Content.TheVariants.{Bytes}
-use Rattle.logos_token.proofs.ValueLaws.{rest-piece, rest-join, rest-end, rest-past, rest-refuted, rest-stuck}
+use Rattle.logos_lexeme.specs.LiteralBodies.{bytes_of}
+use Rattle.logos_lexeme.specs.declared.lexeme.openings.Content.TheVariants.{Bytes}
+use Rattle.logos_token.proofs.values.ValueLaws.{rest-piece, rest-join, rest-end, rest-past, rest-refuted, rest-stuck}
 use Rattle.logos_token.proofs.token.value.bytes_between.Goals as goal
 
 pub returns-in_default : goal.returns-in_default

@@ -1,6 +1,6 @@
 use Rattle.std.proofs.Common.{◌-◌}
-use Rattle.logos_token.specs.LiteralReads.{IsRest}
-use Rattle.logos_token.specs.declared.token.lexeme.openings.Content.TheVariants.{Bytes}
+use Rattle.logos_token.specs.inside.ValueReads.{IsRest}
+use Rattle.logos_lexeme.specs.declared.lexeme.openings.Content.TheVariants.{Bytes}
 use Rattle.logos_token.proofs.token.value.bytes_between.Given as goal
 
 abbrev pub invariant-loop-at : goal.invariant-loop-at

@@ -1,6 +1,6 @@
 use Rattle.std.proofs.Common.{◌≡◌, ◌≢◌, ◌==◌, ◌&&◌, ◌||◌, Bool, ℕ, inl, inr, false, true, get_or, sym, ◌∙◌, arith}
 use Rattle.std.proofs.lemmas.Bool.{or_parts, and_cases, eq-eqb, false≢true}
-use Rattle.logos_token.proofs.ValueLaws.{rest-plain, rest-start}
+use Rattle.logos_token.proofs.values.ValueLaws.{rest-plain, rest-start}
 use Rattle.logos_token.proofs.token.value.plain_end.Goals as goal
 
 module _ (escapes : Bool) (byte : ℕ) (ordinary : false ≡ ((byte == 13) || (escapes && (byte == 92)))) where

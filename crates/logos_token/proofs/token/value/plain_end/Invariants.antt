@@ -1,6 +1,6 @@
 use Rattle.std.proofs.Common.{◌-◌, ◌≤◌, slice_range}
-use Rattle.logos_token.specs.LiteralReads.{IsRest}
-use Rattle.logos_token.specs.declared.token.lexeme.openings.Content.TheVariants.{Text}
+use Rattle.logos_token.specs.inside.ValueReads.{IsRest}
+use Rattle.logos_lexeme.specs.declared.lexeme.openings.Content.TheVariants.{Text}
 use Rattle.logos_token.proofs.token.value.plain_end.Given as goal
 
 abbrev pub invariant-loop-end : goal.invariant-loop-end

@@ -1,13 +1,14 @@
 use Rattle.std.proofs.Common.{◌≡◌, ◌+◌, ◌-◌, true, false, sym, ◌∙◌, refl, arith, zero-add}
 use Rattle.std.proofs.lemmas.Str.{IsCharBoundary-start}
-use Rattle.logos_token.specs.LexemeOpenings.{prefix_of}
-use Rattle.logos_token.specs.declared.token.lexeme.openings.Opening.TheVariants.{Quotes, Raw}
-use Rattle.logos_token.proofs.CharacterLaws.{boundary-behind}
-use Rattle.logos_token.proofs.OpeningLaws.{quote_fits, raw_fits}
+use Rattle.logos_lexeme.specs.LexemeOpenings.{prefix_of}
+use Rattle.logos_lexeme.specs.declared.lexeme.openings.Opening.TheVariants.{Quotes, Raw}
+use Rattle.logos_lexeme.proofs.CharacterLaws.{boundary-behind}
+use Rattle.logos_lexeme.proofs.OpeningLaws.{quote_fits, raw_fits}
 use Rattle.std.proofs.lemmas.Result.{IfOk-weaker}
-use Rattle.logos_token.specs.LexemeEnds.{body_of}
-use Rattle.logos_token.specs.LiteralValues.{IsHeld, IsValue}
-use Rattle.logos_token.proofs.ValueLaws.{IsValue-quotes, IsValue-raw}
+use Rattle.logos_lexeme.specs.LexemeEnds.{body_of}
+use Rattle.logos_token.specs.LiteralValues.{IsValue}
+use Rattle.logos_token.specs.inside.ValueReads.{IsHeld}
+use Rattle.logos_token.proofs.values.ValueLaws.{IsValue-quotes, IsValue-raw}
 use Rattle.logos_token.proofs.token.value.string_value.Goals as goal
 
 pub opening_at-opens-requires-clause-boundary : goal.opening_at-opens-requires-clause-boundary

@@ -1,7 +1,7 @@
 use Rattle.std.proofs.Common.{◌<◌, arith, string_bytes}
-use Rattle.logos_token.specs.LiteralReads.{IsAdded}
-use Rattle.logos_token.specs.declared.token.lexeme.openings.Content.TheVariants.{Text}
-use Rattle.logos_token.proofs.ValueLaws.{rest-join, rest-end, rest-past}
+use Rattle.logos_token.specs.inside.ValueReads.{IsAdded}
+use Rattle.logos_lexeme.specs.declared.lexeme.openings.Content.TheVariants.{Text}
+use Rattle.logos_token.proofs.values.ValueLaws.{rest-join, rest-end, rest-past}
 use Rattle.logos_token.proofs.token.value.text_between.Goals as goal
 
 pub loop-at-preserved : goal.loop-at-preserved

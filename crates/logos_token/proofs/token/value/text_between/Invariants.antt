@@ -1,7 +1,7 @@
 use Rattle.std.proofs.Common.{◌-◌, string_bytes}
 use Rattle.std.specs.Str.{IsCharBoundary}
-use Rattle.logos_token.specs.LiteralReads.{IsRest}
-use Rattle.logos_token.specs.declared.token.lexeme.openings.Content.TheVariants.{Text}
+use Rattle.logos_token.specs.inside.ValueReads.{IsRest}
+use Rattle.logos_lexeme.specs.declared.lexeme.openings.Content.TheVariants.{Text}
 use Rattle.logos_token.proofs.token.value.text_between.Given as goal
 
 abbrev pub invariant-loop-at : goal.invariant-loop-at

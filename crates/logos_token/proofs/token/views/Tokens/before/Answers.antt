@@ -1,4 +1,4 @@
-use Rattle.logos_token.proofs.RunLemmas.{front-entries, front-within, IsFlat-from_flat, tokens_in-from_flat}
+use Rattle.logos_token.proofs.reading.RunLemmas.{front-entries, front-within, IsFlat-from_flat, tokens_in-from_flat}
 use Rattle.logos_token.proofs.token.views.Tokens.before.Goals as goal
 
 pub slice_bounds-result-count : goal.slice_bounds-result-count

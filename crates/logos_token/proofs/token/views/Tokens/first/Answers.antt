@@ -2,7 +2,7 @@ use Rattle.std.proofs.Common.{◌≡◌, sym, ◌∙◌, ap, ◌∷◌, refl}
 use Rattle.logos_token.specs.declared.token.entry.Entry.TheVariants.{Group}
 use Rattle.logos_token.specs.Flat.{tokens_in}
 use Rattle.logos_token.specs.Tokens.{first_of}
-use Rattle.logos_token.proofs.RunLemmas.{OpensGroup, opens-group}
+use Rattle.logos_token.proofs.reading.RunLemmas.{OpensGroup, opens-group}
 use Rattle.logos_token.proofs.token.views.Tokens.first.Goals as goal
 use Rattle.logos_token.proofs.token.views.Tokens.first.Goals.{In-Group}
 

@@ -2,7 +2,7 @@ use Rattle.std.proofs.Common.{sym, ◌∙◌, ap}
 use Rattle.std.proofs.lemmas.List.{take_rest}
 use Rattle.logos_token.specs.Flat.{tokens_in}
 use Rattle.logos_token.specs.Tokens.{rest_of}
-use Rattle.logos_token.proofs.RunLemmas.{BeginsRun, begins-run}
+use Rattle.logos_token.proofs.reading.RunLemmas.{BeginsRun, begins-run}
 use Rattle.logos_token.proofs.token.views.Tokens.rest.Goals as goal
 use Rattle.logos_token.proofs.token.views.Tokens.rest.Goals.{After-size}
 

@@ -1,7 +1,7 @@
 use Rattle.std.proofs.Common.{ap}
 use Rattle.logos_token.specs.Tokens.{span_of}
 use Rattle.logos_token.specs.Views.{tree_of}
-use Rattle.logos_token.proofs.CountLemmas.{end_of-run_end}
+use Rattle.logos_token.proofs.reading.CountLemmas.{end_of-run_end}
 use Rattle.logos_token.proofs.token.views.Tokens.span.Goals as goal
 
 pub returns : goal.returns

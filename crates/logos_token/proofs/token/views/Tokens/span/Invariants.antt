@@ -1,7 +1,7 @@
 use Rattle.std.proofs.Common.{◌≡◌}
 use Rattle.logos_token.specs.Tokens.{count_of}
 use Rattle.logos_token.specs.Views.{tokens_of}
-use Rattle.logos_token.proofs.CountLemmas.{run_end}
+use Rattle.logos_token.proofs.reading.CountLemmas.{run_end}
 use Rattle.logos_token.proofs.token.views.Tokens.span.Given as goal
 
 abbrev pub invariant-loop-next : goal.invariant-loop-next

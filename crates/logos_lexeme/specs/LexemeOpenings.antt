@@ -1,0 +1,134 @@
+-- What opens at a place of a source text.
+use Rattle.std.specs.Prelude.{ℕ, ◌+◌, ◌==◌, ◌&&◌, ◌||◌, not, nat_le, List, drop, slice_index, Option, Some, None, is_some, unwrap_or, option_map, if◌then◌else◌}
+use Rattle.std.specs.Char.{is_ascii_digit}
+use Rattle.std.specs.List.{prefix_len}
+use Rattle.logos_lexeme.specs.LexemeCharacters.{character, past, is_space, is_start, is_mark}
+use Rattle.logos_lexeme.specs.declared.lexeme.Spacing.{Spacing}
+use Rattle.logos_lexeme.specs.declared.lexeme.Spacing.TheVariants.{Alone, Joint}
+use Rattle.logos_lexeme.specs.declared.lexeme.Delimiter.TheVariants.{Parenthesis, Bracket, Brace}
+use Rattle.logos_lexeme.specs.declared.lexeme.Kind.{Kind}
+use Rattle.logos_lexeme.specs.declared.lexeme.Kind.TheVariants.{Gap, Identifier, Literal, Doc, Punctuation, Opening as OpeningKind, Closing}
+use Rattle.logos_lexeme.specs.declared.lexeme.openings.Content.{Content}
+use Rattle.logos_lexeme.specs.declared.lexeme.openings.Content.TheVariants.{Text, Bytes, C}
+use Rattle.logos_lexeme.specs.declared.lexeme.openings.Opening.{Opening}
+use Rattle.logos_lexeme.specs.declared.lexeme.openings.Opening.TheVariants.{Space, Line, Block, Word, Number, Quotes, Raw, Apostrophes, Character, Single, Nothing}
+
+-- how many `#` stand in a row
+unfoldable pub hashes : List ℕ → ℕ → ℕ
+hashes bytes at = prefix_len (λ c. c == 35) (drop at bytes)
+
+-- behind `r`: up to 255 `#` and a quote
+unfoldable pub raw_opening : Content → List ℕ → ℕ → Option Opening
+raw_opening content bytes at =
+    let count = hashes bytes at in
+    if nat_le count 255 && (slice_index bytes (at + count) == 34) then Some (Raw content count) else None
+
+-- a string, behind its `b` or `c`
+unfoldable pub string_opening : Content → List ℕ → ℕ → Option Opening
+string_opening content bytes at =
+    if slice_index bytes at == 34 then Some (Quotes content)
+    else (if slice_index bytes at == 114 then raw_opening content bytes (at + 1)
+    else None)
+
+-- behind `'`: the next character is `\`, or the one after it is `'`
+unfoldable pub character_opening : List ℕ → ℕ → Option Opening
+character_opening bytes at =
+    if slice_index bytes at == 92 then Some (Apostrophes Text)
+    else (if slice_index bytes (past bytes at) == 39 then Some Character
+    else None)
+
+-- behind `b`
+unfoldable pub bytes_opening : List ℕ → ℕ → Option Opening
+bytes_opening bytes at =
+    if slice_index bytes at == 39 then Some (Apostrophes Bytes)
+    else string_opening Bytes bytes at
+
+-- a literal
+unfoldable pub literal_opening : List ℕ → ℕ → Option Opening
+literal_opening bytes at =
+    if is_ascii_digit (slice_index bytes at) then Some Number
+    else (if slice_index bytes at == 39 then character_opening bytes (at + 1)
+    else (if slice_index bytes at == 98 then bytes_opening bytes (at + 1)
+    else (if slice_index bytes at == 99 then string_opening C bytes (at + 1)
+    else string_opening Text bytes at)))
+
+-- `///` that no `/` follows, and `//!`, are documentation; `at` is behind `//`
+unfoldable pub line_kind : List ℕ → ℕ → Kind
+line_kind bytes at =
+    if (slice_index bytes at == 33) || ((slice_index bytes at == 47) && not (slice_index bytes (at + 1) == 47)) then Doc else Gap
+
+-- `/**` that neither `*` nor `/` follows, and `/*!`, are documentation; `at` is behind `/*`
+unfoldable pub block_kind : List ℕ → ℕ → Kind
+block_kind bytes at =
+    if (slice_index bytes at == 33) || ((slice_index bytes at == 42) && not ((slice_index bytes (at + 1) == 42) || (slice_index bytes (at + 1) == 47))) then Doc else Gap
+
+-- a comment
+unfoldable pub comment_opening : List ℕ → ℕ → Option Opening
+comment_opening bytes at =
+    if not (slice_index bytes at == 47) then None
+    else (if slice_index bytes (at + 1) == 47 then Some (Line (line_kind bytes (at + 2)))
+    else (if slice_index bytes (at + 1) == 42 then Some (Block (block_kind bytes (at + 2)))
+    else None))
+
+-- where the name of an identifier begins, if one stands there: behind `r#`, or at once
+unfoldable pub name_at : List ℕ → ℕ → Option ℕ
+name_at bytes at =
+    if ((slice_index bytes at == 114) && (slice_index bytes (at + 1) == 35)) && is_start (character bytes (at + 2)) then Some (at + 2)
+    else (if is_start (character bytes at) then Some at
+    else None)
+
+-- joint before punctuation or `'`, unless a comment begins there
+unfoldable pub spacing : List ℕ → ℕ → Spacing
+spacing bytes at =
+    if (is_mark (slice_index bytes at) || (slice_index bytes at == 39)) && not (is_some (comment_opening bytes at)) then Joint else Alone
+
+-- the delimiters
+unfoldable pub delimiter_kind : ℕ → Option Kind
+delimiter_kind c =
+    if c == 40 then Some (OpeningKind Parenthesis)
+    else (if c == 41 then Some (Closing Parenthesis)
+    else (if c == 91 then Some (OpeningKind Bracket)
+    else (if c == 93 then Some (Closing Bracket)
+    else (if c == 123 then Some (OpeningKind Brace)
+    else (if c == 125 then Some (Closing Brace)
+    else None)))))
+
+-- a lexeme of one character: punctuation, the `'` of a lifetime, a delimiter, or the mark U+FEFF that a text may begin with
+unfoldable pub single_kind : List ℕ → ℕ → Option Kind
+single_kind bytes at =
+    let c = character bytes at in
+    if is_mark c then Some (Punctuation (spacing bytes (past bytes at)))
+    else (if (c == 39) && is_start (character bytes (past bytes at)) then Some (Punctuation Joint)
+    else (if (c == 0xFEFF) && (at == 0) then Some Gap
+    else delimiter_kind c))
+
+-- what is no literal and no comment
+unfoldable pub other_opening : List ℕ → ℕ → Opening
+other_opening bytes at =
+    if is_space (character bytes at) then Space
+    else (if is_some (name_at bytes at) then Word
+    else unwrap_or (option_map Single (single_kind bytes at)) Nothing)
+
+-- what opens at a place: a literal wherever one opens, else a comment, else what its character can begin
+unfoldable pub opening_at : List ℕ → ℕ → Opening
+opening_at bytes at = unwrap_or (literal_opening bytes at) (unwrap_or (comment_opening bytes at) (other_opening bytes at))
+
+-- how many bytes stand in front of a literal's `r`, `'` or quote
+abbrev pub prefix_of : Content → ℕ
+prefix_of Text = 0
+prefix_of Bytes = 1
+prefix_of C = 1
+
+-- what a lexeme is that opens so
+abbrev pub kind_of : Opening → Kind
+kind_of Space = Gap
+kind_of (Line kind) = kind
+kind_of (Block kind) = kind
+kind_of Word = Identifier
+kind_of Number = Literal
+kind_of (Quotes content) = Literal
+kind_of (Raw content count) = Literal
+kind_of (Apostrophes content) = Literal
+kind_of Character = Literal
+kind_of (Single kind) = kind
+kind_of Nothing = Gap

@@ -1,0 +1,2 @@
+pub mod CommentReads
+pub mod LiteralReads

@@ -1,0 +1,11 @@
+-- What is known while a block comment is read.
+use Rattle.std.specs.Prelude.{ℕ, ◌+◌, ◌<◌, ◌≤◌, List, length}
+use Rattle.logos_lexeme.specs.LexemeEnds.{Closes}
+
+-- from another place, with as many comments open as are open there, the outermost one ends where it does from here
+pub record IsOnward (bytes : List ℕ) (depth at next_depth next : ℕ) : Type 0 where
+  pub moves : at < next
+  pub within : next ≤ length bytes
+  pub shallow : next_depth ≤ next + 1
+  pub on : (to : ℕ) → Closes bytes next_depth next to → Closes bytes depth at to
+  pub back : (to : ℕ) → Closes bytes depth at to → Closes bytes next_depth next to

@@ -1,0 +1,358 @@
+//! What stands inside literals.
+
+ghost use Rattle.std.specs.Prelude.{◌≡◌, ℕ, ◌+◌, ◌^◌, ◌<◌, ◌≤◌, ◌↔◌, ◌==◌, ◌||◌, Bool, true, List, IsTrue, IsFalse, length, slice_index, slice_range, MatchOption};
+ghost use Rattle.std.specs.Char.{digit_value};
+ghost use Rattle.logos_lexeme.specs.LexemeRuns.{IsFirst, Steps};
+ghost use Rattle.logos_lexeme.specs.LexemeEnds.{Ends};
+ghost use Rattle.logos_lexeme.specs.LiteralBodies.{is_simple, simple_value, is_hex, hex_value, greatest_of, digits_between, is_blank, BreaksLine, IsEscape, IsHexEscape, IsUnicodeEscape, IsAllowed, Says, IsPiece, IsCharacterPiece, IsSound};
+ghost use Rattle.logos_lexeme.specs.LiteralBodies.{bytes_of};
+ghost use Rattle.logos_lexeme.specs.inside.LiteralReads.{ReadsByte, IsPlain};
+
+use crate::lexeme::characters::byte_at;
+use crate::lexeme::ends::prefix_of;
+use crate::lexeme::openings::{Content, Opening};
+
+/// What a piece of a string holds.
+#[derive(Clone, Copy, Debug)]
+pub enum Piece {
+    /// Nothing.
+    Nothing,
+    /// A byte.
+    Byte(u8),
+    /// A character.
+    Character(char),
+}
+
+/// Whether a backslash and this letter are an escape.
+#[tactic(auto, unfolding(crate::specs::LiteralBodies::is_simple))]
+fn is_simple(letter: u8) -> bool
+    ensures { result ≡ is_simple letter }
+{
+    b"nrt\\0'\"".contains(&letter)
+}
+
+/// The byte that a letter behind a backslash writes.
+#[tactic(auto, unfolding(crate::specs::LiteralBodies::simple_value))]
+fn simple_value(letter: u8) -> u8
+    ensures { result ≡ simple_value letter }
+{
+    if letter == b'n' {
+        return b'\n';
+    }
+    if letter == b'r' {
+        return b'\r';
+    }
+    if letter == b't' {
+        return b'\t';
+    }
+    if letter == b'0' {
+        return 0;
+    }
+    letter
+}
+
+/// Whether a byte is blank: space, tab, LF or CR.
+#[tactic(auto, unfolding(crate::specs::LiteralBodies::is_blank))]
+fn is_blank(byte: u8) -> bool
+    ensures { result ≡ is_blank byte }
+{
+    (byte == b' ') | (byte == b'\t') | (byte == b'\n') | (byte == b'\r')
+}
+
+/// The value of a hexadecimal digit.
+fn digit_of(byte: u8) -> Option<u32>
+    ensures { MatchOption result
+        (IsFalse (is_hex byte))
+        (λ digit. IsTrue (is_hex byte) × (digit ≡ digit_value byte) × (digit < 16)) }
+{
+    char::from(byte).to_digit(16)
+}
+
+/// The greatest byte that two hexadecimal digits may write.
+fn greatest_of(content: Content) -> u32
+    ensures { result ≡ greatest_of content }
+{
+    match content {
+        Content::Text => 0x7F,
+        Content::Bytes | Content::C => 0xFF,
+    }
+}
+
+/// The byte that `\xNN` writes.
+fn hex_escape(source: &str, content: Content, at: usize) -> Option<u8>
+    requires within { at ≤ length source.now }
+    requires backslash { slice_index source.now at ≡ 92 }
+    requires letter { slice_index source.now (at + 1) ≡ 120 }
+    ensures { MatchOption result
+        (IsHexEscape content source.now at → ⊥)
+        (λ value. IsHexEscape content source.now at × (value ≡ hex_value (slice_range source.now (at + 2) (at + 4)))) }
+{
+    let first = digit_of(byte_at(source, at + 2))?;
+    let second = digit_of(byte_at(source, at + 3))?;
+    let value = first * 16 + second;
+    if value > greatest_of(content) {
+        return None;
+    }
+    Some(value as u8)
+}
+
+/// Whether a byte may stand among the digits of `\u{..}`.
+fn is_digit_or_line(byte: u8) -> bool
+    ensures { result ≡ (is_hex byte || (byte == 95)) }
+{
+    char::from(byte).is_digit(16) | (byte == b'_')
+}
+
+/// Where digits and `_` end.
+fn digits_end(source: &str, from: usize) -> usize
+    requires { from ≤ length source.now }
+    ensures within { result ≤ length source.now }
+    ensures first { IsFirst (λ i. IsFalse (is_hex (slice_index source.now i) || (slice_index source.now i == 95))) from result }
+{
+    let mut end = from;
+    while end < source.len() && is_digit_or_line(byte_at(source, end)) {
+        end += 1;
+    }
+    end
+}
+
+/// How many digits were read, and what they write.
+#[derive(Clone, Copy, Debug)]
+struct Digits {
+    count: u32,
+    value: u32,
+}
+
+impl Digits {
+    /// Reads one more byte; `None` where it is a seventh digit.
+    fn with(self, byte: u8) -> Option<Digits>
+        requires few { self.count ≤ 6 }
+        requires small { self.value < 16 ^ self.count }
+        ensures { MatchOption result
+            (IsTrue (is_hex byte) × (6 ≤ self.count))
+            (λ next. ReadsByte byte self.count self.value next.count next.value) }
+    {
+        let Some(digit) = digit_of(byte) else {
+            return Some(self);
+        };
+        if self.count >= 6 {
+            return None;
+        }
+        let count = self.count + 1;
+        let value = self.value * 16 + digit;
+        Some(Digits { count, value })
+    }
+}
+
+/// What the digits of a span write, if they are at most six.
+fn number_between(source: &str, from: usize, to: usize) -> Option<u32>
+    requires begun { from ≤ to }
+    requires within { to ≤ length source.now }
+    ensures { MatchOption result
+        (6 < length (digits_between source.now from to))
+        (λ number. (length (digits_between source.now from to) ≤ 6) × (number ≡ hex_value (digits_between source.now from to))) }
+{
+    let mut digits = Digits { count: 0, value: 0 };
+    for at in from..to {
+        digits = digits.with(byte_at(source, at))?;
+    }
+    Some(digits.value)
+}
+
+/// The character that `\u{..}` writes, and where its closing brace stands.
+fn unicode_escape(source: &str, at: usize) -> Option<(char, usize)>
+    requires within { at ≤ length source.now }
+    requires backslash { slice_index source.now at ≡ 92 }
+    requires letter { slice_index source.now (at + 1) ≡ 117 }
+    ensures { MatchOption result
+        ((brace : ℕ) → IsUnicodeEscape source.now at brace → ⊥)
+        (λ found. IsUnicodeEscape source.now at found.1 × (found.0 ≡ hex_value (digits_between source.now (at + 3) found.1))) }
+{
+    if byte_at(source, at + 2) != b'{' {
+        return None;
+    }
+    digit_of(byte_at(source, at + 3))?;
+    let brace = digits_end(source, at + 3);
+    if byte_at(source, brace) != b'}' {
+        return None;
+    }
+    let number = number_between(source, at + 3, brace)?;
+    let character = char::from_u32(number)?;
+    Some((character, brace))
+}
+
+/// An escape, from its backslash on: what it holds, and where it ends.
+fn escape_at(source: &str, content: Content, at: usize) -> Option<(Piece, usize)>
+    requires { at ≤ length source.now }
+    ensures { MatchOption result
+        ((next : ℕ) (held : List ℕ) → IsEscape content source.now at next held → ⊥)
+        (λ found. IsEscape content source.now at found.1 (bytes_of found.0)) }
+{
+    if byte_at(source, at) != b'\\' {
+        return None;
+    }
+    let letter = byte_at(source, at + 1);
+    if is_simple(letter) {
+        return Some((Piece::Byte(simple_value(letter)), at + 2));
+    }
+    if letter == b'x' {
+        let byte = hex_escape(source, content, at)?;
+        return Some((Piece::Byte(byte), at + 4));
+    }
+    if letter == b'u' {
+        if content == Content::Bytes {
+            return None;
+        }
+        let (character, brace) = unicode_escape(source, at)?;
+        return Some((Piece::Character(character), brace + 1));
+    }
+    None
+}
+
+/// Whether a line break stands here.
+fn breaks_line(source: &str, at: usize) -> bool
+    requires { at ≤ length source.now + 1 }
+    ensures { IsTrue result ↔ BreaksLine source.now at }
+{
+    let byte = byte_at(source, at);
+    if byte == b'\n' {
+        return true;
+    }
+    byte == b'\r' && byte_at(source, at + 1) == b'\n'
+}
+
+/// The first byte that is not blank.
+fn blanks_end(source: &str, from: usize) -> usize
+    requires { from ≤ length source.now }
+    ensures { IsFirst (λ i. IsFalse (is_blank (slice_index source.now i))) from result }
+{
+    let mut end = from;
+    while end < source.len() && is_blank(byte_at(source, end)) {
+        end += 1;
+    }
+    end
+}
+
+/// Whether a byte may stand for itself, or for a part of a character.
+fn is_allowed(content: Content, byte: u8) -> bool
+    ensures { IsTrue result ↔ IsAllowed content byte }
+{
+    if byte == b'\r' {
+        return false;
+    }
+    match content {
+        Content::Bytes => byte < 128,
+        Content::Text | Content::C => true,
+    }
+}
+
+/// A byte that stands for itself, or a line break of CR and LF: what it holds, and where it ends.
+fn plain_at(source: &str, content: Content, at: usize) -> Option<(Piece, usize)>
+    requires { at ≤ length source.now }
+    ensures { MatchOption result
+        ((next : ℕ) (held : List ℕ) → IsPlain content source.now at next held → ⊥)
+        (λ found. IsPlain content source.now at found.1 (bytes_of found.0)) }
+{
+    let byte = byte_at(source, at);
+    if is_allowed(content, byte) {
+        return Some((Piece::Byte(byte), at + 1));
+    }
+    if byte == b'\r' && byte_at(source, at + 1) == b'\n' {
+        return Some((Piece::Byte(b'\n'), at + 2));
+    }
+    None
+}
+
+/// A piece of a string: what it holds, and where it ends.
+pub fn piece_at(source: &str, escapes: bool, content: Content, at: usize) -> Option<(Piece, usize)>
+    requires { at ≤ length source.now }
+    ensures { MatchOption result
+        ((next : ℕ) (held : List ℕ) → Says escapes content source.now at next held → ⊥)
+        (λ found. Says escapes content source.now at found.1 (bytes_of found.0)) }
+{
+    if !escapes {
+        return plain_at(source, content, at);
+    }
+    if byte_at(source, at) != b'\\' {
+        return plain_at(source, content, at);
+    }
+    if breaks_line(source, at + 1) {
+        return Some((Piece::Nothing, blanks_end(source, at + 1)));
+    }
+    escape_at(source, content, at)
+}
+
+/// Whether pieces of a string fill the span.
+fn is_filled(source: &str, escapes: bool, content: Content, from: usize, to: usize) -> bool
+    requires { to ≤ length source.now }
+    ensures { IsTrue result ↔ Steps (IsPiece escapes content source.now) from to }
+{
+    let mut at = from;
+    while at < to {
+        let Some((_, next)) = piece_at(source, escapes, content, at) else {
+            return false;
+        };
+        at = next;
+    }
+    at == to
+}
+
+/// What stands between apostrophes: where it ends.
+fn character_piece_end(source: &str, content: Content, at: usize) -> Option<usize>
+    requires { at ≤ length source.now }
+    ensures { MatchOption result
+        ((next : ℕ) → IsCharacterPiece content source.now at next → ⊥)
+        (IsCharacterPiece content source.now at) }
+{
+    let byte = byte_at(source, at);
+    if byte == b'\\' {
+        let (_, next) = escape_at(source, content, at)?;
+        return Some(next);
+    }
+    if is_allowed(content, byte) {
+        return Some(at + 1);
+    }
+    None
+}
+
+/// Whether what stands between apostrophes fills the span.
+fn is_character(source: &str, content: Content, from: usize, to: usize) -> bool
+    requires { from ≤ length source.now }
+    ensures { IsTrue result ↔ IsCharacterPiece content source.now from to }
+{
+    match character_piece_end(source, content, from) {
+        Some(next) => next == to,
+        None => false,
+    }
+}
+
+/// Whether a literal that opens at `from` and ends at `end`, its suffix left out, keeps to its
+/// rules; anything else does.
+pub(crate) fn is_sound(source: &str, from: usize, opens: Opening, end: usize) -> bool
+    requires inside { from < length source.now }
+    requires ends { Ends source.now from opens end }
+    requires within { end ≤ length source.now }
+    ensures { IsTrue result ↔ IsSound source.now from opens end }
+{
+    match opens {
+        Opening::Quotes(content) => {
+            is_filled(
+                source,
+                true,
+                content,
+                from + prefix_of(content) + 1,
+                end - 1,
+            )
+        }
+        Opening::Raw(content, count) => {
+            let hashes = count as usize;
+            let body = from + prefix_of(content) + 1 + hashes + 1;
+            is_filled(source, false, content, body, end - 1 - hashes)
+        }
+        Opening::Apostrophes(content) => {
+            is_character(source, content, from + prefix_of(content) + 1, end - 1)
+        }
+        Opening::Character => byte_at(source, from + 1) != b'\r',
+        _ => true,
+    }
+}

@@ -1,0 +1,284 @@
+//! Where what opens at a place ends.
+
+ghost use Rattle.std.specs.Prelude.{◌≡◌, ◌≢◌, ℕ, ◌+◌, ◌-◌, ◌<◌, ◌≤◌, ◌↔◌, length, slice_index, MatchOption, IsTrue};
+ghost use Rattle.std.specs.Str.{IsCharBoundary};
+ghost use Rattle.logos_lexeme.specs.LexemeCharacters.{past, is_space, is_continuing};
+ghost use Rattle.logos_lexeme.specs.LexemeRuns.{Run, IsFirst, Passes};
+ghost use Rattle.logos_lexeme.specs.LexemeOpenings.{opening_at, prefix_of};
+ghost use Rattle.logos_lexeme.specs.LexemeEnds.{IsLineEnd, Closes, IsName, IsSuffix, is_based, GoesOn, ReachesQuote, IsRawEnd, IsQuoted, IsRaw, Ends};
+ghost use Rattle.logos_lexeme.specs.inside.CommentReads.{IsOnward};
+
+use crate::lexeme::characters::{byte_at, char_at, is_continuing, is_space, past};
+use crate::lexeme::openings::{Content, Opening, name_at};
+
+/// Where a run of white space ends.
+fn spaces_end(source: &str, from: usize) -> usize
+    requires { IsCharBoundary source.now from }
+    ensures { Run (Passes is_space source.now) from result }
+{
+    let mut end = from;
+    while end < source.len() && is_space(char_at(source, end)) {
+        end = past(source, end);
+    }
+    end
+}
+
+/// Where a run of characters that continue an identifier ends.
+fn letters_end(source: &str, from: usize) -> usize
+    requires { IsCharBoundary source.now from }
+    ensures run { Run (Passes is_continuing source.now) from result }
+    ensures within { result ≤ length source.now }
+{
+    let mut end = from;
+    while end < source.len() && is_continuing(char_at(source, end)) {
+        end = past(source, end);
+    }
+    end
+}
+
+/// Whether a number that begins here starts with a base.
+#[tactic(auto, unfolding(crate::specs::LexemeEnds::is_based))]
+fn is_based(source: &str, from: usize) -> bool
+    requires { from < length source.now }
+    ensures { result ≡ is_based source.now from }
+{
+    let letter = byte_at(source, from + 1);
+    (byte_at(source, from) == b'0') & ((letter == b'x') | (letter == b'o') | (letter == b'b'))
+}
+
+/// How far a number goes on by one step, if it does.
+fn number_step(source: &str, based: bool, at: usize) -> Option<usize>
+    requires inside { at < length source.now }
+    requires boundary { IsCharBoundary source.now at }
+    requires begun { 0 < at }
+    ensures { MatchOption result ((next : ℕ) → GoesOn based source.now at next → ⊥) (GoesOn based source.now at) }
+{
+    if is_continuing(char_at(source, at)) {
+        return Some(past(source, at));
+    }
+    if based || !byte_at(source, at + 1).is_ascii_digit() {
+        return None;
+    }
+    let byte = byte_at(source, at);
+    let before = byte_at(source, at - 1);
+    if byte == b'.' {
+        return Some(at + 1);
+    }
+    if (byte == b'+' || byte == b'-') && (before == b'e' || before == b'E') {
+        return Some(at + 1);
+    }
+    None
+}
+
+/// Where a number ends that goes on from here.
+fn number_end(source: &str, based: bool, from: usize) -> usize
+    requires boundary { IsCharBoundary source.now from }
+    requires begun { 0 < from }
+    ensures { Run (GoesOn based source.now) from result }
+{
+    let mut end = from;
+    while end < source.len()
+        && let Some(next) = number_step(source, based, end)
+    {
+        end = next;
+    }
+    end
+}
+
+/// The next LF, or the source's end.
+fn feed_at(source: &str, from: usize) -> usize
+    requires { from ≤ length source.now }
+    ensures begun { from ≤ result }
+    ensures within { result ≤ length source.now }
+    ensures closes { result < length source.now → slice_index source.now result ≡ 10 }
+    ensures first { (i : ℕ) → from ≤ i → i < result → slice_index source.now i ≢ 10 }
+{
+    let mut at = from;
+    while at < source.len() && byte_at(source, at) != b'\n' {
+        at += 1;
+    }
+    at
+}
+
+/// Where a line comment ends, from behind its `//` on.
+fn line_end(source: &str, from: usize) -> usize
+    requires { from ≤ length source.now }
+    ensures { IsFirst (IsLineEnd source.now) from result }
+{
+    let mut end = feed_at(source, from);
+    while from < end && byte_at(source, end - 1) == b'\r' {
+        end -= 1;
+    }
+    end
+}
+
+/// One step inside block comments: how many are open behind it, and where; `None` at the end.
+fn block_step(source: &str, depth: usize, at: usize) -> Option<(usize, usize)>
+    requires open { 0 < depth }
+    requires shallow { depth ≤ at + 1 }
+    requires near { at ≤ length source.now + 2 }
+    ensures { MatchOption result
+        ((to : ℕ) → Closes source.now depth at to → ⊥)
+        (λ next. IsOnward source.now depth at next.0 next.1) }
+{
+    let first = byte_at(source, at);
+    let second = byte_at(source, at + 1);
+    if first == b'/' && second == b'*' {
+        return Some((depth + 1, at + 2));
+    }
+    if first == b'*' && second == b'/' {
+        return Some((depth - 1, at + 2));
+    }
+    if at >= source.len() {
+        return None;
+    }
+    Some((depth, at + 1))
+}
+
+/// Where a block comment ends, from behind its `/*` on.
+fn block_end(source: &str, from: usize) -> Option<usize>
+    requires { from ≤ length source.now + 2 }
+    ensures { MatchOption result ((to : ℕ) → Closes source.now 1 from to → ⊥) (Closes source.now 1 from) }
+{
+    let mut depth = 1;
+    let mut at = from;
+    while depth > 0 {
+        let (next_depth, next) = block_step(source, depth, at)?;
+        depth = next_depth;
+        at = next;
+    }
+    Some(at)
+}
+
+/// How many bytes a byte inside quotes takes with what it escapes.
+fn width_of(byte: u8) -> usize
+    ensures escaped { byte ≡ 92 → result ≡ 2 }
+    ensures plain { byte ≢ 92 → result ≡ 1 }
+{
+    if byte == b'\\' { 2 } else { 1 }
+}
+
+/// The next quote that is not escaped.
+fn quote_at(source: &str, quote: u8, from: usize) -> Option<usize>
+    requires visible { 0 < quote }
+    requires no_backslash { quote ≢ 92 }
+    ensures { MatchOption result
+        ((to : ℕ) → ReachesQuote quote source.now from to → ⊥)
+        (λ to. (to < length source.now) × ReachesQuote quote source.now from to) }
+{
+    let mut at = from;
+    while at < source.len() {
+        let byte = byte_at(source, at);
+        if byte == quote {
+            return Some(at);
+        }
+        at += width_of(byte);
+    }
+    None
+}
+
+/// Where a literal ends that ends with an unescaped quote.
+fn quoted_end(source: &str, quote: u8, body: usize) -> Option<usize>
+    requires visible { 0 < quote }
+    requires no_backslash { quote ≢ 92 }
+    ensures { MatchOption result
+        ((to : ℕ) → IsQuoted quote source.now body to → ⊥)
+        (IsQuoted quote source.now body) }
+{
+    let at = quote_at(source, quote, body)?;
+    Some(at + 1)
+}
+
+/// Whether a quote with so many `#` behind it stands here.
+fn is_raw_end(source: &str, count: u8, at: usize) -> bool
+    requires { at < length source.now }
+    ensures { IsTrue result ↔ IsRawEnd count source.now at }
+{
+    if byte_at(source, at) != b'"' {
+        return false;
+    }
+    for i in 0..count {
+        if byte_at(source, at + 1 + i as usize) != b'#' {
+            return false;
+        }
+    }
+    true
+}
+
+/// Where a raw string ends.
+fn raw_end(source: &str, count: u8, body: usize) -> Option<usize>
+    ensures { MatchOption result
+        ((to : ℕ) → IsRaw count source.now body to → ⊥)
+        (IsRaw count source.now body) }
+{
+    let mut at = body;
+    while at < source.len() {
+        if is_raw_end(source, count, at) {
+            return Some(at + 1 + count as usize);
+        }
+        at += 1;
+    }
+    None
+}
+
+/// Where an identifier ends.
+fn name_end(source: &str, at: usize) -> Option<usize>
+    requires { IsCharBoundary source.now at }
+    ensures { MatchOption result ((to : ℕ) → IsName source.now at to → ⊥) (IsName source.now at) }
+{
+    let name = name_at(source, at)?;
+    Some(letters_end(source, past(source, name)))
+}
+
+/// Where the suffix of a literal ends; it may be none.
+pub(crate) fn suffix_end(source: &str, at: usize) -> usize
+    requires { IsCharBoundary source.now at }
+    ensures suffix { IsSuffix source.now at result }
+    ensures within { result ≤ length source.now }
+{
+    match name_at(source, at) {
+        Some(name) => letters_end(source, past(source, name)),
+        None => at,
+    }
+}
+
+/// How many bytes stand in front of a literal's `r`, `'` or quote.
+pub fn prefix_of(content: Content) -> usize
+    ensures { result ≡ prefix_of content }
+{
+    match content {
+        Content::Text => 0,
+        Content::Bytes | Content::C => 1,
+    }
+}
+
+/// Where what opens at `from` ends, the suffix of a literal left out; `None` where it has no end.
+pub fn end_of(source: &str, from: usize, opens: Opening) -> Option<usize>
+    requires inside { from < length source.now }
+    requires boundary { IsCharBoundary source.now from }
+    requires found { opens ≡ opening_at source.now from }
+    ensures { MatchOption result ((to : ℕ) → Ends source.now from opens to → ⊥) (Ends source.now from opens) }
+{
+    match opens {
+        Opening::Space => Some(spaces_end(source, past(source, from))),
+        Opening::Line(_) => Some(line_end(source, from + 2)),
+        Opening::Block(_) => block_end(source, from + 2),
+        Opening::Word => name_end(source, from),
+        Opening::Number => {
+            let based = is_based(source, from);
+            Some(number_end(source, based, past(source, from)))
+        }
+        Opening::Quotes(content) => quoted_end(source, b'"', from + prefix_of(content) + 1),
+        Opening::Raw(content, count) => {
+            raw_end(
+                source,
+                count,
+                from + prefix_of(content) + 2 + count as usize,
+            )
+        }
+        Opening::Apostrophes(content) => quoted_end(source, b'\'', from + prefix_of(content) + 1),
+        Opening::Character => Some(past(source, from + 1) + 1),
+        Opening::Single(_) => Some(past(source, from)),
+        Opening::Nothing => None,
+    }
+}

@@ -1,0 +1,324 @@
+//! What opens at a place of a source text.
+
+ghost use Rattle.std.specs.Prelude.{◌≡◌, ◌+◌, ◌<◌, ◌≤◌, min, length, slice_index};
+ghost use Rattle.std.specs.Char.{is_ascii_digit};
+ghost use Rattle.std.specs.Str.{IsCharBoundary};
+ghost use Rattle.logos_lexeme.specs.LexemeOpenings.{hashes, raw_opening, string_opening, character_opening, bytes_opening, literal_opening, line_kind, block_kind, comment_opening, name_at, spacing, delimiter_kind, single_kind, other_opening, opening_at, kind_of};
+
+use crate::lexeme::characters::{byte_at, char_at, is_mark, is_space, is_start, past};
+use crate::lexeme::{Delimiter, Kind, Spacing};
+
+/// What a literal holds.
+#[derive(Clone, Copy, Debug, PartialEq, Eq)]
+pub enum Content {
+    /// Characters.
+    Text,
+    /// Bytes, behind `b`.
+    Bytes,
+    /// Characters and bytes, behind `c`.
+    C,
+}
+
+/// What opens at a place.
+#[derive(Clone, Copy, Debug, PartialEq, Eq)]
+pub enum Opening {
+    /// White space.
+    Space,
+    /// A line comment.
+    Line(Kind),
+    /// A block comment.
+    Block(Kind),
+    /// An identifier.
+    Word,
+    /// A number.
+    Number,
+    /// A string that has escapes.
+    Quotes(Content),
+    /// A raw string, with so many `#` before its quote.
+    Raw(Content, u8),
+    /// What is escaped or a byte, between apostrophes.
+    Apostrophes(Content),
+    /// A character between apostrophes.
+    Character,
+    /// A lexeme of one character.
+    Single(Kind),
+    /// Nothing.
+    Nothing,
+}
+
+/// How many `#` stand in a row, counted up to 256.
+fn count_hashes(source: &str, from: usize) -> usize
+    requires { from ≤ length source.now + 2 }
+    ensures { result ≡ min 256 (hashes source.now from) }
+{
+    let mut count = 0;
+    while count < 256 && byte_at(source, from + count) == b'#' {
+        count += 1;
+    }
+    count
+}
+
+/// A raw string, from behind its `r` on.
+#[tactic(auto, unfolding(crate::specs::LexemeOpenings::raw_opening))]
+fn raw_opening(content: Content, source: &str, at: usize) -> Option<Opening>
+    requires { at ≤ length source.now + 2 }
+    ensures { result ≡ raw_opening content source.now at }
+{
+    let count = count_hashes(source, at);
+    if count > 255 {
+        return None;
+    }
+    if byte_at(source, at + count) != b'"' {
+        return None;
+    }
+    Some(Opening::Raw(content, count as u8))
+}
+
+/// A string, from behind its `b` or `c` on.
+#[tactic(auto, unfolding(crate::specs::LexemeOpenings::string_opening))]
+fn string_opening(content: Content, source: &str, at: usize) -> Option<Opening>
+    requires { at ≤ length source.now + 1 }
+    ensures { result ≡ string_opening content source.now at }
+{
+    let byte = byte_at(source, at);
+    if byte == b'"' {
+        return Some(Opening::Quotes(content));
+    }
+    if byte == b'r' {
+        return raw_opening(content, source, at + 1);
+    }
+    None
+}
+
+/// A character literal, from behind its `'` on.
+#[tactic(auto, unfolding(crate::specs::LexemeOpenings::character_opening))]
+fn character_opening(source: &str, at: usize) -> Option<Opening>
+    requires { IsCharBoundary source.now at }
+    ensures { result ≡ character_opening source.now at }
+{
+    if byte_at(source, at) == b'\\' {
+        return Some(Opening::Apostrophes(Content::Text));
+    }
+    let behind = at + char_at(source, at).len_utf8();
+    if byte_at(source, behind) == b'\'' {
+        return Some(Opening::Character);
+    }
+    None
+}
+
+/// A literal of bytes, from behind its `b` on.
+#[tactic(auto, unfolding(crate::specs::LexemeOpenings::bytes_opening))]
+fn bytes_opening(source: &str, at: usize) -> Option<Opening>
+    requires { at ≤ length source.now }
+    ensures { result ≡ bytes_opening source.now at }
+{
+    if byte_at(source, at) == b'\'' {
+        return Some(Opening::Apostrophes(Content::Bytes));
+    }
+    string_opening(Content::Bytes, source, at)
+}
+
+/// A literal.
+#[tactic(auto, unfolding(crate::specs::LexemeOpenings::literal_opening))]
+fn literal_opening(source: &str, at: usize) -> Option<Opening>
+    requires inside { at < length source.now }
+    requires boundary { IsCharBoundary source.now at }
+    ensures { result ≡ literal_opening source.now at }
+{
+    let byte = byte_at(source, at);
+    if byte.is_ascii_digit() {
+        return Some(Opening::Number);
+    }
+    if byte == b'\'' {
+        return character_opening(source, at + 1);
+    }
+    if byte == b'b' {
+        return bytes_opening(source, at + 1);
+    }
+    if byte == b'c' {
+        return string_opening(Content::C, source, at + 1);
+    }
+    string_opening(Content::Text, source, at)
+}
+
+/// What a line comment is, from behind its `//` on.
+#[tactic(auto, unfolding(crate::specs::LexemeOpenings::line_kind))]
+fn line_kind(source: &str, at: usize) -> Kind
+    requires { at ≤ length source.now + 2 }
+    ensures { result ≡ line_kind source.now at }
+{
+    let first = byte_at(source, at);
+    let second = byte_at(source, at + 1);
+    if (first == b'!') | ((first == b'/') & (second != b'/')) {
+        Kind::Doc
+    } else {
+        Kind::Gap
+    }
+}
+
+/// What a block comment is, from behind its `/*` on.
+#[tactic(auto, unfolding(crate::specs::LexemeOpenings::block_kind))]
+fn block_kind(source: &str, at: usize) -> Kind
+    requires { at ≤ length source.now + 2 }
+    ensures { result ≡ block_kind source.now at }
+{
+    let first = byte_at(source, at);
+    let second = byte_at(source, at + 1);
+    if (first == b'!') | ((first == b'*') & !((second == b'*') | (second == b'/'))) {
+        Kind::Doc
+    } else {
+        Kind::Gap
+    }
+}
+
+/// A comment.
+#[tactic(auto, unfolding(crate::specs::LexemeOpenings::comment_opening))]
+fn comment_opening(source: &str, at: usize) -> Option<Opening>
+    requires { at ≤ length source.now }
+    ensures { result ≡ comment_opening source.now at }
+{
+    if byte_at(source, at) != b'/' {
+        return None;
+    }
+    let second = byte_at(source, at + 1);
+    if second == b'/' {
+        return Some(Opening::Line(line_kind(source, at + 2)));
+    }
+    if second == b'*' {
+        return Some(Opening::Block(block_kind(source, at + 2)));
+    }
+    None
+}
+
+/// Where the name of an identifier begins, if one stands here: behind its `r#`, or at once.
+#[tactic(auto, unfolding(crate::specs::LexemeOpenings::name_at))]
+pub(crate) fn name_at(source: &str, at: usize) -> Option<usize>
+    requires { IsCharBoundary source.now at }
+    ensures value { result ≡ name_at source.now at }
+{
+    if byte_at(source, at) == b'r'
+        && byte_at(source, at + 1) == b'#'
+        && is_start(char_at(source, at + 2))
+    {
+        return Some(at + 2);
+    }
+    if is_start(char_at(source, at)) {
+        return Some(at);
+    }
+    None
+}
+
+/// Whether a punctuation is joint that ends here.
+#[tactic(auto, unfolding(crate::specs::LexemeOpenings::spacing))]
+fn spacing(source: &str, at: usize) -> Spacing
+    requires { IsCharBoundary source.now at }
+    ensures { result ≡ spacing source.now at }
+{
+    let next = byte_at(source, at);
+    if !(is_mark(next as char) | (next == b'\'')) {
+        return Spacing::Alone;
+    }
+    if comment_opening(source, at).is_some() {
+        return Spacing::Alone;
+    }
+    Spacing::Joint
+}
+
+/// What a delimiter is.
+#[tactic(auto, unfolding(crate::specs::LexemeOpenings::delimiter_kind))]
+fn delimiter_kind(c: char) -> Option<Kind>
+    ensures { result ≡ delimiter_kind c }
+{
+    if c == '(' {
+        return Some(Kind::Opening(Delimiter::Parenthesis));
+    }
+    if c == ')' {
+        return Some(Kind::Closing(Delimiter::Parenthesis));
+    }
+    if c == '[' {
+        return Some(Kind::Opening(Delimiter::Bracket));
+    }
+    if c == ']' {
+        return Some(Kind::Closing(Delimiter::Bracket));
+    }
+    if c == '{' {
+        return Some(Kind::Opening(Delimiter::Brace));
+    }
+    if c == '}' {
+        return Some(Kind::Closing(Delimiter::Brace));
+    }
+    None
+}
+
+/// What a lexeme of one character is.
+#[tactic(auto, unfolding(crate::specs::LexemeOpenings::single_kind))]
+fn single_kind(source: &str, at: usize) -> Option<Kind>
+    requires inside { at < length source.now }
+    requires boundary { IsCharBoundary source.now at }
+    ensures { result ≡ single_kind source.now at }
+{
+    let c = char_at(source, at);
+    let behind = past(source, at);
+    if is_mark(c) {
+        return Some(Kind::Punctuation(spacing(source, behind)));
+    }
+    if c == '\'' && is_start(char_at(source, behind)) {
+        return Some(Kind::Punctuation(Spacing::Joint));
+    }
+    if c == '\u{FEFF}' && at == 0 {
+        return Some(Kind::Gap);
+    }
+    delimiter_kind(c)
+}
+
+/// What opens where no literal and no comment does.
+#[tactic(auto, unfolding(crate::specs::LexemeOpenings::other_opening))]
+fn other_opening(source: &str, at: usize) -> Opening
+    requires inside { at < length source.now }
+    requires boundary { IsCharBoundary source.now at }
+    ensures { result ≡ other_opening source.now at }
+{
+    if is_space(char_at(source, at)) {
+        return Opening::Space;
+    }
+    if name_at(source, at).is_some() {
+        return Opening::Word;
+    }
+    if let Some(kind) = single_kind(source, at) {
+        return Opening::Single(kind);
+    }
+    Opening::Nothing
+}
+
+/// What opens at a place: a literal wherever one opens, else a comment, else what the character
+/// can begin.
+#[tactic(auto, unfolding(crate::specs::LexemeOpenings::opening_at))]
+pub fn opening_at(source: &str, at: usize) -> Opening
+    requires inside { at < length source.now }
+    requires boundary { IsCharBoundary source.now at }
+    ensures { result ≡ opening_at source.now at }
+{
+    if let Some(literal) = literal_opening(source, at) {
+        return literal;
+    }
+    if let Some(comment) = comment_opening(source, at) {
+        return comment;
+    }
+    other_opening(source, at)
+}
+
+/// What a lexeme is that opens so.
+pub(crate) fn kind_of(opens: Opening) -> Kind
+    ensures { result ≡ kind_of opens }
+{
+    match opens {
+        Opening::Space | Opening::Nothing => Kind::Gap,
+        Opening::Line(kind) | Opening::Block(kind) | Opening::Single(kind) => kind,
+        Opening::Word => Kind::Identifier,
+        Opening::Number
+        | Opening::Quotes(_)
+        | Opening::Raw(_, _)
+        | Opening::Apostrophes(_)
+        | Opening::Character => Kind::Literal,
+    }
+}

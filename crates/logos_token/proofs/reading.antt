@@ -1,0 +1,10 @@
+pub mod FlatLemmas
+pub mod RunLemmas
+pub mod CountLemmas
+pub mod PieceLemmas
+pub mod NestingLemmas
+pub mod SpellingLaws
+pub mod ReadingLemmas
+pub mod ClosingLemmas
+pub mod RefusalLemmas
+pub mod OrderLemmas

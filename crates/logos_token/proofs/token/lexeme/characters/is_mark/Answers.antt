@@ -1,7 +1,0 @@
-use Rattle.std.proofs.Common.{rules}
-use Rattle.logos_token.specs.LexemeCharacters.{is_mark}
-use Rattle.logos_token.proofs.token.lexeme.characters.is_mark.Goals as goal
-
-pub returns : goal.returns
-unfolding is_mark
-returns c = search rules

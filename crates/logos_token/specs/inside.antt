@@ -1,0 +1,3 @@
+pub mod ValueReads
+pub mod Reading
+pub mod PrintingSteps
