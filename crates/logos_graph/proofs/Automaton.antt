@@ -6,7 +6,8 @@ use Rattle.logos_graph.specs.Munch.{Rule, RuleMatches}
 use Rattle.logos_graph.specs.Ambiguity.{IsAmbiguous}
 use Rattle.logos_graph.specs.Faults.{no_universal_start, empty_match, disambiguation, some_leads, some_passable, ArePassable, AreAmbiguous, AreFaults}
 use Rattle.logos_graph.specs.View.{Automaton, dfa_next, dfa_after, dfa_at_end, Lists, ReadsOneByteLate, AllStart}
-use Rattle.logos_graph.specs.Walk.{Edges, reach, MarksOneByteLate, IsLateMark, edges_of_automaton}
+use Rattle.logos_reduce.specs.Edges.{Edges, reach}
+use Rattle.logos_graph.specs.Walk.{MarksOneByteLate, IsLateMark, edges_of_automaton}
 use Rattle.logos_graph.proofs.First.{first_marks, none_contained}
 
 -- a rule whose tree can be passed

@@ -3,18 +3,22 @@ use Rattle.std.proofs.Common.{◌≡◌, ◌↔◌, ℕ, ◌<◌, inl, inr, Bool
 use Rattle.std.specs.Option.{option_map_or}
 use Rattle.logos_pattern.specs.Text.{IsBytes}
 use Rattle.logos_graph.specs.Found.{FindsTheLongest, mark_after, mark_of}
-use Rattle.logos_graph.specs.Graph.{StateType, GraphState}
-use Rattle.logos_graph.specs.Merge.{IsMerged}
+use Rattle.logos_reduce.specs.Edges.{StateType, Edges, to_mark}
+use Rattle.logos_graph.specs.Graph.{GraphState}
+use Rattle.logos_reduce.specs.Merge.{IsMerged}
 use Rattle.logos_graph.specs.Munch.{Rule, Found, Finds}
-use Rattle.logos_graph.specs.Reduce.{size, to, mark, type_of, edges, IsKeptOrSpare, IsSettled, IsPrunedTable}
-use Rattle.logos_graph.specs.ReduceNumber.{IsNumbered}
-use Rattle.logos_graph.specs.ReduceShown.{IsRaw, Shows}
-use Rattle.logos_graph.specs.Rows.{target_in}
+use Rattle.logos_reduce.specs.Table.{size, to, mark, type_of, edges}
+use Rattle.logos_reduce.specs.Settle.{IsKeptOrSpare, IsSettled}
+use Rattle.logos_reduce.specs.Prune.{IsPrunedTable}
+use Rattle.logos_reduce.specs.Number.{IsNumbered}
+use Rattle.logos_reduce.specs.Raw.{IsRaw}
+use Rattle.logos_graph.specs.ReduceShown.{Shows}
+use Rattle.logos_reduce.specs.Rows.{target_in}
 use Rattle.logos_graph.specs.View.{AllStart}
-use Rattle.logos_graph.specs.Walk.{Edges, to_mark, MarksOneByteLate, WalkFinds, edges_of}
-use Rattle.logos_graph.specs.declared.reduce.blocks.Split.{Split}
-use Rattle.logos_graph.specs.declared.reduce.table.Table.{Table}
-use Rattle.logos_graph.proofs.EdgeFacts.{edge_within}
+use Rattle.logos_graph.specs.Walk.{MarksOneByteLate, WalkFinds, edges_of}
+use Rattle.logos_reduce.specs.declared.merge.blocks.Split.{Split}
+use Rattle.logos_reduce.specs.declared.table.Table.{Table}
+use Rattle.logos_reduce.proofs.tables.EdgeLemmas.{edge_within}
 use Rattle.logos_graph.proofs.Longest.{finds_the_longest, late_root}
 use Rattle.logos_graph.proofs.Maps.{IsMap}
 use Rattle.logos_graph.proofs.Pruned.{IsPruned}

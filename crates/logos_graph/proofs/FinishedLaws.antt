@@ -6,31 +6,35 @@ use Rattle.std.proofs.lemmas.List.Elements.{All-cons, All-nil}
 use Rattle.std.specs.List.{find}
 use Rattle.logos_pattern.specs.Text.{IsBytes}
 use Rattle.logos_graph.specs.FinishedGraph.{IsLate, IsUnmarked, NamesLeaves, IsFit}
-use Rattle.logos_graph.specs.Graph.{StateType, GraphState, is_in, next_by, next_at_end, walk, type_after}
+use Rattle.logos_reduce.specs.Edges.{StateType, Edges, reach, Leads, to_mark, onward, to_end}
+use Rattle.logos_graph.specs.Graph.{GraphState, is_in, next_by, next_at_end, walk, type_after}
 use Rattle.logos_graph.specs.Least.{IsLeast, IsEvidence}
-use Rattle.logos_graph.specs.Merge.{led, IsMerged, IsHistory}
+use Rattle.logos_reduce.specs.Merge.{led, IsMerged, IsHistory}
 use Rattle.logos_graph.specs.Munch.{Rule}
-use Rattle.logos_graph.specs.Reduce.{size, to, mark, type_of, edges, AllAccepted, IsOfUse, IsKeptOrSpare, IsSettled, IsPrunedTable}
-use Rattle.logos_graph.specs.ReduceNumber.{ComesBefore, IsFirstInto, IsNumbered}
-use Rattle.logos_graph.specs.ReduceShown.{IsReached, IsRaw, Shows}
+use Rattle.logos_reduce.specs.Table.{size, to, mark, type_of, edges}
+use Rattle.logos_reduce.specs.Settle.{AllAccepted, IsKeptOrSpare, IsSettled}
+use Rattle.logos_reduce.specs.Prune.{IsOfUse, IsPrunedTable}
+use Rattle.logos_reduce.specs.Number.{ComesBefore, IsFirstInto, IsNumbered}
+use Rattle.logos_reduce.specs.Raw.{IsReached, IsRaw}
+use Rattle.logos_graph.specs.ReduceShown.{Shows}
 use Rattle.logos_graph.specs.Reduced as reduced
-use Rattle.logos_graph.specs.Rows.{target_of}
+use Rattle.logos_reduce.specs.Rows.{target_of}
 use Rattle.logos_graph.specs.View.{AllStart}
-use Rattle.logos_graph.specs.Walk.{Edges, reach, Leads, to_mark, onward, to_end, MarksOneByteLate, edges_of}
-use Rattle.logos_graph.specs.declared.reduce.blocks.Split.{Split}
-use Rattle.logos_graph.specs.declared.reduce.table.Table.{Table}
-use Rattle.logos_graph.proofs.EdgeFacts.{edge_within, edge_symbol}
+use Rattle.logos_graph.specs.Walk.{MarksOneByteLate, edges_of}
+use Rattle.logos_reduce.specs.declared.merge.blocks.Split.{Split}
+use Rattle.logos_reduce.specs.declared.table.Table.{Table}
+use Rattle.logos_reduce.proofs.tables.EdgeLemmas.{edge_within, edge_symbol}
 use Rattle.logos_graph.proofs.Finished as fin
 use Rattle.logos_graph.proofs.LeastLemmas.{type_here, evidence}
 use Rattle.logos_graph.proofs.Longest.{no_empty_match, late_root}
 use Rattle.logos_graph.proofs.Maps.{IsMap, map_leads}
-use Rattle.logos_graph.proofs.NumberLemmas.{target_numbered}
+use Rattle.logos_reduce.proofs.numbering.NumberLemmas.{target_numbered}
 use Rattle.logos_graph.proofs.Pruned.{leads_kept}
 use Rattle.logos_graph.proofs.Raw.{FirstOrNone}
 use Rattle.logos_graph.proofs.ReductionLemmas as red
 use Rattle.logos_graph.proofs.Settled as settle
 use Rattle.logos_graph.proofs.Steps.{first_byte, other_bytes}
-use Rattle.logos_graph.proofs.Told as told
+use Rattle.logos_reduce.proofs.words.WordLemmas as told
 use Rattle.logos_graph.proofs.Useful.{leads_to}
 use Rattle.logos_graph.proofs.Whole.{all_accept_settled, same_type}
 

@@ -4,12 +4,12 @@ use Rattle.std.proofs.lemmas.Bool.{cases_lt}
 use Rattle.std.proofs.lemmas.List.Elements.{All-cons, All-nil}
 use Rattle.logos_pattern.specs.Text.{IsBytes}
 use Rattle.logos_graph.specs.Graph.{GraphState, type_after, TellsApart}
-use Rattle.logos_graph.specs.Merge.{reached, Tells}
-use Rattle.logos_graph.specs.Reduce.{size, to, mark, type_of}
+use Rattle.logos_reduce.specs.Words.{reached, Tells}
+use Rattle.logos_reduce.specs.Table.{size, to, mark, type_of}
 use Rattle.logos_graph.specs.ReduceShown.{Shows}
-use Rattle.logos_graph.specs.declared.reduce.table.Mark.{Mark}
-use Rattle.logos_graph.specs.declared.reduce.table.Table.{Table}
-use Rattle.logos_graph.proofs.EdgeFacts.{edge_within, edge_symbol}
+use Rattle.logos_reduce.specs.declared.table.Mark.{Mark}
+use Rattle.logos_reduce.specs.declared.table.Table.{Table}
+use Rattle.logos_reduce.proofs.tables.EdgeLemmas.{edge_within, edge_symbol}
 
 pub same_mark : (a b : Mark) → type_of a ≡ type_of b → a ≡ b
 same_mark a b e = λ i. record { accept = (e i).accept; early = (e i).early }

@@ -9,8 +9,8 @@ use Rattle.logos_pattern.proofs.Order.{InOrder, matches_order}
 use Rattle.logos_graph.proofs.Unique.{rule_within, finds_one}
 use Rattle.logos_graph.specs.Faults.{some_passable}
 use Rattle.logos_graph.specs.View.{AllStart}
-use Rattle.logos_graph.specs.Graph.{StateType}
-use Rattle.logos_graph.specs.Walk.{Edges, last_mark, followed, MarksOneByteLate, MayEnd, IsUnmarked, WalkFinds}
+use Rattle.logos_reduce.specs.Edges.{StateType, Edges}
+use Rattle.logos_graph.specs.Walk.{last_mark, followed, MarksOneByteLate, MayEnd, IsUnmarked, WalkFinds}
 use Rattle.logos_graph.proofs.Raw.{BestBelow, FirstOrNone, raw_marks, raw_covers, GrowsUpTo}
 use Rattle.logos_graph.proofs.Settled.{AreSettled, Agree, settled_marks, settled_covers}
 use Rattle.logos_graph.proofs.Pruned.{IsPruned, pruned_marks, pruned_covers}

@@ -6,9 +6,8 @@ use Rattle.logos_pattern.specs.Text.{IsBytes}
 use Rattle.logos_graph.specs.Munch.{Rule, RuleMatches, IsFirst, Grows}
 use Rattle.logos_graph.proofs.Window.{rule_within_text}
 use Rattle.logos_graph.specs.Faults.{some_leads}
-use Rattle.logos_graph.specs.Graph.{StateType}
-use Rattle.logos_graph.specs.Reduced.{IsMarked}
-use Rattle.logos_graph.specs.Walk.{Edges, marked, last_mark, reach, Leads, to_mark, onward, to_end, Covers, NoneMatches, IsLateMark, MarksOneByteLate}
+use Rattle.logos_reduce.specs.Edges.{StateType, IsMarked, Edges, reach, Leads, to_mark, onward, to_end}
+use Rattle.logos_graph.specs.Walk.{marked, last_mark, Covers, NoneMatches, IsLateMark, MarksOneByteLate}
 use Rattle.logos_graph.proofs.Steps.{first_byte, other_bytes}
 
 abbrev pub FirstOrNone : List Rule → Option ℕ → List ℕ → ℕ → ℕ → Type 0

@@ -6,10 +6,11 @@ use Rattle.logos_pattern.specs.Text.{IsBytes}
 use Rattle.logos_graph.specs.Munch.{Rule, IsFirst, Found, Finds}
 use Rattle.logos_graph.specs.Faults.{AreFaults}
 use Rattle.logos_graph.specs.Found.{IsInput}
-use Rattle.logos_graph.specs.Graph.{StateType, GraphState}
+use Rattle.logos_reduce.specs.Edges.{StateType, Edges, reach}
+use Rattle.logos_graph.specs.Graph.{GraphState}
 use Rattle.logos_graph.specs.Reduced.{IsSettled}
 use Rattle.logos_graph.specs.View.{Automaton, ReadsOneByteLate}
-use Rattle.logos_graph.specs.Walk.{Edges, reach, MarksOneByteLate, edges_of, edges_of_automaton, GraphFindsByWalk}
+use Rattle.logos_graph.specs.Walk.{MarksOneByteLate, edges_of, edges_of_automaton, GraphFindsByWalk}
 use Rattle.logos_graph.proofs.Steps.{first_byte, other_bytes}
 use Rattle.logos_graph.proofs.Raw.{FirstOrNone, reach_next}
 use Rattle.logos_graph.proofs.Settled.{AreSettled, AllAccept}

@@ -4,9 +4,9 @@ use Rattle.std.specs.List.Sorted.{IsStrictlyIncreasing}
 use Rattle.std.specs.List.{All}
 use Rattle.logos_pattern.specs.Text.{IsBytes}
 use Rattle.logos_graph.specs.Graph.{GraphState, next_by, next_at_end}
-use Rattle.logos_graph.specs.Reduce.{size, to, mark, type_of, edges}
-use Rattle.logos_graph.specs.Walk.{reach, Leads}
-use Rattle.logos_graph.specs.declared.reduce.table.Table.{Table}
+use Rattle.logos_reduce.specs.Table.{size, to, mark, type_of, edges}
+use Rattle.logos_reduce.specs.Edges.{reach, Leads}
+use Rattle.logos_reduce.specs.declared.table.Table.{Table}
 
 -- some bytes lead from the root to the state, or some bytes and the end
 abbrev pub IsReached : Table → ℕ → ℕ → Type 0

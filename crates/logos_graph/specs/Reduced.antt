@@ -4,7 +4,8 @@ use Rattle.std.specs.List.Sorted.{IsStrictlyIncreasing}
 use Rattle.std.specs.List.{All}
 use Rattle.logos_pattern.specs.Text.{IsBytes}
 use Rattle.logos_graph.specs.Munch.{Rule, IsFirst}
-use Rattle.logos_graph.specs.Graph.{StateType, GraphState, walk, next_by, next_at_end, type_after}
+use Rattle.logos_reduce.specs.Edges.{StateType}
+use Rattle.logos_graph.specs.Graph.{GraphState, walk, next_by, next_at_end, type_after}
 
 -- it is the one that matches all the bytes, whatever byte follows and also at the end
 pub record IsSettled (rules : List Rule) (bytes : List ℕ) (leaf : ℕ) : Type 0 where

@@ -3,10 +3,10 @@ use Rattle.std.specs.Prelude.{◌≡◌, ℕ, ◌+◌, ◌<◌, ◌≤◌, Bool,
 use Rattle.std.specs.Option.{option_map_or}
 use Rattle.logos_pattern.specs.Text.{IsBytes}
 use Rattle.logos_graph.specs.Munch.{Rule, RuleMatches, IsFirst, Found, ended, matched, failed}
-use Rattle.logos_graph.specs.Graph.{StateType, GraphState, next_by, next_at_end}
+use Rattle.logos_reduce.specs.Edges.{StateType, IsMarked}
+use Rattle.logos_graph.specs.Graph.{GraphState, next_by, next_at_end}
 use Rattle.logos_graph.specs.First.{first_of}
 use Rattle.logos_graph.specs.View.{Automaton, dfa_next}
-use Rattle.logos_graph.specs.Reduced.{IsMarked}
 
 -- the states of a graph: their types, where a byte leads, and where the end leads
 pub record Edges (S : Type 0) : Type 0 where

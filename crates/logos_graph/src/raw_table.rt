@@ -6,10 +6,10 @@ ghost use Rattle.logos_graph.specs.Faults.{AreFaults};
 ghost use Rattle.logos_graph.specs.FinishedGraph.{NamesLeaves};
 ghost use Rattle.logos_graph.specs.First.{first_of};
 ghost use Rattle.logos_graph.specs.RawTable.{best_with, IsRawMark, IsMarkOf, AreRawRows};
-ghost use Rattle.logos_graph.specs.Reduce.{size, mark, type_of, edges, mark_in};
-ghost use Rattle.logos_graph.specs.ReduceShown.{IsRaw};
-ghost use Rattle.logos_graph.specs.Rows.{target_by, IsClosed};
-ghost use Rattle.logos_graph.specs.RowsKept.{rows_of};
+ghost use Rattle.logos_reduce.specs.Table.{size, mark, type_of, edges, mark_in};
+ghost use Rattle.logos_reduce.specs.Raw.{IsRaw};
+ghost use Rattle.logos_reduce.specs.Rows.{target_by, IsClosed};
+ghost use Rattle.logos_reduce.specs.RowsView.{rows_of};
 ghost use Rattle.logos_graph.specs.View.{rules_of, IsTotal, ReadsOneByteLate};
 ghost use Rattle.logos_graph.specs.Walk.{MarksOneByteLate};
 

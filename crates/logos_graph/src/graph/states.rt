@@ -5,9 +5,9 @@ ghost use Rattle.logos_graph.specs.Bytes.{bounds};
 ghost use Rattle.logos_graph.specs.FinishedGraph.{AreNeat, IsFit, IsFinished};
 ghost use Rattle.logos_graph.specs.GraphView.{edge_of, graph_state_of, leaf_number, state_number, state_type_of};
 ghost use Rattle.logos_graph.specs.Marks.{IsRising, IsFirstFrom};
-ghost use Rattle.logos_graph.specs.Reduce.{size, to, mark, type_of};
+ghost use Rattle.logos_reduce.specs.Table.{size, to, mark, type_of};
 ghost use Rattle.logos_graph.specs.ReduceShown.{Shows};
-ghost use Rattle.logos_graph.specs.Rows.{target_by};
+ghost use Rattle.logos_reduce.specs.Rows.{target_by};
 ghost use Rattle.logos_graph.specs.States.{targets, with_range, with_run, AreEdgesOf, IsStateOf};
 
 use super::{State, StateData, StateType};

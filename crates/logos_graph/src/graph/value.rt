@@ -8,7 +8,7 @@ ghost use Rattle.logos_graph.specs.GraphView.{graph_state_of, state_number};
 ghost use Rattle.logos_graph.specs.Mermaid.{mermaid_of};
 ghost use Rattle.logos_graph.specs.ReduceShown.{Shows};
 ghost use Rattle.logos_graph.specs.StatesView.{states_left};
-ghost use Rattle.logos_graph.specs.Tellable.{IsTellable};
+ghost use Rattle.logos_reduce.specs.Tellable.{IsTellable};
 
 use super::mermaid::chart;
 use super::printing::Listing;

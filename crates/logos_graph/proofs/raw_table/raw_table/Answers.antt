@@ -1,17 +1,17 @@
 use Rattle.std.proofs.Common.{◌≡◌, ℕ, ◌<◌, ◌≤◌, Option, None, IfSome, length, refl, sym, ◌∙◌, ap, subst, arith, List, Vec, Global, vec_len}
 use Rattle.std.proofs.lemmas.List.{get_or_past}
 use Rattle.logos_graph.specs.DfaView.{dfa_of}
-use Rattle.logos_graph.specs.Reduce.{size, mark, mark_in}
+use Rattle.logos_reduce.specs.Table.{size, mark, mark_in}
 use Rattle.logos_graph.specs.RawTable.{IsMarkOf, AreRawRows}
-use Rattle.logos_graph.specs.declared.reduce.table.Mark.{Mark}
+use Rattle.logos_reduce.specs.declared.table.Mark.{Mark}
 use Rattle.logos_pattern.specs.declared.leaf.Leaf.{Leaf}
-use Rattle.logos_graph.specs.Rows.{AreWide}
-use Rattle.logos_graph.specs.RowsKept.{rows_of}
-use Rattle.logos_graph.specs.declared.reduce.rows.Rows.{Rows}
-use Rattle.logos_graph.specs.declared.reduce.table.Table.{Table}
+use Rattle.logos_reduce.specs.Rows.{AreWide}
+use Rattle.logos_reduce.specs.RowsView.{rows_of}
+use Rattle.logos_reduce.specs.declared.rows.Rows.{Rows}
+use Rattle.logos_reduce.specs.declared.table.Table.{Table}
 use Rattle.logos_graph.proofs.Automaton.{no_faults}
 use Rattle.logos_graph.proofs.RawLemmas.{raw_closed, is_raw, raw_late}
-use Rattle.logos_graph.proofs.RowLemmas.{rows_wide}
+use Rattle.logos_reduce.proofs.tables.RowLemmas.{rows_wide}
 use Rattle.logos_graph.specs.View.{Automaton, rules_of}
 use Rattle.logos_graph.proofs.raw_table.raw_table.Goals as goal
 

@@ -3,7 +3,7 @@ use Rattle.logos_pattern.specs.declared.leaf.Leaf.{Leaf}
 use Rattle.logos_graph.specs.DfaView.{dfa_of}
 use Rattle.logos_graph.specs.Faults.{AreFaults}
 use Rattle.logos_graph.specs.FinishedGraph.{NamesLeaves}
-use Rattle.logos_graph.specs.Reduce.{size, mark, type_of, edges}
+use Rattle.logos_reduce.specs.Table.{size, mark, type_of, edges}
 use Rattle.logos_graph.specs.View.{rules_of, ReadsOneByteLate}
 use Rattle.logos_graph.specs.Walk.{MarksOneByteLate}
 use Rattle.logos_graph.proofs.Automaton.{no_faults}
