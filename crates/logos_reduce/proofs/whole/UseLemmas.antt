@@ -95,14 +95,15 @@ module _ (raw : Table) (root : ℕ) (reduction : Reduction) (made : IsReductionO
     root_in : IsIn root
     root_in = (end.root_is raw root reduction made is_raw.root_in).0
 
+    -- an edge into a state at which its late mark is needed
+    abbrev HasNeed : ℕ → ℕ → Type 0
+    HasNeed t leaf = (s k : ℕ) × (to final s k ≡ Some t) × ((mark final s).early ≢ Some leaf)
+
     -- a late mark is needed on some way in
-    needed : (t leaf : ℕ) → (mark final t).accept ≡ Some leaf → (s k : ℕ) × (to final s k ≡ Some t) × ((mark final s).early ≢ Some leaf)
+    needed : (t leaf : ℕ) → (mark final t).accept ≡ Some leaf → HasNeed t leaf
     needed t leaf h = go (cases_lt t (size final))
       where
-        abbrev IsGoal : Type 0
-        IsGoal = (s k : ℕ) × (to final s k ≡ Some t) × ((mark final s).early ≢ Some leaf)
-
-        found : (T s k : ℕ) → IsIn T → number T ≡ t → (mark mid T).accept ≡ Some leaf → (mark raw T).accept ≡ Some leaf → s < size raw → to raw s k ≡ Some T → (mark raw T).accept ≢ (mark mid s).early → IsGoal
+        found : (T s k : ℕ) → IsIn T → number T ≡ t → (mark mid T).accept ≡ Some leaf → (mark raw T).accept ≡ Some leaf → s < size raw → to raw s k ≡ Some T → (mark raw T).accept ≢ (mark mid s).early → HasNeed t leaf
         found T s k i e a b l q d = by_way (is_raw.reached s l)
           where
             marked : IsMarked (type_of (mark mid T))
@@ -118,7 +119,7 @@ module _ (raw : Table) (root : ℕ) (reduction : Reduction) (made : IsReductionO
             of_use_s : IsOfUse mid s
             of_use_s = inr (leads (cases_lt k 256))
 
-            with_source : IsIn s → IsGoal
+            with_source : IsIn s → HasNeed t leaf
             with_source j =
                 let kept = kept_edge mid pruned made.pruned s k T (end.raw_edge raw root reduction made s k ∙ q) (inl marked) in (
                   number s,
@@ -127,15 +128,15 @@ module _ (raw : Table) (root : ℕ) (reduction : Reduction) (made : IsReductionO
                   λ z. d (b ∙ sym z ∙ ap (λ (y : StateType). y.early) (end.number_type raw root reduction made s j)),
                 )
 
-            by_way : IsReached raw root s → IsGoal
+            by_way : IsReached raw root s → HasNeed t leaf
             by_way (bytes, ok, inl way) = with_source (numbered_by bytes ok root s root_in way of_use_s)
             by_way (bytes, ok, inr x) = absurd (end.dead_end raw root reduction made is_raw x.0 s x.2 (leads (cases_lt k 256)))
 
-        by_need : (T : ℕ) → IsIn T → number T ≡ t → (mark mid T).accept ≡ Some leaf → IsKeptOrSpare raw mid T → IsGoal
+        by_need : (T : ℕ) → IsIn T → number T ≡ t → (mark mid T).accept ≡ Some leaf → IsKeptOrSpare raw mid T → HasNeed t leaf
         by_need T i e a (inl x) = let s = x.1 in found T s.0 s.2.0 i e a (sym x.0 ∙ a) s.1 s.2.1 s.2.2
         by_need T i e a (inr x) = let z = x.0 in absurd (cc)
 
-        go : (t < size final) ⊎ (size final ≤ t) → IsGoal
+        go : (t < size final) ⊎ (size final ≤ t) → HasNeed t leaf
         go (inl l) =
             let p = end.lead_number raw root reduction made t l in
             let T = end.leader_of raw root reduction made t in
