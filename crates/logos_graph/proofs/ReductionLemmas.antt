@@ -1,29 +1,19 @@
 -- The steps of the reduction, as the theory of reductions has them.
-use Rattle.std.proofs.Common.{◌≡◌, ℕ, zero, suc, ◌<◌, ◌≤◌, ◌-◌, ◌⊎◌, inl, inr, slice_index, List, length, Option, Some, None, option_map, option_and_then, refl, sym, ◌∙◌, ap, subst, arith}
+use Rattle.std.proofs.Common.{◌≡◌, ℕ, ◌<◌, ◌≤◌, ◌⊎◌, inl, inr, List, Option, Some, None, option_and_then, refl, sym, ◌∙◌, ap, subst, arith}
 use Rattle.std.proofs.lemmas.Bool.{cases_lt}
-use Rattle.std.proofs.lemmas.List.{get_or_past}
-use Rattle.logos_reduce.specs.Merge.{led, IsMerged}
-use Rattle.logos_reduce.specs.Table.{mark_in, size, to, mark, type_of, edges}
-use Rattle.logos_reduce.specs.Settle.{accepted, AllAccepted, IsSpare, IsNeeded, IsSettled}
-use Rattle.logos_reduce.specs.Prune.{IsOfUse, IsPrunedTable}
+use Rattle.logos_reduce.specs.Merge.{IsMerged}
 use Rattle.logos_reduce.specs.Number.{IsNumbered}
-use Rattle.logos_reduce.specs.Order.{IsMet}
-use Rattle.logos_reduce.specs.Rows.{target_in, target_of}
-use Rattle.logos_reduce.specs.RowsView.{rows_of}
+use Rattle.logos_reduce.specs.Prune.{IsOfUse, IsPrunedTable}
+use Rattle.logos_reduce.specs.Settle.{accepted, AllAccepted, IsSpare, IsNeeded, IsSettled}
+use Rattle.logos_reduce.specs.Table.{mark_in, size, to, mark, type_of, edges}
 use Rattle.logos_reduce.specs.declared.merge.blocks.Split.{Split}
 use Rattle.logos_reduce.specs.declared.table.Mark.{Mark}
 use Rattle.logos_reduce.specs.declared.table.Table.{Table}
-use Rattle.logos_reduce.proofs.tables.EdgeLemmas.{edge_within}
+use Rattle.logos_reduce.proofs.numbering.StateLemmas as num
+use Rattle.logos_reduce.proofs.tables.EdgeLemmas.{edge_within, unmarked_past}
 use Rattle.logos_graph.proofs.Maps.{IsMap}
 use Rattle.logos_graph.proofs.Pruned.{IsPruned, IsKept}
 use Rattle.logos_graph.proofs.Settled as settled
-
-unmarked_past : (table : Table) (s : ℕ) → size table ≤ s → mark table s ≡ record { accept = None; early = None }
-unmarked_past table s l = get_or_past table.marks.items s (record { accept = None; early = None }) (let w = table.marks.ok.0 in omega arith)
-
--- tables with one list of rows have the same edges
-same_to : (old new : Table) → rows_of new.rows ≡ rows_of old.rows → (s k : ℕ) → to new s k ≡ to old s k
-same_to old new e s k = ap (λ (rows : List (List ℕ)). target_in rows s k) e
 
 module _ (old new : Table) (late_only : (s : ℕ) → (mark old s).early ≡ None) (h : IsSettled old new) where
   -- all that is accepted by symbols

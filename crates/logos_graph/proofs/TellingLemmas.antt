@@ -1,27 +1,18 @@
--- How two states of a reduced graph are told apart: step by step, by the splits that parted them.
-use Rattle.std.proofs.Common.{◌≡◌, ◌≢◌, ◌↔◌, ℕ, zero, suc, ◌<◌, ◌≤◌, ◌+◌, ◌-◌, ◌⊎◌, inl, inr, Bool, true, false, List, [], ◌∷◌, ◌++◌, length, slice_index, Option, Some, None, option_map, option_and_then, refl, sym, ◌∙◌, ap, subst, arith}
-use Rattle.std.proofs.lemmas.Bool.{cases_lt}
-use Rattle.std.proofs.lemmas.List.{length-append}
-use Rattle.std.proofs.lemmas.List.Elements.{All-nil, All-push}
+-- What tells two states of a table apart tells those of the graph that shows it apart.
+use Rattle.std.proofs.Common.{◌≡◌, ◌≢◌, ◌↔◌, ℕ, ◌<◌, Bool, true, false, List, [], ◌∷◌, Option, Some, None, option_map, option_and_then, refl, sym, ◌∙◌, ap, arith}
 use Rattle.logos_pattern.specs.Text.{IsBytes}
-use Rattle.logos_graph.specs.Graph.{GraphState, type_after, TellsApart}
-use Rattle.logos_graph.specs.Least.{IsEvidence}
-use Rattle.logos_reduce.specs.Words.{reached, Tells}
-use Rattle.logos_reduce.specs.Merge.{led, ArePartedBy, split_at}
-use Rattle.logos_reduce.specs.inside.Count.{count_blocks}
 use Rattle.logos_reduce.specs.Table.{size, to, mark, type_of}
-use Rattle.logos_graph.specs.ReduceShown.{Shows}
-use Rattle.logos_reduce.specs.Tellable.{HistoryOf, IsTellable}
-use Rattle.logos_reduce.specs.inside.Telling.{ArePartedAt}
+use Rattle.logos_reduce.specs.Telling as told
 use Rattle.logos_reduce.specs.Telling.{mark_behind, mark_after}
-use Rattle.logos_reduce.specs.declared.reduction.Reduction.{Reduction}
+use Rattle.logos_reduce.specs.Words.{state_behind}
 use Rattle.logos_reduce.specs.declared.table.Mark.{Mark}
 use Rattle.logos_reduce.specs.declared.table.Table.{Table}
-use Rattle.logos_reduce.proofs.merging.CountLemmas.{blocks_le, blocks_lt, blocks_few, blocks_some}
-use Rattle.logos_reduce.proofs.tables.EdgeLemmas.{edge_within, edge_symbol}
+use Rattle.logos_graph.specs.Graph.{GraphState, type_after, TellsApart}
+use Rattle.logos_graph.specs.Least.{IsEvidence}
+use Rattle.logos_graph.specs.ReduceShown.{Shows}
+use Rattle.logos_reduce.proofs.tables.EdgeLemmas.{edge_within}
 use Rattle.logos_graph.proofs.LeastLemmas.{same_mark, type_here, type_step, type_stuck, type_end, type_no_end}
 use Rattle.logos_graph.proofs.Steps.{first_byte, other_bytes}
-use Rattle.logos_reduce.proofs.words.WordLemmas.{all_told, history_finer}
 
 -- marks behind bytes, in a table and in the graph that shows it
 module _ (table : Table) (graph : List GraphState) (shows : Shows table graph) where
@@ -38,7 +29,7 @@ module _ (table : Table) (graph : List GraphState) (shows : Shows table graph) w
   shown_after (b ∷ bytes) s ends ok l = go (to table s b) refl (shown_after bytes)
     where
       go : (o : Option ℕ) → to table s b ≡ o → ((s : ℕ) (ends : Bool) → IsBytes bytes → s < size table → type_after graph s bytes ends ≡ option_map type_of (mark_after table s bytes ends)) →
-          type_after graph s (b ∷ bytes) ends ≡ option_map type_of (option_and_then (λ t. mark_behind table t ends) (reached table o bytes))
+          type_after graph s (b ∷ bytes) ends ≡ option_map type_of (option_and_then (λ t. mark_behind table t ends) (state_behind table o bytes))
       go None e ih = type_stuck table graph shows s b bytes ends l (first_byte b bytes ok) e
       go (Some t) e ih = type_step table graph shows s b t bytes ends l (first_byte b bytes ok) e ∙ ih t ends (other_bytes b bytes ok) (edge_within table s b t e).1
 
@@ -55,10 +46,8 @@ module _ (table : Table) (graph : List GraphState) (shows : Shows table graph) w
     λ d e. d (shown_after bytes s ends ok ls ∙ ap (option_map type_of) e ∙ sym (shown_after bytes t ends ok lt)),
   )
 
-pub evidence_told : (table : Table) (s t : ℕ) (bytes : List ℕ) (ends : Bool) → s < size table → t < size table → IsTold table s t bytes ends →
-    (graph : List GraphState) → Shows table graph → IsEvidence graph s t bytes ends
-evidence_told table s t bytes ends ls lt x graph shows = record {
-  tells = (tells_shown table graph shows s t bytes ends x.ok ls lt).0 x.apart;
-  short = let n = shows.states in let m = x.short in omega arith;
-}
-
+  pub evidence_shown : (s t : ℕ) (bytes : List ℕ) (ends : Bool) → s < size table → t < size table → told.IsEvidence table s t bytes ends → IsEvidence graph s t bytes ends
+  evidence_shown s t bytes ends ls lt x = record {
+    tells = (tells_shown s t bytes ends x.are_bytes ls lt).0 x.tells;
+    short = let n = shows.states in let m = x.short in omega arith;
+  }

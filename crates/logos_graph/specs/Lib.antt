@@ -29,13 +29,6 @@ pub mod Keys
 pub mod Errors
 pub mod First
 pub mod Walk
-pub mod Rows
-pub mod RowsKept
-pub mod Reduce
-pub mod MergeLists
-pub mod ReduceOrder
-pub mod Merge
-pub mod ReduceNumber
 pub mod ReduceShown
 pub mod GraphView
 pub mod DfaView
@@ -47,7 +40,6 @@ pub mod Targets
 pub mod Walks
 pub mod Measures
 pub mod TopSets
-pub mod Tellable
 pub mod GraphInside
 pub mod StatesView
 pub mod RawTable

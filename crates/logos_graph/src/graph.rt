@@ -10,6 +10,7 @@ mod evidence;
 mod making;
 mod mermaid;
 mod printing;
+mod reduction;
 #[cfg(test)]
 mod rounds;
 #[cfg(test)]

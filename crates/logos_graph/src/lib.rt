@@ -18,7 +18,6 @@ mod node;
 mod prepare;
 mod ranges;
 mod raw_table;
-mod reduce;
 mod several;
 mod step;
 mod table;

@@ -15,9 +15,10 @@ ghost use Rattle.logos_graph.specs.Walk.{MarksOneByteLate};
 
 use crate::dfa::Dfa;
 use crate::faults::priority_at;
-use crate::reduce::{Mark, Row, Rows, Table};
 use crate::targets;
 use logos_pattern::leaf::Leaf;
+use logos_reduce::rows::{Row, Rows};
+use logos_reduce::table::{Mark, Table};
 use std::alloc::{AllocError, Global};
 
 /// The leaf, if it has a higher priority than the best one before it, or else that one.
@@ -101,17 +102,6 @@ fn raw_rows(alloc: Global, dfa: &Dfa) -> Result<Rows, AllocError>
     Ok(rows)
 }
 
-/// The table with these marks and rows.
-fn assemble(marks: Vec<Mark>, rows: Rows) -> Table
-    requires same_len { length (rows_of rows) ≡ vec_len marks }
-    requires closed { IsClosed (vec_len marks) (rows_of rows) }
-    requires few { vec_len marks + 1 < 2 ^ 32 }
-    ensures marks { result.marks ≡ marks }
-    ensures rows { result.rows ≡ rows }
-{
-    Table { marks, rows }
-}
-
 /// The table of the automaton: each state accepts the leaf of highest priority that it lists. Its states have
 /// their numbers, and the first is the start.
 pub(crate) fn raw_table(alloc: Global, leaves: &[Leaf<'_>], dfa: &Dfa) -> Result<Table, AllocError>
@@ -125,5 +115,5 @@ pub(crate) fn raw_table(alloc: Global, leaves: &[Leaf<'_>], dfa: &Dfa) -> Result
 {
     let marks = raw_marks(alloc, leaves, dfa)?;
     let rows = raw_rows(alloc, dfa)?;
-    Ok(assemble(marks, rows))
+    Ok(Table::new(marks, rows))
 }

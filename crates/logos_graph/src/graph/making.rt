@@ -7,13 +7,13 @@ ghost use Rattle.logos_graph.specs.Size.{size_of};
 ghost use Rattle.logos_graph.specs.View.{rules_of, AllStart, IsTotal, ReadsOneByteLate};
 ghost use Rattle.logos_graph.specs.declared.graph.BuildError.TheVariants.{Memory, LimitSize};
 
+use super::reduction::least_table;
 use super::{BuildError, Config, Graph};
 use crate::dfa::Dfa;
 use crate::dfa::build::build;
 use crate::faults::graph_errors;
 use crate::measures::{is_size_within, some_leaf_is_passable, some_leaf_leads};
 use crate::raw_table::raw_table;
-use crate::reduce::reduce;
 use logos_pattern::leaf::Leaf;
 use std::alloc::Global;
 
@@ -61,7 +61,7 @@ fn finished<'s>(
     ensures err { IfErr result (λ e. e ≡ Memory) }
 {
     let table = raw_table(alloc, &leaves, &dfa)?;
-    let reduced = reduce(alloc, table, 0)?;
+    let reduced = least_table(alloc, table, 0)?;
     Ok(Graph::finished(alloc, leaves, config, dfa, reduced)?)
 }
 

@@ -12,8 +12,10 @@ ghost use Rattle.logos_graph.specs.States.{targets, with_range, with_run, AreEdg
 
 use super::{State, StateData, StateType};
 use crate::byte_class::ByteClass;
-use crate::reduce::{END, Mark, Row, Table, WIDTH, predecessors, target_at};
 use logos_pattern::leaf::LeafId;
+use logos_reduce::lists::predecessors;
+use logos_reduce::rows::{END, Row, WIDTH, target_at};
+use logos_reduce::table::{Mark, Table};
 use std::alloc::{AllocError, Global};
 use std::ops::RangeInclusive;
 

@@ -15,8 +15,8 @@ use super::printing::Listing;
 use super::states::states_of;
 use super::{Config, GraphError, State, StateData};
 use crate::dfa::Dfa;
-use crate::reduce::Reduced;
 use logos_pattern::leaf::Leaf;
+use logos_reduce::reduction::Reduction;
 use logos_token::error::Memory;
 use std::alloc::{AllocError, Global};
 use std::fmt;
@@ -30,7 +30,7 @@ pub struct Graph<'s> {
     dfa: Dfa,
     errors: Vec<GraphError>,
     states: Vec<StateData>,
-    reduced: Option<Reduced>,
+    reduced: Option<Reduction>,
 }
 
 /// The states of a graph, ascending.
@@ -84,7 +84,7 @@ impl<'s> Graph<'s> {
         leaves: Vec<Leaf<'s>>,
         config: Config,
         dfa: Dfa,
-        reduced: Reduced,
+        reduced: Reduction,
     ) -> Result<Graph<'s>, AllocError>
         requires fit { IsFit reduced.table (length leaves.items) }
         requires tellable { IsTellable reduced }
@@ -152,7 +152,7 @@ impl Graph<'_> {
     }
 
     /// The table that the graph shows.
-    pub(crate) fn reduced(&self) -> &Reduced
+    pub(crate) fn reduced(&self) -> &Reduction
         requires { 0 < length self.now.states }
         ensures shows { Shows result.now.table self.now.states }
         ensures tellable { IsTellable result.now }

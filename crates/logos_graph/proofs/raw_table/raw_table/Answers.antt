@@ -21,11 +21,11 @@ wide rows = rows_wide rows.places.items rows.kept.keys (λ i l. rows.placed i (o
 no_state : (table : Table) (s : ℕ) → size table ≤ s → mark table s ≡ record { accept = None; early = None }
 no_state table s l = get_or_past table.marks.items s (record { accept = None; early = None }) (omega (arith, l))
 
-pub assemble-requires-clause-same_len : goal.assemble-requires-clause-same_len
-assemble-requires-clause-same_len c = c.in_ok-rows.ensures.len ∙ sym c.in_ok-marks.ensures.len
+pub new-requires-clause-same_len : goal.new-requires-clause-same_len
+new-requires-clause-same_len c = c.in_ok-rows.ensures.len ∙ sym c.in_ok-marks.ensures.len
 
-pub assemble-requires-clause-closed : goal.assemble-requires-clause-closed
-assemble-requires-clause-closed c =
+pub new-requires-clause-closed : goal.new-requires-clause-closed
+new-requires-clause-closed c =
     let n = c.in_ok-marks.ensures.len in
     let closed = raw_closed (dfa_of c.args.dfa.now) c.requires.total (rows_of c.in_ok-rows.rows) c.in_ok-rows.ensures (wide c.in_ok-rows.rows) in
     λ s k t l e. let w = closed s k t (omega (arith, l, n)) e in omega (arith, w, n)
@@ -48,9 +48,9 @@ returns-clause-raw c =
     let dfa = dfa_of c.args.dfa.now in
     let m = c.in_ok-marks.marks in
     let r = c.in_ok-rows.rows in
-    let table = c.assemble.result in
-    let em = c.assemble.ensures.marks in
-    let er = c.assemble.ensures.rows in
+    let table = c.new.result in
+    let em = c.new.ensures.marks in
+    let er = c.new.ensures.rows in
     is_raw leaves dfa c.requires.total refl table (states leaves dfa m r table em er c.in_ok-marks.ensures.len) (its_rows leaves dfa m r table em er c.in_ok-rows.ensures)
     (its_marks leaves dfa m r table em er c.in_ok-marks.ensures.marks) (no_state table)
 
@@ -60,9 +60,9 @@ returns-clause-late c = λ reads none.
     let dfa = dfa_of c.args.dfa.now in
     let m = c.in_ok-marks.marks in
     let r = c.in_ok-rows.rows in
-    let table = c.assemble.result in
-    let em = c.assemble.ensures.marks in
-    let er = c.assemble.ensures.rows in
+    let table = c.new.result in
+    let em = c.new.ensures.marks in
+    let er = c.new.ensures.rows in
     raw_late leaves dfa c.requires.total refl table (states leaves dfa m r table em er c.in_ok-marks.ensures.len) (its_rows leaves dfa m r table em er c.in_ok-rows.ensures)
     (its_marks leaves dfa m r table em er c.in_ok-marks.ensures.marks) (no_state table) reads (no_faults (rules_of leaves) none).1
 
@@ -72,12 +72,12 @@ returns-clause-named c = λ s l.
     let dfa = dfa_of c.args.dfa.now in
     let m = c.in_ok-marks.marks in
     let r = c.in_ok-rows.rows in
-    let table = c.assemble.result in
-    let em = c.assemble.ensures.marks in
-    let er = c.assemble.ensures.rows in
+    let table = c.new.result in
+    let em = c.new.ensures.marks in
+    let er = c.new.ensures.rows in
     let n = states leaves dfa m r table em er c.in_ok-marks.ensures.len in
     let k = its_marks leaves dfa m r table em er c.in_ok-marks.ensures.marks s (omega (arith, l, n)) in
     (k.2.named, subst (λ (o : Option ℕ). IfSome o (λ leaf. leaf < length leaves)) (sym k.2.early) tt)
 
 pub returns-clause-size : goal.returns-clause-size
-returns-clause-size c = ap (λ (v : Vec Mark Global). vec_len v) c.assemble.ensures.marks ∙ c.in_ok-marks.ensures.len
+returns-clause-size c = ap (λ (v : Vec Mark Global). vec_len v) c.new.ensures.marks ∙ c.in_ok-marks.ensures.len
