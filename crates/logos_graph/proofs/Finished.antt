@@ -1,25 +1,29 @@
 -- A graph that shows the reduced table of an automaton finds what maximal munch finds.
-use Rattle.std.proofs.Common.{◌≡◌, ◌↔◌, ℕ, ◌<◌, inl, inr, Bool, slice_get, drop, List, length, Option, Some, None, option_map, option_and_then, vec_len, refl, sym, ◌∙◌, ap, subst, arith}
+use Rattle.std.proofs.Common.{◌≡◌, ◌↔◌, ℕ, ◌<◌, inl, inr, Bool, slice_get, drop, List, length, Option, Some, None, option_map, option_and_then, refl, sym, ◌∙◌, ap, subst}
 use Rattle.std.specs.Option.{option_map_or}
 use Rattle.logos_pattern.specs.Text.{IsBytes}
 use Rattle.logos_graph.specs.Found.{FindsTheLongest, mark_after, mark_of}
-use Rattle.logos_graph.specs.Graph.{StateType, GraphState}
-use Rattle.logos_graph.specs.Merge.{IsMerged}
+use Rattle.logos_graph.specs.Graph.{GraphState}
 use Rattle.logos_automaton.specs.Munch.{Rule, Found, Finds}
-use Rattle.logos_graph.specs.Reduce.{size, to, mark, type_of, edges, IsKeptOrSpare, IsSettled, IsPrunedTable}
-use Rattle.logos_graph.specs.ReduceNumber.{IsNumbered}
-use Rattle.logos_graph.specs.ReduceShown.{IsRaw, Shows}
-use Rattle.logos_graph.specs.Rows.{target_in}
+use Rattle.logos_graph.specs.ReduceShown.{Shows}
 use Rattle.logos_automaton.specs.Faults.{AllStart}
-use Rattle.logos_graph.specs.Walk.{Edges, to_mark, MarksOneByteLate, WalkFinds, edges_of}
-use Rattle.logos_graph.specs.declared.reduce.blocks.Split.{Split}
-use Rattle.logos_graph.specs.declared.reduce.table.Table.{Table}
-use Rattle.logos_graph.proofs.EdgeFacts.{edge_within}
+use Rattle.logos_graph.specs.Walk.{MarksOneByteLate, WalkFinds, edges_of}
 use Rattle.logos_graph.proofs.Longest.{finds_the_longest, late_root}
 use Rattle.logos_graph.proofs.Maps.{IsMap}
 use Rattle.logos_graph.proofs.Pruned.{IsPruned}
 use Rattle.logos_graph.proofs.ReductionLemmas as red
 use Rattle.logos_graph.proofs.ScanFacts.{finds_alike, nat_lt-zero}
+use Rattle.logos_reduce.specs.Edges.{StateType, Edges}
+use Rattle.logos_reduce.specs.Raw.{IsRaw}
+use Rattle.logos_reduce.specs.Reduction.{IsReductionOf}
+use Rattle.logos_reduce.specs.Rows.{target_in}
+use Rattle.logos_reduce.specs.Settle.{IsKeptOrSpare}
+use Rattle.logos_reduce.specs.Table.{size, to, mark, type_of, edges}
+use Rattle.logos_reduce.specs.declared.reduction.Reduction.{Reduction}
+use Rattle.logos_reduce.specs.declared.table.Table.{Table}
+use Rattle.logos_reduce.proofs.tables.EdgeLemmas.{edge_within}
+use Rattle.logos_reduce.proofs.whole.EndLemmas as end
+use Rattle.logos_graph.proofs.Settled.{AreSettled}
 
 -- one map after another
 pub map_on : {S T U : Type 0} (I : S → Type 0) (J : T → Type 0) (f : S → T) (k : T → U) (g : Edges S) (h : Edges T) (l : Edges U) →
@@ -59,67 +63,59 @@ module _ (table : Table) (graph : List GraphState) (h : Shows table graph) where
     end_types = λ s t i e. shown_type t (edge_within table s 256 t e).1;
   }
 
-module _ (raw mid pruned final : Table) (root : ℕ) (splits : List Split) (block leader : ℕ → ℕ) (states : List ℕ)
-    (is_raw : IsRaw raw root) (settled : IsSettled raw mid) (prune : IsPrunedTable mid pruned) (merged : IsMerged pruned splits block leader)
-    (numbered : IsNumbered pruned block leader root states final) where
-  -- all tables before the last have the same count of states
-  pub pruned_size : size pruned ≡ size raw
-  pruned_size = ap (λ (v : _). vec_len v) prune.marks ∙ settled.states
+module _ (raw : Table) (root : ℕ) (reduction : Reduction) (made : IsReductionOf raw root reduction) (is_raw : IsRaw raw root) where
+  abbrev mid : Table
+  mid = made.marked
 
-  -- the settled table has the edges of the automaton
-  pub same_edges : to mid ≡ to raw
-  same_edges = ap target_in settled.rows
+  abbrev pruned : Table
+  pruned = made.useful
 
-  -- a state behind the end is not early
-  pub late_end : (s t : ℕ) → to raw s 256 ≡ Some t → (mark mid t).early ≡ None
-  late_end s t e = go (mark mid t).early refl
-    where
-      go : (o : Option ℕ) → (mark mid t).early ≡ o → o ≡ None
-      go None q = refl
-      go (Some leaf) q =
-          let all = ((red.are_settled raw mid is_raw.late_only settled).early t leaf q).by_byte 0 (omega arith) in
-          absurd (is_raw.ends s t e (to_mark 0 (omega arith) all.1 (inr (rw all.2 refl))))
+  abbrev final : Table
+  final = reduction.table
+
+  abbrev same_edges : to mid ≡ to raw
+  same_edges = ap target_in made.settled.rows
+
+  pub settled : AreSettled (to raw) (λ s. to raw s 256) (edges raw).type_of (edges mid).type_of
+  settled = red.are_settled raw mid is_raw.late_only made.settled
 
   pub pruned_edges : IsPruned (record { type_of = (edges mid).type_of; next = to raw; at_end = λ s. to raw s 256 }) (edges pruned)
   pruned_edges =
-      subst (λ (f : ℕ → ℕ → Option ℕ). IsPruned (record { type_of = (edges mid).type_of; next = f; at_end = λ s. f s 256 }) (edges pruned)) same_edges (red.is_pruned mid pruned prune)
+      subst (λ (f : ℕ → ℕ → Option ℕ). IsPruned (record { type_of = (edges mid).type_of; next = f; at_end = λ s. f s 256 }) (edges pruned)) same_edges (red.is_pruned mid pruned made.pruned)
 
-  abbrev pub IsIn : ℕ → Type 0
-  IsIn = red.IsIn pruned final splits block leader root states merged numbered
+  abbrev IsIn : ℕ → Type 0
+  IsIn = end.IsIn raw root reduction made
 
-  abbrev pub number : ℕ → ℕ
-  number = red.number pruned final splits block leader root states merged numbered
+  abbrev number : ℕ → ℕ
+  number = end.number raw root reduction made
 
-  pub root_is : IsIn root × (number root ≡ 0)
-  root_is = red.root_met pruned final splits block leader root states merged numbered (let l = is_raw.root_in in let n = pruned_size in omega arith)
+  root_is : IsIn root × (number root ≡ 0)
+  root_is = end.root_is raw root reduction made is_raw.root_in
 
-  pub final_map : IsMap IsIn number (edges pruned) (edges final)
-  final_map = red.is_map pruned final splits block leader root states merged numbered
+  final_map : IsMap IsIn number (edges pruned) (edges final)
+  final_map = red.is_map pruned final reduction.splits.items made.block made.leader root reduction.blocks.items made.merged made.numbered
 
   module _ (graph : List GraphState) (shows : Shows final graph) where
-    pub in_final : (s : ℕ) → IsIn s → number s < size final
-    in_final s i = let p = (numbered.order.named (block s) (number s) (let m = i.1 in omega arith)).0 in let n = numbered.states_of in omega arith
-
     pub whole_map : IsMap IsIn number (edges pruned) (edges_of graph)
-    whole_map = map_on IsIn (λ s. s < size final) number (λ s. s) (edges pruned) (edges final) (edges_of graph) in_final final_map (is_shown final graph shows)
+    whole_map = map_on IsIn (λ s. s < size final) number (λ s. s) (edges pruned) (edges final) (edges_of graph) (end.number_in raw root reduction made) final_map (is_shown final graph shows)
 
     module _ (rules : List Rule) (start : AllStart rules) (reads : MarksOneByteLate rules (edges raw) root) where
       pub walk_finds : (utf8 : Bool) (bytes : List ℕ) (from : ℕ) → IsBytes bytes → (found : Found) → WalkFinds (edges_of graph) 0 utf8 bytes from found ↔ Finds rules utf8 bytes from found
       walk_finds utf8 bytes from ok found =
-          let h = finds_the_longest rules start (edges raw) root reads (edges mid).type_of (red.are_settled raw mid is_raw.late_only settled) late_end (edges pruned) pruned_edges
+          let h = finds_the_longest rules start (edges raw) root reads (edges mid).type_of settled late_end (edges pruned) pruned_edges
           IsIn number (edges_of graph) whole_map root_is.0 utf8 bytes from ok found in
           subst (λ (s : ℕ). WalkFinds (edges_of graph) s utf8 bytes from found ↔ Finds rules utf8 bytes from found) root_is.1 h
 
       -- the root has no mark
       root_late : (mark mid root).accept ≡ None
-      root_late = go (settled.late root is_raw.root_in)
+      root_late = go (made.settled.late root is_raw.root_in)
         where
           go : IsKeptOrSpare raw mid root → (mark mid root).accept ≡ None
           go (inl x) = x.0 ∙ is_raw.root_mark
           go (inr x) = x.0
 
       root_early : (mark mid root).early ≡ None
-      root_early = late_root rules start (edges raw) root reads (edges mid).type_of (red.are_settled raw mid is_raw.late_only settled)
+      root_early = late_root rules start (edges raw) root reads (edges mid).type_of settled
 
       root_type : (edges_of graph).type_of 0 ≡ record { accept = None; early = None }
       root_type =

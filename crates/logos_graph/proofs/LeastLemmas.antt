@@ -4,12 +4,12 @@ use Rattle.std.proofs.lemmas.Bool.{cases_lt}
 use Rattle.std.proofs.lemmas.List.Elements.{All-cons, All-nil}
 use Rattle.logos_pattern.specs.Text.{IsBytes}
 use Rattle.logos_graph.specs.Graph.{GraphState, type_after, TellsApart}
-use Rattle.logos_graph.specs.Merge.{reached, Tells}
-use Rattle.logos_graph.specs.Reduce.{size, to, mark, type_of}
+use Rattle.logos_reduce.specs.Words.{state_behind, Tells}
+use Rattle.logos_reduce.specs.Table.{size, to, mark, type_of}
 use Rattle.logos_graph.specs.ReduceShown.{Shows}
-use Rattle.logos_graph.specs.declared.reduce.table.Mark.{Mark}
-use Rattle.logos_graph.specs.declared.reduce.table.Table.{Table}
-use Rattle.logos_graph.proofs.EdgeFacts.{edge_within, edge_symbol}
+use Rattle.logos_reduce.specs.declared.table.Mark.{Mark}
+use Rattle.logos_reduce.specs.declared.table.Table.{Table}
+use Rattle.logos_reduce.proofs.tables.EdgeLemmas.{edge_within, edge_symbol}
 
 pub same_mark : (a b : Mark) → type_of a ≡ type_of b → a ≡ b
 same_mark a b e = λ i. record { accept = (e i).accept; early = (e i).early }
@@ -72,7 +72,7 @@ module _ (table : Table) (graph : List GraphState) (shows : Shows table graph) w
     behind_end s a t b (k ∷ word) e f d =
         let p = ends_last s a k e in
         let q = ends_last t b k f in
-        absurd (d (ap (λ (o : Option ℕ). option_map (mark table) (reached table o word)) p ∙ sym (ap (λ (o : Option ℕ). option_map (mark table) (reached table o word)) q)))
+        absurd (d (ap (λ (o : Option ℕ). option_map (mark table) (state_behind table o word)) p ∙ sym (ap (λ (o : Option ℕ). option_map (mark table) (state_behind table o word)) q)))
 
     both_end : (n s t a b : ℕ) → s < size table → t < size table → to table s 256 ≡ Some a → to table t 256 ≡ Some b → mark table a ≢ mark table b → Evidence n s t
     both_end n s t a b hs ht e f d = (
@@ -95,8 +95,8 @@ module _ (table : Table) (graph : List GraphState) (shows : Shows table graph) w
     )
     evidence (k ∷ word) s t hs ht d = go (to table s k) refl (to table t k) refl (evidence word)
       where
-        none_of : (o : Option ℕ) → o ≡ None → option_map (mark table) (reached table o word) ≡ None
-        none_of o e = ap (λ (o : Option ℕ). option_map (mark table) (reached table o word)) e
+        none_of : (o : Option ℕ) → o ≡ None → option_map (mark table) (state_behind table o word) ≡ None
+        none_of o e = ap (λ (o : Option ℕ). option_map (mark table) (state_behind table o word)) e
 
         by_place : (a : ℕ) → to table s k ≡ Some a → to table t k ≡ None → (k < 256) ⊎ (256 ≤ k) → Evidence (length (k ∷ word)) s t
         by_place a e f (inl l) = at_byte (length (k ∷ word)) s t k a (omega arith) hs ht l e f
@@ -134,5 +134,5 @@ module _ (table : Table) (graph : List GraphState) (shows : Shows table graph) w
         go None e (Some b) f ih = other_place b e f (cases_lt k 256)
         go (Some a) e (Some b) f ih =
             on a b e f
-            (λ q. d (ap (λ (o : Option ℕ). option_map (mark table) (reached table o word)) e ∙ q ∙ sym (ap (λ (o : Option ℕ). option_map (mark table) (reached table o word)) f)))
+            (λ q. d (ap (λ (o : Option ℕ). option_map (mark table) (state_behind table o word)) e ∙ q ∙ sym (ap (λ (o : Option ℕ). option_map (mark table) (state_behind table o word)) f)))
             (cases_lt k 256) ih

@@ -7,14 +7,13 @@ use Rattle.logos_automaton.specs.Munch.{Rule, RuleMatches, IsBest, NoMatch, Grow
 use Rattle.logos_pattern.proofs.Laws.{passes}
 use Rattle.logos_pattern.proofs.Order.{InOrder, matches_order}
 use Rattle.logos_automaton.proofs.munch.Unique.{rule_within, finds_one}
-use Rattle.logos_automaton.specs.Faults.{some_passable}
-use Rattle.logos_automaton.specs.Faults.{AllStart}
-use Rattle.logos_graph.specs.Graph.{StateType}
-use Rattle.logos_graph.specs.Walk.{Edges, last_mark, followed, MarksOneByteLate, MayEnd, IsUnmarked, WalkFinds}
+use Rattle.logos_automaton.specs.Faults.{some_passable, AllStart}
+use Rattle.logos_graph.specs.Walk.{last_mark, followed, MarksOneByteLate, MayEnd, IsUnmarked, WalkFinds}
 use Rattle.logos_graph.proofs.Raw.{BestBelow, FirstOrNone, raw_marks, raw_covers, GrowsUpTo}
 use Rattle.logos_graph.proofs.Settled.{AreSettled, Agree, settled_marks, settled_covers}
 use Rattle.logos_graph.proofs.Pruned.{IsPruned, pruned_marks, pruned_covers}
 use Rattle.logos_graph.proofs.Maps.{IsMap, map_marks, map_followed}
+use Rattle.logos_reduce.specs.Edges.{StateType, Edges}
 
 either_false : (a b : Bool) → IsTrue a → (a || b) ≡ false → ⊥
 either_false true b t e = cc

@@ -2,8 +2,8 @@
 use Rattle.std.proofs.Common.{◌≡◌, ◌↔◌, ℕ, ◌+◌, ◌<◌, ◌≤◌, ◌⊎◌, inl, inr, List, [], ◌∷◌, Option, Some, None, refl, sym, ◌∙◌, ap, subst, arith}
 use Rattle.std.specs.Option.{option_map_or}
 use Rattle.logos_pattern.specs.Text.{IsBytes}
-use Rattle.logos_graph.specs.Reduced.{IsMarked}
-use Rattle.logos_graph.specs.Walk.{Edges, marked, last_mark, followed, Leads, to_mark, onward, to_end, Covers}
+use Rattle.logos_reduce.specs.Edges.{IsMarked, Edges, Leads, to_mark, onward, to_end}
+use Rattle.logos_graph.specs.Walk.{marked, last_mark, followed, Covers}
 use Rattle.logos_graph.proofs.Steps.{first_byte, other_bytes, none_before, skipped, no_mark, unmarked}
 
 -- a step is kept if it leads to a useful state, and else left out

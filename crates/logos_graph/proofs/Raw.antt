@@ -6,10 +6,9 @@ use Rattle.logos_pattern.specs.Text.{IsBytes}
 use Rattle.logos_automaton.specs.Munch.{Rule, RuleMatches, IsFirst, Grows}
 use Rattle.logos_automaton.proofs.munch.Window.{rule_within_text}
 use Rattle.logos_automaton.specs.Faults.{some_leads}
-use Rattle.logos_graph.specs.Graph.{StateType}
-use Rattle.logos_graph.specs.Reduced.{IsMarked}
-use Rattle.logos_graph.specs.Walk.{Edges, marked, last_mark, reach, Leads, to_mark, onward, to_end, Covers, NoneMatches, IsLateMark, MarksOneByteLate}
+use Rattle.logos_graph.specs.Walk.{marked, last_mark, Covers, NoneMatches, IsLateMark, MarksOneByteLate}
 use Rattle.logos_graph.proofs.Steps.{first_byte, other_bytes}
+use Rattle.logos_reduce.specs.Edges.{StateType, IsMarked, Edges, reach, Leads, to_mark, onward, to_end}
 
 abbrev pub FirstOrNone : List Rule → Option ℕ → List ℕ → ℕ → ℕ → Type 0
 FirstOrNone rules x bytes from to = MatchOption x (NoneMatches rules bytes from to) (IsFirst rules bytes from to)

@@ -14,20 +14,20 @@ use Rattle.logos_automaton.specs.Ambiguity.{IsAmbiguous}
 use Rattle.logos_graph.specs.First.{first_of, higher}
 use Rattle.logos_automaton.specs.Munch.{Rule, RuleMatches, IsFirst, priority_of}
 use Rattle.logos_graph.specs.RawTable.{best_with, IsMarkOf, AreRawRows}
-use Rattle.logos_graph.specs.Reduce.{size, to, mark, type_of, edges}
-use Rattle.logos_graph.specs.ReduceShown.{IsRaw, IsReached}
-use Rattle.logos_graph.specs.Reduced.{IsMarked}
-use Rattle.logos_graph.specs.Rows.{target_by, target_in, AreWide, IsClosed}
-use Rattle.logos_graph.specs.RowsKept.{rows_of}
 use Rattle.logos_automaton.specs.Automaton.{Automaton, dfa_next, dfa_after, dfa_at_end, Lists, IsTotal, ReadsOneByteLate}
 use Rattle.logos_graph.specs.View.{rule_of, rules_of}
-use Rattle.logos_graph.specs.Walk.{Edges, reach, Leads, to_mark, onward, to_end, NoneMatches, IsLateMark, MarksOneByteLate}
-use Rattle.logos_graph.specs.declared.reduce.table.Mark.{Mark}
-use Rattle.logos_graph.specs.declared.reduce.table.Table.{Table}
+use Rattle.logos_graph.specs.Walk.{NoneMatches, IsLateMark, MarksOneByteLate}
 use Rattle.logos_graph.proofs.Automaton.{late_mark_of}
-use Rattle.logos_graph.proofs.PushLemmas.{pushed, length_pushed}
-use Rattle.logos_graph.proofs.RowLemmas.{symbol_below, source_below}
 use Rattle.logos_graph.proofs.Steps.{first_byte, other_bytes}
+use Rattle.logos_reduce.specs.Table.{size, to, mark, type_of, edges}
+use Rattle.logos_reduce.specs.Raw.{IsRaw, IsReached}
+use Rattle.logos_reduce.specs.Edges.{IsMarked, Edges, reach, Leads, to_mark, onward, to_end}
+use Rattle.logos_reduce.specs.Rows.{target_by, target_in, AreWide, IsClosed}
+use Rattle.logos_reduce.specs.RowsView.{rows_of}
+use Rattle.logos_reduce.specs.declared.table.Mark.{Mark}
+use Rattle.logos_reduce.specs.declared.table.Table.{Table}
+use Rattle.logos_reduce.proofs.tables.PushLemmas.{pushed, length_pushed}
+use Rattle.logos_reduce.proofs.tables.RowLemmas.{symbol_below, source_below}
 
 module _ (rules : List Rule) where
   -- the best leaf in front, with the one behind

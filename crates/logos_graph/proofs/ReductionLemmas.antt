@@ -1,27 +1,19 @@
 -- The steps of the reduction, as the theory of reductions has them.
-use Rattle.std.proofs.Common.{◌≡◌, ℕ, zero, suc, ◌<◌, ◌≤◌, ◌-◌, ◌⊎◌, inl, inr, slice_index, List, length, Option, Some, None, option_map, option_and_then, refl, sym, ◌∙◌, ap, subst, arith}
+use Rattle.std.proofs.Common.{◌≡◌, ℕ, ◌<◌, ◌≤◌, ◌⊎◌, inl, inr, List, Option, Some, None, option_and_then, refl, sym, ◌∙◌, ap, subst, arith}
 use Rattle.std.proofs.lemmas.Bool.{cases_lt}
-use Rattle.std.proofs.lemmas.List.{get_or_past}
-use Rattle.logos_graph.specs.Merge.{led, IsMerged}
-use Rattle.logos_graph.specs.Reduce.{mark_in, size, to, mark, type_of, edges, accepted, AllAccepted, IsSpare, IsNeeded, IsOfUse, IsSettled, IsPrunedTable}
-use Rattle.logos_graph.specs.ReduceNumber.{IsNumbered}
-use Rattle.logos_graph.specs.ReduceOrder.{IsMet}
-use Rattle.logos_graph.specs.Rows.{target_in, target_of}
-use Rattle.logos_graph.specs.RowsKept.{rows_of}
-use Rattle.logos_graph.specs.declared.reduce.blocks.Split.{Split}
-use Rattle.logos_graph.specs.declared.reduce.table.Mark.{Mark}
-use Rattle.logos_graph.specs.declared.reduce.table.Table.{Table}
-use Rattle.logos_graph.proofs.EdgeFacts.{edge_within}
+use Rattle.logos_reduce.specs.Merge.{IsMerged}
+use Rattle.logos_reduce.specs.Number.{IsNumbered}
+use Rattle.logos_reduce.specs.Prune.{IsOfUse, IsPrunedTable}
+use Rattle.logos_reduce.specs.Settle.{accepted, AllAccepted, IsSpare, IsNeeded, IsSettled}
+use Rattle.logos_reduce.specs.Table.{mark_in, size, to, mark, type_of, edges}
+use Rattle.logos_reduce.specs.declared.merge.blocks.Split.{Split}
+use Rattle.logos_reduce.specs.declared.table.Mark.{Mark}
+use Rattle.logos_reduce.specs.declared.table.Table.{Table}
+use Rattle.logos_reduce.proofs.numbering.StateLemmas as num
+use Rattle.logos_reduce.proofs.tables.EdgeLemmas.{edge_within, unmarked_past}
 use Rattle.logos_graph.proofs.Maps.{IsMap}
 use Rattle.logos_graph.proofs.Pruned.{IsPruned, IsKept}
 use Rattle.logos_graph.proofs.Settled as settled
-
-unmarked_past : (table : Table) (s : ℕ) → size table ≤ s → mark table s ≡ record { accept = None; early = None }
-unmarked_past table s l = get_or_past table.marks.items s (record { accept = None; early = None }) (let w = table.marks.ok.0 in omega arith)
-
--- tables with one list of rows have the same edges
-same_to : (old new : Table) → rows_of new.rows ≡ rows_of old.rows → (s k : ℕ) → to new s k ≡ to old s k
-same_to old new e s k = ap (λ (rows : List (List ℕ)). target_in rows s k) e
 
 module _ (old new : Table) (late_only : (s : ℕ) → (mark old s).early ≡ None) (h : IsSettled old new) where
   -- all that is accepted by symbols
@@ -110,61 +102,13 @@ module _ (old new : Table) (h : IsPrunedTable old new) where
     ends = λ s. kept_edge s 256 (to old s 256) refl;
   }
 
--- The merged and numbered states, as a map.
+-- the merged and numbered states, as a map
 module _ (old new : Table) (splits : List Split) (block leader : ℕ → ℕ) (root : ℕ) (states : List ℕ) (m : IsMerged old splits block leader) (n : IsNumbered old block leader root states new) where
-  -- the number of a state
-  abbrev pub number : ℕ → ℕ
-  number s = slice_index n.numbers (block s) - 1
-
-  -- the states whose blocks are numbered
-  abbrev pub IsIn : ℕ → Type 0
-  IsIn s = (s < size old) × IsMet n.numbers (block s)
-
-  pub number_place : (s : ℕ) → IsIn s → (number s < length states) × (slice_index states (number s) ≡ block s)
-  number_place s i = n.order.named (block s) (number s) (let p = i.1 in omega arith)
-
-  numbered_as : (s : ℕ) → IsIn s → target_of (slice_index n.numbers (block s)) ≡ Some (number s)
-  numbered_as s i = go (slice_index n.numbers (block s)) i.1
-    where
-      go : (x : ℕ) → 0 < x → target_of x ≡ Some (x - 1)
-      go zero l = absurd (omega arith)
-      go (suc x) l = ap Some (omega arith)
-
-  -- where a state leads, by the leader of its block
-  by_leader : (s k : ℕ) → IsIn s → led old block (leader (slice_index states (number s))) k ≡ led old block s k
-  by_leader s k i = ap (λ (b : ℕ). led old block (leader b) k) (number_place s i).1 ∙ sym (m.alike s k i.0)
-
-  pub stays_in : (s t k : ℕ) → IsIn s → to old s k ≡ Some t → IsIn t
-  stays_in s t k i e =
-      let p = number_place s i in
-      ((edge_within old s k t e).1, n.in_turn.met (number s) k (block t) p.0 (inl p.0) (by_leader s k i ∙ ap (option_map block) e))
-
-  pub same_type : (s : ℕ) → IsIn s → (edges new).type_of (number s) ≡ (edges old).type_of s
-  same_type s i =
-      let p = number_place s i in
-      let l = m.leaders s i.0 in
-      ap type_of (n.marks (number s) p.0 ∙ ap (λ (b : ℕ). mark old (leader b)) p.1 ∙ m.sound.marks (leader (block s)) s l.0 i.0 l.1)
-
-  pub same_edge : (s k : ℕ) → IsIn s → to new (number s) k ≡ option_map number (to old s k)
-  same_edge s k i =
-      let p = number_place s i in
-      n.edges (number s) k p.0 ∙ ap (option_and_then (λ b. target_of (slice_index n.numbers b))) (by_leader s k i) ∙ go (to old s k) refl
-    where
-      go : (o : Option ℕ) → to old s k ≡ o → option_and_then (λ b. target_of (slice_index n.numbers b)) (option_map block o) ≡ option_map number o
-      go None e = refl
-      go (Some t) e = numbered_as t (stays_in s t k i e)
-
-  pub is_map : IsMap IsIn number (edges old) (edges new)
+  pub is_map : IsMap (num.IsIn old new splits block leader root states m n) (num.number old new splits block leader root states m n) (edges old) (edges new)
   is_map = record {
-    inside = λ s t b l i e. stays_in s t b i e;
-    types = same_type;
-    edges = λ s b l i. same_edge s b i;
-    ends = λ s i. same_edge s 256 i;
-    end_types = λ s t i e. same_type t (stays_in s t 256 i e);
+    inside = λ s t b l i e. num.stays_in old new splits block leader root states m n s t b i e;
+    types = num.same_type old new splits block leader root states m n;
+    edges = λ s b l i. num.same_edge old new splits block leader root states m n s b i;
+    ends = λ s i. num.same_edge old new splits block leader root states m n s 256 i;
+    end_types = λ s t i e. num.same_type old new splits block leader root states m n t (num.stays_in old new splits block leader root states m n s t 256 i e);
   }
-
-  pub root_met : root < size old → IsIn root × (number root ≡ 0)
-  root_met l =
-      let p = (n.order.placed 0 n.some).1 in
-      let e = ap (slice_index n.numbers) n.start in
-      ((l, omega arith), omega arith)

@@ -2,9 +2,10 @@
 use Rattle.std.proofs.Common.{◌≡◌, ◌↔◌, ℕ, zero, suc, ◌+◌, ◌-◌, ◌<◌, ◌≤◌, ◌⊎◌, inl, inr, Bool, false, List, [], ◌∷◌, length, take, drop, Option, Some, None, IsSome, option_map, option_and_then, slice_get, nat_lt, refl, sym, ◌∙◌, ap, arith, rules}
 use Rattle.std.specs.Option.{option_map_or}
 use Rattle.logos_graph.specs.Found as found
-use Rattle.logos_graph.specs.Graph.{StateType, GraphState, next_by, next_at_end, walk, type_after}
+use Rattle.logos_graph.specs.Graph.{GraphState, next_by, next_at_end, walk, type_after}
 use Rattle.logos_automaton.specs.Munch.{Found, ended, matched, failed}
-use Rattle.logos_graph.specs.Walk.{Edges, marked, last_mark, followed, MayEnd, edges_of, GraphFindsByWalk}
+use Rattle.logos_graph.specs.Walk.{marked, last_mark, followed, MayEnd, edges_of, GraphFindsByWalk}
+use Rattle.logos_reduce.specs.Edges.{StateType, Edges}
 
 -- a mark does not go by the one before
 mark_over : (type : StateType) (at : ℕ) (last : Option (ℕ × ℕ)) (p : ℕ × ℕ) → marked type at None ≡ Some p → marked type at last ≡ Some p

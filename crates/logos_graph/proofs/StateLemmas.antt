@@ -8,12 +8,12 @@ use Rattle.std.specs.List.Sorted.{IsStrictlyIncreasing}
 use Rattle.logos_graph.specs.FinishedGraph.{Edge, AreNeat, edge_leads, IsLate, IsUnmarked, NamesLeaves, IsFit, IsFinishedState, IsFirstState, IsFinished}
 use Rattle.logos_graph.specs.Graph.{GraphState}
 use Rattle.logos_graph.specs.GraphView.{graph_state_of}
-use Rattle.logos_graph.specs.Reduce.{size, to, mark, type_of}
+use Rattle.logos_reduce.specs.Table.{size, to, mark, type_of}
 use Rattle.logos_graph.specs.ReduceShown.{Shows}
 use Rattle.logos_graph.specs.States.{IsEdgeOf, AreEdgesOf, IsStateOf, AreStatesOf}
 use Rattle.logos_graph.specs.declared.graph.StateData.{StateData}
-use Rattle.logos_graph.specs.declared.reduce.table.Table.{Table}
-use Rattle.logos_graph.proofs.EdgeFacts.{edge_within}
+use Rattle.logos_reduce.specs.declared.table.Table.{Table}
+use Rattle.logos_reduce.proofs.tables.EdgeLemmas.{edge_within}
 use Rattle.logos_graph.proofs.EdgeLemmas.{edges_neat, edges_increase}
 
 -- what stands at an index of a list with one more element

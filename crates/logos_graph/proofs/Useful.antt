@@ -4,8 +4,8 @@ use Rattle.std.proofs.lemmas.List.Elements.{All-cons, All-nil}
 use Rattle.std.specs.Option.{option_map_or}
 use Rattle.logos_pattern.specs.Text.{IsBytes}
 use Rattle.logos_graph.specs.Graph.{GraphState, walk, type_after}
-use Rattle.logos_graph.specs.Reduced.{IsMarked}
-use Rattle.logos_graph.specs.Walk.{Leads, to_mark, onward, to_end, edges_of}
+use Rattle.logos_reduce.specs.Edges.{IsMarked, Leads, to_mark, onward, to_end}
+use Rattle.logos_graph.specs.Walk.{edges_of}
 
 module _ (graph : List GraphState) where
   abbrev LeadsTo : ℕ → Type 0

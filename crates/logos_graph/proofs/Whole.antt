@@ -6,10 +6,10 @@ use Rattle.logos_pattern.specs.Text.{IsBytes}
 use Rattle.logos_automaton.specs.Munch.{Rule, IsFirst, Found, Finds}
 use Rattle.logos_automaton.specs.Faults.{AreFaults}
 use Rattle.logos_graph.specs.Found.{IsInput}
-use Rattle.logos_graph.specs.Graph.{StateType, GraphState}
+use Rattle.logos_graph.specs.Graph.{GraphState}
 use Rattle.logos_graph.specs.Reduced.{IsSettled}
 use Rattle.logos_automaton.specs.Automaton.{Automaton, ReadsOneByteLate}
-use Rattle.logos_graph.specs.Walk.{Edges, reach, MarksOneByteLate, edges_of, edges_of_automaton, GraphFindsByWalk}
+use Rattle.logos_graph.specs.Walk.{MarksOneByteLate, edges_of, edges_of_automaton, GraphFindsByWalk}
 use Rattle.logos_graph.proofs.Steps.{first_byte, other_bytes}
 use Rattle.logos_graph.proofs.Raw.{FirstOrNone, reach_next}
 use Rattle.logos_graph.proofs.Settled.{AreSettled, AllAccept}
@@ -17,6 +17,7 @@ use Rattle.logos_graph.proofs.Pruned.{IsPruned, IsKept, IsUseful}
 use Rattle.logos_graph.proofs.Maps.{IsMap}
 use Rattle.logos_graph.proofs.Longest.{finds_the_longest}
 use Rattle.logos_graph.proofs.Automaton.{no_faults, marks_late}
+use Rattle.logos_reduce.specs.Edges.{StateType, Edges, reach}
 
 -- the graph comes from the automaton by early marks, dropped late marks, pruning, and a map of states
 pub record IsReductionOf (rules : List Rule) (dfa : Automaton) (graph : List GraphState) : Type 1 where

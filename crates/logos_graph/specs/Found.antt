@@ -2,7 +2,8 @@
 use Rattle.std.specs.Prelude.{◌≡◌, ℕ, ◌+◌, ◌-◌, ◌<◌, ◌≤◌, ◌↔◌, Bool, false, List, length, take, drop, Option, Some, None, option_and_then, IsSome, IsTrue, IsUtf8, IsCharBoundary, nat_lt}
 use Rattle.logos_pattern.specs.Text.{IsBytes}
 use Rattle.logos_automaton.specs.Munch.{Rule, Found, ended, matched, failed, Finds}
-use Rattle.logos_graph.specs.Graph.{StateType, GraphState, walk, type_after}
+use Rattle.logos_graph.specs.Graph.{GraphState, walk, type_after}
+use Rattle.logos_reduce.specs.Edges.{StateType}
 
 -- the leaf that a state type marks after n bytes, and the length of its match
 abbrev pub mark_of : StateType → ℕ → Option (ℕ × ℕ)

@@ -5,7 +5,7 @@ use Rattle.logos_automaton.specs.Errors.{fault_of}
 use Rattle.logos_graph.specs.FinishedGraph.{IsFinished}
 use Rattle.logos_graph.specs.GraphView.{graph_state_of}
 use Rattle.logos_graph.specs.ReduceShown.{Shows}
-use Rattle.logos_graph.specs.Tellable.{IsTellable}
+use Rattle.logos_reduce.specs.Tellable.{IsTellable}
 use Rattle.logos_graph.specs.View.{GraphValue}
 use Rattle.logos_graph.specs.declared.graph.value.Graph.TheInside.{Inside}
 

@@ -1,7 +1,8 @@
 -- What contracts see of the states of a graph.
 use Rattle.std.specs.Prelude.{ℕ, List, map, option_map}
 use Rattle.logos_pattern.specs.declared.leaf.LeafId.{LeafId}
-use Rattle.logos_graph.specs.Graph.{StateType, GraphState}
+use Rattle.logos_reduce.specs.Edges.{StateType}
+use Rattle.logos_graph.specs.Graph.{GraphState}
 use Rattle.logos_graph.specs.Bytes.{ranges_of}
 use Rattle.logos_graph.specs.declared.byte_class.ByteClass.{ByteClass}
 use Rattle.logos_graph.specs.declared.graph.State.{State}

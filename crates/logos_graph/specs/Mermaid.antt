@@ -3,7 +3,8 @@ use Rattle.std.specs.Prelude.{ℕ, ◌+◌, ◌==◌, Option, Some, None, List, 
 use Rattle.std.specs.Fmt.{decimal}
 use Rattle.std.specs.List.{flat_map, join_by}
 use Rattle.logos_graph.specs.ClassText.{range_text}
-use Rattle.logos_graph.specs.Graph.{StateType, GraphState}
+use Rattle.logos_reduce.specs.Edges.{StateType}
+use Rattle.logos_graph.specs.Graph.{GraphState}
 
 -- a character in a label
 abbrev pub label_character : ℕ → List ℕ

@@ -3,9 +3,9 @@ use Rattle.std.specs.Prelude.{◌≡◌, ℕ, ◌<◌, List, Option, None, IfSom
 use Rattle.std.specs.List.{All}
 use Rattle.logos_graph.specs.First.{first_of, higher}
 use Rattle.logos_automaton.specs.Munch.{Rule}
-use Rattle.logos_graph.specs.Rows.{target_in}
 use Rattle.logos_automaton.specs.Automaton.{Automaton, dfa_next}
-use Rattle.logos_graph.specs.declared.reduce.table.Mark.{Mark}
+use Rattle.logos_reduce.specs.Rows.{target_in}
+use Rattle.logos_reduce.specs.declared.table.Mark.{Mark}
 
 module _ (rules : List Rule) (leaves : ℕ) where
   -- the leaf, if it has a higher priority than the best one before it, or else that one

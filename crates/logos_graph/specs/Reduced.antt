@@ -1,18 +1,16 @@
 -- What holds of a finished graph beside what it finds.
-use Rattle.std.specs.Prelude.{◌≡◌, ◌≢◌, ℕ, ◌<◌, ◌≤◌, ◌↔◌, ◌⊎◌, Bool, false, List, [], ◌∷◌, ◌++◌, map, length, Some, IsSome, IsSomeAnd, slice_get}
+use Rattle.std.specs.Prelude.{◌≡◌, ◌≢◌, ℕ, ◌<◌, ◌≤◌, ◌↔◌, ◌⊎◌, Bool, false, List, [], ◌∷◌, ◌++◌, map, length, Some, IsSomeAnd, slice_get}
 use Rattle.std.specs.List.Sorted.{IsStrictlyIncreasing}
 use Rattle.std.specs.List.{All}
 use Rattle.logos_pattern.specs.Text.{IsBytes}
 use Rattle.logos_automaton.specs.Munch.{Rule, IsFirst}
-use Rattle.logos_graph.specs.Graph.{StateType, GraphState, walk, next_by, next_at_end, type_after}
+use Rattle.logos_graph.specs.Graph.{GraphState, walk, next_by, next_at_end, type_after}
+use Rattle.logos_reduce.specs.Edges.{StateType, IsMarked}
 
 -- it is the one that matches all the bytes, whatever byte follows and also at the end
 pub record IsSettled (rules : List Rule) (bytes : List ℕ) (leaf : ℕ) : Type 0 where
   pub before : (b : ℕ) → b < 256 → IsFirst rules (bytes ++ b ∷ []) 0 (length bytes) leaf
   pub at_end : IsFirst rules bytes 0 (length bytes) leaf
-
-abbrev pub IsMarked : StateType → Type 0
-IsMarked type = IsSome type.early ⊎ IsSome type.accept
 
 -- the state has this type
 abbrev pub HasType : List GraphState → ℕ → (StateType → Type 0) → Type 0

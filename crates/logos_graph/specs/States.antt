@@ -6,8 +6,8 @@ use Rattle.logos_graph.specs.FinishedGraph.{Edge, edge_leads}
 use Rattle.logos_graph.specs.Graph.{GraphState}
 use Rattle.logos_places.specs.ByteRanges.{is_in}
 use Rattle.logos_places.specs.Marks.{IsRising}
-use Rattle.logos_graph.specs.Reduce.{to, mark, type_of}
-use Rattle.logos_graph.specs.declared.reduce.table.Table.{Table}
+use Rattle.logos_reduce.specs.Table.{to, mark, type_of}
+use Rattle.logos_reduce.specs.declared.table.Table.{Table}
 
 -- the states to which edges lead
 abbrev pub targets : List Edge → List ℕ

@@ -3,16 +3,10 @@ use Rattle.std.specs.Prelude.{◌≡◌, ℕ, ◌+◌, ◌<◌, ◌≤◌, Bool,
 use Rattle.std.specs.Option.{option_map_or}
 use Rattle.logos_pattern.specs.Text.{IsBytes}
 use Rattle.logos_automaton.specs.Munch.{Rule, RuleMatches, IsFirst, Found, ended, matched, failed}
-use Rattle.logos_graph.specs.Graph.{StateType, GraphState, next_by, next_at_end}
+use Rattle.logos_graph.specs.Graph.{GraphState, next_by, next_at_end}
 use Rattle.logos_graph.specs.First.{first_of}
 use Rattle.logos_automaton.specs.Automaton.{Automaton, dfa_next}
-use Rattle.logos_graph.specs.Reduced.{IsMarked}
-
--- the states of a graph: their types, where a byte leads, and where the end leads
-pub record Edges (S : Type 0) : Type 0 where
-  pub type_of : S → StateType
-  pub next : S → ℕ → Option S
-  pub at_end : S → Option S
+use Rattle.logos_reduce.specs.Edges.{StateType, Edges, reach, Leads}
 
 -- The mark of a state that is entered by one step from the place `at`: a leaf and the end of its match.
 -- A state with no mark leaves the mark before it.
@@ -30,21 +24,10 @@ module _ {S : Type 0} (g : Edges S) where
   last_mark s [] at last = option_map_or (λ t. marked (g.type_of t) at last) (g.at_end s) last
   last_mark s (b ∷ rest) at last = option_map_or (λ t. last_mark t rest (at + 1) (marked (g.type_of t) at last)) (g.next s b) last
 
-  -- the state behind the bytes
-  abbrev pub reach : S → List ℕ → Option S
-  reach s [] = Some s
-  reach s (b ∷ bytes) = option_and_then (λ t. reach t bytes) (g.next s b)
-
   -- how many bytes of the rest can be followed
   abbrev pub followed : S → List ℕ → ℕ
   followed s [] = 0
   followed s (b ∷ rest) = option_map_or (λ t. followed t rest + 1) (g.next s b) 0
-
-  -- the state leads to one with a mark, by one step or more
-  pub data Leads : S → Type 0 where
-    to_mark : {s t : S} (b : ℕ) → b < 256 → g.next s b ≡ Some t → IsMarked (g.type_of t) → Leads s
-    onward : {s t : S} (b : ℕ) → b < 256 → g.next s b ≡ Some t → Leads t → Leads s
-    to_end : {s t : S} → g.at_end s ≡ Some t → IsMarked (g.type_of t) → Leads s
 
   -- no beginning of the rest that leads on goes beyond the place
   abbrev pub Covers : S → List ℕ → ℕ → ℕ → Type 0

@@ -6,12 +6,13 @@ mod evidence;
 mod making;
 mod mermaid;
 mod printing;
+mod reduction;
 mod states;
 mod value;
 
 pub use crate::byte_class::{ByteClass, Comparisons};
-pub use logos_automaton::dfa::{Children, Dfa, Matches, StateId};
 pub use evidence::Telling;
+pub use logos_automaton::dfa::{Children, Dfa, Matches, StateId};
 pub use logos_automaton::errors::{BuildError, GraphError};
 use logos_pattern::leaf::LeafId;
 pub use value::{Graph, States};

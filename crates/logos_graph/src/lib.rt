@@ -1,4 +1,4 @@
-//! The automaton of a lexer, and its graph.
+//! The graph of a lexer.
 
 #![tactic(auto)]
 
@@ -7,6 +7,5 @@ pub mod graph;
 pub mod laws;
 mod leaves;
 mod raw_table;
-mod reduce;
 
 pub use logos_automaton::dfa;

@@ -7,19 +7,20 @@ ghost use Rattle.logos_graph.specs.FinishedGraph.{NamesLeaves};
 ghost use Rattle.logos_automaton.specs.Munch.{priority_of};
 ghost use Rattle.logos_graph.specs.First.{first_of};
 ghost use Rattle.logos_graph.specs.RawTable.{best_with, IsRawMark, IsMarkOf, AreRawRows};
-ghost use Rattle.logos_graph.specs.Reduce.{size, mark, type_of, edges, mark_in};
-ghost use Rattle.logos_graph.specs.ReduceShown.{IsRaw};
-ghost use Rattle.logos_graph.specs.Rows.{target_by, IsClosed};
-ghost use Rattle.logos_graph.specs.RowsKept.{rows_of};
 ghost use Rattle.logos_graph.specs.View.{rules_of};
 ghost use Rattle.logos_automaton.specs.Automaton.{IsTotal, ReadsOneByteLate};
 ghost use Rattle.logos_graph.specs.Walk.{MarksOneByteLate};
-
-use crate::reduce::{Mark, Row, Rows, Table};
 use logos_automaton::dfa::parts::{end_at, leaves_at, row_at, state_count};
 use logos_automaton::dfa::{Dfa, Row as ByteRow};
 use logos_pattern::leaf::Leaf;
 use std::alloc::{AllocError, Global};
+ghost use Rattle.logos_reduce.specs.Table.{size, mark, type_of, edges, mark_in};
+ghost use Rattle.logos_reduce.specs.Raw.{IsRaw};
+ghost use Rattle.logos_reduce.specs.Rows.{target_by, IsClosed};
+ghost use Rattle.logos_reduce.specs.RowsView.{rows_of};
+use logos_reduce::rows::{Row, Rows};
+use logos_reduce::table::{Mark, Table};
+
 
 /// The priority of a leaf, or 0 if there is no leaf with this number.
 fn priority_at(leaves: &[Leaf<'_>], leaf: usize) -> usize
@@ -112,17 +113,6 @@ fn raw_rows(alloc: Global, dfa: &Dfa) -> Result<Rows, AllocError>
     Ok(rows)
 }
 
-/// The table with these marks and rows.
-fn assemble(marks: Vec<Mark>, rows: Rows) -> Table
-    requires same_len { length (rows_of rows) ≡ vec_len marks }
-    requires closed { IsClosed (vec_len marks) (rows_of rows) }
-    requires few { vec_len marks + 1 < 2 ^ 32 }
-    ensures marks { result.marks ≡ marks }
-    ensures rows { result.rows ≡ rows }
-{
-    Table { marks, rows }
-}
-
 /// The table of the automaton: each state accepts the leaf of highest priority that it lists. Its states have
 /// their numbers, and the first is the start.
 pub(crate) fn raw_table(alloc: Global, leaves: &[Leaf<'_>], dfa: &Dfa) -> Result<Table, AllocError>
@@ -136,5 +126,5 @@ pub(crate) fn raw_table(alloc: Global, leaves: &[Leaf<'_>], dfa: &Dfa) -> Result
 {
     let marks = raw_marks(alloc, leaves, dfa)?;
     let rows = raw_rows(alloc, dfa)?;
-    Ok(assemble(marks, rows))
+    Ok(Table::new(marks, rows))
 }

@@ -4,7 +4,6 @@ ghost use Rattle.logos_graph.specs.Graph.{TellsApart};
 ghost use Rattle.logos_graph.specs.Least.{IsEvidence};
 
 use super::{Graph, State};
-use crate::reduce::Reduced;
 use std::alloc::{AllocError, Global};
 
 /// Bytes that tell two states apart: they lead to states of different types, or can be followed from just one of the two.

@@ -1,26 +1,25 @@
 // From leaves to their graph.
 ghost use Rattle.std.specs.Prelude.{◌≡◌, ◌^◌, ◌<◌, ◌≤◌, [], IfOk, IfErr, length, map};
 ghost use Rattle.logos_automaton.specs.DfaView.{dfa_of};
-ghost use Rattle.logos_automaton.specs.Faults.{AreFaults};
+ghost use Rattle.logos_automaton.specs.Faults.{AreFaults, AllStart};
 ghost use Rattle.logos_automaton.specs.Errors.{fault_of};
 ghost use Rattle.logos_automaton.specs.View as views;
 ghost use Rattle.logos_graph.specs.GraphOf.{IsGraphOf, AreFindings, Refuses};
 ghost use Rattle.logos_automaton.specs.Measures.{size_of};
 ghost use Rattle.logos_graph.specs.View.{rules_of};
-ghost use Rattle.logos_automaton.specs.Faults.{AllStart};
 ghost use Rattle.logos_automaton.specs.Automaton.{IsTotal, ReadsOneByteLate};
 ghost use Rattle.logos_automaton.specs.declared.errors.BuildError.TheVariants.{Memory, LimitSize};
-
 use super::{BuildError, Config, Graph, GraphError};
 use crate::leaves::{is_size_within, rule_views};
 use crate::raw_table::raw_table;
-use crate::reduce::reduce;
 use logos_automaton::dfa::Dfa;
 use logos_automaton::dfa::build::build;
 use logos_automaton::faults::graph_errors;
 use logos_automaton::rule::{RuleView, some_leads, some_passable};
 use logos_pattern::leaf::Leaf;
 use std::alloc::Global;
+use super::reduction::least_table;
+
 
 /// The automaton of no rules.
 fn automaton_of_none(alloc: Global) -> Result<Dfa, BuildError>
@@ -94,7 +93,7 @@ fn finished<'s>(
     ensures err { IfErr result (λ e. e ≡ Memory) }
 {
     let table = raw_table(alloc, &leaves, &dfa)?;
-    let reduced = reduce(alloc, table, 0)?;
+    let reduced = least_table(alloc, table, 0)?;
     Ok(Graph::finished(alloc, leaves, config, dfa, reduced)?)
 }
 

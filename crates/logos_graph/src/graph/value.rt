@@ -8,19 +8,19 @@ ghost use Rattle.logos_graph.specs.GraphView.{graph_state_of, state_number};
 ghost use Rattle.logos_graph.specs.Mermaid.{mermaid_of};
 ghost use Rattle.logos_graph.specs.ReduceShown.{Shows};
 ghost use Rattle.logos_graph.specs.StatesView.{states_left};
-ghost use Rattle.logos_graph.specs.Tellable.{IsTellable};
-
 use super::mermaid::chart;
 use super::printing::Listing;
 use super::states::states_of;
 use super::{Config, GraphError, State, StateData};
-use crate::reduce::Reduced;
 use logos_automaton::dfa::Dfa;
 use logos_pattern::leaf::Leaf;
 use logos_token::error::Memory;
 use std::alloc::{AllocError, Global};
 use std::fmt;
 use std::marker::Model;
+ghost use Rattle.logos_reduce.specs.Tellable.{IsTellable};
+use logos_reduce::reduction::Reduction;
+
 
 /// The graph of a lexer: its states and the edges between them.
 #[derive(Drop)]
@@ -30,7 +30,7 @@ pub struct Graph<'s> {
     dfa: Dfa,
     errors: Vec<GraphError>,
     states: Vec<StateData>,
-    reduced: Option<Reduced>,
+    reduced: Option<Reduction>,
 }
 
 /// The states of a graph, ascending.
@@ -84,7 +84,7 @@ impl<'s> Graph<'s> {
         leaves: Vec<Leaf<'s>>,
         config: Config,
         dfa: Dfa,
-        reduced: Reduced,
+        reduced: Reduction,
     ) -> Result<Graph<'s>, AllocError>
         requires fit { IsFit reduced.table (length leaves.items) }
         requires tellable { IsTellable reduced }
@@ -152,7 +152,7 @@ impl Graph<'_> {
     }
 
     /// The table that the graph shows.
-    pub(crate) fn reduced(&self) -> &Reduced
+    pub(crate) fn reduced(&self) -> &Reduction
         requires { 0 < length self.now.states }
         ensures shows { Shows result.now.table self.now.states }
         ensures tellable { IsTellable result.now }

@@ -1,5 +1,5 @@
 use Rattle.std.proofs.Common.{◌≡◌, ℕ, ◌<◌, Some, length, slice_index}
-use Rattle.logos_graph.specs.Rows.{target_by}
+use Rattle.logos_reduce.specs.Rows.{target_by}
 use Rattle.logos_graph.proofs.raw_table.raw_row.Given as goal
 
 abbrev pub invariant-loop-k : goal.invariant-loop-k

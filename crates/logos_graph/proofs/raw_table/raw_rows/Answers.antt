@@ -1,8 +1,8 @@
 use Rattle.std.proofs.Common.{◌<◌, length, arith}
 use Rattle.logos_automaton.specs.DfaView.{dfa_of}
-use Rattle.logos_graph.specs.RowsKept.{rows_of}
 use Rattle.logos_graph.proofs.RawLemmas.{row_target, end_target, rows_more}
 use Rattle.logos_graph.proofs.raw_table.raw_rows.Goals as goal
+use Rattle.logos_reduce.specs.RowsView.{rows_of}
 
 pub raw_row-requires-clause-few : goal.raw_row-requires-clause-few
 raw_row-requires-clause-few c = λ k m.

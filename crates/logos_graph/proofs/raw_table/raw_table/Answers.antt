@@ -1,20 +1,20 @@
 use Rattle.std.proofs.Common.{◌≡◌, ℕ, ◌<◌, ◌≤◌, Option, None, IfSome, length, refl, sym, ◌∙◌, ap, subst, arith, List, Vec, Global, vec_len}
 use Rattle.std.proofs.lemmas.List.{get_or_past}
 use Rattle.logos_automaton.specs.DfaView.{dfa_of}
-use Rattle.logos_graph.specs.Reduce.{size, mark, mark_in}
 use Rattle.logos_graph.specs.RawTable.{IsMarkOf, AreRawRows}
-use Rattle.logos_graph.specs.declared.reduce.table.Mark.{Mark}
 use Rattle.logos_pattern.specs.declared.leaf.Leaf.{Leaf}
-use Rattle.logos_graph.specs.Rows.{AreWide}
-use Rattle.logos_graph.specs.RowsKept.{rows_of}
-use Rattle.logos_graph.specs.declared.reduce.rows.Rows.{Rows}
-use Rattle.logos_graph.specs.declared.reduce.table.Table.{Table}
 use Rattle.logos_graph.proofs.Automaton.{no_faults}
 use Rattle.logos_graph.proofs.RawLemmas.{raw_closed, is_raw, raw_late}
-use Rattle.logos_graph.proofs.RowLemmas.{rows_wide}
 use Rattle.logos_automaton.specs.Automaton.{Automaton}
 use Rattle.logos_graph.specs.View.{rules_of}
 use Rattle.logos_graph.proofs.raw_table.raw_table.Goals as goal
+use Rattle.logos_reduce.specs.Table.{size, mark, mark_in}
+use Rattle.logos_reduce.specs.declared.table.Mark.{Mark}
+use Rattle.logos_reduce.specs.Rows.{AreWide}
+use Rattle.logos_reduce.specs.RowsView.{rows_of}
+use Rattle.logos_reduce.specs.declared.rows.Rows.{Rows}
+use Rattle.logos_reduce.specs.declared.table.Table.{Table}
+use Rattle.logos_reduce.proofs.tables.RowLemmas.{rows_wide}
 
 wide : (rows : Rows) → AreWide (rows_of rows)
 wide rows = rows_wide rows.places.items rows.kept.keys (λ i l. rows.placed i (omega arith)) rows.wide
@@ -22,11 +22,11 @@ wide rows = rows_wide rows.places.items rows.kept.keys (λ i l. rows.placed i (o
 no_state : (table : Table) (s : ℕ) → size table ≤ s → mark table s ≡ record { accept = None; early = None }
 no_state table s l = get_or_past table.marks.items s (record { accept = None; early = None }) (omega (arith, l))
 
-pub assemble-requires-clause-same_len : goal.assemble-requires-clause-same_len
-assemble-requires-clause-same_len c = c.in_ok-rows.ensures.len ∙ sym c.in_ok-marks.ensures.len
+pub new-requires-clause-same_len : goal.new-requires-clause-same_len
+new-requires-clause-same_len c = c.in_ok-rows.ensures.len ∙ sym c.in_ok-marks.ensures.len
 
-pub assemble-requires-clause-closed : goal.assemble-requires-clause-closed
-assemble-requires-clause-closed c =
+pub new-requires-clause-closed : goal.new-requires-clause-closed
+new-requires-clause-closed c =
     let n = c.in_ok-marks.ensures.len in
     let closed = raw_closed (dfa_of c.args.dfa.now) c.requires.total (rows_of c.in_ok-rows.rows) c.in_ok-rows.ensures (wide c.in_ok-rows.rows) in
     λ s k t l e. let w = closed s k t (omega (arith, l, n)) e in omega (arith, w, n)
@@ -49,9 +49,9 @@ returns-clause-raw c =
     let dfa = dfa_of c.args.dfa.now in
     let m = c.in_ok-marks.marks in
     let r = c.in_ok-rows.rows in
-    let table = c.assemble.result in
-    let em = c.assemble.ensures.marks in
-    let er = c.assemble.ensures.rows in
+    let table = c.new.result in
+    let em = c.new.ensures.marks in
+    let er = c.new.ensures.rows in
     is_raw leaves dfa c.requires.total refl table (states leaves dfa m r table em er c.in_ok-marks.ensures.len) (its_rows leaves dfa m r table em er c.in_ok-rows.ensures)
     (its_marks leaves dfa m r table em er c.in_ok-marks.ensures.marks) (no_state table)
 
@@ -61,9 +61,9 @@ returns-clause-late c = λ reads none.
     let dfa = dfa_of c.args.dfa.now in
     let m = c.in_ok-marks.marks in
     let r = c.in_ok-rows.rows in
-    let table = c.assemble.result in
-    let em = c.assemble.ensures.marks in
-    let er = c.assemble.ensures.rows in
+    let table = c.new.result in
+    let em = c.new.ensures.marks in
+    let er = c.new.ensures.rows in
     raw_late leaves dfa c.requires.total refl table (states leaves dfa m r table em er c.in_ok-marks.ensures.len) (its_rows leaves dfa m r table em er c.in_ok-rows.ensures)
     (its_marks leaves dfa m r table em er c.in_ok-marks.ensures.marks) (no_state table) reads (no_faults (rules_of leaves) none).1
 
@@ -73,12 +73,12 @@ returns-clause-named c = λ s l.
     let dfa = dfa_of c.args.dfa.now in
     let m = c.in_ok-marks.marks in
     let r = c.in_ok-rows.rows in
-    let table = c.assemble.result in
-    let em = c.assemble.ensures.marks in
-    let er = c.assemble.ensures.rows in
+    let table = c.new.result in
+    let em = c.new.ensures.marks in
+    let er = c.new.ensures.rows in
     let n = states leaves dfa m r table em er c.in_ok-marks.ensures.len in
     let k = its_marks leaves dfa m r table em er c.in_ok-marks.ensures.marks s (omega (arith, l, n)) in
     (k.2.named, subst (λ (o : Option ℕ). IfSome o (λ leaf. leaf < length leaves)) (sym k.2.early) tt)
 
 pub returns-clause-size : goal.returns-clause-size
-returns-clause-size c = ap (λ (v : Vec Mark Global). vec_len v) c.assemble.ensures.marks ∙ c.in_ok-marks.ensures.len
+returns-clause-size c = ap (λ (v : Vec Mark Global). vec_len v) c.new.ensures.marks ∙ c.in_ok-marks.ensures.len

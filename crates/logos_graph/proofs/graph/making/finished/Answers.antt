@@ -3,12 +3,12 @@ use Rattle.logos_pattern.specs.declared.leaf.Leaf.{Leaf}
 use Rattle.logos_automaton.specs.DfaView.{dfa_of}
 use Rattle.logos_automaton.specs.Faults.{AreFaults}
 use Rattle.logos_graph.specs.FinishedGraph.{NamesLeaves}
-use Rattle.logos_graph.specs.Reduce.{size, mark, type_of, edges}
 use Rattle.logos_graph.specs.View.{rules_of}
 use Rattle.logos_automaton.specs.Automaton.{ReadsOneByteLate}
 use Rattle.logos_graph.specs.Walk.{MarksOneByteLate}
 use Rattle.logos_graph.proofs.Automaton.{no_faults}
 use Rattle.logos_graph.proofs.graph.making.finished.Goals as goal
+use Rattle.logos_reduce.specs.Table.{size, mark, type_of, edges}
 
 pub finished-requires-clause-fit : goal.finished-requires-clause-fit
 finished-requires-clause-fit c =

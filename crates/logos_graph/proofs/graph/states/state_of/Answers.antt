@@ -1,7 +1,7 @@
 use Rattle.std.proofs.Common.{map, ap, ◌∙◌}
 use Rattle.logos_graph.specs.GraphView.{edge_of}
-use Rattle.logos_graph.specs.Reduce.{to, type_of}
-use Rattle.logos_graph.specs.Rows.{target_by}
+use Rattle.logos_reduce.specs.Table.{to, type_of}
+use Rattle.logos_reduce.specs.Rows.{target_by}
 use Rattle.logos_graph.proofs.StateLemmas.{edges_same}
 use Rattle.logos_graph.proofs.graph.states.state_of.Goals as goal
 

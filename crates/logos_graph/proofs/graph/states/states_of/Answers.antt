@@ -1,7 +1,7 @@
 use Rattle.std.proofs.Common.{◌≡◌, ◌∷◌, [], map, length, ap, ◌∙◌, arith}
 use Rattle.std.proofs.lemmas.List.{map-append, length-map}
 use Rattle.logos_graph.specs.GraphView.{graph_state_of}
-use Rattle.logos_graph.specs.Reduce.{size}
+use Rattle.logos_reduce.specs.Table.{size}
 use Rattle.logos_graph.proofs.StateLemmas.{states_more, program_neat, states_show, states_neat, states_finished}
 use Rattle.logos_graph.proofs.graph.states.states_of.Goals as goal
 

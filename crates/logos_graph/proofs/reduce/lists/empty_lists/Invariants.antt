@@ -1,6 +1,0 @@
-use Rattle.std.proofs.Common.{◌≡◌, ℕ, true, vec_len}
-use Rattle.logos_graph.specs.MergeLists.{has_in}
-use Rattle.logos_graph.proofs.reduce.lists.empty_lists.Given as goal
-
-abbrev pub invariant-loop-i : goal.invariant-loop-i
-invariant-loop-i l = (vec_len l.lists ≡ l._i) × ((b s : ℕ) → has_in l.lists.items b s ≡ true → ⊥)

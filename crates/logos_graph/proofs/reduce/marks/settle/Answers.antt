@@ -1,8 +1,0 @@
-use Rattle.std.proofs.Common.{refl, arith}
-use Rattle.logos_graph.proofs.MarkFacts.{settled_by}
-use Rattle.logos_graph.proofs.reduce.marks.settle.Goals as goal
-
-pub returns : goal.returns
-returns c =
-    settled_by c.args.table _ c.in_ok-early.early.items c.in_ok-needed.needed.items refl (omega (arith, c.in_ok-marks.ensures.len))
-    c.in_ok-early.ensures.marks c.in_ok-needed.ensures.needed c.in_ok-marks.ensures.marks

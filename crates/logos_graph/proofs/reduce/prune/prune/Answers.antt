@@ -1,6 +1,0 @@
-use Rattle.std.proofs.Common.{refl}
-use Rattle.logos_graph.proofs.PruneLemmas.{pruned_by}
-use Rattle.logos_graph.proofs.reduce.prune.prune.Goals as goal
-
-pub returns : goal.returns
-returns c = pruned_by c.args.table _ c.in_ok-order.order.numbers.items refl c.in_ok-order.ensures.useful c.in_ok-pruned.ensures.rows

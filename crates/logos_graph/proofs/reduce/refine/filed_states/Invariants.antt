@@ -1,6 +1,0 @@
-use Rattle.std.proofs.Common.{◌≡◌, vec_len, slice_index}
-use Rattle.logos_graph.specs.MergeLists.{AreFiled}
-use Rattle.logos_graph.proofs.reduce.refine.filed_states.Given as goal
-
-abbrev pub invariant-loop-s : goal.invariant-loop-s
-invariant-loop-s l = (vec_len l.lists ≡ l.room) × AreFiled l.s (slice_index l.blocks.items) l.lists.items

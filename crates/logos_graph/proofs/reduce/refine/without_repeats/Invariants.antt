@@ -1,6 +1,0 @@
-use Rattle.std.proofs.Common.{◌≡◌, ℕ, ◌<◌, true, slice_index}
-use Rattle.logos_graph.specs.MergeLists.{has}
-use Rattle.logos_graph.proofs.reduce.refine.without_repeats.Given as goal
-
-abbrev pub invariant-loop-s : goal.invariant-loop-s
-invariant-loop-s l = (j : ℕ) → j < l.s-index → has l.once.items (slice_index l.list.items j) ≡ true

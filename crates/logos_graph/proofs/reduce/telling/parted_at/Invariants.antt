@@ -1,9 +1,0 @@
-use Rattle.logos_graph.specs.Tellable.{HistoryOf}
-use Rattle.logos_graph.proofs.TellingLemmas.{ArePlaced}
-use Rattle.logos_graph.proofs.reduce.telling.parted_at.Given as goal
-
-abbrev pub invariant-loop-low : goal.invariant-loop-low
-invariant-loop-low l = (h : HistoryOf l.reduced) → ArePlaced l.reduced h l.s l.t l.low l.high
-
-abbrev pub decreases-loop-low : goal.decreases-loop-low
-decreases-loop-low l = l.high

@@ -1,0 +1,39 @@
+// The least table of an automaton.
+ghost use Rattle.std.specs.Prelude.{◌<◌, ℕ, IfOk, Bool, List};
+ghost use Rattle.logos_reduce.specs.Raw.{IsRaw};
+ghost use Rattle.logos_reduce.specs.Table.{size, mark, type_of, edges};
+ghost use Rattle.logos_reduce.specs.Tellable.{IsTellable};
+ghost use Rattle.logos_graph.specs.FinishedGraph.{NamesLeaves, IsFit};
+ghost use Rattle.logos_graph.specs.Found.{FindsTheLongest};
+ghost use Rattle.logos_graph.specs.Graph.{GraphState};
+ghost use Rattle.logos_graph.specs.Least.{IsLeast};
+ghost use Rattle.logos_graph.specs.Munch.{Rule};
+ghost use Rattle.logos_graph.specs.ReduceShown.{Shows};
+ghost use Rattle.logos_graph.specs.Reduced.{IsReduced};
+ghost use Rattle.logos_graph.specs.View.{AllStart};
+ghost use Rattle.logos_graph.specs.Walk.{MarksOneByteLate};
+
+use logos_reduce::reduction::{Reduction, reduce};
+use logos_reduce::table::Table;
+use std::alloc::{AllocError, Global};
+
+/// The least table that finds what an automaton with late marks finds, from the root on.
+pub(crate) fn least_table(alloc: Global, table: Table, root: usize) -> Result<Reduction, AllocError>
+    requires { root < size table }
+    ensures finds { IfOk result (λ r. (rules : List Rule) (graph : List GraphState) (utf8 : Bool) →
+        IsRaw table root → AllStart rules → MarksOneByteLate rules (edges table) root →
+        Shows r.table graph → FindsTheLongest rules utf8 graph) }
+    ensures reduced { IfOk result (λ r. (rules : List Rule) (graph : List GraphState) →
+        IsRaw table root → MarksOneByteLate rules (edges table) root →
+        Shows r.table graph → IsReduced rules graph) }
+    ensures least { IfOk result (λ r. (graph : List GraphState) →
+        IsRaw table root → Shows r.table graph → IsLeast graph) }
+    ensures tellable { IfOk result (λ r. IsRaw table root → IsTellable r) }
+    ensures fit { IfOk result (λ r. (rules : List Rule) (leaves : ℕ) →
+        IsRaw table root → AllStart rules → MarksOneByteLate rules (edges table) root →
+        ((s : ℕ) → s < size table → NamesLeaves leaves (type_of (mark table s))) →
+        IsFit r.table leaves) }
+{
+    let reduced = reduce(alloc, table, root)?;
+    Ok(reduced)
+}

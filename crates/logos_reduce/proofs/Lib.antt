@@ -1,0 +1,9 @@
+pub mod tables
+pub mod listings
+pub mod orders
+pub mod settling
+pub mod pruning
+pub mod merging
+pub mod numbering
+pub mod words
+pub mod whole

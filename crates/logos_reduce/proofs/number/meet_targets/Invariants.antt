@@ -1,0 +1,14 @@
+use Rattle.std.proofs.Common.{◌≡◌, vec_len, slice_index}
+use Rattle.logos_reduce.specs.Merge.{target_block}
+use Rattle.logos_reduce.specs.Table.{size}
+use Rattle.logos_reduce.specs.Number.{IsInTurn, AreUsed}
+use Rattle.logos_reduce.specs.inside.Order.{Grows}
+use Rattle.logos_reduce.proofs.number.meet_targets.Given as goal
+
+abbrev pub invariant-loop-k : goal.invariant-loop-k
+invariant-loop-k l = record {
+  len : vec_len l.order.numbers ≡ vec_len l.initial.order.numbers;
+  grows : Grows l.initial.order.numbers.items l.order.numbers.items;
+  used : AreUsed (size l.table) (slice_index l.blocks.items) l.order.states.items;
+  in_turn : IsInTurn (λ b k. target_block l.table (slice_index l.blocks.items) (slice_index l.leaders.items b) k) l.order.numbers.items l.order.states.items l.i l.k;
+}

@@ -1,0 +1,3 @@
+pub mod NumberLemmas
+pub mod StateLemmas
+pub mod VisitLemmas

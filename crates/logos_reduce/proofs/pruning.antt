@@ -1,0 +1,2 @@
+pub mod PruneLemmas
+pub mod KeptLemmas

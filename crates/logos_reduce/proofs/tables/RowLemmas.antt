@@ -1,0 +1,93 @@
+-- Rows that are kept once.
+use Rattle.std.proofs.Common.{◌≡◌, ℕ, zero, suc, ◌<◌, ◌≤◌, Bool, true, false, if◌then◌else◌, List, [], ◌∷◌, ◌++◌, length, Some, None, slice_get, slice_index, slice_index_or, nat_eq, refl, sym, ◌∙◌, ap, arith, ◌⊎◌, inl, inr, length-append}
+use Rattle.std.proofs.lemmas.List.{get_or_append_left, get_or_past}
+use Rattle.std.proofs.lemmas.Bool.{cases_lt}
+use Rattle.logos_reduce.proofs.tables.PushLemmas.{pushed}
+use lib.Pointwise.{pointwise, bytes_decides}
+use Rattle.logos_reduce.specs.Rows.{rows_at, target_of, target_by, target_in, AreWide}
+
+-- a longer list of kept rows has the old ones at their places
+same_rows : (places : List ℕ) (kept kept' : List (List ℕ)) → ((i : ℕ) → i < length places → slice_index places i < length kept) →
+    ((place : ℕ) → place < length kept → slice_index_or kept' place [] ≡ slice_index_or kept place []) → rows_at places kept' ≡ rows_at places kept
+same_rows [] kept kept' inside same = refl
+same_rows (place ∷ places) kept kept' inside same =
+    let here = same place (inside 0 (omega arith)) in
+    let rest = same_rows places kept kept' (λ i l. inside (suc i) (omega arith)) same in
+    cc
+
+append_rows : (places : List ℕ) (place : ℕ) (kept : List (List ℕ)) → rows_at (places ++ place ∷ []) kept ≡ rows_at places kept ++ slice_index_or kept place [] ∷ []
+append_rows [] place kept = refl
+append_rows (p ∷ places) place kept = ap (λ xs. slice_index_or kept p [] ∷ xs) (append_rows places place kept)
+
+got : (xs : List (List ℕ)) (i : ℕ) (x : List ℕ) → slice_get xs i ≡ Some x → slice_index_or xs i [] ≡ x
+got [] i x e = absurd (cc)
+got (y ∷ xs) zero x e = cc
+got (y ∷ xs) (suc i) x e = got xs i x e
+
+pub rows_pushed : (places : List ℕ) (kept : List (List ℕ)) (row : List ℕ) (added : Bool) (kept' : List (List ℕ)) (place : ℕ) (stored : List ℕ) →
+    ((i : ℕ) → i < length places → slice_index places i < length kept) →
+    kept' ≡ (if added then kept else kept ++ row ∷ []) → slice_get kept' place ≡ Some stored → pointwise nat_eq row stored ≡ true →
+    rows_at (places ++ place ∷ []) kept' ≡ rows_at places kept ++ row ∷ []
+rows_pushed places kept row added kept' place stored inside grown at same =
+    let one : row ≡ stored = (bytes_decides row stored).0 same in
+    let here : slice_index_or kept' place [] ≡ row = got kept' place stored at ∙ sym one in
+    append_rows places place kept'
+    ∙ ap (λ x. rows_at places kept' ++ x ∷ []) here
+    ∙ ap (λ xs. xs ++ row ∷ []) (same_rows places kept kept' inside (λ p l. ap (λ xs. slice_index_or xs p []) grown ∙ front added p l))
+  where
+    front : (added : Bool) (p : ℕ) → p < length kept → slice_index_or (if added then kept else kept ++ row ∷ []) p [] ≡ slice_index_or kept p []
+    front true p l = refl
+    front false p l = get_or_append_left kept (row ∷ []) [] p l
+
+-- rows that are kept are wide
+pub wide_kept : (kept : List (List ℕ)) (row : List ℕ) (added : Bool) (kept' : List (List ℕ)) →
+    kept' ≡ (if added then kept else kept ++ row ∷ []) → length row ≡ 257 → AreWide kept → AreWide kept'
+wide_kept kept row true kept' e size wide = λ i l. ap (λ xs. length (slice_index_or xs i [])) e ∙ wide i (rw e at l)
+wide_kept kept row false kept' e size wide =
+    λ i l. pushed (λ i row. length row ≡ 257) kept kept' row [] (length kept) e refl wide size i (let n = ap length e in let m = length-append kept (row ∷ []) in omega arith)
+
+pub rows_length : (places : List ℕ) (kept : List (List ℕ)) → length (rows_at places kept) ≡ length places
+rows_length [] kept = refl
+rows_length (place ∷ places) kept = let e = rows_length places kept in omega arith
+
+pub rows_wide : (places : List ℕ) (kept : List (List ℕ)) → ((i : ℕ) → i < length places → slice_index places i < length kept) → AreWide kept → AreWide (rows_at places kept)
+rows_wide [] kept inside wide i l = absurd (omega arith)
+rows_wide (place ∷ places) kept inside wide zero l = wide place (inside 0 (omega arith))
+rows_wide (place ∷ places) kept inside wide (suc i) l = rows_wide places kept (λ j m. inside (suc j) (omega arith)) wide i (omega arith)
+
+past : (row : List ℕ) (k : ℕ) → length row ≤ k → slice_index row k ≡ 0
+past row k l = get_or_past row k 0 l
+
+-- an edge is by a byte or by the end
+pub symbol_below : (rows : List (List ℕ)) → AreWide rows → (s k t : ℕ) → target_in rows s k ≡ Some t → k < 257
+symbol_below rows wide s k t e = go (cases_lt k 257) (cases_lt s (length rows))
+  where
+    none : (row : List ℕ) → slice_index_or rows s [] ≡ row → length row ≤ k → k < 257
+    none row q l =
+        let z : target_in rows s k ≡ None = ap (λ r. target_by r k) q ∙ ap target_of (past row k l) in
+        absurd (cc)
+
+    go : (k < 257) ⊎ (257 ≤ k) → (s < length rows) ⊎ (length rows ≤ s) → k < 257
+    go (inl l) m = l
+    go (inr l) (inl m) = let w = wide s m in none (slice_index_or rows s []) refl (omega arith)
+    go (inr l) (inr m) = none [] (get_or_past rows s [] m) (omega arith)
+
+-- only the first states have edges
+pub source_below : (rows : List (List ℕ)) (s k t : ℕ) → target_in rows s k ≡ Some t → s < length rows
+source_below rows s k t e = go (cases_lt s (length rows))
+  where
+    go : (s < length rows) ⊎ (length rows ≤ s) → s < length rows
+    go (inl l) = l
+    go (inr l) = let z : target_in rows s k ≡ None = ap (λ r. target_by r k) (get_or_past rows s [] l) in absurd (cc)
+
+-- no other state has an edge
+pub no_source : (rows : List (List ℕ)) (s k : ℕ) → length rows ≤ s → target_in rows s k ≡ None
+no_source rows s k l = ap (λ r. target_by r k) (get_or_past rows s [] l)
+
+-- a row has entries for symbols alone
+pub row_symbol : (row : List ℕ) (k t : ℕ) → target_by row k ≡ Some t → k < length row
+row_symbol row k t e = go (cases_lt k (length row))
+  where
+    go : (k < length row) ⊎ (length row ≤ k) → k < length row
+    go (inl l) = l
+    go (inr l) = let z : target_by row k ≡ None = ap target_of (past row k l) in absurd (cc)

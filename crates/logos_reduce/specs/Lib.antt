@@ -1,0 +1,16 @@
+pub mod Edges
+pub mod Rows
+pub mod RowsView
+pub mod Table
+pub mod Raw
+pub mod Settle
+pub mod Order
+pub mod Prune
+pub mod Lists
+pub mod Words
+pub mod Merge
+pub mod Number
+pub mod Reduction
+pub mod Tellable
+pub mod Telling
+pub mod inside

@@ -1,0 +1,34 @@
+-- What a table says of the graph that it stands for.
+use Rattle.std.specs.Prelude.{ℕ, List, Option, None, slice_index_or, vec_len}
+use Rattle.logos_reduce.specs.Edges.{StateType, Edges}
+use Rattle.logos_reduce.specs.Rows.{target_in}
+use Rattle.logos_reduce.specs.RowsView.{rows_of}
+use Rattle.logos_reduce.specs.declared.table.Mark.{Mark}
+use Rattle.logos_reduce.specs.declared.table.Table.{Table}
+
+-- the mark at an index
+abbrev pub mark_in : List Mark → ℕ → Mark
+mark_in marks s = slice_index_or marks s (record { accept = None; early = None })
+
+-- how many states it has
+abbrev pub size : Table → ℕ
+size table = vec_len table.marks
+
+-- where a state leads by a symbol
+abbrev pub to : Table → ℕ → ℕ → Option ℕ
+to table = target_in (rows_of table.rows)
+
+-- the mark of a state
+abbrev pub mark : Table → ℕ → Mark
+mark table = mark_in table.marks.items
+
+abbrev pub type_of : Mark → StateType
+type_of m = record { accept = m.accept; early = m.early }
+
+-- the graph that it stands for
+abbrev pub edges : Table → Edges ℕ
+edges table = record {
+  type_of = λ s. type_of (mark table s);
+  next = to table;
+  at_end = λ s. to table s 256;
+}

@@ -1,0 +1,7 @@
+pub mod Settle
+pub mod Order
+pub mod Prune
+pub mod Lists
+pub mod Merge
+pub mod Count
+pub mod Telling

@@ -1,0 +1,95 @@
+//! Lists of states, one for each state or block.
+ghost use Rattle.std.specs.Prelude.{true, ◌≡◌, ℕ, ◌<◌, ◌≤◌, ◌⊎◌, Some, OnOk, IfOk, IsTrue, length, vec_len};
+ghost use Rattle.logos_reduce.specs.Lists.{has, has_in, ArePredecessors};
+ghost use Rattle.logos_reduce.specs.Table.{size, to};
+ghost use Rattle.logos_reduce.specs.Rows.{target_by};
+
+use crate::rows::{Row, target_at};
+use crate::table::Table;
+use std::alloc::{AllocError, Global};
+
+/// As many empty lists.
+pub fn empty_lists(alloc: Global, len: usize) -> Result<Vec<Vec<usize>>, AllocError>
+    ensures len { IfOk result (λ v. vec_len v ≡ len) }
+    ensures empty { IfOk result (λ v. (b s : ℕ) → has_in v.items b s ≡ true → ⊥) }
+{
+    let mut lists = Vec::new(alloc);
+    for _i in 0..len {
+        lists.push(Vec::new(alloc))?;
+    }
+    Ok(lists)
+}
+
+/// Whether the last number of a list is this one.
+fn ends_with(list: &Vec<usize>, s: usize) -> bool
+    ensures { IsTrue result → has list.now.items s ≡ true }
+{
+    match list.last() {
+        Some(last) => *last == s,
+        None => false,
+    }
+}
+
+/// Adds a number to a list, unless it is the last one there.
+pub fn add(list: &mut Vec<usize>, s: usize) -> Result<(), AllocError>
+    ensures has { OnOk result (has list.new.items s ≡ true) }
+    ensures kept { (t : ℕ) → has list.old.items t ≡ true → has list.new.items t ≡ true }
+    ensures only { (t : ℕ) → has list.new.items t ≡ true → (has list.old.items t ≡ true) ⊎ (t ≡ s) }
+{
+    if !ends_with(list, s) {
+        list.push(s)?;
+    }
+    Ok(())
+}
+
+/// Adds a state to the list at an index, unless it is the last one there.
+pub fn file(lists: &mut Vec<Vec<usize>>, b: usize, s: usize) -> Result<(), AllocError>
+    requires { b < vec_len lists.old }
+    ensures len { vec_len lists.new ≡ vec_len lists.old }
+    ensures has { OnOk result (has_in lists.new.items b s ≡ true) }
+    ensures kept { (c t : ℕ) → has_in lists.old.items c t ≡ true → has_in lists.new.items c t ≡ true }
+    ensures only { (c t : ℕ) → has_in lists.new.items c t ≡ true → (has_in lists.old.items c t ≡ true) ⊎ ((c ≡ b) × (t ≡ s)) }
+{
+    add(&mut lists[b], s)?;
+    Ok(())
+}
+
+/// Adds a state to the list of each of its targets by the first symbols.
+fn file_row(
+    lists: &mut Vec<Vec<usize>>,
+    row: &Row,
+    s: usize,
+    width: usize,
+) -> Result<(), AllocError>
+    requires width { width ≤ 257 }
+    requires inside { (k t : ℕ) → target_by row.now k ≡ Some t → t < vec_len lists.old }
+    ensures len { vec_len lists.new ≡ vec_len lists.old }
+    ensures kept { (t u : ℕ) → has_in lists.old.items t u ≡ true → has_in lists.new.items t u ≡ true }
+    ensures filed { OnOk result ((k t : ℕ) → k < width → target_by row.now k ≡ Some t → has_in lists.new.items t s ≡ true) }
+    ensures only { (t u : ℕ) → has_in lists.new.items t u ≡ true →
+        (has_in lists.old.items t u ≡ true) ⊎ ((u ≡ s) × ((k : ℕ) × (k < width) × (target_by row.now k ≡ Some t))) }
+{
+    for k in 0..width {
+        if let Some(t) = target_at(row, k) {
+            file(lists, t, s)?;
+        }
+    }
+    Ok(())
+}
+
+/// For each state, the states that lead to it by one of the first symbols.
+pub fn predecessors(
+    alloc: Global,
+    table: &Table,
+    width: usize,
+) -> Result<Vec<Vec<usize>>, AllocError>
+    requires { width ≤ 257 }
+    ensures len { IfOk result (λ v. vec_len v ≡ size table.now) }
+    ensures lists { IfOk result (λ v. ArePredecessors (size table.now) width (to table.now) v.items) }
+{
+    let mut lists = empty_lists(alloc, table.len())?;
+    for s in 0..table.len() {
+        file_row(&mut lists, table.row(s), s, width)?;
+    }
+    Ok(lists)
+}

@@ -1,0 +1,76 @@
+//! States in blocks.
+ghost use Rattle.std.specs.Prelude.{None, ◌≡◌, ◌≢◌, ℕ, ◌+◌, ◌<◌, ◌≤◌, IfOk, length, vec_len, slice_index, slice_index_or};
+ghost use Rattle.logos_reduce.specs.Merge.{IsSound, split_at};
+ghost use Rattle.logos_reduce.specs.inside.Merge as inside;
+ghost use Rattle.logos_reduce.specs.Table.{size};
+
+use crate::table::{Mark, Table};
+use indexmap::IndexSet;
+use std::alloc::{AllocError, Global};
+
+/// How a block came to be: it was parted from another one, by a symbol or by the marks of states.
+#[derive(Clone, Copy, Drop)]
+pub struct Split {
+    /// The number of the other block, which is a lower one.
+    pub parent: usize,
+    /// The symbol by which states of the two lead to different blocks, or none where their marks differ.
+    pub symbol: Option<usize>,
+}
+
+/// The block of each state, and how each block came to be.
+#[derive(Drop)]
+pub struct Blocks {
+    /// For each state its block.
+    pub of: Vec<usize>,
+    /// For each block but 0 how it was parted from one with a lower number.
+    pub splits: Vec<Split>,
+    ghost within: { (s : ℕ) → s < vec_len of → slice_index of.items s < vec_len splits },
+}
+
+/// A mark as a key.
+fn key_of(mark: Mark) -> [usize; 4]
+    ensures { result ≡ inside.key_of mark }
+{
+    let (accepts, accept) = tagged(mark.accept);
+    let (is_early, early) = tagged(mark.early);
+    [accepts, accept, is_early, early]
+}
+
+/// Whether there is a leaf, and its number.
+fn tagged(leaf: Option<usize>) -> (usize, usize)
+    ensures { result ≡ inside.tagged leaf }
+{
+    match leaf {
+        Some(leaf) => (1, leaf),
+        None => (0, 0),
+    }
+}
+
+/// So many blocks, parted by the marks of states.
+fn parted_by_marks(alloc: Global, count: usize) -> Result<Vec<Split>, AllocError>
+    ensures len { IfOk result (λ v. vec_len v ≡ count) }
+    ensures splits { IfOk result (λ v. (j : ℕ) →
+        split_at v.items j ≡ record { parent = 0; symbol = None }) }
+{
+    let split = Split {
+        parent: 0,
+        symbol: None,
+    };
+    let splits = vec![in alloc; split; count]?;
+    Ok(splits)
+}
+
+/// The states in blocks by their marks.
+pub fn by_marks(alloc: Global, table: &Table) -> Result<Blocks, AllocError>
+    ensures len { IfOk result (λ b. vec_len b.of ≡ size table.now) }
+    ensures sound { IfOk result (λ b. IsSound table.now b.splits.items (slice_index b.of.items)) }
+{
+    let mut keys = IndexSet::new(alloc);
+    let mut of = Vec::new(alloc);
+    for s in 0..table.len() {
+        let (block, _) = keys.insert_full(key_of(table.mark(s)))?;
+        of.push(block)?;
+    }
+    let splits = parted_by_marks(alloc, keys.len())?;
+    Ok(Blocks { of, splits })
+}

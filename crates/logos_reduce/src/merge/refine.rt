@@ -1,0 +1,297 @@
+//! Splitting blocks by the blocks that their states lead to.
+ghost use Rattle.std.specs.Prelude.{true, ◌≡◌, ◌≢◌, ℕ, ◌+◌, ◌-◌, ◌*◌, ◌<◌, ◌≤◌, ◌↔◌, Some, OnSome, OnOk, IfOk, IsTrue, length, vec_len, slice_index, option_map};
+ghost use Rattle.logos_reduce.specs.Merge.{target_block, IsSound};
+ghost use Rattle.logos_reduce.specs.inside.Merge.{IsFiner};
+ghost use Rattle.logos_reduce.specs.Lists.{has, has_in};
+ghost use Rattle.logos_reduce.specs.inside.Lists.{AreFiled, AreSources, AreHits};
+ghost use Rattle.logos_reduce.specs.Table.{size, to};
+ghost use Rattle.logos_reduce.specs.Rows.{target_by};
+
+use crate::merge::blocks::Blocks;
+use crate::merge::hints::Hints;
+use crate::lists::{add, empty_lists, file, predecessors};
+use crate::rows::{Row, WIDTH, target_at};
+use crate::table::Table;
+use crate::merge::twins::{Work, split_on};
+use std::alloc::{AllocError, Global};
+
+/// The block of a target.
+pub fn block_of(target: Option<usize>, blocks: &Vec<usize>) -> Option<usize>
+    requires { (t : ℕ) → target ≡ Some t → t < vec_len blocks.now }
+    ensures { result ≡ option_map (slice_index blocks.now.items) target }
+{
+    Some(blocks[target?])
+}
+
+/// Adds a list.
+fn add_all(sources: &mut Vec<usize>, lists: &Vec<Vec<usize>>, t: usize) -> Result<(), AllocError>
+    requires { t < vec_len lists.now }
+    ensures kept { (s : ℕ) → has sources.old.items s ≡ true → has sources.new.items s ≡ true }
+    ensures added { OnOk result ((s : ℕ) → has_in lists.now.items t s ≡ true → has sources.new.items s ≡ true) }
+{
+    sources.extend_from_slice(&lists[t])?;
+    Ok(())
+}
+
+/// The states with an edge into a block, perhaps with others, and perhaps more than once.
+fn all_sources(
+    alloc: Global,
+    work: &Work,
+    from: &Vec<Vec<usize>>,
+    b: usize,
+) -> Result<Vec<usize>, AllocError>
+    requires b_in { b < vec_len work.now.splits }
+    requires len { vec_len from.now ≡ vec_len work.now.blocks }
+    ensures { IfOk result (λ v. (t s : ℕ) → t < vec_len work.now.blocks → slice_index work.now.blocks.items t ≡ b →
+        has_in from.now.items t s ≡ true → has v.items s ≡ true) }
+{
+    let mut sources = Vec::new(alloc);
+    for t in &work.lists[b] {
+        if *t < work.blocks.len() && work.blocks[*t] == b {
+            add_all(&mut sources, from, *t)?;
+        }
+    }
+    Ok(sources)
+}
+
+/// The numbers of a list, without those that stand behind an equal one.
+fn without_repeats(alloc: Global, list: &Vec<usize>) -> Result<Vec<usize>, AllocError>
+    ensures { IfOk result (λ v. (s : ℕ) → has list.now.items s ≡ true → has v.items s ≡ true) }
+{
+    let mut once = Vec::new(alloc);
+    for s in list {
+        add(&mut once, *s)?;
+    }
+    Ok(once)
+}
+
+/// The states with an edge into a block, perhaps with others.
+fn sources_of(
+    alloc: Global,
+    work: &Work,
+    from: &Vec<Vec<usize>>,
+    b: usize,
+) -> Result<Vec<usize>, AllocError>
+    requires b_in { b < vec_len work.now.splits }
+    requires len { vec_len from.now ≡ vec_len work.now.blocks }
+    ensures { IfOk result (λ v. (t s : ℕ) → t < vec_len work.now.blocks → slice_index work.now.blocks.items t ≡ b →
+        has_in from.now.items t s ≡ true → has v.items s ≡ true) }
+{
+    let mut all = all_sources(alloc, work, from, b)?;
+    all.sort_unstable();
+    let once = without_repeats(alloc, &all)?;
+    Ok(once)
+}
+
+/// Whether a state leads into the block by the symbol.
+fn leads_into(table: &Table, blocks: &Vec<usize>, s: usize, b: usize, k: usize) -> bool
+    requires len { vec_len blocks.now ≡ size table.now }
+    requires k_in { k < 257 }
+    ensures { IsTrue result ↔ ((s < size table.now) × (target_block table.now (slice_index blocks.now.items) s k ≡ Some b)) }
+{
+    s < table.len() && block_of(table.target(s, k), blocks) == Some(b)
+}
+
+/// Those of the sources that lead into the block by the symbol.
+fn hits_of(
+    alloc: Global,
+    table: &Table,
+    blocks: &Vec<usize>,
+    sources: &Vec<usize>,
+    b: usize,
+    k: usize,
+) -> Result<Vec<usize>, AllocError>
+    requires len { vec_len blocks.now ≡ size table.now }
+    requires k_in { k < 257 }
+    ensures hits { IfOk result (λ v. AreHits (size table.now) (target_block table.now (slice_index blocks.now.items)) sources.now.items v.items b k) }
+{
+    let mut hits = Vec::new(alloc);
+    for s in sources {
+        if leads_into(table, blocks, *s, b, k) {
+            hits.push(*s)?;
+        }
+    }
+    Ok(hits)
+}
+
+/// Splits the blocks by the states that lead into a block by one symbol.
+fn split_by_symbol(
+    alloc: Global,
+    table: &Table,
+    work: Work,
+    sources: &Vec<usize>,
+    b: usize,
+    k: usize,
+) -> Result<Work, AllocError>
+    requires k_in { k < 257 }
+    requires len { vec_len work.blocks ≡ size table.now }
+    requires b_in { b < vec_len work.splits }
+    requires sources { AreSources (size table.now) (target_block table.now (slice_index work.blocks.items)) sources.now.items b }
+    requires sound { IsSound table.now work.splits.items (slice_index work.blocks.items) }
+    ensures len { IfOk result (λ w. vec_len w.blocks ≡ vec_len work.blocks) }
+    ensures lists_len { IfOk result (λ w. vec_len w.lists ≡ vec_len work.lists) }
+    ensures sound { IfOk result (λ w. IsSound table.now w.splits.items (slice_index w.blocks.items)) }
+    ensures finer { IfOk result (λ w. IsFiner (size table.now) (slice_index w.blocks.items) (slice_index work.blocks.items)) }
+    ensures falls { IfOk result (λ w. 2 * (vec_len w.lists - vec_len w.splits) + vec_len w.hints.todo ≤ 2 * (vec_len work.lists - vec_len work.splits) + vec_len work.hints.todo) }
+    ensures b_in { IfOk result (λ w. b < vec_len w.splits) }
+    ensures sources { IfOk result (λ w. AreSources (size table.now) (target_block table.now (slice_index w.blocks.items)) sources.now.items b) }
+{
+    let hits = hits_of(alloc, table, &work.blocks, sources, b, k)?;
+    if hits.is_empty() {
+        return Ok(work);
+    }
+    let split = split_on(alloc, work, &hits, k)?;
+    Ok(split)
+}
+
+/// Notes the symbols by which a row leads into a block.
+fn note_symbols(used: &mut [bool; 257], row: &Row, blocks: &Vec<usize>, b: usize)
+    requires { (k t : ℕ) → target_by row.now k ≡ Some t → t < vec_len blocks.now }
+{
+    for k in 0..WIDTH {
+        if let Some(t) = target_at(row, k) {
+            if blocks[t] == b {
+                used[k] = true;
+            }
+        }
+    }
+}
+
+/// The symbols by which some source leads into a block. Nothing that is proved depends on it.
+fn symbols_into(table: &Table, blocks: &Vec<usize>, sources: &Vec<usize>, b: usize) -> [bool; 257]
+    requires { vec_len blocks.now ≡ size table.now }
+{
+    let mut used = [false; 257];
+    for s in sources {
+        if *s < table.len() {
+            note_symbols(&mut used, table.row(*s), blocks, b);
+        }
+    }
+    used
+}
+
+/// Splits the blocks by the states that lead into a block, symbol by symbol.
+fn split_by_block(
+    alloc: Global,
+    table: &Table,
+    work: Work,
+    sources: &Vec<usize>,
+    b: usize,
+) -> Result<Work, AllocError>
+    requires len { vec_len work.blocks ≡ size table.now }
+    requires b_in { b < vec_len work.splits }
+    requires sources { AreSources (size table.now) (target_block table.now (slice_index work.blocks.items)) sources.now.items b }
+    requires sound { IsSound table.now work.splits.items (slice_index work.blocks.items) }
+    ensures len { IfOk result (λ w. vec_len w.blocks ≡ vec_len work.blocks) }
+    ensures lists_len { IfOk result (λ w. vec_len w.lists ≡ vec_len work.lists) }
+    ensures sound { IfOk result (λ w. IsSound table.now w.splits.items (slice_index w.blocks.items)) }
+    ensures finer { IfOk result (λ w. IsFiner (size table.now) (slice_index w.blocks.items) (slice_index work.blocks.items)) }
+    ensures falls { IfOk result (λ w. 2 * (vec_len w.lists - vec_len w.splits) + vec_len w.hints.todo ≤ 2 * (vec_len work.lists - vec_len work.splits) + vec_len work.hints.todo) }
+{
+    let mut split = work;
+    let used = symbols_into(table, &split.blocks, sources, b);
+    for k in 0..WIDTH {
+        if used[k] {
+            split = split_by_symbol(alloc, table, split, sources, b, k)?;
+        }
+    }
+    Ok(split)
+}
+
+impl Work {
+    /// The next block to look at.
+    fn next(&mut self) -> Option<usize>
+        ensures some { OnSome result (vec_len self.new.hints.todo + 1 ≡ vec_len self.old.hints.todo) }
+        ensures blocks { self.new.blocks ≡ self.old.blocks }
+        ensures splits { self.new.splits ≡ self.old.splits }
+        ensures lists { self.new.lists ≡ self.old.lists }
+    {
+        self.hints.next()
+    }
+
+    /// Notes that a block was looked at.
+    fn finish(&mut self, block: usize)
+        ensures todo { vec_len self.new.hints.todo ≡ vec_len self.old.hints.todo }
+        ensures blocks { self.new.blocks ≡ self.old.blocks }
+        ensures splits { self.new.splits ≡ self.old.splits }
+        ensures lists { self.new.lists ≡ self.old.lists }
+    {
+        self.hints.finish(block);
+    }
+
+    /// The blocks alone.
+    fn into_blocks(self) -> Blocks
+        ensures of { result.of ≡ self.blocks }
+        ensures splits { result.splits ≡ self.splits }
+    {
+        let Work {
+            blocks,
+            lists: _,
+            twins: _,
+            splits,
+            hints: _,
+        } = self;
+        Blocks { of: blocks, splits }
+    }
+}
+
+/// Each state in the list of its block.
+fn filed_states(
+    alloc: Global,
+    blocks: &Vec<usize>,
+    room: usize,
+) -> Result<Vec<Vec<usize>>, AllocError>
+    requires { (s : ℕ) → s < vec_len blocks.now → slice_index blocks.now.items s < room }
+    ensures len { IfOk result (λ v. vec_len v ≡ room) }
+    ensures filed { IfOk result (λ v. AreFiled (vec_len blocks.now) (slice_index blocks.now.items) v.items) }
+{
+    let mut lists = empty_lists(alloc, room)?;
+    for s in 0..blocks.len() {
+        file(&mut lists, blocks[s], s)?;
+    }
+    Ok(lists)
+}
+
+/// The blocks with all to do.
+fn start(alloc: Global, blocks: Blocks, room: usize) -> Result<Work, AllocError>
+    requires some { 0 < vec_len blocks.splits }
+    requires room { vec_len blocks.splits ≤ room }
+    ensures blocks { IfOk result (λ w. w.blocks ≡ blocks.of) }
+    ensures splits { IfOk result (λ w. w.splits ≡ blocks.splits) }
+{
+    let Blocks { of, splits } = blocks;
+    let lists = filed_states(alloc, &of, room)?;
+    let hints = Hints::new(alloc, &of, splits.len(), room)?;
+    let twins = vec![in alloc; 0; room]?;
+    Ok(Work {
+        blocks: of,
+        lists,
+        twins,
+        splits,
+        hints,
+    })
+}
+
+/// The blocks, split as far as the list of what is to do goes.
+pub fn refine(alloc: Global, table: &Table, blocks: Blocks) -> Result<Blocks, AllocError>
+    requires len { vec_len blocks.of ≡ size table.now }
+    requires sound { IsSound table.now blocks.splits.items (slice_index blocks.of.items) }
+    ensures len { IfOk result (λ r. vec_len r.of ≡ size table.now) }
+    ensures sound { IfOk result (λ r. IsSound table.now r.splits.items (slice_index r.of.items)) }
+    ensures finer { IfOk result (λ r. IsFiner (size table.now) (slice_index r.of.items) (slice_index blocks.of.items)) }
+{
+    if blocks.splits.is_empty() {
+        return Ok(blocks);
+    }
+    let from = predecessors(alloc, table, WIDTH)?;
+    let room = blocks.splits.len().max(table.len());
+    let mut work = start(alloc, blocks, room)?;
+    while let Some(b) = work.next() {
+        if b < work.splits.len() {
+            let sources = sources_of(alloc, &work, &from, b)?;
+            work = split_by_block(alloc, table, work, &sources, b)?;
+            work.finish(b);
+        }
+    }
+    Ok(work.into_blocks())
+}

@@ -1,0 +1,62 @@
+//! States in the order in which they are met.
+ghost use Rattle.std.specs.Prelude.{true, ◌≡◌, ℕ, ◌+◌, ◌<◌, ◌++◌, ◌∷◌, ◌⊎◌, [], OnOk, IfOk, length, vec_len, slice_index};
+ghost use Rattle.logos_reduce.specs.Order.{IsOrder, IsMet};
+ghost use Rattle.logos_reduce.specs.inside.Order.{Grows};
+
+use std::alloc::{AllocError, Global};
+
+/// States, each once, in the order in which they were met.
+#[derive(Drop)]
+pub struct Order {
+    /// For each state one more than its place, or 0 where it was not met.
+    pub numbers: Vec<usize>,
+    /// The states that were met, in their order.
+    pub states: Vec<usize>,
+    ghost in_order: { IsOrder numbers.items states.items },
+}
+
+impl Order {
+    /// No states of so many.
+    pub fn new(alloc: Global, len: usize) -> Result<Order, AllocError>
+        ensures len { IfOk result (λ o. vec_len o.numbers ≡ len) }
+        ensures empty { IfOk result (λ o. o.states.items ≡ []) }
+        ensures none { IfOk result (λ o. (s : ℕ) → IsMet o.numbers.items s → ⊥) }
+    {
+        let numbers = vec![in alloc; 0; len]?;
+        Ok(Order {
+            numbers,
+            states: Vec::new(alloc),
+        })
+    }
+
+    /// Puts a state at the end of the order, if it is not there yet.
+    pub fn meet(&mut self, s: usize) -> Result<(), AllocError>
+        requires { s < vec_len self.old.numbers }
+        ensures len { vec_len self.new.numbers ≡ vec_len self.old.numbers }
+        ensures grows { Grows self.old.numbers.items self.new.numbers.items }
+        ensures met { OnOk result (IsMet self.new.numbers.items s) }
+        ensures known { IsMet self.old.numbers.items s → self.new.states.items ≡ self.old.states.items }
+        ensures fresh { slice_index self.old.numbers.items s ≡ 0 → OnOk result (self.new.states.items ≡ self.old.states.items ++ s ∷ []) }
+        ensures only { (t : ℕ) → IsMet self.new.numbers.items t → IsMet self.old.numbers.items t ⊎ (t ≡ s) }
+    {
+        if self.numbers[s] == 0 {
+            self.states.push(s)?;
+            self.numbers[s] = self.states.len();
+        }
+        Ok(())
+    }
+
+    /// Puts a state at the end of the order, if it is wanted and not there yet.
+    pub fn meet_if(&mut self, s: usize, wanted: bool) -> Result<(), AllocError>
+        requires { s < vec_len self.old.numbers }
+        ensures len { vec_len self.new.numbers ≡ vec_len self.old.numbers }
+        ensures grows { Grows self.old.numbers.items self.new.numbers.items }
+        ensures met { OnOk result (wanted ≡ true → IsMet self.new.numbers.items s) }
+        ensures only { (t : ℕ) → IsMet self.new.numbers.items t → IsMet self.old.numbers.items t ⊎ ((t ≡ s) × (wanted ≡ true)) }
+    {
+        if wanted {
+            self.meet(s)?;
+        }
+        Ok(())
+    }
+}

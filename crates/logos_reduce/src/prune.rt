@@ -1,0 +1,131 @@
+//! States that have no mark and lead to none are left out.
+ghost use Rattle.std.specs.Prelude.{true, ◌≡◌, ℕ, ◌+◌, ◌<◌, ◌≤◌, ◌↔◌, ◌⊎◌, Some, OnOk, IfOk, IsTrue, IsSome, length, vec_len, slice_index};
+ghost use Rattle.logos_reduce.specs.Lists.{has};
+ghost use Rattle.logos_reduce.specs.Table.{size, to, mark, type_of};
+ghost use Rattle.logos_reduce.specs.inside.Prune.{IsSeed, AreUseful, kept_target};
+ghost use Rattle.logos_reduce.specs.Prune.{IsPrunedTable};
+ghost use Rattle.logos_reduce.specs.Order.{IsMet};
+ghost use Rattle.logos_reduce.specs.inside.Order.{Grows};
+ghost use Rattle.logos_reduce.specs.Edges.{IsMarked};
+ghost use Rattle.logos_reduce.specs.Rows.{target_by, target_of, target_in};
+ghost use Rattle.logos_reduce.specs.RowsView.{rows_of};
+
+use crate::lists::predecessors;
+use crate::order::Order;
+use crate::rows::{END, Row, Rows, WIDTH, target_at};
+use crate::table::{Mark, Table};
+use std::alloc::{AllocError, Global};
+
+/// Whether there is a mark.
+fn is_marked(mark: Mark) -> bool
+    ensures { IsTrue result ↔ IsMarked (type_of mark) }
+{
+    mark.early.is_some() || mark.accept.is_some()
+}
+
+/// Whether a state has a mark, or leads to one by the end.
+fn is_seed(table: &Table, s: usize) -> bool
+    requires { s < size table.now }
+    ensures { IsTrue result ↔ IsSeed table.now s }
+{
+    if is_marked(table.mark(s)) {
+        return true;
+    }
+    match table.target(s, END) {
+        Some(t) => is_marked(table.mark(t)),
+        None => false,
+    }
+}
+
+/// The states that have a mark, or lead to one by the end.
+fn seeds(alloc: Global, table: &Table) -> Result<Order, AllocError>
+    ensures len { IfOk result (λ o. vec_len o.numbers ≡ size table.now) }
+    ensures only { IfOk result (λ o. (s : ℕ) → IsMet o.numbers.items s → IsSeed table.now s) }
+    ensures all { IfOk result (λ o. (s : ℕ) → s < size table.now → IsSeed table.now s → IsMet o.numbers.items s) }
+{
+    let mut order = Order::new(alloc, table.len())?;
+    for s in 0..table.len() {
+        order.meet_if(s, is_seed(table, s))?;
+    }
+    Ok(order)
+}
+
+/// Meets all states of a list.
+fn meet_all(order: &mut Order, list: &Vec<usize>) -> Result<(), AllocError>
+    requires { (s : ℕ) → has list.now.items s ≡ true → s < vec_len order.old.numbers }
+    ensures len { vec_len order.new.numbers ≡ vec_len order.old.numbers }
+    ensures grows { Grows order.old.numbers.items order.new.numbers.items }
+    ensures all { OnOk result ((s : ℕ) → has list.now.items s ≡ true → IsMet order.new.numbers.items s) }
+    ensures only { (s : ℕ) → IsMet order.new.numbers.items s → IsMet order.old.numbers.items s ⊎ (has list.now.items s ≡ true) }
+{
+    for s in list {
+        order.meet(*s)?;
+    }
+    Ok(())
+}
+
+/// The states that have a mark or lead to one.
+fn useful_states(alloc: Global, table: &Table) -> Result<Order, AllocError>
+    ensures len { IfOk result (λ o. vec_len o.numbers ≡ size table.now) }
+    ensures useful { IfOk result (λ o. AreUseful table.now o.numbers.items) }
+{
+    let from = predecessors(alloc, table, END)?;
+    let mut order = seeds(alloc, table)?;
+    let mut i = 0;
+    while i < order.states.len() {
+        let t = order.states[i];
+        meet_all(&mut order, &from[t])?;
+        i += 1;
+    }
+    Ok(order)
+}
+
+/// The row without the targets that are not in the order.
+fn pruned_row(row: &Row, order: &Order) -> Row
+    requires { (k t : ℕ) → target_by row.now k ≡ Some t → t < vec_len order.now.numbers }
+    ensures { (k : ℕ) → target_by result k ≡ kept_target order.now.numbers.items (target_by row.now k) }
+{
+    let mut pruned = *row;
+    for k in 0..WIDTH {
+        pruned[k] = pruned_entry(row, k, order);
+    }
+    pruned
+}
+
+/// The entry of the row, or 0 where its target is not in the order.
+fn pruned_entry(row: &Row, k: usize, order: &Order) -> u32
+    requires symbol { k < 257 }
+    requires inside { (t : ℕ) → target_by row.now k ≡ Some t → t < vec_len order.now.numbers }
+    ensures { target_of result ≡ kept_target order.now.numbers.items (target_by row.now k) }
+{
+    match target_at(row, k) {
+        Some(t) => if order.numbers[t] == 0 { 0 } else { row[k] },
+        None => 0,
+    }
+}
+
+/// The rows without the targets that are not in the order.
+fn pruned_rows(alloc: Global, table: &Table, order: &Order) -> Result<Rows, AllocError>
+    requires { vec_len order.now.numbers ≡ size table.now }
+    ensures len { IfOk result (λ r. length (rows_of r) ≡ size table.now) }
+    ensures rows { IfOk result (λ r. (s k : ℕ) → s < size table.now → target_in (rows_of r) s k ≡ kept_target order.now.numbers.items (to table.now s k)) }
+{
+    let mut rows = Rows::new(alloc);
+    for s in 0..table.len() {
+        rows.push(&pruned_row(table.row(s), order))?;
+    }
+    Ok(rows)
+}
+
+/// Takes away the edges to states that have no mark and lead to none.
+pub fn prune(alloc: Global, table: Table) -> Result<Table, AllocError>
+    ensures { IfOk result (IsPrunedTable table) }
+{
+    let order = useful_states(alloc, &table)?;
+    let pruned = pruned_rows(alloc, &table, &order)?;
+    let Table { marks, rows: _ } = table;
+    Ok(Table {
+        marks,
+        rows: pruned,
+    })
+}

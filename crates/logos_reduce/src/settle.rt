@@ -1,0 +1,132 @@
+//! Early marks, and the late marks that they make needless.
+ghost use Rattle.std.specs.Prelude.{◌≡◌, ◌≢◌, ℕ, ◌+◌, ◌<◌, ◌↔◌, ◌⊎◌, None, Some, IfOk, length, vec_len, slice_index_or, if◌then◌else◌};
+ghost use Rattle.logos_reduce.specs.Table.{size, to, mark, mark_in};
+ghost use Rattle.logos_reduce.specs.Settle.{accepted, IsCommon, IsNeeded, IsSpare, IsSettled};
+ghost use Rattle.logos_reduce.specs.inside.Settle.{AreCommon, IsSet, AreNeeded, IsMarkedBy};
+
+use crate::rows::{END, WIDTH};
+use crate::table::{Mark, Table};
+use std::alloc::{AllocError, Global};
+
+/// The leaf that is accepted where a symbol leads.
+fn accepted_by(table: &Table, s: usize, k: usize) -> Option<usize>
+    requires state { s < size table.now }
+    requires symbol { k < 257 }
+    ensures { result ≡ accepted table.now s k }
+{
+    table.mark(table.target(s, k)?).accept
+}
+
+/// The leaf that is accepted wherever a state leads, if every byte and the end lead somewhere.
+fn common_leaf(table: &Table, s: usize) -> Option<usize>
+    requires { s < size table.now }
+    ensures { IsCommon table.now s result }
+{
+    let leaf = accepted_by(table, s, END);
+    for k in 0..END {
+        if accepted_by(table, s, k) != leaf {
+            return None;
+        }
+    }
+    leaf
+}
+
+/// The early mark of each state.
+fn early_marks(alloc: Global, table: &Table) -> Result<Vec<Option<usize>>, AllocError>
+    ensures len { IfOk result (λ v. vec_len v ≡ size table.now) }
+    ensures marks { IfOk result (λ v. AreCommon table.now (size table.now) v.items) }
+{
+    let mut early = Vec::new(alloc);
+    for s in 0..table.len() {
+        early.push(common_leaf(table, s))?;
+    }
+    Ok(early)
+}
+
+/// Sets the flag of a target whose late mark is needed behind this early mark.
+fn note_target(table: &Table, target: Option<usize>, early: Option<usize>, needed: &mut Vec<bool>)
+    requires inside { (t : ℕ) → target ≡ Some t → t < size table.now }
+    requires len { vec_len needed.old ≡ size table.now }
+    ensures len { vec_len needed.new ≡ vec_len needed.old }
+    ensures kept { (t : ℕ) → IsSet needed.old.items t → IsSet needed.new.items t }
+    ensures needed { (t : ℕ) → IsSet needed.new.items t → IsSet needed.old.items t ⊎ ((target ≡ Some t) × ((mark table.now t).accept ≢ early)) }
+    ensures spare { (t : ℕ) → target ≡ Some t → IsSet needed.new.items t ⊎ ((mark table.now t).accept ≡ early) }
+{
+    if let Some(t) = target {
+        if table.mark(t).accept != early {
+            needed[t] = true;
+        }
+    }
+}
+
+/// Sets the flags of those targets of a state whose late marks are needed behind this early mark.
+fn note_targets(table: &Table, s: usize, early: Option<usize>, needed: &mut Vec<bool>)
+    requires state { s < size table.now }
+    requires len { vec_len needed.old ≡ size table.now }
+    ensures len { vec_len needed.new ≡ vec_len needed.old }
+    ensures kept { (t : ℕ) → IsSet needed.old.items t → IsSet needed.new.items t }
+    ensures needed { (t : ℕ) → IsSet needed.new.items t → IsSet needed.old.items t ⊎ IsNeeded table.now s early t }
+    ensures spare { (t : ℕ) → IsSet needed.new.items t ⊎ IsSpare table.now s early t }
+{
+    for k in 0..WIDTH {
+        note_target(table, table.target(s, k), early, needed);
+    }
+}
+
+/// For each state whether its late mark is needed.
+fn needed_marks(
+    alloc: Global,
+    table: &Table,
+    early: &Vec<Option<usize>>,
+) -> Result<Vec<bool>, AllocError>
+    requires { vec_len early.now ≡ size table.now }
+    ensures len { IfOk result (λ v. vec_len v ≡ size table.now) }
+    ensures needed { IfOk result (λ v. AreNeeded table.now early.now.items (size table.now) v.items) }
+{
+    let mut needed = vec![in alloc; false; table.len()]?;
+    for s in 0..table.len() {
+        note_targets(table, s, early[s], &mut needed);
+    }
+    Ok(needed)
+}
+
+/// The mark of a state, once its early mark is known.
+fn settled_mark(mark: Mark, early: Option<usize>, needed: bool) -> Mark
+    ensures early { result.early ≡ early }
+    ensures accept { result.accept ≡ (if needed then mark.accept else None) }
+{
+    Mark {
+        accept: if needed { mark.accept } else { None },
+        early,
+    }
+}
+
+/// The marks of all states, once their early marks are known.
+fn settled_marks(
+    alloc: Global,
+    table: &Table,
+    early: &Vec<Option<usize>>,
+    needed: &Vec<bool>,
+) -> Result<Vec<Mark>, AllocError>
+    requires early { vec_len early.now ≡ size table.now }
+    requires needed { vec_len needed.now ≡ size table.now }
+    ensures len { IfOk result (λ v. vec_len v ≡ size table.now) }
+    ensures marks { IfOk result (λ v. (s : ℕ) → s < size table.now → IsMarkedBy table.now early.now.items needed.now.items s (mark_in v.items s)) }
+{
+    let mut marks = Vec::new(alloc);
+    for s in 0..table.len() {
+        marks.push(settled_mark(table.mark(s), early[s], needed[s]))?;
+    }
+    Ok(marks)
+}
+
+/// Sets the early marks, and drops the late marks that are then needless.
+pub fn settle(alloc: Global, table: Table) -> Result<Table, AllocError>
+    ensures { IfOk result (IsSettled table) }
+{
+    let early = early_marks(alloc, &table)?;
+    let needed = needed_marks(alloc, &table, &early)?;
+    let marks = settled_marks(alloc, &table, &early, &needed)?;
+    let Table { marks: _, rows } = table;
+    Ok(Table { marks, rows })
+}

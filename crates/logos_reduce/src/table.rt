@@ -1,0 +1,71 @@
+//! States with their marks, and rows of targets.
+ghost use Rattle.std.specs.Prelude.{◌≡◌, ℕ, ◌+◌, ◌<◌, ◌^◌, Some, length, vec_len};
+ghost use Rattle.logos_reduce.specs.Rows.{IsClosed, target_by};
+ghost use Rattle.logos_reduce.specs.RowsView.{rows_of};
+
+use crate::rows::{Row, Rows, target_at};
+
+/// The leaf whose match ends one byte before a state, and the leaf whose match ends there.
+#[derive(Clone, Copy, PartialEq, Eq, Hash, Debug, Drop)]
+pub struct Mark {
+    pub accept: Option<usize>,
+    pub early: Option<usize>,
+}
+
+/// States, with a mark and a row of targets for each.
+#[derive(Drop)]
+pub struct Table {
+    pub(crate) marks: Vec<Mark>,
+    pub(crate) rows: Rows,
+    ghost same_len: { length (rows_of rows) ≡ vec_len marks },
+    ghost closed: { IsClosed (vec_len marks) (rows_of rows) },
+    ghost few: { vec_len marks + 1 < 2 ^ 32 },
+}
+
+impl Table {
+    ghost use Rattle.logos_reduce.specs.Table.{mark_in, size, to, mark};
+
+    /// The table with these marks and rows: state `s` has mark `s` and row `s`.
+    pub fn new(marks: Vec<Mark>, rows: Rows) -> Table
+        requires same_len { length (rows_of rows) ≡ vec_len marks }
+        requires closed { IsClosed (vec_len marks) (rows_of rows) }
+        requires few { vec_len marks + 1 < 2 ^ 32 }
+        ensures marks { result.marks ≡ marks }
+        ensures rows { result.rows ≡ rows }
+    {
+        Table { marks, rows }
+    }
+
+    /// How many states there are.
+    pub fn len(&self) -> usize
+        ensures { result ≡ size self.now }
+    {
+        self.marks.len()
+    }
+
+    /// The mark of a state.
+    pub fn mark(&self, s: usize) -> Mark
+        requires { s < size self.now }
+        ensures { result ≡ mark self.now s }
+    {
+        self.marks[s]
+    }
+
+    /// The targets of a state.
+    pub fn row(&self, s: usize) -> &Row
+        requires { s < size self.now }
+        ensures row { (k : ℕ) → target_by result.now k ≡ to self.now s k }
+        ensures inside { (k t : ℕ) → target_by result.now k ≡ Some t → t < size self.now }
+    {
+        self.rows.get(s)
+    }
+
+    /// Where a state leads by a symbol.
+    pub fn target(&self, s: usize, k: usize) -> Option<usize>
+        requires state { s < size self.now }
+        requires symbol { k < 257 }
+        ensures { result ≡ to self.now s k }
+    {
+        target_at(self.row(s), k)
+    }
+}

@@ -1,0 +1,137 @@
+//! What tells two states of a reduced table apart.
+ghost use Rattle.std.specs.Prelude.{◌≡◌, ◌≢◌, ◌⊎◌, ◌↔◌, ◌<◌, ℕ, IsTrue, IfOk, IfSome, MatchOption, Some, None};
+ghost use Rattle.logos_reduce.specs.Table.{size, to};
+ghost use Rattle.logos_reduce.specs.Tellable.{IsTellable};
+ghost use Rattle.logos_reduce.specs.Telling.{mark_behind, mark_after, TellsApart, IsEvidence};
+ghost use Rattle.logos_reduce.specs.Words.{state_behind};
+ghost use Rattle.logos_reduce.specs.inside.Telling.{ArePartedAt};
+
+use crate::reduction::Reduction;
+use crate::rows::END;
+use crate::table::{Mark, Table};
+use std::alloc::{AllocError, Global};
+
+/// Where bytes lead from a state.
+fn state_behind(table: &Table, s: usize, bytes: &[u8]) -> Option<usize>
+    requires { s < size table.now }
+    ensures state { result ≡ state_behind table.now (Some s) bytes.now }
+    ensures within { IfSome result (λ t. t < size table.now) }
+{
+    let mut at = s;
+    for b in bytes {
+        at = table.target(at, usize::from(*b))?;
+    }
+    Some(at)
+}
+
+/// The mark of a state, or of the one to which the end leads from it.
+fn mark_behind(table: &Table, s: usize, at_end: bool) -> Option<Mark>
+    requires { s < size table.now }
+    ensures { result ≡ mark_behind table.now s at_end }
+{
+    if !at_end {
+        return Some(table.mark(s));
+    }
+    let t = table.target(s, END)?;
+    Some(table.mark(t))
+}
+
+/// The mark to which bytes lead from a state, with the end after them or without.
+fn mark_after(table: &Table, s: usize, bytes: &[u8], at_end: bool) -> Option<Mark>
+    requires { s < size table.now }
+    ensures { result ≡ mark_after table.now s bytes.now at_end }
+{
+    let t = state_behind(table, s, bytes)?;
+    mark_behind(table, t, at_end)
+}
+
+/// Whether two marks differ, or there is just one.
+fn differ(one: Option<Mark>, other: Option<Mark>) -> bool
+    ensures { IsTrue result ↔ (one ≢ other) }
+{
+    one != other
+}
+
+/// Where two states lead by a symbol, if both lead somewhere.
+fn both_targets(table: &Table, s: usize, t: usize, k: usize) -> Option<(usize, usize)>
+    requires s_in { s < size table.now }
+    requires t_in { t < size table.now }
+    requires k_in { k < 257 }
+    ensures { MatchOption result
+        ((to table.now s k ≡ None) ⊎ (to table.now t k ≡ None))
+        (λ p. (to table.now s k ≡ Some p.0) × (to table.now t k ≡ Some p.1)) }
+{
+    Some((table.target(s, k)?, table.target(t, k)?))
+}
+
+/// The two numbers, the lower one first.
+fn ordered(a: usize, b: usize) -> (usize, usize)
+    requires { a ≢ b }
+    ensures order { result.0 < result.1 }
+    ensures same { ((result.0 ≡ a) × (result.1 ≡ b)) ⊎ ((result.0 ≡ b) × (result.1 ≡ a)) }
+{
+    if a < b { (a, b) } else { (b, a) }
+}
+
+/// The block whose split parted two states.
+fn parted_at(reduced: &Reduction, s: usize, t: usize) -> usize
+    requires tellable { IsTellable reduced.now }
+    requires s_in { s < size reduced.now.table }
+    requires t_in { t < size reduced.now.table }
+    requires different { s ≢ t }
+    ensures { ArePartedAt reduced.now s t result }
+{
+    let (mut low, mut high) = ordered(reduced.blocks[s], reduced.blocks[t]);
+    loop {
+        let parent = reduced.splits[high].parent;
+        if parent == low {
+            return high;
+        }
+        (low, high) = ordered(parent, low);
+    }
+}
+
+impl Reduction {
+    /// Whether the bytes, with the end after them or without, tell the two states apart. No memory is taken.
+    pub fn checks(&self, s: usize, t: usize, bytes: &[u8], at_end: bool) -> bool
+        requires s_in { s < size self.now.table }
+        requires t_in { t < size self.now.table }
+        ensures { IsTrue result ↔ TellsApart self.now.table s t bytes.now at_end }
+    {
+        let one = mark_after(&self.table, s, bytes, at_end);
+        let other = mark_after(&self.table, t, bytes, at_end);
+        differ(one, other)
+    }
+
+    /// Fewer bytes than there are states, and whether the end follows them, that tell two different states apart.
+    ///
+    /// # Errors
+    ///
+    /// There is no memory for the bytes.
+    pub fn telling(&self, alloc: Global, s: usize, t: usize) -> Result<(Vec<u8>, bool), AllocError>
+        requires tellable { IsTellable self.now }
+        requires s_in { s < size self.now.table }
+        requires t_in { t < size self.now.table }
+        requires different { s ≢ t }
+        ensures { IfOk result (λ p. IsEvidence self.now.table s t p.0.items p.1) }
+    {
+        let mut bytes = Vec::new(alloc);
+        let mut left = s;
+        let mut right = t;
+        loop {
+            let split = self.splits[parted_at(self, left, right)];
+            let Some(k) = split.symbol else {
+                return Ok((bytes, false));
+            };
+            if k == END {
+                return Ok((bytes, true));
+            }
+            bytes.push(k as u8)?;
+            let Some((a, b)) = both_targets(&self.table, left, right, k) else {
+                return Ok((bytes, false));
+            };
+            left = a;
+            right = b;
+        }
+    }
+}
