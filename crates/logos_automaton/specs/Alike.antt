@@ -7,7 +7,7 @@ use Rattle.logos_places.specs.Node.{core_of}
 use Rattle.logos_places.specs.Run.{StepsIn}
 use Rattle.logos_automaton.specs.declared.alike.Told.{Told}
 use Rattle.logos_places.specs.declared.node.Node.{Node}
-use Rattle.logos_pattern.specs.declared.pattern.hir.Look.{Look}
+use Rattle.logos_hir.specs.declared.hir.Look.{Look}
 
 abbrev pub IsAlike : Core → ℕ → ℕ → Type 0
 IsAlike void x y = Unit {0}

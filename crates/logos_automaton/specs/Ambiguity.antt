@@ -1,7 +1,7 @@
 -- Rules that cannot be told apart by length and priority.
 use Rattle.std.specs.Prelude.{ℕ, ◌≤◌, ◌↔◌, List, length, Contains}
 use Rattle.std.specs.List.Sorted.{IsStrictlyIncreasing}
-use Rattle.logos_pattern.specs.Text.{IsBytes}
+use Rattle.logos_hir.specs.Text.{IsBytes}
 use Rattle.logos_automaton.specs.Munch.{Rule, RuleMatches, priority_of}
 
 -- the rule matches the span, and none that matches it has a higher priority

@@ -1,6 +1,6 @@
 -- The faults that errors name.
 use Rattle.std.specs.Prelude.{ℕ, List, map}
-use Rattle.logos_pattern.specs.declared.leaf.LeafId.{LeafId}
+use Rattle.logos_hir.specs.declared.leaf.LeafId.{LeafId}
 use Rattle.logos_automaton.specs.Faults.{Fault, no_universal_start, empty_match, disambiguation}
 use Rattle.logos_automaton.specs.declared.errors.GraphError.{GraphError}
 use Rattle.logos_automaton.specs.declared.errors.GraphError.TheVariants.{NoUniversalStart, EmptyMatch, Disambiguation}

@@ -1,6 +1,6 @@
 -- What contracts see of rules.
 use Rattle.std.specs.Prelude.{List, map}
-use Rattle.logos_pattern.specs.Hir.{tree_of}
+use Rattle.logos_hir.specs.Hir.{tree_of}
 use Rattle.logos_automaton.specs.Munch.{Rule}
 use Rattle.logos_automaton.specs.declared.rule.RuleView.{RuleView}
 

@@ -1,6 +1,6 @@
 //! Faults of rules, and why there is no automaton.
 
-use logos_pattern::leaf::LeafId;
+use logos_hir::leaf::LeafId;
 use std::alloc::{AllocError, AllocFailed};
 
 /// A fault of a list of leaves.

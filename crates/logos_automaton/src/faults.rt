@@ -14,7 +14,7 @@ use crate::dfa::parts::{leaves_at, state_count};
 use crate::errors::GraphError;
 use crate::measures::passable;
 use crate::rule::{RuleView, some_leads, some_passable};
-use logos_pattern::leaf::LeafId;
+use logos_hir::leaf::LeafId;
 use std::alloc::{AllocError, Global};
 use std::collections::BTreeSet;
 

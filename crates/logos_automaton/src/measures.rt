@@ -1,13 +1,13 @@
 //! Measures of trees. None of them takes memory.
 ghost use Rattle.std.specs.Prelude.{◌≡◌, ℕ, ◌+◌, ◌*◌, ◌^◌, ◌≤◌, ◌↔◌, IsTrue, length, max, map};
-ghost use Rattle.logos_pattern.specs.Hir.{class_tree, tree_of};
-ghost use Rattle.logos_pattern.specs.Priority as tree;
-ghost use Rattle.logos_pattern.specs.Tree.{trees};
+ghost use Rattle.logos_hir.specs.Hir.{class_tree, tree_of};
+ghost use Rattle.logos_hir.specs.Priority as tree;
+ghost use Rattle.logos_hir.specs.Tree.{trees};
 ghost use Rattle.logos_automaton.specs.Measures.{IsWithinLimit};
 ghost use Rattle.logos_places.specs.Places as places;
 ghost use Rattle.logos_places.specs.Size.{size, sizes};
 
-use logos_pattern::pattern::{Class, Hir};
+use logos_hir::hir::{Class, Hir};
 
 /// The greatest size that all trees may have.
 const SIZE_LIMIT: usize = 1 << 20;

@@ -5,7 +5,7 @@ ghost use Rattle.logos_automaton.specs.Rules as inner;
 ghost use Rattle.logos_automaton.specs.View.{rules_of};
 
 use crate::measures::{has_look, leads, passable};
-use logos_pattern::pattern::Hir;
+use logos_hir::hir::Hir;
 
 /// The rule that a leaf stands for, with the leaf's tree.
 #[derive(Clone, Copy)]

@@ -1,22 +1,22 @@
 -- Sources that are refused, and those that are not.
 use Rattle.std.proofs.Common.{◌≡◌, ℕ, ◌<◌, ◌≤◌, ◌*◌, length, Bool, false, List, [], ◌∷◌, ◌++◌, flat_map, sym, ◌∙◌, ap, subst, refl, arith, Option, Some, option_map}
 use Rattle.std.specs.Option.{option_to_list}
-use Rattle.logos_token.specs.declared.token.Span.{Span}
-use Rattle.logos_token.specs.declared.token.lexeme.openings.Content.TheVariants.{Text, Bytes}
+use Rattle.logos_lexeme.specs.declared.lexeme.Span.{Span}
+use Rattle.logos_lexeme.specs.declared.lexeme.openings.Content.TheVariants.{Text, Bytes}
 use Rattle.logos_token.specs.Faults.{Fault as ListedFault}
-use Rattle.logos_token.specs.LexemeOpenings.{opening_at}
-use Rattle.logos_token.specs.declared.token.lexeme.openings.Opening.{Opening}
-use Rattle.logos_token.specs.declared.token.lexeme.openings.Opening.TheVariants.{Space, Line, Block, Word, Number, Quotes, Raw, Apostrophes, Character, Single, Nothing}
+use Rattle.logos_lexeme.specs.LexemeOpenings.{opening_at}
+use Rattle.logos_lexeme.specs.declared.lexeme.openings.Opening.{Opening}
+use Rattle.logos_lexeme.specs.declared.lexeme.openings.Opening.TheVariants.{Space, Line, Block, Word, Number, Quotes, Raw, Apostrophes, Character, Single, Nothing}
 use Rattle.logos_token.specs.LiteralValues.{HoldsIn}
 use Rattle.logos_token.specs.Tokens.{TokenList, run_span}
-use Rattle.logos_token.proofs.SpellingLaws.{spells-one, unreadable-excludes, deep-excludes}
-use Rattle.logos_token.proofs.ValueLaws.{value_one}
-use Rattle.logos_pattern.specs.Hir.{literal_tree}
-use Rattle.logos_pattern.specs.Measure.{fitted}
-use Rattle.logos_pattern.specs.Priority.{value}
-use Rattle.logos_pattern.specs.Tree.{Tree}
-use Rattle.logos_pattern.specs.Grammar.{first_flags}
-use Rattle.logos_pattern.proofs.Texts.{one}
+use Rattle.logos_token.proofs.reading.SpellingLaws.{spells-one, unreadable-excludes, deep-excludes}
+use Rattle.logos_token.proofs.values.ValueLaws.{value_one}
+use Rattle.logos_hir.specs.Hir.{literal_tree}
+use Rattle.logos_hir.specs.Measure.{fitted}
+use Rattle.logos_hir.specs.Priority.{value}
+use Rattle.logos_hir.specs.Tree.{Tree}
+use Rattle.logos_syntax.specs.Grammar.{first_flags}
+use Rattle.logos_syntax.proofs.patterns.Texts.{one}
 use Rattle.logos_parser.specs.Values.{DefinitionValue, EnumValue}
 use Rattle.logos_parser.specs.Enum.{IsEnum}
 use Rattle.logos_parser.proofs.Reading.{one_enum, misfit_excludes}

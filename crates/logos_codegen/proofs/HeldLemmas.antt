@@ -4,14 +4,14 @@ use Rattle.logos_token.specs.LiteralValues.{IsValue}
 use Rattle.logos_token.specs.Faults.{Fault as ListedFault}
 use Rattle.logos_token.specs.declared.error.Memory.{Memory}
 use Rattle.logos_pattern.specs.declared.leaf.Leaf.{Leaf}
-use Rattle.logos_pattern.specs.declared.pattern.error.PatternError.{PatternError}
-use Rattle.logos_pattern.specs.declared.pattern.error.PatternError.TheVariants as errors
+use Rattle.logos_pattern_tokens.specs.declared.error.PatternError.{PatternError}
+use Rattle.logos_pattern_tokens.specs.declared.error.PatternError.TheVariants as errors
 use Rattle.logos_pattern.specs.declared.pattern.literal.Literal.{Literal}
 use Rattle.logos_pattern.specs.declared.pattern.literal.Literal.TheVariants as literals
 use Rattle.logos_pattern.specs.Literals.{held_value, held_bytes, is_unicode, escaped}
-use Rattle.logos_pattern.specs.Measure.{fitted}
-use Rattle.logos_pattern.specs.Priority.{value}
-use Rattle.logos_pattern.specs.Tree.{Tree}
+use Rattle.logos_hir.specs.Measure.{fitted}
+use Rattle.logos_hir.specs.Priority.{value}
+use Rattle.logos_hir.specs.Tree.{Tree}
 use Rattle.logos_parser.specs.Values.{DefinitionValue}
 use Rattle.logos_codegen.specs.Texts.{IsPatternFault}
 use Rattle.logos_codegen.specs.Held.{Held, of_text, of_bytes, held_in, bytes_of, is_text, pattern_in, IsHeldIn, HasTree, IsRefusedFor}

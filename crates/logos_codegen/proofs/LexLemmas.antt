@@ -5,7 +5,7 @@ use Rattle.std.proofs.Math.Facts.{Fits-lt-pow}
 use Rattle.std.proofs.lemmas.Grind.{get_or_default_zero}
 use Rattle.std.proofs.lemmas.List.Elements.{All-nil, All-cons}
 use Rattle.std.specs.List.{All}
-use Rattle.logos_pattern.specs.Text.{IsBytes}
+use Rattle.logos_hir.specs.Text.{IsBytes}
 use Rattle.logos_automaton.specs.Munch.{Use, Rule}
 use Rattle.logos_graph.specs.Found.{IsInput}
 use Rattle.logos_generator.specs.Code.{CodeValue}
@@ -17,7 +17,7 @@ use Rattle.logos_generator.specs.declared.machine.Action.{Action}
 use Rattle.logos_generator.specs.declared.machine.Action.TheVariants.{Emit, Skip, Error}
 use Rattle.logos_token.specs.declared.error.fault_code.FaultCode.TheVariants.{Utf8Pattern}
 use Rattle.logos_token.specs.Faults.{Fault as ListedFault}
-use Rattle.logos_pattern.specs.Measure.{is_text}
+use Rattle.logos_hir.specs.Measure.{is_text}
 use Rattle.logos_codegen.specs.Texts.{fault_at, utf8_text}
 use Rattle.logos_generator.specs.Order.{AreInOrder, Parts, IsMatch}
 use Rattle.logos_generator.specs.Runs.{CodeFinds, Runs}

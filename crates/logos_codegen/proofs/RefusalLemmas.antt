@@ -1,12 +1,12 @@
 -- Refusals with faults that stand.
 use Rattle.std.proofs.Common.{◌≡◌, ℕ, ◌≤◌, List, [], ◌∷◌, codes, refl, ap, Result, Ok, Err, IfOk, IfErr}
-use Rattle.logos_token.specs.declared.token.Span.{Span}
+use Rattle.logos_lexeme.specs.declared.lexeme.Span.{Span}
 use Rattle.logos_token.specs.declared.error.fault_code.FaultCode.TheVariants.{NotAnEnum as NotAnEnumCode, Grammar as GrammarCode, Lexical as LexicalCode, LimitTokenNesting as LimitTokenNestingCode}
-use Rattle.logos_token.specs.declared.token.lexeme.LexicalKind.{LexicalKind}
+use Rattle.logos_lexeme.specs.declared.lexeme.LexicalKind.{LexicalKind}
 use Rattle.logos_token.specs.Spelling.{Spells, IsUnreadable, IsTooDeep}
 use Rattle.logos_token.specs.Faults.{Fault as ListedFault}
 use Rattle.logos_token.specs.Tokens.{TokenList, run_span, depth_of}
-use Rattle.logos_token.proofs.SpellingLaws.{spells-one}
+use Rattle.logos_token.proofs.reading.SpellingLaws.{spells-one}
 use Rattle.logos_parser.specs.declared.parser.ReadError.{ReadError}
 use Rattle.logos_parser.specs.declared.parser.ReadError.TheVariants.{NotAnEnum, Grammar, Memory as OutOfMemory}
 use Rattle.logos_parser.specs.ReadErrors.{IfNotAnEnum, IfGrammar}

@@ -1,13 +1,13 @@
 -- What the literal of a definition holds, and the pattern that it writes.
 use Rattle.std.specs.Prelude.{ℕ, Bool, true, false, List, chars, string_bytes}
-use Rattle.logos_token.specs.declared.token.lexeme.openings.Content.TheVariants.{Text, Bytes}
+use Rattle.logos_lexeme.specs.declared.lexeme.openings.Content.TheVariants.{Text, Bytes}
 use Rattle.logos_token.specs.LiteralValues.{BeginsWithString}
-use Rattle.logos_pattern.specs.declared.pattern.error.PatternError.{PatternError}
+use Rattle.logos_pattern_tokens.specs.declared.error.PatternError.{PatternError}
 use Rattle.logos_pattern.specs.declared.pattern.literal.Literal.{Literal}
 use Rattle.logos_pattern.specs.declared.pattern.literal.Literal.TheVariants as literal
 use Rattle.logos_pattern.specs.Escaping.{escaped_text, escaped_bytes}
-use Rattle.logos_pattern.specs.Tree.{Tree}
-use Rattle.logos_pattern.specs.Grammar.{IsSpelled, IsFound, Refuses, first_flags}
+use Rattle.logos_hir.specs.Tree.{Tree}
+use Rattle.logos_syntax.specs.Grammar.{IsSpelled, IsFound, Refuses, first_flags}
 
 -- a literal's value: the text of a string, or the bytes of a byte string
 pub data Held : Type 0 where

@@ -2,7 +2,7 @@
 use Rattle.std.specs.Prelude.{◌≡◌, ℕ, List, true, IsTrue}
 use Rattle.std.specs.Str.{IsUtf8, IsValidUpTo}
 use Rattle.logos_token.specs.Faults.{Fault as ListedFault}
-use Rattle.logos_token.specs.declared.token.Span.{Span}
+use Rattle.logos_lexeme.specs.declared.lexeme.Span.{Span}
 use Rattle.logos_parser.specs.declared.parser.ReadError.{ReadError}
 use Rattle.logos_parser.specs.declared.parser.ReadError.TheVariants.{NotAnEnum, Grammar, Memory as NoMemoryToRead}
 use Rattle.logos_automaton.specs.Munch.{Rule}

@@ -1,15 +1,15 @@
 -- The rules that the definitions of an enum give, and the faults that they list.
 use Rattle.std.specs.Prelude.{◌≡◌, ℕ, ◌*◌, ◌<◌, ◌≤◌, ◌^◌, Bool, true, false, List, [], ◌∷◌, ◌++◌, length, map, flat_map, codes, Option, Some, None, option_map, is_some, if◌then◌else◌, IsTrue, IsFalse}
 use Rattle.std.specs.Option.{option_to_list}
-use Rattle.logos_token.specs.declared.token.Span.{Span}
+use Rattle.logos_lexeme.specs.declared.lexeme.Span.{Span}
 use Rattle.logos_token.specs.declared.error.fault_code.FaultCode.TheVariants.{NotText, Regex, LimitPatternNesting, LimitSize, LimitStates, PriorityOverflow, Utf8Pattern, GreedyDot}
 use Rattle.logos_token.specs.Faults.{Fault as ListedFault}
 use Rattle.logos_pattern.specs.declared.leaf.Leaf.{Leaf}
-use Rattle.logos_pattern.specs.declared.pattern.error.Kind.{Kind}
-use Rattle.logos_pattern.specs.Hir.{literal_tree}
-use Rattle.logos_pattern.specs.Measure.{fitted, has_greedy_dot, is_text}
-use Rattle.logos_pattern.specs.Priority.{value}
-use Rattle.logos_pattern.specs.Tree.{Tree}
+use Rattle.logos_pattern_tokens.specs.declared.error.Kind.{Kind}
+use Rattle.logos_hir.specs.Hir.{literal_tree}
+use Rattle.logos_hir.specs.Measure.{fitted, has_greedy_dot, is_text}
+use Rattle.logos_hir.specs.Priority.{value}
+use Rattle.logos_hir.specs.Tree.{Tree}
 use Rattle.logos_parser.specs.Values.{KindValue, of_token, of_regex, of_skip, DefinitionValue, EnumValue}
 use Rattle.logos_automaton.specs.Munch.{Rule}
 use Rattle.logos_graph.specs.View.{rule_of}

@@ -1,8 +1,8 @@
 -- What a source text says, and why it is refused.
 use Rattle.std.specs.Prelude.{◌≡◌, ◌≢◌, ℕ, ◌<◌, ◌≤◌, ◌^◌, Bool, List, [], ◌∷◌, length, codes}
-use Rattle.logos_token.specs.declared.token.Span.{Span}
-use Rattle.logos_token.specs.declared.token.lexeme.LexicalKind.{LexicalKind}
-use Rattle.logos_token.specs.declared.token.lexeme.LexicalKind.TheVariants.{BadCharacter, BadLiteral, Unterminated, Unbalanced}
+use Rattle.logos_lexeme.specs.declared.lexeme.Span.{Span}
+use Rattle.logos_lexeme.specs.declared.lexeme.LexicalKind.{LexicalKind}
+use Rattle.logos_lexeme.specs.declared.lexeme.LexicalKind.TheVariants.{BadCharacter, BadLiteral, Unterminated, Unbalanced}
 use Rattle.logos_token.specs.declared.error.fault_code.FaultCode.TheVariants.{Lexical, NotAnEnum, Grammar, LimitSource, LimitTokenNesting}
 use Rattle.logos_token.specs.Faults.{Fault as ListedFault}
 use Rattle.logos_token.specs.Tokens.{TokenList, run_span, depth_of}

@@ -1,6 +1,6 @@
 -- Steps from leaves to a graph.
 use Rattle.std.specs.Prelude.{◌≡◌, ◌≢◌, ℕ, Bool, List, [], ◌∷◌, ◌++◌, map, Option, Some, None}
-use Rattle.logos_token.specs.declared.token.Span.{Span}
+use Rattle.logos_lexeme.specs.declared.lexeme.Span.{Span}
 use Rattle.logos_token.specs.declared.error.fault_code.FaultCode.TheVariants.{LimitSize as LimitSizeCode, LimitStates as LimitStatesCode}
 use Rattle.logos_token.specs.Faults.{Fault as ListedFault}
 use Rattle.logos_pattern.specs.declared.leaf.Leaf.{Leaf}

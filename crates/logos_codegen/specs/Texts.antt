@@ -2,14 +2,14 @@
 use Rattle.std.specs.Prelude.{◌≡◌, ℕ, List, [], ◌∷◌, ◌++◌, codes, flat_map, None, slice_get, if◌then◌else◌, ◌==◌}
 use Rattle.std.specs.Option.{option_map_or}
 use Rattle.std.specs.Fmt.{decimal}
-use Rattle.logos_token.specs.declared.token.Span.{Span}
+use Rattle.logos_lexeme.specs.declared.lexeme.Span.{Span}
 use Rattle.logos_token.specs.declared.error.fault_code.FaultCode.{FaultCode}
 use Rattle.logos_token.specs.declared.error.fault_code.FaultCode.TheVariants.{Regex, LimitPatternNesting, EmptyMatch, Disambiguation, NoUniversalStart}
 use Rattle.logos_token.specs.Faults.{Fault as ListedFault}
-use Rattle.logos_pattern.specs.declared.pattern.error.PatternError.{PatternError}
-use Rattle.logos_pattern.specs.declared.pattern.error.PatternError.TheVariants as errors
-use Rattle.logos_pattern.specs.declared.pattern.error.Kind.{Kind}
-use Rattle.logos_pattern.specs.declared.pattern.error.Kind.TheVariants as kinds
+use Rattle.logos_pattern_tokens.specs.declared.error.PatternError.{PatternError}
+use Rattle.logos_pattern_tokens.specs.declared.error.PatternError.TheVariants as errors
+use Rattle.logos_pattern_tokens.specs.declared.error.Kind.{Kind}
+use Rattle.logos_pattern_tokens.specs.declared.error.Kind.TheVariants as kinds
 use Rattle.logos_pattern.specs.Leaf.{leaf_text, source_of, kind_text}
 use Rattle.logos_pattern.specs.declared.leaf.Leaf.{Leaf}
 use Rattle.logos_automaton.specs.Faults.{Fault, no_universal_start, empty_match, disambiguation}

@@ -12,7 +12,7 @@ ghost use Rattle.logos_generator.specs.Runs.{Runs};
 ghost use Rattle.logos_codegen.specs.Source.{IsAccepted};
 
 use logos_generator::machine::Action;
-use logos_pattern::leaf::LeafId;
+use logos_hir::leaf::LeafId;
 
 /// A source has one list of rules and one mode.
 pub fn a_source_has_one_list_of_rules()

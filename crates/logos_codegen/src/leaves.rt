@@ -3,11 +3,11 @@
 ghost use Rattle.std.specs.Prelude.{◌≡◌, ◌∷◌, ◌++◌, [], List, map, option_map, is_some, if◌then◌else◌, IfOk, IfErr, OnOk, MatchOption, IsTrue, IsFalse};
 ghost use Rattle.std.specs.Option.{option_to_list};
 ghost use Rattle.logos_token.specs.Faults.{Fault as ListedFault};
-ghost use Rattle.logos_pattern.specs.Hir.{literal_tree};
+ghost use Rattle.logos_hir.specs.Hir.{literal_tree};
 ghost use Rattle.logos_pattern.specs.Leaf.{pattern_tree, source_of, is_token as is_token_pattern, kind_text, is_skip};
 ghost use Rattle.logos_pattern.specs.Literals.{token_of, held_bytes, literal_value};
-ghost use Rattle.logos_pattern.specs.Measure.{fitted, has_greedy_dot, is_text};
-ghost use Rattle.logos_pattern.specs.Priority.{value};
+ghost use Rattle.logos_hir.specs.Measure.{fitted, has_greedy_dot, is_text};
+ghost use Rattle.logos_hir.specs.Priority.{value};
 ghost use Rattle.logos_parser.specs.Values.{kind_value, definition_value};
 ghost use Rattle.logos_codegen.specs.Texts.{fault_at, named_leaf, greedy_text, overflow_text, utf8_text};
 ghost use Rattle.logos_codegen.specs.Held.{Held, held_in, IsHeldIn, HasTree, IsRefusedFor};

@@ -17,7 +17,7 @@ use crate::refusal::Refusal;
 use logos_generator::code::Code;
 use logos_generator::generator::Config;
 use logos_generator::machine::{Action, Item, Lexer, NotUtf8};
-use logos_pattern::leaf::LeafId;
+use logos_hir::leaf::LeafId;
 use logos_token::error::Errors;
 use std::alloc::{AllocError, AllocFailed, Global};
 

@@ -6,7 +6,8 @@ ghost use Rattle.logos_automaton.specs.Errors.{fault_of, numbers};
 ghost use Rattle.logos_codegen.specs.Texts.{named_leaf, fault_at, line_of, other_lines, empty_match_faults, disambiguation_text, disambiguation_faults, listed_of, kind_name, regex_text, utf8_text, IsPatternFault};
 
 use logos_graph::graph::GraphError;
-use logos_pattern::leaf::{Leaf, LeafId};
+use logos_hir::leaf::LeafId;
+use logos_pattern::leaf::Leaf;
 use logos_pattern::pattern::{Kind, PatternError};
 use logos_token::error::{Errors, FaultCode, Memory};
 use logos_token::token::Span;

@@ -6,10 +6,10 @@ use Rattle.std.proofs.lemmas.List.{length-take, length-drop}
 use Rattle.std.proofs.lemmas.Option.{slice_get_within, get_or_from_slice_get}
 use Rattle.std.proofs.lemmas.Str.{IsUtf8-append, IsUtf8-take, IsUtf8-encode, IsUtf8-from_ascii, IsUtf8-from_is_utf8, IsCharBoundary-from_take}
 use Rattle.std.proofs.Math.Seq.{take-add}
-use Rattle.logos_pattern.specs.Text.{StandsAt}
-use Rattle.logos_pattern.specs.Tree.{Tree, empty, literal, byte_class, char_class, look, repetition, capture, concat, alternation, Trees, none, also}
-use Rattle.logos_pattern.specs.Matches.{Matches, Pieces, MatchesInOrder, SomeMatches}
-use Rattle.logos_pattern.specs.Measure.{is_text, all_text}
+use Rattle.logos_hir.specs.Text.{StandsAt}
+use Rattle.logos_hir.specs.Tree.{Tree, empty, literal, byte_class, char_class, look, repetition, capture, concat, alternation, Trees, none, also}
+use Rattle.logos_hir.specs.Matches.{Matches, Pieces, MatchesInOrder, SomeMatches}
+use Rattle.logos_hir.specs.Measure.{is_text, all_text}
 use Rattle.logos_automaton.specs.Munch.{Use, Rule, RuleMatches}
 use Rattle.logos_generator.specs.declared.machine.Action.{Action}
 use Rattle.logos_generator.specs.declared.machine.Action.TheVariants.{Emit, Skip, Error}

@@ -7,7 +7,7 @@ use Rattle.std.proofs.lemmas.List.Sums.{take_while-cons, prefix_len_stops}
 use Rattle.std.proofs.lemmas.Option.{get_or_from_slice_get, slice_get-get_or}
 use Rattle.std.proofs.lemmas.Grind.{get_or_default_zero}
 use Rattle.std.specs.List.{prefix_len, take_while}
-use Rattle.logos_pattern.specs.Text.{IsBytes}
+use Rattle.logos_hir.specs.Text.{IsBytes}
 use Rattle.logos_generator.specs.Bytes.{passes_test}
 use Rattle.logos_generator.specs.Code.{CodeValue, CodeState, Fork}
 use Rattle.logos_generator.specs.Headline.{NamesFork, NamesState}

@@ -7,7 +7,7 @@ use Rattle.std.proofs.lemmas.List.Folds.{prefix_len-append}
 use Rattle.std.proofs.lemmas.Option.{slice_get_past, slice_get-get_or}
 use Rattle.std.specs.Prelude.{slice_index}
 use Rattle.std.specs.List.{prefix_len}
-use Rattle.logos_pattern.specs.Text.{IsBytes}
+use Rattle.logos_hir.specs.Text.{IsBytes}
 use Rattle.logos_generator.specs.Code.{CodeValue, CodeState}
 use Rattle.logos_generator.specs.declared.code.rows.Step.{Step}
 use Rattle.logos_generator.specs.Makes.{stays}

@@ -1,6 +1,6 @@
 -- What contracts see of a try.
 use Rattle.std.specs.Prelude.{ℕ, Option, option_map}
-use Rattle.logos_pattern.specs.declared.leaf.LeafId.{LeafId}
+use Rattle.logos_hir.specs.declared.leaf.LeafId.{LeafId}
 use Rattle.logos_automaton.specs.Munch.{Found, ended, matched, failed}
 use Rattle.logos_generator.specs.Runs.{Stand, Turn, enters, acts, returns}
 use Rattle.logos_generator.specs.declared.machine.attempt.Stand.{Stand as TheStand}

@@ -1,7 +1,7 @@
 -- What a code value promises.
 use Rattle.std.specs.Prelude.{◌≡◌, ℕ, ◌+◌, ◌-◌, ◌*◌, ◌<◌, ◌≤◌, ◌↔◌, Bool, List, map, length, Option, Some, None, IfSome, IsTrue, IsCharBoundary, IsSomeAnd, slice_get}
 use Rattle.std.specs.List.{All}
-use Rattle.logos_pattern.specs.Text.{IsBytes}
+use Rattle.logos_hir.specs.Text.{IsBytes}
 use Rattle.logos_automaton.specs.Munch.{Rule, Found, Finds}
 use Rattle.logos_generator.specs.Code.{CodeValue, CodeState, Condition, by_comparisons, by_test, Fork, by_conditions, by_table}
 use Rattle.logos_generator.specs.Runs.{Tries, CodeFinds, target}

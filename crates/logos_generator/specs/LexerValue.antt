@@ -9,7 +9,7 @@ use Rattle.logos_automaton.specs.Munch.{Found}
 use Rattle.logos_generator.specs.Items.{Callback, Item, token, error, MayAnswer, items_of}
 use Rattle.logos_generator.specs.Runs.{Runs, Tries}
 use Rattle.logos_generator.specs.declared.machine.Action.{Action}
-use Rattle.logos_pattern.specs.declared.leaf.LeafId.{LeafId}
+use Rattle.logos_hir.specs.declared.leaf.LeafId.{LeafId}
 use Rattle.logos_generator.specs.declared.machine.Item.{Item as TheItem}
 use Rattle.logos_generator.specs.declared.machine.Item.TheVariants.{Token, Error}
 

@@ -14,7 +14,8 @@ mod tests;
 
 use crate::generator::Config;
 use logos_graph::byte_class::Comparisons;
-use logos_pattern::leaf::{Callback, LeafId, VariantKind};
+use logos_hir::leaf::LeafId;
+use logos_pattern::leaf::{Callback, VariantKind};
 use logos_token::token::{Ident, TokenStream, Tokens};
 use rows::{Step, rows_of};
 use signs::{Sign, signs_of};

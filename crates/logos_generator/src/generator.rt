@@ -38,7 +38,7 @@ pub struct Generator<'g, 's> {
 impl<'g, 's> Model for Generator<'g, 's> {
     ghost use Rattle.std.specs.Coded.{codes};
     ghost use Rattle.std.specs.Prelude.{◌≡◌, [], option_copied};
-    ghost use Rattle.logos_pattern.specs.contracts.pattern.hir.Hir as e;
+    ghost use Rattle.logos_hir.specs.contracts.hir.Hir as e;
     ghost use Rattle.logos_generator.specs.GeneratorValue.{GeneratorValue};
 
     ghost Value = { GeneratorValue };

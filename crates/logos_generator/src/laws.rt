@@ -2,7 +2,7 @@
 
 ghost use Rattle.std.specs.Prelude.{◌≡◌, ℕ, ◌≤◌, ◌↔◌, Bool, true, IsCharBoundary, List, length, map};
 ghost use Rattle.std.specs.List.{All};
-ghost use Rattle.logos_pattern.specs.Measure.{is_text};
+ghost use Rattle.logos_hir.specs.Measure.{is_text};
 ghost use Rattle.logos_graph.specs.Found.{FindsTheLongest, IsInput};
 ghost use Rattle.logos_automaton.specs.Munch.{Rule};
 ghost use Rattle.logos_graph.specs.View.{GraphValue, rule_of, rules_of};
@@ -14,7 +14,7 @@ ghost use Rattle.logos_generator.specs.Order.{AreInOrder, Parts, IsMatch};
 ghost use Rattle.logos_generator.specs.Runs.{Runs};
 
 use crate::machine::Action;
-use logos_pattern::leaf::LeafId;
+use logos_hir::leaf::LeafId;
 
 /// The items of maximal munch are not empty, they follow one another, and they lie within the
 /// input.

@@ -12,7 +12,7 @@ mod fast_loop;
 
 use crate::code::Code;
 use attempt::{Found, attempt};
-use logos_pattern::leaf::LeafId;
+use logos_hir::leaf::LeafId;
 use logos_token::token::Span;
 use std::alloc::{AllocError, Global};
 use std::marker::Model;

@@ -1,7 +1,7 @@
 -- A graph that shows the reduced table of an automaton finds what maximal munch finds.
 use Rattle.std.proofs.Common.{◌≡◌, ◌↔◌, ℕ, ◌<◌, inl, inr, Bool, slice_get, drop, List, length, Option, Some, None, option_map, option_and_then, refl, sym, ◌∙◌, ap, subst}
 use Rattle.std.specs.Option.{option_map_or}
-use Rattle.logos_pattern.specs.Text.{IsBytes}
+use Rattle.logos_hir.specs.Text.{IsBytes}
 use Rattle.logos_graph.specs.Found.{FindsTheLongest, mark_after, mark_of}
 use Rattle.logos_graph.specs.Graph.{GraphState}
 use Rattle.logos_automaton.specs.Munch.{Rule, Found, Finds}

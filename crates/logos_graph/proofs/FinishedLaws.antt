@@ -4,7 +4,7 @@ use Rattle.std.proofs.lemmas.Bool.{cases_lt}
 use Rattle.std.proofs.lemmas.Bool.Decides.{eqb_tells}
 use Rattle.std.proofs.lemmas.List.Elements.{All-cons, All-nil}
 use Rattle.std.specs.List.{find}
-use Rattle.logos_pattern.specs.Text.{IsBytes}
+use Rattle.logos_hir.specs.Text.{IsBytes}
 use Rattle.logos_graph.specs.FinishedGraph.{IsLate, IsUnmarked, NamesLeaves, IsFit}
 use Rattle.logos_graph.specs.Graph.{GraphState, next_by, next_at_end, walk, type_after}
 use Rattle.logos_places.specs.ByteRanges.{is_in}

@@ -2,10 +2,10 @@
 use Rattle.std.proofs.Common.{◌≡◌, ◌↔◌, ℕ, zero, suc, ◌+◌, ◌<◌, ◌≤◌, ◌⊎◌, inl, inr, Bool, true, false, ◌||◌, option_and_then, List, [], ◌∷◌, length, take, drop, Option, Some, None, IsTrue, IsFalse, refl, sym, ◌∙◌, subst, arith, take-append-drop, length-take-le}
 use Rattle.std.proofs.lemmas.List.Elements.{All-cons, All-nil, All-drop}
 use Rattle.std.proofs.lemmas.Bool.{cases_lt}
-use Rattle.logos_pattern.specs.Text.{IsBytes}
+use Rattle.logos_hir.specs.Text.{IsBytes}
 use Rattle.logos_automaton.specs.Munch.{Rule, RuleMatches, IsBest, NoMatch, Grows, MayStop, Found, ended, matched, failed, Finds}
-use Rattle.logos_pattern.proofs.Laws.{passes}
-use Rattle.logos_pattern.proofs.Order.{InOrder, matches_order}
+use Rattle.logos_hir.proofs.tree.Laws.{passes}
+use Rattle.logos_hir.proofs.tree.Order.{InOrder, matches_order}
 use Rattle.logos_automaton.proofs.munch.Unique.{rule_within, finds_one}
 use Rattle.logos_automaton.specs.Faults.{some_passable, AllStart}
 use Rattle.logos_graph.specs.Walk.{last_mark, followed, MarksOneByteLate, MayEnd, IsUnmarked, WalkFinds}

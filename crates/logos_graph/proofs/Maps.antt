@@ -2,7 +2,7 @@
 use Rattle.std.proofs.Common.{◌≡◌, ℕ, ◌+◌, ◌<◌, List, [], ◌∷◌, Option, Some, None, refl, ◌∙◌, ap, option_map}
 use Rattle.logos_graph.proofs.Steps.{first_byte, other_bytes}
 use Rattle.std.specs.Option.{option_map_or}
-use Rattle.logos_pattern.specs.Text.{IsBytes}
+use Rattle.logos_hir.specs.Text.{IsBytes}
 use Rattle.logos_reduce.specs.Edges.{Edges, Leads, to_mark, onward, to_end}
 use Rattle.logos_graph.specs.Walk.{marked, last_mark, followed}
 

@@ -1,7 +1,7 @@
 -- Leaving out the states that have no mark and lead to none keeps the last mark; and then an error covers just what can be followed.
 use Rattle.std.proofs.Common.{◌≡◌, ◌↔◌, ℕ, ◌+◌, ◌<◌, ◌≤◌, ◌⊎◌, inl, inr, List, [], ◌∷◌, Option, Some, None, refl, sym, ◌∙◌, ap, subst, arith}
 use Rattle.std.specs.Option.{option_map_or}
-use Rattle.logos_pattern.specs.Text.{IsBytes}
+use Rattle.logos_hir.specs.Text.{IsBytes}
 use Rattle.logos_reduce.specs.Edges.{IsMarked, Edges, Leads, to_mark, onward, to_end}
 use Rattle.logos_graph.specs.Walk.{marked, last_mark, followed, Covers}
 use Rattle.logos_graph.proofs.Steps.{first_byte, other_bytes, none_before, skipped, no_mark, unmarked}

@@ -2,7 +2,7 @@
 use Rattle.std.proofs.Common.{◌≡◌, ◌↔◌, ℕ, zero, suc, ◌+◌, ◌<◌, ◌≤◌, ◌⊎◌, inl, inr, List, [], ◌∷◌, ◌++◌, length, take, Option, Some, None, IsSome, IsFalse, MatchOption, refl, sym, ◌∙◌, ap, subst, option_and_then, arith, length-append, append_assoc, append-nil}
 use Rattle.std.proofs.lemmas.List.Elements.{All-append, All-cons, All-nil, All-take}
 use Rattle.std.proofs.lemmas.Bool.{cases_lt}
-use Rattle.logos_pattern.specs.Text.{IsBytes}
+use Rattle.logos_hir.specs.Text.{IsBytes}
 use Rattle.logos_automaton.specs.Munch.{Rule, RuleMatches, IsFirst, Grows}
 use Rattle.logos_automaton.proofs.munch.Window.{rule_within_text}
 use Rattle.logos_automaton.specs.Faults.{some_leads}

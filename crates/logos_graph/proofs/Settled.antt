@@ -1,7 +1,7 @@
 -- Early marks set, and late marks dropped, keep the last mark, and the stop where there is no mark.
 use Rattle.std.proofs.Common.{◌≡◌, ◌↔◌, ℕ, ◌+◌, ◌<◌, ◌≤◌, ◌⊎◌, inl, inr, List, [], ◌∷◌, Option, Some, None, IsSome, refl, sym, ap, subst, arith}
 use Rattle.std.specs.Option.{option_map_or}
-use Rattle.logos_pattern.specs.Text.{IsBytes}
+use Rattle.logos_hir.specs.Text.{IsBytes}
 use Rattle.logos_reduce.specs.Edges.{StateType, IsMarked, Edges, Leads, to_mark, onward, to_end}
 use Rattle.logos_graph.specs.Walk.{marked, last_mark, Covers}
 use Rattle.logos_graph.proofs.Steps.{first_byte, other_bytes, no_mark, none_before}

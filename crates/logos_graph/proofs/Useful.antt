@@ -2,7 +2,7 @@
 use Rattle.std.proofs.Common.{ℕ, ◌<◌, inl, inr, Bool, true, false, List, [], ◌∷◌, Option, Some, None, IsSome, IsSomeAnd, slice_get, option_map, option_and_then, sym, subst}
 use Rattle.std.proofs.lemmas.List.Elements.{All-cons, All-nil}
 use Rattle.std.specs.Option.{option_map_or}
-use Rattle.logos_pattern.specs.Text.{IsBytes}
+use Rattle.logos_hir.specs.Text.{IsBytes}
 use Rattle.logos_graph.specs.Graph.{GraphState, walk, type_after}
 use Rattle.logos_reduce.specs.Edges.{IsMarked, Leads, to_mark, onward, to_end}
 use Rattle.logos_graph.specs.Walk.{edges_of}

@@ -1,6 +1,6 @@
 -- What a graph finds at a place of an input.
 use Rattle.std.specs.Prelude.{◌≡◌, ℕ, ◌+◌, ◌-◌, ◌<◌, ◌≤◌, ◌↔◌, Bool, false, List, length, take, drop, Option, Some, None, option_and_then, IsSome, IsTrue, IsUtf8, IsCharBoundary, nat_lt}
-use Rattle.logos_pattern.specs.Text.{IsBytes}
+use Rattle.logos_hir.specs.Text.{IsBytes}
 use Rattle.logos_automaton.specs.Munch.{Rule, Found, ended, matched, failed, Finds}
 use Rattle.logos_graph.specs.Graph.{GraphState, walk, type_after}
 use Rattle.logos_reduce.specs.Edges.{StateType}

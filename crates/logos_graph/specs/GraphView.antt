@@ -1,6 +1,6 @@
 -- What contracts see of the states of a graph.
 use Rattle.std.specs.Prelude.{ℕ, List, map, option_map}
-use Rattle.logos_pattern.specs.declared.leaf.LeafId.{LeafId}
+use Rattle.logos_hir.specs.declared.leaf.LeafId.{LeafId}
 use Rattle.logos_reduce.specs.Edges.{StateType}
 use Rattle.logos_graph.specs.Graph.{GraphState}
 use Rattle.logos_graph.specs.Bytes.{ranges_of}

@@ -2,7 +2,7 @@
 use Rattle.std.specs.Prelude.{◌≡◌, ℕ, ◌<◌, ◌≤◌, ◌↔◌, ◌⊎◌, Bool, List, [], ◌∷◌, ◌++◌, map, length, Option, None, Some, IsFalse, Contains, slice_get, option_and_then}
 use Rattle.std.specs.List.Sorted.{IsStrictlyIncreasing}
 use Rattle.logos_pattern.specs.Leaf.{pattern_tree, is_skip, asks}
-use Rattle.logos_pattern.specs.Text.{IsBytes}
+use Rattle.logos_hir.specs.Text.{IsBytes}
 use Rattle.logos_automaton.specs.Munch.{Rule, RuleMatches}
 use Rattle.logos_graph.specs.Graph.{GraphState}
 use Rattle.logos_automaton.specs.Faults.{Fault, some_leads, some_passable}

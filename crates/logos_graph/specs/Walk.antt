@@ -1,7 +1,7 @@
 -- Walks along the edges of a graph: the last mark on the way, and how far a walk goes.
 use Rattle.std.specs.Prelude.{◌≡◌, ℕ, ◌+◌, ◌<◌, ◌≤◌, Bool, List, [], ◌∷◌, ◌++◌, length, drop, Option, Some, None, option_and_then, IsTrue, IsCharBoundary, MatchOption, slice_get}
 use Rattle.std.specs.Option.{option_map_or}
-use Rattle.logos_pattern.specs.Text.{IsBytes}
+use Rattle.logos_hir.specs.Text.{IsBytes}
 use Rattle.logos_automaton.specs.Munch.{Rule, RuleMatches, IsFirst, Found, ended, matched, failed}
 use Rattle.logos_graph.specs.Graph.{GraphState, next_by, next_at_end}
 use Rattle.logos_graph.specs.First.{first_of}

@@ -14,7 +14,7 @@ pub use crate::byte_class::{ByteClass, Comparisons};
 pub use evidence::Telling;
 pub use logos_automaton::dfa::{Children, Dfa, Matches, StateId};
 pub use logos_automaton::errors::{BuildError, GraphError};
-use logos_pattern::leaf::LeafId;
+use logos_hir::leaf::LeafId;
 pub use value::{Graph, States};
 
 /// The options of a graph.

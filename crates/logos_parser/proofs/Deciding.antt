@@ -1,9 +1,9 @@
 -- Each run that announces an enum is one or has a misfit.
 use Rattle.std.proofs.Common.{◌≡◌, ℕ, Bool, true, false, ◌⊎◌, inl, inr, ⊎_elim, List, [], ◌++◌, Result, Ok, Err, refl}
 use Rattle.std.proofs.lemmas.Bool.Decides.{eqb_tells}
-use Rattle.logos_token.specs.declared.token.Span.{Span}
-use Rattle.logos_token.specs.declared.token.Spacing.{Spacing}
-use Rattle.logos_token.specs.declared.token.Delimiter.TheVariants.{Parenthesis, Bracket, Brace}
+use Rattle.logos_lexeme.specs.declared.lexeme.Span.{Span}
+use Rattle.logos_lexeme.specs.declared.lexeme.Spacing.{Spacing}
+use Rattle.logos_lexeme.specs.declared.lexeme.Delimiter.TheVariants.{Parenthesis, Bracket, Brace}
 use Rattle.logos_token.specs.Tokens.{Token, TokenList, identifier, punctuation, doc, group, none, also, span_of}
 use Rattle.logos_parser.specs.Expected.{BeginsWith, Lacks, GoesOn, IsName, IsGroup, first_span, is_outer}
 use Rattle.logos_parser.specs.Values.{Slice, PatternValue, DefinitionValue, OptionsValue}

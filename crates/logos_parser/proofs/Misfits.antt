@@ -1,6 +1,6 @@
 -- Tokens that do not fit.
 use Rattle.std.proofs.Common.{◌≡◌, ◌⊎◌, ⊎_elim, inl, inr, List, refl}
-use Rattle.logos_token.specs.declared.token.Span.{Span}
+use Rattle.logos_lexeme.specs.declared.lexeme.Span.{Span}
 use Rattle.logos_token.specs.Tokens.{TokenList, none, also}
 use Rattle.logos_parser.specs.declared.parser.ReadError.{ReadError}
 use Rattle.logos_parser.specs.declared.parser.ReadError.TheVariants.{NotAnEnum, Grammar, Memory}

@@ -1,8 +1,8 @@
 -- A reader of runs, which says of each run the one thing that holds of it.
 use Rattle.std.proofs.Common.{◌≡◌, ◌==◌, Bool, true, false, cond, ◌⊎◌, inl, inr, List, [], ◌++◌, Option, Some, None, Result, Ok, Err, refl, sym, ap, ◌∙◌}
 use Rattle.std.proofs.lemmas.Bool.Decides.{Decides-eqb}
-use Rattle.logos_token.specs.declared.token.Span.{Span}
-use Rattle.logos_token.specs.declared.token.Delimiter.TheVariants.{Parenthesis, Bracket, Brace}
+use Rattle.logos_lexeme.specs.declared.lexeme.Span.{Span}
+use Rattle.logos_lexeme.specs.declared.lexeme.Delimiter.TheVariants.{Parenthesis, Bracket, Brace}
 use Rattle.logos_token.specs.Tokens.{Token, TokenList, identifier, punctuation, literal, doc, group, none, also, span_of}
 use Rattle.logos_parser.specs.Expected.{Lacks, GoesOn, IsName, IsMark, IsOuterDoc, IsGroup, first_span, is_outer}
 use Rattle.logos_parser.specs.Values.{Slice, PatternValue, DefinitionValue, OptionsValue, EnumValue}

@@ -1,8 +1,8 @@
 -- An enum: attributes, a visibility, `enum`, a name, and braces with variants. Each variant is a name behind attributes.
 use Rattle.std.specs.Prelude.{◌≡◌, ℕ, List, [], ◌++◌, map, ◌⊎◌, true, Some, unwrap_or, if◌then◌else◌, Ok, Err, IsTrue}
-use Rattle.logos_token.specs.declared.token.Span.{Span}
-use Rattle.logos_token.specs.declared.token.Spacing.{Spacing}
-use Rattle.logos_token.specs.declared.token.Delimiter.TheVariants.{Bracket, Brace}
+use Rattle.logos_lexeme.specs.declared.lexeme.Span.{Span}
+use Rattle.logos_lexeme.specs.declared.lexeme.Spacing.{Spacing}
+use Rattle.logos_lexeme.specs.declared.lexeme.Delimiter.TheVariants.{Bracket, Brace}
 use Rattle.logos_token.specs.Tokens.{Token, TokenList, identifier, punctuation, doc, group, none, also}
 use Rattle.logos_parser.specs.Expected.{IsName, IsMark, IsOuterDoc, IsGroup, is_outer, Lacks, GoesOn}
 use Rattle.logos_parser.specs.Values.{Slice, of_token, of_regex, PatternValue, DefinitionValue, OptionsValue, EnumValue}

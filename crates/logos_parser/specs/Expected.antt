@@ -1,7 +1,7 @@
 -- What a grammar asks of the next token of a run.
 use Rattle.std.specs.Prelude.{◌≡◌, ℕ, ◌==◌, ◌&&◌, ◌||◌, not, Bool, false, List, ◌∷◌, IsTrue, Option, Some, None}
-use Rattle.logos_token.specs.declared.token.Span.{Span}
-use Rattle.logos_token.specs.declared.token.Delimiter.{Delimiter}
+use Rattle.logos_lexeme.specs.declared.lexeme.Span.{Span}
+use Rattle.logos_lexeme.specs.declared.lexeme.Delimiter.{Delimiter}
 use Rattle.logos_token.specs.Tokens.{Token, TokenList, identifier, punctuation, literal, doc, group, none, also, span_of}
 
 -- an identifier with this text

@@ -1,5 +1,5 @@
 -- What an error of reading says.
-use Rattle.logos_token.specs.declared.token.Span.{Span}
+use Rattle.logos_lexeme.specs.declared.lexeme.Span.{Span}
 use Rattle.logos_parser.specs.declared.parser.ReadError.{ReadError}
 use Rattle.logos_parser.specs.declared.parser.ReadError.TheVariants.{NotAnEnum, Grammar, Memory}
 

@@ -1,6 +1,6 @@
 -- An enum and its definitions as values.
 use Rattle.std.specs.Prelude.{ℕ, List, [], ◌∷◌, map, Bool, Option, Some, None}
-use Rattle.logos_token.specs.declared.token.Span.{Span}
+use Rattle.logos_lexeme.specs.declared.lexeme.Span.{Span}
 use Rattle.logos_token.specs.declared.token.Ident.{Ident}
 use Rattle.logos_token.specs.declared.token.Literal.{Literal}
 use Rattle.logos_parser.specs.declared.parser.Definition.{Definition}

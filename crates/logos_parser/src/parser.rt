@@ -1,7 +1,7 @@
 //! Reads the enum of a lexer.
 ghost use Rattle.std.specs.Prelude.{◌≡◌, ◌⊎◌, ◌<◌, ◌≤◌, List, [], ◌∷◌, ◌++◌, map, OnOk, IfOk, IfErr, MatchOption, MatchResult};
-ghost use Rattle.logos_token.specs.declared.token.Span.{Span};
-ghost use Rattle.logos_token.specs.declared.token.Spacing.{Spacing};
+ghost use Rattle.logos_lexeme.specs.declared.lexeme.Span.{Span};
+ghost use Rattle.logos_lexeme.specs.declared.lexeme.Spacing.{Spacing};
 ghost use Rattle.logos_token.specs.Tokens.{TokenList, none, also, identifier, punctuation, group, run_span, count_of};
 ghost use Rattle.logos_token.specs.Views.{tokens_of, tree_of};
 ghost use Rattle.logos_parser.specs.declared.parser.ReadError.TheVariants.{Memory};

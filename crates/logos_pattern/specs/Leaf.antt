@@ -4,7 +4,7 @@ use Rattle.logos_hir.specs.Tree.{Tree}
 use Rattle.logos_hir.specs.Hir.{tree_of}
 use Rattle.logos_pattern.specs.declared.pattern.Pattern.{Pattern}
 use Rattle.logos_token.specs.declared.token.Ident.{Ident}
-use Rattle.logos_token.specs.declared.token.Span.{Span}
+use Rattle.logos_lexeme.specs.declared.lexeme.Span.{Span}
 use Rattle.logos_token.specs.Tokens.{TokenList, run_span}
 use Rattle.logos_token.specs.Views.{stream_tokens}
 use Rattle.logos_pattern.specs.declared.leaf.Leaf.{Leaf}

@@ -1,8 +1,8 @@
 -- Patterns with their repetitions written out, what they match, and their places.
 use Rattle.std.specs.Prelude.{◌≡◌, ℕ, zero, suc, ◌+◌, ◌-◌, ◌<◌, ◌≤◌, Bool, true, ◌⊎◌, List, Option, Some, slice_get}
-use Rattle.logos_pattern.specs.Looks.{holds_between}
-use Rattle.logos_pattern.specs.Text.{byte_before, byte_after}
-use Rattle.logos_pattern.specs.declared.pattern.hir.Look.{Look}
+use Rattle.logos_hir.specs.Looks.{holds_between}
+use Rattle.logos_hir.specs.Text.{byte_before, byte_after}
+use Rattle.logos_hir.specs.declared.hir.Look.{Look}
 
 -- What reads a character of a class: how many places it has besides place 0, which place reads a first byte, and which one
 -- reads a byte after another place. At place 0 the character is read whole.

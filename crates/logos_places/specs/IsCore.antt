@@ -1,7 +1,7 @@
 -- Which written-out pattern stands for a tree.
 use Rattle.std.specs.Prelude.{◌≡◌, ℕ, suc, ◌*◌, ◌≤◌, ◌^◌, ◌↔◌, false, List, Option, Some}
-use Rattle.logos_pattern.specs.Tree.{Tree, Trees}
-use Rattle.logos_pattern.specs.Matches.{Matches, MatchesInOrder, SomeMatches}
+use Rattle.logos_hir.specs.Tree.{Tree, Trees}
+use Rattle.logos_hir.specs.Matches.{Matches, MatchesInOrder, SomeMatches}
 use Rattle.logos_places.specs.Core as core
 use Rattle.logos_places.specs.Core.{Core, At, width, IsFree}
 use Rattle.logos_places.specs.Places.{Place, Reads, ReadsInOrder, SomeReads, has_look, some_has_look}

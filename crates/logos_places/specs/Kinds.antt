@@ -1,9 +1,9 @@
 -- The kind of a byte decides the looks after it.
 use Rattle.std.specs.Prelude.{ℕ, Bool, ◌||◌, ◌==◌, if◌then◌else◌, List, Option, Some, None}
 use Rattle.std.specs.Char.{is_ascii_alphanumeric}
-use Rattle.logos_pattern.specs.Text.{byte_before, byte_after}
-use Rattle.logos_pattern.specs.Looks.{holds_between}
-use Rattle.logos_pattern.specs.declared.pattern.hir.Look.{Look}
+use Rattle.logos_hir.specs.Text.{byte_before, byte_after}
+use Rattle.logos_hir.specs.Looks.{holds_between}
+use Rattle.logos_hir.specs.declared.hir.Look.{Look}
 use Rattle.logos_places.specs.declared.places.look.Kind.{Kind}
 use Rattle.logos_places.specs.declared.places.look.Kind.TheVariants as kind
 use Rattle.logos_places.specs.declared.places.look.Context.{Context}

@@ -1,7 +1,7 @@
 -- The places after each byte, by a step for each, for one pattern and for several.
 use Rattle.std.specs.Prelude.{◌≡◌, ℕ, zero, suc, ◌+◌, ◌-◌, ◌<◌, ◌≤◌, ◌⊎◌, Bool, List, [], ◌∷◌, Some, slice_get}
 use Rattle.logos_places.specs.Core.{Core, width, holds_at, Exits, Steps}
-use Rattle.logos_pattern.specs.declared.pattern.hir.Look.{Look}
+use Rattle.logos_hir.specs.declared.hir.Look.{Look}
 
 -- the places marked after m bytes, for a pattern that begins at 0
 abbrev pub Marked : Core → List ℕ → ℕ → ℕ → Type 0

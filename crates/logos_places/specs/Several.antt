@@ -5,7 +5,7 @@ use Rattle.logos_places.specs.Marks.{Has, IsSet}
 use Rattle.logos_places.specs.Node.{core_of}
 use Rattle.logos_places.specs.Run.{width_of, StepsIn, ExitsIn}
 use Rattle.logos_places.specs.declared.node.Node.{Node}
-use Rattle.logos_pattern.specs.declared.pattern.hir.Look.{Look}
+use Rattle.logos_hir.specs.declared.hir.Look.{Look}
 
 -- just these places read the byte x
 pub record ReadBy (ts : List Core) (test : Look → Bool) (x : ℕ) (M : ℕ → Type 0) (entered : Type 0) (places : List ℕ) : Type 0 where

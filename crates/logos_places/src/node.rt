@@ -5,7 +5,7 @@ ghost use Rattle.logos_places.specs.Node.{core_of, is_measured};
 ghost use Rattle.logos_places.specs.Repeat.{count_of};
 
 use crate::characters::reader::Table;
-use logos_pattern::pattern::{Look, Range};
+use logos_hir::hir::{Look, Range};
 
 /// A tree whose parts and branches stand in pairs, with the numbers of their places beside them.
 #[derive(Drop)]

@@ -1,7 +1,7 @@
 //! From a pattern's tree to the tree that the automaton steps on.
 ghost use Rattle.std.specs.Prelude.{◌≡◌, ℕ, ◌+◌, ◌^◌, ◌<◌, ◌≤◌, IsTrue, IfOk, Bool, true, length, map, vec_len};
-ghost use Rattle.logos_pattern.specs.Tree.{trees, repetition};
-ghost use Rattle.logos_pattern.specs.Hir.{class_tree, tree_of};
+ghost use Rattle.logos_hir.specs.Tree.{trees, repetition};
+ghost use Rattle.logos_hir.specs.Hir.{class_tree, tree_of};
 ghost use Rattle.logos_places.specs.Core as core;
 ghost use Rattle.logos_places.specs.IsCore.{IsCoreOf};
 ghost use Rattle.logos_places.specs.Node.{core_of, is_measured, AreMeasured};
@@ -11,7 +11,7 @@ ghost use Rattle.logos_places.specs.Size.{size, sizes};
 
 use crate::characters::build::table_of;
 use crate::node::{Node, width};
-use logos_pattern::pattern::{Class, Hir};
+use logos_hir::hir::{Class, Hir};
 use std::alloc::{AllocError, Global};
 
 /// The class, made ready.

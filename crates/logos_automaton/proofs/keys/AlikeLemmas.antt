@@ -11,7 +11,7 @@ use Rattle.logos_places.specs.Run.{StepsIn}
 use Rattle.logos_places.specs.Several.{AreStarts}
 use Rattle.logos_automaton.specs.declared.alike.Told.{Told}
 use Rattle.logos_places.specs.declared.node.Node.{Node}
-use Rattle.logos_pattern.specs.declared.pattern.hir.Look.{Look}
+use Rattle.logos_hir.specs.declared.hir.Look.{Look}
 use Rattle.logos_places.proofs.steps.MarkLemmas.{Has-push}
 use Rattle.logos_places.proofs.steps.PlaceLemmas.{Steps-map}
 use Rattle.logos_places.proofs.steps.SeveralLemmas.{StepsIn-map, node_at, first_start, next_start, Unmarked, none_in, passed_to, next_core}

@@ -1,6 +1,6 @@
 -- Each state of the automaton has a key of its own.
 use Rattle.std.proofs.Common.{◌≡◌, ℕ, zero, suc, ◌+◌, ◌-◌, ◌<◌, ◌≤◌, ◌↔◌, ◌⊎◌, ◌==◌, Bool, true, false, List, [], ◌∷◌, ◌++◌, length, length-append, append_assoc, append-nil, Some, None, IfSome, slice_get, slice_index_or, if◌then◌else◌, refl, sym, ap, ◌∙◌, subst, inl, inr, ⊎_elim, true≢false, ◌||◌, IsFalse, arith}
-use Rattle.logos_pattern.specs.Text.{IsBytes, byte_after}
+use Rattle.logos_hir.specs.Text.{IsBytes, byte_after}
 use Rattle.logos_places.specs.Core.{Core, width}
 use Rattle.logos_automaton.specs.Keys.{State, state_of, start_state, dead_state, IsAt, AreDistinct, AreReached, IsReached, at_start, by_byte, by_end, IsNext, IsLast, is_start, kept_of}
 use Rattle.logos_places.specs.Kinds.{kind_of_byte, is_word_byte}
@@ -12,7 +12,7 @@ use Rattle.logos_automaton.specs.ReadKeys.{Read, nothing, upto, whole, IsRead, S
 use Rattle.logos_automaton.specs.Rules.{AreRuleCores, AreFree, some_look}
 use Rattle.logos_automaton.specs.Faults.{AllStart}
 use Rattle.logos_automaton.specs.Faults.{some_passable}
-use Rattle.logos_pattern.proofs.Laws.{passes}
+use Rattle.logos_hir.proofs.tree.Laws.{passes}
 use Rattle.logos_places.specs.Run.{Marked, MarkedIn}
 use Rattle.logos_automaton.specs.declared.key.Key.{Key}
 use Rattle.logos_places.specs.declared.places.look.Kind.{Kind}

@@ -1,12 +1,12 @@
 -- The definitions at small inputs.
 use Rattle.std.proofs.Common.{◌≡◌, ◌≢◌, ℕ, zero, suc, ◌+◌, ◌≤◌, ◌<◌, true, false, List, [], ◌∷◌, take, drop, max, IsTrue, length, None, Some, refl, arith}
-use Rattle.logos_pattern.specs.Tree.{Tree, literal, char_class, repetition, capture, concat, none, also}
-use Rattle.logos_pattern.specs.Matches.{Matches}
-use Rattle.logos_pattern.specs.Text.{StandsAt, IsBytes}
+use Rattle.logos_hir.specs.Tree.{Tree, literal, char_class, repetition, capture, concat, none, also}
+use Rattle.logos_hir.specs.Matches.{Matches}
+use Rattle.logos_hir.specs.Text.{StandsAt, IsBytes}
 use Rattle.logos_automaton.specs.Munch.{Rule, RuleMatches, priority_of, IsBest, Grows, IsStop}
 use Rattle.logos_places.specs.Places.{Reads, byte_of, within}
-use Rattle.logos_pattern.proofs.Bounds.{matches_within}
-use Rattle.logos_pattern.specs.Priority.{passable}
+use Rattle.logos_hir.proofs.tree.Bounds.{matches_within}
+use Rattle.logos_hir.specs.Priority.{passable}
 
 -- `([a&&b])*`
 pub empty_class_star : passable (repetition 0 None true (capture (char_class []))) ≡ true

@@ -3,12 +3,12 @@ use Rattle.std.proofs.Common.{◌≡◌, ℕ, zero, suc, ◌-◌, ◌<◌, ◌�
 use Rattle.std.proofs.lemmas.Bool.{cases_lt}
 use Rattle.std.proofs.lemmas.List.{length-take, length-drop}
 use Rattle.std.specs.List.{list_any}
-use Rattle.logos_pattern.specs.Text.{StandsAt}
-use Rattle.logos_pattern.specs.Tree.{Tree, empty, literal, byte_class, char_class, look, repetition, capture, concat, alternation, Trees, none, also}
-use Rattle.logos_pattern.specs.Matches.{Matches, MatchesInOrder, SomeMatches, Pieces}
-use Rattle.logos_pattern.specs.Priority.{passable, all_passable, some_passable}
-use Rattle.logos_pattern.proofs.Bounds.{matches_within}
-use Rattle.logos_pattern.proofs.Laws.{is_zero, encoded, either_true, both_true}
+use Rattle.logos_hir.specs.Text.{StandsAt}
+use Rattle.logos_hir.specs.Tree.{Tree, empty, literal, byte_class, char_class, look, repetition, capture, concat, alternation, Trees, none, also}
+use Rattle.logos_hir.specs.Matches.{Matches, MatchesInOrder, SomeMatches, Pieces}
+use Rattle.logos_hir.specs.Priority.{passable, all_passable, some_passable}
+use Rattle.logos_hir.proofs.tree.Bounds.{matches_within}
+use Rattle.logos_hir.proofs.tree.Laws.{is_zero, encoded, either_true, both_true}
 use Rattle.logos_automaton.specs.Munch.{Rule, RuleMatches}
 
 module _ (bytes : List ℕ) (from : ℕ) (out : length bytes ≤ from) where

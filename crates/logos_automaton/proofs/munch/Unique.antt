@@ -1,7 +1,7 @@
 -- Maximal munch finds one thing at a place.
 use Rattle.std.proofs.Common.{◌≡◌, ℕ, zero, suc, ◌≤◌, ◌<◌, Bool, List, [], ◌∷◌, length, refl, sym, arith}
 use Rattle.logos_automaton.specs.Munch.{Rule, RuleMatches, priority_of, IsBest, Found, ended, matched, failed, Finds}
-use Rattle.logos_pattern.proofs.Bounds.{matches_within}
+use Rattle.logos_hir.proofs.tree.Bounds.{matches_within}
 use native.Mathlib.Decide.{ℕ_discrete}
 
 pub rule_within : (rules : List Rule) (leaf : ℕ) (bytes : List ℕ) (from to : ℕ) → RuleMatches rules leaf bytes from to → from ≤ length bytes → to ≤ length bytes

@@ -3,7 +3,7 @@ use Rattle.std.proofs.Common.{◌≡◌, ℕ, zero, suc, ◌+◌, ◌<◌, ◌�
 use Rattle.std.specs.List.Sorted.{IsStrictlyIncreasing}
 use Rattle.std.proofs.lemmas.List.{get_or_default}
 use Rattle.std.proofs.lemmas.Option.{same_Some, slice_get-get_or, slice_get-map}
-use Rattle.logos_pattern.specs.Text.{IsBytes, byte_after}
+use Rattle.logos_hir.specs.Text.{IsBytes, byte_after}
 use Rattle.logos_places.specs.Core.{Core}
 use Rattle.logos_automaton.specs.Keys.{State, state_of, start_state, IsAt, IsNext, IsLast, IsBuilt, automaton_of}
 use Rattle.logos_places.specs.Marks.{Has, IsRising}

@@ -1,8 +1,8 @@
 -- What the states of the automaton tell of the bytes read.
 use Rattle.std.proofs.Common.{◌≡◌, ℕ, zero, suc, ◌+◌, ◌-◌, ◌<◌, ◌↔◌, ◌⊎◌, ◌==◌, Bool, true, false, IsTrue, List, [], ◌∷◌, Option, Some, None, slice_get, if◌then◌else◌, refl, sym, ap, ◌∙◌, subst, inl, inr, ⊎_elim, true≢false, arith}
 use Rattle.std.proofs.lemmas.Option.{same_Some}
-use Rattle.logos_pattern.specs.Text.{byte_before, byte_after}
-use Rattle.logos_pattern.specs.declared.pattern.hir.Look.{Look}
+use Rattle.logos_hir.specs.Text.{byte_before, byte_after}
+use Rattle.logos_hir.specs.declared.hir.Look.{Look}
 use Rattle.logos_places.specs.Core.{Core, void, empty, byte_in, character, look, cat, alt, plus, width, IsFree, holds_at, Exits, Steps}
 use Rattle.logos_automaton.specs.Keys.{State, start_state, IsNext, IsLast, is_start, kept_of}
 use Rattle.logos_places.specs.Kinds.{test_at, kind_of_byte, kind_before, is_word_byte}

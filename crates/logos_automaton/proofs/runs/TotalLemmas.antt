@@ -3,7 +3,7 @@ use Rattle.std.proofs.Common.{◌≡◌, ℕ, zero, suc, ◌<◌, ◌≤◌, ◌
 use lib.ListN.{length-map}
 use Rattle.std.proofs.lemmas.Bool.{cases_lt}
 use Rattle.std.proofs.lemmas.Option.{same_Some, slice_get-get_or, slice_get_past}
-use Rattle.logos_pattern.specs.Text.{IsBytes}
+use Rattle.logos_hir.specs.Text.{IsBytes}
 use Rattle.logos_places.specs.Core.{Core}
 use Rattle.logos_automaton.specs.Keys.{State, start_state, dead_state, IsAt, AreDistinct, AreReached, IsReached, at_start, by_byte, by_end, IsNext, IsLast, is_start, kept_of, IsBuilt, automaton_of}
 use Rattle.logos_automaton.specs.Automaton.{Automaton, dfa_next, dfa_after, dfa_at_end, IsTotal}

@@ -3,7 +3,7 @@ ghost use Rattle.std.specs.Prelude.{◌≤◌};
 
 use super::Dfa;
 use super::parts::leaves_at;
-use logos_pattern::leaf::LeafId;
+use logos_hir::leaf::LeafId;
 
 /// A state of an automaton, by its number.
 #[derive(Clone, Copy, Debug, PartialEq, Eq)]

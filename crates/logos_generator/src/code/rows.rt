@@ -11,7 +11,7 @@ ghost use Rattle.logos_generator.specs.Rows.{closing, IsStepOf, Says, IsEntry, I
 
 use super::{CodeParts, CodeState, Condition, Fork, Mark, target_of};
 use logos_graph::byte_class::Comparisons;
-use logos_pattern::leaf::LeafId;
+use logos_hir::leaf::LeafId;
 use std::alloc::{AllocError, Global};
 
 /// The entry of a row for a byte that the state's fast loop takes.

@@ -4,7 +4,7 @@ ghost use Rattle.logos_generator.specs.CodeView.{mark_of, code_of};
 ghost use Rattle.logos_generator.specs.Signs.{mark_by, AreSigns};
 
 use super::{CodeParts, Mark};
-use logos_pattern::leaf::LeafId;
+use logos_hir::leaf::LeafId;
 use std::alloc::{AllocError, Global};
 
 /// What the mark of a state says. Which of the three it is, a lexer finds by a branch, so it need not wait for the leaf.

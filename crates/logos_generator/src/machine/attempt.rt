@@ -11,7 +11,7 @@ use super::fast_loop::{first_stop, stop_in};
 use crate::code::Code;
 use crate::code::rows::{Step, step_of};
 use crate::code::signs::Sign;
-use logos_pattern::leaf::LeafId;
+use logos_hir::leaf::LeafId;
 
 /// Where a try stands as it enters a state.
 #[derive(Clone, Copy)]

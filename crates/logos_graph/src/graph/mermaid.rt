@@ -10,7 +10,7 @@ ghost use Rattle.logos_graph.specs.Mermaid.{label_character, label_text, range_l
 use super::{State, StateData, StateType};
 use crate::byte_class::ByteClass;
 use crate::byte_class::text::{is_printable, letter_of, lower_digit};
-use logos_pattern::leaf::LeafId;
+use logos_hir::leaf::LeafId;
 use std::alloc::{AllocError, Global};
 use std::ops::RangeInclusive;
 

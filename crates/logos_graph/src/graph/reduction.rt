@@ -7,7 +7,7 @@ ghost use Rattle.logos_graph.specs.FinishedGraph.{NamesLeaves, IsFit};
 ghost use Rattle.logos_graph.specs.Found.{FindsTheLongest};
 ghost use Rattle.logos_graph.specs.Graph.{GraphState};
 ghost use Rattle.logos_graph.specs.Least.{IsLeast};
-ghost use Rattle.logos_graph.specs.Munch.{Rule};
+ghost use Rattle.logos_automaton.specs.Munch.{Rule};
 ghost use Rattle.logos_graph.specs.ReduceShown.{Shows};
 ghost use Rattle.logos_graph.specs.Reduced.{IsReduced};
 ghost use Rattle.logos_graph.specs.View.{AllStart};

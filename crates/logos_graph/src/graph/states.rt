@@ -9,7 +9,7 @@ ghost use Rattle.logos_graph.specs.ReduceShown.{Shows};
 ghost use Rattle.logos_graph.specs.States.{targets, with_range, with_run, AreEdgesOf, IsStateOf};
 use super::{State, StateData, StateType};
 use crate::byte_class::ByteClass;
-use logos_pattern::leaf::LeafId;
+use logos_hir::leaf::LeafId;
 use std::alloc::{AllocError, Global};
 use std::ops::RangeInclusive;
 ghost use Rattle.logos_reduce.specs.Table.{size, to, mark, type_of};

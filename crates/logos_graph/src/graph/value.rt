@@ -42,7 +42,7 @@ pub struct States {
 
 impl<'s> Model for Graph<'s> {
     ghost use Rattle.std.specs.Coded.{codes};
-    ghost use Rattle.logos_pattern.specs.contracts.pattern.hir.Hir as e;
+    ghost use Rattle.logos_hir.specs.contracts.hir.Hir as e;
     ghost use Rattle.logos_graph.specs.View.{GraphValue};
 
     ghost Value = { GraphValue };

@@ -1,6 +1,7 @@
 // Names of states, printed classes, and when two states are equal.
 use logos_graph::graph::{ByteClass, Config, Graph, State, StateData, StateType};
-use logos_pattern::leaf::{Leaf, LeafId};
+use logos_hir::leaf::LeafId;
+use logos_pattern::leaf::Leaf;
 use logos_pattern::pattern::Pattern;
 use logos_token::token::Span;
 use std::alloc::{AllocError, Global};

@@ -5,10 +5,10 @@ use Rattle.std.proofs.lemmas.Option.{same_Some}
 use Rattle.std.proofs.lemmas.Bool.{and_parts, and_from}
 use Rattle.std.proofs.lemmas.Bool.Decides.{nat_tests}
 use lib.Utf8.{scalar}
-use Rattle.logos_pattern.specs.Tree as tree
-use Rattle.logos_pattern.specs.Text.{StandsAt}
-use Rattle.logos_pattern.specs.Matches.{Matches}
-use Rattle.logos_pattern.proofs.Laws.{encoded}
+use Rattle.logos_hir.specs.Tree as tree
+use Rattle.logos_hir.specs.Text.{StandsAt}
+use Rattle.logos_hir.specs.Matches.{Matches}
+use Rattle.logos_hir.proofs.tree.Laws.{encoded}
 use Rattle.logos_places.specs.Core as core
 use Rattle.logos_places.specs.Core.{Core, At, Reader, Stands, width, IsFree}
 use Rattle.logos_places.specs.Characters.{IsOfScalars, IsCharOf}

@@ -3,7 +3,7 @@ use Rattle.std.proofs.Common.{◌≡◌, ℕ, suc, ◌+◌, ◌-◌, ◌<◌, �
 use Rattle.logos_places.specs.Core.{Reader, character}
 use Rattle.logos_places.specs.Marks.{IsRising, Has, IsFirstFrom, IsSet}
 use Rattle.logos_places.specs.inside.Stepped.{Stepped}
-use Rattle.logos_pattern.specs.declared.pattern.hir.Look.{Look}
+use Rattle.logos_hir.specs.declared.hir.Look.{Look}
 
 -- every mark below the index is below `base`, or has been looked at
 pub record StartsFrom (xs : List ℕ) (base i : ℕ) : Type 0 where

@@ -4,7 +4,7 @@ use Rattle.std.proofs.Math.Nat.{mul-le-mul_left}
 use Rattle.logos_places.specs.Core.{Core, width, Exits}
 use Rattle.logos_places.specs.Marks.{Has}
 use Rattle.logos_places.specs.Repeat.{in_front, up_to, spelled}
-use Rattle.logos_pattern.specs.declared.pattern.hir.Look.{Look}
+use Rattle.logos_hir.specs.declared.hir.Look.{Look}
 use Rattle.logos_places.proofs.steps.PlaceLemmas.{Exits-map}
 use Rattle.logos_places.proofs.steps.StepLemmas.{iff_trans, iff_refl, Exits-from, Exits-past, Exits-past_up_to}
 use Rattle.logos_places.proofs.steps.SteppedLemmas.{Exits-void}

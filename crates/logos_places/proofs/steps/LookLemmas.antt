@@ -1,10 +1,10 @@
 -- The kind of the byte before decides the looks.
 use Rattle.std.proofs.Common.{◌≡◌, ℕ, Bool, true, false, not, ◌||◌, ◌&&◌, ap₂, ◌==◌, List, Option, Some, None, is_none, refl, sym, ap, ◌∙◌, eqb-true, if◌then◌else◌}
 use Rattle.std.proofs.Math.Path.{fun_ext}
-use Rattle.logos_pattern.specs.Text.{byte_before, byte_after}
-use Rattle.logos_pattern.specs.Looks.{is_byte, is_word, differ, holds_between}
-use Rattle.logos_pattern.specs.declared.pattern.hir.Look.{Look}
-use Rattle.logos_pattern.specs.declared.pattern.hir.Look.TheVariants.{Start, End, StartLF, EndLF, StartCRLF, EndCRLF, WordAscii, WordAsciiNegate}
+use Rattle.logos_hir.specs.Text.{byte_before, byte_after}
+use Rattle.logos_hir.specs.Looks.{is_byte, is_word, differ, holds_between}
+use Rattle.logos_hir.specs.declared.hir.Look.{Look}
+use Rattle.logos_hir.specs.declared.hir.Look.TheVariants.{Start, End, StartLF, EndLF, StartCRLF, EndCRLF, WordAscii, WordAsciiNegate}
 use Rattle.logos_places.specs.Core.{holds_at}
 use Rattle.logos_places.specs.Kinds.{is_word_byte, side_before, test_at, kind_of_byte, kind_before, context_at}
 use Rattle.logos_places.specs.declared.places.look.Kind.{Kind}

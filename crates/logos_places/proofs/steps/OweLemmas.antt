@@ -5,7 +5,7 @@ use Rattle.logos_places.specs.Core.{Core, byte_in, cat, width}
 use Rattle.logos_places.specs.Marks.{Has}
 use Rattle.logos_places.specs.Repeat.{in_front, up_to, spelled}
 use Rattle.logos_places.specs.inside.Stepped.{Stepped, Owes}
-use Rattle.logos_pattern.specs.declared.pattern.hir.Look.{Look}
+use Rattle.logos_hir.specs.declared.hir.Look.{Look}
 use Rattle.logos_places.proofs.steps.SteppedLemmas.{stepped_nothing, owes_cat, owes_skip, owes_optional}
 
 or_false : (t : Bool) → (t || false) ≡ t

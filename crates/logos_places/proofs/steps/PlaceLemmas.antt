@@ -2,7 +2,7 @@
 use Rattle.std.proofs.Common.{◌≡◌, ℕ, zero, suc, ◌+◌, ◌-◌, ◌<◌, ◌≤◌, Bool, true, List, Some, ◌⊎◌, inl, inr, ⊎_elim, slice_get, refl, sym, ap, ◌∙◌, subst, arith}
 use Rattle.std.proofs.lemmas.Option.{same_Some}
 use Rattle.logos_places.specs.Core.{Core, holds_at, Reader, void, character, Stands, empty, byte_in, look, cat, alt, plus, width, Many, none, more, Matches, Leaves, Begins, Reads, Exits, Steps}
-use Rattle.logos_pattern.specs.declared.pattern.hir.Look.{Look}
+use Rattle.logos_hir.specs.declared.hir.Look.{Look}
 
 -- a larger set of places, entered where the smaller was, is left where the smaller was
 pub Exits-map : (t : Core) (test : Look → Bool) (M N : ℕ → Type 0) (d e : Type 0) →

@@ -5,7 +5,7 @@ use Rattle.logos_places.specs.Marks.{Has, IsSet}
 use Rattle.logos_places.specs.Run.{width_of, StepsIn, ExitsIn}
 use Rattle.logos_places.specs.Several.{ReadBy, LeftBy, OwesPlaces, OwesNumbers, AreFirstStarts, AreStarts}
 use Rattle.logos_places.specs.inside.Stepped.{Stepped}
-use Rattle.logos_pattern.specs.declared.pattern.hir.Look.{Look}
+use Rattle.logos_hir.specs.declared.hir.Look.{Look}
 use Rattle.std.proofs.lemmas.List.{get_or_append_left}
 use Rattle.std.proofs.Math.Seq.{get_or-append_seam}
 use Rattle.logos_places.specs.Node.{core_of, is_measured, AreMeasured}

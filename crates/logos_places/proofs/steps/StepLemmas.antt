@@ -4,7 +4,7 @@ use Rattle.std.proofs.lemmas.Bool.{or_cases, or_left, or_right}
 use Rattle.logos_places.specs.Core.{Core, empty, cat, alt, plus, width, Exits}
 use Rattle.logos_places.specs.Marks.{Has}
 use Rattle.logos_places.specs.Repeat.{in_front, up_to, at_least}
-use Rattle.logos_pattern.specs.declared.pattern.hir.Look.{Look}
+use Rattle.logos_hir.specs.declared.hir.Look.{Look}
 use Rattle.logos_places.proofs.steps.PlaceLemmas.{Exits-map, Exits-or}
 
 pub iff_trans : {A B C : Type 0} → A ↔ B → B ↔ C → A ↔ C

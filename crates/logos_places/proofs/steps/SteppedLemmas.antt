@@ -5,7 +5,7 @@ use Rattle.logos_places.specs.Core.{Core, void, character, empty, byte_in, look,
 use Rattle.logos_places.specs.Marks.{Has, IsSet}
 use Rattle.logos_places.specs.Repeat.{in_front, at_least}
 use Rattle.logos_places.specs.inside.Stepped.{Stepped, Owes}
-use Rattle.logos_pattern.specs.declared.pattern.hir.Look.{Look}
+use Rattle.logos_hir.specs.declared.hir.Look.{Look}
 use Rattle.logos_places.proofs.steps.PlaceLemmas.{Exits-map, Steps-map}
 use Rattle.logos_places.proofs.steps.MarkLemmas.{Has-push, IsSet-push, IsSet-more}
 use Rattle.logos_places.proofs.steps.StepLemmas.{iff_trans, iff_refl, Exits-past, exits_alt}

@@ -1,6 +1,6 @@
 -- The places of repetitions written out, by the copy that they lie in.
 use Rattle.std.proofs.Common.{◌≡◌, ℕ, zero, suc, ◌+◌, ◌-◌, ◌*◌, min, ◌<◌, ◌≤◌, List, Option, Some, None, IfSome, ◌⊎◌, inl, inr, ⊎_elim, refl, sym, subst, arith}
-use Rattle.logos_pattern.specs.Matches.{Pieces}
+use Rattle.logos_hir.specs.Matches.{Pieces}
 use Rattle.logos_places.specs.Core as core
 use Rattle.logos_places.specs.Core.{Core, At, Many, none, width, Matches, Leaves, Begins, Reads}
 use Rattle.logos_places.specs.Repeat.{IsOrdered, count_of, in_front, up_to, repeated}

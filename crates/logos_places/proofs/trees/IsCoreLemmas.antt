@@ -2,11 +2,11 @@
 use Rattle.std.proofs.Common.{◌≡◌, ℕ, zero, suc, ◌+◌, ◌-◌, ◌<◌, ◌↔◌, ◌==◌, List, [], ◌∷◌, length, take, slice_get, Option, Some, None, inl, inr, eq-eqb, eqb-true, refl, sym, ap, ◌∙◌, subst, arith, add-one}
 use Rattle.std.proofs.lemmas.List.{length-take}
 use Rattle.std.proofs.lemmas.Option.{same_Some}
-use Rattle.logos_pattern.specs.declared.pattern.hir.Look.{Look}
-use Rattle.logos_pattern.specs.Text.{StandsAt}
-use Rattle.logos_pattern.specs.Tree as tree
-use Rattle.logos_pattern.specs.Tree.{Tree, Trees, none, also}
-use Rattle.logos_pattern.specs.Matches.{Matches}
+use Rattle.logos_hir.specs.declared.hir.Look.{Look}
+use Rattle.logos_hir.specs.Text.{StandsAt}
+use Rattle.logos_hir.specs.Tree as tree
+use Rattle.logos_hir.specs.Tree.{Tree, Trees, none, also}
+use Rattle.logos_hir.specs.Matches.{Matches}
 use Rattle.logos_places.specs.Core as core
 use Rattle.logos_places.specs.Core.{Core, At, IsIn, Leaves, width, IsFree}
 use Rattle.logos_places.specs.ByteRanges.{is_in}

@@ -2,9 +2,9 @@
 use Rattle.std.proofs.Common.{◌≡◌, ℕ, ◌+◌, ◌<◌, ◌≤◌, Bool, true, ◌&&◌, ◌==◌, nat_lt, nat_le, Option, Some, None, Vec, Box, Global, sym, ap, ◌∙◌, eqb-true, arith, suc, ◌-◌, ◌*◌, length}
 use Rattle.std.proofs.lemmas.Bool.{and_parts}
 use Rattle.std.proofs.lemmas.Bool.Decides.{nat_tests}
-use Rattle.logos_pattern.specs.Hir.{pairs}
-use Rattle.logos_pattern.specs.declared.pattern.hir.Look as look_type
-use Rattle.logos_pattern.specs.declared.pattern.hir.Range.{Range}
+use Rattle.logos_hir.specs.Hir.{pairs}
+use Rattle.logos_hir.specs.declared.hir.Look as look_type
+use Rattle.logos_hir.specs.declared.hir.Range.{Range}
 use Rattle.logos_places.specs.ByteRanges.{is_in}
 use Rattle.logos_places.specs.Core as core
 use Rattle.logos_places.specs.Core.{Core, width}

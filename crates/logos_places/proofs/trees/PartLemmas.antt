@@ -1,9 +1,9 @@
 -- Which written-out pattern stands for parts and for branches.
 use Rattle.std.proofs.Common.{◌≡◌, ℕ, suc, ◌+◌, ◌-◌, ◌<◌, ◌≤◌, Bool, true, false, ◌||◌, List, Option, Some, None, option_map, nat_lt, if◌then◌else◌, ◌⊎◌, inl, inr, ⊎_elim, lt-ltb, le-ltb, refl, sym, ap, ◌∙◌, subst, arith}
 use Rattle.std.proofs.lemmas.Option.{same_Some}
-use Rattle.logos_pattern.specs.Tree as tree
-use Rattle.logos_pattern.specs.Tree.{Tree, Trees, none, also}
-use Rattle.logos_pattern.specs.Matches.{Matches, MatchesInOrder, SomeMatches}
+use Rattle.logos_hir.specs.Tree as tree
+use Rattle.logos_hir.specs.Tree.{Tree, Trees, none, also}
+use Rattle.logos_hir.specs.Matches.{Matches, MatchesInOrder, SomeMatches}
 use Rattle.logos_places.specs.Core as core
 use Rattle.logos_places.specs.Core.{Core, At, Leaves, width, IsFree}
 use Rattle.logos_places.specs.Places.{Place, byte_of, member, within, ReadsInOrder, SomeReads, has_look, some_has_look}

@@ -1,13 +1,13 @@
 -- Patterns made ready: what each form of a tree is, and trees in lists.
 use Rattle.std.proofs.Common.{◌≡◌, ℕ, zero, suc, ◌+◌, ◌*◌, ◌^◌, ◌<◌, ◌≤◌, Bool, true, false, IsTrue, List, [], ◌∷◌, ◌++◌, map, length, take, drop, get_or, drop-cons, add-one, append_assoc, Option, Vec, Box, Global, refl, sym, ap, ◌∙◌, subst, arith}
 use Rattle.std.proofs.lemmas.List.{map-append, take-append-drop}
-use Rattle.logos_pattern.specs.Tree as tree
-use Rattle.logos_pattern.specs.Tree.{Tree, Trees, none, also, trees}
-use Rattle.logos_pattern.specs.Hir.{class_tree, node_tree, tree_of}
-use Rattle.logos_pattern.specs.declared.pattern.hir.Look as look_type
-use Rattle.logos_pattern.specs.declared.pattern.hir.Class as class_type
-use Rattle.logos_pattern.specs.declared.pattern.hir.Hir.{Hir, Hir-F, fold-roll-Hir}
-use Rattle.logos_pattern.specs.declared.pattern.hir.Hir.TheVariants.{Empty, Literal, Class, Look, Repetition, Capture, Concat, Alternation, rolls-Empty, rolls-Literal, rolls-Class, rolls-Look, rolls-Repetition, rolls-Capture, rolls-Concat, rolls-Alternation}
+use Rattle.logos_hir.specs.Tree as tree
+use Rattle.logos_hir.specs.Tree.{Tree, Trees, none, also, trees}
+use Rattle.logos_hir.specs.Hir.{class_tree, node_tree, tree_of}
+use Rattle.logos_hir.specs.declared.hir.Look as look_type
+use Rattle.logos_hir.specs.declared.hir.Class as class_type
+use Rattle.logos_hir.specs.declared.hir.Hir.{Hir, Hir-F, fold-roll-Hir}
+use Rattle.logos_hir.specs.declared.hir.Hir.TheVariants.{Empty, Literal, Class, Look, Repetition, Capture, Concat, Alternation, rolls-Empty, rolls-Literal, rolls-Class, rolls-Look, rolls-Repetition, rolls-Capture, rolls-Concat, rolls-Alternation}
 use Rattle.logos_places.specs.Core.{Core, cat, alt, width}
 use Rattle.logos_places.specs.IsCore.{IsCoreOf, IsCoreOfParts, IsCoreOfBranches}
 use Rattle.logos_places.specs.inside.Joined.{pair_up, of_none, IsJoined, from_none, from_one, from_two, AreCoresOf}

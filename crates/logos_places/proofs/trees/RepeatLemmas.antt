@@ -1,6 +1,6 @@
 -- Repetitions and literals written out: what they match.
 use Rattle.std.proofs.Common.{◌≡◌, ℕ, zero, suc, ◌+◌, ◌-◌, ◌≤◌, List, Option, Some, None, inl, inr, ⊎_elim, refl, sym, subst, arith}
-use Rattle.logos_pattern.specs.Matches.{Pieces, IsCount}
+use Rattle.logos_hir.specs.Matches.{Pieces, IsCount}
 use Rattle.logos_places.specs.Core as core
 use Rattle.logos_places.specs.Core.{Core, Many, none, more, Matches}
 use Rattle.logos_places.specs.Repeat.{IsOrdered, in_front, up_to, at_least, repeated}

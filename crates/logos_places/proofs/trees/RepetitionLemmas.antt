@@ -2,9 +2,9 @@
 use Rattle.std.proofs.Common.{◌≡◌, ℕ, zero, suc, ◌+◌, ◌-◌, ◌*◌, ◌^◌, min, ◌<◌, ◌≤◌, Bool, List, Option, Some, None, option_map, IfSome, refl, sym, ap, ◌∙◌, arith}
 use Rattle.std.proofs.Math.Nat.{mul-le-mul_left}
 use Rattle.std.proofs.lemmas.Option.{same_Some}
-use Rattle.logos_pattern.specs.Tree as tree
-use Rattle.logos_pattern.specs.Tree.{Tree}
-use Rattle.logos_pattern.specs.Matches.{Matches, Pieces}
+use Rattle.logos_hir.specs.Tree as tree
+use Rattle.logos_hir.specs.Tree.{Tree}
+use Rattle.logos_hir.specs.Matches.{Matches, Pieces}
 use Rattle.logos_places.specs.Core as core
 use Rattle.logos_places.specs.Core.{Core, At, width, IsFree}
 use Rattle.logos_places.specs.Places.{Place, byte_of, member, within, copies}

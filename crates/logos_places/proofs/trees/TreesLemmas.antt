@@ -1,6 +1,6 @@
 -- Lists of trees, one after another.
 use Rattle.std.proofs.Common.{ℕ, suc}
-use Rattle.logos_pattern.specs.Tree.{Trees, none, also}
+use Rattle.logos_hir.specs.Tree.{Trees, none, also}
 
 abbrev pub join_trees : Trees → Trees → Trees
 join_trees none us = us

@@ -1,6 +1,6 @@
 -- Patterns put together in pairs.
 use Rattle.std.specs.Prelude.{Bool, true, false, List, [], ◌∷◌, ◌++◌}
-use Rattle.logos_pattern.specs.Tree.{Trees, none, also}
+use Rattle.logos_hir.specs.Tree.{Trees, none, also}
 use Rattle.logos_places.specs.Core.{Core, void, empty, cat, alt}
 use Rattle.logos_places.specs.IsCore.{IsCoreOf}
 

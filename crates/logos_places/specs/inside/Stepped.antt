@@ -2,7 +2,7 @@
 use Rattle.std.specs.Prelude.{◌≡◌, ℕ, ◌+◌, ◌-◌, ◌≤◌, ◌⊎◌, ◌↔◌, Bool, IsTrue, List}
 use Rattle.logos_places.specs.Core.{Core, width, Exits, Steps}
 use Rattle.logos_places.specs.Marks.{Has, IsSet}
-use Rattle.logos_pattern.specs.declared.pattern.hir.Look.{Look}
+use Rattle.logos_hir.specs.declared.hir.Look.{Look}
 
 -- The step from `marks`, on the places of t, which begin at `base`, adds to `old` the places that read the byte x, and
 -- says whether t can be left here.

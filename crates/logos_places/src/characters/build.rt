@@ -4,12 +4,12 @@ ghost use Rattle.logos_places.specs.Characters.{size, lead, after_byte};
 ghost use Rattle.logos_places.specs.Ranges.{in_ranges, AreParts, from_floor};
 ghost use Rattle.logos_places.specs.Table as table;
 ghost use Rattle.logos_places.specs.Reader.{is_char_in, IsReaderOf};
-ghost use Rattle.logos_pattern.specs.Hir.{pairs};
+ghost use Rattle.logos_hir.specs.Hir.{pairs};
 
 use crate::characters::ranges::{CharRange, clip, scalars};
 use crate::characters::reader::Table;
 use indexmap::IndexSet;
-use logos_pattern::pattern::Range;
+use logos_hir::hir::Range;
 use std::alloc::{AllocError, Global};
 
 /// What is left of a character that is begun: so many bytes, and the offsets in the block that they pick from.

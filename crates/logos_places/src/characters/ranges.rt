@@ -1,12 +1,12 @@
 // Ranges of characters.
 ghost use Rattle.std.specs.Prelude.{◌&&◌, nat_le, ◌≡◌, ℕ, ◌+◌, ◌^◌, ◌<◌, ◌≤◌, ◌||◌, OnOk, IfOk};
 ghost use lib.Utf8.{scalar};
-ghost use Rattle.logos_pattern.specs.Hir.{pairs};
+ghost use Rattle.logos_hir.specs.Hir.{pairs};
 ghost use Rattle.logos_places.specs.ByteRanges.{is_in};
 ghost use Rattle.logos_places.specs.Reader.{is_char_in};
 ghost use Rattle.logos_places.specs.Ranges.{in_range, in_ranges, from_floor, ClipsTo, AreParts};
 
-use logos_pattern::pattern::Range;
+use logos_hir::hir::Range;
 use std::alloc::{AllocError, Global};
 
 /// The numbers from `first` to `last`.

@@ -6,7 +6,7 @@ ghost use Rattle.logos_places.specs.Kinds.{test_at};
 ghost use Rattle.logos_places.specs.Marks.{IsRising, Has};
 ghost use Rattle.logos_places.specs.Node.{core_of, is_measured};
 ghost use Rattle.logos_places.specs.Repeat.{spelled, in_front, up_to, repeated, count_of, IsOrdered};
-ghost use Rattle.logos_pattern.specs.declared.pattern.hir.Look.{Look};
+ghost use Rattle.logos_hir.specs.declared.hir.Look.{Look};
 
 use crate::node::{Node, width};
 use crate::places::look::{Context, holds};

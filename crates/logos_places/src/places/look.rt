@@ -1,10 +1,10 @@
 //! Where a look holds, by what is kept of the byte before.
 ghost use Rattle.std.specs.Prelude.{◌≡◌, Some, is_none};
 ghost use Rattle.logos_places.specs.Kinds.{side_before, kind_of_byte, test_at, is_word_byte};
-ghost use Rattle.logos_pattern.specs.Looks as looks;
-ghost use Rattle.logos_pattern.specs.Looks.{is_byte};
+ghost use Rattle.logos_hir.specs.Looks as looks;
+ghost use Rattle.logos_hir.specs.Looks.{is_byte};
 
-use logos_pattern::pattern::Look;
+use logos_hir::hir::Look;
 
 /// What is kept of the byte before a place.
 #[derive(Clone, Copy, Debug, PartialEq, Eq, Hash)]

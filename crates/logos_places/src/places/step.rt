@@ -9,15 +9,15 @@ ghost use Rattle.logos_places.specs.Repeat.{spelled, in_front, up_to, repeated, 
 ghost use Rattle.logos_places.specs.inside.Stepped.{Stepped, Owes};
 ghost use Rattle.logos_places.specs.Table.{reader_of};
 ghost use Rattle.logos_places.specs.ByteRanges.{is_in};
-ghost use Rattle.logos_pattern.specs.Hir.{pairs};
-ghost use Rattle.logos_pattern.specs.declared.pattern.hir.Look.{Look};
+ghost use Rattle.logos_hir.specs.Hir.{pairs};
+ghost use Rattle.logos_hir.specs.declared.hir.Look.{Look};
 
 use crate::characters::reader::Table;
 use crate::node::{Node, width};
 use crate::places::exits::exits;
 use crate::places::look::{Context, holds};
 use crate::places::set::{any_mark, first_from, has_mark, insert_mark, next_copy};
-use logos_pattern::pattern::Range;
+use logos_hir::hir::Range;
 use std::alloc::AllocError;
 
 /// Whether the byte lies in one of the ranges.

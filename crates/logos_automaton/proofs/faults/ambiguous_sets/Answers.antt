@@ -1,5 +1,5 @@
 use Rattle.std.proofs.Common.{◌↔◌, ℕ, List, map, Contains, Vec, Global, Result, Ok, Err, IfOk, subst, sym}
-use Rattle.logos_pattern.specs.declared.leaf.LeafId.{LeafId}
+use Rattle.logos_hir.specs.declared.leaf.LeafId.{LeafId}
 use Rattle.logos_automaton.specs.DfaView.{dfa_of}
 use Rattle.logos_automaton.specs.Errors.{numbers}
 use Rattle.logos_automaton.specs.TopSets.{IsTopIn}

@@ -1,6 +1,6 @@
 use Rattle.std.proofs.Common.{◌≡◌, List, [], ◌∷◌, map, length, Vec, Global, refl, sym, ap, ◌∙◌, append-nil, arith}
 use Rattle.std.specs.Vec.Iter.{into_iter_items}
-use Rattle.logos_pattern.specs.declared.leaf.LeafId.{LeafId}
+use Rattle.logos_hir.specs.declared.leaf.LeafId.{LeafId}
 use Rattle.logos_automaton.specs.Errors.{fault_of, numbers}
 use Rattle.logos_automaton.specs.Faults.{Fault, disambiguation}
 use Rattle.logos_automaton.proofs.faults.disambiguations.Goals as goal

@@ -1,5 +1,5 @@
 use Rattle.std.proofs.Common.{◌≡◌, ℕ, List, map, Vec, Global, sym, ◌∙◌, subst, append-nil}
-use Rattle.logos_pattern.specs.declared.leaf.LeafId.{LeafId}
+use Rattle.logos_hir.specs.declared.leaf.LeafId.{LeafId}
 use Rattle.logos_automaton.specs.Errors.{numbers}
 use Rattle.logos_automaton.specs.Faults.{Ascends}
 use Rattle.logos_automaton.proofs.ambiguity.SetOrder.{ascends_by}

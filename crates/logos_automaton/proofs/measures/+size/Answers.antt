@@ -1,7 +1,7 @@
 use Rattle.std.proofs.Common.{◌≡◌, ◌+◌, map, drop, ap, sym, ◌∙◌, arith}
 use Rattle.std.proofs.lemmas.List.{at_drop_more}
-use Rattle.logos_pattern.specs.Tree.{trees}
-use Rattle.logos_pattern.specs.Hir.{tree_of}
+use Rattle.logos_hir.specs.Tree.{trees}
+use Rattle.logos_hir.specs.Hir.{tree_of}
 use Rattle.logos_places.specs.Size.{size, sizes}
 use Rattle.logos_automaton.proofs.measures.+size.Goals as goal
 

@@ -1,6 +1,6 @@
 use Rattle.std.proofs.Common.{◌≡◌, ℕ, ◌+◌, map, drop}
-use Rattle.logos_pattern.specs.Tree.{trees}
-use Rattle.logos_pattern.specs.Hir.{tree_of}
+use Rattle.logos_hir.specs.Tree.{trees}
+use Rattle.logos_hir.specs.Hir.{tree_of}
 use Rattle.logos_automaton.specs.Measures.{IsWithinLimit}
 use Rattle.logos_places.specs.Size.{sizes}
 use Rattle.logos_automaton.proofs.measures.+size.Given as goal

@@ -1,7 +1,7 @@
 use Rattle.std.proofs.Common.{[], ◌∷◌, List, if◌then◌else◌}
 use Rattle.logos_token.specs.Faults.{Fault as ListedFault}
 use Rattle.logos_token.specs.declared.error.fault_code.FaultCode.TheVariants.{Utf8Pattern}
-use Rattle.logos_pattern.specs.Measure.{is_text}
+use Rattle.logos_hir.specs.Measure.{is_text}
 use Rattle.logos_codegen.specs.Texts.{fault_at, utf8_text}
 use Rattle.logos_codegen.specs.Rules.{NamedRule, named_rule}
 use Rattle.logos_codegen.proofs.GiveLemmas.{adds_more}

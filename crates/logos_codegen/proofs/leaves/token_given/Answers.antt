@@ -1,5 +1,5 @@
 use Rattle.std.proofs.Common.{◌∙◌, ℕ, ◌*◌, List, length, Some, refl, ap}
-use Rattle.logos_pattern.specs.Hir.{literal_tree}
+use Rattle.logos_hir.specs.Hir.{literal_tree}
 use Rattle.logos_parser.specs.Values.{definition_value}
 use Rattle.logos_codegen.specs.Held.{held_in}
 use Rattle.logos_codegen.specs.Rules.{leaf_with, token}

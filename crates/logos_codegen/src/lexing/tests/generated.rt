@@ -7,7 +7,7 @@ use crate::refusal::Refusal;
 use logos_generator::code::Code;
 use logos_generator::generator::Config;
 use logos_generator::machine::{Action, Item, Lexer};
-use logos_pattern::leaf::LeafId;
+use logos_hir::leaf::LeafId;
 use logos_token::token::Span;
 use std::alloc::{AllocError, Global};
 use std::process::Abort;

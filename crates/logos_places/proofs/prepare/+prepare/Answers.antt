@@ -1,7 +1,7 @@
 use Rattle.std.proofs.Common.{◌≡◌, [], sym, ap, ◌∙◌, subst, arith, rules, map, drop, append-nil}
 use Rattle.std.proofs.lemmas.Result.{IfOk-weaker}
-use Rattle.logos_pattern.specs.Tree.{trees}
-use Rattle.logos_pattern.specs.Hir.{tree_of}
+use Rattle.logos_hir.specs.Tree.{trees}
+use Rattle.logos_hir.specs.Hir.{tree_of}
 use Rattle.logos_places.specs.inside.Joined.{AreCoresOf}
 use Rattle.logos_places.specs.Node.{core_of}
 use Rattle.logos_places.proofs.trees.IsCoreLemmas.{core_empty, core_look, core_literal}
@@ -9,7 +9,7 @@ use Rattle.logos_places.proofs.trees.NodeLemmas.{core-Void, core-Empty, core-Lit
 use Rattle.logos_places.proofs.trees.PartLemmas.{core_concat, core_alternation}
 use Rattle.logos_places.proofs.trees.RepetitionLemmas.{core_repetition, core_no_count, core_no_turn}
 use Rattle.logos_places.proofs.trees.PrepareLemmas.{tree-Empty, tree-Literal, tree-Look, tree-Concat, tree-Alternation, joined_parts, joined_branches, width_of-cores, stand_more, size_at, AreMeasured-push}
-use Rattle.logos_pattern.specs.declared.pattern.hir.Hir.{the_lemmas}
+use Rattle.logos_hir.specs.declared.hir.Hir.{the_lemmas}
 use Rattle.std.proofs.Math.ListN.{drop_of_length-le}
 use Rattle.logos_places.specs.Repeat.{IsOrdered}
 use Rattle.logos_places.proofs.prepare.+prepare.Goals as goal

@@ -1,6 +1,6 @@
 use Rattle.std.proofs.Common.{List, ◌++◌, map, drop}
-use Rattle.logos_pattern.specs.Tree.{trees}
-use Rattle.logos_pattern.specs.Hir.{tree_of}
+use Rattle.logos_hir.specs.Tree.{trees}
+use Rattle.logos_hir.specs.Hir.{tree_of}
 use Rattle.logos_places.specs.Core.{Core}
 use Rattle.logos_places.specs.inside.Joined.{AreCoresOf}
 use Rattle.logos_places.specs.Node.{core_of, AreMeasured}

@@ -1,5 +1,5 @@
 use Rattle.std.proofs.Common.{◌≡◌, ◌∙◌, arith}
-use Rattle.logos_pattern.specs.Hir.{pairs}
+use Rattle.logos_hir.specs.Hir.{pairs}
 use Rattle.logos_places.specs.Table.{reader_of}
 use Rattle.logos_places.proofs.trees.IsCoreLemmas.{core_bytes}
 use Rattle.logos_places.proofs.classes.ClassLemmas.{core_class}

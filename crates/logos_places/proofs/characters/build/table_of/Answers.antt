@@ -1,6 +1,6 @@
 use Rattle.std.proofs.Common.{◌≡◌, ℕ, Bool, IfOk, subst}
 use Rattle.std.proofs.Math.Path.{fun_ext}
-use Rattle.logos_pattern.specs.Hir.{pairs}
+use Rattle.logos_hir.specs.Hir.{pairs}
 use Rattle.logos_places.specs.Ranges.{in_ranges}
 use Rattle.logos_places.specs.Reader.{is_char_in, IsReaderOf}
 use Rattle.logos_places.specs.Table.{reader_of}

@@ -1,8 +1,8 @@
 use Rattle.std.proofs.Common.{Bool, ◌≡◌, ℕ, ◌+◌, ◌-◌, ◌*◌, ◌≤◌, false, true≢false, sym, ap, ◌∙◌, arith, rules}
 use Rattle.std.proofs.Math.Nat.{mul-le-mul_left}
 use Rattle.std.proofs.lemmas.Result.{IfOk-weaker}
-use Rattle.logos_pattern.specs.Hir.{pairs}
-use Rattle.logos_pattern.specs.declared.pattern.hir.Look.{Look}
+use Rattle.logos_hir.specs.Hir.{pairs}
+use Rattle.logos_hir.specs.declared.hir.Look.{Look}
 use Rattle.logos_places.specs.ByteRanges.{is_in}
 use Rattle.logos_places.specs.Core as core
 use Rattle.logos_places.specs.Core.{Core, width}

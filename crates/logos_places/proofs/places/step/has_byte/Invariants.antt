@@ -1,5 +1,5 @@
 use Rattle.std.proofs.Common.{◌≡◌, drop}
-use Rattle.logos_pattern.specs.Hir.{pairs}
+use Rattle.logos_hir.specs.Hir.{pairs}
 use Rattle.logos_places.specs.ByteRanges.{is_in}
 use Rattle.logos_places.proofs.places.step.has_byte.Given as goal
 

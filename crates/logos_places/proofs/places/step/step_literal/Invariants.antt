@@ -1,7 +1,7 @@
 use Rattle.std.proofs.Common.{◌+◌, ◌-◌, ◌≤◌, Bool, false, length, drop}
 use Rattle.logos_places.specs.Repeat.{spelled}
 use Rattle.logos_places.specs.inside.Stepped.{Owes}
-use Rattle.logos_pattern.specs.declared.pattern.hir.Look.{Look}
+use Rattle.logos_hir.specs.declared.hir.Look.{Look}
 use Rattle.logos_places.proofs.places.step.step_literal.Given as goal
 
 abbrev pub invariant-loop-done : goal.invariant-loop-done
