@@ -4,7 +4,7 @@
 # letters, blanks alone, and operators of one byte alone. Prints a table of megabytes a second and of the
 # ratios to flex. Of ten runs, taken in turns, the fastest of each counts.
 #
-# It needs flex, re2c and gcc, as in `apt-get install flex re2c gcc`. The program of bench/lexer is
+# It needs flex, re2c, gcc and python3, as in `apt-get install flex re2c gcc python3`. The program of bench/lexer is
 # built in a copy of the repository as `rt run` builds it, so the crates are proved first, where they
 # are not already. Its source does not end in .rt here, since the gate refuses such files outside the
 # crates.
@@ -27,6 +27,7 @@ done
 
 tar -C "$bench/.." --exclude=out -cf - crates crates.txt HANDLES | tar -C "$copy" -xf -
 for crate in "$bench"/../crates/*/out; do
+    [ -d "$crate" ] || continue
     name=$(basename "$(dirname "$crate")")
     cp -R "$crate" "$copy/crates/$name/out"
 done
