@@ -1,12 +1,12 @@
--- What contracts see of a graph, of the automaton it was made from, and of leaves.
-use Rattle.std.specs.Prelude.{◌≡◌, ℕ, ◌<◌, ◌≤◌, ◌↔◌, ◌⊎◌, Bool, List, [], ◌∷◌, ◌++◌, map, length, Option, None, Some, IsFalse, Contains, slice_get, option_and_then}
-use Rattle.std.specs.List.Sorted.{IsStrictlyIncreasing}
+-- What contracts see of a graph and of its leaves.
+use Rattle.std.specs.Prelude.{Bool, List, map}
 use Rattle.logos_pattern.specs.Leaf.{pattern_tree, is_skip, asks}
 use Rattle.logos_hir.specs.Text.{IsBytes}
-use Rattle.logos_automaton.specs.Munch.{Rule, RuleMatches}
+use Rattle.logos_automaton.specs.Munch.{Rule}
 use Rattle.logos_graph.specs.Graph.{GraphState}
-use Rattle.logos_automaton.specs.Faults.{Fault, some_leads, some_passable}
+use Rattle.logos_automaton.specs.Faults.{Fault}
 use Rattle.logos_pattern.specs.declared.leaf.Leaf.{Leaf}
+use Rattle.logos_automaton.specs.Automaton.{Automaton}
 
 -- the rule that a leaf stands for
 abbrev pub rule_of : Leaf → Rule
