@@ -11,9 +11,6 @@ pub mod bodies;
 pub mod characters;
 pub mod ends;
 pub mod openings;
-#[cfg(test)]
-mod tests;
-
 use bodies::is_sound;
 use characters::past;
 use ends::{end_of, suffix_end};

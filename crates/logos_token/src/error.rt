@@ -2,9 +2,6 @@
 
 mod fault_code;
 mod rendering;
-#[cfg(test)]
-mod tests;
-
 use crate::token::Span;
 pub use fault_code::FaultCode;
 use std::alloc::{AllocError, AllocFailed, Global};

@@ -5,8 +5,6 @@ mod laws;
 mod literal_text;
 mod printing;
 mod reader;
-#[cfg(test)]
-mod tests;
 mod value;
 mod views;
 

@@ -3,9 +3,6 @@ ghost use Rattle.std.specs.Prelude.{◌≡◌};
 ghost use Rattle.logos_token.specs.Views.{tree_of};
 ghost use Rattle.logos_token.specs.Punctuation.{is_alone, unless_alone};
 
-#[cfg(test)]
-mod tests;
-
 use crate::error::Memory;
 use crate::token::{Ident, Spacing, Span, TokenStream, TokenTree, print};
 use std::alloc::Global;

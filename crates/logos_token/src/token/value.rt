@@ -9,9 +9,6 @@ ghost use Rattle.logos_token.specs.LiteralValues.{IsValue};
 ghost use Rattle.logos_token.specs.inside.ValueReads.{IsHeld};
 ghost use Rattle.logos_token.specs.Held.{held, held_value};
 
-#[cfg(test)]
-mod tests;
-
 use crate::error::Memory;
 use crate::token::Literal;
 use logos_lexeme::lexeme::bodies::{Piece, piece_at};

@@ -1,5 +1,6 @@
-use super::lexeme::LexicalKind;
-use super::{Spacing, Span, TokenError, TokenTree, Tokens, print, tokenize};
+use logos_token::token::{
+    LexicalKind, Spacing, Span, TokenError, TokenTree, Tokens, print, tokenize,
+};
 use std::alloc::{AllocError, Global};
 use std::process::Abort;
 use std::test::Fail;

@@ -1,5 +1,5 @@
-use super::{Errors, FaultCode, Memory, SpannedError};
-use crate::token::Span;
+use logos_token::error::{Errors, FaultCode, Memory, SpannedError};
+use logos_token::token::Span;
 use std::alloc::Global;
 use std::process::Abort;
 use std::test::Fail;

@@ -1,7 +1,8 @@
 //! Values by example; they are read off the rules of the language.
 
-use super::*;
-use crate::token::Span;
+use logos_token::error::Memory;
+use logos_token::token::{Literal, LiteralValue, Span};
+use std::alloc::Global;
 use std::process::Abort;
 use std::test::Fail;
 

@@ -1,5 +1,5 @@
-use super::{MaybeVoid, ToIdent, expect_punct, is_punct};
-use crate::token::{Ident, Span, TokenStream, Tokens, print, tokenize};
+use logos_token::token::{Ident, Span, TokenStream, Tokens, print, tokenize};
+use logos_token::util::{MaybeVoid, ToIdent, expect_punct, is_punct};
 use std::alloc::Global;
 use std::test::Fail;
 

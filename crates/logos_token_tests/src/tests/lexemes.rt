@@ -1,6 +1,6 @@
 //! Lexemes by example; the expected values are read off the rules of the language.
 
-use super::*;
+use logos_lexeme::lexeme::{Delimiter, Kind, LexicalKind, Spacing, Span, lexeme_at};
 use std::alloc::{AllocError, Global};
 use std::process::Abort;
 use std::test::Fail;

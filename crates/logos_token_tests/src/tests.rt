@@ -1,0 +1,7 @@
+//! What the public calls answer, by example.
+
+mod faults;
+mod helpers;
+mod lexemes;
+mod tokens;
+mod values;
