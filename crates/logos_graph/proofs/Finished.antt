@@ -102,7 +102,7 @@ module _ (raw : Table) (root : ℕ) (reduction : Reduction) (made : IsReductionO
     module _ (rules : List Rule) (start : AllStart rules) (reads : MarksOneByteLate rules (edges raw) root) where
       pub walk_finds : (utf8 : Bool) (bytes : List ℕ) (from : ℕ) → IsBytes bytes → (found : Found) → WalkFinds (edges_of graph) 0 utf8 bytes from found ↔ Finds rules utf8 bytes from found
       walk_finds utf8 bytes from ok found =
-          let h = finds_the_longest rules start (edges raw) root reads (edges mid).type_of settled late_end (edges pruned) pruned_edges
+          let h = finds_the_longest rules start (edges raw) root reads (edges mid).type_of settled (end.late_end raw root reduction made is_raw) (edges pruned) pruned_edges
           IsIn number (edges_of graph) whole_map root_is.0 utf8 bytes from ok found in
           subst (λ (s : ℕ). WalkFinds (edges_of graph) s utf8 bytes from found ↔ Finds rules utf8 bytes from found) root_is.1 h
 

@@ -32,7 +32,7 @@ module _ {S : Type 0} (g : Edges S) where
   -- no beginning of the rest that leads on goes beyond the place
   abbrev pub Covers : S → List ℕ → ℕ → ℕ → Type 0
   Covers s [] at to = Unit {0}
-  Covers s (b ∷ rest) at to = (t : S) → g.next s b ≡ Some t → Leads t → (at + 1 ≤ to) × Covers t rest (at + 1) to
+  Covers s (b ∷ rest) at to = (t : S) → g.next s b ≡ Some t → Leads g t → (at + 1 ≤ to) × Covers t rest (at + 1) to
 
 module _ {S : Type 0} (g : Edges S) (root : S) (utf8 : Bool) (bytes : List ℕ) (from : ℕ) where
   -- An error may end here: behind a byte, behind all bytes that can be followed, and in UTF-8 mode
