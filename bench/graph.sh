@@ -12,12 +12,12 @@ bench=$(cd "$(dirname "${BASH_SOURCE[0]}")" && pwd)
 copy=$(mktemp -d)
 trap 'rm -rf "$copy"' EXIT
 tar -C "$bench/.." --exclude=out -cf - crates crates.txt HANDLES | tar -C "$copy" -xf -
-for name in logos_token logos_pattern logos_graph; do
+for name in logos_lexeme logos_token logos_pattern logos_graph; do
     if [ -d "$bench/../crates/$name/out" ]; then
         cp -R "$bench/../crates/$name/out" "$copy/crates/$name/out"
     fi
 done
-echo "graph_bench: logos_graph logos_pattern logos_token" >> "$copy/crates.txt"
+echo "graph_bench: logos_graph logos_lexeme logos_pattern logos_token" >> "$copy/crates.txt"
 crate="$copy/crates/graph_bench"
 mkdir -p "$crate/src" "$crate/specs" "$crate/proofs"
 touch "$crate/specs/Lib.antt" "$crate/proofs/Lib.antt"
