@@ -12,9 +12,11 @@ bench=$(cd "$(dirname "${BASH_SOURCE[0]}")" && pwd)
 copy=$(mktemp -d)
 trap 'rm -rf "$copy"' EXIT
 tar -C "$bench/.." --exclude=out -cf - crates crates.txt HANDLES | tar -C "$copy" -xf -
-if [ -d "$bench/../crates/logos_token/out" ]; then
-    cp -R "$bench/../crates/logos_token/out" "$copy/crates/logos_token/out"
-fi
+for name in logos_lexeme logos_token; do
+    if [ -d "$bench/../crates/$name/out" ]; then
+        cp -R "$bench/../crates/$name/out" "$copy/crates/$name/out"
+    fi
+done
 echo "tokenize_bench: logos_token" >> "$copy/crates.txt"
 crate="$copy/crates/tokenize_bench"
 mkdir -p "$crate/src" "$crate/specs" "$crate/proofs"

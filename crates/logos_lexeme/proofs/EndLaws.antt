@@ -8,7 +8,7 @@ use Rattle.unicode_ident.proofs.IdentLemmas.{is_xid_start-ascii}
 use Rattle.logos_lexeme.specs.LexemeCharacters.{character, past, is_space, is_start, is_continuing}
 use Rattle.logos_lexeme.specs.LexemeRuns.{Steps, here, step, Run, IsFirst, Passes}
 use Rattle.logos_lexeme.specs.LexemeOpenings.{name_at, prefix_of}
-use Rattle.logos_lexeme.specs.LexemeEnds.{IsLineEnd, IsPair, Closes, closed, opens, closes, inside, IsName, IsSuffix, is_based, GoesOn, letter, point, sign, InQuotes, escaped, plain, ReachesQuote, IsQuoted, IsRaw, IsCharacter, Ends}
+use Rattle.logos_lexeme.specs.LexemeEnds.{IsLineEnd, IsPair, Closes, closed, opens, closes, inside, IsName, IsSuffix, has_base, GoesOn, letter, point, sign, InQuotes, escaped, plain, ReachesQuote, IsQuoted, IsRaw, IsCharacter, Ends}
 use Rattle.logos_lexeme.specs.inside.CommentReads.{IsOnward}
 use Rattle.logos_lexeme.specs.declared.lexeme.openings.Opening.{Opening}
 use Rattle.logos_lexeme.specs.declared.lexeme.openings.Opening.TheVariants.{Space, Line, Block, Word, Number, Quotes, Raw, Apostrophes, Character, Single, Nothing}
@@ -315,7 +315,7 @@ Ends-one bytes from Space a b p q = run-one is_space bytes (past bytes from) a b
 Ends-one bytes from (Line kind) a b p q = line-one bytes (from + 2) a b p q
 Ends-one bytes from (Block kind) a b p q = Closes-one bytes 1 (from + 2) a b p q
 Ends-one bytes from Word a b p q = IsName-one bytes from a b p q
-Ends-one bytes from Number a b p q = number-one (is_based bytes from) bytes (past bytes from) a b p q
+Ends-one bytes from Number a b p q = number-one (has_base bytes from) bytes (past bytes from) a b p q
 Ends-one bytes from (Quotes content) a b p q = quotes-one bytes (from + prefix_of content + 1) a b p q
 Ends-one bytes from (Raw content count) a b p q = IsRaw-one count bytes (from + prefix_of content + 1 + count + 1) a b p q
 Ends-one bytes from (Apostrophes content) a b p q = apostrophes-one bytes (from + prefix_of content + 1) a b p q
@@ -333,7 +333,7 @@ Ends-after bytes from Space to p = omega (arith, past-moves bytes from, run-le i
 Ends-after bytes from (Line kind) to p = omega (arith, p.begun)
 Ends-after bytes from (Block kind) to p = omega (arith, Closes-le bytes 1 (from + 2) to p)
 Ends-after bytes from Word to p = IsName-after bytes from to p
-Ends-after bytes from Number to p = omega (arith, past-moves bytes from, Steps-le (GoesOn (is_based bytes from) bytes) (GoesOn-moves (is_based bytes from) bytes) p.steps)
+Ends-after bytes from Number to p = omega (arith, past-moves bytes from, Steps-le (GoesOn (has_base bytes from) bytes) (GoesOn-moves (has_base bytes from) bytes) p.steps)
 Ends-after bytes from (Quotes content) to p = omega (arith, IsQuoted-after 34 bytes (from + prefix_of content + 1) to p)
 Ends-after bytes from (Raw content count) to p = omega (arith, p.behind, p.first.begun)
 Ends-after bytes from (Apostrophes content) to p = omega (arith, IsQuoted-after 39 bytes (from + prefix_of content + 1) to p)
@@ -373,7 +373,7 @@ module _ (bytes : List ℕ) (utf8 : IsUtf8 bytes) where
   Ends-boundary from within bound (Line kind) to p = line-boundary to p.holds
   Ends-boundary from within bound (Block kind) to p = let e = Closes-slash bytes 1 (from + 2) to p (omega arith) in boundary-behind bytes utf8 (to - 1) to (omega arith) (omega arith) (omega (arith, Closes-le bytes 1 (from + 2) to p))
   Ends-boundary from within bound Word to p = IsName-boundary bytes from utf8 bound to p
-  Ends-boundary from within bound Number to p = Steps-keep (GoesOn (is_based bytes from) bytes) (IsCharBoundary bytes) (step-boundary (is_based bytes from)) p.steps (past-boundary bytes from utf8 bound within)
+  Ends-boundary from within bound Number to p = Steps-keep (GoesOn (has_base bytes from) bytes) (IsCharBoundary bytes) (step-boundary (has_base bytes from)) p.steps (past-boundary bytes from utf8 bound within)
   Ends-boundary from within bound (Quotes content) to p = quoted-boundary 34 (from + prefix_of content + 1) to (omega arith) (omega arith) p
   Ends-boundary from within bound (Raw content count) to p = raw-boundary count (from + prefix_of content + 1 + count + 1) to p
   Ends-boundary from within bound (Apostrophes content) to p = quoted-boundary 39 (from + prefix_of content + 1) to (omega arith) (omega arith) p

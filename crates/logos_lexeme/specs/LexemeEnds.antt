@@ -34,8 +34,8 @@ abbrev pub IsSuffix : List ℕ → ℕ → ℕ → Type 0
 IsSuffix bytes at to = MatchOption (name_at bytes at) (to ≡ at) (λ name. Run (Passes is_continuing bytes) (past bytes name) to)
 
 -- whether a number starts with `0x`, `0o` or `0b`
-unfoldable pub is_based : List ℕ → ℕ → Bool
-is_based bytes at =
+unfoldable pub has_base : List ℕ → ℕ → Bool
+has_base bytes at =
     let letter = slice_index bytes (at + 1) in
     (slice_index bytes at == 48) && ((letter == 120) || (letter == 111) || (letter == 98))
 
@@ -89,7 +89,7 @@ Ends bytes from Space to = Run (Passes is_space bytes) (past bytes from) to
 Ends bytes from (Line kind) to = IsFirst (IsLineEnd bytes) (from + 2) to
 Ends bytes from (Block kind) to = Closes bytes 1 (from + 2) to
 Ends bytes from Word to = IsName bytes from to
-Ends bytes from Number to = Run (GoesOn (is_based bytes from) bytes) (past bytes from) to
+Ends bytes from Number to = Run (GoesOn (has_base bytes from) bytes) (past bytes from) to
 Ends bytes from (Quotes content) to = IsQuoted 34 bytes (from + prefix_of content + 1) to
 Ends bytes from (Raw content count) to = IsRaw count bytes (from + prefix_of content + 1 + count + 1) to
 Ends bytes from (Apostrophes content) to = IsQuoted 39 bytes (from + prefix_of content + 1) to

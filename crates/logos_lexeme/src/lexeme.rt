@@ -11,6 +11,7 @@ pub mod bodies;
 pub mod characters;
 pub mod ends;
 pub mod openings;
+
 use bodies::is_sound;
 use characters::past;
 use ends::{end_of, suffix_end};
@@ -19,22 +20,29 @@ use openings::{Opening, kind_of, opening_at};
 /// The bytes of the source from `from` up to `to`, which it leaves out.
 #[derive(Clone, Copy, Debug, PartialEq, Eq)]
 pub struct Span {
+    /// The byte offset of the first byte.
     pub from: usize,
+    /// The byte offset behind the last byte.
     pub to: usize,
 }
 
 /// Whether another punctuation follows directly.
 #[derive(Clone, Copy, Debug, PartialEq, Eq)]
 pub enum Spacing {
+    /// No other punctuation follows directly.
     Alone,
+    /// Another one follows directly, or the name of a lifetime does.
     Joint,
 }
 
 /// What encloses a group.
 #[derive(Clone, Copy, Debug, PartialEq, Eq)]
 pub enum Delimiter {
+    /// `(` and `)`.
     Parenthesis,
+    /// `[` and `]`.
     Bracket,
+    /// `{` and `}`.
     Brace,
 }
 

@@ -12,5 +12,6 @@ pub mod Refusals
 pub mod FaultNames
 pub mod Faults
 pub mod FaultView
+pub mod EscapedTexts
 pub mod Rendering
 pub mod inside

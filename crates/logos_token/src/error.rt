@@ -2,6 +2,7 @@
 
 mod fault_code;
 mod rendering;
+
 use crate::token::Span;
 pub use fault_code::FaultCode;
 use std::alloc::{AllocError, AllocFailed, Global};
@@ -77,7 +78,12 @@ impl Errors {
 
     /// Adds a fault at the end. After an error the faults are as before.
     pub fn err(&mut self, code: FaultCode, message: &str, span: Span) -> Result<(), Memory>
-        ensures ok { OnOk result (self.new ≡ self.old ++ (record { code = code; message = message.now; span = span; also = None }) ∷ []) }
+        ensures ok { OnOk result (self.new ≡ self.old ++ (record {
+          code = code;
+          message = message.now;
+          span = span;
+          also = None;
+        }) ∷ []) }
         ensures err { OnErr result (self.new ≡ self.old) }
     {
         self.add(code, message, span, None)
@@ -91,7 +97,12 @@ impl Errors {
         span: Span,
         also: Span,
     ) -> Result<(), Memory>
-        ensures ok { OnOk result (self.new ≡ self.old ++ (record { code = code; message = message.now; span = span; also = Some also }) ∷ []) }
+        ensures ok { OnOk result (self.new ≡ self.old ++ (record {
+          code = code;
+          message = message.now;
+          span = span;
+          also = Some also;
+        }) ∷ []) }
         ensures err { OnErr result (self.new ≡ self.old) }
     {
         self.add(code, message, span, Some(also))
@@ -104,6 +115,7 @@ impl Errors {
         &self.collected
     }
 
+    /// Adds a fault at the end. After an error the faults are as before.
     fn add(
         &mut self,
         code: FaultCode,
@@ -111,7 +123,12 @@ impl Errors {
         span: Span,
         also: Option<Span>,
     ) -> Result<(), Memory>
-        ensures ok { OnOk result (self.new ≡ self.old ++ (record { code = code; message = message.now; span = span; also = also }) ∷ []) }
+        ensures ok { OnOk result (self.new ≡ self.old ++ (record {
+          code = code;
+          message = message.now;
+          span = span;
+          also = also;
+        }) ∷ []) }
         ensures err { OnErr result (self.new ≡ self.old) }
     {
         let message = String::from_str(self.alloc, message)?;

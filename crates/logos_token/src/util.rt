@@ -3,8 +3,11 @@ ghost use Rattle.std.specs.Prelude.{◌≡◌};
 ghost use Rattle.logos_token.specs.Views.{tree_of};
 ghost use Rattle.logos_token.specs.Punctuation.{is_alone, unless_alone};
 
+mod escaping;
+
 use crate::error::Memory;
 use crate::token::{Ident, Spacing, Span, TokenStream, TokenTree, print};
+pub use escaping::push_escaped;
 use std::alloc::Global;
 use std::mem;
 
@@ -80,8 +83,8 @@ impl<'s> MaybeVoid<'s> {
         mem::replace(self, MaybeVoid::Void)
     }
 
-    /// The text of the tokens, as `print` gives it; that of `()` where there are none. It fails only
-    /// where there is no memory.
+    /// The text of the tokens, as `print` gives it; that of `()` where there are none. It fails
+    /// only where there is no memory.
     pub fn print(&self, alloc: Global) -> Result<String, Memory>
         ensures { IfOk result (λ text. string_bytes text ≡ maybe_printed self.now) }
     {

@@ -1,5 +1,5 @@
-//! Tests of `logos_lexeme` and `logos_token` that ask their public calls. They stand in a crate of their
-//! own, so that the crates that they ask are proved once less.
+//! Tests of `logos_lexeme` and `logos_token` that ask their public calls. They stand in a crate of
+//! their own, so that the crates that they ask are proved once less.
 
 #![tactic(auto)]
 

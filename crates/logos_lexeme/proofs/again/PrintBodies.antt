@@ -6,7 +6,7 @@ use Rattle.std.specs.Str.{IsCharBoundary}
 use Rattle.unicode_ident.proofs.IdentLemmas.{is_xid_continue-ascii, is_xid_start-is_xid_continue}
 use Rattle.logos_lexeme.specs.LexemeCharacters.{character, past, is_start, is_continuing}
 use Rattle.logos_lexeme.specs.LexemeRuns.{Steps, here, step, IsLast, Run, IsFirst, Passes}
-use Rattle.logos_lexeme.specs.LexemeEnds.{IsSuffix, is_based, GoesOn, letter, point, sign}
+use Rattle.logos_lexeme.specs.LexemeEnds.{IsSuffix, has_base, GoesOn, letter, point, sign}
 use Rattle.logos_lexeme.specs.LexemeOpenings.{name_at}
 use Rattle.logos_lexeme.specs.LiteralBodies.{is_simple, is_hex, digits_between, is_blank, BreaksLine, IsHexEscape, IsUnicodeEscape, IsEscape, simple, hex, unicode, IsContinuation, IsAllowed, plain, return, escape, continuation, IsPiece, IsCharacterPiece, unescaped, escaped}
 use Rattle.logos_lexeme.specs.declared.lexeme.openings.Content.{Content}
@@ -212,8 +212,8 @@ module _ (a b : List ℕ) (p q k : ℕ) (w : Window a b p q k) where
     | inl r ↦ elim (or_cases (c == 120) (c == 111) r) [ inl f ↦ let g = eqb-true c 120 f in omega arith | inr f ↦ let g = eqb-true c 111 f in omega arith ]
   ]
 
-  no_base : (based : Bool) → IsLast (GoesOn based a) (p + 1) → is_based a p ≡ false
-  unfolding is_based
+  no_base : (based : Bool) → IsLast (GoesOn based a) (p + 1) → has_base a p ≡ false
+  unfolding has_base
   no_base based last =
       let c = get_or a (p + 1) 0 in
       let t = (get_or a p 0 == 48) && (((c == 120) || (c == 111)) || (c == 98)) in
@@ -223,17 +223,17 @@ module _ (a b : List ℕ) (p q k : ℕ) (w : Window a b p q k) where
         | inr e ↦ e
       ]
 
-  base_blank : q + 1 ≡ q + k → is_based b q ≡ false
-  unfolding is_based
+  base_blank : q + 1 ≡ q + k → has_base b q ≡ false
+  unfolding has_base
   base_blank e = rw (blank_fails a b p q k w (λ c. c == 120) refl refl refl (q + 1) e, blank_fails a b p q k w (λ c. c == 111) refl refl refl (q + 1) e, blank_fails a b p q k w (λ c. c == 98) refl refl refl (q + 1) e)
       (elim (cases_Bool (get_or b q 0 == 48)) [ inl f ↦ rw f refl | inr f ↦ rw f refl ])
 
-  base_inside : p + 1 < p + k → is_based b q ≡ is_based a p
-  unfolding is_based
+  base_inside : p + 1 < p + k → has_base b q ≡ has_base a p
+  unfolding has_base
   base_inside l = rw (w.same p q (omega arith) (omega arith) (omega arith), w.same (p + 1) (q + 1) (omega arith) (omega arith) l) refl
 
-  pub based_same : IsLast (GoesOn (is_based a p) a) (p + k) → is_based b q ≡ is_based a p
+  pub based_same : IsLast (GoesOn (has_base a p) a) (p + k) → has_base b q ≡ has_base a p
   based_same last = elim (cases_lt (p + 1) (p + k)) [
     | inl l ↦ base_inside l
-    | inr l ↦ let e : p + k ≡ p + 1 = omega (arith, w.filled) in base_blank (omega arith) ∙ sym (no_base (is_based a p) (subst (IsLast (GoesOn (is_based a p) a)) e last))
+    | inr l ↦ let e : p + k ≡ p + 1 = omega (arith, w.filled) in base_blank (omega arith) ∙ sym (no_base (has_base a p) (subst (IsLast (GoesOn (has_base a p) a)) e last))
   ]

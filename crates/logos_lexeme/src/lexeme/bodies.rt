@@ -85,7 +85,8 @@ fn hex_escape(source: &str, content: Content, at: usize) -> Option<u8>
     requires letter { slice_index source.now (at + 1) ≡ 120 }
     ensures { MatchOption result
         (IsHexEscape content source.now at → ⊥)
-        (λ value. IsHexEscape content source.now at × (value ≡ hex_value (slice_range source.now (at + 2) (at + 4)))) }
+        (λ value. IsHexEscape content source.now at
+        × (value ≡ hex_value (slice_range source.now (at + 2) (at + 4)))) }
 {
     let first = digit_of(byte_at(source, at + 2))?;
     let second = digit_of(byte_at(source, at + 3))?;
@@ -107,7 +108,9 @@ fn is_digit_or_line(byte: u8) -> bool
 fn digits_end(source: &str, from: usize) -> usize
     requires { from ≤ length source.now }
     ensures within { result ≤ length source.now }
-    ensures first { IsFirst (λ i. IsFalse (is_hex (slice_index source.now i) || (slice_index source.now i == 95))) from result }
+    ensures first { IsFirst (λ i.
+        IsFalse (is_hex (slice_index source.now i) || (slice_index source.now i == 95)))
+        from result }
 {
     let mut end = from;
     while end < source.len() && is_digit_or_line(byte_at(source, end)) {
@@ -150,7 +153,8 @@ fn number_between(source: &str, from: usize, to: usize) -> Option<u32>
     requires within { to ≤ length source.now }
     ensures { MatchOption result
         (6 < length (digits_between source.now from to))
-        (λ number. (length (digits_between source.now from to) ≤ 6) × (number ≡ hex_value (digits_between source.now from to))) }
+        (λ number. (length (digits_between source.now from to) ≤ 6)
+        × (number ≡ hex_value (digits_between source.now from to))) }
 {
     let mut digits = Digits { count: 0, value: 0 };
     for at in from..to {
@@ -166,7 +170,8 @@ fn unicode_escape(source: &str, at: usize) -> Option<(char, usize)>
     requires letter { slice_index source.now (at + 1) ≡ 117 }
     ensures { MatchOption result
         ((brace : ℕ) → IsUnicodeEscape source.now at brace → ⊥)
-        (λ found. IsUnicodeEscape source.now at found.1 × (found.0 ≡ hex_value (digits_between source.now (at + 3) found.1))) }
+        (λ found. IsUnicodeEscape source.now at found.1
+        × (found.0 ≡ hex_value (digits_between source.now (at + 3) found.1))) }
 {
     if byte_at(source, at + 2) != b'{' {
         return None;
@@ -283,7 +288,7 @@ pub fn piece_at(source: &str, escapes: bool, content: Content, at: usize) -> Opt
 }
 
 /// Whether pieces of a string fill the span.
-fn is_filled(source: &str, escapes: bool, content: Content, from: usize, to: usize) -> bool
+fn is_body(source: &str, escapes: bool, content: Content, from: usize, to: usize) -> bool
     requires { to ≤ length source.now }
     ensures { IsTrue result ↔ Steps (IsPiece escapes content source.now) from to }
 {
@@ -336,7 +341,7 @@ pub(crate) fn is_sound(source: &str, from: usize, opens: Opening, end: usize) ->
 {
     match opens {
         Opening::Quotes(content) => {
-            is_filled(
+            is_body(
                 source,
                 true,
                 content,
@@ -347,7 +352,7 @@ pub(crate) fn is_sound(source: &str, from: usize, opens: Opening, end: usize) ->
         Opening::Raw(content, count) => {
             let hashes = count as usize;
             let body = from + prefix_of(content) + 1 + hashes + 1;
-            is_filled(source, false, content, body, end - 1 - hashes)
+            is_body(source, false, content, body, end - 1 - hashes)
         }
         Opening::Apostrophes(content) => {
             is_character(source, content, from + prefix_of(content) + 1, end - 1)

@@ -5,7 +5,7 @@ ghost use Rattle.std.specs.Str.{IsCharBoundary};
 ghost use Rattle.logos_lexeme.specs.LexemeCharacters.{past, is_space, is_continuing};
 ghost use Rattle.logos_lexeme.specs.LexemeRuns.{Run, IsFirst, Passes};
 ghost use Rattle.logos_lexeme.specs.LexemeOpenings.{opening_at, prefix_of};
-ghost use Rattle.logos_lexeme.specs.LexemeEnds.{IsLineEnd, Closes, IsName, IsSuffix, is_based, GoesOn, ReachesQuote, IsRawEnd, IsQuoted, IsRaw, Ends};
+ghost use Rattle.logos_lexeme.specs.LexemeEnds.{IsLineEnd, Closes, IsName, IsSuffix, has_base, GoesOn, ReachesQuote, IsRawEnd, IsQuoted, IsRaw, Ends};
 ghost use Rattle.logos_lexeme.specs.inside.CommentReads.{IsOnward};
 
 use crate::lexeme::characters::{byte_at, char_at, is_continuing, is_space, past};
@@ -37,10 +37,10 @@ fn letters_end(source: &str, from: usize) -> usize
 }
 
 /// Whether a number that begins here starts with a base.
-#[tactic(auto, unfolding(crate::specs::LexemeEnds::is_based))]
-fn is_based(source: &str, from: usize) -> bool
+#[tactic(auto, unfolding(crate::specs::LexemeEnds::has_base))]
+fn has_base(source: &str, from: usize) -> bool
     requires { from < length source.now }
-    ensures { result ≡ is_based source.now from }
+    ensures { result ≡ has_base source.now from }
 {
     let letter = byte_at(source, from + 1);
     (byte_at(source, from) == b'0') & ((letter == b'x') | (letter == b'o') | (letter == b'b'))
@@ -51,7 +51,9 @@ fn number_step(source: &str, based: bool, at: usize) -> Option<usize>
     requires inside { at < length source.now }
     requires boundary { IsCharBoundary source.now at }
     requires begun { 0 < at }
-    ensures { MatchOption result ((next : ℕ) → GoesOn based source.now at next → ⊥) (GoesOn based source.now at) }
+    ensures { MatchOption result
+        ((next : ℕ) → GoesOn based source.now at next → ⊥)
+        (GoesOn based source.now at) }
 {
     if is_continuing(char_at(source, at)) {
         return Some(past(source, at));
@@ -138,7 +140,9 @@ fn block_step(source: &str, depth: usize, at: usize) -> Option<(usize, usize)>
 /// Where a block comment ends, from behind its `/*` on.
 fn block_end(source: &str, from: usize) -> Option<usize>
     requires { from ≤ length source.now + 2 }
-    ensures { MatchOption result ((to : ℕ) → Closes source.now 1 from to → ⊥) (Closes source.now 1 from) }
+    ensures { MatchOption result
+        ((to : ℕ) → Closes source.now 1 from to → ⊥)
+        (Closes source.now 1 from) }
 {
     let mut depth = 1;
     let mut at = from;
@@ -178,7 +182,7 @@ fn quote_at(source: &str, quote: u8, from: usize) -> Option<usize>
 }
 
 /// Where a literal ends that ends with an unescaped quote.
-fn quoted_end(source: &str, quote: u8, body: usize) -> Option<usize>
+fn quote_end(source: &str, quote: u8, body: usize) -> Option<usize>
     requires visible { 0 < quote }
     requires no_backslash { quote ≢ 92 }
     ensures { MatchOption result
@@ -224,7 +228,9 @@ fn raw_end(source: &str, count: u8, body: usize) -> Option<usize>
 /// Where an identifier ends.
 fn name_end(source: &str, at: usize) -> Option<usize>
     requires { IsCharBoundary source.now at }
-    ensures { MatchOption result ((to : ℕ) → IsName source.now at to → ⊥) (IsName source.now at) }
+    ensures { MatchOption result
+        ((to : ℕ) → IsName source.now at to → ⊥)
+        (IsName source.now at) }
 {
     let name = name_at(source, at)?;
     Some(letters_end(source, past(source, name)))
@@ -257,7 +263,9 @@ pub fn end_of(source: &str, from: usize, opens: Opening) -> Option<usize>
     requires inside { from < length source.now }
     requires boundary { IsCharBoundary source.now from }
     requires found { opens ≡ opening_at source.now from }
-    ensures { MatchOption result ((to : ℕ) → Ends source.now from opens to → ⊥) (Ends source.now from opens) }
+    ensures { MatchOption result
+        ((to : ℕ) → Ends source.now from opens to → ⊥)
+        (Ends source.now from opens) }
 {
     match opens {
         Opening::Space => Some(spaces_end(source, past(source, from))),
@@ -265,10 +273,10 @@ pub fn end_of(source: &str, from: usize, opens: Opening) -> Option<usize>
         Opening::Block(_) => block_end(source, from + 2),
         Opening::Word => name_end(source, from),
         Opening::Number => {
-            let based = is_based(source, from);
+            let based = has_base(source, from);
             Some(number_end(source, based, past(source, from)))
         }
-        Opening::Quotes(content) => quoted_end(source, b'"', from + prefix_of(content) + 1),
+        Opening::Quotes(content) => quote_end(source, b'"', from + prefix_of(content) + 1),
         Opening::Raw(content, count) => {
             raw_end(
                 source,
@@ -276,7 +284,7 @@ pub fn end_of(source: &str, from: usize, opens: Opening) -> Option<usize>
                 from + prefix_of(content) + 2 + count as usize,
             )
         }
-        Opening::Apostrophes(content) => quoted_end(source, b'\'', from + prefix_of(content) + 1),
+        Opening::Apostrophes(content) => quote_end(source, b'\'', from + prefix_of(content) + 1),
         Opening::Character => Some(past(source, from + 1) + 1),
         Opening::Single(_) => Some(past(source, from)),
         Opening::Nothing => None,

@@ -6,7 +6,7 @@ use Rattle.logos_lexeme.specs.declared.lexeme.Delimiter.{Delimiter}
 use Rattle.logos_lexeme.specs.declared.lexeme.Delimiter.TheVariants.{Parenthesis, Bracket, Brace}
 use Rattle.logos_lexeme.specs.declared.lexeme.Kind.TheVariants.{Opening, Closing}
 use Rattle.logos_lexeme.specs.declared.lexeme.LexicalKind.TheVariants.{Unbalanced}
-use Rattle.logos_token.specs.declared.token.reader.Begun.{Begun}
+use Rattle.logos_token.specs.declared.token.reader.OpenGroup.{OpenGroup}
 use Rattle.logos_token.specs.Tokens.{Token, group, none, also, append}
 use Rattle.logos_token.specs.Flat.{EntryValue, group_entry, flat, flat_token}
 use Rattle.logos_lexeme.specs.Lexemes.{IsNext}
@@ -14,25 +14,25 @@ use Rattle.logos_token.specs.Spelling.{opens, closes, lexemes, token_lexemes, is
 use Rattle.logos_token.specs.inside.Reading.{Frame, frame_lexemes, frame_entries, frame_places, AreOpenings, IsRead}
 use Rattle.logos_token.proofs.reading.ReadingLemmas.{marks, frame_lexemes-append, frame_entries-append, read-front, read-shallow, read-more}
 
-place_of : Frame → List Frame → Begun
+place_of : Frame → List Frame → OpenGroup
 place_of f rest = record { delimiter = f.delimiter; span = f.span; place = length (frame_entries rest f.before) }
 
 -- the innermost group that is begun
-record Innermost (frames : List Frame) (begun : List Begun) (top : Begun) : Type 0 where
+record Innermost (frames : List Frame) (begun : List OpenGroup) (top : OpenGroup) : Type 0 where
   frame : Frame
   rest : List Frame
   is : frames ≡ frame ∷ rest
   places : frame_places rest ≡ begun
   is-top : place_of frame rest ≡ top
 
-innermost : (frames : List Frame) (begun : List Begun) (top : Begun) → frame_places frames ≡ begun ++ top ∷ [] → Innermost frames begun top
+innermost : (frames : List Frame) (begun : List OpenGroup) (top : OpenGroup) → frame_places frames ≡ begun ++ top ∷ [] → Innermost frames begun top
 unfolding place_of
 innermost [] begun top e = absurd (let n = length_push begun top in let m = ap length e in omega arith)
 innermost (f ∷ rest) begun top e =
     let same = same_from_push (frame_places rest) begun (place_of f rest) top e in
     record { frame = f; rest = rest; is = refl; places = same.0; is-top = same.1 }
 
-module _ (bytes : List ℕ) (delimiter : Delimiter) (span : Span) (entries : List EntryValue) (begun : List Begun) (top : Begun) (r : IsRead bytes span.from entries (begun ++ top ∷ [])) where
+module _ (bytes : List ℕ) (delimiter : Delimiter) (span : Span) (entries : List EntryValue) (begun : List OpenGroup) (top : OpenGroup) (r : IsRead bytes span.from entries (begun ++ top ∷ [])) where
   i : Innermost r.frames begun top
   i = innermost r.frames begun top r.places
 
@@ -109,12 +109,12 @@ is_partner-apart Brace Parenthesis h = refl
 is_partner-apart Brace Bracket h = refl
 
 -- the open delimiters where this group is the innermost one
-top-marks : (frames : List Frame) (begun : List Begun) (top : Begun) (n : Innermost frames begun top) → marks frames ≡ (top.delimiter, top.span.from) ∷ marks n.rest
+top-marks : (frames : List Frame) (begun : List OpenGroup) (top : OpenGroup) (n : Innermost frames begun top) → marks frames ≡ (top.delimiter, top.span.from) ∷ marks n.rest
 unfolding place_of
 top-marks frames begun top n = ap marks n.is ∙ ap (λ b. (b.delimiter, b.span.from) ∷ marks n.rest) n.is-top
 
 -- a closing delimiter that does not match the innermost group
-pub read-apart : (bytes : List ℕ) (delimiter : Delimiter) (span : Span) (entries : List EntryValue) (begun : List Begun) (top : Begun) → IsRead bytes span.from entries (begun ++ top ∷ []) → (top.delimiter ≡ delimiter → ⊥) →
+pub read-apart : (bytes : List ℕ) (delimiter : Delimiter) (span : Span) (entries : List EntryValue) (begun : List OpenGroup) (top : OpenGroup) → IsRead bytes span.from entries (begun ++ top ∷ []) → (top.delimiter ≡ delimiter → ⊥) →
     IsNext bytes span.from (Closing delimiter) span.to → IsUnreadable bytes Unbalanced span
 read-apart bytes delimiter span entries begun top r differs next =
     let n = innermost r.frames begun top r.places in
@@ -127,12 +127,12 @@ read-apart bytes delimiter span entries begun top r differs next =
     })
 
 -- a group that is begun at the end of the source
-pub read-unclosed : (bytes : List ℕ) (entries : List EntryValue) (begun : List Begun) (top : Begun) → IsRead bytes (length bytes) entries (begun ++ top ∷ []) → IsUnreadable bytes Unbalanced top.span
+pub read-unclosed : (bytes : List ℕ) (entries : List EntryValue) (begun : List OpenGroup) (top : OpenGroup) → IsRead bytes (length bytes) entries (begun ++ top ∷ []) → IsUnreadable bytes Unbalanced top.span
 unfolding place_of
 read-unclosed bytes entries begun top r =
     let n = innermost r.frames begun top r.places in
     let openings : AreOpenings bytes (n.frame ∷ n.rest) = rw n.is at r.openings in
-    let O : Begun → Type 0 = λ b. IsNext bytes b.span.from (Opening b.delimiter) b.span.to in
+    let O : OpenGroup → Type 0 = λ b. IsNext bytes b.span.from (Opening b.delimiter) b.span.to in
     unclosed (record {
       around = marks n.rest;
       delimiter = top.delimiter;

@@ -91,12 +91,12 @@ most_open-append (closes delimiter to ∷ front) back (innermost ∷ around) beh
 -- The tokens of lexemes: a stack of groups that are begun, innermost first, and the tokens read behind them.
 
 -- a group that is begun: the tokens in front of it, its delimiter, and the place where it stands
-record Begun : Type 0 where
+record OpenGroup : Type 0 where
   before : TokenList
   delimiter : Delimiter
   from : ℕ
 
-abbrev grown : List Begun → TokenList → List Lexeme → Option TokenList
+abbrev grown : List OpenGroup → TokenList → List Lexeme → Option TokenList
 grown [] current [] = Some current
 grown (b ∷ begun) current [] = None
 grown begun current (leaf token ∷ rest) = grown begun (append current (also token none)) rest
@@ -108,7 +108,7 @@ pub append-none : (tokens : TokenList) → append tokens none ≡ tokens
 append-none none = refl
 append-none (also token rest) = ap (also token) (append-none rest)
 
-grown-lexemes : (tokens : TokenList) (begun : List Begun) (current : TokenList) (more : List Lexeme) → grown begun current (lexemes tokens ++ more) ≡ grown begun (append current tokens) more
+grown-lexemes : (tokens : TokenList) (begun : List OpenGroup) (current : TokenList) (more : List Lexeme) → grown begun current (lexemes tokens ++ more) ≡ grown begun (append current tokens) more
 grown-lexemes none begun current more = ap (λ c. grown begun c more) (sym (append-none current))
 grown-lexemes (also (identifier text span) rest) begun current more =
     grown-lexemes rest begun (append current (also (identifier text span) none)) more ∙ ap (λ c. grown begun c more) (append-also current (identifier text span) rest)

@@ -6,7 +6,7 @@ use Rattle.logos_lexeme.specs.declared.lexeme.Delimiter.{Delimiter}
 use Rattle.logos_lexeme.specs.declared.lexeme.Kind.{Kind}
 use Rattle.logos_lexeme.specs.declared.lexeme.Kind.TheVariants.{Gap, Opening, Closing}
 use Rattle.logos_lexeme.specs.declared.lexeme.LexicalKind.TheVariants.{Unbalanced}
-use Rattle.logos_token.specs.declared.token.reader.Begun.{Begun}
+use Rattle.logos_token.specs.declared.token.reader.OpenGroup.{OpenGroup}
 use Rattle.logos_token.specs.Tokens.{Token, TokenList, none, also, append, depth_of}
 use Rattle.logos_token.specs.Flat.{EntryValue, group_entry, flat, flat_token}
 use Rattle.logos_lexeme.specs.Lexemes.{IsNext}
@@ -47,7 +47,7 @@ frame_entries-append (f ∷ frames) front back =
     ap (λ es. frame_entries frames f.before ++ group_entry f.delimiter f.span 0 ∷ es) (flat-append front back)
     ∙ sym (append_assoc (frame_entries frames f.before) (group_entry f.delimiter f.span 0 ∷ flat front) (flat back))
 
-module _ (bytes : List ℕ) (to : ℕ) (entries : List EntryValue) (begun : List Begun) (r : IsRead bytes to entries begun) where
+module _ (bytes : List ℕ) (to : ℕ) (entries : List EntryValue) (begun : List OpenGroup) (r : IsRead bytes to entries begun) where
   pub read-opened : opened [] (seen bytes r.pieces) ≡ Some (marks r.frames)
   read-opened = ap (opened []) (sym r.nested) ∙ frames-opened r.frames r.current
 
@@ -64,7 +64,7 @@ module _ (bytes : List ℕ) (to : ℕ) (entries : List EntryValue) (begun : List
       omega arith
 
 -- one piece more
-module _ (bytes : List ℕ) (kind : Kind) (span : Span) (entries : List EntryValue) (begun : List Begun) (r : IsRead bytes span.from entries begun) (next : IsNext bytes span.from kind span.to) where
+module _ (bytes : List ℕ) (kind : Kind) (span : Span) (entries : List EntryValue) (begun : List OpenGroup) (r : IsRead bytes span.from entries begun) (next : IsNext bytes span.from kind span.to) where
   pub read-more : (frames : List Frame) (current : TokenList) → AreOpenings bytes frames → frame_lexemes frames current ≡ frame_lexemes r.frames r.current ++ lexeme_of bytes kind span →
       most_open (length (marks r.frames)) (lexeme_of bytes kind span) ≤ 128 → IsRead bytes span.to (frame_entries frames current) (frame_places frames)
   read-more frames current openings nested shallow =
@@ -84,13 +84,13 @@ module _ (bytes : List ℕ) (kind : Kind) (span : Span) (entries : List EntryVal
         places = refl;
       }
 
-pub read-gap : (bytes : List ℕ) (span : Span) (entries : List EntryValue) (begun : List Begun) → IsRead bytes span.from entries begun → IsNext bytes span.from Gap span.to → IsRead bytes span.to entries begun
+pub read-gap : (bytes : List ℕ) (span : Span) (entries : List EntryValue) (begun : List OpenGroup) → IsRead bytes span.from entries begun → IsNext bytes span.from Gap span.to → IsRead bytes span.to entries begun
 read-gap bytes span entries begun r next =
     let more = read-more bytes Gap span entries begun r next r.frames r.current r.openings (sym (append-nil (frame_lexemes r.frames r.current))) (read-shallow bytes span.from entries begun r) in
     rw (r.kept, r.places) at more
 
 -- a token without others inside
-pub read-leaf : (bytes : List ℕ) (kind : Kind) (span : Span) (entries : List EntryValue) (begun : List Begun) (token : Token) (value : EntryValue) → IsRead bytes span.from entries begun → IsNext bytes span.from kind span.to →
+pub read-leaf : (bytes : List ℕ) (kind : Kind) (span : Span) (entries : List EntryValue) (begun : List OpenGroup) (token : Token) (value : EntryValue) → IsRead bytes span.from entries begun → IsNext bytes span.from kind span.to →
     lexeme_of bytes kind span ≡ leaf token ∷ [] → token_lexemes token ≡ leaf token ∷ [] → flat_token token ≡ value ∷ [] → IsRead bytes span.to (entries ++ value ∷ []) begun
 read-leaf bytes kind span entries begun token value r next is lexeme entry =
     let new : TokenList = also token none in
@@ -102,7 +102,7 @@ read-leaf bytes kind span entries begun token value r next is lexeme entry =
     frame_entries-append r.frames r.current new ∙ ap (λ es. es ++ (flat_token token ++ [])) r.kept ∙ ap (λ es. entries ++ es) (append-nil (flat_token token) ∙ entry) in
     rw (kept, r.places) at more
 
-pub read-opening : (bytes : List ℕ) (delimiter : Delimiter) (span : Span) (entries : List EntryValue) (begun : List Begun) (place : ℕ) → IsRead bytes span.from entries begun → IsNext bytes span.from (Opening delimiter) span.to →
+pub read-opening : (bytes : List ℕ) (delimiter : Delimiter) (span : Span) (entries : List EntryValue) (begun : List OpenGroup) (place : ℕ) → IsRead bytes span.from entries begun → IsNext bytes span.from (Opening delimiter) span.to →
     length begun < 128 → length entries ≡ place → IsRead bytes span.to (entries ++ group_entry delimiter span 0 ∷ []) (begun ++ (record { delimiter = delimiter; span = span; place = place }) ∷ [])
 read-opening bytes delimiter span entries begun place r next room is =
     let frame : Frame = record { before = r.current; delimiter = delimiter; span = span } in
@@ -110,7 +110,7 @@ read-opening bytes delimiter span entries begun place r next room is =
     let more = read-more bytes (Opening delimiter) span entries begun r next (frame ∷ r.frames) none (next, r.openings) refl (omega arith) in
     rw (r.kept, r.places, is) at more
 
-pub read-too_deep : (bytes : List ℕ) (delimiter : Delimiter) (span : Span) (entries : List EntryValue) (begun : List Begun) → IsRead bytes span.from entries begun → IsNext bytes span.from (Opening delimiter) span.to →
+pub read-too_deep : (bytes : List ℕ) (delimiter : Delimiter) (span : Span) (entries : List EntryValue) (begun : List OpenGroup) → IsRead bytes span.from entries begun → IsNext bytes span.from (Opening delimiter) span.to →
     128 ≤ length begun → IsTooDeep bytes span
 read-too_deep bytes delimiter span entries begun r next full =
     let count = read-count bytes span.from entries begun r in

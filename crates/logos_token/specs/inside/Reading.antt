@@ -1,13 +1,19 @@
 -- What is held while a source is read.
-use Rattle.std.specs.Prelude.{◌≡◌, ℕ, ◌≤◌, List, [], ◌∷◌, ◌++◌, length}
+use Rattle.std.specs.Prelude.{◌≡◌, ℕ, ◌≤◌, List, [], ◌∷◌, ◌++◌, map, length, Result, IfOk, IfErr, OnOk}
 use Rattle.logos_lexeme.specs.declared.lexeme.Span.{Span}
 use Rattle.logos_lexeme.specs.declared.lexeme.Delimiter.{Delimiter}
+use Rattle.logos_lexeme.specs.declared.lexeme.Kind.{Kind}
 use Rattle.logos_lexeme.specs.declared.lexeme.Kind.TheVariants.{Opening}
-use Rattle.logos_token.specs.declared.token.reader.Begun.{Begun}
-use Rattle.logos_token.specs.Tokens.{TokenList}
-use Rattle.logos_token.specs.Flat.{EntryValue, group_entry, flat}
+use Rattle.logos_token.specs.declared.token.entry.Entry.{Entry}
+use Rattle.logos_token.specs.declared.token.reader.TokenError.{TokenError}
+use Rattle.logos_token.specs.declared.token.views.TokenStream.{TokenStream}
+use Rattle.logos_token.specs.declared.token.reader.OpenGroup.{OpenGroup}
+use Rattle.logos_token.specs.Tokens.{TokenList, depth_of}
+use Rattle.logos_token.specs.Flat.{EntryValue, group_entry, flat, value_of}
 use Rattle.logos_lexeme.specs.Lexemes.{IsNext}
-use Rattle.logos_token.specs.Spelling.{Piece, Pieces, Lexeme, opens, lexemes, seen, most_open}
+use Rattle.logos_token.specs.Spelling.{Piece, Pieces, Lexeme, opens, lexemes, seen, most_open, Spells}
+use Rattle.logos_token.specs.Refusals.{IsRefusal}
+use Rattle.logos_token.specs.Views.{stream_tokens}
 
 -- a group that is begun: the tokens in front of it, and its opening delimiter
 pub record Frame : Type 0 where
@@ -26,7 +32,7 @@ frame_entries [] current = flat current
 frame_entries (f ∷ frames) current = frame_entries frames f.before ++ group_entry f.delimiter f.span 0 ∷ flat current
 
 -- where the groups' entries stand, outermost first
-abbrev pub frame_places : List Frame → List Begun
+abbrev pub frame_places : List Frame → List OpenGroup
 frame_places [] = []
 frame_places (f ∷ frames) = frame_places frames ++ (record { delimiter = f.delimiter; span = f.span; place = length (frame_entries frames f.before) }) ∷ []
 
@@ -36,7 +42,7 @@ AreOpenings bytes [] = Unit {0}
 AreOpenings bytes (f ∷ frames) = IsNext bytes f.span.from (Opening f.delimiter) f.span.to × AreOpenings bytes frames
 
 -- the source is read up to there, into these entries and these groups that are begun
-pub record IsRead (bytes : List ℕ) (to : ℕ) (entries : List EntryValue) (begun : List Begun) : Type 0 where
+pub record IsRead (bytes : List ℕ) (to : ℕ) (entries : List EntryValue) (begun : List OpenGroup) : Type 0 where
   pub pieces : List Piece
   pub filled : Pieces bytes 0 pieces to
   pub shallow : most_open 0 (seen bytes pieces) ≤ 128
@@ -46,3 +52,23 @@ pub record IsRead (bytes : List ℕ) (to : ℕ) (entries : List EntryValue) (beg
   pub nested : frame_lexemes frames current ≡ seen bytes pieces
   pub kept : frame_entries frames current ≡ entries
   pub places : frame_places frames ≡ begun
+
+-- where the next piece is of this kind, it is read too, unless there is an error
+abbrev pub ReadsOn : Kind → Span → (entries : List Entry) (open_groups : List OpenGroup) (next_entries : List Entry) (next_open : List OpenGroup) → Result (Unit {0}) TokenError → Type 0
+ReadsOn kind span entries open_groups next_entries next_open result =
+    (bytes : List ℕ) → IsNext bytes span.from kind span.to → IsRead bytes span.from (map value_of entries) open_groups → OnOk result (IsRead bytes span.to (map value_of next_entries) next_open)
+
+-- and an error says why the source is refused
+abbrev pub RefusesAt : Kind → Span → List Entry → List OpenGroup → Result (Unit {0}) TokenError → Type 0
+RefusesAt kind span entries open_groups result =
+    (bytes : List ℕ) → IsNext bytes span.from kind span.to → IsRead bytes span.from (map value_of entries) open_groups → IfErr result (IsRefusal bytes)
+
+-- a source that is read to its end spells the tokens of the result, unless there is an error
+abbrev pub SpellsAtEnd : List Entry → List OpenGroup → Result TokenStream TokenError → Type 0
+SpellsAtEnd entries open_groups result =
+    (bytes : List ℕ) → IsRead bytes (length bytes) (map value_of entries) open_groups → IfOk result (λ stream. Spells bytes (stream_tokens stream) × (depth_of (stream_tokens stream) ≤ 128))
+
+-- and an error says why it is refused
+abbrev pub RefusesAtEnd : List Entry → List OpenGroup → Result TokenStream TokenError → Type 0
+RefusesAtEnd entries open_groups result =
+    (bytes : List ℕ) → IsRead bytes (length bytes) (map value_of entries) open_groups → IfErr result (IsRefusal bytes)

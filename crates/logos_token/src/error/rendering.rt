@@ -2,37 +2,15 @@
 ghost use Rattle.std.specs.Prelude.{◌≡◌, ◌++◌, OnOk, string_bytes};
 ghost use Rattle.std.specs.List.{flat_map};
 ghost use Rattle.logos_token.specs.FaultView.{faults_of, fault_of};
-ghost use Rattle.logos_token.specs.Rendering.{escaped_character, escaped, rendered_fault};
+ghost use Rattle.logos_token.specs.Rendering.{rendered_fault};
 
 use crate::error::{Errors, Memory, SpannedError};
+use crate::util::push_escaped;
 
-/// Adds a character of a string literal.
-fn push_character(text: &mut String, character: char) -> Result<(), Memory>
-    ensures { OnOk result (string_bytes text.new ≡ string_bytes text.old ++ escaped_character character) }
-{
-    match character {
-        '"' => text.push_str("\\\"")?,
-        '\\' => text.push_str("\\\\")?,
-        '\n' => text.push_str("\\n")?,
-        '\r' => text.push_str("\\r")?,
-        '\t' => text.push_str("\\t")?,
-        _ => text.push(character)?,
-    }
-    Ok(())
-}
-
-/// Adds the characters of a string literal.
-fn push_escaped(text: &mut String, message: &str) -> Result<(), Memory>
-    ensures { OnOk result (string_bytes text.new ≡ string_bytes text.old ++ escaped message.now) }
-{
-    for character in message.chars() {
-        push_character(text, character)?;
-    }
-    Ok(())
-}
-
+/// Adds the item that says the message of one fault.
 fn push_fault(text: &mut String, fault: &SpannedError) -> Result<(), Memory>
-    ensures { OnOk result (string_bytes text.new ≡ string_bytes text.old ++ rendered_fault (fault_of fault.now)) }
+    ensures { OnOk result
+        (string_bytes text.new ≡ string_bytes text.old ++ rendered_fault (fault_of fault.now)) }
 {
     text.push_str("{ compile_error ! ( \"")?;
     push_escaped(text, fault.message.as_str())?;
@@ -40,8 +18,11 @@ fn push_fault(text: &mut String, fault: &SpannedError) -> Result<(), Memory>
     Ok(())
 }
 
+/// Adds the items of faults, one behind another.
 fn push_faults(text: &mut String, faults: &[SpannedError]) -> Result<(), Memory>
-    ensures { OnOk result (string_bytes text.new ≡ string_bytes text.old ++ flat_map rendered_fault (faults_of faults.now)) }
+    ensures { OnOk result
+        (string_bytes text.new ≡
+        string_bytes text.old ++ flat_map rendered_fault (faults_of faults.now)) }
 {
     for fault in faults {
         push_fault(text, fault)?;

@@ -4,8 +4,10 @@ ghost use Rattle.std.specs.Prelude.{◌≡◌, ◌≢◌, List, ℕ, [], ◌∷�
 use crate::token::Literal;
 
 /// The text between a quote in front and one at the end.
-fn unquoted(text: &str) -> Option<&str>
-    ensures { MatchOption result ((inner : List ℕ) → text.now ≢ 34 ∷ (inner ++ 34 ∷ [])) (λ inner. text.now ≡ 34 ∷ (inner.now ++ 34 ∷ [])) }
+fn inner_text(text: &str) -> Option<&str>
+    ensures { MatchOption result
+        ((inner : List ℕ) → text.now ≢ 34 ∷ (inner ++ 34 ∷ []))
+        (λ inner. text.now ≡ 34 ∷ (inner.now ++ 34 ∷ [])) }
 {
     text.strip_prefix('"')?.strip_suffix('"')
 }
@@ -13,10 +15,12 @@ fn unquoted(text: &str) -> Option<&str>
 impl<'s> Literal<'s> {
     /// The text between the quotes, where the literal has quotes at both ends; else the empty text.
     pub fn text_value(&self) -> &'s str
-        ensures quoted { (inner : List ℕ) → self.now.text.now ≡ 34 ∷ (inner ++ 34 ∷ []) → result.now ≡ inner }
-        ensures other { ((inner : List ℕ) → self.now.text.now ≢ 34 ∷ (inner ++ 34 ∷ [])) → result.now ≡ [] }
+        ensures quoted { (inner : List ℕ) →
+            self.now.text.now ≡ 34 ∷ (inner ++ 34 ∷ []) → result.now ≡ inner }
+        ensures other { ((inner : List ℕ) →
+            self.now.text.now ≢ 34 ∷ (inner ++ 34 ∷ [])) → result.now ≡ [] }
     {
-        match unquoted(self.text) {
+        match inner_text(self.text) {
             Some(inner) => inner,
             None => "",
         }

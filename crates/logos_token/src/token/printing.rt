@@ -5,7 +5,7 @@ ghost use Rattle.logos_token.specs.Spelling.{Spells};
 ghost use Rattle.logos_token.specs.Tokens.{TokenList, none};
 ghost use Rattle.logos_token.specs.Views.{tokens_of};
 ghost use Rattle.logos_token.specs.Printing.{opening_text, closing_text, gap_behind, is_line_comment, printed};
-ghost use Rattle.logos_token.specs.inside.PrintingSteps.{printed_of, whole, left_of};
+ghost use Rattle.logos_token.specs.inside.PrintingSteps.{printed_of, PrintsOn, LeavesFewer};
 
 use crate::error::Memory;
 use crate::token::{Delimiter, Group, Spacing, TokenTree, Tokens};
@@ -14,6 +14,7 @@ use std::alloc::Global;
 /// What is printed so far.
 #[derive(Drop)]
 struct Printer {
+    /// The lexemes up to here.
     text: String,
     /// What parts it from the next lexeme.
     gap: &'static str,
@@ -22,11 +23,13 @@ struct Printer {
 /// A group that is begun.
 #[derive(Clone, Copy)]
 struct Outer<'t, 's> {
+    /// What encloses it.
     delimiter: Delimiter,
     /// The trees behind the group.
     rest: Tokens<'t, 's>,
 }
 
+/// The text of an opening delimiter.
 fn opening_text(delimiter: Delimiter) -> &'static str
     ensures { result.now ≡ opening_text delimiter }
 {
@@ -37,6 +40,7 @@ fn opening_text(delimiter: Delimiter) -> &'static str
     }
 }
 
+/// The text of a closing delimiter.
 fn closing_text(delimiter: Delimiter) -> &'static str
     ensures { result.now ≡ closing_text delimiter }
 {
@@ -47,6 +51,7 @@ fn closing_text(delimiter: Delimiter) -> &'static str
     }
 }
 
+/// What parts a punctuation from the next lexeme.
 fn gap_behind(spacing: Spacing) -> &'static str
     ensures { result.now ≡ gap_behind spacing }
 {
@@ -56,6 +61,7 @@ fn gap_behind(spacing: Spacing) -> &'static str
     }
 }
 
+/// What parts a documentation comment from the next lexeme: the line's end behind a line comment.
 fn gap_behind_doc(text: &str) -> &'static str
     ensures { result.now ≡ (if is_line_comment text.now then 10 ∷ [] else codes " ") }
 {
@@ -66,16 +72,16 @@ fn gap_behind_doc(text: &str) -> &'static str
 }
 
 impl Printer {
-    ghost use Rattle.std.specs.Prelude.{◌≡◌, OnOk, IfOk, MatchOption, fold, codes};
+    ghost use Rattle.std.specs.Prelude.{◌≡◌, OnOk, IfOk};
     ghost use Rattle.std.specs.Char.{encode_utf8};
-    ghost use Rattle.logos_token.specs.Tokens.{group};
-    ghost use Rattle.logos_token.specs.Views.{tree_of, inside_of};
-    ghost use Rattle.logos_token.specs.Printing.{print_part, spaced, opening_text, token_parts};
-    ghost use Rattle.logos_token.specs.inside.PrintingSteps.{printed_of};
+    ghost use Rattle.logos_token.specs.Views.{tree_of};
+    ghost use Rattle.logos_token.specs.Printing.{print_part};
+    ghost use Rattle.logos_token.specs.inside.PrintingSteps.{printed_of, PrintsTree};
 
     /// Adds a lexeme.
     fn add(&mut self, text: &str, gap: &'static str) -> Result<(), Memory>
-        ensures { OnOk result (printed_of self.new ≡ print_part (printed_of self.old) (record { text = text.now; gap = gap.now })) }
+        ensures { OnOk result (printed_of self.new ≡
+            print_part (printed_of self.old) (record { text = text.now; gap = gap.now })) }
     {
         self.text.push_str(self.gap)?;
         self.text.push_str(text)?;
@@ -85,7 +91,8 @@ impl Printer {
 
     /// Adds a lexeme of one character.
     fn add_character(&mut self, character: char, gap: &'static str) -> Result<(), Memory>
-        ensures { OnOk result (printed_of self.new ≡ print_part (printed_of self.old) (record { text = encode_utf8 character; gap = gap.now })) }
+        ensures { OnOk result (printed_of self.new ≡ print_part
+            (printed_of self.old) (record { text = encode_utf8 character; gap = gap.now })) }
     {
         self.text.push_str(self.gap)?;
         self.text.push(character)?;
@@ -95,7 +102,8 @@ impl Printer {
 
     /// Adds a token; of a group only the opening delimiter.
     fn add_tree<'t, 's>(&mut self, tree: TokenTree<'t, 's>) -> Result<Option<Group<'t, 's>>, Memory>
-        ensures { IfOk result (λ entered. MatchOption entered (printed_of self.new ≡ fold print_part (printed_of self.old) (token_parts (tree_of tree.entry))) (λ g. (tree_of tree.entry ≡ group g.delimiter g.span (inside_of g)) × (printed_of self.new ≡ print_part (printed_of self.old) (spaced (opening_text g.delimiter))))) }
+        ensures { IfOk result (λ inner.
+            PrintsTree (printed_of self.old) (tree_of tree.entry) (printed_of self.new) inner) }
     {
         match tree {
             TokenTree::Ident(ident) => self.add(ident.text, " ")?,
@@ -118,8 +126,9 @@ fn leave<'t, 's>(
     printer: &mut Printer,
     outer: &mut Vec<Outer<'t, 's>>,
 ) -> Result<Option<Tokens<'t, 's>>, Memory>
-    ensures ok { IfOk result (λ next. MatchOption next (printed_of printer.new ≡ whole (printed_of printer.old) outer.old.items none) (λ run. whole (printed_of printer.new) outer.new.items (tokens_of run) ≡ whole (printed_of printer.old) outer.old.items none)) }
-    ensures fewer { IfOk result (λ next. IfSome next (λ run. left_of outer.new.items (tokens_of run) < left_of outer.old.items none)) }
+    ensures ok { IfOk result (λ next. PrintsOn (printed_of printer.old) outer.old.items none
+        (printed_of printer.new) outer.new.items next) }
+    ensures fewer { IfOk result (λ next. LeavesFewer outer.old.items none outer.new.items next) }
 {
     let Some(group) = outer.pop() else {
         return Ok(None);
@@ -134,8 +143,11 @@ fn step<'t, 's>(
     outer: &mut Vec<Outer<'t, 's>>,
     rest: Tokens<'t, 's>,
 ) -> Result<Option<Tokens<'t, 's>>, Memory>
-    ensures ok { IfOk result (λ next. MatchOption next (printed_of printer.new ≡ whole (printed_of printer.old) outer.old.items (tokens_of rest.entry)) (λ run. whole (printed_of printer.new) outer.new.items (tokens_of run) ≡ whole (printed_of printer.old) outer.old.items (tokens_of rest.entry))) }
-    ensures fewer { IfOk result (λ next. IfSome next (λ run. left_of outer.new.items (tokens_of run) < left_of outer.old.items (tokens_of rest.entry))) }
+    ensures ok { IfOk result (λ next.
+        PrintsOn (printed_of printer.old) outer.old.items (tokens_of rest.entry)
+        (printed_of printer.new) outer.new.items next) }
+    ensures fewer { IfOk result (λ next.
+        LeavesFewer outer.old.items (tokens_of rest.entry) outer.new.items next) }
 {
     let Some(tree) = rest.first() else {
         return leave(printer, outer);
@@ -150,13 +162,17 @@ fn step<'t, 's>(
     Ok(Some(group.run()))
 }
 
-/// The text of the tokens: their lexemes with one space in between, none behind a joint punctuation,
-/// and a line's end behind a comment that ends with its line. Where the tokens stand in a source and
-/// the last of them is no joint punctuation, the text spells the same tokens again, their spans aside.
+/// The text of the tokens: their lexemes with one space in between, none behind a joint
+/// punctuation, and a line's end behind a comment that ends with its line. Where the tokens stand
+/// in a source and the last of them is no joint punctuation, the text spells the same tokens again,
+/// their spans aside.
 /// It fails only where there is no memory.
 pub fn print(alloc: Global, run: Tokens<'_, '_>) -> Result<String, Memory>
     ensures text { IfOk result (λ text. string_bytes text ≡ printed (tokens_of run.entry)) }
-    ensures back { IfOk result (λ text. (source : List ℕ) (tokens : TokenList) → IsUtf8 source → Spells source tokens → IsRunOf (tokens_of run.entry) tokens → (EndsJoint (tokens_of run.entry) → ⊥) → SpellsAgain (string_bytes text) (tokens_of run.entry)) }
+    ensures back { IfOk result (λ text. (source : List ℕ) (tokens : TokenList) →
+        IsUtf8 source → Spells source tokens → IsRunOf (tokens_of run.entry) tokens →
+        (EndsJoint (tokens_of run.entry) → ⊥) →
+        SpellsAgain (string_bytes text) (tokens_of run.entry)) }
 {
     let mut printer = Printer {
         text: String::new(alloc),

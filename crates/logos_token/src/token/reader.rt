@@ -6,7 +6,7 @@ ghost use Rattle.logos_token.specs.Tokens.{TokenList, depth_of};
 ghost use Rattle.logos_token.specs.Flat.{value_of};
 ghost use Rattle.logos_token.specs.Views.{stream_tokens};
 ghost use Rattle.logos_token.specs.Spelling.{Spells, RunStands};
-ghost use Rattle.logos_token.specs.inside.Reading.{IsRead};
+ghost use Rattle.logos_token.specs.inside.Reading.{IsRead, ReadsOn, RefusesAt, SpellsAtEnd, RefusesAtEnd};
 ghost use Rattle.logos_token.specs.Refusals.{IsRefusal, SpellsNothing, IsErrOf};
 
 use crate::token::entry::Entry;
@@ -58,7 +58,7 @@ impl<T: Drop> From<AllocFailed<T>> for TokenError {
 
 /// A group without its closing delimiter.
 #[derive(Clone, Copy, Debug)]
-struct Begun {
+struct OpenGroup {
     delimiter: Delimiter,
     /// The opening delimiter.
     span: Span,
@@ -76,17 +76,19 @@ fn is_partner(opening: Delimiter, closing: Delimiter) -> bool
 /// Adds an opening delimiter.
 fn begin_group(
     entries: &mut Vec<Entry<'_>>,
-    begun: &mut Vec<Begun>,
+    open_groups: &mut Vec<OpenGroup>,
     delimiter: Delimiter,
     span: Span,
 ) -> Result<(), TokenError>
-    ensures ok { (bytes : List ℕ) → IsNext bytes span.from (Kind.Opening delimiter) span.to → IsRead bytes span.from (map value_of entries.old.items) begun.old.items → OnOk result (IsRead bytes span.to (map value_of entries.new.items) begun.new.items) }
-    ensures err { (bytes : List ℕ) → IsNext bytes span.from (Kind.Opening delimiter) span.to → IsRead bytes span.from (map value_of entries.old.items) begun.old.items → IfErr result (IsRefusal bytes) }
+    ensures ok { ReadsOn (Kind.Opening delimiter) span
+        entries.old.items open_groups.old.items entries.new.items open_groups.new.items result }
+    ensures err { RefusesAt (Kind.Opening delimiter) span
+        entries.old.items open_groups.old.items result }
 {
-    if begun.len() >= MAX_NESTING {
+    if open_groups.len() >= MAX_NESTING {
         return Err(TokenError::LimitTokenNesting { span });
     }
-    begun.push(Begun {
+    open_groups.push(OpenGroup {
         delimiter,
         span,
         place: entries.len(),
@@ -102,19 +104,22 @@ fn begin_group(
 /// Adds a closing delimiter.
 fn end_group(
     entries: &mut Vec<Entry<'_>>,
-    begun: &mut Vec<Begun>,
+    open_groups: &mut Vec<OpenGroup>,
     delimiter: Delimiter,
     span: Span,
 ) -> Result<(), TokenError>
-    requires { (bytes : List ℕ) × IsRead bytes span.from (map value_of entries.old.items) begun.old.items }
-    ensures ok { (bytes : List ℕ) → IsNext bytes span.from (Kind.Closing delimiter) span.to → IsRead bytes span.from (map value_of entries.old.items) begun.old.items → OnOk result (IsRead bytes span.to (map value_of entries.new.items) begun.new.items) }
-    ensures err { (bytes : List ℕ) → IsNext bytes span.from (Kind.Closing delimiter) span.to → IsRead bytes span.from (map value_of entries.old.items) begun.old.items → IfErr result (IsRefusal bytes) }
+    requires { (bytes : List ℕ) ×
+        IsRead bytes span.from (map value_of entries.old.items) open_groups.old.items }
+    ensures ok { ReadsOn (Kind.Closing delimiter) span
+        entries.old.items open_groups.old.items entries.new.items open_groups.new.items result }
+    ensures err { RefusesAt (Kind.Closing delimiter) span
+        entries.old.items open_groups.old.items result }
 {
     let unbalanced = TokenError::Lexical {
         kind: LexicalKind::Unbalanced,
         span,
     };
-    let Some(group) = begun.pop() else {
+    let Some(group) = open_groups.pop() else {
         return Err(unbalanced);
     };
     if !is_partner(group.delimiter, delimiter) {
@@ -144,7 +149,7 @@ fn push<'s>(entries: &mut Vec<Entry<'s>>, entry: Entry<'s>) -> Result<(), TokenE
 /// Adds a piece of the source.
 fn add<'s>(
     entries: &mut Vec<Entry<'s>>,
-    begun: &mut Vec<Begun>,
+    open_groups: &mut Vec<OpenGroup>,
     source: &'s str,
     kind: Kind,
     span: Span,
@@ -152,14 +157,16 @@ fn add<'s>(
     requires from_boundary { IsCharBoundary source.now span.from }
     requires to_boundary { IsCharBoundary source.now span.to }
     requires next { IsNext source.now span.from kind span.to }
-    requires read { IsRead source.now span.from (map value_of entries.old.items) begun.old.items }
-    ensures ok { OnOk result (IsRead source.now span.to (map value_of entries.new.items) begun.new.items) }
+    requires read { IsRead source.now span.from
+        (map value_of entries.old.items) open_groups.old.items }
+    ensures ok { OnOk result
+        (IsRead source.now span.to (map value_of entries.new.items) open_groups.new.items) }
     ensures err { IfErr result (IsRefusal source.now) }
 {
     match kind {
         Kind::Gap => Ok(()),
-        Kind::Opening(delimiter) => begin_group(entries, begun, delimiter, span),
-        Kind::Closing(delimiter) => end_group(entries, begun, delimiter, span),
+        Kind::Opening(delimiter) => begin_group(entries, open_groups, delimiter, span),
+        Kind::Closing(delimiter) => end_group(entries, open_groups, delimiter, span),
         Kind::Identifier => {
             let text = &source[span.from..span.to];
             push(entries, Entry::Ident(Ident { text, span }))
@@ -187,12 +194,16 @@ fn add<'s>(
 }
 
 /// The tokens of a source that is read to its end.
-fn finish<'s>(entries: Vec<Entry<'s>>, mut begun: Vec<Begun>) -> Result<TokenStream<'s>, TokenError>
-    requires { (bytes : List ℕ) × IsRead bytes (length bytes) (map value_of entries.items) begun.items }
-    ensures ok { (bytes : List ℕ) → IsRead bytes (length bytes) (map value_of entries.entry.items) begun.items → IfOk result (λ stream. Spells bytes (stream_tokens stream) × (depth_of (stream_tokens stream) ≤ 128)) }
-    ensures err { (bytes : List ℕ) → IsRead bytes (length bytes) (map value_of entries.entry.items) begun.items → IfErr result (IsRefusal bytes) }
+fn finish<'s>(
+    entries: Vec<Entry<'s>>,
+    mut open_groups: Vec<OpenGroup>,
+) -> Result<TokenStream<'s>, TokenError>
+    requires { (bytes : List ℕ) ×
+        IsRead bytes (length bytes) (map value_of entries.items) open_groups.items }
+    ensures ok { SpellsAtEnd entries.entry.items open_groups.items result }
+    ensures err { RefusesAtEnd entries.entry.items open_groups.items result }
 {
-    match begun.pop() {
+    match open_groups.pop() {
         Some(group) => Err(TokenError::Lexical {
             kind: LexicalKind::Unbalanced,
             span: group.span,
@@ -209,31 +220,37 @@ pub fn tokenize<'s>(alloc: Global, src: &'s str) -> Result<TokenStream<'s>, Toke
     ensures limit { IsErrOf result TokenError.LimitSource ↔ (16777216 < length src.now) }
     ensures err { IfErr result (IsRefusal src.now) }
     ensures only { IfErr result (SpellsNothing src.now) }
-    ensures complete { (tokens : TokenList) → Spells src.now tokens → length src.now ≤ 16777216 → depth_of tokens ≤ 128 → MatchResult result (λ stream. stream_tokens stream ≡ tokens) (λ error. error ≡ TokenError.Memory) }
+    ensures complete { (tokens : TokenList) →
+        Spells src.now tokens → length src.now ≤ 16777216 → depth_of tokens ≤ 128 →
+        MatchResult result (λ stream. stream_tokens stream ≡ tokens)
+        (λ error. error ≡ TokenError.Memory) }
 {
     if src.len() > MAX_SOURCE {
         return Err(TokenError::LimitSource);
     }
     let mut entries = Vec::new(alloc);
-    let mut begun = Vec::new(alloc);
+    let mut open_groups = Vec::new(alloc);
     let mut from = 0;
     while from < src.len() {
         let (kind, to) = match lexeme_at(src, from) {
             Ok(next) => next,
             Err((kind, span)) => return Err(TokenError::Lexical { kind, span }),
         };
-        add(&mut entries, &mut begun, src, kind, Span { from, to })?;
+        add(&mut entries, &mut open_groups, src, kind, Span { from, to })?;
         from = to;
     }
-    finish(entries, begun)
+    finish(entries, open_groups)
 }
 
 /// A source spells one run of tokens at most.
 pub fn spells_once()
-    ensures { (bytes : List ℕ) (tokens other : TokenList) → Spells bytes tokens → Spells bytes other → tokens ≡ other }
+    ensures { (bytes : List ℕ) (tokens other : TokenList) →
+        Spells bytes tokens → Spells bytes other → tokens ≡ other }
 {}
 
-/// The tokens that a source spells stand in it in order, each with the source at its span as its text.
+/// The tokens that a source spells stand in it in order, each with the source at its span as its
+/// text.
 pub fn spelled_in_order()
-    ensures { (bytes : List ℕ) (tokens : TokenList) → Spells bytes tokens → RunStands bytes 0 tokens (length bytes) }
+    ensures { (bytes : List ℕ) (tokens : TokenList) →
+        Spells bytes tokens → RunStands bytes 0 tokens (length bytes) }
 {}

@@ -39,8 +39,10 @@ fn plain_end(source: &str, escapes: bool, from: usize, to: usize) -> usize
     requires within { to ≤ length source.now }
     ensures begun { from ≤ result }
     ensures ended { result ≤ to }
-    ensures stops { result < to → (slice_index source.now result ≡ 13) ⊎ (slice_index source.now result ≡ 92) }
-    ensures rest { IsRest escapes Content.Text source.now from result to (slice_range source.now from result) }
+    ensures stops { result < to →
+        (slice_index source.now result ≡ 13) ⊎ (slice_index source.now result ≡ 92) }
+    ensures rest { IsRest escapes Content.Text source.now from result to
+        (slice_range source.now from result) }
 {
     let mut end = from;
     while end < to && !is_special(escapes, byte_at(source, end)) {
@@ -74,7 +76,8 @@ fn add_text(
     requires end_boundary { IsCharBoundary source.now to }
     ensures { IfOk result (λ next. MatchOption next
         ((held : List ℕ) → Holds escapes Content.Text source.now at to held → ⊥)
-        (λ next. IsAdded escapes source.now at next to (string_bytes value.old) (string_bytes value.new))) }
+        (λ next. IsAdded escapes source.now at next to
+        (string_bytes value.old) (string_bytes value.new))) }
 {
     let end = plain_end(source, escapes, at, to);
     if at < end {
@@ -216,7 +219,8 @@ impl Literal<'_> {
     /// string, or breaks its rules. `Memory` where there is none for the value.
     pub fn value(&self, alloc: Global) -> Result<Option<LiteralValue>, Memory>
         ensures value { IfOk result (λ value. IsValue self.now.text.now value) }
-        ensures held { IfOk result (λ value. option_map held_value value ≡ held self.now.text.now) }
+        ensures held { IfOk result (λ value.
+            option_map held_value value ≡ held self.now.text.now) }
     {
         Ok(string_value(alloc, self.text)?)
     }

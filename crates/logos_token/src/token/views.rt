@@ -62,7 +62,8 @@ impl<'s> TokenStream<'s> {
 
     /// A buffer with this identifier alone. It fails only where there is no memory for it.
     pub fn from_ident(alloc: Global, ident: Ident<'s>) -> Result<TokenStream<'s>, AllocError>
-        ensures { IfOk result (λ stream. stream_tokens stream ≡ also (identifier ident.entry.text.now ident.entry.span) none) }
+        ensures { IfOk result (λ stream. stream_tokens stream ≡
+            also (identifier ident.entry.text.now ident.entry.span) none) }
     {
         let entries = Vec::from_slice(alloc, &[Entry::Ident(ident)])?;
         Ok(TokenStream { entries })
@@ -106,7 +107,8 @@ impl<'t, 's> Tokens<'t, 's> {
     /// The first tree, if there is one.
     pub fn first(self) -> Option<TokenTree<'t, 's>>
         ensures value { option_map tree_of result ≡ first_of (tokens_of self.entry) }
-        ensures cases { MatchOption result (tokens_of self.entry ≡ none) (λ tree. tokens_of self.entry ≡ also (tree_of tree) (rest_of (tokens_of self.entry))) }
+        ensures cases { MatchOption result (tokens_of self.entry ≡ none)
+            (λ tree. tokens_of self.entry ≡ also (tree_of tree) (rest_of (tokens_of self.entry))) }
     {
         let (entry, after) = self.entries.split_first()?;
         match entry {
@@ -143,7 +145,8 @@ impl<'t, 's> Tokens<'t, 's> {
     /// The trees in front of `rest`, which is what is left of this run behind some of its trees.
     pub fn before(self, rest: Tokens<'t, 's>) -> Tokens<'t, 's>
         requires { IsRestOf (tokens_of self) (tokens_of rest) }
-        ensures { (split : IsRestOf (tokens_of self.entry) (tokens_of rest.entry)) → tokens_of result ≡ split.front }
+        ensures { (split : IsRestOf (tokens_of self.entry) (tokens_of rest.entry)) →
+            tokens_of result ≡ split.front }
     {
         Tokens {
             entries: &self.entries[..self.entries.len() - rest.entries.len()],

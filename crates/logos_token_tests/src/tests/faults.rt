@@ -1,3 +1,5 @@
+//! The list of faults by example: its order, its names, and its text.
+
 use logos_token::error::{Errors, FaultCode, Memory, SpannedError};
 use logos_token::token::Span;
 use std::alloc::Global;

@@ -1,3 +1,5 @@
+//! The small helpers by example.
+
 use logos_token::token::{Ident, Span, TokenStream, Tokens, print, tokenize};
 use logos_token::util::{MaybeVoid, ToIdent, expect_punct, is_punct};
 use std::alloc::Global;
@@ -10,7 +12,8 @@ fn begins_with(run: Tokens<'_, '_>, expected: char) -> bool {
     }
 }
 
-/// Whether the run begins with this punctuation, and it is all that is expected of the first tree, or neither.
+/// Whether the run begins with this punctuation, and it is all that is expected of the first tree,
+/// or neither.
 fn stands(run: Tokens<'_, '_>, expected: char, wanted: bool) -> bool {
     begins_with(run, expected) == wanted && expect_punct(run.first(), expected).is_none() == wanted
 }
@@ -46,7 +49,8 @@ fn rest_of<'s>(alloc: Global, source: &'s str) -> Result<TokenStream<'s>, Fail> 
     Ok(stream.run().rest().to_stream(alloc)?)
 }
 
-/// Whether tokens take the place of none, others of those, and none of these, which are printed as the text.
+/// Whether tokens take the place of none, others of those, and none of these, which are printed as
+/// the text.
 fn are_replaced(alloc: Global, source: &str, text: &str) -> Result<bool, Fail> {
     let mut tokens = MaybeVoid::Void;
     let none = width(&tokens.replace(tokenize(alloc, source)?));

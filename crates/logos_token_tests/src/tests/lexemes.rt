@@ -555,8 +555,8 @@ fn raw(alloc: Global, prefix: &str, before: usize, behind: usize) -> Result<Stri
     format!(in alloc; "{prefix}{opening}\"a\"{closing}")
 }
 
-/// In each raw string, of a prefix and so many hashes before and behind it, what is wanted stands from the front
-/// to the place beside it.
+/// In each raw string, of a prefix and so many hashes before and behind it, what is wanted stands
+/// from the front to the place beside it.
 fn raw_stand(
     rt: &impl Abort,
     alloc: Global,

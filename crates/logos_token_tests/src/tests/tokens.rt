@@ -1,3 +1,5 @@
+//! Tokens by example: where they stand, what refuses a source, and what is printed of them.
+
 use logos_token::token::{
     LexicalKind, Spacing, Span, TokenError, TokenTree, Tokens, print, tokenize,
 };
@@ -12,12 +14,14 @@ enum Ask<'a> {
     Refusal,
     /// The span of all tokens, or that there are none.
     Extent,
-    /// The span of each tree that stands behind so many others, in groups that stand behind so many others each.
+    /// The span of each tree that stands behind so many others, in groups that stand behind so many
+    /// others each.
     Spans(&'a [(&'a [usize], usize)]),
-    /// Each identifier and punctuation with a joint one marked, and the texts of literals without their quotes.
+    /// Each identifier and punctuation with a joint one marked, and the texts of literals without
+    /// their quotes.
     Texts,
-    /// The spans of what stands in front of all trees but the first, and in front of all but the first two, and whether
-    /// none stands in front of all.
+    /// The spans of what stands in front of all trees but the first, and in front of all but the
+    /// first two, and whether none stands in front of all.
     Fronts,
     /// How it is printed.
     Print,
@@ -281,8 +285,8 @@ fn length_of_sources(rt: HostRuntime) -> Result<(), Fail> {
     spread(&rt, rt.alloc(), &[(16_777_216, ""), (16_777_217, "source")])
 }
 
-/// Whether two trees are the same, their spans aside. Groups are compared by what is printed of their
-/// insides.
+/// Whether two trees are the same, their spans aside. Groups are compared by what is printed of
+/// their insides.
 fn is_same_tree(
     alloc: Global,
     tree: TokenTree<'_, '_>,

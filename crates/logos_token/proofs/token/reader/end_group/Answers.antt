@@ -6,7 +6,7 @@ use Rattle.logos_token.proofs.reading.ClosingLemmas.{read-apart, read-closing, t
 use Rattle.logos_token.proofs.token.reader.end_group.Goals as goal
 use Rattle.logos_token.proofs.token.reader.end_group.Goals.{In-Some, In_default}
 
-no-groups : (c : In_default) → c.args.begun.now.items ≡ []
+no-groups : (c : In_default) → c.args.open_groups.now.items ≡ []
 no-groups c = let e = c.in_default.ensures.cases in nil_from_length _ (omega arith)
 
 pub returns-in_default-clause-err : goal.returns-in_default-clause-err

@@ -9,7 +9,7 @@ use Rattle.logos_token.proofs.token.reader.finish.Goals.{In-None}
 pub returns-in-Some-clause-err : goal.returns-in-Some-clause-err
 returns-in-Some-clause-err c = λ bytes r. read-unclosed bytes _ c.pop.new.self.items c.in-Some.group (rw c.in-Some.ensures.items at r)
 
-no-groups : (c : In-None) → c.args.begun.items ≡ []
+no-groups : (c : In-None) → c.args.open_groups.items ≡ []
 no-groups c = let e = c.in-None.ensures.cases in nil_from_length _ (omega arith)
 
 pub from_entries-requires : goal.from_entries-requires

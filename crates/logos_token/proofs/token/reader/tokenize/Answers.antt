@@ -16,7 +16,7 @@ pub loop-from-init : goal.loop-from-init
 loop-from-init c = record {
   within = omega arith;
   boundary = IsCharBoundary-start c.args.src.now c.utf8.src;
-  read = rw (c.new-entries.ensures.items, c.new-begun.ensures.items) (read-start c.args.src.now);
+  read = rw (c.new-entries.ensures.items, c.new-open_groups.ensures.items) (read-start c.args.src.now);
 }
 
 stuck : (c : In-Err) → IsUnreadable c.args.src.now c.in-Err.kind c.in-Err.span
@@ -62,12 +62,12 @@ loop-from-preserved c = record {
   read = c.in_ok-add.ensures.ok;
 }
 
-whole : (c : After-finish) → IsRead c.args.src.now (length c.args.src.now) (map value_of c.loop-from.entries.items) c.loop-from.begun.items
+whole : (c : After-finish) → IsRead c.args.src.now (length c.args.src.now) (map value_of c.loop-from.entries.items) c.loop-from.open_groups.items
 whole c =
     let within = c.loop-from.invariant.within in
     let test = c.loop-from-test.false in
     let e : c.loop-from.from ≡ length c.args.src.now = omega arith in
-    let P : ℕ → Type 0 = λ k. IsRead c.args.src.now k (map value_of c.loop-from.entries.items) c.loop-from.begun.items in
+    let P : ℕ → Type 0 = λ k. IsRead c.args.src.now k (map value_of c.loop-from.entries.items) c.loop-from.open_groups.items in
     subst P e c.loop-from.invariant.read
 
 pub returns-clause-only : goal.returns-clause-only

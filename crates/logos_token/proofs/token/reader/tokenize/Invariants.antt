@@ -8,7 +8,7 @@ abbrev pub invariant-loop-from : goal.invariant-loop-from
 invariant-loop-from l = record {
   within : l.from ≤ length l.src;
   boundary : IsCharBoundary l.src l.from;
-  read : IsRead l.src l.from (map value_of l.entries.items) l.begun.items;
+  read : IsRead l.src l.from (map value_of l.entries.items) l.open_groups.items;
 }
 
 abbrev pub decreases-loop-from : goal.decreases-loop-from

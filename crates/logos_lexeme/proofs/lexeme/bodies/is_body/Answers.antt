@@ -5,7 +5,7 @@ use Rattle.logos_lexeme.specs.LiteralBodies.{IsPiece}
 use Rattle.logos_lexeme.specs.LiteralBodies.{bytes_of}
 use Rattle.logos_lexeme.proofs.RunLaws.{Steps-on, Steps-le}
 use Rattle.logos_lexeme.proofs.BodyLaws.{piece-one, piece-moves}
-use Rattle.logos_lexeme.proofs.lexeme.bodies.is_filled.Goals as goal
+use Rattle.logos_lexeme.proofs.lexeme.bodies.is_body.Goals as goal
 
 pub loop-at-preserved : goal.loop-at-preserved
 loop-at-preserved c =

@@ -1,7 +1,7 @@
 use Rattle.std.proofs.Common.{◌-◌}
 use Rattle.logos_lexeme.specs.LexemeRuns.{Steps}
 use Rattle.logos_lexeme.specs.LiteralBodies.{IsPiece}
-use Rattle.logos_lexeme.proofs.lexeme.bodies.is_filled.Given as goal
+use Rattle.logos_lexeme.proofs.lexeme.bodies.is_body.Given as goal
 
 abbrev pub invariant-loop-at : goal.invariant-loop-at
 invariant-loop-at l = record {

@@ -1,6 +1,6 @@
 use Rattle.std.proofs.Common.{◌≡◌, ◌≢◌, ℕ, List, [], ◌∷◌, ◌++◌, Option, Some, None, Bor, MatchOption, ◌∙◌, ap, arith}
 use Rattle.std.proofs.lemmas.Str.Pattern.{strip_prefix_char, strip_suffix_char}
-use Rattle.logos_token.proofs.token.literal_text.unquoted.Goals as goal
+use Rattle.logos_token.proofs.token.literal_text.inner_text.Goals as goal
 
 -- what is left between the quotes
 between : (text rest : List ℕ) (r : Option (Bor (List ℕ))) → text ≡ 34 ∷ rest → MatchOption r ((front : List ℕ) → rest ≢ front ++ 34 ∷ []) (λ x. rest ≡ x.now ++ 34 ∷ []) →
