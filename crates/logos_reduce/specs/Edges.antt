@@ -2,7 +2,7 @@
 use Rattle.std.specs.Prelude.{◌≡◌, ◌<◌, ◌⊎◌, ℕ, List, [], ◌∷◌, Option, Some, IsSome, option_and_then}
 
 pub record StateType : Type 0 where
-  -- a match of this leaf ends one byte before the place state_behind
+  -- a match of this leaf ends one byte before the place reached
   pub accept : Option ℕ
   -- a match of this leaf ends there
   pub early : Option ℕ

@@ -14,6 +14,7 @@ has_in (v ∷ vs) zero s = has v.items s
 has_in (v ∷ vs) (suc b) s = has_in vs b s
 
 -- The lists have, for each state, those of the first n states that lead to it by one of the first symbols.
-pub record ArePredecessors (n width : ℕ) (to : ℕ → ℕ → Option ℕ) (lists : List (Vec ℕ Global)) : Type 0 where
+pub record ArePredecessors (n width : ℕ) (to : ℕ → ℕ → Option ℕ)
+    (lists : List (Vec ℕ Global)) : Type 0 where
   pub all : (s k t : ℕ) → s < n → k < width → to s k ≡ Some t → has_in lists t s ≡ true
   pub only : (t s : ℕ) → has_in lists t s ≡ true → (k : ℕ) × (k < width) × (to s k ≡ Some t)

@@ -11,7 +11,8 @@ module _ (table : Table) (block : ℕ → ℕ) where
 
   -- the states of a block have one mark
   abbrev pub HaveMarks : Type 0
-  HaveMarks = (s t : ℕ) → s < size table → t < size table → block s ≡ block t → mark table s ≡ mark table t
+  HaveMarks = (s t : ℕ) → s < size table → t < size table → block s ≡ block t →
+      mark table s ≡ mark table t
 
   -- the states are parted by their marks, or by the blocks to which they lead by a symbol
   abbrev pub ArePartedBy : Option ℕ → ℕ → ℕ → Type 0
@@ -34,7 +35,8 @@ pub record IsHistory (table : Table) (splits : List Split) (block : ℕ → ℕ)
   pub below : (j s : ℕ) → 0 < j → j ≤ length splits → s < size table → at j s < j
   pub step : (j s : ℕ) → 0 < j → j < length splits → s < size table →
       (at (j + 1) s ≡ at j s) ⊎ ((at (j + 1) s ≡ j) × (at j s ≡ (split_at splits j).parent))
-  pub parted : (j s t : ℕ) → 0 < j → j < length splits → s < size table → t < size table → at (j + 1) s ≡ j → at (j + 1) t ≡ (split_at splits j).parent →
+  pub parted : (j s t : ℕ) → 0 < j → j < length splits → s < size table → t < size table →
+      at (j + 1) s ≡ j → at (j + 1) t ≡ (split_at splits j).parent →
       ArePartedBy table (at j) (split_at splits j).symbol s t
 
 -- the blocks came by splits, and have one mark each
@@ -44,11 +46,13 @@ pub record IsSound (table : Table) (splits : List Split) (block : ℕ → ℕ) :
 
 -- each state's block has a leader in it
 abbrev pub AreLeaders : ℕ → (ℕ → ℕ) → (ℕ → ℕ) → Type 0
-AreLeaders n block leader = (s : ℕ) → s < n → (leader (block s) < n) × (block (leader (block s)) ≡ block s)
+AreLeaders n block leader = (s : ℕ) → s < n →
+    (leader (block s) < n) × (block (leader (block s)) ≡ block s)
 
 -- The blocks are sound, and each state leads by each symbol to the block to which the leader of its block does.
 pub record IsMerged (table : Table) (splits : List Split) (block leader : ℕ → ℕ) : Type 0 where
   pub sound : IsSound table splits block
   pub within : IsWithin (size table) block (length splits)
   pub leaders : AreLeaders (size table) block leader
-  pub alike : (s k : ℕ) → s < size table → target_block table block s k ≡ target_block table block (leader (block s)) k
+  pub alike : (s k : ℕ) → s < size table →
+      target_block table block s k ≡ target_block table block (leader (block s)) k

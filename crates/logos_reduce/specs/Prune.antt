@@ -11,5 +11,6 @@ IsOfUse table s = IsMarked (type_of (mark table s)) ⊎ Leads (edges table) s
 -- The new table has the marks of the old one, and just the edges to states that have a mark or lead to one.
 pub record IsPrunedTable (old new : Table) : Type 0 where
   pub marks : new.marks ≡ old.marks
-  pub some : (s k t : ℕ) → to old s k ≡ Some t → ((to new s k ≡ Some t) × IsOfUse old t) ⊎ ((to new s k ≡ None) × (IsOfUse old t → ⊥))
+  pub some : (s k t : ℕ) → to old s k ≡ Some t →
+      ((to new s k ≡ Some t) × IsOfUse old t) ⊎ ((to new s k ≡ None) × (IsOfUse old t → ⊥))
   pub none : (s k : ℕ) → to old s k ≡ None → to new s k ≡ None

@@ -9,7 +9,8 @@ use Rattle.logos_reduce.specs.declared.table.Table.{Table}
 abbrev pub IsReached : Table → ℕ → ℕ → Type 0
 IsReached table root s =
     (bytes : List ℕ) × All (λ b. b < 256) bytes
-    × ((reach (edges table) root bytes ≡ Some s) ⊎ ((t : ℕ) × (reach (edges table) root bytes ≡ Some t) × (to table t 256 ≡ Some s)))
+    × ((reach (edges table) root bytes ≡ Some s)
+    ⊎ ((t : ℕ) × (reach (edges table) root bytes ≡ Some t) × (to table t 256 ≡ Some s)))
 
 -- A table with late marks alone: each state can be reached, the root has no mark, and behind the end there is none.
 pub record IsRaw (table : Table) (root : ℕ) : Type 0 where

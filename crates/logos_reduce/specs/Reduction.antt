@@ -1,5 +1,5 @@
 -- What the reduction makes of a table.
-use Rattle.std.specs.Prelude.{◌≡◌, ◌≢◌, ◌<◌, ◌≤◌, ◌⊎◌, ℕ, List, Some, length, slice_index}
+use Rattle.std.specs.Prelude.{◌≡◌, ◌≢◌, ◌<◌, ◌≤◌, ◌⊎◌, ℕ, List, Some, length}
 use Rattle.logos_reduce.specs.Merge.{IsMerged}
 use Rattle.logos_reduce.specs.Number.{IsNumbered}
 use Rattle.logos_reduce.specs.Prune.{IsOfUse, IsPrunedTable}
@@ -9,8 +9,8 @@ use Rattle.logos_reduce.specs.Words.{Tells}
 use Rattle.logos_reduce.specs.declared.reduction.Reduction.{Reduction}
 use Rattle.logos_reduce.specs.declared.table.Table.{Table}
 
--- The old table, with its marks settled, without its useless edges, and with its states merged, is numbered from the
--- root on.
+-- The old table, with its marks settled, without its useless edges, and with its states merged, is
+-- numbered from the root on.
 pub record IsReductionOf (old : Table) (root : ℕ) (r : Reduction) : Type 0 where
   -- the table with early marks, and without needless late ones
   pub marked : Table
@@ -28,7 +28,8 @@ pub record IsReductionOf (old : Table) (root : ℕ) (r : Reduction) : Type 0 whe
 module _ (table : Table) where
   -- any two different states are told apart, by a word of fewer symbols than there are states
   abbrev pub IsLeast : Type 0
-  IsLeast = (s t : ℕ) → s < size table → t < size table → s ≢ t → (word : List ℕ) × (length word < size table) × Tells table s t word
+  IsLeast = (s t : ℕ) → s < size table → t < size table → s ≢ t →
+      (word : List ℕ) × (length word < size table) × Tells table s t word
 
   -- the first edge into a state, by source number, then bytes ascending, then the end
   pub record IsFirstEdge (t s k : ℕ) : Type 0 where
@@ -38,9 +39,11 @@ module _ (table : Table) where
   -- The first edges into 1, 2, 3 and on come in this order, each from a lower number.
   pub record IsInOrder : Type 0 where
     pub entered : (t : ℕ) → 0 < t → t < size table → (s k : ℕ) × (s < t) × IsFirstEdge t s k
-    pub rises : (t u s k r l : ℕ) → 0 < t → t < u → IsFirstEdge t s k → IsFirstEdge u r l → (s < r) ⊎ ((s ≡ r) × (k < l))
+    pub rises : (t u s k r l : ℕ) → 0 < t → t < u → IsFirstEdge t s k → IsFirstEdge u r l →
+        (s < r) ⊎ ((s ≡ r) × (k < l))
 
   -- Each state but the first has a mark or leads to one, and each late mark is needed at some edge.
   pub record IsSpareless : Type 0 where
     pub of_use : (s : ℕ) → 0 < s → s < size table → IsOfUse table s
-    pub needed : (t leaf : ℕ) → (mark table t).accept ≡ Some leaf → (s k : ℕ) × (to table s k ≡ Some t) × ((mark table s).early ≢ Some leaf)
+    pub needed : (t leaf : ℕ) → (mark table t).accept ≡ Some leaf →
+        (s k : ℕ) × (to table s k ≡ Some t) × ((mark table s).early ≢ Some leaf)

@@ -27,7 +27,8 @@ IsSpare table s early t = (k : ℕ) → to table s k ≡ Some t → (mark table 
 -- The late mark of a state is kept as it is needed somewhere, or dropped as it is needed nowhere.
 abbrev pub IsKeptOrSpare : Table → Table → ℕ → Type 0
 IsKeptOrSpare old new t =
-    (((mark new t).accept ≡ (mark old t).accept) × ((s : ℕ) × (s < size old) × IsNeeded old s (mark new s).early t))
+    (((mark new t).accept ≡ (mark old t).accept)
+    × ((s : ℕ) × (s < size old) × IsNeeded old s (mark new s).early t))
     ⊎ (((mark new t).accept ≡ None) × ((s : ℕ) → s < size old → IsSpare old s (mark new s).early t))
 
 -- The new table has the early marks of the old one, and only the late marks that are still needed.

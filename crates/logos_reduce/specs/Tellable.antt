@@ -13,5 +13,6 @@ pub record IsTellable (r : Reduction) : Type 0 where
   pub history : HistoryOf r
   pub some : 0 < length r.splits.items
   pub states : vec_len r.blocks ≡ size r.table
-  pub different : (s t : ℕ) → s < size r.table → t < size r.table → s ≢ t → slice_index r.blocks.items s ≢ slice_index r.blocks.items t
+  pub different : (s t : ℕ) → s < size r.table → t < size r.table → s ≢ t →
+      slice_index r.blocks.items s ≢ slice_index r.blocks.items t
   pub ends : (s t k : ℕ) → to r.table s 256 ≡ Some t → to r.table t k ≡ None

@@ -9,11 +9,13 @@ use Rattle.logos_reduce.specs.declared.table.Table.{Table}
 module _ (table : Table) where
   -- the mark of a state, or of the one to which the end leads from it
   abbrev pub mark_behind : ℕ → Bool → Option Mark
-  mark_behind s ends = if ends then option_map (mark table) (to table s 256) else Some (mark table s)
+  mark_behind s ends =
+      if ends then option_map (mark table) (to table s 256) else Some (mark table s)
 
   -- the mark behind the bytes, and the end after them where the flag says so
   abbrev pub mark_after : ℕ → List ℕ → Bool → Option Mark
-  mark_after s bytes ends = option_and_then (λ t. mark_behind t ends) (state_behind table (Some s) bytes)
+  mark_after s bytes ends = option_and_then (λ t. mark_behind t ends)
+      (state_behind table (Some s) bytes)
 
   -- They lead from the two states to different marks, or can be followed from just one of the two.
   abbrev pub TellsApart : ℕ → ℕ → List ℕ → Bool → Type 0

@@ -47,8 +47,10 @@ pub fn file(lists: &mut Vec<Vec<usize>>, b: usize, s: usize) -> Result<(), Alloc
     requires { b < vec_len lists.old }
     ensures len { vec_len lists.new ≡ vec_len lists.old }
     ensures has { OnOk result (has_in lists.new.items b s ≡ true) }
-    ensures kept { (c t : ℕ) → has_in lists.old.items c t ≡ true → has_in lists.new.items c t ≡ true }
-    ensures only { (c t : ℕ) → has_in lists.new.items c t ≡ true → (has_in lists.old.items c t ≡ true) ⊎ ((c ≡ b) × (t ≡ s)) }
+    ensures kept { (c t : ℕ) → has_in lists.old.items c t ≡ true →
+        has_in lists.new.items c t ≡ true }
+    ensures only { (c t : ℕ) → has_in lists.new.items c t ≡ true →
+        (has_in lists.old.items c t ≡ true) ⊎ ((c ≡ b) × (t ≡ s)) }
 {
     add(&mut lists[b], s)?;
     Ok(())
@@ -64,10 +66,13 @@ fn file_row(
     requires width { width ≤ 257 }
     requires inside { (k t : ℕ) → target_by row.now k ≡ Some t → t < vec_len lists.old }
     ensures len { vec_len lists.new ≡ vec_len lists.old }
-    ensures kept { (t u : ℕ) → has_in lists.old.items t u ≡ true → has_in lists.new.items t u ≡ true }
-    ensures filed { OnOk result ((k t : ℕ) → k < width → target_by row.now k ≡ Some t → has_in lists.new.items t s ≡ true) }
+    ensures kept { (t u : ℕ) → has_in lists.old.items t u ≡ true →
+        has_in lists.new.items t u ≡ true }
+    ensures filed { OnOk result ((k t : ℕ) → k < width → target_by row.now k ≡ Some t →
+        has_in lists.new.items t s ≡ true) }
     ensures only { (t u : ℕ) → has_in lists.new.items t u ≡ true →
-        (has_in lists.old.items t u ≡ true) ⊎ ((u ≡ s) × ((k : ℕ) × (k < width) × (target_by row.now k ≡ Some t))) }
+        (has_in lists.old.items t u ≡ true)
+        ⊎ ((u ≡ s) × ((k : ℕ) × (k < width) × (target_by row.now k ≡ Some t))) }
 {
     for k in 0..width {
         if let Some(t) = target_at(row, k) {
@@ -85,7 +90,8 @@ pub fn predecessors(
 ) -> Result<Vec<Vec<usize>>, AllocError>
     requires { width ≤ 257 }
     ensures len { IfOk result (λ v. vec_len v ≡ size table.now) }
-    ensures lists { IfOk result (λ v. ArePredecessors (size table.now) width (to table.now) v.items) }
+    ensures lists { IfOk result (λ v.
+        ArePredecessors (size table.now) width (to table.now) v.items) }
 {
     let mut lists = empty_lists(alloc, table.len())?;
     for s in 0..table.len() {

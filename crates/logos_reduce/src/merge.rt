@@ -19,7 +19,9 @@ use std::alloc::{AllocError, Global};
 /// For each block one of its states.
 fn leaders_of(alloc: Global, blocks: &Blocks) -> Result<Vec<usize>, AllocError>
     ensures len { IfOk result (λ v. vec_len v ≡ vec_len blocks.now.splits) }
-    ensures leaders { IfOk result (λ v. AreLeaders (vec_len blocks.now.of) (slice_index blocks.now.of.items) (slice_index v.items)) }
+    ensures leaders { IfOk result
+        (λ v. AreLeaders (vec_len blocks.now.of) (slice_index blocks.now.of.items)
+        (slice_index v.items)) }
 {
     let mut leaders = vec![in alloc; 0; blocks.splits.len()]?;
     for s in 0..blocks.of.len() {
@@ -33,9 +35,11 @@ fn first_difference(row: &Row, other: &Row, blocks: &Vec<usize>) -> Option<usize
     requires row { (k t : ℕ) → target_by row.now k ≡ Some t → t < vec_len blocks.now }
     requires other { (k t : ℕ) → target_by other.now k ≡ Some t → t < vec_len blocks.now }
     ensures { MatchOption result
-        ((k : ℕ) → option_map (slice_index blocks.now.items) (target_by row.now k) ≡ option_map (slice_index blocks.now.items) (target_by other.now k))
+        ((k : ℕ) → option_map (slice_index blocks.now.items) (target_by row.now k)
+        ≡ option_map (slice_index blocks.now.items) (target_by other.now k))
         (λ k. (k < 257)
-        × (option_map (slice_index blocks.now.items) (target_by row.now k) ≢ option_map (slice_index blocks.now.items) (target_by other.now k))) }
+        × (option_map (slice_index blocks.now.items) (target_by row.now k)
+        ≢ option_map (slice_index blocks.now.items) (target_by other.now k))) }
 {
     for k in 0..WIDTH {
         if block_of(target_at(row, k), blocks) != block_of(target_at(other, k), blocks) {
@@ -48,15 +52,19 @@ fn first_difference(row: &Row, other: &Row, blocks: &Vec<usize>) -> Option<usize
 /// A state and a symbol by which it does not lead where the leader of its block does.
 fn find_fault(table: &Table, blocks: &Vec<usize>, leaders: &Vec<usize>) -> Option<(usize, usize)>
     requires len { vec_len blocks.now ≡ size table.now }
-    requires within { (s : ℕ) → s < size table.now → slice_index blocks.now.items s < vec_len leaders.now }
-    requires leaders { AreLeaders (size table.now) (slice_index blocks.now.items) (slice_index leaders.now.items) }
+    requires within { (s : ℕ) → s < size table.now →
+        slice_index blocks.now.items s < vec_len leaders.now }
+    requires leaders { AreLeaders (size table.now) (slice_index blocks.now.items)
+        (slice_index leaders.now.items) }
     ensures { MatchOption result
         ((s k : ℕ) → s < size table.now →
         target_block table.now (slice_index blocks.now.items) s k
-        ≡ target_block table.now (slice_index blocks.now.items) (slice_index leaders.now.items (slice_index blocks.now.items s)) k)
+        ≡ target_block table.now (slice_index blocks.now.items)
+        (slice_index leaders.now.items (slice_index blocks.now.items s)) k)
         (λ p. (p.0 < size table.now) × (p.1 < 257)
         × (target_block table.now (slice_index blocks.now.items) p.0 p.1
-        ≢ target_block table.now (slice_index blocks.now.items) (slice_index leaders.now.items (slice_index blocks.now.items p.0)) p.1)) }
+        ≢ target_block table.now (slice_index blocks.now.items)
+        (slice_index leaders.now.items (slice_index blocks.now.items p.0)) p.1)) }
 {
     for s in 0..table.len() {
         let leader = leaders[blocks[s]];
@@ -167,7 +175,9 @@ pub struct Partition {
 pub fn merge(alloc: Global, table: &Table) -> Result<Partition, AllocError>
     ensures len { IfOk result (λ m. vec_len m.blocks.of ≡ size table.now) }
     ensures leaders_len { IfOk result (λ m. vec_len m.leaders ≡ vec_len m.blocks.splits) }
-    ensures merged { IfOk result (λ m. IsMerged table.now m.blocks.splits.items (slice_index m.blocks.of.items) (slice_index m.leaders.items)) }
+    ensures merged { IfOk result (λ m.
+        IsMerged table.now m.blocks.splits.items (slice_index m.blocks.of.items)
+        (slice_index m.leaders.items)) }
 {
     let first = by_marks(alloc, table)?;
     let mut blocks = refine(alloc, table, first)?;

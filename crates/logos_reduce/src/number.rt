@@ -8,8 +8,8 @@ ghost use Rattle.logos_reduce.specs.inside.Order.{Grows};
 ghost use Rattle.logos_reduce.specs.Rows.{target_by, target_in, target_of};
 ghost use Rattle.logos_reduce.specs.RowsView.{rows_of};
 
-use crate::order::Order;
 use crate::merge::refine::block_of;
+use crate::order::Order;
 use crate::rows::{Row, Rows, WIDTH, target_at};
 use crate::table::{Mark, Table};
 use std::alloc::{AllocError, Global};
@@ -21,7 +21,8 @@ fn meet_target(order: &mut Order, target: Option<usize>) -> Result<(), AllocErro
     ensures grows { Grows order.old.numbers.items order.new.numbers.items }
     ensures met { OnOk result ((b : ℕ) → target ≡ Some b → IsMet order.new.numbers.items b) }
     ensures states { OnOk result ((order.new.states.items ≡ order.old.states.items)
-        ⊎ ((b : ℕ) × (target ≡ Some b) × (slice_index order.old.numbers.items b ≡ 0) × (order.new.states.items ≡ order.old.states.items ++ b ∷ []))) }
+        ⊎ ((b : ℕ) × (target ≡ Some b) × (slice_index order.old.numbers.items b ≡ 0)
+        × (order.new.states.items ≡ order.old.states.items ++ b ∷ []))) }
 {
     if let Some(b) = target {
         order.meet(b)?;
@@ -40,14 +41,22 @@ fn meet_targets(
     requires place { i < vec_len order.old.states }
     requires len { vec_len blocks.now ≡ size table.now }
     requires room { vec_len leaders.now ≡ vec_len order.old.numbers }
-    requires within { (s : ℕ) → s < size table.now → slice_index blocks.now.items s < vec_len leaders.now }
-    requires leaders { AreLeaders (size table.now) (slice_index blocks.now.items) (slice_index leaders.now.items) }
+    requires within { (s : ℕ) → s < size table.now →
+        slice_index blocks.now.items s < vec_len leaders.now }
+    requires leaders { AreLeaders (size table.now) (slice_index blocks.now.items)
+        (slice_index leaders.now.items) }
     requires used { AreUsed (size table.now) (slice_index blocks.now.items) order.old.states.items }
-    requires in_turn { IsInTurn (λ b k. target_block table.now (slice_index blocks.now.items) (slice_index leaders.now.items b) k) order.old.numbers.items order.old.states.items i 0 }
+    requires in_turn { IsInTurn (λ b k.
+        target_block table.now (slice_index blocks.now.items)
+        (slice_index leaders.now.items b) k) order.old.numbers.items order.old.states.items i 0 }
     ensures len { vec_len order.new.numbers ≡ vec_len order.old.numbers }
     ensures grows { Grows order.old.numbers.items order.new.numbers.items }
-    ensures used { OnOk result (AreUsed (size table.now) (slice_index blocks.now.items) order.new.states.items) }
-    ensures in_turn { OnOk result (IsInTurn (λ b k. target_block table.now (slice_index blocks.now.items) (slice_index leaders.now.items b) k) order.new.numbers.items order.new.states.items (i + 1) 0) }
+    ensures used { OnOk result (AreUsed (size table.now)
+        (slice_index blocks.now.items) order.new.states.items) }
+    ensures in_turn { OnOk result
+        (IsInTurn (λ b k. target_block table.now (slice_index blocks.now.items)
+        (slice_index leaders.now.items b) k) order.new.numbers.items order.new.states.items
+        (i + 1) 0) }
 {
     let row = table.row(leaders[order.states[i]]);
     for k in 0..WIDTH {
@@ -66,13 +75,20 @@ fn breadth_first(
 ) -> Result<Order, AllocError>
     requires root_in { root < size table.now }
     requires len { vec_len blocks.now ≡ size table.now }
-    requires within { (s : ℕ) → s < size table.now → slice_index blocks.now.items s < vec_len leaders.now }
-    requires leaders { AreLeaders (size table.now) (slice_index blocks.now.items) (slice_index leaders.now.items) }
+    requires within { (s : ℕ) → s < size table.now →
+        slice_index blocks.now.items s < vec_len leaders.now }
+    requires leaders { AreLeaders (size table.now) (slice_index blocks.now.items)
+        (slice_index leaders.now.items) }
     ensures len { IfOk result (λ o. vec_len o.numbers ≡ vec_len leaders.now) }
     ensures some { IfOk result (λ o. 0 < vec_len o.states) }
-    ensures start { IfOk result (λ o. slice_index o.states.items 0 ≡ slice_index blocks.now.items root) }
-    ensures used { IfOk result (λ o. AreUsed (size table.now) (slice_index blocks.now.items) o.states.items) }
-    ensures in_turn { IfOk result (λ o. IsInTurn (λ b k. target_block table.now (slice_index blocks.now.items) (slice_index leaders.now.items b) k) o.numbers.items o.states.items (length o.states.items) 0) }
+    ensures start { IfOk result (λ o.
+        slice_index o.states.items 0 ≡ slice_index blocks.now.items root) }
+    ensures used { IfOk result (λ o.
+        AreUsed (size table.now) (slice_index blocks.now.items) o.states.items) }
+    ensures in_turn { IfOk result
+        (λ o. IsInTurn (λ b k. target_block table.now (slice_index blocks.now.items)
+        (slice_index leaders.now.items b) k) o.numbers.items o.states.items
+        (length o.states.items) 0) }
 {
     let mut order = Order::new(alloc, leaders.len())?;
     order.meet(blocks[root])?;
@@ -87,9 +103,12 @@ fn breadth_first(
 /// The row's targets, as numbers of blocks.
 fn numbered_row(row: &Row, blocks: &Vec<usize>, numbers: &Vec<usize>) -> Row
     requires inside { (k t : ℕ) → target_by row.now k ≡ Some t → t < vec_len blocks.now }
-    requires within { (s : ℕ) → s < vec_len blocks.now → slice_index blocks.now.items s < vec_len numbers.now }
+    requires within { (s : ℕ) → s < vec_len blocks.now →
+        slice_index blocks.now.items s < vec_len numbers.now }
     requires few { (b : ℕ) → slice_index numbers.now.items b < 2 ^ 32 }
-    ensures { (k : ℕ) → target_by result k ≡ option_and_then (λ b. target_of (slice_index numbers.now.items b)) (option_map (slice_index blocks.now.items) (target_by row.now k)) }
+    ensures { (k : ℕ) → target_by result k
+        ≡ option_and_then (λ b. target_of (slice_index numbers.now.items b))
+        (option_map (slice_index blocks.now.items) (target_by row.now k)) }
 {
     let mut numbered = [0; 257];
     for k in 0..WIDTH {
@@ -111,13 +130,17 @@ fn numbered_rows(
 ) -> Result<Rows, AllocError>
     requires len { vec_len blocks.now ≡ size table.now }
     requires room { vec_len leaders.now ≡ vec_len order.now.numbers }
-    requires within { (s : ℕ) → s < size table.now → slice_index blocks.now.items s < vec_len leaders.now }
-    requires leaders { (i : ℕ) → i < vec_len order.now.states → slice_index leaders.now.items (slice_index order.now.states.items i) < size table.now }
+    requires within { (s : ℕ) → s < size table.now →
+        slice_index blocks.now.items s < vec_len leaders.now }
+    requires leaders { (i : ℕ) → i < vec_len order.now.states →
+        slice_index leaders.now.items (slice_index order.now.states.items i) < size table.now }
     requires few { (b : ℕ) → slice_index order.now.numbers.items b < 2 ^ 32 }
     ensures len { IfOk result (λ r. length (rows_of r) ≡ vec_len order.now.states) }
-    ensures rows { IfOk result (λ r. (i k : ℕ) → i < vec_len order.now.states → target_in (rows_of r) i k
+    ensures rows { IfOk result (λ r. (i k : ℕ) → i < vec_len order.now.states →
+        target_in (rows_of r) i k
         ≡ option_and_then (λ b. target_of (slice_index order.now.numbers.items b))
-        (target_block table.now (slice_index blocks.now.items) (slice_index leaders.now.items (slice_index order.now.states.items i)) k)) }
+        (target_block table.now (slice_index blocks.now.items)
+        (slice_index leaders.now.items (slice_index order.now.states.items i)) k)) }
 {
     let mut rows = Rows::new(alloc);
     for block in &order.states {
@@ -135,9 +158,12 @@ fn numbered_marks(
     order: &Order,
 ) -> Result<Vec<Mark>, AllocError>
     requires room { vec_len leaders.now ≡ vec_len order.now.numbers }
-    requires leaders { (i : ℕ) → i < vec_len order.now.states → slice_index leaders.now.items (slice_index order.now.states.items i) < size table.now }
+    requires leaders { (i : ℕ) → i < vec_len order.now.states →
+        slice_index leaders.now.items (slice_index order.now.states.items i) < size table.now }
     ensures len { IfOk result (λ v. vec_len v ≡ vec_len order.now.states) }
-    ensures marks { IfOk result (λ v. (i : ℕ) → i < vec_len order.now.states → mark_in v.items i ≡ mark table.now (slice_index leaders.now.items (slice_index order.now.states.items i))) }
+    ensures marks { IfOk result (λ v. (i : ℕ) → i < vec_len order.now.states →
+        mark_in v.items i ≡ mark table.now
+        (slice_index leaders.now.items (slice_index order.now.states.items i))) }
 {
     let mut marks = Vec::new(alloc);
     for block in &order.states {
@@ -164,9 +190,12 @@ pub fn number(
 ) -> Result<Numbering, AllocError>
     requires root_in { root < size table.now }
     requires len { vec_len blocks.now ≡ size table.now }
-    requires within { (s : ℕ) → s < size table.now → slice_index blocks.now.items s < vec_len leaders.now }
-    requires leaders { AreLeaders (size table.now) (slice_index blocks.now.items) (slice_index leaders.now.items) }
-    ensures { IfOk result (λ r. IsNumbered table.now (slice_index blocks.now.items) (slice_index leaders.now.items) root r.states.items r.table) }
+    requires within { (s : ℕ) → s < size table.now →
+        slice_index blocks.now.items s < vec_len leaders.now }
+    requires leaders { AreLeaders (size table.now) (slice_index blocks.now.items)
+        (slice_index leaders.now.items) }
+    ensures { IfOk result (λ r. IsNumbered table.now (slice_index blocks.now.items)
+        (slice_index leaders.now.items) root r.states.items r.table) }
 {
     let order = breadth_first(alloc, table, blocks, leaders, root)?;
     let rows = numbered_rows(alloc, table, blocks, leaders, &order)?;

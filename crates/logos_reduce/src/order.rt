@@ -35,9 +35,12 @@ impl Order {
         ensures len { vec_len self.new.numbers ≡ vec_len self.old.numbers }
         ensures grows { Grows self.old.numbers.items self.new.numbers.items }
         ensures met { OnOk result (IsMet self.new.numbers.items s) }
-        ensures known { IsMet self.old.numbers.items s → self.new.states.items ≡ self.old.states.items }
-        ensures fresh { slice_index self.old.numbers.items s ≡ 0 → OnOk result (self.new.states.items ≡ self.old.states.items ++ s ∷ []) }
-        ensures only { (t : ℕ) → IsMet self.new.numbers.items t → IsMet self.old.numbers.items t ⊎ (t ≡ s) }
+        ensures known { IsMet self.old.numbers.items s →
+            self.new.states.items ≡ self.old.states.items }
+        ensures fresh { slice_index self.old.numbers.items s ≡ 0 →
+            OnOk result (self.new.states.items ≡ self.old.states.items ++ s ∷ []) }
+        ensures only { (t : ℕ) → IsMet self.new.numbers.items t →
+            IsMet self.old.numbers.items t ⊎ (t ≡ s) }
     {
         if self.numbers[s] == 0 {
             self.states.push(s)?;
@@ -52,7 +55,8 @@ impl Order {
         ensures len { vec_len self.new.numbers ≡ vec_len self.old.numbers }
         ensures grows { Grows self.old.numbers.items self.new.numbers.items }
         ensures met { OnOk result (wanted ≡ true → IsMet self.new.numbers.items s) }
-        ensures only { (t : ℕ) → IsMet self.new.numbers.items t → IsMet self.old.numbers.items t ⊎ ((t ≡ s) × (wanted ≡ true)) }
+        ensures only { (t : ℕ) → IsMet self.new.numbers.items t →
+            IsMet self.old.numbers.items t ⊎ ((t ≡ s) × (wanted ≡ true)) }
     {
         if wanted {
             self.meet(s)?;

@@ -41,7 +41,8 @@ fn is_seed(table: &Table, s: usize) -> bool
 fn seeds(alloc: Global, table: &Table) -> Result<Order, AllocError>
     ensures len { IfOk result (λ o. vec_len o.numbers ≡ size table.now) }
     ensures only { IfOk result (λ o. (s : ℕ) → IsMet o.numbers.items s → IsSeed table.now s) }
-    ensures all { IfOk result (λ o. (s : ℕ) → s < size table.now → IsSeed table.now s → IsMet o.numbers.items s) }
+    ensures all { IfOk result (λ o. (s : ℕ) → s < size table.now → IsSeed table.now s →
+        IsMet o.numbers.items s) }
 {
     let mut order = Order::new(alloc, table.len())?;
     for s in 0..table.len() {
@@ -55,8 +56,10 @@ fn meet_all(order: &mut Order, list: &Vec<usize>) -> Result<(), AllocError>
     requires { (s : ℕ) → has list.now.items s ≡ true → s < vec_len order.old.numbers }
     ensures len { vec_len order.new.numbers ≡ vec_len order.old.numbers }
     ensures grows { Grows order.old.numbers.items order.new.numbers.items }
-    ensures all { OnOk result ((s : ℕ) → has list.now.items s ≡ true → IsMet order.new.numbers.items s) }
-    ensures only { (s : ℕ) → IsMet order.new.numbers.items s → IsMet order.old.numbers.items s ⊎ (has list.now.items s ≡ true) }
+    ensures all { OnOk result ((s : ℕ) → has list.now.items s ≡ true →
+        IsMet order.new.numbers.items s) }
+    ensures only { (s : ℕ) → IsMet order.new.numbers.items s →
+        IsMet order.old.numbers.items s ⊎ (has list.now.items s ≡ true) }
 {
     for s in list {
         order.meet(*s)?;
@@ -83,7 +86,8 @@ fn useful_states(alloc: Global, table: &Table) -> Result<Order, AllocError>
 /// The row without the targets that are not in the order.
 fn pruned_row(row: &Row, order: &Order) -> Row
     requires { (k t : ℕ) → target_by row.now k ≡ Some t → t < vec_len order.now.numbers }
-    ensures { (k : ℕ) → target_by result k ≡ kept_target order.now.numbers.items (target_by row.now k) }
+    ensures { (k : ℕ) → target_by result k
+        ≡ kept_target order.now.numbers.items (target_by row.now k) }
 {
     let mut pruned = *row;
     for k in 0..WIDTH {
@@ -108,7 +112,8 @@ fn pruned_entry(row: &Row, k: usize, order: &Order) -> u32
 fn pruned_rows(alloc: Global, table: &Table, order: &Order) -> Result<Rows, AllocError>
     requires { vec_len order.now.numbers ≡ size table.now }
     ensures len { IfOk result (λ r. length (rows_of r) ≡ size table.now) }
-    ensures rows { IfOk result (λ r. (s k : ℕ) → s < size table.now → target_in (rows_of r) s k ≡ kept_target order.now.numbers.items (to table.now s k)) }
+    ensures rows { IfOk result (λ r. (s k : ℕ) → s < size table.now →
+        target_in (rows_of r) s k ≡ kept_target order.now.numbers.items (to table.now s k)) }
 {
     let mut rows = Rows::new(alloc);
     for s in 0..table.len() {

@@ -28,7 +28,7 @@ pub struct Reduction {
 ///
 /// Early marks are set, and late marks that they make needless are dropped; edges to states that have no mark and lead to
 /// none are left out; states that nothing tells apart are merged; and the states that the root leads to are numbered by
-/// first visit. Where each state can be state_behind, and there are only late marks, and none behind the end, each state is of
+/// first visit. Where each state can be reached, and there are only late marks, and none behind the end, each state is of
 /// use and `telling` finds what tells two of them apart.
 ///
 /// # Errors

@@ -49,8 +49,10 @@ fn note_target(table: &Table, target: Option<usize>, early: Option<usize>, neede
     requires len { vec_len needed.old ≡ size table.now }
     ensures len { vec_len needed.new ≡ vec_len needed.old }
     ensures kept { (t : ℕ) → IsSet needed.old.items t → IsSet needed.new.items t }
-    ensures needed { (t : ℕ) → IsSet needed.new.items t → IsSet needed.old.items t ⊎ ((target ≡ Some t) × ((mark table.now t).accept ≢ early)) }
-    ensures spare { (t : ℕ) → target ≡ Some t → IsSet needed.new.items t ⊎ ((mark table.now t).accept ≡ early) }
+    ensures needed { (t : ℕ) → IsSet needed.new.items t →
+        IsSet needed.old.items t ⊎ ((target ≡ Some t) × ((mark table.now t).accept ≢ early)) }
+    ensures spare { (t : ℕ) → target ≡ Some t →
+        IsSet needed.new.items t ⊎ ((mark table.now t).accept ≡ early) }
 {
     if let Some(t) = target {
         if table.mark(t).accept != early {
@@ -65,7 +67,8 @@ fn note_targets(table: &Table, s: usize, early: Option<usize>, needed: &mut Vec<
     requires len { vec_len needed.old ≡ size table.now }
     ensures len { vec_len needed.new ≡ vec_len needed.old }
     ensures kept { (t : ℕ) → IsSet needed.old.items t → IsSet needed.new.items t }
-    ensures needed { (t : ℕ) → IsSet needed.new.items t → IsSet needed.old.items t ⊎ IsNeeded table.now s early t }
+    ensures needed { (t : ℕ) → IsSet needed.new.items t →
+        IsSet needed.old.items t ⊎ IsNeeded table.now s early t }
     ensures spare { (t : ℕ) → IsSet needed.new.items t ⊎ IsSpare table.now s early t }
 {
     for k in 0..WIDTH {
@@ -81,7 +84,8 @@ fn needed_marks(
 ) -> Result<Vec<bool>, AllocError>
     requires { vec_len early.now ≡ size table.now }
     ensures len { IfOk result (λ v. vec_len v ≡ size table.now) }
-    ensures needed { IfOk result (λ v. AreNeeded table.now early.now.items (size table.now) v.items) }
+    ensures needed { IfOk result (λ v.
+        AreNeeded table.now early.now.items (size table.now) v.items) }
 {
     let mut needed = vec![in alloc; false; table.len()]?;
     for s in 0..table.len() {
@@ -111,7 +115,8 @@ fn settled_marks(
     requires early { vec_len early.now ≡ size table.now }
     requires needed { vec_len needed.now ≡ size table.now }
     ensures len { IfOk result (λ v. vec_len v ≡ size table.now) }
-    ensures marks { IfOk result (λ v. (s : ℕ) → s < size table.now → IsMarkedBy table.now early.now.items needed.now.items s (mark_in v.items s)) }
+    ensures marks { IfOk result (λ v. (s : ℕ) → s < size table.now →
+        IsMarkedBy table.now early.now.items needed.now.items s (mark_in v.items s)) }
 {
     let mut marks = Vec::new(alloc);
     for s in 0..table.len() {

@@ -5,10 +5,12 @@ ghost use Rattle.logos_reduce.specs.RowsView.{rows_of};
 
 use crate::rows::{Row, Rows, target_at};
 
-/// The leaf whose match ends one byte before a state, and the leaf whose match ends there.
+/// The leaves whose matches end where a state is, or one byte before.
 #[derive(Clone, Copy, PartialEq, Eq, Hash, Debug, Drop)]
 pub struct Mark {
+    /// The leaf whose match ends one byte before.
     pub accept: Option<usize>,
+    /// The leaf whose match ends there.
     pub early: Option<usize>,
 }
 
@@ -26,6 +28,9 @@ impl Table {
     ghost use Rattle.logos_reduce.specs.Table.{mark_in, size, to, mark};
 
     /// The table with these marks and rows: state `s` has mark `s` and row `s`.
+    ///
+    /// There is a mark for each row, each target is the number of a state, and there are fewer than 4,294,967,295 states.
+    /// The rows are added one by one with `Rows::push`, in the order of the states.
     pub fn new(marks: Vec<Mark>, rows: Rows) -> Table
         requires same_len { length (rows_of rows) ≡ vec_len marks }
         requires closed { IsClosed (vec_len marks) (rows_of rows) }

@@ -1,5 +1,5 @@
 -- The states of a numbered table are in the order of their first edges.
-use Rattle.std.proofs.Common.{◌≡◌, ℕ, zero, suc, ◌<◌, ◌≤◌, ◌+◌, ◌⊎◌, inl, inr, slice_index, List, Option, Some, option_and_then, refl, sym, ◌∙◌, ap, arith}
+use Rattle.std.proofs.Common.{◌≡◌, ℕ, zero, suc, ◌<◌, ◌≤◌, ◌+◌, ◌⊎◌, inl, inr, slice_index, List, Option, Some, option_and_then, sym, ◌∙◌, ap, arith}
 use Rattle.logos_reduce.specs.Merge.{target_block}
 use Rattle.logos_reduce.specs.Number.{ComesBefore, IsFirstInto, IsNumbered}
 use Rattle.logos_reduce.specs.Reduction.{IsFirstEdge, IsInOrder}

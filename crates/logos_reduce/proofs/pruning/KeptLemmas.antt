@@ -1,8 +1,8 @@
 -- The edges that are left without those to states of no use.
-use Rattle.std.proofs.Common.{◌≡◌, ℕ, ◌<◌, ◌⊎◌, inl, inr, Option, Some, None, refl, ◌∙◌, ap, subst}
+use Rattle.std.proofs.Common.{◌≡◌, ℕ, ◌⊎◌, inl, inr, Option, Some, None, refl, ◌∙◌, ap, subst}
 use Rattle.logos_reduce.specs.Edges.{Leads, to_mark, onward, to_end}
 use Rattle.logos_reduce.specs.Prune.{IsOfUse, IsPrunedTable}
-use Rattle.logos_reduce.specs.Table.{to, mark, mark_in, type_of, edges}
+use Rattle.logos_reduce.specs.Table.{to, mark, mark_in, edges}
 use Rattle.logos_reduce.specs.declared.table.Table.{Table}
 
 module _ (old new : Table) (prune : IsPrunedTable old new) where

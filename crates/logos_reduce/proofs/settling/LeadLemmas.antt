@@ -1,5 +1,5 @@
--- What leads to a mark once the marks are settled target_block to one before.
-use Rattle.std.proofs.Common.{◌≡◌, ℕ, ◌<◌, inl, inr, List, Option, Some, None, IsSome, option_and_then, refl, sym, ◌∙◌, ap, subst, arith}
+-- What leads to a mark once the marks are settled led to one before.
+use Rattle.std.proofs.Common.{◌≡◌, ℕ, ◌<◌, inl, inr, List, Option, Some, None, IsSome, option_and_then, refl, sym, ◌∙◌, ap, arith}
 use Rattle.logos_reduce.specs.Edges.{Leads, to_mark, onward, to_end}
 use Rattle.logos_reduce.specs.Raw.{IsRaw}
 use Rattle.logos_reduce.specs.RowsView.{rows_of}

@@ -16,18 +16,24 @@ abbrev pub landing : List ℕ → ℕ → ℕ → ℕ
 landing twins fresh b = if nat_lt b fresh then twin_of twins fresh b else b
 
 -- the first i hits are in the blocks that they go to, other states where they were, and each is in the list of its block
-pub record HaveMoved (n i fresh : ℕ) (old blocks twins hits : List ℕ) (lists : List (Vec ℕ Global)) : Type 0 where
-  pub moved : (j : ℕ) → j < i → slice_index blocks (slice_index hits j) ≡ twin_of twins fresh (slice_index old (slice_index hits j))
+pub record HaveMoved (n i fresh : ℕ) (old blocks twins hits : List ℕ)
+    (lists : List (Vec ℕ Global)) : Type 0 where
+  pub moved : (j : ℕ) → j < i →
+      slice_index blocks (slice_index hits j)
+      ≡ twin_of twins fresh (slice_index old (slice_index hits j))
   pub kept : (s : ℕ) → s < n →
-      (slice_index blocks s ≡ slice_index old s) ⊎ ((has hits s ≡ true) × (slice_index blocks s ≡ twin_of twins fresh (slice_index old s)))
+      (slice_index blocks s ≡ slice_index old s)
+      ⊎ ((has hits s ≡ true) × (slice_index blocks s ≡ twin_of twins fresh (slice_index old s)))
   pub filed : AreFiled n (slice_index blocks) lists
 
 -- the sources have each state that leads into the block
 abbrev pub AreSources : ℕ → (ℕ → ℕ → Option ℕ) → List ℕ → ℕ → Type 0
-AreSources n target_block sources b = (s k : ℕ) → s < n → target_block s k ≡ Some b → has sources s ≡ true
+AreSources n target_block sources b = (s k : ℕ) → s < n → target_block s k ≡ Some b →
+    has sources s ≡ true
 
 -- the hits are those of the sources that lead into the block by the symbol
-pub record AreHits (n : ℕ) (target_block : ℕ → ℕ → Option ℕ) (sources hits : List ℕ) (b k : ℕ) : Type 0 where
+pub record AreHits (n : ℕ) (target_block : ℕ → ℕ → Option ℕ)
+    (sources hits : List ℕ) (b k : ℕ) : Type 0 where
   pub inside : (i : ℕ) → i < length hits → slice_index hits i < n
   pub lead_in : (i : ℕ) → i < length hits → target_block (slice_index hits i) k ≡ Some b
   pub all : (s : ℕ) → s < n → has sources s ≡ true → target_block s k ≡ Some b → has hits s ≡ true

@@ -12,12 +12,16 @@ IsFiner n fine block = (s t : ℕ) → s < n → t < n → fine s ≡ fine t →
 
 -- a state is alone in a new block, with those of its block that lead where it leads, or stays where it was
 abbrev pub IsLanding : ℕ → Option ℕ → ℕ → ℕ → Option ℕ → ℕ → Type 0
-IsLanding home to fresh block target_block new = ((block ≡ home) × (target_block ≡ to) × (new ≡ fresh)) ⊎ (((block ≢ home) ⊎ (target_block ≢ to)) × (new ≡ block))
+IsLanding home to fresh block target new =
+    ((block ≡ home) × (target ≡ to) × (new ≡ fresh))
+    ⊎ (((block ≢ home) ⊎ (target ≢ to)) × (new ≡ block))
 
 -- the new block of a block whose hit states have left it by the symbol
 pub record AreTwins (fresh k : ℕ) (twins : List ℕ) (splits : List Split) : Type 0 where
-  pub named : (c : ℕ) → fresh ≤ slice_index twins c → (slice_index twins c < length splits) × ((split_at splits (slice_index twins c)).parent ≡ c)
-  pub paired : (j : ℕ) → fresh ≤ j → j < length splits → slice_index twins (split_at splits j).parent ≡ j
+  pub named : (c : ℕ) → fresh ≤ slice_index twins c →
+      (slice_index twins c < length splits) × ((split_at splits (slice_index twins c)).parent ≡ c)
+  pub paired : (j : ℕ) → fresh ≤ j → j < length splits →
+      slice_index twins (split_at splits j).parent ≡ j
   pub older : (j : ℕ) → fresh ≤ j → j < length splits → (split_at splits j).parent < fresh
   pub by : (j : ℕ) → fresh ≤ j → j < length splits → (split_at splits j).symbol ≡ Some k
 
@@ -36,9 +40,11 @@ abbrev pub key_of : Mark → List ℕ
 key_of m = (tagged m.accept).0 ∷ (tagged m.accept).1 ∷ (tagged m.early).0 ∷ (tagged m.early).1 ∷ []
 
 -- the blocks of the first n states are the numbers of the keys of their marks
-pub record AreKeyNumbers (table : Table) (n : ℕ) (blocks : List ℕ) (keys : List (List ℕ)) : Type 0 where
+pub record AreKeyNumbers (table : Table) (n : ℕ) (blocks : List ℕ)
+    (keys : List (List ℕ)) : Type 0 where
   pub keyed : (s : ℕ) → s < n → slice_get keys (slice_index blocks s) ≡ Some (key_of (mark table s))
-  pub distinct : (i j : ℕ) (key : List ℕ) → slice_get keys i ≡ Some key → slice_get keys j ≡ Some key → i ≡ j
+  pub distinct : (i j : ℕ) (key : List ℕ) → slice_get keys i ≡ Some key →
+      slice_get keys j ≡ Some key → i ≡ j
 
 -- the block that a block was parted from, if it is not one of the first ones
 abbrev pub block_before : List Split → ℕ → ℕ → ℕ
@@ -49,6 +55,8 @@ pub record IsExtension (table : Table) (splits more : List Split) (old new : ℕ
   pub goes_on : Continues splits more
   pub within : IsWithin (size table) new (length more)
   pub before : (s : ℕ) → s < size table → old s ≡ block_before more (length splits) (new s)
-  pub older : (j : ℕ) → length splits ≤ j → j < length more → (split_at more j).parent < length splits
-  pub parted : (j s t : ℕ) → length splits ≤ j → j < length more → s < size table → t < size table → new s ≡ j → new t ≢ j → old t ≡ (split_at more j).parent →
+  pub older : (j : ℕ) → length splits ≤ j → j < length more →
+      (split_at more j).parent < length splits
+  pub parted : (j s t : ℕ) → length splits ≤ j → j < length more → s < size table → t < size table →
+      new s ≡ j → new t ≢ j → old t ≡ (split_at more j).parent →
       ArePartedBy table old (split_at more j).symbol s t

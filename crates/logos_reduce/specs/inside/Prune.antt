@@ -8,7 +8,8 @@ use Rattle.logos_reduce.specs.declared.table.Table.{Table}
 
 -- the state has a mark, or leads to one by the end
 abbrev pub IsSeed : Table → ℕ → Type 0
-IsSeed table s = IsMarked (type_of (mark table s)) ⊎ ((t : ℕ) × (to table s 256 ≡ Some t) × IsMarked (type_of (mark table t)))
+IsSeed table s = IsMarked (type_of (mark table s))
+    ⊎ ((t : ℕ) × (to table s 256 ≡ Some t) × IsMarked (type_of (mark table t)))
 
 -- in the order are just the states that have a mark or lead to one
 abbrev pub AreUseful : Table → List ℕ → Type 0

@@ -10,4 +10,5 @@ pub record ArePartedAt (r : Reduction) (s t j : ℕ) : Type 0 where
   pub inside : j < length r.splits.items
   pub together : (h : HistoryOf r) → h.at j s ≡ h.at j t
   pub later : (h : HistoryOf r) → h.at (j + 1) s ≢ h.at (j + 1) t
-  pub parted : (h : HistoryOf r) → ArePartedBy r.table (h.at j) (split_at r.splits.items j).symbol s t
+  pub parted : (h : HistoryOf r) →
+      ArePartedBy r.table (h.at j) (split_at r.splits.items j).symbol s t

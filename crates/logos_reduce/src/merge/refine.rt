@@ -7,12 +7,12 @@ ghost use Rattle.logos_reduce.specs.inside.Lists.{AreFiled, AreSources, AreHits}
 ghost use Rattle.logos_reduce.specs.Table.{size, to};
 ghost use Rattle.logos_reduce.specs.Rows.{target_by};
 
+use crate::lists::{add, empty_lists, file, predecessors};
 use crate::merge::blocks::Blocks;
 use crate::merge::hints::Hints;
-use crate::lists::{add, empty_lists, file, predecessors};
+use crate::merge::twins::{Work, split_on};
 use crate::rows::{Row, WIDTH, target_at};
 use crate::table::Table;
-use crate::merge::twins::{Work, split_on};
 use std::alloc::{AllocError, Global};
 
 /// The block of a target.
@@ -27,7 +27,8 @@ pub fn block_of(target: Option<usize>, blocks: &Vec<usize>) -> Option<usize>
 fn add_all(sources: &mut Vec<usize>, lists: &Vec<Vec<usize>>, t: usize) -> Result<(), AllocError>
     requires { t < vec_len lists.now }
     ensures kept { (s : ℕ) → has sources.old.items s ≡ true → has sources.new.items s ≡ true }
-    ensures added { OnOk result ((s : ℕ) → has_in lists.now.items t s ≡ true → has sources.new.items s ≡ true) }
+    ensures added { OnOk result ((s : ℕ) → has_in lists.now.items t s ≡ true →
+        has sources.new.items s ≡ true) }
 {
     sources.extend_from_slice(&lists[t])?;
     Ok(())
@@ -42,7 +43,8 @@ fn all_sources(
 ) -> Result<Vec<usize>, AllocError>
     requires b_in { b < vec_len work.now.splits }
     requires len { vec_len from.now ≡ vec_len work.now.blocks }
-    ensures { IfOk result (λ v. (t s : ℕ) → t < vec_len work.now.blocks → slice_index work.now.blocks.items t ≡ b →
+    ensures { IfOk result (λ v. (t s : ℕ) → t < vec_len work.now.blocks →
+        slice_index work.now.blocks.items t ≡ b →
         has_in from.now.items t s ≡ true → has v.items s ≡ true) }
 {
     let mut sources = Vec::new(alloc);
@@ -74,7 +76,8 @@ fn sources_of(
 ) -> Result<Vec<usize>, AllocError>
     requires b_in { b < vec_len work.now.splits }
     requires len { vec_len from.now ≡ vec_len work.now.blocks }
-    ensures { IfOk result (λ v. (t s : ℕ) → t < vec_len work.now.blocks → slice_index work.now.blocks.items t ≡ b →
+    ensures { IfOk result (λ v. (t s : ℕ) → t < vec_len work.now.blocks →
+        slice_index work.now.blocks.items t ≡ b →
         has_in from.now.items t s ≡ true → has v.items s ≡ true) }
 {
     let mut all = all_sources(alloc, work, from, b)?;
@@ -87,7 +90,8 @@ fn sources_of(
 fn leads_into(table: &Table, blocks: &Vec<usize>, s: usize, b: usize, k: usize) -> bool
     requires len { vec_len blocks.now ≡ size table.now }
     requires k_in { k < 257 }
-    ensures { IsTrue result ↔ ((s < size table.now) × (target_block table.now (slice_index blocks.now.items) s k ≡ Some b)) }
+    ensures { IsTrue result ↔ ((s < size table.now)
+        × (target_block table.now (slice_index blocks.now.items) s k ≡ Some b)) }
 {
     s < table.len() && block_of(table.target(s, k), blocks) == Some(b)
 }
@@ -103,7 +107,9 @@ fn hits_of(
 ) -> Result<Vec<usize>, AllocError>
     requires len { vec_len blocks.now ≡ size table.now }
     requires k_in { k < 257 }
-    ensures hits { IfOk result (λ v. AreHits (size table.now) (target_block table.now (slice_index blocks.now.items)) sources.now.items v.items b k) }
+    ensures hits { IfOk result (λ v.
+        AreHits (size table.now) (target_block table.now (slice_index blocks.now.items))
+        sources.now.items v.items b k) }
 {
     let mut hits = Vec::new(alloc);
     for s in sources {
@@ -126,15 +132,22 @@ fn split_by_symbol(
     requires k_in { k < 257 }
     requires len { vec_len work.blocks ≡ size table.now }
     requires b_in { b < vec_len work.splits }
-    requires sources { AreSources (size table.now) (target_block table.now (slice_index work.blocks.items)) sources.now.items b }
+    requires sources { AreSources (size table.now)
+        (target_block table.now (slice_index work.blocks.items)) sources.now.items b }
     requires sound { IsSound table.now work.splits.items (slice_index work.blocks.items) }
     ensures len { IfOk result (λ w. vec_len w.blocks ≡ vec_len work.blocks) }
     ensures lists_len { IfOk result (λ w. vec_len w.lists ≡ vec_len work.lists) }
-    ensures sound { IfOk result (λ w. IsSound table.now w.splits.items (slice_index w.blocks.items)) }
-    ensures finer { IfOk result (λ w. IsFiner (size table.now) (slice_index w.blocks.items) (slice_index work.blocks.items)) }
-    ensures falls { IfOk result (λ w. 2 * (vec_len w.lists - vec_len w.splits) + vec_len w.hints.todo ≤ 2 * (vec_len work.lists - vec_len work.splits) + vec_len work.hints.todo) }
+    ensures sound { IfOk result (λ w.
+        IsSound table.now w.splits.items (slice_index w.blocks.items)) }
+    ensures finer { IfOk result (λ w.
+        IsFiner (size table.now) (slice_index w.blocks.items) (slice_index work.blocks.items)) }
+    ensures falls { IfOk result (λ w.
+        2 * (vec_len w.lists - vec_len w.splits) + vec_len w.hints.todo
+        ≤ 2 * (vec_len work.lists - vec_len work.splits) + vec_len work.hints.todo) }
     ensures b_in { IfOk result (λ w. b < vec_len w.splits) }
-    ensures sources { IfOk result (λ w. AreSources (size table.now) (target_block table.now (slice_index w.blocks.items)) sources.now.items b) }
+    ensures sources { IfOk result
+        (λ w. AreSources (size table.now)
+        (target_block table.now (slice_index w.blocks.items)) sources.now.items b) }
 {
     let hits = hits_of(alloc, table, &work.blocks, sources, b, k)?;
     if hits.is_empty() {
@@ -180,13 +193,18 @@ fn split_by_block(
 ) -> Result<Work, AllocError>
     requires len { vec_len work.blocks ≡ size table.now }
     requires b_in { b < vec_len work.splits }
-    requires sources { AreSources (size table.now) (target_block table.now (slice_index work.blocks.items)) sources.now.items b }
+    requires sources { AreSources (size table.now)
+        (target_block table.now (slice_index work.blocks.items)) sources.now.items b }
     requires sound { IsSound table.now work.splits.items (slice_index work.blocks.items) }
     ensures len { IfOk result (λ w. vec_len w.blocks ≡ vec_len work.blocks) }
     ensures lists_len { IfOk result (λ w. vec_len w.lists ≡ vec_len work.lists) }
-    ensures sound { IfOk result (λ w. IsSound table.now w.splits.items (slice_index w.blocks.items)) }
-    ensures finer { IfOk result (λ w. IsFiner (size table.now) (slice_index w.blocks.items) (slice_index work.blocks.items)) }
-    ensures falls { IfOk result (λ w. 2 * (vec_len w.lists - vec_len w.splits) + vec_len w.hints.todo ≤ 2 * (vec_len work.lists - vec_len work.splits) + vec_len work.hints.todo) }
+    ensures sound { IfOk result (λ w.
+        IsSound table.now w.splits.items (slice_index w.blocks.items)) }
+    ensures finer { IfOk result (λ w.
+        IsFiner (size table.now) (slice_index w.blocks.items) (slice_index work.blocks.items)) }
+    ensures falls { IfOk result (λ w.
+        2 * (vec_len w.lists - vec_len w.splits) + vec_len w.hints.todo
+        ≤ 2 * (vec_len work.lists - vec_len work.splits) + vec_len work.hints.todo) }
 {
     let mut split = work;
     let used = symbols_into(table, &split.blocks, sources, b);
@@ -201,7 +219,8 @@ fn split_by_block(
 impl Work {
     /// The next block to look at.
     fn next(&mut self) -> Option<usize>
-        ensures some { OnSome result (vec_len self.new.hints.todo + 1 ≡ vec_len self.old.hints.todo) }
+        ensures some { OnSome result (vec_len self.new.hints.todo + 1
+            ≡ vec_len self.old.hints.todo) }
         ensures blocks { self.new.blocks ≡ self.old.blocks }
         ensures splits { self.new.splits ≡ self.old.splits }
         ensures lists { self.new.lists ≡ self.old.lists }
@@ -243,7 +262,8 @@ fn filed_states(
 ) -> Result<Vec<Vec<usize>>, AllocError>
     requires { (s : ℕ) → s < vec_len blocks.now → slice_index blocks.now.items s < room }
     ensures len { IfOk result (λ v. vec_len v ≡ room) }
-    ensures filed { IfOk result (λ v. AreFiled (vec_len blocks.now) (slice_index blocks.now.items) v.items) }
+    ensures filed { IfOk result (λ v.
+        AreFiled (vec_len blocks.now) (slice_index blocks.now.items) v.items) }
 {
     let mut lists = empty_lists(alloc, room)?;
     for s in 0..blocks.len() {
@@ -278,7 +298,8 @@ pub fn refine(alloc: Global, table: &Table, blocks: Blocks) -> Result<Blocks, Al
     requires sound { IsSound table.now blocks.splits.items (slice_index blocks.of.items) }
     ensures len { IfOk result (λ r. vec_len r.of ≡ size table.now) }
     ensures sound { IfOk result (λ r. IsSound table.now r.splits.items (slice_index r.of.items)) }
-    ensures finer { IfOk result (λ r. IsFiner (size table.now) (slice_index r.of.items) (slice_index blocks.of.items)) }
+    ensures finer { IfOk result (λ r.
+        IsFiner (size table.now) (slice_index r.of.items) (slice_index blocks.of.items)) }
 {
     if blocks.splits.is_empty() {
         return Ok(blocks);

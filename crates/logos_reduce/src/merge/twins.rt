@@ -4,9 +4,9 @@ ghost use Rattle.logos_reduce.specs.inside.Merge.{AreTwins, Continues};
 ghost use Rattle.logos_reduce.specs.Lists.{has_in};
 ghost use Rattle.logos_reduce.specs.inside.Lists.{AreFiled, landing, HaveMoved};
 
+use crate::lists::file;
 use crate::merge::blocks::Split;
 use crate::merge::hints::Hints;
-use crate::lists::file;
 use std::alloc::{AllocError, Global};
 
 /// The blocks of the hit states.
@@ -16,11 +16,14 @@ fn homes_of(
     blocks: &Vec<usize>,
     hits: &Vec<usize>,
 ) -> Result<Vec<usize>, AllocError>
-    requires hits_in { (i : ℕ) → i < vec_len hits.now → slice_index hits.now.items i < vec_len blocks.now }
-    requires within { (s : ℕ) → s < vec_len blocks.now → slice_index blocks.now.items s < vec_len hints.old.sizes }
+    requires hits_in { (i : ℕ) → i < vec_len hits.now →
+        slice_index hits.now.items i < vec_len blocks.now }
+    requires within { (s : ℕ) → s < vec_len blocks.now →
+        slice_index blocks.now.items s < vec_len hints.old.sizes }
     ensures todo { vec_len hints.new.todo ≡ vec_len hints.old.todo }
     ensures sizes { vec_len hints.new.sizes ≡ vec_len hints.old.sizes }
-    ensures homes { IfOk result (λ h. (vec_len h ≡ vec_len hits.now) × ((i : ℕ) → i < vec_len hits.now →
+    ensures homes { IfOk result (λ h.
+        (vec_len h ≡ vec_len hits.now) × ((i : ℕ) → i < vec_len hits.now →
         slice_index h.items i ≡ slice_index blocks.now.items (slice_index hits.now.items i))) }
 {
     let mut homes = Vec::new(alloc);
@@ -50,7 +53,8 @@ fn choose_twin(
     ensures len { vec_len twins.new ≡ vec_len twins.old }
     ensures sizes { vec_len hints.new.sizes ≡ vec_len hints.old.sizes }
     ensures fits { OnOk result (vec_len splits.new ≤ vec_len twins.old) }
-    ensures todo { OnOk result (vec_len hints.new.todo + vec_len splits.old ≤ vec_len hints.old.todo + vec_len splits.new) }
+    ensures todo { OnOk result (vec_len hints.new.todo + vec_len splits.old
+        ≤ vec_len hints.old.todo + vec_len splits.new) }
     ensures below { OnOk result ((c : ℕ) → slice_index twins.new.items c < vec_len splits.new) }
     ensures twins { OnOk result (AreTwins fresh symbol twins.new.items splits.new.items) }
     ensures goes_on { OnOk result (Continues splits.old.items splits.new.items) }
@@ -77,14 +81,17 @@ fn choose_twins(
 ) -> Result<(), AllocError>
     requires room { vec_len twins.old ≡ vec_len hints.old.sizes }
     requires fits { vec_len splits.old ≤ vec_len twins.old }
-    requires homes_in { (i : ℕ) → i < vec_len homes.now → slice_index homes.now.items i < vec_len splits.old }
+    requires homes_in { (i : ℕ) → i < vec_len homes.now →
+        slice_index homes.now.items i < vec_len splits.old }
     requires below { (c : ℕ) → slice_index twins.old.items c < vec_len splits.old }
     ensures len { vec_len twins.new ≡ vec_len twins.old }
     ensures sizes { vec_len hints.new.sizes ≡ vec_len hints.old.sizes }
     ensures fits { OnOk result (vec_len splits.new ≤ vec_len twins.old) }
-    ensures todo { OnOk result (vec_len hints.new.todo + vec_len splits.old ≤ vec_len hints.old.todo + vec_len splits.new) }
+    ensures todo { OnOk result (vec_len hints.new.todo + vec_len splits.old
+        ≤ vec_len hints.old.todo + vec_len splits.new) }
     ensures below { OnOk result ((c : ℕ) → slice_index twins.new.items c < vec_len splits.new) }
-    ensures twins { OnOk result (AreTwins (vec_len splits.old) symbol twins.new.items splits.new.items) }
+    ensures twins { OnOk result
+        (AreTwins (vec_len splits.old) symbol twins.new.items splits.new.items) }
     ensures goes_on { OnOk result (Continues splits.old.items splits.new.items) }
 {
     let fresh = splits.len();
@@ -108,9 +115,12 @@ fn move_hit(
     requires filed { AreFiled (vec_len blocks.old) (slice_index blocks.old.items) lists.old.items }
     ensures len { vec_len blocks.new ≡ vec_len blocks.old }
     ensures lists_len { vec_len lists.new ≡ vec_len lists.old }
-    ensures landed { OnOk result (slice_index blocks.new.items s ≡ landing twins.now.items fresh (slice_index blocks.old.items s)) }
-    ensures others { (t : ℕ) → t ≢ s → slice_index blocks.new.items t ≡ slice_index blocks.old.items t }
-    ensures filed { OnOk result (AreFiled (vec_len blocks.old) (slice_index blocks.new.items) lists.new.items) }
+    ensures landed { OnOk result (slice_index blocks.new.items s
+        ≡ landing twins.now.items fresh (slice_index blocks.old.items s)) }
+    ensures others { (t : ℕ) → t ≢ s →
+        slice_index blocks.new.items t ≡ slice_index blocks.old.items t }
+    ensures filed { OnOk result (AreFiled (vec_len blocks.old)
+        (slice_index blocks.new.items) lists.new.items) }
 {
     let home = blocks[s];
     if fresh <= home {
@@ -133,14 +143,17 @@ fn move_hits(
     fresh: usize,
     hits: &Vec<usize>,
 ) -> Result<(), AllocError>
-    requires hits_in { (i : ℕ) → i < vec_len hits.now → slice_index hits.now.items i < vec_len blocks.old }
+    requires hits_in { (i : ℕ) → i < vec_len hits.now →
+        slice_index hits.now.items i < vec_len blocks.old }
     requires homes_in { (s : ℕ) → s < vec_len blocks.old → slice_index blocks.old.items s < fresh }
     requires room { fresh ≤ vec_len twins.now }
     requires twins_in { (c : ℕ) → slice_index twins.now.items c < vec_len lists.old }
     requires filed { AreFiled (vec_len blocks.old) (slice_index blocks.old.items) lists.old.items }
     ensures len { vec_len blocks.new ≡ vec_len blocks.old }
     ensures lists_len { vec_len lists.new ≡ vec_len lists.old }
-    ensures moved { OnOk result (HaveMoved (vec_len blocks.old) (vec_len hits.now) fresh blocks.old.items blocks.new.items twins.now.items hits.now.items lists.new.items) }
+    ensures moved { OnOk result (HaveMoved (vec_len blocks.old)
+        (vec_len hits.now) fresh blocks.old.items blocks.new.items
+        twins.now.items hits.now.items lists.new.items) }
 {
     for s in hits {
         move_hit(blocks, lists, twins, fresh, *s)?;
@@ -171,13 +184,20 @@ pub fn split_on(
     hits: &Vec<usize>,
     symbol: usize,
 ) -> Result<Work, AllocError>
-    requires hits_in { (i : ℕ) → i < vec_len hits.now → slice_index hits.now.items i < vec_len work.blocks }
+    requires hits_in { (i : ℕ) → i < vec_len hits.now →
+        slice_index hits.now.items i < vec_len work.blocks }
     ensures len { IfOk result (λ w. vec_len w.blocks ≡ vec_len work.blocks) }
     ensures lists_len { IfOk result (λ w. vec_len w.lists ≡ vec_len work.lists) }
-    ensures moved { IfOk result (λ w. HaveMoved (vec_len work.blocks) (vec_len hits.now) (vec_len work.splits) work.blocks.items w.blocks.items w.twins.items hits.now.items w.lists.items) }
-    ensures twins { IfOk result (λ w. AreTwins (vec_len work.splits) symbol w.twins.items w.splits.items) }
+    ensures moved { IfOk result (λ w.
+        HaveMoved (vec_len work.blocks) (vec_len hits.now)
+        (vec_len work.splits) work.blocks.items w.blocks.items
+        w.twins.items hits.now.items w.lists.items) }
+    ensures twins { IfOk result (λ w.
+        AreTwins (vec_len work.splits) symbol w.twins.items w.splits.items) }
     ensures goes_on { IfOk result (λ w. Continues work.splits.items w.splits.items) }
-    ensures falls { IfOk result (λ w. 2 * (vec_len w.lists - vec_len w.splits) + vec_len w.hints.todo ≤ 2 * (vec_len work.lists - vec_len work.splits) + vec_len work.hints.todo) }
+    ensures falls { IfOk result (λ w.
+        2 * (vec_len w.lists - vec_len w.splits) + vec_len w.hints.todo
+        ≤ 2 * (vec_len work.lists - vec_len work.splits) + vec_len work.hints.todo) }
 {
     let Work {
         mut blocks,

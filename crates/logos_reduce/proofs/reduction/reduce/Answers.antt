@@ -1,5 +1,4 @@
 use Rattle.std.proofs.Common.{Vec, Global, vec_len, slice_index, ap, arith}
-use Rattle.logos_reduce.specs.Reduction.{IsReductionOf}
 use Rattle.logos_reduce.specs.declared.table.Mark.{Mark}
 use Rattle.logos_reduce.proofs.numbering.VisitLemmas.{in_order}
 use Rattle.logos_reduce.proofs.whole.EndLemmas.{least, tellable}
