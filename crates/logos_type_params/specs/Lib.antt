@@ -1,0 +1,4 @@
+pub mod Substitution
+pub mod SubstitutionViews
+pub mod SelfReference
+pub mod inside
