@@ -130,9 +130,10 @@ fn code_of<'g, 's>(
     requires of_leaves { IsGraphOf graph.now.leaves graph.now.utf8 graph.now }
     requires faultless { graph.now.faults ≡ [] }
     ensures lexer { IfOk result (IsLexer (rules_of graph.now.leaves) graph.now.utf8) }
-    ensures keeps { IfOk result (KeepsGiven (record { given = record { shape = config; name = name.entry; this = this.now; error_callback = None }; graph = graph.now })) }
+    ensures keeps { IfOk result (KeepsGiven (record { shape = config; name = name.entry; this = this.now; error_callback = None }) graph.now) }
 {
-    Generator::new(config, name, this, graph, None).generate(alloc)
+    let mut generator = Generator::new(alloc, config, name, this, graph, None);
+    generator.generate(alloc)
 }
 
 /// The code of the lexer that a source says.

@@ -4,8 +4,8 @@ use Rattle.logos_pattern.specs.declared.leaf.Leaf.{Leaf}
 use Rattle.logos_graph.specs.View.{GraphValue, rule_of, rules_of}
 use Rattle.logos_automaton.specs.Munch.{Use, Rule, Found, ended, matched, failed, Finds}
 use Rattle.logos_generator.specs.Code.{CodeValue}
-use Rattle.logos_generator.specs.Runs.{CodeFinds, Runs}
-use Rattle.logos_generator.specs.Items.{Callback, Search, Item, Items, Lexes, over, match, fault}
+use Rattle.logos_generator.specs.Runs.{CodeFinds, Runs, RunsOn}
+use Rattle.logos_generator.specs.Items.{Callback, Search, Item, Items, IsNext, Lexes, over, match, fault, NextItem, passes, gives, fails}
 use Rattle.logos_graph.specs.Graph.{GraphState}
 use Rattle.logos_graph.specs.Found.{FindsTheLongest, IsInput}
 use Rattle.logos_generator.specs.Headline.{RunsAs, IsLexer}
@@ -58,3 +58,24 @@ runs_iff rules utf8 code callback bytes from items lexer input = (there, back)
 
     back : Items rules callback utf8 bytes from items → Runs code callback bytes from items
     back r = lexes_by code.leaves callback bytes (Finds rules utf8 bytes) (CodeFinds code bytes) (λ at found f. (lexer.finds bytes at found input).1 f) (rw uses r)
+
+next_by : (uses : List Use) (callback : Callback) (bytes : List ℕ) (search other : Search) → ((from : ℕ) (found : Found) → search from found → other from found) →
+    {from : ℕ} {item : Item} {end : ℕ} → NextItem uses callback bytes search from item end → NextItem uses callback bytes other from item end
+next_by uses callback bytes search other h (passes from to leaf answer item end s a e l) =
+    passes from to leaf answer item end (h from (matched leaf to) s) a e (next_by uses callback bytes search other h l)
+next_by uses callback bytes search other h (gives from to leaf answer item s a e) = gives from to leaf answer item (h from (matched leaf to) s) a e
+next_by uses callback bytes search other h (fails from to s) = fails from to (h from (failed to) s)
+
+-- the next item of a run is the next one of maximal munch
+pub next_iff : (rules : List Rule) (utf8 : Bool) (code : CodeValue) (callback : Callback) (bytes : List ℕ) (from : ℕ) (item : Item) (end : ℕ) →
+    IsLexer rules utf8 code → IsInput utf8 bytes → RunsOn code callback bytes from item end ↔ IsNext rules callback utf8 bytes from item end
+next_iff rules utf8 code callback bytes from item end lexer input = (there, back)
+  where
+    uses : code.leaves ≡ map (λ rule. rule.use_of) rules
+    uses = lexer.uses
+
+    there : RunsOn code callback bytes from item end → IsNext rules callback utf8 bytes from item end
+    there r = rw (← uses) (next_by code.leaves callback bytes (CodeFinds code bytes) (Finds rules utf8 bytes) (λ at found f. (lexer.finds bytes at found input).0 f) r)
+
+    back : IsNext rules callback utf8 bytes from item end → RunsOn code callback bytes from item end
+    back r = next_by code.leaves callback bytes (Finds rules utf8 bytes) (CodeFinds code bytes) (λ at found f. (lexer.finds bytes at found input).1 f) (rw uses r)

@@ -3,9 +3,9 @@ use Rattle.std.proofs.Common.{◌≡◌, ℕ, Bool, true, false, if◌then◌els
 use Rattle.logos_automaton.specs.Munch.{Use, ended, matched, failed}
 use Rattle.logos_generator.specs.declared.machine.Action.{Action}
 use Rattle.logos_generator.specs.declared.machine.Action.TheVariants.{Emit, Skip, Error}
-use Rattle.logos_generator.specs.Items.{Callback, Item, token, error, items_of, skips, MayAnswer, over, match, fault}
+use Rattle.logos_generator.specs.Items.{Callback, Item, token, error, items_of, skips, MayAnswer, over, match, fault, passes, gives, fails}
 use Rattle.logos_generator.specs.Code.{CodeValue}
-use Rattle.logos_generator.specs.Runs.{Runs, Tries, CodeFinds}
+use Rattle.logos_generator.specs.Runs.{Runs, RunsOn, Tries, CodeFinds}
 use Rattle.logos_generator.specs.LexerValue.{LexerValue, HasSpan}
 
 module _ {C : Type 0} (lexer : LexerValue C) (from to : ℕ) (starts : lexer.from ≡ from) (ends : lexer.to ≡ to) where
@@ -49,3 +49,18 @@ module _ (code : CodeValue) (callback : Callback) (bytes : List ℕ) (from : ℕ
   -- or at the end of the input
   pub over_runs : (n : ℕ) → Tries code bytes from ended n → Runs code callback bytes from []
   over_runs n tries = let finds : CodeFinds code bytes from ended = (n, tries) in over from finds
+
+  -- the next item is that of a match
+  pub match_next : (to leaf n : ℕ) (answer : Action) (item : Item) → Tries code bytes from (matched leaf to) n → MayAnswer code.leaves callback bytes leaf (slice_range bytes from to) answer →
+      items_of code.leaves callback bytes answer leaf from to ≡ item ∷ [] → RunsOn code callback bytes from item to
+  match_next to leaf n answer item tries may is = let finds : CodeFinds code bytes from (matched leaf to) = (n, tries) in gives from to leaf answer item finds may is
+
+  -- it stands behind a match that gives none
+  pub pass_next : (to leaf n : ℕ) (answer : Action) (item : Item) (end : ℕ) → Tries code bytes from (matched leaf to) n → MayAnswer code.leaves callback bytes leaf (slice_range bytes from to) answer →
+      items_of code.leaves callback bytes answer leaf from to ≡ [] → RunsOn code callback bytes to item end → RunsOn code callback bytes from item end
+  pass_next to leaf n answer item end tries may is next =
+      let finds : CodeFinds code bytes from (matched leaf to) = (n, tries) in passes from to leaf answer item end finds may is next
+
+  -- or it is an error
+  pub fault_next : (to n : ℕ) → Tries code bytes from (failed to) n → RunsOn code callback bytes from (error None from to (slice_range bytes from to)) to
+  fault_next to n tries = let finds : CodeFinds code bytes from (failed to) = (n, tries) in fails from to finds

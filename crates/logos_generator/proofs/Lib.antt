@@ -19,3 +19,4 @@ pub mod MadeLemmas
 pub mod LeafLemmas
 pub mod CutLemmas
 pub mod LookLemmas
+pub mod NumberLemmas

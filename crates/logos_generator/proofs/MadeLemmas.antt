@@ -16,6 +16,7 @@ use Rattle.logos_generator.specs.Runs.{target}
 use Rattle.logos_generator.specs.Headline.{IsSound, IsRoot, IsEnd, IsLate, NamesWhatIsThere, NamesState}
 use Rattle.logos_generator.specs.Makes.{mark_by, mark_made, stays, Makes, IsLast, IsMade}
 use Rattle.logos_graph.specs.FinishedGraph.{Edge, edge_leads, NamesLeaves, IsUnmarked, IsFinishedState, IsFirstState, IsFinished, IsLate as IsLateType}
+use Rattle.logos_generator.specs.Numbering.{HasNodesOf, bit_tables_of, tests_of}
 use Rattle.logos_generator.specs.Nodes.{leads_beside, tests_byte, IsTest, IsLoopOf, IsStateOf}
 use Rattle.logos_generator.specs.CodeView.{code_of, state_of, use_of, AreDifferent}
 use Rattle.logos_generator.specs.StateView.{AreStatesOf}
@@ -277,6 +278,14 @@ module _ (tests : List (List Bool)) (graph : List GraphState) (parts : CodeParts
 
   pub parts_sound : IsSound (code_of parts)
   parts_sound = is_sound (code_of parts) tests realised fits graph parts.utf8 root refl count states all_finished
+
+  pub parts_nodes : tests ≡ tests_of graph → parts.bit_tables.items ≡ bit_tables_of (tests_of graph) → HasNodesOf graph (code_of parts)
+  parts_nodes all tables = record {
+    root = root;
+    count = count;
+    states = λ s state is. subst (λ t. IsSomeAnd (slice_get (code_of parts).states s) (IsStateOf t s state)) all (states s state is);
+    tables = tables;
+  }
 
 -- the keys of a set are different
 pub keys_differ : (keys : List (List ℕ)) → IsDistinct bytes_eq keys → AreDifferent keys

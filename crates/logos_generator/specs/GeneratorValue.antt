@@ -1,5 +1,5 @@
 -- What contracts see of a generator, and what a code value keeps of it.
-use Rattle.std.specs.Prelude.{◌≡◌, map, Option, option_map}
+use Rattle.std.specs.Prelude.{◌≡◌, ℕ, Bool, List, map, Option, option_map}
 use Rattle.logos_token.specs.Views.{stream_tokens}
 use Rattle.logos_pattern.specs.Leaf.{CallbackValue, callback_value}
 use Rattle.logos_pattern.specs.declared.leaf.Leaf.{Leaf}
@@ -12,6 +12,9 @@ use Rattle.logos_generator.specs.declared.code.Kept.{Kept}
 pub record GeneratorValue : Type 0 where
   pub given : Kept
   pub graph : GraphValue
+  -- the byte sets that nodes test by bits, and the jump tables of nodes, each by its number
+  pub tests : List (List Bool)
+  pub jumps : List (List ℕ)
 
 -- what becomes of the matches of a leaf, its callback by its tokens
 pub record LeafValue : Type 0 where
@@ -32,6 +35,6 @@ pub record IsCopy (given kept : Kept) : Type 0 where
   pub error_callback : option_map callback_value kept.error_callback ≡ option_map callback_value given.error_callback
 
 -- the code keeps what its generator was given, and for each leaf of the graph what becomes of its matches
-pub record KeepsGiven (generator : GeneratorValue) (code : CodeValue) : Type 0 where
-  pub given : IsCopy generator.given code.kept
-  pub leaves : map code_leaf_value code.kept_leaves ≡ map leaf_value generator.graph.leaves
+pub record KeepsGiven (given : Kept) (graph : GraphValue) (code : CodeValue) : Type 0 where
+  pub copy : IsCopy given code.kept
+  pub leaves : map code_leaf_value code.kept_leaves ≡ map leaf_value graph.leaves

@@ -7,7 +7,7 @@ use denote.Ref.{Bor}
 use Rattle.logos_generator.specs.Code.{CodeValue}
 use Rattle.logos_automaton.specs.Munch.{Found}
 use Rattle.logos_generator.specs.Items.{Callback, Item, token, error, MayAnswer, items_of}
-use Rattle.logos_generator.specs.Runs.{Runs, Tries}
+use Rattle.logos_generator.specs.Runs.{Runs, RunsOn, Tries}
 use Rattle.logos_generator.specs.declared.machine.Action.{Action}
 use Rattle.logos_hir.specs.declared.leaf.LeafId.{LeafId}
 use Rattle.logos_generator.specs.declared.machine.Item.{Item as TheItem}
@@ -46,6 +46,8 @@ pub record Gives {C : Type 0} (callback : Callback) (old new : LexerValue C) (it
   pub behind : old.to ≤ new.from
   pub nonempty : new.from < new.to
   pub within : new.to ≤ length new.input
+  -- it is the next one from the old place on, whatever comes behind it
+  pub is : RunsOn old.code callback old.input old.to item new.to
   pub next : (rest : List Item) → Runs new.code callback new.input new.to rest → Runs old.code callback old.input old.to (item ∷ rest)
 
 -- or it is over, and stands at the end of the input

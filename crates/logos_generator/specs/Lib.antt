@@ -7,11 +7,13 @@ pub mod CodeView
 pub mod Makes
 pub mod Rows
 pub mod Nodes
+pub mod Numbering
 pub mod StateView
 pub mod Stands
 pub mod Attempts
 pub mod LexerValue
 pub mod Order
 pub mod GeneratorValue
+pub mod NodeCalls
 pub mod Signs
 pub mod Looks

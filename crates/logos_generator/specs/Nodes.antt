@@ -28,6 +28,10 @@ Extends {A} old new = (more : List A) × (new ≡ old ++ more)
 pub record IsSetOf (ranges : List (ℕ × ℕ)) (set : List Bool) : Type 0 where
   pub members : (b : ℕ) → b < 256 → slice_index_or set b false ≡ is_in ranges b
 
+-- The target whose edge is left out of a fork: the state itself, or a number that no state has.
+abbrev pub left_out : Bool → ℕ → ℕ
+left_out ignore_self s = if ignore_self then s else 4294967295
+
 -- how many operations test a byte
 abbrev pub cost : List Comparison → ℕ
 cost all = sum_by operations all

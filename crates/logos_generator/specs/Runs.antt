@@ -6,7 +6,7 @@ use Rattle.logos_graph.specs.Bytes.{some_compares}
 use Rattle.logos_generator.specs.Bytes.{passes_test}
 use Rattle.logos_generator.specs.Code.{CodeValue, CodeState, Mark, Condition, by_comparisons, by_test, Fork, by_conditions, by_table}
 use Rattle.logos_automaton.specs.Munch.{Found, ended, matched, failed}
-use Rattle.logos_generator.specs.Items.{Callback, Item, Lexes}
+use Rattle.logos_generator.specs.Items.{Callback, Item, Lexes, NextItem}
 
 -- Where a try stands as it enters a state.
 pub record Stand : Type 0 where
@@ -92,3 +92,7 @@ CodeFinds code bytes from found = (n : ℕ) × Tries code bytes from found n
 -- the items of a run of the code value, from a place on
 abbrev pub Runs : CodeValue → Callback → List ℕ → ℕ → List Item → Type 0
 Runs code callback bytes = Lexes code.leaves callback bytes (CodeFinds code bytes)
+
+-- the next item of a run of the code value from a place on, and the place behind it
+abbrev pub RunsOn : CodeValue → Callback → List ℕ → ℕ → Item → ℕ → Type 0
+RunsOn code callback bytes = NextItem code.leaves callback bytes (CodeFinds code bytes)

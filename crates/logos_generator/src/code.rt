@@ -72,7 +72,7 @@ pub struct CodeLeaf<'s> {
 
 /// What a code value keeps as its generator was given it.
 #[derive(Drop)]
-pub(crate) struct Kept<'s> {
+pub struct Kept<'s> {
     /// The shape of its text.
     pub shape: Config,
     /// The name of the enum.
@@ -83,14 +83,16 @@ pub(crate) struct Kept<'s> {
     pub error_callback: Option<Callback<'s>>,
 }
 
-/// What a code value is made of.
+/// What a code value is made of: its nodes, and the tables that they name by number.
 #[derive(Drop)]
-pub(crate) struct CodeParts<'s> {
+pub struct CodeParts<'s> {
     pub kept: Kept<'s>,
     pub states: Vec<CodeState>,
     /// Test number k is bit k mod 8 of the entries of table k / 8.
     pub bit_tables: Vec<[u8; 256]>,
+    /// An entry for each byte: the state that it leads to, or `NOWHERE`.
     pub jump_tables: Vec<[u32; 256]>,
+    /// What becomes of the matches of each leaf, in the order of their numbers.
     pub leaves: Vec<CodeLeaf<'s>>,
     /// The state in which each try begins.
     pub root: usize,
@@ -155,6 +157,14 @@ impl<'s> Code<'s> {
         ensures { tokens_of result ≡ stream_tokens self.now.kept.this }
     {
         self.parts.kept.this.run()
+    }
+
+    /// What the code is made of. Each state, table, test and leaf that is named there is there, and no two jump tables are equal.
+    pub fn parts(&self) -> &CodeParts<'s>
+        ensures is { code_of result.now ≡ self.now }
+        ensures keeps { IsKept result.now }
+    {
+        &self.parts
     }
 
     /// What is called on an error, if anything is.

@@ -1,19 +1,25 @@
 //! From a graph to a code value.
 
-ghost use Rattle.std.specs.Prelude.{◌≡◌, [], IfOk, map, option_copied};
+ghost use Rattle.std.specs.Prelude.{◌≡◌, [], IfOk, OnOk, OnErr, map, option_copied};
 ghost use Rattle.logos_graph.specs.View.{rule_of};
 ghost use Rattle.logos_generator.specs.Headline.{RunsAs};
 ghost use Rattle.logos_generator.specs.GeneratorValue.{IsCopy, KeepsGiven};
+ghost use Rattle.logos_generator.specs.Numbering.{HasNodesOf, tests_of};
 
 mod fork;
 mod leaves;
+mod nodes;
 mod states;
+#[cfg(test)]
+mod tests;
 mod tests_by_bits;
 
 use crate::code::{Code, Kept};
+use indexmap::IndexSet;
 use logos_graph::graph::Graph;
 use logos_pattern::leaf::Callback;
 use logos_token::token::{Ident, TokenStream};
+pub use nodes::{FastLoop, FastLoopMacro, TakeAction, fast_loop_macro};
 use states::code_of;
 use std::alloc::{AllocError, Global};
 use std::marker::Model;
@@ -33,6 +39,10 @@ pub struct Generator<'g, 's> {
     this: &'g TokenStream<'s>,
     graph: &'g Graph<'s>,
     error_callback: Option<&'g Callback<'s>>,
+    /// The byte sets that nodes test by bits, by the numbers of their tests.
+    tests: IndexSet<[bool; 256]>,
+    /// The jump tables of nodes, by their numbers.
+    jumps: IndexSet<[u32; 256]>,
 }
 
 impl<'g, 's> Model for Generator<'g, 's> {
@@ -45,15 +55,16 @@ impl<'g, 's> Model for Generator<'g, 's> {
 
     ghost coded = { Prim.hlevel (codes, e.the_row.coded) };
 
-    ghost view = { λ g. record { given = record { shape = g.config; name = g.name; this = g.this.now; error_callback = option_copied g.error_callback }; graph = g.graph.now } };
+    ghost view = { λ g. record { given = record { shape = g.config; name = g.name; this = g.this.now; error_callback = option_copied g.error_callback }; graph = g.graph.now; tests = g.tests.keys; jumps = g.jumps.keys } };
 
     ghost invariant = { λ g. g.graph.now.faults ≡ [] };
 }
 
 impl<'g, 's> Generator<'g, 's> {
     /// A generator for a graph without errors, of the enum with this name, which is this type. The error callback is called on
-    /// what no leaf matches.
+    /// what no leaf matches. It has made no node yet; the sets of tests and jump tables take their memory later, from `alloc`.
     pub fn new(
+        alloc: Global,
         config: Config,
         name: Ident<'s>,
         this: &'g TokenStream<'s>,
@@ -61,7 +72,7 @@ impl<'g, 's> Generator<'g, 's> {
         error_callback: Option<&'g Callback<'s>>,
     ) -> Generator<'g, 's>
         requires { graph.now.faults ≡ [] }
-        ensures { result ≡ record { given = record { shape = config; name = name.entry; this = this.now; error_callback = option_copied error_callback.entry }; graph = graph.now } }
+        ensures { result ≡ record { given = record { shape = config; name = name.entry; this = this.now; error_callback = option_copied error_callback.entry }; graph = graph.now; tests = []; jumps = [] } }
     {
         Generator {
             config,
@@ -69,21 +80,35 @@ impl<'g, 's> Generator<'g, 's> {
             this,
             graph,
             error_callback,
+            tests: IndexSet::new(alloc),
+            jumps: IndexSet::new(alloc),
         }
     }
 
     /// The code: from each place of each input it finds what the graph finds, and each try enters at
     /// most two states more than there are bytes left. It keeps copies of what the generator was given,
-    /// and of the kinds and callbacks of the graph's leaves. Only want of memory is an error.
-    pub fn generate(&self, alloc: Global) -> Result<Code<'s>, AllocError>
-        ensures runs { IfOk result (λ code. RunsAs self.now.graph.states self.now.graph.utf8 code) }
-        ensures mode { IfOk result (λ code. code.utf8 ≡ self.now.graph.utf8) }
-        ensures uses { IfOk result (λ code. code.leaves ≡ map (λ leaf. (rule_of leaf).use_of) self.now.graph.leaves) }
-        ensures keeps { IfOk result (KeepsGiven self.now) }
+    /// and of the kinds and callbacks of the graph's leaves. Its tests are numbered by first use, states
+    /// ascending and the fast loop before the fork; equal tests share a number, and no two jump tables are
+    /// equal. The generator's tests and jump tables are those of the code then, whatever nodes it made before,
+    /// so `render_luts` gives the code's tables. Only want of memory is an error, and changes nothing.
+    pub fn generate(&mut self, alloc: Global) -> Result<Code<'s>, AllocError>
+        ensures runs { IfOk result (λ code. RunsAs self.old.graph.states self.old.graph.utf8 code) }
+        ensures mode { IfOk result (λ code. code.utf8 ≡ self.old.graph.utf8) }
+        ensures uses { IfOk result (λ code. code.leaves ≡ map (λ leaf. (rule_of leaf).use_of) self.old.graph.leaves) }
+        ensures keeps { IfOk result (KeepsGiven self.old.given self.old.graph) }
+        ensures nodes { IfOk result (HasNodesOf self.old.graph.states) }
+        ensures tests { OnOk result (self.new.tests ≡ tests_of self.old.graph.states) }
+        ensures same { (self.new.given ≡ self.old.given) × (self.new.graph ≡ self.old.graph) }
+        ensures error { OnErr result (self.new ≡ self.old) }
     {
         let kept = self.kept()?;
         let states = self.graph.iter_states();
-        code_of(alloc, kept, self.graph, states)
+        let mut tests = IndexSet::new(alloc);
+        let mut jumps = IndexSet::new(alloc);
+        let code = code_of(alloc, &mut tests, &mut jumps, kept, self.graph, states)?;
+        self.tests = tests;
+        self.jumps = jumps;
+        Ok(code)
     }
 
     /// A copy of what a code keeps.

@@ -8,13 +8,13 @@ ghost use Rattle.logos_automaton.specs.Munch.{Rule};
 ghost use Rattle.logos_graph.specs.View.{GraphValue, rule_of, rules_of};
 ghost use Rattle.logos_generator.specs.Code.{CodeValue};
 ghost use Rattle.logos_generator.specs.Headline.{IsCut, IsLexer, RunsAs};
-ghost use Rattle.logos_generator.specs.Items.{Item, Items};
+ghost use Rattle.logos_generator.specs.Items.{Item, Items, IsNext};
 ghost use Rattle.logos_generator.specs.LexerValue.{answers_of};
 ghost use Rattle.logos_generator.specs.Order.{AreInOrder, Parts, IsMatch};
-ghost use Rattle.logos_generator.specs.Runs.{Runs};
-
+ghost use Rattle.logos_generator.specs.Runs.{Runs, RunsOn};
 use crate::machine::Action;
 use logos_hir::leaf::LeafId;
+
 
 /// The items of maximal munch are not empty, they follow one another, and they lie within the
 /// input.
@@ -38,6 +38,11 @@ pub fn code_of_a_graph_is_a_lexer()
 /// The runs of a lexer's code are the lists of items of maximal munch.
 pub fn runs_are_the_items<C: Fn(LeafId, &[u8]) -> Action>(callback: &C)
     ensures { (rules : List Rule) (utf8 : Bool) (code : CodeValue) (bytes : List ℕ) (from : ℕ) (items : List Item) → IsLexer rules utf8 code → IsInput utf8 bytes → Runs code (answers_of C.Fn callback.now) bytes from items ↔ Items rules (answers_of C.Fn callback.now) utf8 bytes from items }
+{}
+
+/// The next item of a lexer's code from a place on is the next one of maximal munch, and ends where that does.
+pub fn next_items_are_the_next<C: Fn(LeafId, &[u8]) -> Action>(callback: &C)
+    ensures { (rules : List Rule) (utf8 : Bool) (code : CodeValue) (bytes : List ℕ) (from : ℕ) (item : Item) (end : ℕ) → IsLexer rules utf8 code → IsInput utf8 bytes → RunsOn code (answers_of C.Fn callback.now) bytes from item end ↔ IsNext rules (answers_of C.Fn callback.now) utf8 bytes from item end }
 {}
 
 /// Two codes of the same rules and mode have the same runs.

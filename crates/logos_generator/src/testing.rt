@@ -9,7 +9,7 @@ use logos_token::token::{Ident, Span, tokenize};
 use std::alloc::Global;
 use std::test::Fail;
 
-const NAME: Ident<'static> = Ident {
+pub(crate) const NAME: Ident<'static> = Ident {
     text: "A",
     span: Span { from: 0, to: 0 },
 };
@@ -40,12 +40,12 @@ fn leaf(alloc: Global, rule: &(&str, usize, Fate)) -> Result<Leaf<'static>, Fail
     Ok(leaf)
 }
 
-/// The code of leaves for the enum `A<u8>`, on whose errors `failed` is called.
-pub(crate) fn code_of(
+/// The graph of leaves.
+pub(crate) fn graph_of(
     alloc: Global,
     utf8_mode: bool,
     rules: Rules<'_>,
-) -> Result<Code<'static>, Fail> {
+) -> Result<Graph<'static>, Fail> {
     let mut leaves = Vec::new(alloc);
     for rule in rules {
         leaves.push(leaf(alloc, rule)?)?;
@@ -54,6 +54,16 @@ pub(crate) fn code_of(
     if !graph.errors().is_empty() {
         return Err(Fail::from("the leaves have faults"));
     }
+    Ok(graph)
+}
+
+/// The code of leaves for the enum `A<u8>`, on whose errors `failed` is called.
+pub(crate) fn code_of(
+    alloc: Global,
+    utf8_mode: bool,
+    rules: Rules<'_>,
+) -> Result<Code<'static>, Fail> {
+    let graph = graph_of(alloc, utf8_mode, rules)?;
     let config = Config {
         use_state_machine_codegen: true,
     };
@@ -61,5 +71,6 @@ pub(crate) fn code_of(
         tokenize(alloc, "A<u8>")?,
         Callback::Label(tokenize(alloc, "failed")?),
     );
-    Ok(Generator::new(config, NAME, &this, &graph, Some(&failed)).generate(alloc)?)
+    let mut generator = Generator::new(alloc, config, NAME, &this, &graph, Some(&failed));
+    Ok(generator.generate(alloc)?)
 }

@@ -1,11 +1,12 @@
 //! Forks of states, and their fast loops.
-ghost use Rattle.std.specs.Prelude.{◌≡◌, ◌<◌, ◌≤◌, ◌↔◌, ◌&&◌, ◌==◌, ℕ, true, IfOk, OnOk, IsTrue, MatchBool, [], ◌∷◌, ◌++◌, length, map, option_map, find, nat_le, slice_index, None};
-ghost use Rattle.std.specs.List.{All};
+ghost use Rattle.std.specs.Prelude.{◌≡◌, ◌<◌, ◌≤◌, ◌↔◌, ◌&&◌, ◌==◌, ℕ, true, IfOk, OnOk, OnErr, IsTrue, MatchBool, [], ◌∷◌, ◌++◌, length, map, option_map, find, nat_le, slice_index, None};
+ghost use Rattle.std.specs.List.{All, flat_map};
 ghost use Rattle.std.specs.Option.{option_or};
 ghost use Rattle.logos_graph.specs.Bytes.{ranges_of, has_byte, AreSeparated, comparison_of};
 ghost use Rattle.logos_generator.specs.CodeView.{condition_of, branch_of, entry_of, fork_of};
 ghost use Rattle.logos_graph.specs.GraphView.{edge_of, state_number};
 ghost use Rattle.logos_generator.specs.Nodes.{hit, leads_beside, Extends, IsConditionOf, IsBranchOf, AreBranchesOf, IsForkOf, IsLoopOf, cost};
+ghost use Rattle.logos_generator.specs.Numbering.{numbered, loop_uses, condition_uses, branch_uses, fork_uses};
 
 use super::tests_by_bits::add_test;
 use crate::code::{Condition, Fork, NOWHERE};
@@ -20,8 +21,10 @@ pub(super) fn maybe_impl_fast_loop(
     edges: &[(ByteClass, State)],
     state: usize,
 ) -> Result<Option<usize>, AllocError>
-    ensures grows { OnOk result (Extends tests.old.keys tests.new.keys) }
+    ensures grows { Extends tests.old.keys tests.new.keys }
     ensures is { IfOk result (IsLoopOf tests.new.keys state (map edge_of edges.now)) }
+    ensures numbers { OnOk result (tests.new.keys ≡ numbered tests.old.keys (loop_uses state (map edge_of edges.now))) }
+    ensures error { OnErr result (tests.new.keys ≡ tests.old.keys) }
 {
     match edge_back(edges, state) {
         Some(class) => Ok(Some(add_test(tests, class)?)),
@@ -51,9 +54,10 @@ pub(super) fn impl_fork(
 ) -> Result<Fork, AllocError>
     requires separated { All (λ edge. AreSeparated (ranges_of edge.0)) edges.now }
     requires targets { All (λ edge. state_number edge.1 < 4294967295) edges.now }
-    ensures tests { OnOk result (Extends tests.old.keys tests.new.keys) }
-    ensures jumps { OnOk result (Extends jumps.old.keys jumps.new.keys) }
+    ensures tests { Extends tests.old.keys tests.new.keys }
+    ensures jumps { Extends jumps.old.keys jumps.new.keys }
     ensures is { IfOk result (λ fork. IsForkOf tests.new.keys state (map edge_of edges.now) (fork_of jumps.new.keys fork)) }
+    ensures numbers { OnOk result (tests.new.keys ≡ numbered tests.old.keys (fork_uses state (map edge_of edges.now))) }
 {
     if edges.len() > 2 {
         let (k, _) = jumps.insert_full(table_of(edges, state))?;
@@ -121,8 +125,9 @@ fn conditions_of(
     state: usize,
 ) -> Result<Vec<(Condition, usize)>, AllocError>
     requires { All (λ edge. AreSeparated (ranges_of edge.0)) edges.now }
-    ensures grows { OnOk result (Extends tests.old.keys tests.new.keys) }
+    ensures grows { Extends tests.old.keys tests.new.keys }
     ensures are { IfOk result (λ made. AreBranchesOf tests.new.keys state (map edge_of edges.now) (map branch_of made.items)) }
+    ensures numbers { OnOk result (tests.new.keys ≡ numbered tests.old.keys (flat_map (branch_uses state) (map edge_of edges.now))) }
 {
     let mut made = Vec::new(alloc);
     for edge in edges {
@@ -140,8 +145,9 @@ fn add_branch(
     state: usize,
 ) -> Result<(), AllocError>
     requires { AreSeparated (ranges_of edge.now.0) }
-    ensures grows { OnOk result (Extends tests.old.keys tests.new.keys) }
+    ensures grows { Extends tests.old.keys tests.new.keys }
     ensures adds { OnOk result (MatchBool (state_number edge.now.1 == state) (made.new.items ≡ made.old.items) ((branch : _) × (made.new.items ≡ made.old.items ++ branch ∷ []) × IsBranchOf tests.new.keys (edge_of edge.now) (branch_of branch))) }
+    ensures numbers { OnOk result (tests.new.keys ≡ numbered tests.old.keys (branch_uses state (edge_of edge.now))) }
 {
     if edge.1.index() == state {
         return Ok(());
@@ -158,8 +164,9 @@ fn condition_of(
     class: &ByteClass,
 ) -> Result<Condition, AllocError>
     requires { AreSeparated (ranges_of class.now) }
-    ensures grows { OnOk result (Extends tests.old.keys tests.new.keys) }
+    ensures grows { Extends tests.old.keys tests.new.keys }
     ensures is { IfOk result (λ condition. IsConditionOf tests.new.keys (ranges_of class.now) (condition_of condition)) }
+    ensures numbers { OnOk result (tests.new.keys ≡ numbered tests.old.keys (condition_uses (ranges_of class.now))) }
 {
     let comparisons = class.impl_with_cmp(alloc)?;
     if are_cheap(&comparisons) {
@@ -170,7 +177,7 @@ fn condition_of(
 
 /// Whether the comparisons cost two operations at most.
 fn are_cheap(comparisons: &[Comparisons]) -> bool
-    ensures { IsTrue result ↔ (cost (map comparison_of comparisons.now) ≤ 2) }
+    ensures { result ≡ nat_le (cost (map comparison_of comparisons.now)) 2 }
 {
     let mut left: usize = 2;
     for comparison in comparisons {

@@ -1,5 +1,5 @@
 //! The states of a code, made of a graph's states.
-ghost use Rattle.std.specs.Prelude.{◌≡◌, ◌<◌, IfOk, OnOk, length, map, option_map};
+ghost use Rattle.std.specs.Prelude.{◌≡◌, ◌<◌, [], IfOk, OnOk, length, map, option_map};
 ghost use Rattle.std.specs.List.{All, range_with_len};
 ghost use Rattle.logos_generator.specs.Headline.{RunsAs};
 ghost use Rattle.logos_generator.specs.Makes.{mark_made};
@@ -7,6 +7,7 @@ ghost use Rattle.logos_generator.specs.CodeView.{mark_of, state_of};
 ghost use Rattle.logos_generator.specs.GeneratorValue.{code_leaf_value, leaf_value};
 ghost use Rattle.logos_graph.specs.FinishedGraph.{IsFinished};
 ghost use Rattle.logos_generator.specs.Nodes.{Extends, IsStateOf};
+ghost use Rattle.logos_generator.specs.Numbering.{HasNodesOf, numbered, state_uses, tests_of, uses_from};
 ghost use Rattle.logos_graph.specs.GraphView.{state_number, state_type_of, graph_state_of};
 ghost use Rattle.logos_graph.specs.StatesView.{states_left};
 ghost use Rattle.logos_generator.specs.StateView.{leaf_use, AreStatesOf, AreTablesOf, IsCodable};
@@ -19,22 +20,27 @@ use indexmap::IndexSet;
 use logos_graph::graph::{Graph, State, StateData, StateType, States};
 use std::alloc::{AllocError, Global};
 
-/// The code of a graph, and of all its states.
+/// The code of a graph, and of all its states. Its tests and jump tables are put into empty sets, by their numbers.
 pub(super) fn code_of<'s>(
     alloc: Global,
+    tests: &mut IndexSet<[bool; 256]>,
+    jumps: &mut IndexSet<[u32; 256]>,
     kept: Kept<'s>,
     graph: &Graph<'s>,
     states: States,
 ) -> Result<Code<'s>, AllocError>
     requires finished { IsFinished graph.now.states (length graph.now.leaves) }
     requires states { states_left states ≡ range_with_len 0 (length graph.now.states) }
+    requires tests { tests.old.keys ≡ [] }
+    ensures tests { OnOk result (tests.new.keys ≡ tests_of graph.now.states) }
+    ensures nodes { IfOk result (HasNodesOf graph.now.states) }
     ensures runs { IfOk result (λ code. RunsAs graph.now.states graph.now.utf8 code) }
     ensures mode { IfOk result (λ code. code.utf8 ≡ graph.now.utf8) }
     ensures leaves { IfOk result (λ code. code.leaves ≡ map leaf_use graph.now.leaves) }
     ensures kept { IfOk result (λ code. code.kept ≡ kept.entry) }
     ensures kept_leaves { IfOk result (λ code. map code_leaf_value code.kept_leaves ≡ map leaf_value graph.now.leaves) }
 {
-    let tables = tables_made(alloc, graph, states)?;
+    let tables = tables_made(alloc, tests, jumps, graph, states)?;
     let leaves = leaves_of(alloc, graph.leaves())?;
     let parts = CodeParts {
         kept,
@@ -57,14 +63,20 @@ struct Tables {
 }
 
 /// The states of the code, and their tables.
-fn tables_made(alloc: Global, graph: &Graph, states: States) -> Result<Tables, AllocError>
+fn tables_made(
+    alloc: Global,
+    tests: &mut IndexSet<[bool; 256]>,
+    jumps: &mut IndexSet<[u32; 256]>,
+    graph: &Graph,
+    states: States,
+) -> Result<Tables, AllocError>
     requires codable { All IsCodable graph.now.states }
     requires states { states_left states ≡ range_with_len 0 (length graph.now.states) }
-    ensures { IfOk result (λ tables. AreTablesOf graph.now.states tables.states.items tables.bit_tables.items tables.jump_tables.items) }
+    requires tests { tests.old.keys ≡ [] }
+    ensures tests { OnOk result (tests.new.keys ≡ tests_of graph.now.states) }
+    ensures tables { IfOk result (λ tables. AreTablesOf graph.now.states tables.states.items tables.bit_tables.items tables.jump_tables.items) }
 {
-    let mut tests = IndexSet::new(alloc);
-    let mut jumps = IndexSet::new(alloc);
-    let states = states_of(alloc, &mut tests, &mut jumps, graph, states)?;
+    let states = states_of(alloc, tests, jumps, graph, states)?;
     let bit_tables = tables_of(alloc, tests.as_slice())?;
     let jump_tables = Vec::from_slice(alloc, jumps.as_slice())?;
     Ok(Tables {
@@ -84,7 +96,8 @@ fn states_of(
 ) -> Result<Vec<CodeState>, AllocError>
     requires codable { All IsCodable graph.now.states }
     requires states { states_left states ≡ range_with_len 0 (length graph.now.states) }
-    ensures { IfOk result (λ made. AreStatesOf tests.new.keys jumps.new.keys graph.now.states made.items) }
+    ensures are { IfOk result (λ made. AreStatesOf tests.new.keys jumps.new.keys graph.now.states made.items) }
+    ensures numbers { OnOk result (tests.new.keys ≡ numbered tests.old.keys (uses_from 0 graph.now.states)) }
 {
     let mut made = Vec::new(alloc);
     for state in states {
@@ -105,6 +118,7 @@ fn state_made(
     ensures tests { OnOk result (Extends tests.old.keys tests.new.keys) }
     ensures jumps { OnOk result (Extends jumps.old.keys jumps.new.keys) }
     ensures is { IfOk result (λ made. IsStateOf tests.new.keys s (graph_state_of state.now) (state_of jumps.new.keys made)) }
+    ensures numbers { OnOk result (tests.new.keys ≡ numbered tests.old.keys (state_uses s (graph_state_of state.now).normal)) }
 {
     let fast_loop = maybe_impl_fast_loop(tests, &state.normal, s)?;
     let fork = impl_fork(alloc, tests, jumps, &state.normal, s)?;

@@ -1,9 +1,12 @@
 //! Tests of bytes by bits of tables.
-ghost use Rattle.std.specs.Prelude.{◌≡◌, ◌+◌, ◌*◌, ◌<◌, ◌≤◌, ◌/◌, ℕ, IfOk, OnOk, length, slice_index, if◌then◌else◌};
-ghost use Rattle.std.specs.Int.{bit_at};
+ghost use Rattle.std.specs.Prelude.{◌≡◌, ◌+◌, ◌*◌, ◌<◌, ◌≤◌, ◌/◌, ◌∷◌, [], ℕ, Some, IfOk, OnOk, OnErr, length, slice_get, if◌then◌else◌};
+ghost use Rattle.std.specs.Bool.{beq};
+ghost use Rattle.std.specs.Cmp.Lexicographic.{pointwise};
+ghost use Rattle.indexmap.specs.IndexSet.{insert_key};
 ghost use Rattle.logos_graph.specs.Bytes.{ranges_of};
 ghost use Rattle.logos_generator.specs.Bytes.{passes_test};
 ghost use Rattle.logos_generator.specs.Nodes.{Extends, IsTest, tests_byte};
+ghost use Rattle.logos_generator.specs.Numbering.{numbered, bits_from, bit_table, bit_tables_of};
 
 use indexmap::IndexSet;
 use logos_graph::byte_class::ByteClass;
@@ -14,10 +17,23 @@ pub(super) fn add_test(
     tests: &mut IndexSet<[bool; 256]>,
     class: &ByteClass,
 ) -> Result<usize, AllocError>
-    ensures grows { OnOk result (Extends tests.old.keys tests.new.keys) }
+    ensures grows { Extends tests.old.keys tests.new.keys }
+    ensures error { OnErr result (tests.new.keys ≡ tests.old.keys) }
     ensures is { IfOk result (IsTest tests.new.keys (ranges_of class.now)) }
+    ensures numbers { OnOk result (tests.new.keys ≡ numbered tests.old.keys (ranges_of class.now ∷ [])) }
 {
-    let (k, _) = tests.insert_full(class.to_table())?;
+    let k = add_set(tests, class.to_table())?;
+    Ok(k)
+}
+
+/// The number of the test for these bytes.
+fn add_set(tests: &mut IndexSet<[bool; 256]>, set: [bool; 256]) -> Result<usize, AllocError>
+    ensures long { length set ≡ 256 }
+    ensures keys { OnOk result (tests.new.keys ≡ insert_key (pointwise beq) tests.old.keys set) }
+    ensures stored { IfOk result (λ k. slice_get tests.new.keys k ≡ Some set) }
+    ensures error { OnErr result (tests.new.keys ≡ tests.old.keys) }
+{
+    let (k, _) = tests.insert_full(set)?;
     Ok(k)
 }
 
@@ -25,6 +41,7 @@ pub(super) fn add_test(
 pub(super) fn tables_of(alloc: Global, tests: &[[bool; 256]]) -> Result<Vec<[u8; 256]>, AllocError>
     ensures tests { IfOk result (λ tables. (k b : ℕ) → b < 256 → passes_test tables.items k b ≡ tests_byte tests.now k b) }
     ensures long { IfOk result (λ tables. length tests.now ≤ 8 * length tables.items) }
+    ensures are { IfOk result (λ tables. tables.items ≡ bit_tables_of tests.now) }
 {
     let mut tables = Vec::new(alloc);
     for j in 0..tests.len().div_ceil(8) {
@@ -36,7 +53,7 @@ pub(super) fn tables_of(alloc: Global, tests: &[[bool; 256]]) -> Result<Vec<[u8;
 /// Table j.
 fn table_at(tests: &[[bool; 256]], j: usize) -> [u8; 256]
     requires { 8 * j < length tests.now }
-    ensures { (b i : ℕ) → b < 256 → i < 8 → bit_at (slice_index result b) i ≡ (if tests_byte tests.now (8 * j + i) b then 1 else 0) }
+    ensures { result ≡ bit_table tests.now j }
 {
     let mut table = [0; 256];
     for b in 0..256 {
@@ -49,7 +66,7 @@ fn table_at(tests: &[[bool; 256]], j: usize) -> [u8; 256]
 fn entry_of(tests: &[[bool; 256]], j: usize, b: usize) -> u8
     requires table { 8 * j < length tests.now }
     requires byte { b < 256 }
-    ensures { (i : ℕ) → i < 8 → bit_at result i ≡ (if tests_byte tests.now (8 * j + i) b then 1 else 0) }
+    ensures { result ≡ bits_from tests.now b (8 * j) 8 }
 {
     let mut bits: u8 = 0;
     for i in 0..8 {

@@ -1,8 +1,10 @@
-use Rattle.std.proofs.Common.{◌<◌, map}
+use Rattle.std.proofs.Common.{◌≡◌, ◌∙◌, ◌<◌, ap, sym, map}
 use Rattle.logos_graph.specs.Bytes.{AreSeparated}
 use Rattle.logos_graph.specs.FinishedGraph.{Edge}
 use Rattle.logos_graph.specs.GraphView.{edge_of}
 use Rattle.logos_generator.proofs.SoundLemmas.{All-map-iff}
+use Rattle.logos_generator.specs.Numbering.{numbered, loop_uses, fork_uses}
+use Rattle.logos_generator.proofs.NumberLemmas.{numbered_both}
 use Rattle.logos_generator.proofs.NodeLemmas.{IsLoopOf-later}
 use Rattle.logos_generator.proofs.generator.states.state_made.Goals as goal
 
@@ -22,3 +24,10 @@ returns-clause-is c = record {
   fork = rw c.deref-2.ensures.value at c.in_ok-fork.ensures.is;
   at_end = c.number_of.ensures;
 }
+
+pub returns-clause-numbers : goal.returns-clause-numbers
+returns-clause-numbers c =
+    let edges = map edge_of c.args.state.now.normal.items in
+    let first : c.maybe_impl_fast_loop.new.tests.keys ≡ numbered c.args.tests.now.keys (loop_uses c.args.s edges) = rw c.deref.ensures.value at c.in_ok-fast_loop.ensures.numbers in
+    let second : c.impl_fork.new.tests.keys ≡ numbered c.maybe_impl_fast_loop.new.tests.keys (fork_uses c.args.s edges) = rw c.deref-2.ensures.value at c.in_ok-fork.ensures.numbers in
+    second ∙ ap (λ tests. numbered tests (fork_uses c.args.s edges)) first ∙ sym (numbered_both c.args.tests.now.keys (loop_uses c.args.s edges) (fork_uses c.args.s edges))

@@ -1,4 +1,4 @@
-use Rattle.std.proofs.Common.{◌≡◌, ◌∙◌, ℕ, ◌+◌, ◌<◌, List, ◌∷◌, [], Some, All, ap, subst, length, get_or, slice_get, arith, length-append}
+use Rattle.std.proofs.Common.{◌≡◌, ◌∙◌, ℕ, ◌+◌, ◌<◌, List, ◌∷◌, ◌++◌, [], Some, All, ap, subst, length, get_or, slice_get, arith, length-append}
 use Rattle.std.specs.List.{range_with_len}
 use Rattle.std.proofs.lemmas.Iterator.Consumers.{YieldsList-at, YieldsList-from_first, YieldsList-turn, YieldsList-end}
 use Rattle.std.proofs.lemmas.Iterator.{YieldsList}
@@ -12,7 +12,9 @@ use Rattle.logos_graph.specs.StatesView.{states_left}
 use Rattle.logos_generator.specs.CodeView.{state_of}
 use Rattle.logos_generator.specs.Nodes.{IsStateOf}
 use Rattle.logos_generator.specs.StateView.{IsCodable}
+use Rattle.logos_generator.specs.Numbering.{numbered, state_uses}
 use Rattle.logos_generator.proofs.NodeLemmas.{states_turn}
+use Rattle.logos_generator.proofs.NumberLemmas.{states_numbered, states_whole}
 use Rattle.logos_generator.proofs.generator.states.states_of.Goals as goal
 
 -- the next state is the one behind those before
@@ -51,7 +53,10 @@ loop-state-preserved c =
     let count = c.loop-state.invariant.count in
     let at : slice_get c.args.graph.now.states (length c.loop-state.yielded) ≡ Some (graph_state_of c.get_state.result.now) =
     subst (λ k. slice_get c.args.graph.now.states k ≡ Some (graph_state_of c.get_state.result.now)) n.0 c.get_state.ensures in
+    let numbers = subst (λ s. c.state_made.new.tests.keys ≡ numbered c.loop-state.tests.keys (state_uses s (graph_state_of c.get_state.result.now).normal)) (c.index.ensures ∙ n.0) made.numbers in
+    let next : length (c.loop-state.yielded ++ c.in-Some.state ∷ []) ≡ length c.loop-state.yielded + 1 = length-append c.loop-state.yielded (c.in-Some.state ∷ []) in
     record {
+      numbers = rw next (states_numbered c.args.graph.now.states (length c.loop-state.yielded) (graph_state_of c.get_state.result.now) _ _ _ at numbers c.loop-state.invariant.numbers);
       count = ap length items ∙ omega (arith, length-append c.loop-state.made.items (c.in_ok-state_made.field-0 ∷ []), count, length-append c.loop-state.yielded (c.in-Some.state ∷ []));
       each = λ k state l e.
           states_turn c.loop-state.tests.keys c.state_made.new.tests.keys c.loop-state.jumps.keys c.state_made.new.jumps.keys made.tests made.jumps
@@ -59,8 +64,14 @@ loop-state-preserved c =
           count items at here c.loop-state.invariant.each k state (omega (arith, l, length-append c.loop-state.yielded (c.in-Some.state ∷ []))) e;
     }
 
-pub returns : goal.returns
-returns c =
+pub returns-clause-numbers : goal.returns-clause-numbers
+returns-clause-numbers c =
+    let t = YieldsList-end (road (length c.args.graph.now.states) c.requires.states cc) c.loop-state.yielded _ c.loop-state.yielded_by _ _ c.in-None.is c.next.ensures.steps in
+    let all = length-range_with_len 0 (length c.args.graph.now.states) in
+    states_whole c.args.graph.now.states (length c.loop-state.yielded) _ _ (omega (arith, t.1, all)) c.loop-state.invariant.numbers
+
+pub returns-clause-are : goal.returns-clause-are
+returns-clause-are c =
     let t = YieldsList-end (road (length c.args.graph.now.states) c.requires.states cc) c.loop-state.yielded _ c.loop-state.yielded_by _ _ c.in-None.is c.next.ensures.steps in
     let all = length-range_with_len 0 (length c.args.graph.now.states) in
     record {

@@ -4,7 +4,7 @@ use Rattle.logos_generator.specs.Items.{items_of}
 use Rattle.logos_generator.specs.Runs.{Tries}
 use Rattle.logos_generator.specs.Stands.{IsMatch}
 use Rattle.logos_generator.specs.LexerValue.{LexerValue, item_of, answers_of}
-use Rattle.logos_generator.proofs.LexerLemmas.{item_span, none_of, match_runs, fault_runs, over_runs}
+use Rattle.logos_generator.proofs.LexerLemmas.{item_span, none_of, match_runs, match_next, pass_next, fault_runs, fault_next, over_runs}
 use Rattle.logos_generator.proofs.machine.Lexer.next.Goals as goal
 
 pub returns-in-Ended-clause-item : goal.returns-in-Ended-clause-item
@@ -29,6 +29,7 @@ returns-in-Failed-clause-item g c =
       behind = c.loop-to.invariant.behind;
       nonempty = within.0;
       within = within.1;
+      is = c.loop-to.invariant.passed _ _ (fault_next l.code.now _ l.input.now l.to c.in-Failed.to c.attempt-found.result.1 tries);
       next = λ rest r. c.loop-to.invariant.goes_on _
           (fault_runs l.code.now _ l.input.now l.to c.in-Failed.to c.attempt-found.result.1 rest tries (rw (← c.loop-to.invariant.same_callback) at r));
     }
@@ -48,6 +49,7 @@ returns-in-Some-clause-item g c =
       behind = c.loop-to.invariant.behind;
       nonempty = within.1;
       within = within.2;
+      is = c.loop-to.invariant.passed _ _ (match_next l.code.now _ l.input.now l.to to leaf c.attempt-found.result.1 gives.answer (item_of c.in-Some.item) tries gives.may is);
       next = λ rest r. c.loop-to.invariant.goes_on _
           (match_runs l.code.now _ l.input.now l.to to leaf c.attempt-found.result.1 gives.answer (item_of c.in-Some.item ∷ []) rest tries gives.may is
           (rw (← c.loop-to.invariant.same_callback) at r));
@@ -73,4 +75,5 @@ loop-to-preserved g c =
       within = within.2;
       goes_on = λ items r. i.goes_on items
           (match_runs l.code.now _ l.input.now l.to to leaf c.attempt-found.result.1 gives.answer [] items tries gives.may is r);
+      passed = λ item end r. i.passed item end (pass_next l.code.now _ l.input.now l.to to leaf c.attempt-found.result.1 gives.answer item end tries gives.may is r);
     }

@@ -1,6 +1,6 @@
-use Rattle.std.proofs.Common.{◌≡◌, ◌≤◌, ◌-◌, List, length}
+use Rattle.std.proofs.Common.{◌≡◌, ◌≤◌, ◌-◌, ℕ, List, length}
 use Rattle.logos_generator.specs.Items.{Item}
-use Rattle.logos_generator.specs.Runs.{Runs}
+use Rattle.logos_generator.specs.Runs.{Runs, RunsOn}
 use Rattle.logos_generator.specs.LexerValue.{answers_of}
 use Rattle.logos_generator.proofs.machine.Lexer.next.Given as goal
 
@@ -16,6 +16,9 @@ invariant-loop-to g l = record {
   goes_on : (items : List Item) →
       Runs l.self-inside.code.now (answers_of g.C.Fn l.self-inside.callback) l.self-inside.input.now l.self-inside.to items →
       Runs l.fn.self.code (answers_of g.C.Fn l.fn.self.callback) l.fn.self.input l.fn.self.to items;
+  passed : (item : Item) (end : ℕ) →
+      RunsOn l.self-inside.code.now (answers_of g.C.Fn l.self-inside.callback) l.self-inside.input.now l.self-inside.to item end →
+      RunsOn l.fn.self.code (answers_of g.C.Fn l.fn.self.callback) l.fn.self.input l.fn.self.to item end;
 }
 
 abbrev pub decreases-loop-to : goal.decreases-loop-to

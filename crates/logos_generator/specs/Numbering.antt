@@ -1,0 +1,75 @@
+-- The tests that a code makes by bits, their numbers, and the nodes that name them.
+use Rattle.std.specs.Prelude.{◌≡◌, ℕ, zero, suc, ◌+◌, ◌*◌, Bool, ◌==◌, nat_le, List, [], ◌∷◌, ◌++◌, map, length, fold, find, Some, option_map, IsSomeAnd, if◌then◌else◌, slice_get}
+use Rattle.std.specs.Bool.{beq}
+use Rattle.std.specs.Int.{div_ceil}
+use Rattle.std.specs.List.{flat_map, range_with_len}
+use Rattle.std.specs.Option.{option_to_list}
+use Rattle.std.specs.Cmp.Lexicographic.{pointwise}
+use Rattle.indexmap.specs.IndexSet.{insert_key}
+use Rattle.logos_graph.specs.Graph.{GraphState, is_in}
+use Rattle.logos_graph.specs.FinishedGraph.{Edge}
+use Rattle.logos_graph.specs.Bytes.{joined}
+use Rattle.logos_generator.specs.Code.{CodeValue}
+use Rattle.logos_generator.specs.Nodes.{cost, tests_byte, IsStateOf}
+
+-- for each byte, whether it is in the ranges
+abbrev pub set_of : List (ℕ × ℕ) → List Bool
+set_of ranges = map (is_in ranges) (range_with_len 0 256)
+
+-- The tests behind one more use: a set of bytes that has a number keeps it, and another takes the next one.
+abbrev pub with_use : List (List Bool) → List (ℕ × ℕ) → List (List Bool)
+with_use tests ranges = insert_key (pointwise beq) tests (set_of ranges)
+
+-- the tests behind these uses, in their order
+abbrev pub numbered : List (List Bool) → List (List (ℕ × ℕ)) → List (List Bool)
+numbered tests uses = fold with_use tests uses
+
+-- The fast loop of state s uses a test for the bytes of the edge back to it.
+abbrev pub loop_uses : ℕ → List Edge → List (List (ℕ × ℕ))
+loop_uses s edges = option_to_list (option_map (λ e. e.0) (find (λ e. e.1 == s) edges))
+
+-- a condition uses one where comparisons cost more than two operations
+abbrev pub condition_uses : List (ℕ × ℕ) → List (List (ℕ × ℕ))
+condition_uses ranges = if nat_le (cost (joined ranges)) 2 then [] else ranges ∷ []
+
+-- the edge back to s has no condition
+abbrev pub branch_uses : ℕ → Edge → List (List (ℕ × ℕ))
+branch_uses s edge = if edge.1 == s then [] else condition_uses edge.0
+
+-- a fork of more than two edges is a table, which uses none
+abbrev pub fork_uses : ℕ → List Edge → List (List (ℕ × ℕ))
+fork_uses s edges = if nat_le (length edges) 2 then flat_map (branch_uses s) edges else []
+
+-- the fast loop before the fork
+abbrev pub state_uses : ℕ → List Edge → List (List (ℕ × ℕ))
+state_uses s edges = loop_uses s edges ++ fork_uses s edges
+
+-- states ascending, from number s on
+abbrev pub uses_from : ℕ → List GraphState → List (List (ℕ × ℕ))
+uses_from s [] = []
+uses_from s (state ∷ states) = state_uses s state.normal ++ uses_from (s + 1) states
+
+-- The tests of a graph's code, by their numbers: numbered by first use, and equal ones share a number.
+abbrev pub tests_of : List GraphState → List (List Bool)
+tests_of graph = numbered [] (uses_from 0 graph)
+
+-- n tests from number k on at a byte, as the bits of a number, the first one being the lowest
+abbrev pub bits_from : List (List Bool) → ℕ → ℕ → ℕ → ℕ
+bits_from tests b k zero = 0
+bits_from tests b k (suc n) = bits_from tests b (k + 1) n * 2 + (if tests_byte tests k b then 1 else 0)
+
+-- table j has an entry for each byte, of the eight tests from number 8 j on
+abbrev pub bit_table : List (List Bool) → ℕ → List ℕ
+bit_table tests j = map (λ b. bits_from tests b (8 * j) 8) (range_with_len 0 256)
+
+-- as many tables as hold all tests
+abbrev pub bit_tables_of : List (List Bool) → List (List ℕ)
+bit_tables_of tests = map (bit_table tests) (range_with_len 0 (div_ceil (length tests) 8))
+
+-- The nodes of the code are those of the graph's states, one of each and in their order.
+pub record HasNodesOf (graph : List GraphState) (code : CodeValue) : Type 0 where
+  pub root : code.root ≡ 0
+  pub count : length code.states ≡ length graph
+  pub states : (s : ℕ) (state : GraphState) → slice_get graph s ≡ Some state → IsSomeAnd (slice_get code.states s) (IsStateOf (tests_of graph) s state)
+  -- test k is bit k mod 8 of table k / 8
+  pub tables : code.bit_tables ≡ bit_tables_of (tests_of graph)

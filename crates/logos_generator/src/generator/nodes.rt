@@ -1,0 +1,133 @@
+//! The nodes of a code, one by one.
+ghost use Rattle.std.specs.Prelude.{◌≡◌, ◌≤◌, ◌<◌, OnOk, OnErr, IfOk, length};
+ghost use Rattle.logos_graph.specs.Bytes.{ranges_of};
+ghost use Rattle.logos_graph.specs.GraphView.{graph_state_of, state_number};
+ghost use Rattle.logos_generator.specs.GeneratorValue.{code_leaf_value, leaf_value};
+ghost use Rattle.logos_generator.specs.NodeCalls.{Continues, MakesFork, MakesLoop, MakesLoopOver};
+ghost use Rattle.logos_generator.specs.Nodes.{left_out};
+ghost use Rattle.logos_generator.specs.Numbering.{bit_tables_of};
+ghost use Rattle.logos_generator.specs.StateView.{IsCodable};
+
+use super::Generator;
+use super::fork::{impl_fork, maybe_impl_fast_loop};
+use super::leaves::leaf_made;
+use super::tests_by_bits::{add_test, tables_of};
+use crate::code::{CodeLeaf, Fork, NOWHERE};
+use logos_graph::byte_class::ByteClass;
+use logos_graph::graph::{State, StateData};
+use logos_pattern::leaf::Leaf;
+use std::alloc::{AllocError, Global};
+
+/// A fast loop by the test with this number.
+#[derive(Clone, Copy, Debug, PartialEq, Eq)]
+pub struct FastLoop {
+    pub test: usize,
+}
+
+/// What is done where nothing leads on; a match that is left out begins the next try in this state.
+#[derive(Clone, Copy, Debug, PartialEq, Eq)]
+pub struct TakeAction {
+    pub restart: usize,
+}
+
+/// The macro of fast loops over blocks of this many bytes.
+#[derive(Clone, Copy, Debug, PartialEq, Eq)]
+pub struct FastLoopMacro {
+    pub unroll_factor: usize,
+}
+
+/// The macro of fast loops over blocks of this many bytes, at least one.
+pub fn fast_loop_macro(unroll_factor: usize) -> FastLoopMacro
+    requires { 1 ≤ unroll_factor }
+    ensures { result ≡ record { unroll_factor = unroll_factor } }
+{
+    FastLoopMacro { unroll_factor }
+}
+
+impl<'s> Generator<'_, 's> {
+    /// The fork of a state with this data, without the edge back to the state or with it. Its tests and its jump table are
+    /// numbered behind those of the nodes made before. Only want of memory is an error, and changes nothing.
+    pub fn impl_fork(
+        &mut self,
+        alloc: Global,
+        state: State,
+        state_data: &StateData,
+        ignore_self: bool,
+    ) -> Result<Fork, AllocError>
+        requires { IsCodable (graph_state_of state_data.now) }
+        ensures continues { OnOk result (Continues self.old self.new) }
+        ensures is { IfOk result (MakesFork self.old self.new (state_number state) (graph_state_of state_data.now) ignore_self) }
+        ensures error { OnErr result (self.new ≡ self.old) }
+    {
+        let left_out = left_out(ignore_self, state.index());
+        let (tests, jumps) = (self.tests.len(), self.jumps.len());
+        match impl_fork(
+            alloc,
+            &mut self.tests,
+            &mut self.jumps,
+            &state_data.normal,
+            left_out,
+        ) {
+            Ok(fork) => Ok(fork),
+            Err(error) => {
+                self.tests.truncate(tests);
+                self.jumps.truncate(jumps);
+                Err(error)
+            }
+        }
+    }
+
+    /// The fast loop of a state of the graph, over the edge back to it, if there is one. Only want of memory is an error, and changes
+    /// nothing.
+    pub fn maybe_impl_fast_loop(&mut self, state: State) -> Result<Option<FastLoop>, AllocError>
+        requires { state_number state < length self.old.graph.states }
+        ensures continues { OnOk result (Continues self.old self.new) }
+        ensures is { IfOk result (MakesLoop self.old self.new (state_number state)) }
+        ensures error { OnErr result (self.new ≡ self.old) }
+    {
+        let data = self.graph.get_state(state);
+        match maybe_impl_fast_loop(&mut self.tests, &data.normal, state.index())? {
+            Some(test) => Ok(Some(FastLoop { test })),
+            None => Ok(None),
+        }
+    }
+
+    /// The fast loop over an edge with these bytes. Only want of memory is an error, and changes nothing.
+    pub fn impl_fast_loop(&mut self, self_edge: &ByteClass) -> Result<FastLoop, AllocError>
+        ensures continues { OnOk result (Continues self.old self.new) }
+        ensures is { IfOk result (MakesLoopOver self.old self.new (ranges_of self_edge.now)) }
+        ensures error { OnErr result (self.new ≡ self.old) }
+    {
+        let test = add_test(&mut self.tests, self_edge)?;
+        Ok(FastLoop { test })
+    }
+
+    /// What becomes of the matches of a leaf: its kind, and a copy of its callback. Only want of memory is an error.
+    pub fn generate_callback(&self, leaf: &Leaf<'s>) -> Result<CodeLeaf<'s>, AllocError>
+        ensures { IfOk result (λ made. code_leaf_value made ≡ leaf_value leaf.now) }
+    {
+        leaf_made(leaf)
+    }
+
+    /// What is done where nothing leads on.
+    pub fn take_action_macro(&self) -> TakeAction
+        ensures { result ≡ record { restart = 0 } }
+    {
+        TakeAction { restart: 0 }
+    }
+
+    /// The bit tables of the tests of all nodes made so far: after `generate`, those of the code. Only want of memory is an
+    /// error.
+    pub fn render_luts(&self, alloc: Global) -> Result<Vec<[u8; 256]>, AllocError>
+        ensures { IfOk result (λ tables. tables.items ≡ bit_tables_of self.now.tests) }
+    {
+        tables_of(alloc, self.tests.as_slice())
+    }
+}
+
+/// The target whose edge is left out of a fork; no state has the other number.
+fn left_out(ignore_self: bool, state: usize) -> usize
+    ensures { result ≡ left_out ignore_self state }
+{
+    if ignore_self { state } else { NOWHERE as usize }
+}
