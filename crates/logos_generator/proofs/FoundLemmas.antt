@@ -3,7 +3,8 @@ use Rattle.std.proofs.Common.{◌≡◌, ℕ, zero, suc, ◌+◌, ◌-◌, ◌<�
 use Rattle.logos_automaton.specs.Munch.{Found, ended, matched, failed}
 use Rattle.logos_generator.specs.Code.{CodeValue}
 use Rattle.logos_generator.specs.Runs.{marked, Acts}
-use Rattle.logos_graph.specs.Graph.{StateType, GraphState, type_after}
+use Rattle.logos_reduce.specs.Edges.{StateType}
+use Rattle.logos_graph.specs.Graph.{GraphState, type_after}
 use Rattle.logos_graph.specs.Found.{mark_of, mark_after, GraphFinds, IsLastMark, CoversWalk}
 use Rattle.logos_generator.specs.Makes.{mark_made, mark_by}
 use Rattle.logos_generator.proofs.ScanLemmas.{mark_at, last_of, reach, mark_n, last_view, HasLast, HasNone, mark_n-zero, walk_reach, reach-fits}

@@ -8,7 +8,8 @@ use Rattle.std.proofs.lemmas.List.{length-map}
 use Rattle.std.proofs.lemmas.Option.{slice_get-get_or, get_or_from_slice_get, slice_get_within, slice_get_cases, slice_get-map}
 use Rattle.logos_generator.proofs.StandLemmas.{All-slice_get}
 use Rattle.std.proofs.lemmas.Bool.Decides.{eqb_tells}
-use Rattle.logos_graph.specs.Graph.{StateType, GraphState}
+use Rattle.logos_reduce.specs.Edges.{StateType}
+use Rattle.logos_graph.specs.Graph.{GraphState}
 use Rattle.logos_places.specs.ByteRanges.{is_in}
 use Rattle.logos_generator.specs.Bytes.{passes_test}
 use Rattle.logos_generator.specs.Code.{CodeValue, CodeState}

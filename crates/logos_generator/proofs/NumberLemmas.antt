@@ -8,7 +8,8 @@ use Rattle.std.proofs.lemmas.List.FromFn.{get_or-map-range_with_len, length-map-
 use Rattle.std.proofs.lemmas.Option.{get_or_from_slice_get, slice_get_within}
 use Rattle.std.proofs.lemmas.List.Sums.{fold-append}
 use Rattle.indexmap.specs.IndexSet.{insert_key}
-use Rattle.logos_graph.specs.Graph.{GraphState, is_in}
+use Rattle.logos_graph.specs.Graph.{GraphState}
+use Rattle.logos_places.specs.ByteRanges.{is_in}
 use Rattle.logos_graph.specs.FinishedGraph.{Edge}
 use Rattle.logos_graph.specs.GraphView.{edge_of}
 use Rattle.logos_graph.specs.declared.byte_class.ByteClass.{ByteClass}

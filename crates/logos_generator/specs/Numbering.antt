@@ -6,7 +6,8 @@ use Rattle.std.specs.List.{flat_map, range_with_len}
 use Rattle.std.specs.Option.{option_to_list}
 use Rattle.std.specs.Cmp.Lexicographic.{pointwise}
 use Rattle.indexmap.specs.IndexSet.{insert_key}
-use Rattle.logos_graph.specs.Graph.{GraphState, is_in}
+use Rattle.logos_graph.specs.Graph.{GraphState}
+use Rattle.logos_places.specs.ByteRanges.{is_in}
 use Rattle.logos_graph.specs.FinishedGraph.{Edge}
 use Rattle.logos_graph.specs.Bytes.{joined}
 use Rattle.logos_generator.specs.Code.{CodeValue}

@@ -1,10 +1,10 @@
 -- Each move of the table goes on behind where it was, with less left.
 use Rattle.std.proofs.Common.{◌≡◌, ℕ, ◌<◌, ◌+◌, ◌*◌, ◌==◌, ◌&&◌, ◌||◌, Bool, true, false, bytes_eq, codes, if◌then◌else◌, Option, Some, None, List, refl, ap, subst, ◌≤◌, arith}
-use Rattle.logos_token.specs.declared.token.Span.{Span}
-use Rattle.logos_token.specs.declared.token.Spacing.{Spacing}
-use Rattle.logos_token.specs.declared.token.Spacing.TheVariants.{Joint, Alone}
-use Rattle.logos_token.specs.declared.token.Delimiter.{Delimiter}
-use Rattle.logos_token.specs.declared.token.Delimiter.TheVariants.{Parenthesis, Bracket, Brace}
+use Rattle.logos_lexeme.specs.declared.lexeme.Span.{Span}
+use Rattle.logos_lexeme.specs.declared.lexeme.Spacing.{Spacing}
+use Rattle.logos_lexeme.specs.declared.lexeme.Spacing.TheVariants.{Joint, Alone}
+use Rattle.logos_lexeme.specs.declared.lexeme.Delimiter.{Delimiter}
+use Rattle.logos_lexeme.specs.declared.lexeme.Delimiter.TheVariants.{Parenthesis, Bracket, Brace}
 use Rattle.logos_token.specs.Tokens.{Token, TokenList, identifier, punctuation, literal, doc, group, none, also, append, IsRestOf, count_of, token_count}
 use Rattle.logos_type.specs.declared.table.place.PathKind.{PathKind}
 use Rattle.logos_type.specs.declared.table.place.PathKind.TheVariants.{Plain, OfType, OfBound}

@@ -1,7 +1,7 @@
 -- What a type is made of, without where it lies in memory.
 use Rattle.std.specs.Prelude.{ℕ, List, [], ◌∷◌, ◌++◌, Option, Some, None}
-use Rattle.logos_token.specs.declared.token.Delimiter.{Delimiter}
-use Rattle.logos_token.specs.declared.token.Spacing.{Spacing}
+use Rattle.logos_lexeme.specs.declared.lexeme.Delimiter.{Delimiter}
+use Rattle.logos_lexeme.specs.declared.lexeme.Spacing.{Spacing}
 use Rattle.logos_token.specs.Tokens.{Token, identifier, punctuation, literal, doc, group, TokenList, none as no_token, also as and_token}
 use Rattle.logos_type.specs.declared.type_expr.Leaf.{Leaf}
 use Rattle.logos_type.specs.declared.type_expr.Leaf.TheVariants.{Word, Mark, Colons, Arrow, Literal, Open, Close, Reference, Lifetime, Kept, Punct, Doc}

@@ -10,7 +10,7 @@ ghost use Rattle.logos_graph.specs.Least.{IsLeast};
 ghost use Rattle.logos_automaton.specs.Munch.{Rule};
 ghost use Rattle.logos_graph.specs.ReduceShown.{Shows};
 ghost use Rattle.logos_graph.specs.Reduced.{IsReduced};
-ghost use Rattle.logos_graph.specs.View.{AllStart};
+ghost use Rattle.logos_automaton.specs.Faults.{AllStart};
 ghost use Rattle.logos_graph.specs.Walk.{MarksOneByteLate};
 
 use logos_reduce::reduction::{Reduction, reduce};
