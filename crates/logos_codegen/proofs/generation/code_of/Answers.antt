@@ -16,4 +16,7 @@ returns-clause-lexer c =
     let graph = c.args.graph.now in
     together (RunsAs graph.states graph.utf8) (λ code. code.utf8 ≡ graph.utf8) (λ (code : CodeValue). code.leaves ≡ map (λ leaf. (rule_of leaf).use_of) graph.leaves)
     (IsLexer (rules_of graph.leaves) graph.utf8) c.generate.result (λ code runs mode uses. is_lexer_of graph code c.requires.finds runs mode uses)
-    (rw c.new.ensures at c.generate.ensures.runs) (rw c.new.ensures at c.generate.ensures.mode) (rw c.new.ensures at c.generate.ensures.uses)
+    (rw c.new-generator.ensures at c.generate.ensures.runs) (rw c.new-generator.ensures at c.generate.ensures.mode) (rw c.new-generator.ensures at c.generate.ensures.uses)
+
+pub returns-clause-keeps : goal.returns-clause-keeps
+returns-clause-keeps c = rw c.new-generator.ensures at c.generate.ensures.keeps
