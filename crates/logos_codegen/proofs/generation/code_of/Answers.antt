@@ -1,8 +1,7 @@
 use Rattle.std.proofs.Common.{◌≡◌, map, Result, Ok, Err, IfOk}
-use Rattle.logos_graph.specs.View.{rule_of}
+use Rattle.logos_graph.specs.View.{rule_of, rules_of}
 use Rattle.logos_generator.specs.Code.{CodeValue}
 use Rattle.logos_generator.specs.Headline.{IsLexer, RunsAs}
-use Rattle.logos_graph.specs.View.{rules_of}
 use Rattle.logos_generator.proofs.Compose.{is_lexer_of}
 use Rattle.logos_codegen.proofs.generation.code_of.Goals as goal
 
@@ -16,4 +15,7 @@ returns-clause-lexer c =
     let graph = c.args.graph.now in
     together (RunsAs graph.states graph.utf8) (λ code. code.utf8 ≡ graph.utf8) (λ (code : CodeValue). code.leaves ≡ map (λ leaf. (rule_of leaf).use_of) graph.leaves)
     (IsLexer (rules_of graph.leaves) graph.utf8) c.generate.result (λ code runs mode uses. is_lexer_of graph code (c.requires.of_leaves.finds c.requires.faultless) runs mode uses)
-    (rw c.new.ensures at c.generate.ensures.runs) (rw c.new.ensures at c.generate.ensures.mode) (rw c.new.ensures at c.generate.ensures.uses)
+    (rw c.new-generator.ensures at c.generate.ensures.runs) (rw c.new-generator.ensures at c.generate.ensures.mode) (rw c.new-generator.ensures at c.generate.ensures.uses)
+
+pub returns-clause-keeps : goal.returns-clause-keeps
+returns-clause-keeps c = rw c.new-generator.ensures at c.generate.ensures.keeps

@@ -1,0 +1,85 @@
+//! The text of a whole code.
+ghost use Rattle.std.specs.Prelude.{IfOk, OnOk, string_bytes};
+ghost use Rattle.logos_generator.specs.CodeView.{code_of};
+ghost use Rattle.logos_text.specs.Standing.{Adds, Grows, StandInOrder};
+ghost use Rattle.logos_text.specs.Texts.{texts_in, texts_of};
+
+use crate::errors::push_make_error;
+use crate::implementation::{Around, push_front};
+use crate::leaves::{push_get_action, push_leaf_names};
+use crate::macros::{push_fast_loop_macro, push_take_action_macro};
+use crate::names::Names;
+use crate::pieces::push;
+use crate::states::{push_closing, push_opening, push_states};
+use crate::tables::push_tables;
+use logos_generator::code::{Code, CodeParts};
+use logos_token::error::Memory;
+use logos_token::token::print;
+use std::alloc::Global;
+
+/// The Rust text of a code, as the body of a function: its tokens, parted as `print` parts them. The texts of all bit tables by
+/// number, and behind them those of the conditions of all forks, by states and by the fork's order, stand in it without overlap.
+/// It fails only where there is no memory.
+pub fn text(alloc: Global, code: &Code<'_>) -> Result<String, Memory>
+    ensures { IfOk result (λ text. StandInOrder (texts_of code.now) (string_bytes text)) }
+{
+    let parts = code.parts();
+    let this = print(alloc, parts.kept.this.run())?;
+    let mut text = String::new(alloc);
+    push_code(alloc, &mut text, parts, Names::new(parts, &this))?;
+    Ok(text)
+}
+
+/// The Rust text of a code as `text` gives it, with the implementation of `Logos` around it. It fails only where there is no
+/// memory.
+pub fn text_in(alloc: Global, code: &Code<'_>, around: Around<'_>) -> Result<String, Memory>
+    ensures { IfOk result (λ text. StandInOrder (texts_of code.now) (string_bytes text)) }
+{
+    let parts = code.parts();
+    let this = print(alloc, parts.kept.this.run())?;
+    let mut text = String::new(alloc);
+    push_front(&mut text, around, &this)?;
+    push_code(alloc, &mut text, parts, Names::new(parts, &this))?;
+    push(&mut text, " } }")?;
+    Ok(text)
+}
+
+/// Adds all of a code.
+fn push_code(
+    alloc: Global,
+    text: &mut String,
+    parts: &CodeParts<'_>,
+    names: Names<'_>,
+) -> Result<(), Memory>
+    ensures { OnOk result (Adds (texts_in names.entry.shape (code_of parts.now)) (string_bytes text.old) (string_bytes text.new)) }
+{
+    push_macros(text, parts.root, names)?;
+    push_tables(text, &parts.bit_tables)?;
+    push_functions(alloc, text, parts, names)?;
+    push_states(alloc, text, parts, names)?;
+    push_closing(text, parts.root, names.shape)?;
+    Ok(())
+}
+
+/// Adds the macros, with fast loops over blocks of eight bytes.
+fn push_macros(text: &mut String, root: usize, names: Names<'_>) -> Result<(), Memory>
+    ensures { OnOk result (Grows (string_bytes text.old) (string_bytes text.new)) }
+{
+    push_fast_loop_macro(text, 8)?;
+    push_take_action_macro(text, root, names)
+}
+
+/// Adds the functions of matches and errors, and what stands in front of the states.
+fn push_functions(
+    alloc: Global,
+    text: &mut String,
+    parts: &CodeParts<'_>,
+    names: Names<'_>,
+) -> Result<(), Memory>
+    ensures { OnOk result (Grows (string_bytes text.old) (string_bytes text.new)) }
+{
+    push_make_error(alloc, text, parts.kept.error_callback.as_ref(), names)?;
+    push_get_action(alloc, text, &parts.leaves, names)?;
+    push_leaf_names(text, parts.leaves.len())?;
+    push_opening(alloc, text, parts.states.len(), parts.root, names.shape)
+}

@@ -1,0 +1,179 @@
+//! The text of conditions.
+ghost use Rattle.std.specs.Prelude.{◌≡◌, ◌++◌, ◌∷◌, [], ◌==◌, ◌<◌, OnOk, map, codes, string_bytes};
+ghost use Rattle.std.specs.List.{flat_map, join_by};
+ghost use Rattle.logos_graph.specs.Bytes.{comparison_of};
+ghost use Rattle.logos_generator.specs.CodeView.{condition_of};
+ghost use Rattle.logos_text.specs.Texts.{is_quoted, end_text, exception_text, single_text, between_text, comparison_text, bit_text, test_text, transition_text, condition_text};
+
+use crate::pieces::push_str;
+use logos_generator::code::Condition;
+use logos_generator::generator::Config;
+use logos_graph::byte_class::Comparisons;
+use logos_token::error::Memory;
+
+/// Whether the byte is written as a character.
+fn is_quoted(byte: u8) -> bool
+    ensures { result ≡ is_quoted byte }
+{
+    matches!(byte, b'!'..=b'}') & (byte != b'`')
+}
+
+/// Adds a byte that is an end of a range.
+fn push_end(text: &mut String, byte: u8) -> Result<(), Memory>
+    ensures { OnOk result (string_bytes text.new ≡ string_bytes text.old ++ end_text byte) }
+{
+    if !is_quoted(byte) {
+        write!(text, "{byte}u8")?;
+        return Ok(());
+    }
+    match byte {
+        b'\'' => push_str(text, "b'\\''")?,
+        b'\\' => push_str(text, "b'\\\\'")?,
+        _ => push_quoted(text, char::from(byte))?,
+    }
+    Ok(())
+}
+
+/// Adds a character between quotes.
+fn push_quoted(text: &mut String, character: char) -> Result<(), Memory>
+    requires { character < 128 }
+    ensures { OnOk result (string_bytes text.new ≡ string_bytes text.old ++ 98 ∷ 39 ∷ character ∷ 39 ∷ []) }
+{
+    push_str(text, "b'")?;
+    text.push(character)?;
+    push_str(text, "'")?;
+    Ok(())
+}
+
+fn push_exception(text: &mut String, byte: u8) -> Result<(), Memory>
+    ensures { OnOk result (string_bytes text.new ≡ string_bytes text.old ++ exception_text byte) }
+{
+    write!(text, " && byte != {byte}u8")?;
+    Ok(())
+}
+
+fn push_exceptions(text: &mut String, bytes: &[u8]) -> Result<(), Memory>
+    ensures { OnOk result (string_bytes text.new ≡ string_bytes text.old ++ flat_map exception_text bytes.now) }
+{
+    for byte in bytes {
+        push_exception(text, *byte)?;
+    }
+    Ok(())
+}
+
+fn push_comparison(text: &mut String, comparison: &Comparisons) -> Result<(), Memory>
+    ensures { OnOk result (string_bytes text.new ≡ string_bytes text.old ++ comparison_text (comparison_of comparison.now)) }
+{
+    let first = *comparison.range.start();
+    let last = *comparison.range.end();
+    if first == last {
+        return push_single(text, first);
+    }
+    push_between(text, first, last, &comparison.except)
+}
+
+fn push_single(text: &mut String, byte: u8) -> Result<(), Memory>
+    ensures { OnOk result (string_bytes text.new ≡ string_bytes text.old ++ single_text byte) }
+{
+    push_str(text, "( byte == ")?;
+    push_end(text, byte)?;
+    push_str(text, " )")?;
+    Ok(())
+}
+
+fn push_between(text: &mut String, first: u8, last: u8, except: &[u8]) -> Result<(), Memory>
+    ensures { OnOk result (string_bytes text.new ≡ string_bytes text.old ++ between_text first last except.now) }
+{
+    push_str(text, "( matches ! ( byte , ")?;
+    push_end(text, first)?;
+    push_str(text, " ..= ")?;
+    push_end(text, last)?;
+    push_str(text, " )")?;
+    push_exceptions(text, except)?;
+    push_str(text, " )")?;
+    Ok(())
+}
+
+/// Adds a comparison behind a former one.
+fn push_next_comparison(text: &mut String, comparison: &Comparisons) -> Result<(), Memory>
+    ensures { OnOk result (string_bytes text.new ≡ string_bytes text.old ++ codes " || " ++ comparison_text (comparison_of comparison.now)) }
+{
+    push_str(text, " || ")?;
+    push_comparison(text, comparison)
+}
+
+fn push_next_comparisons(text: &mut String, comparisons: &[Comparisons]) -> Result<(), Memory>
+    ensures { OnOk result (string_bytes text.new ≡ string_bytes text.old ++ flat_map (λ c. codes " || " ++ comparison_text c) (map comparison_of comparisons.now)) }
+{
+    for comparison in comparisons {
+        push_next_comparison(text, comparison)?;
+    }
+    Ok(())
+}
+
+fn push_comparisons(text: &mut String, comparisons: &[Comparisons]) -> Result<(), Memory>
+    ensures { OnOk result (string_bytes text.new ≡ string_bytes text.old ++ join_by comparison_text (codes " || ") (map comparison_of comparisons.now)) }
+{
+    let Some((first, rest)) = comparisons.split_first() else {
+        return Ok(());
+    };
+    push_comparison(text, first)?;
+    push_next_comparisons(text, rest)
+}
+
+/// Adds the bit of the test with this number.
+pub(crate) fn push_bit(text: &mut String, test: usize) -> Result<(), Memory>
+    ensures { OnOk result (string_bytes text.new ≡ string_bytes text.old ++ bit_text test) }
+{
+    let table = test / 8;
+    let mask: u8 = 1 << (test % 8);
+    write!(text, "_TABLE_{table} [ byte as usize ] & {mask}u8")?;
+    Ok(())
+}
+
+fn push_test(text: &mut String, test: &Condition) -> Result<(), Memory>
+    ensures { OnOk result (string_bytes text.new ≡ string_bytes text.old ++ test_text (condition_of test.now)) }
+{
+    match test {
+        Condition::Comparisons(all) => push_comparisons(text, all)?,
+        Condition::Test(k) => push_bit_test(text, *k)?,
+    }
+    Ok(())
+}
+
+fn push_bit_test(text: &mut String, test: usize) -> Result<(), Memory>
+    ensures { OnOk result (string_bytes text.new ≡ string_bytes text.old ++ bit_text test ++ codes " != 0") }
+{
+    push_bit(text, test)?;
+    push_str(text, " != 0")?;
+    Ok(())
+}
+
+/// Adds the step to a state.
+pub(crate) fn push_transition(text: &mut String, target: usize, shape: Config) -> Result<(), Memory>
+    ensures { OnOk result (string_bytes text.new ≡ string_bytes text.old ++ transition_text target shape) }
+{
+    if shape.use_state_machine_codegen {
+        write!(text, "state = LogosState :: State{target} ; continue ;")?;
+        return Ok(());
+    }
+    write!(text, "return state{target} ( lex , offset , context ) ;")?;
+    Ok(())
+}
+
+/// Adds a condition, and what is done where it holds.
+pub(crate) fn push_condition(
+    text: &mut String,
+    test: &Condition,
+    target: usize,
+    shape: Config,
+) -> Result<(), Memory>
+    ensures { OnOk result (string_bytes text.new ≡ string_bytes text.old ++ condition_text (condition_of test.now) target shape) }
+{
+    push_str(text, "if ")?;
+    push_test(text, test)?;
+    push_str(text, " { offset += 1 ; ")?;
+    push_transition(text, target, shape)?;
+    push_str(text, " }")?;
+    Ok(())
+}

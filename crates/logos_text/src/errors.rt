@@ -1,0 +1,79 @@
+//! The text of the function that makes errors.
+ghost use Rattle.std.specs.Prelude.{OnOk, string_bytes};
+ghost use Rattle.logos_text.specs.Standing.{Grows};
+
+use crate::callbacks::push_tokens;
+use crate::names::Names;
+use crate::pieces::push;
+use logos_pattern::leaf::Callback;
+use logos_token::error::Memory;
+use logos_token::token::Tokens;
+use std::alloc::Global;
+
+/// Adds the function that makes errors.
+pub(crate) fn push_make_error(
+    alloc: Global,
+    text: &mut String,
+    callback: Option<&Callback<'_>>,
+    names: Names<'_>,
+) -> Result<(), Memory>
+    ensures { OnOk result (Grows (string_bytes text.old) (string_bytes text.new)) }
+{
+    let this = names.this;
+    write!(
+        text,
+        "# [ inline ] fn _make_error < 's > ( lex : & mut _Lexer < 's > ) -> < {this} as Logos < 's >> :: Error {{ "
+    )?;
+    push_error_body(alloc, text, callback, names)?;
+    push(text, "} ")
+}
+
+/// Adds the body of the function that makes errors.
+fn push_error_body(
+    alloc: Global,
+    text: &mut String,
+    callback: Option<&Callback<'_>>,
+    names: Names<'_>,
+) -> Result<(), Memory>
+    ensures { OnOk result (Grows (string_bytes text.old) (string_bytes text.new)) }
+{
+    let Some(callback) = callback else {
+        let this = names.this;
+        write!(text, "< {this} as Logos < 's >> :: Error :: default ( ) ")?;
+        return Ok(());
+    };
+    push_error_call(alloc, text, callback)
+}
+
+/// Adds the call of the error callback.
+fn push_error_call(alloc: Global, text: &mut String, callback: &Callback<'_>) -> Result<(), Memory>
+    ensures { OnOk result (Grows (string_bytes text.old) (string_bytes text.new)) }
+{
+    match callback {
+        Callback::Label(label) => push_error_label(alloc, text, label.run()),
+        Callback::Inline(inline) => {
+            push_error_inline(alloc, text, inline.arg.text, inline.body.run())
+        }
+    }
+}
+
+fn push_error_label(alloc: Global, text: &mut String, label: Tokens<'_, '_>) -> Result<(), Memory>
+    ensures { OnOk result (Grows (string_bytes text.old) (string_bytes text.new)) }
+{
+    push(text, "let error = ")?;
+    push_tokens(alloc, text, label)?;
+    push(text, "( lex ) ; error . into ( ) ")
+}
+
+fn push_error_inline(
+    alloc: Global,
+    text: &mut String,
+    arg: &str,
+    body: Tokens<'_, '_>,
+) -> Result<(), Memory>
+    ensures { OnOk result (Grows (string_bytes text.old) (string_bytes text.new)) }
+{
+    write!(text, "let {arg} = lex ; let error = {{ ")?;
+    push_tokens(alloc, text, body)?;
+    push(text, "} ; error . into ( ) ")
+}

@@ -1,0 +1,61 @@
+//! The text around the body of a lexer.
+ghost use Rattle.std.specs.Prelude.{OnOk, string_bytes};
+ghost use Rattle.logos_text.specs.Standing.{Grows};
+
+use logos_token::error::Memory;
+
+/// What stands around the body of a lexer, each as printed tokens.
+#[derive(Clone, Copy)]
+pub struct Around<'p> {
+    /// The path of the library.
+    pub logos: &'p str,
+    /// The type of errors.
+    pub error: &'p str,
+    /// The type of extras.
+    pub extras: &'p str,
+    /// The type of sources.
+    pub source: &'p str,
+}
+
+/// Adds what stands in front of a body.
+pub(crate) fn push_front(text: &mut String, around: Around<'_>, this: &str) -> Result<(), Memory>
+    ensures { OnOk result (Grows (string_bytes text.old) (string_bytes text.new)) }
+{
+    push_head(text, around, this)?;
+    push_signature(text, around.logos)?;
+    push_uses(text, around.logos, this)
+}
+
+fn push_head(text: &mut String, around: Around<'_>, this: &str) -> Result<(), Memory>
+    ensures { OnOk result (Grows (string_bytes text.old) (string_bytes text.new)) }
+{
+    let logos = around.logos;
+    let error = around.error;
+    let extras = around.extras;
+    let source = around.source;
+    write!(
+        text,
+        "impl < 's > {logos} :: Logos < 's > for {this} {{ type Error = {error} ; type Extras = {extras} ; type Source = {source} ; "
+    )?;
+    Ok(())
+}
+
+fn push_signature(text: &mut String, logos: &str) -> Result<(), Memory>
+    ensures { OnOk result (Grows (string_bytes text.old) (string_bytes text.new)) }
+{
+    write!(
+        text,
+        "fn lex ( lex : & mut {logos} :: Lexer < 's , Self > ) -> core :: option :: Option < core :: result :: Result < Self , < Self as {logos} :: Logos < 's >> :: Error >> {{ "
+    )?;
+    Ok(())
+}
+
+fn push_uses(text: &mut String, logos: &str, this: &str) -> Result<(), Memory>
+    ensures { OnOk result (Grows (string_bytes text.old) (string_bytes text.new)) }
+{
+    write!(
+        text,
+        "use {logos} :: internal :: {{ LexerInternal , CallbackRetVal , CallbackResult , SkipRetVal , SkipResult , }} ; use core :: result :: Result as _Result ; use core :: option :: Option as _Option ; use {logos} :: Logos ; type _Lexer < 's > = {logos} :: Lexer < 's , {this} > ; "
+    )?;
+    Ok(())
+}

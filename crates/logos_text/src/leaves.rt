@@ -1,0 +1,153 @@
+//! The text of leaves, and of what becomes of their matches.
+ghost use Rattle.std.specs.Prelude.{OnOk, string_bytes};
+ghost use Rattle.logos_text.specs.Standing.{Grows};
+
+use crate::callbacks::push_call;
+use crate::names::Names;
+use crate::pieces::{comma_before, push};
+use logos_generator::code::CodeLeaf;
+use logos_pattern::leaf::VariantKind;
+use logos_token::error::Memory;
+use std::alloc::Global;
+
+/// Adds the names of the leaves with their numbers.
+pub(crate) fn push_leaf_names(text: &mut String, count: usize) -> Result<(), Memory>
+    ensures { OnOk result (Grows (string_bytes text.old) (string_bytes text.new)) }
+{
+    push(text, "# [ derive ( Clone , Copy ) ] enum LogosLeaf { ")?;
+    for leaf in 0..count {
+        push_leaf_name(text, leaf)?;
+    }
+    push(text, "} ")
+}
+
+fn push_leaf_name(text: &mut String, leaf: usize) -> Result<(), Memory>
+    ensures { OnOk result (Grows (string_bytes text.old) (string_bytes text.new)) }
+{
+    let comma = comma_before(leaf);
+    write!(text, "{comma}Leaf{leaf} = {leaf}isize ")?;
+    Ok(())
+}
+
+/// Adds the function that says what becomes of a match.
+pub(crate) fn push_get_action(
+    alloc: Global,
+    text: &mut String,
+    leaves: &[CodeLeaf<'_>],
+    names: Names<'_>,
+) -> Result<(), Memory>
+    ensures { OnOk result (Grows (string_bytes text.old) (string_bytes text.new)) }
+{
+    let this = names.this;
+    write!(
+        text,
+        "# [ inline ] fn _get_action < 's > ( lex : & mut _Lexer < 's > , offset : usize , context : _Option < LogosLeaf > ) -> CallbackResult < 's , {this} > {{ match context {{ None => {{ lex . end_to_boundary ( offset . max ( lex . offset ( ) + 1 ) ) ; CallbackResult :: Error ( _make_error ( lex ) ) }} , "
+    )?;
+    push_arms(alloc, text, leaves, names)?;
+    push(text, "} } ")
+}
+
+fn push_arms(
+    alloc: Global,
+    text: &mut String,
+    leaves: &[CodeLeaf<'_>],
+    names: Names<'_>,
+) -> Result<(), Memory>
+    ensures { OnOk result (Grows (string_bytes text.old) (string_bytes text.new)) }
+{
+    if leaves.is_empty() {
+        return push(
+            text,
+            "Some ( _ ) => unreachable ! ( \"There are no matchable tokens\" ) , ",
+        );
+    }
+    for n in 0..leaves.len() {
+        push_arm(alloc, text, n, &leaves[n], names)?;
+    }
+    Ok(())
+}
+
+/// Adds the arm of leaf number n.
+fn push_arm(
+    alloc: Global,
+    text: &mut String,
+    n: usize,
+    leaf: &CodeLeaf<'_>,
+    names: Names<'_>,
+) -> Result<(), Memory>
+    ensures { OnOk result (Grows (string_bytes text.old) (string_bytes text.new)) }
+{
+    let comma = comma_before(n);
+    write!(text, "{comma}Some ( LogosLeaf :: Leaf{n} ) => {{ ")?;
+    push_leaf(alloc, text, leaf, names)?;
+    push(text, "} ")
+}
+
+/// Adds what becomes of a match of the leaf.
+fn push_leaf(
+    alloc: Global,
+    text: &mut String,
+    leaf: &CodeLeaf<'_>,
+    names: Names<'_>,
+) -> Result<(), Memory>
+    ensures { OnOk result (Grows (string_bytes text.old) (string_bytes text.new)) }
+{
+    let Some(callback) = &leaf.callback else {
+        return push_plain(text, &leaf.kind, names);
+    };
+    push(text, "let cb_result = ")?;
+    push_call(alloc, text, callback)?;
+    push(text, "; ")?;
+    push_result(text, &leaf.kind, names)
+}
+
+/// Adds what a match of the leaf gives where nothing is called.
+fn push_plain(text: &mut String, kind: &VariantKind<'_>, names: Names<'_>) -> Result<(), Memory>
+    ensures { OnOk result (Grows (string_bytes text.old) (string_bytes text.new)) }
+{
+    match kind {
+        VariantKind::Skip => push(text, "CallbackResult :: Skip "),
+        VariantKind::Unit(variant) => push_unit(text, variant.text, names),
+    }
+}
+
+fn push_unit(text: &mut String, variant: &str, names: Names<'_>) -> Result<(), Memory>
+    ensures { OnOk result (Grows (string_bytes text.old) (string_bytes text.new)) }
+{
+    let name = names.name;
+    write!(text, "CallbackResult :: Emit ( {name} :: {variant} ) ")?;
+    Ok(())
+}
+
+/// Adds what a match of the leaf gives by what was called.
+fn push_result(text: &mut String, kind: &VariantKind<'_>, names: Names<'_>) -> Result<(), Memory>
+    ensures { OnOk result (Grows (string_bytes text.old) (string_bytes text.new)) }
+{
+    match kind {
+        VariantKind::Skip => push_skip_result(text, names),
+        VariantKind::Unit(variant) => push_unit_result(text, variant.text, names),
+    }
+}
+
+fn push_skip_result(text: &mut String, names: Names<'_>) -> Result<(), Memory>
+    ensures { OnOk result (Grows (string_bytes text.old) (string_bytes text.new)) }
+{
+    let this = names.this;
+    write!(
+        text,
+        "let srv = SkipRetVal :: < 's , {this} > :: construct ( cb_result ) ; CallbackResult :: from ( srv ) "
+    )?;
+    Ok(())
+}
+
+fn push_unit_result(text: &mut String, variant: &str, names: Names<'_>) -> Result<(), Memory>
+    ensures { OnOk result (Grows (string_bytes text.old) (string_bytes text.new)) }
+{
+    let this = names.this;
+    let name = names.name;
+    write!(
+        text,
+        "CallbackRetVal :: < 's , ( ) , {this} > :: construct ( cb_result , | ( ) | {name} :: {variant} ) "
+    )?;
+    Ok(())
+}

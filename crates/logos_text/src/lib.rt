@@ -1,0 +1,23 @@
+//! The Rust text of a code value.
+
+#![tactic(auto)]
+
+mod callbacks;
+mod code;
+mod conditions;
+mod errors;
+mod forks;
+mod implementation;
+mod leaves;
+mod macros;
+mod names;
+mod pieces;
+mod states;
+mod tables;
+#[cfg(test)]
+mod testing;
+#[cfg(test)]
+mod tests;
+
+pub use code::{text, text_in};
+pub use implementation::Around;
