@@ -4,3 +4,5 @@ pub mod DepthLemmas
 pub mod TableSteps
 pub mod ReadingLemmas
 pub mod ReadingLaws
+pub mod ReadingTotal
+pub mod WrittenReads

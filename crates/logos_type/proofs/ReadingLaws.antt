@@ -210,7 +210,7 @@ mutual
   refused_parts (here h) g = against_here h (λ m c qs other x. refused_move h x) (parts_of g)
   refused_parts (later a h) g = against_later a (λ m c qs other x. refused_parts h x) (parts_of g)
 
-not_less : {n : ℕ} {fault : Fault} → IsDeeper fault n n → ⊥
+pub not_less : {n : ℕ} {fault : Fault} → IsDeeper fault n n → ⊥
 not_less d = let h = d.1 in omega (arith, h)
 
 -- what fault there can be

@@ -175,3 +175,11 @@ formed_type levels plus run b c s spot ps rest ts a e f h n is =
     let f' : begin plus run ≡ starts false s spot = subst (λ (x : Bool). begin plus run ≡ starts x s spot) k.0 f in
     let h' : AreParts (levels - 1) false spot ps rest = subst (λ (x : Bool). AreParts (levels - 1) x spot ps rest) k.1 h in
     subst (λ (x : List Tree). IsType levels plus run (whole (trees x)) rest) (sym is) (formed a e f' h')
+
+inner_less_than : (run within : TokenList) (behind other : Option TokenList) → count_of within < count_of run → other ≡ None → left within other < left run behind
+inner_less_than run within None None h n = omega (arith, h)
+inner_less_than run within (Some after) None h n = omega (arith, h)
+inner_less_than run within behind (Some after) h n = absurd (let z = n in cc)
+
+pub inner_left : (spot : Spot) (s : Sign) (inner : Spot) (place : Place) → next_of spot ≡ nests s inner place → spot_left inner < spot_left spot
+inner_left spot s inner place e = let i : Inward spot.run inner = moved spot e in inner_less_than spot.run inner.run spot.behind inner.behind i.less i.alone

@@ -568,6 +568,7 @@ steps place.LengthEnd run b = closed Bracket place.End run b
 steps (place.Bound plus) run b = bound plus run b
 steps (place.Question plus) run b = question (Enclosed plus) run b
 steps (place.Trait kind) run b = trait kind run b
+steps (place.TraitPath kind) run b = path OfBound (table.behind_bound kind) run b
 steps (place.BoundEnd plus) run b = bound_end plus run b
 steps place.Further run b = further run b
 steps (place.EnclosedEnd plus) run b = enclosed_end plus run b

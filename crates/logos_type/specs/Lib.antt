@@ -5,4 +5,5 @@ pub mod Table
 pub mod Reading
 pub mod ReadingViews
 pub mod TypeExprs
+pub mod Written
 pub mod inside

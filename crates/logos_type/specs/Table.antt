@@ -331,7 +331,7 @@ enclosed_end_move plus run behind = misfits run
 -- behind `for<..>`: a function, or the path of a bound
 abbrev pub behind_for : Binder → Place
 behind_for OfFunction = place.Qualified
-behind_for (OfTrait kind) = place.Trait kind
+behind_for (OfTrait kind) = place.TraitPath kind
 
 -- behind `for`: `<`
 abbrev pub for_move : Binder → TokenList → Option TokenList → Move
@@ -446,6 +446,7 @@ next_at place.LengthEnd run behind = closes Bracket place.End behind
 next_at (place.Bound plus) run behind = bound_move plus run behind
 next_at (place.Question plus) run behind = question_move (Enclosed plus) run behind
 next_at (place.Trait kind) run behind = trait_move kind run behind
+next_at (place.TraitPath kind) run behind = path_move OfBound (behind_bound kind) run
 next_at (place.BoundEnd plus) run behind = bound_end_move plus run behind
 next_at place.Further run behind = further_move run behind
 next_at (place.EnclosedEnd plus) run behind = enclosed_end_move plus run behind

@@ -2,6 +2,7 @@
 
 #![tactic(auto)]
 
+mod laws;
 mod print;
 mod reading;
 mod table;
@@ -9,6 +10,7 @@ mod table;
 mod tests;
 mod type_expr;
 
+pub use laws::{levels_only_limit, one_outcome, reads_written, some_outcome, type_is_front};
 pub use print::print_type;
 pub use reading::{TYPE_NESTING, TypeFault, read_type};
 pub use type_expr::{Leaf, Part, TypeExpr, exceeds};

@@ -13,7 +13,7 @@ mod tokens;
 
 use bounds::{
     bound_end_step, bound_step, enclosed_end_step, for_end_step, for_list_step, for_step,
-    further_step, question_step, trait_step,
+    further_step, question_step, trait_path_step, trait_step,
 };
 use functions::{
     extern_step, function_step, linked_step, one_taken_step, qualified_step, taken_step,
@@ -74,6 +74,7 @@ pub(crate) fn next_at<'t, 's>(
         Place::Bound(plus) => bound_step(plus, run, behind),
         Place::Question(plus) => question_step(BoundKind::Enclosed(plus), run, behind),
         Place::Trait(kind) => trait_step(kind, run, behind),
+        Place::TraitPath(kind) => trait_path_step(kind, run),
         Place::BoundEnd(plus) => bound_end_step(plus, run, behind),
         Place::Further => further_step(run, behind),
         Place::EnclosedEnd(plus) => enclosed_end_step(plus, run, behind),

@@ -17,14 +17,10 @@ abbrev mutual
   some_names none text = false
   some_names (also part parts) text = names part text || some_names parts text
 
-abbrev pub slot_names : Option Tree → List ℕ → Bool
-slot_names None text = false
-slot_names (Some type) text = names type text
-
--- the type of the first parameter of this name has that name
+-- the first type that is given to this name has that name
 abbrev pub holds : List ParamValue → List ℕ → List ℕ → Bool
 holds [] text other = false
-holds (p ∷ ps) text other = if bytes_eq p.name text then slot_names p.type other else holds ps text other
+holds (p ∷ ps) text other = if bytes_eq p.name text then names p.type other else holds ps text other
 
 -- a chain of types that name one another leads from the first name to the second one
 pub data Leads (params : List ParamValue) : List ℕ → List ℕ → Type 0 where

@@ -4,6 +4,10 @@
 
 mod self_reference;
 mod substitution;
+#[cfg(test)]
+mod tests;
+mod type_params;
 
 pub use self_reference::holds_itself;
-pub use substitution::{TypeParam, at_most_one_after, type_after};
+pub use substitution::{Replacing, TypeParam, at_most_one_after, type_after};
+pub use type_params::TypeParams;

@@ -1,8 +1,8 @@
 //! Which parameters hold themselves.
 ghost use Rattle.std.specs.Prelude.{◌≡◌, ◌<◌, ℕ, Bool, true, false, map, length, slice_index, IfOk, OnOk, MatchOption, IsTrue, ◌↔◌};
 ghost use Rattle.logos_type.specs.Parts.{trees, tree_of};
-ghost use Rattle.logos_type_params.specs.Substitution.{slot_tree, param_value};
-ghost use Rattle.logos_type_params.specs.SelfReference.{names, some_names, slot_names, holds, Leads, IsPlaced, IsMoved, texts};
+ghost use Rattle.logos_type_params.specs.Substitution.{param_value};
+ghost use Rattle.logos_type_params.specs.SelfReference.{names, holds, Leads, IsPlaced, IsMoved, texts};
 
 use crate::substitution::TypeParam;
 use logos_type::Part;
@@ -26,22 +26,13 @@ fn names(part: &Part<'_>, text: &str) -> bool
     }
 }
 
-fn slot_names(slot: &Option<Part<'_>>, text: &str) -> bool
-    ensures { result ≡ slot_names (slot_tree slot.now) text.now }
-{
-    match slot {
-        Some(part) => names(part, text),
-        None => false,
-    }
-}
-
-/// Whether the type of the first parameter of this name has that name.
+/// Whether the first type that is given to this name has that name.
 fn holds(params: &[TypeParam<'_>], text: &str, other: &str) -> bool
     ensures { result ≡ holds (map param_value params.now) text.now other.now }
 {
     for param in params {
         if param.name.text == text {
-            return slot_names(&param.slot, other);
+            return names(&param.part, other);
         }
     }
     false

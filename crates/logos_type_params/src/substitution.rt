@@ -1,23 +1,29 @@
 //! Declared type parameters, and what becomes of a type that names them.
 ghost use Rattle.std.specs.Prelude.{◌≡◌, ◌<◌, ℕ, Bool, true, false, List, map, IfOk, IfErr, MatchOption};
 ghost use Rattle.logos_type.specs.Parts.{Tree, name, whole, trees, tree_of, sign_of};
-ghost use Rattle.logos_type_params.specs.Substitution.{ParamValue, given, given_type, nothing, set_sign, slot_tree, param_value, After, AllAfter, Passes, SomePasses};
+ghost use Rattle.logos_type_params.specs.Substitution.{Params, given, given_first, given_type, is_among, set_sign, param_value, After, AllAfter, Passes, SomePasses};
 ghost use Rattle.logos_type_params.specs.SubstitutionViews.{IfDeep};
 ghost use Rattle.logos_type.specs.Depth.{exceeds};
-ghost use Rattle.logos_type_params.specs.inside.Given.{given_of};
+ghost use Rattle.logos_type_params.specs.inside.Given.{given_of, params_of};
 
+use logos_token::token::{Ident, Span};
 use logos_type::{Leaf, Part, TypeFault, exceeds};
-use logos_token::token::Ident;
 use std::alloc::Global;
 
-/// A declared parameter.
+/// A type that is given to a declared parameter.
 #[derive(Drop)]
 pub struct TypeParam<'s> {
     pub name: Ident<'s>,
-    /// Its type, if it has one.
-    pub slot: Option<Part<'s>>,
-    /// Whether its type leads back to it.
-    pub holds_itself: bool,
+    pub part: Part<'s>,
+    /// Where the type is written.
+    pub span: Span,
+}
+
+/// The types that are given, of which the first of a name is meant, and the names of those parameters that hold themselves.
+#[derive(Clone, Copy)]
+pub struct Replacing<'p, 's> {
+    pub types: &'p [TypeParam<'s>],
+    pub held: &'p [&'s str],
 }
 
 /// What is put in for a name.
@@ -29,7 +35,7 @@ enum Given<'p, 's> {
 }
 
 /// With the lifetime `'s` in place of one that is set.
-fn set_lifetime(leaf: Leaf<'_>) -> Leaf<'_>
+pub(crate) fn set_lifetime(leaf: Leaf<'_>) -> Leaf<'_>
     ensures { sign_of result ≡ set_sign (sign_of leaf.entry) }
 {
     match leaf {
@@ -39,30 +45,49 @@ fn set_lifetime(leaf: Leaf<'_>) -> Leaf<'_>
     }
 }
 
-/// What is put in for this parameter.
-fn given_by<'p, 's>(param: &'p TypeParam<'s>) -> Given<'p, 's>
-    ensures { given_of result ≡ given_type param.now.holds_itself (slot_tree param.now.slot) }
+/// What is put in for a parameter of this type.
+fn given_by<'p, 's>(part: &'p Part<'s>) -> Given<'p, 's>
+    ensures { given_of result ≡ given_type (tree_of part.now) }
 {
-    if param.holds_itself {
-        return Given::Nothing;
-    }
-    match &param.slot {
-        Some(Part::Name(text)) => Given::Name(text),
-        Some(Part::Whole(parts)) => Given::Parts(parts),
+    match part {
+        Part::Name(text) => Given::Name(text),
+        Part::Whole(parts) => Given::Parts(parts),
         _ => Given::Nothing,
     }
 }
 
-/// What is put in for a name: the type of the first parameter of this name.
-fn find<'p, 's>(params: &'p [TypeParam<'s>], text: &str) -> Given<'p, 's>
-    ensures { given_of result ≡ given (map param_value params.now) text.now }
+/// What the first type is that is given to this name.
+fn given_first<'p, 's>(types: &'p [TypeParam<'s>], text: &str) -> Given<'p, 's>
+    ensures { given_of result ≡ given_first (map param_value types.now) text.now }
 {
-    for param in params {
+    for param in types {
         if param.name.text == text {
-            return given_by(param);
+            return given_by(&param.part);
         }
     }
     Given::Nothing
+}
+
+/// Whether the text is one of these.
+pub(crate) fn is_among(texts: &[&str], text: &str) -> bool
+    ensures { result ≡ is_among (map (λ b. b.now) texts.now) text.now }
+{
+    for other in texts {
+        if *other == text {
+            return true;
+        }
+    }
+    false
+}
+
+/// What is put in for a name.
+fn find<'p, 's>(params: Replacing<'p, 's>, text: &str) -> Given<'p, 's>
+    ensures { given_of result ≡ given (params_of params.entry) text.now }
+{
+    if is_among(params.held, text) {
+        return Given::Nothing;
+    }
+    given_first(params.types, text)
 }
 
 /// The type with its declared parameters replaced and its lifetimes set to `'s`, nested at most so many levels deep.
@@ -70,11 +95,11 @@ fn find<'p, 's>(params: &'p [TypeParam<'s>], text: &str) -> Given<'p, 's>
 pub fn type_after<'s>(
     alloc: Global,
     levels: u32,
-    params: &[TypeParam<'s>],
+    params: Replacing<'_, 's>,
     part: &Part<'s>,
 ) -> Result<Part<'s>, TypeFault>
-    ensures ok { IfOk result (λ after. After (map param_value params.now) levels (tree_of part.now) (tree_of after)) }
-    ensures err { IfErr result (IfDeep (Passes (map param_value params.now) levels (tree_of part.now))) }
+    ensures ok { IfOk result (λ after. After (params_of params.entry) levels (tree_of part.now) (tree_of after)) }
+    ensures err { IfErr result (IfDeep (Passes (params_of params.entry) levels (tree_of part.now))) }
 {
     match part {
         Part::Leaf(leaf) => Ok(Part::Leaf(set_lifetime(*leaf))),
@@ -99,11 +124,11 @@ fn still_after<'s>(levels: u32, part: &Part<'s>) -> Result<Part<'s>, TypeFault>
 fn name_after<'s>(
     alloc: Global,
     levels: u32,
-    params: &[TypeParam<'s>],
+    params: Replacing<'_, 's>,
     text: &'s str,
 ) -> Result<Part<'s>, TypeFault>
-    ensures ok { IfOk result (λ after. After (map param_value params.now) levels (name text.now) (tree_of after)) }
-    ensures err { IfErr result (IfDeep (Passes (map param_value params.now) levels (name text.now))) }
+    ensures ok { IfOk result (λ after. After (params_of params.entry) levels (name text.now) (tree_of after)) }
+    ensures err { IfErr result (IfDeep (Passes (params_of params.entry) levels (name text.now))) }
 {
     if levels == 0 {
         return Err(TypeFault::LimitNesting);
@@ -122,11 +147,11 @@ fn name_after<'s>(
 fn whole_after<'s>(
     alloc: Global,
     levels: u32,
-    params: &[TypeParam<'s>],
+    params: Replacing<'_, 's>,
     parts: &[Part<'s>],
 ) -> Result<Part<'s>, TypeFault>
-    ensures ok { IfOk result (λ after. After (map param_value params.now) levels (whole (trees (map tree_of parts.now))) (tree_of after)) }
-    ensures err { IfErr result (IfDeep (Passes (map param_value params.now) levels (whole (trees (map tree_of parts.now))))) }
+    ensures ok { IfOk result (λ after. After (params_of params.entry) levels (whole (trees (map tree_of parts.now))) (tree_of after)) }
+    ensures err { IfErr result (IfDeep (Passes (params_of params.entry) levels (whole (trees (map tree_of parts.now))))) }
 {
     if levels == 0 {
         return Err(TypeFault::LimitNesting);
@@ -139,11 +164,11 @@ fn whole_after<'s>(
 fn parts_after<'s>(
     alloc: Global,
     levels: u32,
-    params: &[TypeParam<'s>],
+    params: Replacing<'_, 's>,
     parts: &[Part<'s>],
 ) -> Result<Vec<Part<'s>>, TypeFault>
-    ensures ok { IfOk result (λ after. AllAfter (map param_value params.now) levels (trees (map tree_of parts.now)) (trees (map tree_of after.items))) }
-    ensures err { IfErr result (IfDeep (SomePasses (map param_value params.now) levels (trees (map tree_of parts.now)))) }
+    ensures ok { IfOk result (λ after. AllAfter (params_of params.entry) levels (trees (map tree_of parts.now)) (trees (map tree_of after.items))) }
+    ensures err { IfErr result (IfDeep (SomePasses (params_of params.entry) levels (trees (map tree_of parts.now)))) }
 {
     let mut after = Vec::new(alloc);
     for part in parts {
@@ -154,6 +179,6 @@ fn parts_after<'s>(
 
 /// A type becomes one type at most, and where the limit is passed, it becomes a deeper one.
 pub fn at_most_one_after()
-    ensures one { (params : List ParamValue) (levels others : ℕ) (part after other : Tree) → After params levels part after → After params others part other → after ≡ other }
-    ensures deeper { (params : List ParamValue) (levels others : ℕ) (part after : Tree) → Passes params levels part → After params others part after → levels < others }
+    ensures one { (params : Params) (levels others : ℕ) (part after other : Tree) → After params levels part after → After params others part other → after ≡ other }
+    ensures deeper { (params : Params) (levels others : ℕ) (part after : Tree) → Passes params levels part → After params others part after → levels < others }
 {}

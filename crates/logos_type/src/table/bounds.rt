@@ -1,7 +1,8 @@
 //! Bounds, and the lifetimes of `for<..>`.
 ghost use Rattle.std.specs.Prelude.{◌≡◌, Some, None};
 ghost use Rattle.logos_token.specs.Views.{tokens_of};
-ghost use Rattle.logos_type.specs.Table.{behind_bound, bound_lifetime_move, trait_move, question_move, bound_move, bound_end_move, further_move, enclosed_end_move, behind_for, for_move, for_lifetime_move, for_list_move, for_end_move};
+ghost use Rattle.logos_type.specs.Table.{behind_bound, bound_lifetime_move, trait_move, question_move, bound_move, bound_end_move, further_move, enclosed_end_move, behind_for, for_move, for_lifetime_move, for_list_move, for_end_move, path_move};
+ghost use Rattle.logos_type.specs.declared.table.place.PathKind.TheVariants.{OfBound};
 ghost use Rattle.logos_type.specs.ReadingViews.{behind_of, IsStep};
 
 use crate::table::paths::{close, path_step};
@@ -55,6 +56,13 @@ pub(super) fn trait_step<'t, 's>(
         }
         _ => path_step(PathKind::OfBound, behind_bound(kind), run),
     }
+}
+
+/// Where the path of a bound stands, behind `for<..>`.
+pub(super) fn trait_path_step<'t, 's>(kind: BoundKind, run: Tokens<'t, 's>) -> Next<'t, 's>
+    ensures { IsStep result (path_move OfBound (behind_bound kind) (tokens_of run.entry)) }
+{
+    path_step(PathKind::OfBound, behind_bound(kind), run)
 }
 
 /// Where `?` may stand in front of it, too.
@@ -144,7 +152,7 @@ fn behind_for(binder: Binder) -> Place
 {
     match binder {
         Binder::OfFunction => Place::Qualified,
-        Binder::OfTrait(kind) => Place::Trait(kind),
+        Binder::OfTrait(kind) => Place::TraitPath(kind),
     }
 }
 

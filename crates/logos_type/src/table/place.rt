@@ -95,6 +95,8 @@ pub(crate) enum Place {
     Question(bool),
     /// Where the path of a bound stands, perhaps with `for<..>`.
     Trait(BoundKind),
+    /// Behind that `for<..>`.
+    TraitPath(BoundKind),
     /// Behind a bound.
     BoundEnd(bool),
     /// Behind the `+` behind it.

@@ -1,9 +1,9 @@
-use Rattle.std.proofs.Common.{◌≡◌, ◌<◌, ◌-◌, ◌++◌, [], ◌∷◌, List, map, ap, ◌∙◌, arith, append_assoc}
+use Rattle.std.proofs.Common.{◌≡◌, ◌<◌, ◌-◌, ◌++◌, [], ◌∷◌, List, map, ap, ◌∙◌, arith, rules, append_assoc}
 use Rattle.std.proofs.lemmas.Result.{err_from_is_err_and}
 use Rattle.logos_token.specs.Views.{tokens_of}
 use Rattle.logos_type.specs.declared.type_expr.Part.{Part}
-use Rattle.logos_type.specs.Parts.{Tree, sign, still, none, also, sign_of, tree_of}
-use Rattle.logos_type.specs.Reading.{NoType, NoMove, NoParts, just_name, a_token, a_bar, a_type, a_still_type, a_nest, deep_name, deep, unended, left_out, here}
+use Rattle.logos_type.specs.Parts.{Tree, sign, still_run, sign_of, tree_of}
+use Rattle.logos_type.specs.Reading.{NoType, NoMove, NoParts, just_name, a_token, a_bar, a_type, a_still_type, still_tokens, a_nest, deep_name, deep, unended, left_out, here}
 use Rattle.logos_type.specs.ReadingViews.{spot_of}
 use Rattle.logos_type.proofs.PartTrees.{tree-Name, tree-Whole}
 use Rattle.logos_type.proofs.PartLemmas.{pushed_tree, leaf_pushed, still_pushed}
@@ -30,7 +30,8 @@ move_on-returns-in_err-part-in-KeepType t c =
 pub move_on-parts_at-requires : goal.move_on-parts_at-requires
 move_on-parts_at-requires t c =
     let h = rw c.in-Nest.is at c.in_ok-next_at.ensures in
-    nest_falls (spot_of c.args.spot) _ (spot_of c.in-Nest.inner) _ h
+    let f = nest_falls (spot_of c.args.spot) _ (spot_of c.in-Nest.inner) _ h in
+    (search rules, tt)
 
 pub move_on-returns-in_err-barred-in-Nest : goal.move_on-returns-in_err-barred-in-Nest
 move_on-returns-in_err-barred-in-Nest t c =
@@ -61,7 +62,10 @@ move_on-returns-in_ok-push-in-KeepType-2 t c =
     (_, still_pushed c.args.parts.now.items c.push-in-KeepType-2.new.self.items c.push-in-KeepType.new.self _ c.in_ok-push-in-KeepType-2.ensures.items k, rw c.behind_type-in-KeepType.ensures (a_still_type h c.in_ok-part-in-KeepType.ensures.ok))
 
 pub move_on-returns-in_ok-push-in-Keep : goal.move_on-returns-in_ok-push-in-Keep
-move_on-returns-in_ok-push-in-Keep t c = ?
+move_on-returns-in_ok-push-in-Keep t c =
+    let h = rw c.in-Keep.is at c.in_ok-next_at.ensures in
+    let k : map tree_of c.keep_tokens.new.parts.items ≡ still_run (tokens_of c.in-Keep.run') = c.in_ok-keep_tokens-in-Keep.ensures ∙ ap (λ (ps : List Part). map tree_of ps ++ still_run (tokens_of c.in-Keep.run')) c.new-kept-in-Keep.ensures.items in
+    (_, still_pushed c.args.parts.now.items c.push-in-Keep.new.self.items c.keep_tokens.new.parts _ c.in_ok-push-in-Keep.ensures.items k, still_tokens h)
 
 pub move_on-returns-in_ok-barred-in-Nest : goal.move_on-returns-in_ok-barred-in-Nest
 move_on-returns-in_ok-barred-in-Nest t c =
@@ -107,7 +111,9 @@ pub type_at-returns-then-levels-eq0-2-clause-err : goal.type_at-returns-then-lev
 type_at-returns-then-levels-eq0-2-clause-err t c = let none : c.args.levels ≡ 0 = omega (arith, c.if-levels-eq0-2.true) in deep none c.in_default.ensures c.in_ok-opening.ensures
 
 pub type_at-parts_at-requires : goal.type_at-parts_at-requires
-type_at-parts_at-requires t c = begun_falls c.args.plus (tokens_of c.args.tokens) _ _ _ c.in_ok-opening.ensures
+type_at-parts_at-requires t c =
+    let f = begun_falls c.args.plus (tokens_of c.args.tokens) _ _ _ c.in_ok-opening.ensures in
+    (omega (arith, f, c.decreases), tt)
 
 pub type_at-returns-in_err-barred-clause-err : goal.type_at-returns-in_err-barred-clause-err
 type_at-returns-in_err-barred-clause-err t c =
@@ -122,7 +128,7 @@ pub type_at-returns-then-opening-barred-clause-err : goal.type_at-returns-then-o
 type_at-returns-then-opening-barred-clause-err t c =
     let allowed : 0 < c.args.levels = omega (arith, c.if-levels-eq0-2.false) in
     let r = begun_rest c.args.plus (tokens_of c.args.tokens) _ _ _ c.in_ok-opening.ensures c.in_ok-barred.ensures.2 in
-    rw (c.span.ensures, c.before.ensures r) (left_out r.front allowed c.in_default.ensures c.in_ok-opening.ensures c.in_ok-barred.ensures.2 c.if-opening-barred.true r.is)
+    rw (c.span.span.ensures, c.before.ensures r) (left_out r.front allowed c.in_default.ensures c.in_ok-opening.ensures c.in_ok-barred.ensures.2 c.if-opening-barred.true r.is)
 
 pub type_at-returns-clause-ok : goal.type_at-returns-clause-ok
 type_at-returns-clause-ok t c =

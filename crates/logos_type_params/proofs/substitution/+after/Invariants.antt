@@ -1,6 +1,6 @@
 use Rattle.std.proofs.Common.{◌+◌, ◌*◌, map, drop}
 use Rattle.logos_type.specs.Parts.{trees, tree_of}
-use Rattle.logos_type_params.specs.Substitution.{param_value}
+use Rattle.logos_type_params.specs.inside.Given.{params_of}
 use Rattle.logos_type_params.proofs.SubstitutionLemmas.{Remains}
 use Rattle.logos_type_params.proofs.substitution.+after.Given as goal
 
@@ -18,4 +18,4 @@ decreases-parts_after l = 3 * l.levels + 2
 
 abbrev pub invariant-parts_after-loop-part : goal.invariant-parts_after-loop-part
 invariant-parts_after-loop-part l =
-    Remains (map param_value l.params) l.levels (trees (map tree_of l.parts)) l.after.items (trees (map tree_of (drop l.part-index l.parts)))
+    Remains (params_of l.params) l.levels (trees (map tree_of l.parts)) l.after.items (trees (map tree_of (drop l.part-index l.parts)))
