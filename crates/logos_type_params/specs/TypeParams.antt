@@ -1,7 +1,7 @@
 -- The declared parameters of an enum, and the types that are given to them.
 use Rattle.std.specs.Prelude.{◌≡◌, ℕ, List, [], ◌∷◌, ◌++◌, map, Bool, true, false, if◌then◌else◌, Option, Some, None, codes}
 use Rattle.std.specs.Str.{bytes_eq}
-use Rattle.logos_token.specs.declared.token.Span.{Span}
+use Rattle.logos_lexeme.specs.declared.lexeme.Span.{Span}
 use Rattle.logos_token.specs.declared.token.Ident.{Ident}
 use Rattle.logos_token.specs.declared.error.fault_code.FaultCode.{FaultCode}
 use Rattle.logos_token.specs.declared.error.fault_code.FaultCode.TheVariants.{ManyLifetimes, NotTypeParameter, TypeTwice, Previous, NoConcreteType, TypeHoldsItself, TypeSyntax, LimitTypeNesting}
