@@ -12,9 +12,9 @@ ghost use Rattle.logos_generator.specs.Items.{Item, Items, IsNext};
 ghost use Rattle.logos_generator.specs.LexerValue.{answers_of};
 ghost use Rattle.logos_generator.specs.Order.{AreInOrder, Parts, IsMatch};
 ghost use Rattle.logos_generator.specs.Runs.{Runs, RunsOn};
+
 use crate::machine::Action;
 use logos_hir::leaf::LeafId;
-
 
 /// The items of maximal munch are not empty, they follow one another, and they lie within the
 /// input.

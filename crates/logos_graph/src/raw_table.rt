@@ -10,17 +10,17 @@ ghost use Rattle.logos_graph.specs.RawTable.{best_with, IsRawMark, IsMarkOf, Are
 ghost use Rattle.logos_graph.specs.View.{rules_of};
 ghost use Rattle.logos_automaton.specs.Automaton.{IsTotal, ReadsOneByteLate};
 ghost use Rattle.logos_graph.specs.Walk.{MarksOneByteLate};
-use logos_automaton::dfa::parts::{end_at, leaves_at, row_at, state_count};
-use logos_automaton::dfa::{Dfa, Row as ByteRow};
-use logos_pattern::leaf::Leaf;
-use std::alloc::{AllocError, Global};
 ghost use Rattle.logos_reduce.specs.Table.{size, mark, type_of, edges, mark_in};
 ghost use Rattle.logos_reduce.specs.Raw.{IsRaw};
 ghost use Rattle.logos_reduce.specs.Rows.{target_by, IsClosed};
 ghost use Rattle.logos_reduce.specs.RowsView.{rows_of};
+
+use logos_automaton::dfa::parts::{end_at, leaves_at, row_at, state_count};
+use logos_automaton::dfa::{Dfa, Row as ByteRow};
+use logos_pattern::leaf::Leaf;
 use logos_reduce::rows::{Row, Rows};
 use logos_reduce::table::{Mark, Table};
-
+use std::alloc::{AllocError, Global};
 
 /// The priority of a leaf, or 0 if there is no leaf with this number.
 fn priority_at(leaves: &[Leaf<'_>], leaf: usize) -> usize

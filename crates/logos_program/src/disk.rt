@@ -1,9 +1,8 @@
 //! The files of the system.
 
 use crate::run::{FileError, Files};
-use std::fs;
-use std::io;
 use std::rt::Files as Runtime;
+use std::{fs, io};
 
 /// Files behind the runtime.
 #[derive(Drop)]

@@ -9,6 +9,8 @@ ghost use Rattle.logos_automaton.specs.Measures.{size_of};
 ghost use Rattle.logos_graph.specs.View.{rules_of};
 ghost use Rattle.logos_automaton.specs.Automaton.{IsTotal, ReadsOneByteLate};
 ghost use Rattle.logos_automaton.specs.declared.errors.BuildError.TheVariants.{Memory, LimitSize};
+
+use super::reduction::least_table;
 use super::{BuildError, Config, Graph, GraphError};
 use crate::leaves::{is_size_within, rule_views};
 use crate::raw_table::raw_table;
@@ -18,8 +20,6 @@ use logos_automaton::faults::graph_errors;
 use logos_automaton::rule::{RuleView, some_leads, some_passable};
 use logos_pattern::leaf::Leaf;
 use std::alloc::Global;
-use super::reduction::least_table;
-
 
 /// The automaton of no rules.
 fn automaton_of_none(alloc: Global) -> Result<Dfa, BuildError>

@@ -7,17 +7,17 @@ ghost use Rattle.logos_graph.specs.GraphView.{edge_of, graph_state_of, leaf_numb
 ghost use Rattle.logos_places.specs.Marks.{IsRising, IsFirstFrom};
 ghost use Rattle.logos_graph.specs.ReduceShown.{Shows};
 ghost use Rattle.logos_graph.specs.States.{targets, with_range, with_run, AreEdgesOf, IsStateOf};
+ghost use Rattle.logos_reduce.specs.Table.{size, to, mark, type_of};
+ghost use Rattle.logos_reduce.specs.Rows.{target_by};
+
 use super::{State, StateData, StateType};
 use crate::byte_class::ByteClass;
 use logos_hir::leaf::LeafId;
-use std::alloc::{AllocError, Global};
-use std::ops::RangeInclusive;
-ghost use Rattle.logos_reduce.specs.Table.{size, to, mark, type_of};
-ghost use Rattle.logos_reduce.specs.Rows.{target_by};
 use logos_reduce::lists::predecessors;
 use logos_reduce::rows::{END, Row, WIDTH, target_at};
 use logos_reduce::table::{Mark, Table};
-
+use std::alloc::{AllocError, Global};
+use std::ops::RangeInclusive;
 
 /// The bytes that lead to a state, and the state.
 type Edge = (ByteClass, State);

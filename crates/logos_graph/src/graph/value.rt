@@ -8,19 +8,19 @@ ghost use Rattle.logos_graph.specs.GraphView.{graph_state_of, state_number};
 ghost use Rattle.logos_graph.specs.Mermaid.{mermaid_of};
 ghost use Rattle.logos_graph.specs.ReduceShown.{Shows};
 ghost use Rattle.logos_graph.specs.StatesView.{states_left};
+ghost use Rattle.logos_reduce.specs.Tellable.{IsTellable};
+
 use super::mermaid::chart;
 use super::printing::Listing;
 use super::states::states_of;
 use super::{Config, GraphError, State, StateData};
 use logos_automaton::dfa::Dfa;
 use logos_pattern::leaf::Leaf;
+use logos_reduce::reduction::Reduction;
 use logos_token::error::Memory;
 use std::alloc::{AllocError, Global};
 use std::fmt;
 use std::marker::Model;
-ghost use Rattle.logos_reduce.specs.Tellable.{IsTellable};
-use logos_reduce::reduction::Reduction;
-
 
 /// The graph of a lexer: its states and the edges between them.
 #[derive(Drop)]

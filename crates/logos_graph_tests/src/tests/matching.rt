@@ -3,9 +3,9 @@
 ghost use Rattle.std.specs.Prelude.{◌<◌};
 
 use logos_graph::graph::{Config, Dfa, Graph, GraphError, Matches, State, StateData};
+use logos_hir::hir::{Class, Hir, Look, Range};
 use logos_hir::leaf::LeafId;
 use logos_pattern::leaf::Leaf;
-use logos_hir::hir::{Class, Hir, Look, Range};
 use logos_pattern::pattern::Pattern;
 use logos_token::token::Span;
 use std::alloc::Global;
