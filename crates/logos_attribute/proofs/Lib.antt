@@ -1,0 +1,4 @@
+mod CallbackLemmas
+mod NumberLemmas
+mod PieceLemmas
+mod ToldLemmas
