@@ -127,7 +127,7 @@ module _ (content : Content) (bytes : List ℕ) (at : ℕ) where
   -- a piece of a string is an escape behind a backslash that no line break follows, and else stands for itself
 
   module _ (escapes : Bool) where
-    says-escape : escapes ≡ true → get_or bytes at 0 ≡ 92 → (BreaksLine bytes (at + 1) → ⊥) → (next : ℕ) (held : List ℕ) → Says escapes content bytes at next held → IsEscape content bytes at next held
+    pub says-escape : escapes ≡ true → get_or bytes at 0 ≡ 92 → (BreaksLine bytes (at + 1) → ⊥) → (next : ℕ) (held : List ℕ) → Says escapes content bytes at next held → IsEscape content bytes at next held
     says-escape t e b next held (plain f a v) = absurd (f t e)
     says-escape t e b next held (return r) = absurd (let f = r.0 in omega arith)
     says-escape t e b next held (escape u f) = f
@@ -139,13 +139,13 @@ module _ (content : Content) (bytes : List ℕ) (at : ℕ) where
     says_at_backslash None t e b h = λ next held s. h next held (says-escape t e b next held s)
     says_at_backslash (Some f) t e b h = escape t h
 
-    says-plain : (escapes ≡ true → get_or bytes at 0 ≢ 92) → (next : ℕ) (held : List ℕ) → Says escapes content bytes at next held → IsPlain content bytes at next held
+    pub says-plain : (escapes ≡ true → get_or bytes at 0 ≢ 92) → (next : ℕ) (held : List ℕ) → Says escapes content bytes at next held → IsPlain content bytes at next held
     says-plain f next held (plain g a v) = itself a v
     says-plain f next held (return r) = break r
     says-plain f next held (escape t e) = absurd (f t (escape-backslash bytes at content next held e))
     says-plain f next held (continuation t k) = absurd (f t k.backslash)
 
-    plain-says : (escapes ≡ true → get_or bytes at 0 ≢ 92) → (next : ℕ) (held : List ℕ) → IsPlain content bytes at next held → Says escapes content bytes at next held
+    pub plain-says : (escapes ≡ true → get_or bytes at 0 ≢ 92) → (next : ℕ) (held : List ℕ) → IsPlain content bytes at next held → Says escapes content bytes at next held
     plain-says f next held (itself a v) = plain f a v
     plain-says f next held (break r) = return r
 

@@ -57,7 +57,7 @@ module _ (quote : ℕ) (bytes : List ℕ) where
   InQuotes-moves at next (escaped e v) = omega arith
   InQuotes-moves at next (plain i e f v) = omega arith
 
-  quote-inside : 0 < quote → (at : ℕ) → get_or bytes at 0 ≡ quote → at < length bytes
+  pub quote-inside : 0 < quote → (at : ℕ) → get_or bytes at 0 ≡ quote → at < length bytes
   quote-inside visible at e = inside_from_byte bytes at (omega arith)
 
   -- from a place with another byte the same quote is reached behind it

@@ -16,6 +16,8 @@ pub mod BodyLaws
 pub mod PrintingLemmas
 pub mod OrderLemmas
 pub mod ValueLaws
+pub mod HeldPieceLaws
+pub mod HeldLaws
 pub mod PrintWindows
 pub mod PrintOpenings
 pub mod PrintEnds

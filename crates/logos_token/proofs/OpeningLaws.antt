@@ -15,7 +15,7 @@ use Rattle.logos_token.proofs.CharacterLaws.{inside_from_byte}
 
 module _ (bytes : List ℕ) (from : ℕ) where
   -- places that hold `#` are counted
-  at_least : (n : ℕ) → ((k : ℕ) → k < n → get_or bytes (from + k) 0 ≡ 35) → n ≤ hashes bytes from
+  pub at_least : (n : ℕ) → ((k : ℕ) → k < n → get_or bytes (from + k) 0 ≡ 35) → n ≤ hashes bytes from
   unfolding hashes
   at_least n all =
       let m = prefix_len (λ c. c == 35) (drop from bytes) in

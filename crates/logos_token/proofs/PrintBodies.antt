@@ -8,7 +8,7 @@ use Rattle.logos_token.specs.LexemeCharacters.{character, past, is_start, is_con
 use Rattle.logos_token.specs.LexemeRuns.{Steps, here, step, IsLast, Run, IsFirst, Passes}
 use Rattle.logos_token.specs.LexemeEnds.{IsSuffix, is_based, GoesOn, letter, point, sign}
 use Rattle.logos_token.specs.LexemeOpenings.{name_at}
-use Rattle.logos_token.specs.LiteralBodies.{is_simple, is_hex, digits_between, is_blank, BreaksLine, IsHexEscape, IsUnicodeEscape, IsEscape, simple, hex, unicode, IsContinuation, IsAllowed, Says, plain, return, escape, continuation, IsPiece, IsCharacterPiece, unescaped, escaped}
+use Rattle.logos_token.specs.LiteralBodies.{is_simple, is_hex, digits_between, is_blank, BreaksLine, IsHexEscape, IsUnicodeEscape, IsEscape, simple, hex, unicode, IsContinuation, IsAllowed, plain, return, escape, continuation, IsPiece, IsCharacterPiece, unescaped, escaped}
 use Rattle.logos_token.specs.declared.token.lexeme.openings.Content.{Content}
 use Rattle.logos_token.proofs.CharacterLaws.{inside_from_byte, character-ascii}
 use Rattle.logos_token.proofs.RunLaws.{Steps-le}

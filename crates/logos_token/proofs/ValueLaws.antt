@@ -26,7 +26,7 @@ use Rattle.logos_token.proofs.CharacterLaws.{boundary-behind}
 use Rattle.logos_token.proofs.BodyLaws.{Says-one, Says-moves}
 
 module _ (escapes : Bool) (content : Content) (bytes : List ℕ) where
-  Holds-le : (at to : ℕ) (held : List ℕ) → Holds escapes content bytes at to held → at ≤ to
+  pub Holds-le : (at to : ℕ) (held : List ℕ) → Holds escapes content bytes at to held → at ≤ to
   Holds-le at to held none = omega arith
   Holds-le at to held (more {mid = mid} {said = said} {rest = rest} s h e) = omega (arith, Says-moves escapes content bytes at mid said s, Holds-le mid to rest h)
 

@@ -6,6 +6,8 @@ pub mod Lexemes
 pub mod LiteralBodies
 pub mod LiteralReads
 pub mod LiteralValues
+pub mod HeldPieces
+pub mod Held
 pub mod Tokens
 pub mod Flat
 pub mod Views

@@ -1,10 +1,11 @@
 //! What string literals hold.
 
-ghost use Rattle.std.specs.Prelude.{◌≡◌, ℕ, ◌+◌, ◌<◌, ◌≤◌, ◌++◌, ◌⊎◌, ◌==◌, ◌&&◌, ◌||◌, List, length, slice_index, slice_range, string_bytes, IfOk, OnOk, MatchOption};
+ghost use Rattle.std.specs.Prelude.{◌≡◌, ℕ, ◌+◌, ◌<◌, ◌≤◌, ◌++◌, ◌⊎◌, ◌==◌, ◌&&◌, ◌||◌, List, length, slice_index, slice_range, string_bytes, option_map, IfOk, OnOk, MatchOption};
 ghost use Rattle.std.specs.Str.{IsCharBoundary};
 ghost use Rattle.logos_token.specs.LiteralBodies.{Holds};
 ghost use Rattle.logos_token.specs.LiteralReads.{bytes_of, IsRest, IsAdded, IsAscii};
 ghost use Rattle.logos_token.specs.LiteralValues.{IsHeld, IsValue};
+ghost use Rattle.logos_token.specs.Held.{held, held_value};
 
 #[cfg(test)]
 mod tests;
@@ -215,7 +216,8 @@ impl Literal<'_> {
     /// read and each CR LF as LF; its suffix is left out. `None` where the literal is no such
     /// string, or breaks its rules. `Memory` where there is none for the value.
     pub fn value(&self, alloc: Global) -> Result<Option<LiteralValue>, Memory>
-        ensures { IfOk result (λ value. IsValue self.now.text.now value) }
+        ensures value { IfOk result (λ value. IsValue self.now.text.now value) }
+        ensures held { IfOk result (λ value. option_map held_value value ≡ held self.now.text.now) }
     {
         Ok(string_value(alloc, self.text)?)
     }
