@@ -1,4 +1,5 @@
 mod CallbackLemmas
+mod LiteralLemmas
 mod NumberLemmas
 mod PieceLemmas
 mod ToldLemmas

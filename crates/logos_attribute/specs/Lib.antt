@@ -1,6 +1,8 @@
 pub mod CallbackViews
 pub mod Callbacks
 pub mod Flags
+pub mod LiteralViews
+pub mod Literals
 pub mod Nested
 pub mod Pieces
 pub mod Slices

@@ -3,7 +3,7 @@ use Rattle.std.specs.Prelude.{ℕ, List, codes, Option, Some, None}
 use Rattle.logos_token.specs.Faults.{Fault}
 use Rattle.logos_token.specs.declared.error.fault_code.FaultCode.TheVariants.{LiteralSyntax, NotText}
 use Rattle.logos_token.specs.Tokens.{TokenList, literal, none, also, run_span}
-use Rattle.logos_attribute.specs.Held.{Held, held}
+use Rattle.logos_token.specs.Held.{Held, held}
 use Rattle.logos_attribute.specs.Slices.{Slice}
 use Rattle.logos_attribute.specs.Told.{Told, telling, quiet, fault, only}
 

@@ -5,5 +5,6 @@
 pub mod callback;
 pub mod flags;
 pub mod listing;
+pub mod literal;
 pub mod nested;
 pub mod value;

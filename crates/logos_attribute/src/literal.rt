@@ -40,10 +40,7 @@ pub fn list_syntax(tokens: Tokens<'_, '_>, errors: &mut Errors) -> Result<(), Me
 }
 
 /// The string or byte string that a literal is; `None` where it is another one.
-fn text_in<'s>(
-    alloc: Global,
-    token: token::Literal<'s>,
-) -> Result<Option<Literal<'s>>, Memory>
+fn text_in<'s>(alloc: Global, token: token::Literal<'s>) -> Result<Option<Literal<'s>>, Memory>
     ensures { IfOk result (λ literal.
         option_map literal_view literal ≡ text_in (literal_slice token.entry)) }
 {
@@ -59,7 +56,7 @@ pub fn read_text<'s>(
 ) -> Result<Option<Literal<'s>>, Memory>
     ensures { IfOk result (λ literal.
         Tells (text_told (literal_slice token.entry))
-            (option_map literal_view literal) errors.old errors.new) }
+        (option_map literal_view literal) errors.old errors.new) }
 {
     let Some(literal) = text_in(alloc, token)? else {
         list_not_text(token, errors)?;
@@ -77,7 +74,7 @@ pub fn read_literal<'s>(
 ) -> Result<Option<Literal<'s>>, Memory>
     ensures { IfOk result (λ literal.
         Tells (literal_told (tokens_of tokens.entry))
-            (option_map literal_view literal) errors.old errors.new) }
+        (option_map literal_view literal) errors.old errors.new) }
 {
     match split(tokens) {
         None => Ok(None),
@@ -92,10 +89,7 @@ pub fn read_literal<'s>(
 }
 
 /// The string or byte string that a run is; `None` where it is none.
-pub fn string_in<'s>(
-    alloc: Global,
-    tokens: Tokens<'_, 's>,
-) -> Result<Option<Literal<'s>>, Memory>
+pub fn string_in<'s>(alloc: Global, tokens: Tokens<'_, 's>) -> Result<Option<Literal<'s>>, Memory>
     ensures { IfOk result (λ literal.
         option_map literal_view literal ≡ string_in (tokens_of tokens.entry)) }
 {

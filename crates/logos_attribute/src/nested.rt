@@ -72,7 +72,7 @@ fn comma_in<'t, 's>(tokens: Tokens<'t, 's>) -> Tokens<'t, 's>
 }
 
 /// The run up to the first lone comma, and what is behind that comma.
-pub(crate) fn run_at<'t, 's>(tokens: Tokens<'t, 's>) -> (Tokens<'t, 's>, Tokens<'t, 's>)
+fn run_at<'t, 's>(tokens: Tokens<'t, 's>) -> (Tokens<'t, 's>, Tokens<'t, 's>)
     ensures run { tokens_of result.0 ≡ up_to_comma (tokens_of tokens.entry) }
     ensures behind { tokens_of result.1 ≡ behind_comma (tokens_of tokens.entry) }
 {

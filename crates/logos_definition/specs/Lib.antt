@@ -1,0 +1,2 @@
+pub mod DefinitionViews
+pub mod Definitions

@@ -1,0 +1,6 @@
+//! What the attributes of an enum and its variants say: definitions, and the options of a lexer.
+
+#![tactic(auto)]
+
+pub mod definition;
+pub mod ignore_flags;
