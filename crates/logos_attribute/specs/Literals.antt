@@ -12,6 +12,11 @@ pub record LiteralView : Type 0 where
   pub token : Slice
   pub held : Held
 
+-- a literal with a name, as a subpattern is written
+pub record NamedLiteral : Type 0 where
+  pub name : Slice
+  pub literal : LiteralView
+
 abbrev pub literal_syntax : TokenList → Fault
 literal_syntax run = fault LiteralSyntax (codes "expected a literal") (run_span run)
 

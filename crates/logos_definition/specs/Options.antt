@@ -1,5 +1,5 @@
 -- The options of a lexer: the arguments of `#[logos(..)]`.
-use Rattle.std.specs.Prelude.{ℕ, Bool, true, false, List, [], ◌∷◌, ◌++◌, codes, Option, Some, None, if◌then◌else◌}
+use Rattle.std.specs.Prelude.{ℕ, Bool, true, false, List, [], ◌∷◌, ◌++◌, codes, Option, Some, None, option_map, if◌then◌else◌}
 use Rattle.std.specs.Str.{bytes_eq}
 use Rattle.logos_token.specs.declared.token.Span.{Span}
 use Rattle.logos_token.specs.Held.{Held, of_text, of_bytes}
@@ -8,9 +8,9 @@ use Rattle.logos_attribute.specs.Slices.{Slice}
 use Rattle.logos_attribute.specs.Pieces.{PieceValue, assigned, beside, grouped, keyed, Piece, unnamed, named, unexpected}
 use Rattle.logos_attribute.specs.Told.{Told, telling, quiet, and_then, told_as, only}
 use Rattle.logos_attribute.specs.Values.{boolean_in}
-use Rattle.logos_attribute.specs.Literals.{LiteralView, literal_syntax, text_told, string_in}
+use Rattle.logos_attribute.specs.Literals.{LiteralView, NamedLiteral, literal_syntax, text_told, string_in}
 use Rattle.logos_definition.specs.Definitions.{DefinitionView, plain, definition_told}
-use Rattle.logos_definition.specs.ErrorTypes.{ErrorView}
+use Rattle.logos_definition.specs.ErrorTypes.{ErrorView, error_span, error_alone}
 use Rattle.logos_definition.specs.OptionFaults.{mode_again, extras_again, error_again, export_again, skip_form, skip_group, utf8_value, utf8_form, extras_form, crate_form, export_bytes, export_form, subpattern_form, error_form, source_old, unknown_logos, invalid_nested}
 
 -- whether inputs are UTF-8, and where that is said
@@ -23,17 +23,12 @@ pub record ExportView : Type 0 where
   pub path : List ℕ
   pub span : Span
 
--- a subpattern: its name, and its literal
-pub record SubpatternView : Type 0 where
-  pub name : Slice
-  pub literal : LiteralView
-
 -- what was said so far
 pub record OptionsView : Type 0 where
   pub utf8 : Option ModeView
   pub skips : List DefinitionView
   pub extras : Option TokenList
-  pub subpatterns : List SubpatternView
+  pub subpatterns : List NamedLiteral
   pub error_type : Option ErrorView
   pub logos_path : Option TokenList
   pub export_path : Option ExportView
@@ -62,7 +57,7 @@ skip_told name value o = telling o (only (skip_form name))
 
 abbrev pub mode_set : TokenList → OptionsView → Told OptionsView
 mode_set run o = elim (boolean_in run) [
-  | Some value ↦ telling (record o { utf8 = Some (record { value = value; span = run_span run }) }) (mode_again (run_span run) o.utf8)
+  | Some value ↦ telling (record o { utf8 = Some (record { value = value; span = run_span run }) }) (mode_again (run_span run) (option_map (λ m. m.span) o.utf8))
   | None ↦ telling o (only (utf8_value run))
 ]
 
@@ -71,7 +66,7 @@ utf8_told name (assigned run) o = mode_set run o
 utf8_told name value o = telling o (only (utf8_form name))
 
 abbrev pub extras_set : TokenList → OptionsView → Told OptionsView
-extras_set run o = telling (record o { extras = Some run }) (extras_again (run_span run) o.extras)
+extras_set run o = telling (record o { extras = Some run }) (extras_again (run_span run) (option_map run_span o.extras))
 
 abbrev pub extras_told : Slice → PieceValue → OptionsView → Told OptionsView
 extras_told name (assigned run) o = extras_set run o
@@ -83,7 +78,7 @@ crate_told name (assigned run) o = quiet (record o { logos_path = Some run })
 crate_told name value o = telling o (only (crate_form name))
 
 abbrev pub path_set : TokenList → List ℕ → OptionsView → Told OptionsView
-path_set run path o = telling (record o { export_path = Some (record { path = path; span = run_span run }) }) (export_again (run_span run) o.export_path)
+path_set run path o = telling (record o { export_path = Some (record { path = path; span = run_span run }) }) (export_again (run_span run) (option_map (λ e. e.span) o.export_path))
 
 -- what the literal of a path holds
 abbrev pub held_path : TokenList → OptionsView → Held → Told OptionsView
@@ -110,4 +105,37 @@ subpattern_told name value o = telling o (only (subpattern_form name))
 
 -- a type of errors that is said here, behind what was said before
 abbrev pub error_set : TokenList → ErrorView → OptionsView → Told OptionsView
-error_set run error o = telling (record o { error_type = Some error }) (error_again (run_span run) o.error_type)
+error_set run error o = telling (record o { error_type = Some error }) (error_again (run_span run) (option_map error_span o.error_type))
+
+-- `error = run`
+abbrev pub error_told : Slice → PieceValue → OptionsView → Told OptionsView
+error_told name (assigned run) o = error_set run (error_alone run) o
+error_told name value o = telling o (only (error_form name))
+
+-- a named argument whose value is no text
+abbrev pub setting_told : Slice → PieceValue → OptionsView → Told OptionsView
+setting_told name value o =
+    if bytes_eq name.text (codes "utf8") then utf8_told name value o
+    else (if bytes_eq name.text (codes "extras") then extras_told name value o
+    else (if bytes_eq name.text (codes "crate") then crate_told name value o
+    else (if bytes_eq name.text (codes "source") then telling o (only (source_old name))
+    else telling o (only (unknown_logos name)))))
+
+-- a named argument
+abbrev pub option_told : Slice → PieceValue → OptionsView → Told OptionsView
+option_told name value o =
+    if bytes_eq name.text (codes "skip") then skip_told name value o
+    else (if bytes_eq name.text (codes "subpattern") then subpattern_told name value o
+    else (if bytes_eq name.text (codes "export_dir") then export_told name value o
+    else (if bytes_eq name.text (codes "error") then error_told name value o
+    else setting_told name value o)))
+
+abbrev pub piece_told : Piece → OptionsView → Told OptionsView
+piece_told (named name value) o = option_told name value o
+piece_told (unnamed run) o = telling o (only (invalid_nested run))
+piece_told (unexpected run) o = telling o (only (invalid_nested run))
+
+-- all arguments
+abbrev pub pieces_told : List Piece → OptionsView → Told OptionsView
+pieces_told [] o = quiet o
+pieces_told (piece ∷ rest) o = and_then (piece_told piece o) (pieces_told rest)

@@ -3,4 +3,6 @@
 #![tactic(auto)]
 
 pub mod definition;
+pub mod error_type;
 pub mod ignore_flags;
+pub mod parser;
