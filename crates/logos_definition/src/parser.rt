@@ -3,13 +3,15 @@
 mod faults;
 mod options;
 
-use crate::definition::Definition;
+use crate::definition::{Definition, read_definition};
 use crate::error_type::ErrorType;
 use crate::ignore_flags::IgnoreFlags;
 use logos_attribute::flags::read_flags;
+use logos_attribute::literal::read_text;
 use logos_attribute::nested::{AttributeParser, NestedValue};
 use logos_pattern::pattern::Literal;
-use logos_token::error::{Errors, Memory};
+use logos_token::error::{Errors, FaultCode, Memory};
+use logos_token::token;
 use logos_token::token::{Ident, Span, TokenStream, Tokens};
 use logos_token::util::MaybeVoid;
 use std::alloc::Global;
@@ -50,10 +52,15 @@ pub struct Parser<'s> {
 }
 
 impl<'s> Parser<'s> {
-    ghost use Rattle.std.specs.Prelude.{◌≡◌, OnOk, OnErr, true, false, []};
+    ghost use Rattle.std.specs.Prelude.{◌≡◌, IfOk, OnOk, OnErr, option_map, true, false, []};
     ghost use Rattle.logos_token.specs.Views.{tokens_of};
-    ghost use Rattle.logos_attribute.specs.Told.{Tells};
+    ghost use Rattle.logos_attribute.specs.Slices.{literal_slice};
+    ghost use Rattle.logos_attribute.specs.Told.{Tells, Lists, fault};
     ghost use Rattle.logos_attribute.specs.Pieces.{pieces};
+    ghost use Rattle.logos_attribute.specs.Literals.{text_told};
+    ghost use Rattle.logos_attribute.specs.LiteralViews.{literal_view};
+    ghost use Rattle.logos_definition.specs.Definitions.{definition_told};
+    ghost use Rattle.logos_definition.specs.DefinitionViews.{definition_view};
     ghost use Rattle.logos_definition.specs.Options.{nothing_said, pieces_told};
     ghost use Rattle.logos_definition.specs.ParserViews.{parser_view, HasNotFailed};
 
@@ -90,6 +97,64 @@ impl<'s> Parser<'s> {
             return Err(Memory);
         }
         let ended = self.add_pieces(AttributeParser::new(tokens));
+        self.failed = ended.is_err();
+        ended
+    }
+
+    /// Adds a fault behind the others. After `Memory` the parser has failed.
+    pub fn err(&mut self, code: FaultCode, message: &str, span: Span) -> Result<(), Memory>
+        ensures ok { OnOk result
+            (Lists (fault code message.now span) self.old.errors self.new.errors) }
+        ensures kept { OnOk result (parser_view self.new ≡ parser_view self.old) }
+        ensures going { OnOk result (HasNotFailed self.old self.new) }
+        ensures err { OnErr result (self.new.failed ≡ true) }
+    {
+        if self.failed {
+            return Err(Memory);
+        }
+        let ended = self.errors.err(code, message, span);
+        self.failed = ended.is_err();
+        ended
+    }
+
+    /// The string or byte string that a literal is; `None` where it is another one, which was
+    /// listed. After `Memory` the parser has failed.
+    pub fn parse_literal(
+        &mut self,
+        literal: token::Literal<'s>,
+    ) -> Result<Option<Literal<'s>>, Memory>
+        ensures ok { IfOk result (λ read. Tells
+            (text_told (literal_slice literal.entry)) (option_map literal_view read)
+            self.old.errors self.new.errors) }
+        ensures kept { OnOk result (parser_view self.new ≡ parser_view self.old) }
+        ensures going { OnOk result (HasNotFailed self.old self.new) }
+        ensures err { OnErr result (self.new.failed ≡ true) }
+    {
+        if self.failed {
+            return Err(Memory);
+        }
+        let ended = read_text(self.alloc, literal, &mut self.errors);
+        self.failed = ended.is_err();
+        ended
+    }
+
+    /// The definition in the parenthesis of a `token` or `regex`; `None` where it has no literal in
+    /// front, which was listed if it has tokens there. After `Memory` the parser has failed.
+    pub fn parse_definition(
+        &mut self,
+        tokens: Tokens<'_, 's>,
+    ) -> Result<Option<Definition<'s>>, Memory>
+        ensures ok { IfOk result (λ definition. Tells
+            (definition_told (tokens_of tokens.entry)) (option_map definition_view definition)
+            self.old.errors self.new.errors) }
+        ensures kept { OnOk result (parser_view self.new ≡ parser_view self.old) }
+        ensures going { OnOk result (HasNotFailed self.old self.new) }
+        ensures err { OnErr result (self.new.failed ≡ true) }
+    {
+        if self.failed {
+            return Err(Memory);
+        }
+        let ended = read_definition(self.alloc, tokens, &mut self.errors);
         self.failed = ended.is_err();
         ended
     }

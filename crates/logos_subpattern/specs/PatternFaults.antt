@@ -1,13 +1,12 @@
 -- Texts that are read as patterns, and the faults that they list.
-use Rattle.std.specs.Prelude.{◌≡◌, ℕ, ◌<◌, List, [], ◌++◌, codes, Option, Some, None}
+use Rattle.std.specs.Prelude.{◌≡◌, ℕ, ◌<◌, Bool, List, [], ◌++◌, codes, Option, Some, None}
 use Rattle.std.specs.Fmt.{decimal}
 use Rattle.logos_token.specs.declared.token.Span.{Span}
 use Rattle.logos_token.specs.declared.error.fault_code.FaultCode.TheVariants.{Regex, LimitPatternNesting}
 use Rattle.logos_token.specs.Faults.{Fault}
-use Rattle.logos_pattern.specs.declared.pattern.token.Flags.{Flags}
 use Rattle.logos_pattern.specs.declared.pattern.error.Kind.{Kind}
 use Rattle.logos_pattern.specs.declared.pattern.error.Kind.TheVariants as kinds
-use Rattle.logos_pattern.specs.Grammar.{IsFound, IsSpelled}
+use Rattle.logos_pattern.specs.Grammar.{IsFound, IsSpelled, first_flags}
 use Rattle.logos_pattern.specs.Token.{Text}
 use Rattle.logos_pattern.specs.Tree.{Tree}
 use Rattle.logos_attribute.specs.Told.{fault, only}
@@ -21,10 +20,11 @@ pub data Reading : Type 0 where
   -- it nests too deep
   too_deep : Reading
 
-abbrev pub Reads : Flags → Text → Reading → Type 0
-Reads flags text (spelled tree) = IsFound flags text tree
-Reads flags text (broken kind at) = (depth : ℕ) → IsSpelled flags text depth → ⊥
-Reads flags text too_deep = (depth : ℕ) → IsSpelled flags text depth → 250 < depth
+-- a text is read so, where the flags `u` and `i` are as they are given
+abbrev pub Reads : (unicode ignore_case : Bool) → Text → Reading → Type 0
+Reads unicode ignore_case text (spelled tree) = IsFound (first_flags unicode ignore_case) text tree
+Reads unicode ignore_case text (broken kind at) = (depth : ℕ) → IsSpelled (first_flags unicode ignore_case) text depth → ⊥
+Reads unicode ignore_case text too_deep = (depth : ℕ) → IsSpelled (first_flags unicode ignore_case) text depth → 250 < depth
 
 -- its tree, if it has one
 abbrev pub tree_in : Reading → Option Tree
@@ -62,8 +62,8 @@ pattern_faults span (broken kind at) = only (fault Regex (regex_text at kind) sp
 pattern_faults span too_deep = only (fault LimitPatternNesting (codes "limit LimitPatternNesting passed") span)
 
 -- a text was read as a pattern: it has this tree, or its fault was added to the list
-pub record IsRead (flags : Flags) (text : Text) (span : Span) (tree : Option Tree) (old new : List Fault) : Type 0 where
+pub record IsRead (unicode ignore_case : Bool) (text : Text) (span : Span) (tree : Option Tree) (old new : List Fault) : Type 0 where
   pub reading : Reading
-  pub reads : Reads flags text reading
+  pub reads : Reads unicode ignore_case text reading
   pub is_tree : tree ≡ tree_in reading
   pub lists : new ≡ old ++ pattern_faults span reading

@@ -7,7 +7,6 @@ use Rattle.logos_token.specs.declared.error.fault_code.FaultCode.TheVariants.{Su
 use Rattle.logos_token.specs.Faults.{Fault}
 use Rattle.logos_token.specs.Held.{Held, of_text, of_bytes}
 use Rattle.logos_pattern.specs.Escaping.{escaped_text, escaped_bytes}
-use Rattle.logos_pattern.specs.Grammar.{first_flags}
 use Rattle.logos_pattern.specs.Measure.{is_text}
 use Rattle.logos_pattern.specs.Tree.{Tree}
 use Rattle.logos_attribute.specs.Slices.{Slice}
@@ -106,7 +105,7 @@ test_text sub names = if is_name sub.name.text then (test_told sub names).value 
 -- A subpattern leads from the former ones to those behind it, and its faults are added to the list. Its text, if it is tested, is read so.
 pub record IsAdded (utf8_mode : Bool) (sub : NamedLiteral) (before behind : List Stored) (old new : List Fault) : Type 0 where
   pub reading : Reading
-  pub reads : (text : List ℕ) → test_text sub before ≡ Some text → Reads (first_flags true false) (chars text) reading
+  pub reads : (text : List ℕ) → test_text sub before ≡ Some text → Reads true false (chars text) reading
   pub tells : Tells (subpattern_told utf8_mode reading sub before) behind old new
 
 -- subpatterns, one behind the other

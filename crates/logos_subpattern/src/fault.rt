@@ -1,7 +1,6 @@
 //! Texts that are read as patterns, and the faults that they list.
-ghost use Rattle.std.specs.Prelude.{◌≡◌, ◌++◌, chars, IfOk, IfSome, OnOk, IsFalse, option_map};
+ghost use Rattle.std.specs.Prelude.{◌≡◌, ◌++◌, chars, IfOk, IfSome, OnOk, option_map};
 ghost use Rattle.std.specs.Prelude.{string_bytes};
-ghost use Rattle.logos_pattern.specs.Grammar.{first_flags};
 ghost use Rattle.logos_pattern.specs.Leaf.{pattern_tree, source_of, is_token};
 ghost use Rattle.logos_pattern.specs.Literals.{token_of};
 ghost use Rattle.logos_attribute.specs.Told.{Lists, fault, only};
@@ -12,6 +11,17 @@ use logos_pattern::pattern::{Kind, Literal, Pattern, PatternError};
 use logos_token::error::{Errors, FaultCode, Memory};
 use logos_token::token::Span;
 use std::alloc::{AllocError, Global};
+
+/// How a text is read as a pattern.
+#[derive(Clone, Copy, Debug)]
+pub struct ReadingMode {
+    /// The pattern is a `token`'s, and no `regex`.
+    pub is_literal: bool,
+    /// The text speaks of characters, and not of bytes.
+    pub unicode: bool,
+    /// Letters match in either case.
+    pub ignore_case: bool,
+}
 
 /// The name of a pattern's fault.
 fn kind_name(kind: Kind) -> &'static str
@@ -83,25 +93,29 @@ fn list_error(
     }
 }
 
-/// Reads a text as the pattern of a literal, with the flags `u` and `i` as they are given. `None`
-/// where it is none, which was listed at the literal. After `Memory` nothing is told of the faults.
+/// Reads a text as the pattern of a literal. `None` where it is none, which was listed at the
+/// literal. After `Memory` nothing is told of the faults.
 pub fn read_pattern<'s>(
     alloc: Global,
     regex: &str,
     literal: &Literal<'s>,
-    unicode: bool,
-    ignore_case: bool,
+    mode: ReadingMode,
     errors: &mut Errors,
 ) -> Result<Option<Pattern<'s>>, Memory>
     ensures read { IfOk result (λ pattern.
-        IsRead (first_flags unicode ignore_case) (chars regex.now) (token_of literal.now).span
+        IsRead mode.unicode mode.ignore_case (chars regex.now) (token_of literal.now).span
         (option_map pattern_tree pattern) errors.old errors.new) }
     ensures source { IfOk result (λ pattern. IfSome pattern (λ p.
         source_of p ≡ (token_of literal.now).text.now)) }
-    ensures regex { IfOk result (λ pattern. IfSome pattern (λ p. IsFalse (is_token p))) }
+    ensures form { IfOk result (λ pattern. IfSome pattern (λ p. is_token p ≡ mode.is_literal)) }
 {
     let token = literal.token();
-    match Pattern::compile(alloc, false, regex, token.text, unicode, ignore_case) {
+    let ReadingMode {
+        is_literal,
+        unicode,
+        ignore_case,
+    } = mode;
+    match Pattern::compile(alloc, is_literal, regex, token.text, unicode, ignore_case) {
         Ok(pattern) => Ok(Some(pattern)),
         Err(error) => {
             list_error(alloc, error, token.span, errors)?;

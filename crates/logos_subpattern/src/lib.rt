@@ -5,3 +5,5 @@
 pub mod fault;
 pub mod subpattern;
 mod substitution;
+#[cfg(test)]
+mod tests;

@@ -9,7 +9,7 @@ ghost use Rattle.logos_subpattern.specs.Subpatterns.{is_name, flags_of, regex_of
 ghost use Rattle.logos_subpattern.specs.Subpatterns.{subpattern_name, subpattern_twice};
 ghost use Rattle.logos_subpattern.specs.Subpatterns.{assigned_before, utf8_subpattern, utf8_text};
 
-use crate::fault::read_pattern;
+use crate::fault::{ReadingMode, read_pattern};
 use crate::substitution::substituted;
 use indexmap::IndexMap;
 use logos_attribute::listing::list_named;
@@ -31,6 +31,13 @@ pub struct Subpattern<'s> {
 pub struct Subpatterns<'s> {
     map: IndexMap<&'s str, Subpattern<'s>>,
 }
+
+/// How the text of a subpattern is tested: it sets its own flags.
+const TEST_MODE: ReadingMode = ReadingMode {
+    is_literal: false,
+    unicode: true,
+    ignore_case: false,
+};
 
 /// Whether a byte may stand in a name.
 fn is_word(byte: u8) -> bool
@@ -245,7 +252,7 @@ impl<'s> Subpatterns<'s> {
             (IsTested utf8_mode (named_literal_view named.now) (string_bytes text)
             (names_of self.old) (names_of self.new) errors.old errors.new) }
     {
-        let read = read_pattern(alloc, text.as_str(), &named.1, true, false, errors)?;
+        let read = read_pattern(alloc, text.as_str(), &named.1, TEST_MODE, errors)?;
         let Some(pattern) = read else {
             return Ok(());
         };
@@ -276,9 +283,9 @@ impl<'s> Subpatterns<'s> {
         self.test(alloc, utf8_mode, named, whole, errors)
     }
 
-    /// The subpatterns with these names and literals, in their order: each may use the ones in front
-    /// of it. A later one of a name stands in place of the earlier one. What has a fault is left out,
-    /// and the fault is listed. After `Memory` nothing is told of the faults.
+    /// The subpatterns with these names and literals, in their order: each may use the ones in
+    /// front of it. A later one of a name stands in place of the earlier one. What has a fault is
+    /// left out, and the fault is listed. After `Memory` nothing is told of the faults.
     pub fn new(
         alloc: Global,
         list: &[(Ident<'s>, Literal<'s>)],
@@ -298,9 +305,9 @@ impl<'s> Subpatterns<'s> {
         Ok(subpatterns)
     }
 
-    /// The text with each `(?&name)`, from the left, replaced by the text of that subpattern; what is
-    /// put in is not looked into. `None` where a name has no subpattern, which was listed at the span,
-    /// once for each place. After `Memory` nothing is told of the faults.
+    /// The text with each `(?&name)`, from the left, replaced by the text of that subpattern; what
+    /// is put in is not looked into. `None` where a name has no subpattern, which was listed at the
+    /// span, once for each place. After `Memory` nothing is told of the faults.
     pub fn subst_subpatterns(
         &self,
         alloc: Global,
