@@ -99,7 +99,7 @@ fn leaves(rt: HostRuntime) -> Result<(), Fail> {
         ),
         ("skip \"a*\"", false, "#[regex(\"a*\")] ::A 0 5..9 false"),
         (
-            "skip(\"a*\", priority = 3, |x| y)",
+            "skip(\"a*\", |x| y, priority = 3)",
             false,
             "#[regex(\"a*\")] ::A 3 5..9 true",
         ),
