@@ -6,3 +6,4 @@ pub mod ReadingLemmas
 pub mod ReadingLaws
 pub mod ReadingTotal
 pub mod WrittenReads
+pub mod ReadWritten

@@ -1,5 +1,5 @@
 -- What is written as a type is read.
-use Rattle.std.proofs.Common.{◌≡◌, ℕ, ◌-◌, ◌<◌, List, [], ◌∷◌, ◌++◌, Bool, true, false, not, ◌||◌, ◌&&◌, ◌==◌, bytes_eq, codes, if◌then◌else◌, Option, Some, None, refl, sym, ◌∙◌, subst, append_assoc}
+use Rattle.std.proofs.Common.{◌≡◌, ℕ, ◌-◌, ◌<◌, List, [], ◌∷◌, ◌++◌, Bool, true, false, not, ◌||◌, ◌&&◌, ◌==◌, bytes_eq, codes, if◌then◌else◌, Option, Some, None, refl, sym, ap, ◌∙◌, subst, append_assoc}
 use Rattle.std.proofs.lemmas.List.{append-nil}
 use Rattle.logos_token.specs.declared.token.Span.{Span}
 use Rattle.logos_token.specs.declared.token.Spacing.{Spacing}
@@ -779,16 +779,17 @@ mutual
 
   longer_stands : {levels : ℕ} {kind : PathKind} {run rest : TokenList} {parts : List Tree} {e : Ending} → Longer levels kind run parts rest e → may_follow e rest ≡ true → AreParts levels false (at (place.Named kind) run None) parts rest
   longer_stands {kind = kind} (member {s = s} {t = t} {p = p} {run = run} w) f = next_token (named_colons kind s t p run) (path_stands w f true)
-  longer_stands {kind = kind} {rest = rest} {parts = parts} (angled a) f = same_parts (append-nil parts) (angled_stand kind a (no_part (segments_ends (argued kind) rest (not_true (begins_colons rest) f))))
-  longer_stands {kind = kind} (angled_member {s = s} {t = t} {p = p} {further = onward} a w) f = angled_stand kind a (next_token (segments_colons (argued kind) s t p onward) (path_stands w f false))
+  longer_stands {kind = kind} {rest = rest} {parts = parts} (angled a) f = same_parts (append-nil parts) (angled_stand kind a refl (no_part (segments_ends (argued kind) rest (not_true (begins_colons rest) f))))
+  longer_stands {kind = kind} (angled_member {s = s} {t = t} {p = p} {further = onward} a w) f = angled_stand kind a refl (next_token (segments_colons (argued kind) s t p onward) (path_stands w f false))
   longer_stands {kind = kind} {rest = rest} (called {s = s} {inside = inside} l) f = next_token (named_called kind s inside rest) (inputs_stand rest l (no_part (output_ends rest (not_true (begins_arrow rest) f))))
   longer_stands {kind = kind} {rest = rest} (giving {s = s} {t = t} {u = u} {p = p} {inside = inside} {run = run} l w) f =
       next_token (named_called kind s inside _) (inputs_stand _ l (next_token (output_arrow t u p run) (next_type (target_asks run) (type_stands w f) (no_part (end_ends rest)))))
 
-  angled_stand : {levels : ℕ} (kind : PathKind) {run middle : TokenList} {parts : List Tree} → Angled levels (argued kind) run parts middle → {rest : TokenList} {back : List Tree} →
-      AreParts levels false (at (place.Segments (argued kind)) middle None) back rest → AreParts levels false (at (place.Named kind) run None) (parts ++ back) rest
-  angled_stand kind (plain {s = s} {p = p} {run = run} a) k = next_token (named_angle kind s p run) (arguments_stand a k)
-  angled_stand kind (turbofish {s = s} {t = t} {u = u} {p = p} {q = q} {run = run} a) k = next_token (named_colons kind s t p _) (next_token (colons_angle kind u q run) (arguments_stand a k))
+  angled_stand : {levels : ℕ} (kind : PathKind) {other : PathKind} {run middle : TokenList} {parts : List Tree} → Angled levels other run parts middle → other ≡ argued kind → {rest : TokenList} {back : List Tree} →
+      AreParts levels false (at (place.Segments other) middle None) back rest → AreParts levels false (at (place.Named kind) run None) (parts ++ back) rest
+  angled_stand kind (plain {s = s} {p = p} {run = run} a) e k = next_token (named_angle kind s p run ∙ ap (λ (x : PathKind). takes (mark 60) (at (place.Arguments x) run None)) (sym e)) (arguments_stand a k)
+  angled_stand kind (turbofish {s = s} {t = t} {u = u} {p = p} {q = q} {run = run} a) e k =
+      next_token (named_colons kind s t p _) (next_token (colons_angle kind u q run ∙ ap (λ (x : PathKind). takes (mark 60) (at (place.Arguments x) run None)) (sym e)) (arguments_stand a k))
 
   arguments_stand : {levels : ℕ} {kind : PathKind} {run middle : TokenList} {parts : List Tree} → Arguments levels kind run parts middle → {rest : TokenList} {back : List Tree} →
       AreParts levels false (at (place.Segments kind) middle None) back rest → AreParts levels false (at (place.Arguments kind) run None) (parts ++ back) rest

@@ -35,3 +35,8 @@ pub fn type_is_front()
 pub fn reads_written()
     ensures { (levels : ℕ) (plus : Bool) (run rest : TokenList) (tree : Tree) (ending : Ending) → Written levels plus run tree rest ending → may_follow ending rest ≡ true → IsType levels plus run tree rest }
 {}
+
+/// What is read as a type is a written one, in front of what does not lengthen it.
+pub fn read_is_written()
+    ensures { (levels : ℕ) (plus : Bool) (run rest : TokenList) (tree : Tree) → IsType levels plus run tree rest → (ending : Ending) × Written levels plus run tree rest ending × (may_follow ending rest ≡ true) }
+{}

@@ -10,7 +10,9 @@ mod table;
 mod tests;
 mod type_expr;
 
-pub use laws::{levels_only_limit, one_outcome, reads_written, some_outcome, type_is_front};
+pub use laws::{
+    levels_only_limit, one_outcome, read_is_written, reads_written, some_outcome, type_is_front,
+};
 pub use print::print_type;
 pub use reading::{TYPE_NESTING, TypeFault, read_type};
 pub use type_expr::{Leaf, Part, TypeExpr, exceeds};

@@ -1,6 +1,6 @@
 //! Reads types.
 ghost use Rattle.std.specs.Prelude.{◌≡◌, ◌<◌, ◌++◌, map, IfOk, IfErr, OnOk};
-ghost use Rattle.logos_token.specs.Tokens.{count_of};
+ghost use Rattle.logos_token.specs.Tokens.{IsRestOf, count_of, run_span};
 ghost use Rattle.logos_token.specs.Views.{tokens_of, tree_of as token_of};
 ghost use Rattle.logos_type.specs.Parts.{tree_of, still_run, still_token};
 ghost use Rattle.logos_type.specs.Table.{outer};
@@ -183,6 +183,15 @@ fn parts_at<'t, 's>(
     Ok((barred, behind_all(spot)))
 }
 
+/// From the first of the tokens up to the rest.
+fn span_before<'t, 's>(tokens: Tokens<'t, 's>, rest: Tokens<'t, 's>) -> Span
+    requires { IsRestOf (tokens_of tokens) (tokens_of rest) }
+    ensures { (split : IsRestOf (tokens_of tokens.entry) (tokens_of rest.entry)) → result ≡ run_span split.front }
+{
+    let front = tokens.before(rest);
+    front.span()
+}
+
 /// The type with which the tokens begin, and what is behind it. At most `levels` types stand inside one another, the outermost counted.
 /// Where `plus` does not hold, `+` joins no bounds.
 #[cycle(types)]
@@ -210,7 +219,7 @@ pub(crate) fn type_at<'t, 's>(
     let (barred, rest) = parts_at(alloc, levels - 1, opening.spot, &mut parts)?;
     if opening.barred | barred {
         return Err(TypeFault::Unsupported {
-            span: tokens.before(rest).span(),
+            span: span_before(tokens, rest),
         });
     }
     Ok((Part::Whole(parts), rest))

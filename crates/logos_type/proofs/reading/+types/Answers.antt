@@ -121,14 +121,14 @@ type_at-returns-in_err-barred-clause-err t c =
     let allowed : 0 < c.args.levels = omega (arith, c.if-levels-eq0-2.false) in
     rw (p.1, p.2) (if_fault-map (NoParts (c.args.levels - 1) _) (NoType c.args.levels c.args.plus (tokens_of c.args.tokens)) (λ f n. unended allowed c.in_default.ensures c.in_ok-opening.ensures n) _ c.in_err-barred.ensures)
 
-pub type_at-before-requires : goal.type_at-before-requires
-type_at-before-requires t c = begun_rest c.args.plus (tokens_of c.args.tokens) _ _ _ c.in_ok-opening.ensures c.in_ok-barred.ensures.2
+pub type_at-span_before-requires : goal.type_at-span_before-requires
+type_at-span_before-requires t c = begun_rest c.args.plus (tokens_of c.args.tokens) _ _ _ c.in_ok-opening.ensures c.in_ok-barred.ensures.2
 
 pub type_at-returns-then-opening-barred-clause-err : goal.type_at-returns-then-opening-barred-clause-err
 type_at-returns-then-opening-barred-clause-err t c =
     let allowed : 0 < c.args.levels = omega (arith, c.if-levels-eq0-2.false) in
     let r = begun_rest c.args.plus (tokens_of c.args.tokens) _ _ _ c.in_ok-opening.ensures c.in_ok-barred.ensures.2 in
-    rw (c.span.span.ensures, c.before.ensures r) (left_out r.front allowed c.in_default.ensures c.in_ok-opening.ensures c.in_ok-barred.ensures.2 c.if-opening-barred.true r.is)
+    rw (c.span_before.ensures r) (left_out r.front allowed c.in_default.ensures c.in_ok-opening.ensures c.in_ok-barred.ensures.2 c.if-opening-barred.true r.is)
 
 pub type_at-returns-clause-ok : goal.type_at-returns-clause-ok
 type_at-returns-clause-ok t c =
