@@ -427,14 +427,14 @@ self_type w f (self_plain (self_closed l k)) = ending (of_type w l) k
 self_type w f (self_as (then_after l g (self_trait_closed (self_closed m k)))) = ending (of_trait w f l m) k
 
 -- a path where one has to stand
-path_then : {levels : ℕ} {kind : PathKind} {After : Parts} {text : List ℕ} {s : Span} {run middle rest : TokenList} {front back : List Tree} → APath levels kind (also (identifier text s) run) (sign (word text) ∷ front) middle → After middle back rest →
+path_then : {levels : ℕ} {kind : PathKind} {After : Parts} {text : List ℕ} {s : Span} {run middle rest : TokenList} {front : List Tree} (back : List Tree) → APath levels kind (also (identifier text s) run) (sign (word text) ∷ front) middle → After middle back rest →
     Then (AnyPath levels kind) After (also (identifier text s) run) (sign (word text) ∷ (front ++ back)) rest
-path_then (a_path w f) a = then_after (from_name w) f a
+path_then back (a_path w f) a = then_after (from_name w) f a
 
-root_then : {levels : ℕ} {kind : PathKind} {After : Parts} (s t : Span) (p : Spacing) {may : Bool} {run middle rest : TokenList} {front back : List Tree} → may ≡ false → AfterColons levels kind may run front middle → After middle back rest →
+root_then : {levels : ℕ} {kind : PathKind} {After : Parts} (back : List Tree) (s t : Span) (p : Spacing) {may : Bool} {run middle rest : TokenList} {front : List Tree} → may ≡ false → AfterColons levels kind may run front middle → After middle back rest →
     Then (AnyPath levels kind) After (also (punctuation 58 Joint s) (also (punctuation 58 p t) run)) (sign colons ∷ (front ++ back)) rest
-root_then s t p n (to_path w f) a = then_after (from_root w) f a
-root_then s t p n (to_angle e i) a = absurd (let k = sym n ∙ e in cc)
+root_then back s t p n (to_path w f) a = then_after (from_root w) f a
+root_then back s t p n (to_angle e i) a = absurd (let k = sym n ∙ e in cc)
 
 trait_then : {levels : ℕ} {After : Parts} {run rest : TokenList} {parts : List Tree} → begins_for run ≡ false → Then (AnyPath levels OfBound) After run parts rest → Then (Trait levels) After run parts rest
 trait_then n (then_after w f a) = then_after (unbound n w) f a
@@ -689,8 +689,8 @@ fits_self_end levels none = tt
 
 fits_self_trait : (levels : ℕ) (run : TokenList) → Fits levels place.SelfTrait run None (next_at place.SelfTrait run None)
 unfolding next_at
-fits_self_trait levels (also (punctuation c p s) rest) = either (Fits levels place.SelfTrait (also (punctuation c p s) rest) None) (begins_colons (also (punctuation c p s) rest)) _ _ (λ e front middle parts r. with_colons (λ (x : TokenList). AfterColons levels OfType false (behind_two x) front middle → (AfterSelfTrait levels) middle parts r → Then (AnyPath levels OfType) (AfterSelfTrait levels) x (sign colons ∷ (front ++ parts)) r) (λ u v q other h k. root_then u v q refl h k) (also (punctuation c p s) rest) e) (λ n. tt)
-fits_self_trait levels (also (identifier text s) rest) = λ front middle parts r h k. path_then (named_path h) k
+fits_self_trait levels (also (punctuation c p s) rest) = either (Fits levels place.SelfTrait (also (punctuation c p s) rest) None) (begins_colons (also (punctuation c p s) rest)) _ _ (λ e front middle parts r. with_colons (λ (x : TokenList). AfterColons levels OfType false (behind_two x) front middle → (AfterSelfTrait levels) middle parts r → Then (AnyPath levels OfType) (AfterSelfTrait levels) x (sign colons ∷ (front ++ parts)) r) (λ u v q other h k. root_then parts u v q refl h k) (also (punctuation c p s) rest) e) (λ n. tt)
+fits_self_trait levels (also (identifier text s) rest) = λ front middle parts r h k. path_then parts (named_path h) k
 fits_self_trait levels (also (literal text s) rest) = tt
 fits_self_trait levels (also (doc text s) rest) = tt
 fits_self_trait levels (also (group Parenthesis s inside) rest) = tt
@@ -778,8 +778,8 @@ fits_bound_lifetime levels plus p s none = tt
 
 fits_trait_listed : (levels : ℕ) (plus : Bool) (run : TokenList) → Fits levels (place.Trait (Listed plus)) run None (next_at (place.Trait (Listed plus)) run None)
 unfolding next_at
-fits_trait_listed levels plus (also (punctuation c p s) rest) = either (Fits levels (place.Trait (Listed plus)) (also (punctuation c p s) rest) None) (begins_colons (also (punctuation c p s) rest)) _ _ (λ e front middle parts r. with_colons (λ (x : TokenList). AfterColons levels OfBound false (behind_two x) front middle → (AfterBound levels plus) middle parts r → Then (Trait levels) (AfterBound levels plus) x (sign colons ∷ (front ++ parts)) r) (λ u v q other h k. trait_then refl (root_then u v q refl h k)) (also (punctuation c p s) rest) e) (λ n. tt)
-fits_trait_listed levels plus (also (identifier text s) rest) = either (Fits levels (place.Trait (Listed plus)) (also (identifier text s) rest) None) (bytes_eq text (codes "for")) _ _ (λ e parts r h. with_text (λ (x : List ℕ). Then (Trait levels) (AfterBound levels plus) (also (identifier x s) rest) (sign (word x) ∷ parts) r) text (codes "for") e (for_then h)) (λ n front middle parts r h k. trait_then n (path_then (named_path h) k))
+fits_trait_listed levels plus (also (punctuation c p s) rest) = either (Fits levels (place.Trait (Listed plus)) (also (punctuation c p s) rest) None) (begins_colons (also (punctuation c p s) rest)) _ _ (λ e front middle parts r. with_colons (λ (x : TokenList). AfterColons levels OfBound false (behind_two x) front middle → (AfterBound levels plus) middle parts r → Then (Trait levels) (AfterBound levels plus) x (sign colons ∷ (front ++ parts)) r) (λ u v q other h k. trait_then refl (root_then parts u v q refl h k)) (also (punctuation c p s) rest) e) (λ n. tt)
+fits_trait_listed levels plus (also (identifier text s) rest) = either (Fits levels (place.Trait (Listed plus)) (also (identifier text s) rest) None) (bytes_eq text (codes "for")) _ _ (λ e parts r h. with_text (λ (x : List ℕ). Then (Trait levels) (AfterBound levels plus) (also (identifier x s) rest) (sign (word x) ∷ parts) r) text (codes "for") e (for_then h)) (λ n front middle parts r h k. trait_then n (path_then parts (named_path h) k))
 fits_trait_listed levels plus (also (literal text s) rest) = tt
 fits_trait_listed levels plus (also (doc text s) rest) = tt
 fits_trait_listed levels plus (also (group Parenthesis s inside) rest) = tt
@@ -789,8 +789,8 @@ fits_trait_listed levels plus none = tt
 
 fits_trait_path_listed : (levels : ℕ) (plus : Bool) (run : TokenList) → Fits levels (place.TraitPath (Listed plus)) run None (next_at (place.TraitPath (Listed plus)) run None)
 unfolding next_at
-fits_trait_path_listed levels plus (also (punctuation c p s) rest) = either (Fits levels (place.TraitPath (Listed plus)) (also (punctuation c p s) rest) None) (begins_colons (also (punctuation c p s) rest)) _ _ (λ e front middle parts r. with_colons (λ (x : TokenList). AfterColons levels OfBound false (behind_two x) front middle → (AfterBound levels plus) middle parts r → Then (AnyPath levels OfBound) (AfterBound levels plus) x (sign colons ∷ (front ++ parts)) r) (λ u v q other h k. root_then u v q refl h k) (also (punctuation c p s) rest) e) (λ n. tt)
-fits_trait_path_listed levels plus (also (identifier text s) rest) = λ front middle parts r h k. path_then (named_path h) k
+fits_trait_path_listed levels plus (also (punctuation c p s) rest) = either (Fits levels (place.TraitPath (Listed plus)) (also (punctuation c p s) rest) None) (begins_colons (also (punctuation c p s) rest)) _ _ (λ e front middle parts r. with_colons (λ (x : TokenList). AfterColons levels OfBound false (behind_two x) front middle → (AfterBound levels plus) middle parts r → Then (AnyPath levels OfBound) (AfterBound levels plus) x (sign colons ∷ (front ++ parts)) r) (λ u v q other h k. root_then parts u v q refl h k) (also (punctuation c p s) rest) e) (λ n. tt)
+fits_trait_path_listed levels plus (also (identifier text s) rest) = λ front middle parts r h k. path_then parts (named_path h) k
 fits_trait_path_listed levels plus (also (literal text s) rest) = tt
 fits_trait_path_listed levels plus (also (doc text s) rest) = tt
 fits_trait_path_listed levels plus (also (group Parenthesis s inside) rest) = tt
@@ -800,8 +800,8 @@ fits_trait_path_listed levels plus none = tt
 
 fits_trait_enclosed : (levels : ℕ) (plus : Bool) (run : TokenList) (after : TokenList) → Fits levels (place.Trait (Enclosed plus)) run (Some after) (next_at (place.Trait (Enclosed plus)) run (Some after))
 unfolding next_at
-fits_trait_enclosed levels plus (also (punctuation c p s) rest) after = either (Fits levels (place.Trait (Enclosed plus)) (also (punctuation c p s) rest) (Some after)) (begins_colons (also (punctuation c p s) rest)) _ _ (λ e front middle parts r. with_colons (λ (x : TokenList). AfterColons levels OfBound false (behind_two x) front middle → (AfterEnclosed levels plus after) middle parts r → Then (Trait levels) (AfterEnclosed levels plus after) x (sign colons ∷ (front ++ parts)) r) (λ u v q other h k. trait_then refl (root_then u v q refl h k)) (also (punctuation c p s) rest) e) (λ n. tt)
-fits_trait_enclosed levels plus (also (identifier text s) rest) after = either (Fits levels (place.Trait (Enclosed plus)) (also (identifier text s) rest) (Some after)) (bytes_eq text (codes "for")) _ _ (λ e parts r h. with_text (λ (x : List ℕ). Then (Trait levels) (AfterEnclosed levels plus after) (also (identifier x s) rest) (sign (word x) ∷ parts) r) text (codes "for") e (for_then h)) (λ n front middle parts r h k. trait_then n (path_then (named_path h) k))
+fits_trait_enclosed levels plus (also (punctuation c p s) rest) after = either (Fits levels (place.Trait (Enclosed plus)) (also (punctuation c p s) rest) (Some after)) (begins_colons (also (punctuation c p s) rest)) _ _ (λ e front middle parts r. with_colons (λ (x : TokenList). AfterColons levels OfBound false (behind_two x) front middle → (AfterEnclosed levels plus after) middle parts r → Then (Trait levels) (AfterEnclosed levels plus after) x (sign colons ∷ (front ++ parts)) r) (λ u v q other h k. trait_then refl (root_then parts u v q refl h k)) (also (punctuation c p s) rest) e) (λ n. tt)
+fits_trait_enclosed levels plus (also (identifier text s) rest) after = either (Fits levels (place.Trait (Enclosed plus)) (also (identifier text s) rest) (Some after)) (bytes_eq text (codes "for")) _ _ (λ e parts r h. with_text (λ (x : List ℕ). Then (Trait levels) (AfterEnclosed levels plus after) (also (identifier x s) rest) (sign (word x) ∷ parts) r) text (codes "for") e (for_then h)) (λ n front middle parts r h k. trait_then n (path_then parts (named_path h) k))
 fits_trait_enclosed levels plus (also (literal text s) rest) after = tt
 fits_trait_enclosed levels plus (also (doc text s) rest) after = tt
 fits_trait_enclosed levels plus (also (group Parenthesis s inside) rest) after = tt
@@ -811,8 +811,8 @@ fits_trait_enclosed levels plus none after = tt
 
 fits_trait_path_enclosed : (levels : ℕ) (plus : Bool) (run : TokenList) (after : TokenList) → Fits levels (place.TraitPath (Enclosed plus)) run (Some after) (next_at (place.TraitPath (Enclosed plus)) run (Some after))
 unfolding next_at
-fits_trait_path_enclosed levels plus (also (punctuation c p s) rest) after = either (Fits levels (place.TraitPath (Enclosed plus)) (also (punctuation c p s) rest) (Some after)) (begins_colons (also (punctuation c p s) rest)) _ _ (λ e front middle parts r. with_colons (λ (x : TokenList). AfterColons levels OfBound false (behind_two x) front middle → (AfterEnclosed levels plus after) middle parts r → Then (AnyPath levels OfBound) (AfterEnclosed levels plus after) x (sign colons ∷ (front ++ parts)) r) (λ u v q other h k. root_then u v q refl h k) (also (punctuation c p s) rest) e) (λ n. tt)
-fits_trait_path_enclosed levels plus (also (identifier text s) rest) after = λ front middle parts r h k. path_then (named_path h) k
+fits_trait_path_enclosed levels plus (also (punctuation c p s) rest) after = either (Fits levels (place.TraitPath (Enclosed plus)) (also (punctuation c p s) rest) (Some after)) (begins_colons (also (punctuation c p s) rest)) _ _ (λ e front middle parts r. with_colons (λ (x : TokenList). AfterColons levels OfBound false (behind_two x) front middle → (AfterEnclosed levels plus after) middle parts r → Then (AnyPath levels OfBound) (AfterEnclosed levels plus after) x (sign colons ∷ (front ++ parts)) r) (λ u v q other h k. root_then parts u v q refl h k) (also (punctuation c p s) rest) e) (λ n. tt)
+fits_trait_path_enclosed levels plus (also (identifier text s) rest) after = λ front middle parts r h k. path_then parts (named_path h) k
 fits_trait_path_enclosed levels plus (also (literal text s) rest) after = tt
 fits_trait_path_enclosed levels plus (also (doc text s) rest) after = tt
 fits_trait_path_enclosed levels plus (also (group Parenthesis s inside) rest) after = tt
@@ -1398,13 +1398,13 @@ mutual
 
   parts_good : {levels : ℕ} {b : Bool} {spot : Spot} {parts : List Tree} {rest : TokenList} → b ≡ false → AreParts levels b spot parts rest → Good levels spot.place spot.run spot.behind parts rest
   parts_good {levels} {spot = spot} z (ended e) = fit_of levels spot e
-  parts_good {levels} {spot = spot} z (part m a e) = let k = none_bars e z in move_good k.0 m (parts_good k.1 a)
+  parts_good {levels} {spot = spot} z (part m a e) = let k = none_bars e z in move_good _ _ k.0 m (parts_good k.1 a)
 
-  move_good : {levels : ℕ} {b : Bool} {spot behind : Spot} {front parts : List Tree} {rest : TokenList} → b ≡ false → IsMove levels b spot front behind → Good levels behind.place behind.run behind.behind parts rest →
+  move_good : {levels : ℕ} {b : Bool} {spot behind : Spot} {front : List Tree} (parts : List Tree) (rest : TokenList) → b ≡ false → IsMove levels b spot front behind → Good levels behind.place behind.run behind.behind parts rest →
       Good levels spot.place spot.run spot.behind (front ++ parts) rest
-  move_good {levels} {spot = spot} {parts = parts} {rest = rest} z (a_token e) g = fit_of levels spot e parts rest g
-  move_good z (a_bar e) g = absurd cc
-  move_good {levels} {spot = spot} {parts = parts} {rest = rest} z (part_type {part = t} {rest = middle} e h) g = let v = type_written h in fit_of levels spot e t middle parts rest v.0 v.1 v.2 g
-  move_good {levels} {spot = spot} {parts = parts} {rest = rest} z (a_still_type {part = t} {rest = middle} e h) g = let v = type_written h in fit_of levels spot e t middle parts rest v.0 v.1 v.2 g
-  move_good {levels} {spot = spot} {parts = parts} {rest = rest} z (still_tokens e) g = fit_of levels spot e parts rest g
-  move_good {levels} {spot = spot} {parts = parts} {rest = rest} z (a_nest {parts = within} {rest = middle} e h) g = fit_of levels spot e within middle parts rest (parts_good z h) g
+  move_good {levels} {spot = spot} parts rest z (a_token e) g = fit_of levels spot e parts rest g
+  move_good parts rest z (a_bar e) g = absurd cc
+  move_good {levels} {spot = spot} parts rest z (part_type {part = t} {rest = middle} e h) g = let v = type_written h in fit_of levels spot e t middle parts rest v.0 v.1 v.2 g
+  move_good {levels} {spot = spot} parts rest z (a_still_type {part = t} {rest = middle} e h) g = let v = type_written h in fit_of levels spot e t middle parts rest v.0 v.1 v.2 g
+  move_good {levels} {spot = spot} parts rest z (still_tokens e) g = fit_of levels spot e parts rest g
+  move_good {levels} {spot = spot} parts rest z (a_nest {parts = within} {rest = middle} e h) g = fit_of levels spot e within middle parts rest (parts_good z h) g
