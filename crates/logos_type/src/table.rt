@@ -31,14 +31,14 @@ use paths::{
     segments_step,
 };
 pub(crate) use place::{Place, Spot, Step, Stop};
-use place::{BoundKind, Next, PathKind};
+use place::{Behind, BoundKind, Next, PathKind};
 
 /// What comes next at a place inside a type.
 #[tactic(auto, unfolding(crate::specs::Table::next_at))]
 pub(crate) fn next_at<'t, 's>(
     place: Place,
     run: Tokens<'t, 's>,
-    behind: Option<Tokens<'t, 's>>,
+    behind: Behind<'t, 's>,
 ) -> Next<'t, 's>
     ensures { IsStep result (next_at place (tokens_of run.entry) (behind_of behind.entry)) }
 {

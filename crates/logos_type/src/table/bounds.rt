@@ -6,7 +6,7 @@ ghost use Rattle.logos_type.specs.declared.table.place.PathKind.TheVariants.{OfB
 ghost use Rattle.logos_type.specs.ReadingViews.{behind_of, IsStep};
 
 use crate::table::paths::{close, path_step};
-use crate::table::place::{Binder, BoundKind, Next, PathKind, Place, Step};
+use crate::table::place::{Behind, Binder, BoundKind, Next, PathKind, Place, Step};
 use crate::table::tokens::{begins_bound, misfit, open, split, take};
 use crate::type_expr::Leaf;
 use logos_token::token::{Delimiter, TokenTree, Tokens};
@@ -25,7 +25,7 @@ fn behind_bound(kind: BoundKind) -> Place
 fn bound_lifetime_step<'t, 's>(
     plus: bool,
     run: Tokens<'t, 's>,
-    behind: Option<Tokens<'t, 's>>,
+    behind: Behind<'t, 's>,
 ) -> Next<'t, 's>
     ensures { IsStep result (bound_lifetime_move plus (tokens_of run.entry) (behind_of behind.entry)) }
 {
@@ -41,7 +41,7 @@ fn bound_lifetime_step<'t, 's>(
 pub(super) fn trait_step<'t, 's>(
     kind: BoundKind,
     run: Tokens<'t, 's>,
-    behind: Option<Tokens<'t, 's>>,
+    behind: Behind<'t, 's>,
 ) -> Next<'t, 's>
     ensures { IsStep result (trait_move kind (tokens_of run.entry) (behind_of behind.entry)) }
 {
@@ -69,7 +69,7 @@ pub(super) fn trait_path_step<'t, 's>(kind: BoundKind, run: Tokens<'t, 's>) -> N
 pub(super) fn question_step<'t, 's>(
     kind: BoundKind,
     run: Tokens<'t, 's>,
-    behind: Option<Tokens<'t, 's>>,
+    behind: Behind<'t, 's>,
 ) -> Next<'t, 's>
     ensures { IsStep result (question_move kind (tokens_of run.entry) (behind_of behind.entry)) }
 {
@@ -85,7 +85,7 @@ pub(super) fn question_step<'t, 's>(
 pub(super) fn bound_step<'t, 's>(
     plus: bool,
     run: Tokens<'t, 's>,
-    behind: Option<Tokens<'t, 's>>,
+    behind: Behind<'t, 's>,
 ) -> Next<'t, 's>
     ensures { IsStep result (bound_move plus (tokens_of run.entry) (behind_of behind.entry)) }
 {
@@ -107,7 +107,7 @@ pub(super) fn bound_step<'t, 's>(
 pub(super) fn bound_end_step<'t, 's>(
     plus: bool,
     run: Tokens<'t, 's>,
-    behind: Option<Tokens<'t, 's>>,
+    behind: Behind<'t, 's>,
 ) -> Next<'t, 's>
     ensures { IsStep result (bound_end_move plus (tokens_of run.entry) (behind_of behind.entry)) }
 {
@@ -120,10 +120,7 @@ pub(super) fn bound_end_step<'t, 's>(
 }
 
 /// Behind the `+` behind a bound.
-pub(super) fn further_step<'t, 's>(
-    run: Tokens<'t, 's>,
-    behind: Option<Tokens<'t, 's>>,
-) -> Next<'t, 's>
+pub(super) fn further_step<'t, 's>(run: Tokens<'t, 's>, behind: Behind<'t, 's>) -> Next<'t, 's>
     ensures { IsStep result (further_move (tokens_of run.entry) (behind_of behind.entry)) }
 {
     if begins_bound(run) {
@@ -136,7 +133,7 @@ pub(super) fn further_step<'t, 's>(
 pub(super) fn enclosed_end_step<'t, 's>(
     plus: bool,
     run: Tokens<'t, 's>,
-    behind: Option<Tokens<'t, 's>>,
+    behind: Behind<'t, 's>,
 ) -> Next<'t, 's>
     ensures { IsStep result (enclosed_end_move plus (tokens_of run.entry) (behind_of behind.entry)) }
 {
@@ -160,7 +157,7 @@ fn behind_for(binder: Binder) -> Place
 pub(super) fn for_step<'t, 's>(
     binder: Binder,
     run: Tokens<'t, 's>,
-    behind: Option<Tokens<'t, 's>>,
+    behind: Behind<'t, 's>,
 ) -> Next<'t, 's>
     ensures { IsStep result (for_move binder (tokens_of run.entry) (behind_of behind.entry)) }
 {
@@ -176,7 +173,7 @@ pub(super) fn for_step<'t, 's>(
 fn for_lifetime_step<'t, 's>(
     binder: Binder,
     run: Tokens<'t, 's>,
-    behind: Option<Tokens<'t, 's>>,
+    behind: Behind<'t, 's>,
 ) -> Next<'t, 's>
     ensures { IsStep result (for_lifetime_move binder (tokens_of run.entry) (behind_of behind.entry)) }
 {
@@ -192,7 +189,7 @@ fn for_lifetime_step<'t, 's>(
 pub(super) fn for_list_step<'t, 's>(
     binder: Binder,
     run: Tokens<'t, 's>,
-    behind: Option<Tokens<'t, 's>>,
+    behind: Behind<'t, 's>,
 ) -> Next<'t, 's>
     ensures { IsStep result (for_list_move binder (tokens_of run.entry) (behind_of behind.entry)) }
 {
@@ -211,7 +208,7 @@ pub(super) fn for_list_step<'t, 's>(
 pub(super) fn for_end_step<'t, 's>(
     binder: Binder,
     run: Tokens<'t, 's>,
-    behind: Option<Tokens<'t, 's>>,
+    behind: Behind<'t, 's>,
 ) -> Next<'t, 's>
     ensures { IsStep result (for_end_move binder (tokens_of run.entry) (behind_of behind.entry)) }
 {

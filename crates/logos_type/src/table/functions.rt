@@ -5,16 +5,13 @@ ghost use Rattle.logos_type.specs.Table.{closes, linked_move, unsafe_move, quali
 ghost use Rattle.logos_type.specs.ReadingViews.{behind_of, IsStep};
 
 use crate::table::paths::close;
-use crate::table::place::{Next, Place, Step};
+use crate::table::place::{Behind, Next, Place, Step};
 use crate::table::tokens::{bar, behind_dots, is_typing, misfit, open, split, take};
 use crate::type_expr::Leaf;
 use logos_token::token::{Delimiter, TokenTree, Tokens};
 
 /// Behind `extern` and its literal.
-pub(super) fn linked_step<'t, 's>(
-    run: Tokens<'t, 's>,
-    behind: Option<Tokens<'t, 's>>,
-) -> Next<'t, 's>
+pub(super) fn linked_step<'t, 's>(run: Tokens<'t, 's>, behind: Behind<'t, 's>) -> Next<'t, 's>
     ensures { IsStep result (linked_move (tokens_of run.entry) (behind_of behind.entry)) }
 {
     match split(run) {
@@ -26,10 +23,7 @@ pub(super) fn linked_step<'t, 's>(
 }
 
 /// Behind `unsafe`.
-pub(super) fn unsafe_step<'t, 's>(
-    run: Tokens<'t, 's>,
-    behind: Option<Tokens<'t, 's>>,
-) -> Next<'t, 's>
+pub(super) fn unsafe_step<'t, 's>(run: Tokens<'t, 's>, behind: Behind<'t, 's>) -> Next<'t, 's>
     ensures { IsStep result (unsafe_move (tokens_of run.entry) (behind_of behind.entry)) }
 {
     match split(run) {
@@ -41,10 +35,7 @@ pub(super) fn unsafe_step<'t, 's>(
 }
 
 /// Behind the `for<..>` of a function.
-pub(super) fn qualified_step<'t, 's>(
-    run: Tokens<'t, 's>,
-    behind: Option<Tokens<'t, 's>>,
-) -> Next<'t, 's>
+pub(super) fn qualified_step<'t, 's>(run: Tokens<'t, 's>, behind: Behind<'t, 's>) -> Next<'t, 's>
     ensures { IsStep result (qualified_move (tokens_of run.entry) (behind_of behind.entry)) }
 {
     match split(run) {
@@ -56,10 +47,7 @@ pub(super) fn qualified_step<'t, 's>(
 }
 
 /// Behind `extern`.
-pub(super) fn extern_step<'t, 's>(
-    run: Tokens<'t, 's>,
-    behind: Option<Tokens<'t, 's>>,
-) -> Next<'t, 's>
+pub(super) fn extern_step<'t, 's>(run: Tokens<'t, 's>, behind: Behind<'t, 's>) -> Next<'t, 's>
     ensures { IsStep result (extern_move (tokens_of run.entry) (behind_of behind.entry)) }
 {
     match split(run) {
@@ -71,10 +59,7 @@ pub(super) fn extern_step<'t, 's>(
 }
 
 /// Behind `fn`.
-pub(super) fn function_step<'t, 's>(
-    run: Tokens<'t, 's>,
-    behind: Option<Tokens<'t, 's>>,
-) -> Next<'t, 's>
+pub(super) fn function_step<'t, 's>(run: Tokens<'t, 's>, behind: Behind<'t, 's>) -> Next<'t, 's>
     ensures { IsStep result (function_move (tokens_of run.entry) (behind_of behind.entry)) }
 {
     match split(run) {
@@ -89,10 +74,7 @@ pub(super) fn function_step<'t, 's>(
 }
 
 /// Where a type that a function takes begins, or `...`.
-pub(super) fn taken_value_step<'t, 's>(
-    run: Tokens<'t, 's>,
-    behind: Option<Tokens<'t, 's>>,
-) -> Next<'t, 's>
+pub(super) fn taken_value_step<'t, 's>(run: Tokens<'t, 's>, behind: Behind<'t, 's>) -> Next<'t, 's>
     ensures { IsStep result (taken_value (tokens_of run.entry) (behind_of behind.entry)) }
 {
     match behind_dots(run) {
@@ -102,10 +84,7 @@ pub(super) fn taken_value_step<'t, 's>(
 }
 
 /// Among what a function takes.
-pub(super) fn taken_step<'t, 's>(
-    run: Tokens<'t, 's>,
-    behind: Option<Tokens<'t, 's>>,
-) -> Next<'t, 's>
+pub(super) fn taken_step<'t, 's>(run: Tokens<'t, 's>, behind: Behind<'t, 's>) -> Next<'t, 's>
     ensures { IsStep result (taken_move (tokens_of run.entry) (behind_of behind.entry)) }
 {
     match split(run) {
@@ -118,10 +97,7 @@ pub(super) fn taken_step<'t, 's>(
 }
 
 /// Between a name and `:`.
-pub(super) fn typed_step<'t, 's>(
-    run: Tokens<'t, 's>,
-    behind: Option<Tokens<'t, 's>>,
-) -> Next<'t, 's>
+pub(super) fn typed_step<'t, 's>(run: Tokens<'t, 's>, behind: Behind<'t, 's>) -> Next<'t, 's>
     ensures { IsStep result (typed_move (tokens_of run.entry) (behind_of behind.entry)) }
 {
     match split(run) {
@@ -133,10 +109,7 @@ pub(super) fn typed_step<'t, 's>(
 }
 
 /// Behind one type that a function takes.
-pub(super) fn one_taken_step<'t, 's>(
-    run: Tokens<'t, 's>,
-    behind: Option<Tokens<'t, 's>>,
-) -> Next<'t, 's>
+pub(super) fn one_taken_step<'t, 's>(run: Tokens<'t, 's>, behind: Behind<'t, 's>) -> Next<'t, 's>
     ensures { IsStep result (one_taken_move (tokens_of run.entry) (behind_of behind.entry)) }
 {
     match split(run) {
@@ -149,10 +122,7 @@ pub(super) fn one_taken_step<'t, 's>(
 }
 
 /// Behind `...`.
-pub(super) fn variadic_step<'t, 's>(
-    run: Tokens<'t, 's>,
-    behind: Option<Tokens<'t, 's>>,
-) -> Next<'t, 's>
+pub(super) fn variadic_step<'t, 's>(run: Tokens<'t, 's>, behind: Behind<'t, 's>) -> Next<'t, 's>
     ensures { IsStep result (variadic_move (tokens_of run.entry) (behind_of behind.entry)) }
 {
     match split(run) {
@@ -165,10 +135,7 @@ pub(super) fn variadic_step<'t, 's>(
 }
 
 /// Behind the `,` behind `...`.
-pub(super) fn variadic_end_step<'t, 's>(
-    run: Tokens<'t, 's>,
-    behind: Option<Tokens<'t, 's>>,
-) -> Next<'t, 's>
+pub(super) fn variadic_end_step<'t, 's>(run: Tokens<'t, 's>, behind: Behind<'t, 's>) -> Next<'t, 's>
     ensures { IsStep result (variadic_end_move (tokens_of run.entry) (behind_of behind.entry)) }
 {
     match split(run) {

@@ -5,16 +5,13 @@ ghost use Rattle.logos_type.specs.Table.{closes, referent_move, pointer_move, li
 ghost use Rattle.logos_type.specs.ReadingViews.{behind_of, IsStep};
 
 use crate::table::paths::close;
-use crate::table::place::{Next, PathKind, Place, Step};
+use crate::table::place::{Behind, Next, PathKind, Place, Step};
 use crate::table::tokens::{behind_colons, keep, misfit, split, take};
 use crate::type_expr::Leaf;
 use logos_token::token::{Delimiter, TokenTree, Tokens};
 
 /// Behind `&` and its lifetime.
-pub(super) fn referent_step<'t, 's>(
-    run: Tokens<'t, 's>,
-    behind: Option<Tokens<'t, 's>>,
-) -> Next<'t, 's>
+pub(super) fn referent_step<'t, 's>(run: Tokens<'t, 's>, behind: Behind<'t, 's>) -> Next<'t, 's>
     ensures { IsStep result (referent_move (tokens_of run.entry) (behind_of behind.entry)) }
 {
     match split(run) {
@@ -26,10 +23,7 @@ pub(super) fn referent_step<'t, 's>(
 }
 
 /// Behind `*`.
-pub(super) fn pointer_step<'t, 's>(
-    run: Tokens<'t, 's>,
-    behind: Option<Tokens<'t, 's>>,
-) -> Next<'t, 's>
+pub(super) fn pointer_step<'t, 's>(run: Tokens<'t, 's>, behind: Behind<'t, 's>) -> Next<'t, 's>
     ensures { IsStep result (pointer_move (tokens_of run.entry) (behind_of behind.entry)) }
 {
     match split(run) {
@@ -41,7 +35,7 @@ pub(super) fn pointer_step<'t, 's>(
 }
 
 /// In parentheses, where a type may begin.
-pub(super) fn list_step<'t, 's>(run: Tokens<'t, 's>, behind: Option<Tokens<'t, 's>>) -> Next<'t, 's>
+pub(super) fn list_step<'t, 's>(run: Tokens<'t, 's>, behind: Behind<'t, 's>) -> Next<'t, 's>
     ensures { IsStep result (list_move (tokens_of run.entry) (behind_of behind.entry)) }
 {
     match split(run) {
@@ -51,10 +45,7 @@ pub(super) fn list_step<'t, 's>(run: Tokens<'t, 's>, behind: Option<Tokens<'t, '
 }
 
 /// Behind a type in parentheses.
-pub(super) fn list_end_step<'t, 's>(
-    run: Tokens<'t, 's>,
-    behind: Option<Tokens<'t, 's>>,
-) -> Next<'t, 's>
+pub(super) fn list_end_step<'t, 's>(run: Tokens<'t, 's>, behind: Behind<'t, 's>) -> Next<'t, 's>
     ensures { IsStep result (list_end_move (tokens_of run.entry) (behind_of behind.entry)) }
 {
     match split(run) {
@@ -67,10 +58,7 @@ pub(super) fn list_end_step<'t, 's>(
 }
 
 /// Behind a type in brackets.
-pub(super) fn element_end_step<'t, 's>(
-    run: Tokens<'t, 's>,
-    behind: Option<Tokens<'t, 's>>,
-) -> Next<'t, 's>
+pub(super) fn element_end_step<'t, 's>(run: Tokens<'t, 's>, behind: Behind<'t, 's>) -> Next<'t, 's>
     ensures { IsStep result (element_end_move (tokens_of run.entry) (behind_of behind.entry)) }
 {
     match split(run) {
@@ -83,10 +71,7 @@ pub(super) fn element_end_step<'t, 's>(
 }
 
 /// Behind the `;` of an array.
-pub(super) fn length_step<'t, 's>(
-    run: Tokens<'t, 's>,
-    behind: Option<Tokens<'t, 's>>,
-) -> Next<'t, 's>
+pub(super) fn length_step<'t, 's>(run: Tokens<'t, 's>, behind: Behind<'t, 's>) -> Next<'t, 's>
     ensures { IsStep result (length_move (tokens_of run.entry) (behind_of behind.entry)) }
 {
     match split(run) {
@@ -96,10 +81,7 @@ pub(super) fn length_step<'t, 's>(
 }
 
 /// Behind the type behind `<`.
-pub(super) fn self_end_step<'t, 's>(
-    run: Tokens<'t, 's>,
-    behind: Option<Tokens<'t, 's>>,
-) -> Next<'t, 's>
+pub(super) fn self_end_step<'t, 's>(run: Tokens<'t, 's>, behind: Behind<'t, 's>) -> Next<'t, 's>
     ensures { IsStep result (self_end_move (tokens_of run.entry) (behind_of behind.entry)) }
 {
     match split(run) {
@@ -116,7 +98,7 @@ pub(super) fn self_end_step<'t, 's>(
 /// Behind the path behind `as`.
 pub(super) fn self_trait_end_step<'t, 's>(
     run: Tokens<'t, 's>,
-    behind: Option<Tokens<'t, 's>>,
+    behind: Behind<'t, 's>,
 ) -> Next<'t, 's>
     ensures { IsStep result (self_trait_end_move (tokens_of run.entry) (behind_of behind.entry)) }
 {
@@ -129,10 +111,7 @@ pub(super) fn self_trait_end_step<'t, 's>(
 }
 
 /// Behind the `>` of `<T as P>`.
-pub(super) fn self_closed_step<'t, 's>(
-    run: Tokens<'t, 's>,
-    behind: Option<Tokens<'t, 's>>,
-) -> Next<'t, 's>
+pub(super) fn self_closed_step<'t, 's>(run: Tokens<'t, 's>, behind: Behind<'t, 's>) -> Next<'t, 's>
     ensures { IsStep result (self_closed_move (tokens_of run.entry) (behind_of behind.entry)) }
 {
     match behind_colons(run) {

@@ -5,7 +5,7 @@ ghost use Rattle.logos_token.specs.Views.{tokens_of, inside_of};
 ghost use Rattle.logos_type.specs.Table.{reference_first, reference_lifetime_first, word_place, word_first, group_first, mark_first, begin, is_reserved, name_of};
 ghost use Rattle.logos_type.specs.ReadingViews.{IsFirst};
 
-use crate::table::place::{Binder, First, Opening, PathKind, Place, Spot, Stop};
+use crate::table::place::{Behind, Binder, First, Opening, PathKind, Place, Spot, Stop};
 use crate::table::tokens::{begins_mark, behind_colons, first_span, goes_on, split};
 use crate::type_expr::Leaf;
 use logos_token::token::{Delimiter, Group, Ident, Punct, TokenTree, Tokens};
@@ -15,7 +15,7 @@ fn start<'t, 's>(
     leaf: Leaf<'s>,
     place: Place,
     run: Tokens<'t, 's>,
-    behind: Option<Tokens<'t, 's>>,
+    behind: Behind<'t, 's>,
 ) -> First<'t, 's>
     ensures { result ≡ Ok (record { barred = false; leaf = leaf.entry; spot = record { place = place; run = run.entry; behind = behind.entry } }) }
 {

@@ -5,7 +5,7 @@ ghost use Rattle.logos_type.specs.Table.{argued, name_end, segments_move, named_
 ghost use Rattle.logos_type.specs.ReadingViews.{behind_of, IsStep};
 ghost use Rattle.logos_type.specs.Parts.{sign_of};
 
-use crate::table::place::{Next, PathKind, Place, Step};
+use crate::table::place::{Behind, Next, PathKind, Place, Step};
 use crate::table::tokens::{
     bar, begins_mark, behind_arrow, behind_colons, is_typing, keep, misfit, nest, open, split, take,
 };
@@ -23,11 +23,7 @@ fn argued(kind: PathKind) -> PathKind
 }
 
 /// Behind the last name of a path.
-fn name_end<'t, 's>(
-    kind: PathKind,
-    run: Tokens<'t, 's>,
-    behind: Option<Tokens<'t, 's>>,
-) -> Next<'t, 's>
+fn name_end<'t, 's>(kind: PathKind, run: Tokens<'t, 's>, behind: Behind<'t, 's>) -> Next<'t, 's>
     ensures { IsStep result (name_end kind (tokens_of run.entry) (behind_of behind.entry)) }
 {
     let PathKind::Plain = kind else {
@@ -45,7 +41,7 @@ fn name_end<'t, 's>(
 pub(super) fn segments_step<'t, 's>(
     kind: PathKind,
     run: Tokens<'t, 's>,
-    behind: Option<Tokens<'t, 's>>,
+    behind: Behind<'t, 's>,
 ) -> Next<'t, 's>
     ensures { IsStep result (segments_move kind (tokens_of run.entry) (behind_of behind.entry)) }
 {
@@ -59,7 +55,7 @@ pub(super) fn segments_step<'t, 's>(
 pub(super) fn named_step<'t, 's>(
     kind: PathKind,
     run: Tokens<'t, 's>,
-    behind: Option<Tokens<'t, 's>>,
+    behind: Behind<'t, 's>,
 ) -> Next<'t, 's>
     ensures { IsStep result (named_move kind (tokens_of run.entry) (behind_of behind.entry)) }
 {
@@ -85,10 +81,7 @@ pub(super) fn named_step<'t, 's>(
 }
 
 /// Behind the `!` of a macro.
-pub(super) fn macro_step<'t, 's>(
-    run: Tokens<'t, 's>,
-    behind: Option<Tokens<'t, 's>>,
-) -> Next<'t, 's>
+pub(super) fn macro_step<'t, 's>(run: Tokens<'t, 's>, behind: Behind<'t, 's>) -> Next<'t, 's>
     ensures { IsStep result (macro_move (tokens_of run.entry) (behind_of behind.entry)) }
 {
     match split(run) {
@@ -100,10 +93,7 @@ pub(super) fn macro_step<'t, 's>(
 }
 
 /// Behind the parentheses of a path or of a function.
-pub(super) fn output_step<'t, 's>(
-    run: Tokens<'t, 's>,
-    behind: Option<Tokens<'t, 's>>,
-) -> Next<'t, 's>
+pub(super) fn output_step<'t, 's>(run: Tokens<'t, 's>, behind: Behind<'t, 's>) -> Next<'t, 's>
     ensures { IsStep result (output_move (tokens_of run.entry) (behind_of behind.entry)) }
 {
     match behind_arrow(run) {
@@ -116,7 +106,7 @@ pub(super) fn output_step<'t, 's>(
 pub(super) fn close<'t, 's>(
     delimiter: Delimiter,
     next: Place,
-    behind: Option<Tokens<'t, 's>>,
+    behind: Behind<'t, 's>,
 ) -> Next<'t, 's>
     ensures { IsStep result (closes delimiter next (behind_of behind.entry)) }
 {
@@ -127,10 +117,7 @@ pub(super) fn close<'t, 's>(
 }
 
 /// In the parentheses of a path, where a type may begin.
-pub(super) fn inputs_step<'t, 's>(
-    run: Tokens<'t, 's>,
-    behind: Option<Tokens<'t, 's>>,
-) -> Next<'t, 's>
+pub(super) fn inputs_step<'t, 's>(run: Tokens<'t, 's>, behind: Behind<'t, 's>) -> Next<'t, 's>
     ensures { IsStep result (inputs_move (tokens_of run.entry) (behind_of behind.entry)) }
 {
     match split(run) {
@@ -140,10 +127,7 @@ pub(super) fn inputs_step<'t, 's>(
 }
 
 /// Behind a type in the parentheses of a path.
-pub(super) fn input_end_step<'t, 's>(
-    run: Tokens<'t, 's>,
-    behind: Option<Tokens<'t, 's>>,
-) -> Next<'t, 's>
+pub(super) fn input_end_step<'t, 's>(run: Tokens<'t, 's>, behind: Behind<'t, 's>) -> Next<'t, 's>
     ensures { IsStep result (input_end_move (tokens_of run.entry) (behind_of behind.entry)) }
 {
     match split(run) {
@@ -160,7 +144,7 @@ pub(super) fn colons_step<'t, 's>(
     kind: PathKind,
     arguments: bool,
     run: Tokens<'t, 's>,
-    behind: Option<Tokens<'t, 's>>,
+    behind: Behind<'t, 's>,
 ) -> Next<'t, 's>
     ensures { IsStep result (colons_move kind arguments (tokens_of run.entry) (behind_of behind.entry)) }
 {
@@ -194,7 +178,7 @@ fn argument_lifetime(kind: PathKind, text: &str) -> Leaf<'_>
 fn lifetime_step<'t, 's>(
     kind: PathKind,
     run: Tokens<'t, 's>,
-    behind: Option<Tokens<'t, 's>>,
+    behind: Behind<'t, 's>,
 ) -> Next<'t, 's>
     ensures { IsStep result (lifetime_move kind (tokens_of run.entry) (behind_of behind.entry)) }
 {
@@ -214,7 +198,7 @@ fn argument_word<'t, 's>(
     kind: PathKind,
     text: &'s str,
     rest: Tokens<'t, 's>,
-    behind: Option<Tokens<'t, 's>>,
+    behind: Behind<'t, 's>,
 ) -> Next<'t, 's>
     ensures { IsStep result (argument_word kind text.entry.now (tokens_of rest.entry) (behind_of behind.entry)) }
 {
@@ -231,7 +215,7 @@ fn argument_word<'t, 's>(
 pub(super) fn arguments_step<'t, 's>(
     kind: PathKind,
     run: Tokens<'t, 's>,
-    behind: Option<Tokens<'t, 's>>,
+    behind: Behind<'t, 's>,
 ) -> Next<'t, 's>
     ensures { IsStep result (arguments_move kind (tokens_of run.entry) (behind_of behind.entry)) }
 {
@@ -260,7 +244,7 @@ pub(super) fn arguments_step<'t, 's>(
 pub(super) fn braced_step<'t, 's>(
     kind: PathKind,
     run: Tokens<'t, 's>,
-    behind: Option<Tokens<'t, 's>>,
+    behind: Behind<'t, 's>,
 ) -> Next<'t, 's>
     ensures { IsStep result (braced_move kind (tokens_of run.entry) (behind_of behind.entry)) }
 {
@@ -274,7 +258,7 @@ pub(super) fn braced_step<'t, 's>(
 pub(super) fn equals_step<'t, 's>(
     kind: PathKind,
     run: Tokens<'t, 's>,
-    behind: Option<Tokens<'t, 's>>,
+    behind: Behind<'t, 's>,
 ) -> Next<'t, 's>
     ensures { IsStep result (equals_move kind (tokens_of run.entry) (behind_of behind.entry)) }
 {
@@ -290,7 +274,7 @@ pub(super) fn equals_step<'t, 's>(
 pub(super) fn constrained_step<'t, 's>(
     kind: PathKind,
     run: Tokens<'t, 's>,
-    behind: Option<Tokens<'t, 's>>,
+    behind: Behind<'t, 's>,
 ) -> Next<'t, 's>
     ensures { IsStep result (constrained_move kind (tokens_of run.entry) (behind_of behind.entry)) }
 {
@@ -311,7 +295,7 @@ pub(super) fn constrained_step<'t, 's>(
 pub(super) fn argument_end_step<'t, 's>(
     kind: PathKind,
     run: Tokens<'t, 's>,
-    behind: Option<Tokens<'t, 's>>,
+    behind: Behind<'t, 's>,
 ) -> Next<'t, 's>
     ensures { IsStep result (argument_end_move kind (tokens_of run.entry) (behind_of behind.entry)) }
 {

@@ -133,12 +133,15 @@ pub(crate) enum Place {
     VariadicEnd,
 }
 
+/// The run behind the group that is open, if one is.
+pub(crate) type Behind<'t, 's> = Option<Tokens<'t, 's>>;
+
 /// A place, the run that is left there, and where this run is what a group holds, the run behind the group.
 #[derive(Clone, Copy, Debug)]
 pub(crate) struct Spot<'t, 's> {
     pub place: Place,
     pub run: Tokens<'t, 's>,
-    pub behind: Option<Tokens<'t, 's>>,
+    pub behind: Behind<'t, 's>,
 }
 
 /// What comes next.

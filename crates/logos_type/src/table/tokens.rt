@@ -5,7 +5,7 @@ ghost use Rattle.logos_token.specs.Views.{tokens_of, tree_of, inside_of};
 ghost use Rattle.logos_type.specs.Table.{first_span, begins_colons, begins_mark, begins_arrow, begins_dots, begins_parenthesis, begins_bound, typing, behind_two, behind_three, goes_on, opens, keeps, to};
 ghost use Rattle.logos_type.specs.ReadingViews.{behind_of, IsStep};
 
-use crate::table::place::{Next, Place, Spot, Step, Stop};
+use crate::table::place::{Behind, Next, Place, Spot, Step, Stop};
 use crate::type_expr::Leaf;
 use logos_token::token::{Delimiter, Group, Spacing, Span, TokenTree, Tokens};
 
@@ -143,7 +143,7 @@ pub(super) fn take<'t, 's>(
     leaf: Leaf<'s>,
     place: Place,
     run: Tokens<'t, 's>,
-    behind: Option<Tokens<'t, 's>>,
+    behind: Behind<'t, 's>,
 ) -> Next<'t, 's>
     ensures { result ≡ Ok (Step.Take leaf.entry (record { place = place; run = run.entry; behind = behind.entry })) }
 {
@@ -155,7 +155,7 @@ pub(super) fn bar<'t, 's>(
     leaf: Leaf<'s>,
     place: Place,
     run: Tokens<'t, 's>,
-    behind: Option<Tokens<'t, 's>>,
+    behind: Behind<'t, 's>,
 ) -> Next<'t, 's>
     ensures { result ≡ Ok (Step.Bar leaf.entry (record { place = place; run = run.entry; behind = behind.entry })) }
 {
@@ -167,7 +167,7 @@ pub(super) fn open<'t, 's>(
     group: Group<'t, 's>,
     next: Place,
     rest: Tokens<'t, 's>,
-    behind: Option<Tokens<'t, 's>>,
+    behind: Behind<'t, 's>,
 ) -> Next<'t, 's>
     ensures { IsStep result (opens group.entry.delimiter group.entry.span next (inside_of group.entry) (tokens_of rest.entry) (behind_of behind.entry)) }
 {
@@ -181,7 +181,7 @@ pub(super) fn open<'t, 's>(
 pub(super) fn keep<'t, 's>(
     run: Tokens<'t, 's>,
     place: Place,
-    behind: Option<Tokens<'t, 's>>,
+    behind: Behind<'t, 's>,
 ) -> Next<'t, 's>
     ensures { IsStep result (keeps (tokens_of run.entry) (to place none (behind_of behind.entry))) }
 {
