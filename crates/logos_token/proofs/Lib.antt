@@ -1,6 +1,7 @@
 pub mod FlatLemmas
 pub mod RunLemmas
 pub mod CountLemmas
+pub mod LengthLemmas
 pub mod LexemeLaws
 pub mod PieceLemmas
 pub mod NestingLemmas
