@@ -1,5 +1,5 @@
 -- The rules of an enum have at most one outcome for a run.
-use Rattle.std.proofs.Common.{◌≡◌, inl, inr, Bool, true, false, List, Option, Some, None, Result, Ok, Err, refl, sym, ◌∙◌, ap, subst}
+use Rattle.std.proofs.Common.{◌≡◌, inl, inr, Bool, true, false, List, Option, Some, Result, Ok, Err, refl, sym, ◌∙◌, ap, subst}
 use Rattle.logos_token.specs.Tokens.{TokenList, none, append, rest_of}
 use Rattle.logos_type.specs.Parts.{Tree}
 use Rattle.logos_type.specs.Table.{Fault}
@@ -8,14 +8,14 @@ use Rattle.logos_item.specs.declared.error.ReadError.TheVariants.{Memory}
 use Rattle.logos_item.specs.declared.extents.End.TheVariants.{OfDefault, OfField}
 use Rattle.logos_item.specs.declared.generics.ParameterKind.{ParameterKind}
 use Rattle.logos_item.specs.declared.generics.ParameterKind.TheVariants.{Lifetime, «Type», Const}
-use Rattle.logos_item.specs.Attributes.{Attributes, announced_in, IsFront}
+use Rattle.logos_item.specs.Attributes.{announced_in, IsFront}
 use Rattle.logos_item.specs.Extents.{behind_extent}
-use Rattle.logos_item.specs.Marks.{is_none, begins_with, greater, less}
-use Rattle.logos_item.specs.Groups.{Opened, parenthesis_in, brace_in}
-use Rattle.logos_item.specs.Rules.{Outcome, Rule, by, given, Then, Listed, Stands}
+use Rattle.logos_item.specs.Marks.{is_none, begins_with, greater}
+use Rattle.logos_item.specs.Groups.{Opened}
+use Rattle.logos_item.specs.Rules.{Outcome, Stands}
 use Rattle.logos_item.specs.Values.{Head, ParameterValue}
-use Rattle.logos_item.specs.EnumValues.{Typed, FieldValue, FieldsValue, in_parenthesis, in_braces, VariantValue, EnumValue}
-use Rattle.logos_item.specs.Generics.{bounds_in, constant_in, default_in, tail, shape, parameter_of, OneParameter, parameters, Generics}
+use Rattle.logos_item.specs.EnumValues.{Typed, FieldValue, in_parenthesis, in_braces, VariantValue, EnumValue}
+use Rattle.logos_item.specs.Generics.{tail, shape, parameter_of, OneParameter, parameters, Generics}
 use Rattle.logos_item.specs.Generics.OneParameter.{stands, broken}
 use Rattle.logos_item.specs.Generics.Generics.{listed, absent}
 use Rattle.logos_item.specs.Enum.{type_error, FieldType, label, field, fields, within, Holding, variant, variants, Body, item, Reads}

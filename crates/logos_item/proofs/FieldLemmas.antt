@@ -1,19 +1,18 @@
 -- Fields, and what holds them.
-use Rattle.std.proofs.Common.{◌≡◌, inl, inr, true, false, List, map, Option, Some, None, Ok, Err, refl, sym}
-use Rattle.logos_token.specs.Tokens.{TokenList, none, append, run_span}
+use Rattle.std.proofs.Common.{◌≡◌, inl, inr, true, false, Some, None, Err}
+use Rattle.logos_token.specs.Tokens.{TokenList, append}
 use Rattle.logos_type.specs.declared.reading.TypeFault.{TypeFault}
 use Rattle.logos_type.specs.declared.reading.TypeFault.TheVariants as faults
 use Rattle.logos_type.specs.ReadingViews.{IfFault}
 use Rattle.logos_type.specs.Table.{unsupported, misfit, too_deep}
 use Rattle.logos_type.specs.TypeExprs.{NoTypeExpr}
 use Rattle.logos_item.specs.declared.error.ReadError.{ReadError}
-use Rattle.logos_item.specs.declared.error.ReadError.TheVariants.{Memory}
 use Rattle.logos_item.specs.declared.extents.End.TheVariants.{OfField}
 use Rattle.logos_item.specs.Extents.{behind_extent}
 use Rattle.logos_item.specs.Groups.{Opened, parenthesis_in, brace_in}
 use Rattle.logos_item.specs.Rules.{Stands}
 use Rattle.logos_item.specs.Enum.{error_is, FieldType, fields, Holding, variants, Body}
-use Rattle.logos_item.specs.Enum.FieldType.{fits, fails}
+use Rattle.logos_item.specs.Enum.FieldType.{fails}
 use Rattle.logos_item.specs.Enum.Holding.{in_tuple, with_names}
 use Rattle.logos_item.specs.Enum.Body.{braced}
 

@@ -1,13 +1,12 @@
 -- A rule has at most one outcome for a run.
-use Rattle.std.proofs.Common.{◌≡◌, ℕ, ◌+◌, ◌<◌, Bool, true, false, List, [], ◌∷◌, Option, Some, None, Result, Ok, Err, MatchOption, refl, sym, ◌∙◌, ap, subst, arith}
-use Rattle.logos_token.specs.declared.token.Span.{Span}
-use Rattle.logos_token.specs.Tokens.{Token, TokenList, none, also, append, token_count, count_of, rest_of, run_span}
+use Rattle.std.proofs.Common.{◌≡◌, ◌+◌, Bool, true, false, List, Option, Some, None, Result, Ok, Err, MatchOption, refl, sym, ◌∙◌, ap, subst, arith}
+use Rattle.logos_token.specs.Tokens.{TokenList, none, also, append, count_of}
 use Rattle.logos_token.proofs.CountLemmas.{token_count-positive}
 use Rattle.logos_item.specs.declared.error.ReadError.{ReadError}
-use Rattle.logos_item.specs.Rules.{Outcome, Rule, by, given, misfit, Then, Listed, behind, behind_item}
+use Rattle.logos_item.specs.Rules.{Outcome, Rule, by, given, Then, Listed, behind, behind_item}
 use Rattle.logos_item.specs.Rules.Then.{goes, stops}
 use Rattle.logos_item.specs.Rules.Listed.{ended, further, unparted, stopped}
-use Rattle.logos_item.specs.Attributes.{behind_attributes, Attributes, announced_in, IsFront}
+use Rattle.logos_item.specs.Attributes.{Attributes, announced_in, IsFront}
 use Rattle.logos_item.specs.Attributes.Attributes.{stand, broken}
 use Rattle.logos_item.specs.Enum.{NoFront}
 use Rattle.logos_item.specs.Enum.NoFront.{malformed, without}

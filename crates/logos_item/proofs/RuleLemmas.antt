@@ -1,12 +1,12 @@
 -- Runs of rules.
-use Rattle.std.proofs.Common.{◌≡◌, ◌↔◌, IsTrue, ◌⊎◌, inl, inr, List, [], ◌∷◌, ◌++◌, map, true, false, Bool, Result, Ok, Err, refl, sym, ◌∙◌, ap, append_assoc}
+use Rattle.std.proofs.Common.{◌≡◌, ◌↔◌, IsTrue, inl, inr, List, [], ◌∷◌, ◌++◌, map, true, false, Bool, Ok, Err, refl, sym, ◌∙◌, ap, append_assoc}
 use Rattle.std.proofs.lemmas.List.{append-nil, map-append}
 use Rattle.logos_token.specs.Tokens.{Token, TokenList, none, also, append, IsRestOf}
 use Rattle.logos_item.specs.declared.error.ReadError.{ReadError}
 use Rattle.logos_item.specs.Marks.{is_none}
-use Rattle.logos_item.specs.Rules.{Outcome, Rule, Then, Listed, behind, behind_item, Stands}
+use Rattle.logos_item.specs.Rules.{Outcome, Rule, Then, Listed, behind, Stands}
 use Rattle.logos_item.specs.Rules.Then.{goes, stops}
-use Rattle.logos_item.specs.Rules.Listed.{ended, further, unparted, stopped}
+use Rattle.logos_item.specs.Rules.Listed.{stopped}
 
 -- with these values in front
 abbrev pub joined : {A : Type 0} → List A → Outcome (List A) → Outcome (List A)

@@ -1,6 +1,6 @@
 -- Attributes, and what stands in front of `enum`. What is called a misfit is the span of the first token from the left that does not fit,
 -- None where all do. Where the tokens run out too early, the span is 0..0.
-use Rattle.std.specs.Prelude.{◌≡◌, ◌<◌, ◌==◌, if◌then◌else◌, ℕ, List, Bool, false, Option, Some, None, Result, Ok, Err, codes}
+use Rattle.std.specs.Prelude.{◌≡◌, ◌<◌, ◌==◌, if◌then◌else◌, ℕ, Bool, false, Option, Some, None, Result, Ok, Err, codes}
 use Rattle.std.specs.Str.{bytes_eq}
 use Rattle.logos_token.specs.declared.token.Span.{Span}
 use Rattle.logos_token.specs.declared.token.Spacing.{Spacing}

@@ -1,8 +1,7 @@
 -- An enum: attributes, a visibility, `enum`, a name, generic parameters, a where clause, and braces with variants.
-use Rattle.std.specs.Prelude.{◌≡◌, ◌==◌, if◌then◌else◌, ℕ, List, [], Bool, true, false, Option, Some, None, Result, Ok, Err, codes}
+use Rattle.std.specs.Prelude.{◌≡◌, ◌==◌, if◌then◌else◌, List, Bool, true, false, Some, None, Result, Ok, Err, codes}
 use Rattle.std.specs.Str.{bytes_eq}
-use Rattle.logos_token.specs.declared.token.Span.{Span}
-use Rattle.logos_token.specs.declared.token.Delimiter.TheVariants.{Parenthesis, Bracket, Brace}
+use Rattle.logos_token.specs.declared.token.Delimiter.TheVariants.{Brace}
 use Rattle.logos_token.specs.Tokens.{TokenList, identifier, punctuation, group, none, also, append, run_span}
 use Rattle.logos_type.specs.Parts.{Tree}
 use Rattle.logos_type.specs.Table.{Fault, unsupported, misfit as type_misfit, too_deep}
@@ -16,8 +15,8 @@ use Rattle.logos_item.specs.Attributes.{Attributes, behind_visibility, announced
 use Rattle.logos_item.specs.Extents.{behind_extent}
 use Rattle.logos_item.specs.Generics.{name_in, Generics}
 use Rattle.logos_item.specs.Groups.{Opened, parenthesis_in, brace_in}
-use Rattle.logos_item.specs.Marks.{comma, colon, equals, first_span, is_none}
-use Rattle.logos_item.specs.Rules.{Outcome, Rule, misfit, by, given, Then, ◌>>=◌, Listed}
+use Rattle.logos_item.specs.Marks.{comma, colon, equals, is_none}
+use Rattle.logos_item.specs.Rules.{Outcome, Rule, misfit, by, given, ◌>>=◌, Listed}
 use Rattle.logos_item.specs.Values.{Slice, ParameterValue}
 use Rattle.logos_item.specs.EnumValues.{Typed, FieldValue, FieldsValue, no_fields, in_parenthesis, in_braces, VariantValue, EnumValue}
 

@@ -1,5 +1,5 @@
 -- How far bounds, defaults and types reach: up to a sign that stands outside angle brackets.
-use Rattle.std.specs.Prelude.{◌≡◌, ◌≤◌, ◌==◌, ◌&&◌, ◌||◌, not, if◌then◌else◌, ℕ, ◌+◌, ◌-◌, Bool, true, false}
+use Rattle.std.specs.Prelude.{◌≡◌, ◌≤◌, ◌==◌, ◌&&◌, ◌||◌, not, if◌then◌else◌, ℕ, ◌+◌, ◌-◌, Bool, false}
 use Rattle.logos_token.specs.declared.token.Spacing.{Spacing}
 use Rattle.logos_token.specs.declared.token.Spacing.TheVariants.{Alone, Joint}
 use Rattle.logos_token.specs.Tokens.{Token, TokenList, punctuation, none, also}

@@ -1,5 +1,5 @@
 -- Generic parameters.
-use Rattle.std.specs.Prelude.{◌≡◌, ◌==◌, if◌then◌else◌, ℕ, List, [], Bool, true, false, Option, Some, None, Result, Ok, Err, codes}
+use Rattle.std.specs.Prelude.{◌≡◌, ◌==◌, if◌then◌else◌, List, [], true, false, Ok, Err, codes}
 use Rattle.std.specs.Str.{bytes_eq}
 use Rattle.logos_token.specs.Tokens.{TokenList, identifier, punctuation, none, also, append, rest_of}
 use Rattle.logos_item.specs.declared.error.ReadError.{ReadError}
@@ -8,9 +8,9 @@ use Rattle.logos_item.specs.declared.extents.End.TheVariants.{OfBounds, OfDefaul
 use Rattle.logos_item.specs.declared.generics.ParameterKind.{ParameterKind}
 use Rattle.logos_item.specs.declared.generics.ParameterKind.TheVariants.{Lifetime, «Type», Const}
 use Rattle.logos_item.specs.Attributes.{Attributes}
-use Rattle.logos_item.specs.Extents.{ends, behind_from, behind_extent, begins_arrow, depth_behind}
+use Rattle.logos_item.specs.Extents.{ends, behind_extent}
 use Rattle.logos_item.specs.Marks.{quote, colon, equals, less, greater, begins_with}
-use Rattle.logos_item.specs.Rules.{Outcome, Rule, misfit, by, given, Then, ◌>>=◌, Listed}
+use Rattle.logos_item.specs.Rules.{Outcome, Rule, misfit, by, given, ◌>>=◌, Listed}
 use Rattle.logos_item.specs.Values.{Slice, Head, ParameterValue}
 
 -- a name: any identifier

@@ -3,7 +3,7 @@ use Rattle.std.specs.Prelude.{◌≡◌, ◌==◌, List, [], ◌∷◌, Bool, tr
 use Rattle.logos_token.specs.Tokens.{TokenList, punctuation, also}
 use Rattle.logos_item.specs.declared.error.ReadError.{ReadError}
 use Rattle.logos_item.specs.declared.error.ReadError.TheVariants.{Grammar, Memory}
-use Rattle.logos_item.specs.Marks.{comma, first_span, begins_with}
+use Rattle.logos_item.specs.Marks.{comma, first_span}
 
 -- what is read, and the tokens behind it; or the error
 abbrev pub Outcome : Type 0 → Type 0

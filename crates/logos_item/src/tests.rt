@@ -107,7 +107,7 @@ fn reads_enums(rt: HostRuntime) -> Result<(), Fail> {
         ("pub(crate) enum E { A,B ,C }", "E: A ; B ; C ; "),
         (
             "/// Tokens\n#[derive(Logos)]\n#[::logos::skip = 5 + 5] enum E { /** x */ #[token(5)] A }",
-            "[/// Tokens\n# [ derive ( Logos ) ] # [ :: logos :: skip = 5 + 5 ]]0..51 E: [/** x */ # [ token ( 5 ) ]]61..80 A ; ",
+            "[/// Tokens\n# [ derive ( Logos ) ] # [ :: logos :: skip = 5 + 5 ]]0..52 E: [/** x */ # [ token ( 5 ) ]]62..82 A ; ",
         ),
         (
             "enum E { A = 1, B(u8) = -2 * (3, 4), C { x: u8, } = if a, }",
@@ -115,7 +115,7 @@ fn reads_enums(rt: HostRuntime) -> Result<(), Fail> {
         ),
         (
             "enum E { A(), B(#[a] pub Vec<u8>, pub(crate) &'a [T],), C {} }",
-            "E: A tuple 10..12 ; B tuple 15..54 [# [ a ]]16..20 [Vec < u8 >]25..32 [& 'a [ T ]]45..52 ; C named 58..60 ; ",
+            "E: A tuple 10..12 ; B tuple 15..54 [# [ a ]]16..20 [Vec < u8 >]25..32 [&'a [ T ]]45..52 ; C named 58..60 ; ",
         ),
         (
             "enum E { A { #[b] pub c: fn(u8) -> Map<K, V>, d: (u8, u8) } }",
@@ -134,7 +134,7 @@ fn reads_enums(rt: HostRuntime) -> Result<(), Fail> {
             "enum E<T> where T: Is<[u8; { 1 }]>, [(); { 2 }]: Sized { A }",
             "E: type T 7..8, A ; ",
         ),
-        ("enum E { A(pub (u8), B) }", "Grammar 20..21"),
+        ("enum E { A(pub (u8), B) }", "Grammar 19..20"),
         ("enum E { A(pub (u8) B) }", "E: A tuple 10..22 [B]20..21 ; "),
         ("enum E { A = a::<u8>(), B }", "E: A ; B ; "),
     ] {
@@ -220,6 +220,56 @@ fn verdict(alloc: Global, source: &str) -> Result<String, Fail> {
         Err(error) => push_error(alloc, &mut text, error)?,
     }
     Ok(text)
+}
+
+/// Some text so many times in front of another one, and a third behind it as many times.
+fn push_nested(text: &mut String, nest: (&str, &str, &str), count: usize) -> Result<(), Fail> {
+    for _ in 0..count {
+        text.push_str(nest.0)?;
+    }
+    text.push_str(nest.1)?;
+    for _ in 0..count {
+        text.push_str(nest.2)?;
+    }
+    Ok(())
+}
+
+#[test]
+fn reads_up_to_the_limits(rt: HostRuntime) -> Result<(), Fail> {
+    let alloc = rt.alloc();
+    for (front, nest, count, back, wanted) in [
+        ("enum E { A(", ("&", "u8", ""), 127, ", B) }", "read"),
+        (
+            "enum E { A(",
+            ("&", "u8", ""),
+            128,
+            ", B) }",
+            "LimitTypeNesting 11..141",
+        ),
+        ("enum E { A(", ("V<u8, ", "u8", ">"), 127, ") }", "read"),
+        (
+            "enum E { A(",
+            ("V<u8, ", "u8", ">"),
+            128,
+            ") }",
+            "LimitTypeNesting 11..909",
+        ),
+        (
+            "enum E { #[token(\"a\")] A = ",
+            ("(", "1", ")"),
+            127,
+            " }",
+            "read",
+        ),
+        ("enum E<T: ", ("V<", "u8", ">"), 1000, "> {}", "read"),
+    ] {
+        let mut source = String::from_str(alloc, front)?;
+        push_nested(&mut source, nest, count)?;
+        source.push_str(back)?;
+        let text = verdict(alloc, source.as_str())?;
+        assert_eq!(rt; text.as_str(), wanted, "{source}");
+    }
+    Ok(())
 }
 
 /// What is said of each changed base where the plain reader says something else.

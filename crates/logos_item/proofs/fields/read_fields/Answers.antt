@@ -1,7 +1,7 @@
-use Rattle.std.proofs.Common.{inl, inr, sym, ◌∙◌, ap}
+use Rattle.std.proofs.Common.{inr}
 use Rattle.std.proofs.lemmas.Result.{err_from_is_err_and}
 use Rattle.logos_item.specs.EnumValues.{field_value}
-use Rattle.logos_item.specs.Rules.Listed.{ended, further, unparted, stopped}
+use Rattle.logos_item.specs.Rules.Listed.{ended, further, unparted}
 use Rattle.logos_item.proofs.RuleLemmas.{joined-nil, one-more, listed-stops, not_none, is_none-from_none}
 use Rattle.logos_item.proofs.fields.read_fields.Goals as goal
 

@@ -1,4 +1,3 @@
-use Rattle.std.proofs.Common.{refl}
 use Rattle.std.proofs.lemmas.Result.{err_from_is_err_and}
 use Rattle.logos_item.specs.Rules.Then.{goes, stops}
 use Rattle.logos_item.proofs.fields.skip_label.Goals as goal
@@ -11,7 +10,7 @@ returns-in_err-rest-clause-err c =
 pub returns-in_err-rest-2-clause-err : goal.returns-in_err-rest-2-clause-err
 returns-in_err-rest-2-clause-err c =
     let p = err_from_is_err_and c.from_residual-in_err-rest-2.result c.from_residual-in_err-rest-2.ensures.1 in
-    rw (p.1, p.2, c.if-not-named.false) (goes c.in_ok-rest.ensures.0 (stops c.in_err-rest-2.ensures))
+    rw (p.1, p.2, c.if-not-named.false) (goes c.in_ok-rest.ensures.0 c.in_err-rest-2.ensures)
 
 pub returns-clause-ok : goal.returns-clause-ok
 returns-clause-ok c = rw c.if-not-named.false (goes c.in_ok-rest.ensures.0 c.in_ok-rest-2.ensures.0)

@@ -1,6 +1,6 @@
-use Rattle.std.proofs.Common.{inl, inr, refl, sym}
+use Rattle.std.proofs.Common.{inr, refl}
 use Rattle.std.proofs.lemmas.Result.{err_from_is_err_and}
-use Rattle.logos_item.specs.Rules.Then.{goes, stops}
+use Rattle.logos_item.specs.Rules.Then.{goes}
 use Rattle.logos_item.specs.Generics.Generics.{listed, absent}
 use Rattle.logos_item.proofs.RuleLemmas.{then-stops, then-goes}
 use Rattle.logos_item.proofs.GenericLemmas.{generics-stand}

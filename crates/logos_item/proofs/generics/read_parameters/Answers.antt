@@ -1,8 +1,5 @@
-use Rattle.std.proofs.Common.{inl, inr, sym, ◌∙◌, ap}
+use Rattle.std.proofs.Common.{inr, sym, ◌∙◌}
 use Rattle.std.proofs.lemmas.Result.{err_from_is_err_and}
-use Rattle.logos_item.specs.Generics.{OneParameter}
-use Rattle.logos_item.specs.Marks.{begins_with, greater}
-use Rattle.logos_item.specs.Rules.{Listed}
 use Rattle.logos_item.specs.Rules.Listed.{ended, further, unparted, stopped}
 use Rattle.logos_item.specs.Values.{parameter_value}
 use Rattle.logos_item.proofs.RuleLemmas.{joined-nil, one-more}

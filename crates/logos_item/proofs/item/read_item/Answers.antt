@@ -1,4 +1,4 @@
-use Rattle.std.proofs.Common.{inl, inr, refl}
+use Rattle.std.proofs.Common.{inr, refl}
 use Rattle.std.proofs.lemmas.Result.{err_from_is_err_and}
 use Rattle.logos_item.specs.Rules.Then.{goes, stops}
 use Rattle.logos_item.proofs.RuleLemmas.{then-stops, then-goes}
