@@ -1,8 +1,9 @@
 pub mod PartTrees
+pub mod PartLemmas
+pub mod DepthLemmas
+pub mod TableSteps
 pub mod ReadingLemmas
 pub mod ReadingLaws
-pub mod SubstitutionLemmas
-pub mod SubstitutionLaws
-pub mod ChainLemmas
+pub mod ReadingTotal
 pub mod WrittenReads
 pub mod ReadWritten

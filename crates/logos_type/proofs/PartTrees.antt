@@ -2,8 +2,8 @@
 use Rattle.std.proofs.Common.{◌≡◌, ℕ, List, map, Vec, Bor, Global, sym, ap, ◌∙◌}
 use Rattle.logos_type.specs.declared.type_expr.Leaf.{Leaf as LeafType}
 use Rattle.logos_type.specs.declared.type_expr.Part.{Part, Part-F, fold-roll-Part}
-use Rattle.logos_type.specs.declared.type_expr.Part.TheVariants.{Leaf, Name, Whole, rolls-Leaf, rolls-Name, rolls-Whole}
-use Rattle.logos_type.specs.Parts.{Tree, sign, name, whole, trees, sign_of, tree_of, node_tree}
+use Rattle.logos_type.specs.declared.type_expr.Part.TheVariants.{Leaf, Name, Whole, Still, rolls-Leaf, rolls-Name, rolls-Whole, rolls-Still}
+use Rattle.logos_type.specs.Parts.{Tree, sign, name, whole, still, trees, sign_of, tree_of, node_tree}
 
 pub tree-Leaf : (leaf : LeafType) → tree_of (Leaf leaf) ≡ sign (sign_of leaf)
 tree-Leaf leaf = ap tree_of (sym (rolls-Leaf leaf)) ∙ fold-roll-Part Tree node_tree (Part-F.Leaf leaf)
@@ -13,3 +13,6 @@ tree-Name text = ap tree_of (sym (rolls-Name text)) ∙ fold-roll-Part Tree node
 
 pub tree-Whole : (parts : Vec Part Global) → tree_of (Whole parts) ≡ whole (trees (map tree_of parts.items))
 tree-Whole parts = ap tree_of (sym (rolls-Whole parts)) ∙ fold-roll-Part Tree node_tree (Part-F.Whole parts)
+
+pub tree-Still : (parts : Vec Part Global) → tree_of (Still parts) ≡ still (trees (map tree_of parts.items))
+tree-Still parts = ap tree_of (sym (rolls-Still parts)) ∙ fold-roll-Part Tree node_tree (Part-F.Still parts)

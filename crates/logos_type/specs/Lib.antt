@@ -1,9 +1,9 @@
 pub mod Parts
+pub mod Depth
+pub mod Printed
 pub mod Table
 pub mod Reading
 pub mod ReadingViews
-pub mod Substitution
-pub mod SubstitutionViews
-pub mod SelfReference
+pub mod TypeExprs
 pub mod Written
 pub mod inside

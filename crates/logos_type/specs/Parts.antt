@@ -1,8 +1,10 @@
 -- What a type is made of, without where it lies in memory.
-use Rattle.std.specs.Prelude.{ℕ, List, [], ◌∷◌, Option, Some, None}
+use Rattle.std.specs.Prelude.{ℕ, List, [], ◌∷◌, ◌++◌, Option, Some, None}
 use Rattle.logos_token.specs.declared.token.Delimiter.{Delimiter}
+use Rattle.logos_token.specs.declared.token.Spacing.{Spacing}
+use Rattle.logos_token.specs.Tokens.{Token, identifier, punctuation, literal, doc, group, TokenList, none as no_token, also as and_token}
 use Rattle.logos_type.specs.declared.type_expr.Leaf.{Leaf}
-use Rattle.logos_type.specs.declared.type_expr.Leaf.TheVariants.{Word, Mark, Colons, Arrow, Literal, Open, Close, Reference, Lifetime, Kept}
+use Rattle.logos_type.specs.declared.type_expr.Leaf.TheVariants.{Word, Mark, Colons, Arrow, Literal, Open, Close, Reference, Lifetime, Kept, Punct, Doc}
 use Rattle.logos_type.specs.declared.type_expr.Part.{Part}
 use Rattle.logos_type.specs.declared.type_expr.Part.TheOpen.{Part-F}
 use Rattle.logos_type.specs.declared.type_expr.Part.TheFolds.{fold-Part}
@@ -24,13 +26,18 @@ pub data Sign : Type 0 where
   lifetime : (text : List ℕ) → Sign
   -- any other lifetime
   kept : (text : List ℕ) → Sign
+  -- a punctuation of an array's length or of braces
+  spaced_mark : (character : ℕ) (spacing : Spacing) → Sign
+  -- a documentation comment in one of these
+  comment : (text : List ℕ) → Sign
 
 mutual
-  -- a part of a type: a token, a type that is just a name, or a type of parts
+  -- a part of a type: a token, a type that is just a name, a type of parts, or parts that stay as they are
   pub data Tree : Type 0 where
     sign : Sign → Tree
     name : (text : List ℕ) → Tree
     whole : Trees → Tree
+    still : Trees → Tree
 
   pub data Trees : Type 0 where
     none : Trees
@@ -40,6 +47,20 @@ mutual
 abbrev pub trees : List Tree → Trees
 trees [] = none
 trees (t ∷ rest) = also t (trees rest)
+
+abbrev mutual
+  -- a token as it stands in an array's length or in braces
+  pub still_token : Token → List Tree
+  still_token (identifier text span) = sign (word text) ∷ []
+  still_token (punctuation character spacing span) = sign (spaced_mark character spacing) ∷ []
+  still_token (literal text span) = sign (value text) ∷ []
+  still_token (doc text span) = sign (comment text) ∷ []
+  still_token (group delimiter span inside) = sign (opening delimiter) ∷ (still_run inside ++ sign (closing delimiter) ∷ [])
+
+  -- the tokens of such a run, those inside groups too
+  pub still_run : TokenList → List Tree
+  still_run no_token = []
+  still_run (and_token token rest) = still_token token ++ still_run rest
 
 abbrev pub sign_of : Leaf → Sign
 sign_of (Word text) = word text.now
@@ -53,12 +74,15 @@ sign_of (Reference (Some text)) = reference (Some text.now)
 sign_of (Reference None) = reference None
 sign_of (Lifetime text) = lifetime text.now
 sign_of (Kept text) = kept text.now
+sign_of (Punct character spacing) = spaced_mark character spacing
+sign_of (Doc text) = comment text.now
 
 -- one part, with each part inside in its place
 abbrev pub node_tree : Part-F Tree → Tree
 node_tree (Part-F.Leaf leaf) = sign (sign_of leaf)
 node_tree (Part-F.Name text) = name text.now
 node_tree (Part-F.Whole parts) = whole (trees parts.items)
+node_tree (Part-F.Still parts) = still (trees parts.items)
 
 abbrev pub tree_of : Part → Tree
 tree_of = fold-Part Tree node_tree

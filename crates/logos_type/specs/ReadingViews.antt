@@ -1,20 +1,19 @@
 -- What the functions that read types promise.
-use Rattle.std.specs.Prelude.{◌≡◌, ℕ, ◌+◌, ◌*◌, ◌<◌, Option, Some, None, Result, Ok, Err}
+use Rattle.std.specs.Prelude.{◌≡◌, ℕ, ◌+◌, ◌*◌, ◌++◌, List, Bool, Option, Some, None, Result, Ok, Err}
 use Rattle.logos_token.specs.Tokens.{TokenList, count_of}
 use Rattle.logos_token.specs.declared.token.views.Tokens.{Tokens}
 use Rattle.logos_token.specs.Views.{tokens_of}
-use Rattle.logos_type.specs.declared.table.Spot.{Spot as SpotView}
-use Rattle.logos_type.specs.declared.table.Step.{Step}
-use Rattle.logos_type.specs.declared.table.Step.TheVariants.{End, Take, Ask}
-use Rattle.logos_type.specs.declared.table.Stop.{Stop}
-use Rattle.logos_type.specs.declared.table.Stop.TheVariants.{Unsupported, Misfit}
-use Rattle.logos_type.specs.Parts.{sign_of, tree_of}
-use Rattle.logos_type.specs.declared.type_expr.Leaf.{Leaf}
-use Rattle.logos_type.specs.declared.type_expr.Part.{Part}
+use Rattle.logos_type.specs.declared.table.place.Spot.{Spot as SpotView}
+use Rattle.logos_type.specs.declared.table.place.Step.{Step}
+use Rattle.logos_type.specs.declared.table.place.Step.TheVariants.{End, Take, Bar, Ask, KeepType, Keep, Nest}
+use Rattle.logos_type.specs.declared.table.place.Stop.{Stop}
+use Rattle.logos_type.specs.declared.table.place.Stop.TheVariants.{Unsupported, Misfit}
+use Rattle.logos_type.specs.declared.table.place.Opening.{Opening}
+use Rattle.logos_type.specs.Parts.{Tree, sign_of}
 use Rattle.logos_type.specs.declared.reading.TypeFault.{TypeFault}
 use Rattle.logos_type.specs.declared.reading.TypeFault.TheVariants as faults
-use Rattle.logos_type.specs.Reading.{next_of, IsPart, NoPart}
-use Rattle.logos_type.specs.Table.{Spot, Move, ends, takes, asks, stops, First, starts, refused, Fault, unsupported, misfit, too_deep}
+use Rattle.logos_type.specs.Reading.{next_of, IsMove, NoMove, AreParts, NoParts}
+use Rattle.logos_type.specs.Table.{Spot, Move, ends, takes, bars, asks, keeps_type, keeps, nests, stops, First, starts, refused, Fault, unsupported, misfit, too_deep}
 
 abbrev pub behind_of : Option Tokens → Option TokenList
 behind_of (Some tokens) = Some (tokens_of tokens)
@@ -28,19 +27,23 @@ abbrev pub left : TokenList → Option TokenList → ℕ
 left run None = 2 * count_of run
 left run (Some rest) = 2 * (count_of run + count_of rest) + 1
 
--- the step is what comes next, with less left behind a token
-abbrev pub IsStep : Result Step Stop → ℕ → Move → Type 0
-IsStep (Ok End) bound next = next ≡ ends
-IsStep (Ok (Take leaf spot)) bound next = (next ≡ takes (sign_of leaf) (spot_of spot)) × (left (tokens_of spot.run) (behind_of spot.behind) < bound)
-IsStep (Ok (Ask plus place)) bound next = next ≡ asks plus place
-IsStep (Err (Unsupported span)) bound next = next ≡ stops (unsupported span)
-IsStep (Err (Misfit span)) bound next = next ≡ stops (misfit span)
+-- the step is what comes next
+abbrev pub IsStep : Result Step Stop → Move → Type 0
+IsStep (Ok End) next = next ≡ ends
+IsStep (Ok (Take leaf spot)) next = next ≡ takes (sign_of leaf) (spot_of spot)
+IsStep (Ok (Bar leaf spot)) next = next ≡ bars (sign_of leaf) (spot_of spot)
+IsStep (Ok (Ask plus place)) next = next ≡ asks plus place
+IsStep (Ok (KeepType place)) next = next ≡ keeps_type place
+IsStep (Ok (Keep run spot)) next = next ≡ keeps (tokens_of run) (spot_of spot)
+IsStep (Ok (Nest leaf spot place)) next = next ≡ nests (sign_of leaf) (spot_of spot) place
+IsStep (Err (Unsupported span)) next = next ≡ stops (unsupported span)
+IsStep (Err (Misfit span)) next = next ≡ stops (misfit span)
 
--- the same, of the first token
-abbrev pub IsFirst : Result (Leaf × SpotView) Stop → ℕ → First → Type 0
-IsFirst (Ok read) bound first = (first ≡ starts (sign_of read.0) (spot_of read.1)) × (left (tokens_of read.1.run) (behind_of read.1.behind) < bound)
-IsFirst (Err (Unsupported span)) bound first = first ≡ refused (unsupported span)
-IsFirst (Err (Misfit span)) bound first = first ≡ refused (misfit span)
+-- and so of the first token
+abbrev pub IsFirst : Result Opening Stop → First → Type 0
+IsFirst (Ok read) first = first ≡ starts read.barred (sign_of read.leaf) (spot_of read.spot)
+IsFirst (Err (Unsupported span)) first = first ≡ refused (unsupported span)
+IsFirst (Err (Misfit span)) first = first ≡ refused (misfit span)
 
 -- what holds of the fault; nothing where memory ran out
 abbrev pub IfFault : (Fault → Type 0) → TypeFault → Type 0
@@ -56,8 +59,13 @@ fault_of (Misfit span) = faults.Misfit span
 abbrev pub spot_left : Spot → ℕ
 spot_left spot = left spot.run spot.behind
 
--- the next part, with less left behind it, or none
-abbrev pub GivesPart : ℕ → Spot → Result (Option (Part × SpotView)) TypeFault → Type 0
-GivesPart levels spot (Ok None) = next_of spot ≡ ends
-GivesPart levels spot (Ok (Some read)) = IsPart levels spot (tree_of read.0) (spot_of read.1) × (spot_left (spot_of read.1) < spot_left spot)
-GivesPart levels spot (Err fault) = IfFault (NoPart levels spot) fault
+-- one move is made: its parts are added, and behind them is the spot, unless nothing comes next; or what comes next does not fit
+abbrev pub GivesMove : ℕ → Spot → List Tree → List Tree → Result (Option (Bool × SpotView)) TypeFault → Type 0
+GivesMove levels spot old new (Ok None) = (next_of spot ≡ ends) × (new ≡ old)
+GivesMove levels spot old new (Ok (Some read)) = (front : List Tree) × (new ≡ old ++ front) × IsMove levels read.0 spot front (spot_of read.1)
+GivesMove levels spot old new (Err fault) = IfFault (NoMove levels spot) fault
+
+-- all parts from there on are added, one of them bars the type or not, and behind them is the rest
+abbrev pub GivesParts : ℕ → Spot → List Tree → List Tree → Result (Bool × Tokens) TypeFault → Type 0
+GivesParts levels spot old new (Ok read) = (parts : List Tree) × (new ≡ old ++ parts) × AreParts levels read.0 spot parts (tokens_of read.1)
+GivesParts levels spot old new (Err fault) = IfFault (NoParts levels spot) fault

@@ -2,4 +2,4 @@ use Rattle.logos_type.proofs.ReadWritten.{type_written}
 use Rattle.logos_type.proofs.laws.read_is_written.Goals as goal
 
 pub returns : goal.returns
-returns c levels plus run rest part h = type_written h
+returns c levels plus run rest tree h = type_written h

@@ -2,4 +2,4 @@ use Rattle.logos_type.proofs.WrittenReads.{type_stands}
 use Rattle.logos_type.proofs.laws.reads_written.Goals as goal
 
 pub returns : goal.returns
-returns c levels plus run rest part ending w f = type_stands w f
+returns c levels plus run rest tree ending w f = type_stands w f

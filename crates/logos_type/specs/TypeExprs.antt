@@ -1,0 +1,23 @@
+-- A type as it is read: at most 128 types stand inside one another, and `+` joins bounds.
+use Rattle.std.specs.Prelude.{ℕ, true}
+use Rattle.logos_token.specs.Tokens.{TokenList}
+use Rattle.logos_type.specs.declared.type_expr.TypeExpr.{TypeExpr}
+use Rattle.logos_type.specs.Parts.{Tree, tree_of}
+use Rattle.logos_type.specs.Table.{Fault}
+use Rattle.logos_type.specs.Reading.{IsType, NoType}
+
+-- how many types may stand inside one another, the outermost counted
+abbrev pub type_nesting : ℕ
+type_nesting = 128
+
+-- the run begins with this type, and behind it is the rest
+abbrev pub IsTypeExpr : TokenList → Tree → TokenList → Type 0
+IsTypeExpr run tree rest = IsType type_nesting true run tree rest
+
+-- the run begins with no type, and this is the fault from the left
+abbrev pub NoTypeExpr : TokenList → Fault → Type 0
+NoTypeExpr run fault = NoType type_nesting true run fault
+
+-- what the type is made of
+abbrev pub type_tree : TypeExpr → Tree
+type_tree type = tree_of type.part
