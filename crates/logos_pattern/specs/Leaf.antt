@@ -1,7 +1,7 @@
 -- What a leaf's fields say.
-use Rattle.std.specs.Prelude.{ℕ, ◌-◌, ◌*◌, Bool, true, false, List, ◌++◌, length, slice_range, codes, is_some, if◌then◌else◌}
-use Rattle.logos_pattern.specs.Tree.{Tree}
-use Rattle.logos_pattern.specs.Hir.{tree_of}
+use Rattle.std.specs.Prelude.{ℕ, Bool, true, false, List, ◌++◌, codes, is_some, if◌then◌else◌}
+use Rattle.logos_hir.specs.Tree.{Tree}
+use Rattle.logos_hir.specs.Hir.{tree_of}
 use Rattle.logos_pattern.specs.declared.pattern.Pattern.{Pattern}
 use Rattle.logos_token.specs.declared.token.Ident.{Ident}
 use Rattle.logos_token.specs.declared.token.Span.{Span}
@@ -51,14 +51,6 @@ callback_value (Inline inline) = inline_value inline
 -- it is asked what becomes of a match
 abbrev pub asks : Leaf → Bool
 asks leaf = is_some leaf.callback
-
--- the bytes between the quotes of a plain string literal: all but the first and the last one
-abbrev pub inner_text : List ℕ → List ℕ
-inner_text text = slice_range text 1 (length text - 1)
-
--- the priority of a token by default
-abbrev pub token_value : List ℕ → ℕ
-token_value text = 2 * length (inner_text text)
 
 -- how a pattern prints
 abbrev pub pattern_text : Pattern → List ℕ

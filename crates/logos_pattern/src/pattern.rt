@@ -1,41 +1,26 @@
 //! Patterns.
 
-ghost use Rattle.std.specs.Prelude.{◌≡◌, ◌++◌, IfOk, IsTrue, Some};
-ghost use Rattle.logos_pattern.specs.Hir.{tree_of, literal_tree};
-ghost use Rattle.logos_pattern.specs.Leaf.{pattern_tree, source_of, is_token, inner_text, pattern_text, token_value};
+ghost use Rattle.std.specs.Prelude.{◌≡◌, ◌≤◌, ◌++◌, ℕ, chars, IfOk, IfErr, IsTrue, Some};
+ghost use Rattle.logos_hir.specs.Hir.{tree_of, literal_tree};
+ghost use Rattle.logos_hir.specs.Priority.{value};
+ghost use Rattle.logos_hir.specs.Measure.{fitted, is_text, has_greedy_dot};
+ghost use Rattle.logos_pattern_tokens.specs.declared.error.PatternError.TheVariants as errors;
+ghost use Rattle.logos_syntax.specs.Grammar.{IsSpelled, IsFound, Refuses, first_flags};
+ghost use Rattle.logos_pattern.specs.Leaf.{pattern_tree, source_of, is_token, pattern_text};
 ghost use Rattle.logos_pattern.specs.Literals.{token_of, held_bytes, literal_value};
-ghost use Rattle.logos_pattern.specs.Priority.{value};
-ghost use Rattle.logos_pattern.specs.Measure.{fitted, is_text, has_greedy_dot};
 
-mod bracket;
-mod bracket_read;
-mod bracket_reading;
-mod bracket_set;
-mod bracket_token;
-mod build;
-mod class;
 pub mod error;
-mod fold;
 pub mod hir;
 pub mod literal;
-mod machine;
-mod machine_atom;
-mod measure;
-mod operand;
-mod property;
-mod reading;
-mod reading_names;
-mod token;
-mod token_escape;
-mod token_group;
-mod token_number;
 
 pub use error::{Kind, PatternError};
 pub use hir::{Class, Hir, Look, Range};
 pub use literal::Literal;
+use logos_hir::measure;
+use logos_pattern_tokens::token::Flags;
+pub use logos_syntax::parser::one_tree;
+use logos_syntax::parser::parse;
 use logos_token::error::Memory;
-use logos_token::token::Literal as LiteralToken;
-pub use reading::one_tree;
 use std::alloc::{AllocError, Global};
 use std::fmt;
 
@@ -48,11 +33,59 @@ pub struct Pattern<'s> {
 }
 
 impl<'s> Pattern<'s> {
+    /// Reads a pattern. It begins with the flag `u` as `unicode` says, with the flag `i` as
+    /// `ignore_case` says, and with all others off. `source` is the literal that the pattern was
+    /// written as, which `is_literal` says to be no regular expression.
+    ///
+    /// Groups, brackets and operators may nest 250 deep; above that the answer is
+    /// `LimitPatternNesting`. What the grammar does not allow is `Syntax`.
+    pub fn compile(
+        alloc: Global,
+        is_literal: bool,
+        regex: &str,
+        source: &'s str,
+        unicode: bool,
+        ignore_case: bool,
+    ) -> Result<Pattern<'s>, PatternError>
+        // What is read is spelled so.
+        ensures found { IfOk result (λ p. IsFound (first_flags unicode ignore_case)
+            (chars regex.now) (tree_of p.hir)) }
+        // What is refused has no tree, or only one that is nested too deep, or memory ran out.
+        ensures refused { IfErr result (Refuses (first_flags unicode ignore_case)
+            (chars regex.now)) }
+        // What has a tree within the limit is read.
+        ensures complete { (depth : ℕ) → depth ≤ 250 →
+            IsSpelled (first_flags unicode ignore_case) (chars regex.now) depth →
+            IfErr result (λ e. e ≡ errors.Memory) }
+        ensures kept { IfOk result (λ p. (p.is_literal ≡ is_literal) ×
+            (p.source.now ≡ source.now)) }
+    {
+        let flags = Flags {
+            unicode,
+            ignore_case,
+            multi_line: false,
+            dot_all: false,
+            swap_greed: false,
+            crlf: false,
+        };
+        let hir = match parse(alloc, flags, regex) {
+            Ok(hir) => hir,
+            Err(error) => return Err(error),
+        };
+        Ok(Pattern {
+            is_literal,
+            hir,
+            source,
+        })
+    }
+
     /// The pattern of a `token`: it matches the bytes that the literal holds, and nothing else.
     /// It fails only where there is no memory.
     pub fn compile_lit(alloc: Global, literal: &Literal<'s>) -> Result<Pattern<'s>, Memory>
-        ensures tree { IfOk result (λ pattern. pattern_tree pattern ≡ literal_tree (held_bytes literal.now)) }
-        ensures source { IfOk result (λ pattern. source_of pattern ≡ (token_of literal.now).text.now) }
+        ensures tree { IfOk result (λ pattern. pattern_tree pattern ≡
+            literal_tree (held_bytes literal.now)) }
+        ensures source { IfOk result (λ pattern. source_of pattern ≡
+            (token_of literal.now).text.now) }
         ensures literal { IfOk result (λ pattern. IsTrue (is_token pattern)) }
     {
         let hir = literal_hir(alloc, literal.value())?;
@@ -60,25 +93,6 @@ impl<'s> Pattern<'s> {
             is_literal: true,
             hir,
             source: literal.token().text,
-        })
-    }
-
-    /// The pattern of a plain string literal: it matches the bytes between the quotes.
-    /// Of a text with fewer than two bytes it matches nothing but the empty text.
-    /// The error says that memory ran out.
-    pub fn compile_plain(
-        alloc: Global,
-        literal: &LiteralToken<'s>,
-    ) -> Result<Pattern<'s>, AllocError>
-        ensures tree { IfOk result (λ pattern. pattern_tree pattern ≡ literal_tree (inner_text literal.now.text.now)) }
-        ensures source { IfOk result (λ pattern. source_of pattern ≡ literal.now.text.now) }
-        ensures literal { IfOk result (λ pattern. IsTrue (is_token pattern)) }
-    {
-        let hir = literal_hir(alloc, inner_bytes(literal.text))?;
-        Ok(Pattern {
-            is_literal: true,
-            hir,
-            source: literal.text,
         })
     }
 
@@ -138,17 +152,7 @@ impl fmt::Display for Pattern<'_> {
     }
 }
 
-// The bytes without the first and the last one.
-fn inner_bytes(text: &str) -> &[u8]
-    ensures { result.now ≡ inner_text text.now }
-{
-    match text.as_bytes() {
-        [_, inner @ .., _] => inner,
-        _ => &[],
-    }
-}
-
-// The tree that matches these bytes.
+/// The tree that matches these bytes.
 fn literal_hir(alloc: Global, bytes: &[u8]) -> Result<Hir, AllocError>
     ensures { IfOk result (λ hir. tree_of hir ≡ literal_tree bytes.now) }
 {
@@ -164,14 +168,3 @@ pub fn token_priority(literal: &Literal<'_>) -> usize
 {
     2 * literal.value().len()
 }
-
-/// The priority of a `token` of a plain string literal where none is given: twice the number of
-/// bytes between the quotes.
-pub fn plain_token_priority(literal: &LiteralToken<'_>) -> usize
-    ensures { result ≡ token_value literal.now.text.now }
-{
-    2 * inner_bytes(literal.text).len()
-}
-
-#[cfg(test)]
-mod tests;

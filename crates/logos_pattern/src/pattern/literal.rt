@@ -33,6 +33,7 @@ pub enum Literal<'s> {
     Bytes(ByteStringLiteral<'s>),
 }
 
+/// Whether the character has a meaning of its own in a pattern.
 fn is_metacharacter(character: char) -> bool
     ensures { result ≡ is_metacharacter character }
 {
@@ -55,7 +56,8 @@ fn upper_digit(value: u8) -> char
 
 /// Adds a character that is to stand for itself.
 fn push_character(text: &mut String, character: char) -> Result<(), AllocError>
-    ensures { OnOk result (string_bytes text.new ≡ string_bytes text.old ++ escaped_character character) }
+    ensures { OnOk result (string_bytes text.new ≡
+        string_bytes text.old ++ escaped_character character) }
 {
     if is_metacharacter(character) {
         text.push('\\')?;
@@ -65,7 +67,8 @@ fn push_character(text: &mut String, character: char) -> Result<(), AllocError>
 
 /// Adds the characters of a string, which are to stand for themselves.
 fn push_text(text: &mut String, value: &str) -> Result<(), AllocError>
-    ensures { OnOk result (string_bytes text.new ≡ string_bytes text.old ++ flat_map escaped_character (chars value.now)) }
+    ensures { OnOk result (string_bytes text.new ≡
+        string_bytes text.old ++ flat_map escaped_character (chars value.now)) }
 {
     for character in value.chars() {
         push_character(text, character)?;
@@ -75,7 +78,8 @@ fn push_text(text: &mut String, value: &str) -> Result<(), AllocError>
 
 /// Adds a byte of a byte string.
 fn push_byte(text: &mut String, literal: bool, byte: u8) -> Result<(), AllocError>
-    ensures { OnOk result (string_bytes text.new ≡ string_bytes text.old ++ escaped_byte literal byte) }
+    ensures { OnOk result (string_bytes text.new ≡
+        string_bytes text.old ++ escaped_byte literal byte) }
 {
     if byte >= 128 {
         text.push_str("\\x")?;
@@ -90,7 +94,8 @@ fn push_byte(text: &mut String, literal: bool, byte: u8) -> Result<(), AllocErro
 
 /// Adds the bytes of a byte string.
 fn push_bytes(text: &mut String, literal: bool, value: &[u8]) -> Result<(), AllocError>
-    ensures { OnOk result (string_bytes text.new ≡ string_bytes text.old ++ escaped_bytes literal value.now) }
+    ensures { OnOk result (string_bytes text.new ≡
+        string_bytes text.old ++ escaped_bytes literal value.now) }
 {
     for byte in value {
         push_byte(text, literal, *byte)?;
@@ -106,8 +111,10 @@ impl<'s> Literal<'s> {
     /// The string or byte string that a token is, with its value. `None` where it is another
     /// literal. A suffix is left to the caller. It fails only where there is no memory.
     pub fn read(alloc: Global, token: &token::Literal<'s>) -> Result<Option<Literal<'s>>, Memory>
-        ensures token { IfOk result (λ read. IfSome read (λ literal. token_of literal ≡ token.now)) }
-        ensures value { IfOk result (λ read. IsValue token.now.text.now (option_map held_value read)) }
+        ensures token { IfOk result (λ read. IfSome read (λ literal. token_of literal ≡
+            token.now)) }
+        ensures value { IfOk result (λ read. IsValue token.now.text.now
+            (option_map held_value read)) }
     {
         let token = *token;
         match token.value(alloc)? {

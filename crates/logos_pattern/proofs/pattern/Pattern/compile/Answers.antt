@@ -1,6 +1,6 @@
 use Rattle.std.proofs.Common.{chars}
-use Rattle.logos_pattern.specs.Grammar.{first_flags}
-use Rattle.logos_pattern.proofs.Texts.{refused_as}
+use Rattle.logos_syntax.specs.Grammar.{first_flags}
+use Rattle.logos_syntax.proofs.patterns.Texts.{refused_as}
 use Rattle.logos_pattern.proofs.pattern.Pattern.compile.Goals as goal
 
 pub returns-in-Err-clause-complete : goal.returns-in-Err-clause-complete

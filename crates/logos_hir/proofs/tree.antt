@@ -1,0 +1,7 @@
+pub mod Bounds
+pub mod Order
+pub mod Laws
+pub mod PassableRows
+pub mod TreeViews
+pub mod MeasureLemmas
+pub mod BuildLemmas

@@ -1,0 +1,14 @@
+pub mod Text
+pub mod Tree
+pub mod Looks
+pub mod Matches
+pub mod Priority
+pub mod Hir
+pub mod Measure
+pub mod Sets
+pub mod RangeSets
+pub mod inside
+pub mod Build
+pub mod Fold
+pub mod Property
+pub mod Operands

@@ -1,0 +1,74 @@
+-- What a tree says of itself: whether it can match nothing, whether a look comes first, and its priority.
+use Rattle.std.specs.Prelude.{ℕ, ◌+◌, ◌*◌, min, Bool, true, false, ◌&&◌, ◌||◌, List, length, ◌==◌, if◌then◌else◌, chars}
+use Rattle.logos_hir.specs.Tree.{Tree, empty, literal, byte_class, char_class, look, repetition, capture, concat, alternation, Trees, none, also}
+use Rattle.std.specs.Str.{is_utf8}
+
+abbrev mutual
+  -- the tree can be passed without a byte
+  pub passable : Tree → Bool
+  passable empty = true
+  passable (literal text) = length text == 0
+  passable (byte_class ranges) = false
+  passable (char_class ranges) = false
+  passable (look l) = true
+  passable (repetition least most greedy body) = least == 0 || passable body
+  passable (capture body) = passable body
+  passable (concat parts) = all_passable parts
+  passable (alternation branches) = some_passable branches
+
+  pub all_passable : Trees → Bool
+  all_passable none = true
+  all_passable (also part parts) = passable part && all_passable parts
+
+  pub some_passable : Trees → Bool
+  some_passable none = false
+  some_passable (also branch branches) = passable branch || some_passable branches
+
+abbrev mutual
+  -- the tree can meet a look before its first byte
+  pub leads : Tree → Bool
+  leads empty = false
+  leads (literal text) = false
+  leads (byte_class ranges) = false
+  leads (char_class ranges) = false
+  leads (look l) = true
+  leads (repetition least most greedy body) = leads body
+  leads (capture body) = leads body
+  leads (concat parts) = leads_in_order parts
+  leads (alternation branches) = some_leads branches
+
+  -- some part leads, and all parts before it can be passed
+  pub leads_in_order : Trees → Bool
+  leads_in_order none = false
+  leads_in_order (also part parts) = leads part || (passable part && leads_in_order parts)
+
+  pub some_leads : Trees → Bool
+  some_leads none = false
+  some_leads (also branch branches) = leads branch || some_leads branches
+
+-- the number of characters if the bytes are UTF-8, else the number of bytes
+abbrev pub text_size : List ℕ → ℕ
+text_size text = if is_utf8 text then length (chars text) else length text
+
+abbrev mutual
+  -- the priority that a tree has by default
+  pub value : Tree → ℕ
+  value empty = 0
+  value (literal text) = 2 * text_size text
+  value (byte_class ranges) = 2
+  value (char_class ranges) = 2
+  value (look l) = 0
+  value (repetition least most greedy body) = least * value body
+  value (capture body) = value body
+  value (concat parts) = sum_of_values parts
+  value (alternation branches) = least_value branches
+
+  pub sum_of_values : Trees → ℕ
+  sum_of_values none = 0
+  sum_of_values (also part parts) = value part + sum_of_values parts
+
+  -- the least value of a branch
+  pub least_value : Trees → ℕ
+  least_value none = 0
+  least_value (also branch none) = value branch
+  least_value (also branch (also other others)) = min (value branch) (least_value (also other others))

@@ -1,0 +1,7 @@
+-- The set that a `RangeSet` holds.
+use Rattle.logos_hir.specs.declared.sets.RangeSet.{RangeSet}
+use Rattle.logos_hir.specs.Sets.{Set, members}
+use Rattle.logos_hir.specs.Hir.{pairs}
+
+abbrev pub set_of : RangeSet → Set
+set_of set = members (pairs set.ranges.items)

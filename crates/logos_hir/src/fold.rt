@@ -1,0 +1,104 @@
+//! Sets closed under a change of case.
+
+ghost use Rattle.std.specs.Prelude.{◌≡◌, ℕ, ◌+◌, ◌<◌, ◌≤◌, ◌^◌, ◌||◌, length, IfOk, OnOk};
+ghost use Rattle.std.specs.List.Sorted.{IsNonDecreasingBy};
+ghost use Rattle.unicode.specs.CaseFolding.{fold_pairs};
+ghost use Rattle.logos_hir.specs.Hir.{pairs};
+ghost use Rattle.logos_hir.specs.Sets.{in_range, in_ranges};
+ghost use Rattle.logos_hir.specs.RangeSets.{set_of};
+ghost use Rattle.logos_hir.specs.Fold.{fold_case, fold_ascii};
+ghost use Rattle.logos_hir.specs.inside.SetSteps.{Adds};
+ghost use Rattle.logos_hir.specs.inside.FoldSteps.{in_values, in_image, shift};
+
+use crate::hir::Range;
+use crate::sets::RangeSet;
+use std::alloc::{AllocError, Global};
+use unicode::case;
+
+/// The pairs that begin with a number of the range, of pairs that ascend.
+fn within(table: &[(u32, u32)], range: Range) -> &[(u32, u32)]
+    requires { IsNonDecreasingBy (λ p. p.0) table.now }
+    ensures { (c : ℕ) → in_values result.now c ≡ in_image table.now (in_range (range.first, range.last)) c }
+{
+    let rest = &table[table.partition_point(|pair| pair.0 < range.first)..];
+    &rest[..rest.partition_point(|pair| pair.0 <= range.last)]
+}
+
+/// Adds what the pairs end with.
+fn push_values(out: &mut Vec<Range>, table: &[(u32, u32)]) -> Result<(), AllocError>
+    ensures { OnOk result (Adds (pairs out.old.items) (pairs out.new.items) (in_values table.now)) }
+{
+    for (_, value) in table {
+        out.push(Range {
+            first: *value,
+            last: *value,
+        })?;
+    }
+    Ok(())
+}
+
+/// Adds the other characters that share a simple folding with one in the ranges.
+fn push_folds(out: &mut Vec<Range>, ranges: &[Range]) -> Result<(), AllocError>
+    ensures { OnOk result (Adds (pairs out.old.items) (pairs out.new.items) (in_image fold_pairs (in_ranges (pairs ranges.now)))) }
+{
+    let table = case::fold_pairs();
+    for range in ranges {
+        push_values(out, within(table, *range))?;
+    }
+    Ok(())
+}
+
+/// The characters that share a simple folding with a member.
+pub fn fold_case(alloc: Global, set: &RangeSet) -> Result<RangeSet, AllocError>
+    ensures { IfOk result (λ folded. set_of folded ≡ fold_case (set_of set.now)) }
+{
+    let mut ranges = Vec::from_slice(alloc, set.ranges())?;
+    push_folds(&mut ranges, set.ranges())?;
+    RangeSet::from_ranges(alloc, &ranges)
+}
+
+/// Adds the numbers of the range from `first` to `last`, moved so that `first` becomes `to`.
+fn push_shift(
+    out: &mut Vec<Range>,
+    range: Range,
+    first: u32,
+    last: u32,
+    to: u32,
+) -> Result<(), AllocError>
+    requires order { first ≤ last }
+    requires small { last + to < 2 ^ 32 }
+    ensures { OnOk result ((c : ℕ) → in_ranges (pairs out.new.items) c ≡
+        (in_ranges (pairs out.old.items) c || shift first last to (in_range (range.first, range.last)) c)) }
+{
+    let start = range.first.max(first);
+    let end = range.last.min(last);
+    if start > end {
+        return Ok(());
+    }
+    out.push(Range {
+        first: start - first + to,
+        last: end - first + to,
+    })?;
+    Ok(())
+}
+
+/// Adds the other case of each ASCII letter in the ranges.
+fn push_cases(out: &mut Vec<Range>, ranges: &[Range]) -> Result<(), AllocError>
+    ensures { OnOk result (Adds (pairs out.old.items) (pairs out.new.items) (λ c.
+        shift 65 90 97 (in_ranges (pairs ranges.now)) c || shift 97 122 65 (in_ranges (pairs ranges.now)) c)) }
+{
+    for range in ranges {
+        push_shift(out, *range, 65, 90, 97)?;
+        push_shift(out, *range, 97, 122, 65)?;
+    }
+    Ok(())
+}
+
+/// The set with both cases of each ASCII letter in it.
+pub fn fold_ascii(alloc: Global, set: &RangeSet) -> Result<RangeSet, AllocError>
+    ensures { IfOk result (λ folded. set_of folded ≡ fold_ascii (set_of set.now)) }
+{
+    let mut ranges = Vec::from_slice(alloc, set.ranges())?;
+    push_cases(&mut ranges, set.ranges())?;
+    RangeSet::from_ranges(alloc, &ranges)
+}

@@ -1,0 +1,198 @@
+//! Sets that a pattern names.
+
+ghost use Rattle.std.specs.Prelude.{◌≡◌, ℕ, Bool, IfOk, bytes_eq};
+ghost use Rattle.logos_hir.specs.Hir.{pairs};
+ghost use Rattle.logos_hir.specs.Sets.{only_chars, in_ranges};
+ghost use Rattle.logos_hir.specs.RangeSets.{set_of};
+ghost use Rattle.logos_hir.specs.Property.{ascii_set, ascii_named, perl_set, property_named, property_normalized};
+ghost use Rattle.unicode.specs.Rows.{HasExactly};
+ghost use Rattle.unicode.specs.Sets.{in_set};
+
+use crate::hir::Range;
+use crate::sets::RangeSet;
+use std::alloc::{AllocError, Global};
+use unicode::perl;
+use unicode::sets::{self, Set};
+
+/// One of the classes `[:alnum:]` to `[:xdigit:]`.
+#[derive(Clone, Copy, Debug, PartialEq, Eq)]
+pub enum AsciiKind {
+    Alnum,
+    Alpha,
+    Ascii,
+    Blank,
+    Cntrl,
+    Digit,
+    Graph,
+    Lower,
+    Print,
+    Punct,
+    Space,
+    Upper,
+    Word,
+    Xdigit,
+}
+
+/// One of the classes `\d`, `\s` and `\w`.
+#[derive(Clone, Copy, Debug, PartialEq, Eq)]
+pub enum PerlKind {
+    Digit,
+    Space,
+    Word,
+}
+
+/// The first and the last member of each run of an ASCII class.
+#[tactic(auto, using(std::proofs::lemmas::Bool::Decides::nat_tests))]
+fn ascii_runs(kind: AsciiKind) -> &'static [(u32, u32)]
+    ensures { (c : ℕ) → in_ranges result.now c ≡ ascii_set kind c }
+{
+    match kind {
+        AsciiKind::Alnum => &[(48, 57), (65, 90), (97, 122)],
+        AsciiKind::Alpha => &[(65, 90), (97, 122)],
+        AsciiKind::Ascii => &[(0, 127)],
+        AsciiKind::Blank => &[(9, 9), (32, 32)],
+        AsciiKind::Cntrl => &[(0, 31), (127, 127)],
+        AsciiKind::Digit => &[(48, 57)],
+        AsciiKind::Graph => &[(33, 126)],
+        AsciiKind::Lower => &[(97, 122)],
+        AsciiKind::Print => &[(32, 126)],
+        AsciiKind::Punct => &[(33, 47), (58, 64), (91, 96), (123, 126)],
+        AsciiKind::Space => &[(9, 13), (32, 32)],
+        AsciiKind::Upper => &[(65, 90)],
+        AsciiKind::Word => &[(48, 57), (65, 90), (95, 95), (97, 122)],
+        AsciiKind::Xdigit => &[(48, 57), (65, 70), (97, 102)],
+    }
+}
+
+/// Whether the characters are those of the ASCII word.
+fn spells(name: &[char], word: &[u8]) -> bool
+    ensures { result ≡ bytes_eq name.now word.now }
+{
+    if name.len() != word.len() {
+        return false;
+    }
+    for i in 0..name.len() {
+        if name[i] as u32 != word[i] as u32 {
+            return false;
+        }
+    }
+    true
+}
+
+impl AsciiKind {
+    /// The class with the name in `[:name:]`.
+    pub fn from_name(name: &[char]) -> Option<AsciiKind>
+        ensures { result ≡ ascii_named name.now }
+    {
+        if spells(name, b"alnum") {
+            return Some(AsciiKind::Alnum);
+        }
+        if spells(name, b"alpha") {
+            return Some(AsciiKind::Alpha);
+        }
+        if spells(name, b"ascii") {
+            return Some(AsciiKind::Ascii);
+        }
+        if spells(name, b"blank") {
+            return Some(AsciiKind::Blank);
+        }
+        if spells(name, b"cntrl") {
+            return Some(AsciiKind::Cntrl);
+        }
+        if spells(name, b"digit") {
+            return Some(AsciiKind::Digit);
+        }
+        if spells(name, b"graph") {
+            return Some(AsciiKind::Graph);
+        }
+        if spells(name, b"lower") {
+            return Some(AsciiKind::Lower);
+        }
+        if spells(name, b"print") {
+            return Some(AsciiKind::Print);
+        }
+        if spells(name, b"punct") {
+            return Some(AsciiKind::Punct);
+        }
+        if spells(name, b"space") {
+            return Some(AsciiKind::Space);
+        }
+        if spells(name, b"upper") {
+            return Some(AsciiKind::Upper);
+        }
+        if spells(name, b"word") {
+            return Some(AsciiKind::Word);
+        }
+        spells(name, b"xdigit").then_some(AsciiKind::Xdigit)
+    }
+}
+
+/// The members of an ASCII class.
+pub fn ascii_set(alloc: Global, kind: AsciiKind) -> Result<RangeSet, AllocError>
+    ensures { IfOk result (λ set. set_of set ≡ only_chars (ascii_set kind)) }
+{
+    RangeSet::from_ranges(alloc, &ranges_of(alloc, ascii_runs(kind))?)
+}
+
+/// The runs as ranges.
+fn ranges_of(alloc: Global, runs: &[(u32, u32)]) -> Result<Vec<Range>, AllocError>
+    ensures { IfOk result (λ v. pairs v.items ≡ runs.now) }
+{
+    let mut ranges = Vec::new(alloc);
+    for (first, last) in runs {
+        ranges.push(Range::new(*first, *last))?;
+    }
+    Ok(ranges)
+}
+
+/// The characters of the runs, which may hold surrogates.
+fn from_runs(alloc: Global, runs: &[(u32, u32)]) -> Result<RangeSet, AllocError>
+    ensures { (p : ℕ → Bool) → HasExactly runs.now p → IfOk result (λ set. set_of set ≡ only_chars p) }
+{
+    RangeSet::from_ranges(alloc, &ranges_of(alloc, runs)?)
+}
+
+/// The members of `\d`, `\s` or `\w`: of characters as Unicode has them, of bytes ASCII alone.
+pub fn perl_set(alloc: Global, kind: PerlKind, unicode: bool) -> Result<RangeSet, AllocError>
+    ensures { IfOk result (λ set. set_of set ≡ only_chars (perl_set kind unicode)) }
+{
+    match (kind, unicode) {
+        (PerlKind::Digit, true) => from_runs(alloc, &perl::digit_ranges(alloc)?),
+        (PerlKind::Space, true) => from_runs(alloc, &perl::space_ranges(alloc)?),
+        (PerlKind::Word, true) => from_runs(alloc, &perl::word_ranges(alloc)?),
+        (PerlKind::Digit, false) => ascii_set(alloc, AsciiKind::Digit),
+        (PerlKind::Space, false) => ascii_set(alloc, AsciiKind::Space),
+        (PerlKind::Word, false) => ascii_set(alloc, AsciiKind::Word),
+    }
+}
+
+/// The set of a property by its name, which is compared loosely.
+pub fn property_named(alloc: Global, name: &[char]) -> Result<Option<Set>, AllocError>
+    ensures { IfOk result (λ set. set ≡ property_named name.now) }
+{
+    let name = sets::normalize(alloc, name)?;
+    Ok(property_normalized(&name))
+}
+
+/// The set of a property by its normalized name.
+fn property_normalized(name: &[u8]) -> Option<Set>
+    ensures { result ≡ property_normalized name.now }
+{
+    if name == b"any".as_slice() {
+        return Some(Set::Any);
+    }
+    if name == b"ascii".as_slice() {
+        return Some(Set::Ascii);
+    }
+    if name == b"assigned".as_slice() {
+        return Some(Set::Assigned);
+    }
+    sets::by_name(name).ok()
+}
+
+/// The characters of a property's set.
+pub fn property_set(alloc: Global, set: Set) -> Result<RangeSet, AllocError>
+    ensures { IfOk result (λ chars. set_of chars ≡ only_chars (in_set set)) }
+{
+    from_runs(alloc, &set.ranges(alloc)?)
+}

@@ -1,0 +1,231 @@
+//! Sets of characters and of bytes, as ranges.
+
+ghost use Rattle.std.specs.Prelude.{◌≡◌, ℕ, ◌+◌, ◌<◌, ◌≤◌, true, ◌||◌, ◌&&◌, not, nat_le, [], IfOk, OnOk, MatchOption};
+ghost use Rattle.std.specs.List.Sorted.{IsNonDecreasingBy};
+ghost use lib.Utf8.{scalar};
+ghost use Rattle.logos_hir.specs.Hir.{pairs};
+ghost use Rattle.logos_hir.specs.Sets.{AreCanonical, in_range, in_ranges, is_range, next};
+ghost use Rattle.logos_hir.specs.inside.SetSteps.{IsPlace, AreRanges, free_from, in_gap, AddsCharacters, HasCharacters};
+
+use crate::hir::Range;
+use std::alloc::{AllocError, Global};
+
+/// The greatest character.
+pub const LAST_CHAR: u32 = 0x10_FFFF;
+
+/// A set of characters, or of bytes: as few ranges as can be, in ascending order. Each range starts
+/// and ends with a character, and between any two stands another one, so that sets with the same
+/// members have the same ranges.
+#[derive(Debug, Drop)]
+pub struct RangeSet {
+    ranges: Vec<Range>,
+    ghost canonical: { AreCanonical (pairs ranges.items) },
+}
+
+/// The character after a character.
+fn after(c: u32) -> u32
+    requires { c ≤ 0x10_FFFF }
+    ensures { result ≡ next c }
+{
+    if c == 0xD7FF { 0xE000 } else { c + 1 }
+}
+
+/// The character before a place that is not the first.
+fn before(place: u32) -> u32
+    requires place { IsPlace place }
+    requires some { 0 < place }
+    ensures char { scalar result ≡ true }
+    ensures next { next result ≡ place }
+{
+    if place == 0xE000 { 0xD7FF } else { place - 1 }
+}
+
+/// Adds the characters from `first` up to `end`, which is left out, and up to `last`.
+fn push_gap(out: &mut Vec<Range>, first: u32, end: u32, last: u32) -> Result<(), AllocError>
+    requires first { IsPlace first }
+    requires end { IsPlace end }
+    requires last { scalar last ≡ true }
+    requires canonical { AreCanonical (pairs out.old.items) }
+    requires free { free_from 0 (pairs out.old.items) ≤ first }
+    ensures canonical { OnOk result (AreCanonical (pairs out.new.items)) }
+    ensures free { (n : ℕ) → first ≤ n → end < n → OnOk result (free_from 0 (pairs out.new.items) ≤ n) }
+    ensures members { OnOk result (AddsCharacters (pairs out.old.items) (pairs out.new.items) (in_gap first end last)) }
+{
+    if first >= end {
+        return Ok(());
+    }
+    let to = before(end).min(last);
+    if first > to {
+        return Ok(());
+    }
+    out.push(Range { first, last: to })?;
+    Ok(())
+}
+
+/// The characters up to `last` in none of the ranges, whose starts do not descend.
+fn gaps(alloc: Global, ranges: &[Range], last: u32) -> Result<Vec<Range>, AllocError>
+    requires ranges { AreRanges (pairs ranges.now) }
+    requires sorted { IsNonDecreasingBy (λ r. r.first) ranges.now }
+    requires last { scalar last ≡ true }
+    ensures canonical { IfOk result (λ out. AreCanonical (pairs out.items)) }
+    ensures members { IfOk result (λ out. HasCharacters (pairs out.items) (λ c. nat_le c last && not (in_ranges (pairs ranges.now) c))) }
+{
+    let mut out = Vec::new(alloc);
+    let mut first = 0;
+    for range in ranges {
+        push_gap(&mut out, first, range.first, last)?;
+        first = first.max(after(range.last));
+    }
+    push_gap(&mut out, first, LAST_CHAR + 1, last)?;
+    Ok(out)
+}
+
+/// The first character that is not before `c`, or a number behind all characters.
+fn first_char(c: u32) -> u32
+    ensures same { (d : ℕ) → scalar d ≡ true → nat_le result d ≡ nat_le c d }
+    ensures char { result ≤ 0x10_FFFF → scalar result ≡ true }
+{
+    if matches!(c, 0xD800..=0xDFFF) {
+        0xE000
+    } else {
+        c
+    }
+}
+
+/// The last character that is not behind `c`.
+fn last_char(c: u32) -> u32
+    ensures same { (d : ℕ) → scalar d ≡ true → nat_le d result ≡ nat_le d c }
+    ensures char { scalar result ≡ true }
+{
+    if matches!(c, 0xD800..=0xDFFF) {
+        0xD7FF
+    } else {
+        c.min(LAST_CHAR)
+    }
+}
+
+/// Adds the characters of a range.
+fn push_chars(out: &mut Vec<Range>, range: Range) -> Result<(), AllocError>
+    requires { AreRanges (pairs out.old.items) }
+    ensures ranges { OnOk result (AreRanges (pairs out.new.items)) }
+    ensures members { OnOk result ((c : ℕ) → scalar c ≡ true →
+        in_ranges (pairs out.new.items) c ≡ (in_ranges (pairs out.old.items) c || in_range (range.first, range.last) c)) }
+{
+    let first = first_char(range.first);
+    let last = last_char(range.last);
+    if first > last {
+        return Ok(());
+    }
+    out.push(Range { first, last })?;
+    Ok(())
+}
+
+/// The ranges cut to characters, where they have some.
+fn chars_of(alloc: Global, ranges: &[Range]) -> Result<Vec<Range>, AllocError>
+    ensures ranges { IfOk result (λ out. AreRanges (pairs out.items)) }
+    ensures members { IfOk result (λ out. HasCharacters (pairs out.items) (in_ranges (pairs ranges.now))) }
+{
+    let mut out = Vec::new(alloc);
+    for range in ranges {
+        push_chars(&mut out, *range)?;
+    }
+    Ok(out)
+}
+
+impl RangeSet {
+    ghost use Rattle.std.specs.Prelude.{◌≡◌, ℕ, ◌≤◌, true, IfOk, MatchBool};
+    ghost use lib.Utf8.{scalar};
+    ghost use Rattle.logos_hir.specs.Hir.{pairs};
+    ghost use Rattle.logos_hir.specs.Sets.{Set, members, union, intersection, difference, symmetric_difference, complement, in_range};
+    ghost use Rattle.logos_hir.specs.Build.{sole_member};
+    ghost use Rattle.logos_hir.specs.RangeSets.{set_of};
+
+    /// The characters in the ranges. These may come in any order, overlap, and hold numbers that are
+    /// no characters; a range whose first number is above its last is empty.
+    pub fn from_ranges(alloc: Global, ranges: &[Range]) -> Result<RangeSet, AllocError>
+        ensures { IfOk result (λ set. set_of set ≡ members (pairs ranges.now)) }
+    {
+        let mut parts = chars_of(alloc, ranges)?;
+        parts.sort_unstable_by_key(|range| range.first);
+        let outside = gaps(alloc, &parts, LAST_CHAR)?;
+        let ranges = gaps(alloc, &outside, LAST_CHAR)?;
+        Ok(RangeSet { ranges })
+    }
+
+    /// The characters up to `last` that are no members.
+    pub fn complement(&self, last: char) -> Result<RangeSet, AllocError>
+        ensures { IfOk result (λ set. set_of set ≡ complement last (set_of self.now)) }
+    {
+        let ranges = gaps(*self.ranges.allocator(), &self.ranges, last as u32)?;
+        Ok(RangeSet { ranges })
+    }
+
+    /// The members up to U+00FF, which are bytes.
+    pub fn bytes(&self) -> Result<RangeSet, AllocError>
+        ensures { IfOk result (λ set. set_of set ≡ intersection (set_of self.now) (in_range (0, 255))) }
+    {
+        self.complement(char::MAX)?.complement('\u{FF}')
+    }
+
+    /// The only member, if there is just one.
+    pub fn sole_member(&self) -> Option<char>
+        ensures { result ≡ sole_member (pairs self.now.ranges.items) }
+    {
+        match self.ranges.as_slice() {
+            [range] if range.first == range.last => char::from_u32(range.first),
+            _ => None,
+        }
+    }
+
+    /// The ranges, in ascending order.
+    pub fn ranges(&self) -> &[Range]
+        ensures { result.now ≡ self.now.ranges.items }
+    {
+        &self.ranges
+    }
+
+    /// The ranges, in ascending order.
+    pub fn into_ranges(self) -> Vec<Range>
+        ensures { result ≡ self.ranges }
+    {
+        let RangeSet { ranges } = self;
+        ranges
+    }
+
+    /// The members of either set.
+    pub fn union(&self, other: &RangeSet) -> Result<RangeSet, AllocError>
+        ensures { IfOk result (λ set. set_of set ≡ union (set_of self.now) (set_of other.now)) }
+    {
+        let alloc = *self.ranges.allocator();
+        let mut both = Vec::from_slice(alloc, &self.ranges)?;
+        both.extend_from_slice(&other.ranges)?;
+        RangeSet::from_ranges(alloc, &both)
+    }
+
+    /// The members of both sets.
+    pub fn intersection(&self, other: &RangeSet) -> Result<RangeSet, AllocError>
+        ensures { IfOk result (λ set. set_of set ≡ intersection (set_of self.now) (set_of other.now)) }
+    {
+        let outside = self
+            .complement(char::MAX)?
+            .union(&other.complement(char::MAX)?)?;
+        outside.complement(char::MAX)
+    }
+
+    /// The members of this set that the other one lacks.
+    pub fn difference(&self, other: &RangeSet) -> Result<RangeSet, AllocError>
+        ensures { IfOk result (λ set. set_of set ≡ difference (set_of self.now) (set_of other.now)) }
+    {
+        self.intersection(&other.complement(char::MAX)?)
+    }
+
+    /// The members of just one of the sets.
+    pub fn symmetric_difference(&self, other: &RangeSet) -> Result<RangeSet, AllocError>
+        ensures { IfOk result (λ set. set_of set ≡ symmetric_difference (set_of self.now) (set_of other.now)) }
+    {
+        self.difference(other)?.union(&other.difference(self)?)
+    }
+}
+
+pub mod laws;
+pub mod operands;

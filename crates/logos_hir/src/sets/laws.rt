@@ -1,0 +1,22 @@
+//! Laws of sets of characters.
+
+ghost use Rattle.std.specs.Prelude.{◌≡◌, ℕ, Bool};
+ghost use Rattle.logos_hir.specs.Hir.{pairs};
+ghost use Rattle.logos_hir.specs.Sets.{AreCanonical, in_range, intersection, members, only_chars, char_ranges, byte_ranges};
+ghost use Rattle.logos_hir.specs.RangeSets.{set_of};
+
+use super::RangeSet;
+
+/// Sets with the same members have the same ranges.
+pub fn same_members(a: &RangeSet, b: &RangeSet)
+    ensures { set_of a.now ≡ set_of b.now → pairs a.now.ranges.items ≡ pairs b.now.ranges.items }
+{}
+
+/// The ranges that a tree has for a set are canonical, and their members are the characters, or the
+/// bytes, of the set.
+pub fn ranges_of_a_set()
+    ensures chars_canonical { (set : ℕ → Bool) → AreCanonical (char_ranges set) }
+    ensures chars_members { (set : ℕ → Bool) → members (char_ranges set) ≡ only_chars set }
+    ensures bytes_canonical { (set : ℕ → Bool) → AreCanonical (byte_ranges set) }
+    ensures bytes_members { (set : ℕ → Bool) → members (byte_ranges set) ≡ only_chars (intersection set (in_range (0, 255))) }
+{}

@@ -1,7 +1,0 @@
-use Rattle.std.proofs.Common.{◌≡◌, map, flat_map}
-use Rattle.logos_pattern.specs.Hir.{tree_of}
-use Rattle.logos_pattern.specs.Build.{parts_of, joined}
-use Rattle.logos_pattern.proofs.pattern.build.concat.Given as goal
-
-abbrev pub invariant-loop-part : goal.invariant-loop-part
-invariant-loop-part l = map tree_of l.parts.items ≡ joined (flat_map parts_of (map tree_of l.yielded))

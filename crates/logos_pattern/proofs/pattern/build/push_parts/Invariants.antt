@@ -1,7 +1,0 @@
-use Rattle.std.proofs.Common.{◌≡◌, map}
-use Rattle.logos_pattern.specs.Hir.{tree_of}
-use Rattle.logos_pattern.specs.BuildSteps.{add_parts}
-use Rattle.logos_pattern.proofs.pattern.build.push_parts.Given as goal
-
-abbrev pub invariant-loop-part : goal.invariant-loop-part
-invariant-loop-part l = map tree_of l.parts.items ≡ add_parts (map tree_of l.initial.parts.items) (map tree_of l.yielded)

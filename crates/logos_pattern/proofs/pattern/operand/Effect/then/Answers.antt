@@ -1,9 +1,0 @@
-use Rattle.std.proofs.Common.{refl}
-use Rattle.logos_pattern.specs.ClassSet.{set_of}
-use Rattle.logos_pattern.proofs.OperandLemmas.{same_made, made_then}
-use Rattle.logos_pattern.proofs.pattern.operand.Effect.then.Goals as goal
-
-pub returns : goal.returns
-returns c = λ f g hf hg.
-    same_made _ _ _ _ (λ before. g (f before)) _ c.in_ok-choice.ensures c.in_ok-choice-2.ensures (λ before. refl)
-    (made_then (set_of c.args.self.now.outside) (set_of c.args.self.now.inside) (set_of c.args.other.now.outside) (set_of c.args.other.now.inside) f g hf hg)

@@ -1,0 +1,10 @@
+pub mod Numbers
+pub mod Cutting
+pub mod Hex
+pub mod Picks
+pub mod Counted
+pub mod EscapeLemmas
+pub mod LetterLemmas
+pub mod TokenLemmas
+pub mod BracketTokens
+pub mod Shorter

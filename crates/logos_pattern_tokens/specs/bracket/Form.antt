@@ -1,0 +1,21 @@
+-- A bracket as it is written, from the left.
+use Rattle.std.specs.Prelude.{Bool}
+use Rattle.logos_pattern_tokens.specs.declared.bracket.token.Item.{Item}
+use Rattle.logos_pattern_tokens.specs.declared.bracket.token.Lead.{Lead}
+use Rattle.logos_hir.specs.declared.sets.operands.SetOperator.{SetOperator}
+
+mutual
+  -- whether it is negated, the literals at its front, and what follows them
+  pub data Bracket : Type 0 where
+    bracket : Bool → Lead → Operands → Bracket
+
+  -- operands parted by operators
+  pub data Operands : Type 0 where
+    lone : Members → Operands
+    joined : Operands → SetOperator → Members → Operands
+
+  -- one operand
+  pub data Members : Type 0 where
+    nobody : Members
+    member : Members → Item → Members
+    nested : Members → Bracket → Members

@@ -1,0 +1,110 @@
+-- The tokens inside brackets, read from the front.
+use Rattle.std.specs.Prelude.{ℕ, ◌+◌, Bool, true, false, nat_le, ◌==◌, [], ◌∷◌, drop, Option, Some, None, option_map, unwrap_or, if◌then◌else◌}
+use Rattle.logos_pattern_tokens.specs.declared.token.Atom.{Atom}
+use Rattle.logos_pattern_tokens.specs.declared.token.Atom.TheVariants as atoms
+use Rattle.logos_pattern_tokens.specs.declared.bracket.token.Symbol.{Symbol}
+use Rattle.logos_pattern_tokens.specs.declared.bracket.token.Symbol.TheVariants.{Character, Byte}
+use Rattle.logos_pattern_tokens.specs.declared.bracket.token.Item.{Item}
+use Rattle.logos_pattern_tokens.specs.declared.bracket.token.Item.TheVariants as items
+use Rattle.logos_hir.specs.declared.sets.operands.SetOperator.{SetOperator}
+use Rattle.logos_hir.specs.declared.sets.operands.SetOperator.TheVariants.{Intersection, Difference, SymmetricDifference}
+use Rattle.logos_pattern_tokens.specs.declared.bracket.token.Lead.{Lead}
+use Rattle.logos_pattern_tokens.specs.declared.bracket.token.Lead.TheVariants.{Dashes, Bracket as LoneBracket}
+use Rattle.logos_pattern_tokens.specs.declared.bracket.token.BracketToken.{BracketToken}
+use Rattle.logos_pattern_tokens.specs.declared.bracket.token.BracketToken.TheVariants as tokens
+use Rattle.logos_hir.specs.Property.{ascii_named}
+use Rattle.logos_pattern_tokens.specs.Token.{Text, ◌>>=◌, cut_at}
+use Rattle.logos_pattern_tokens.specs.Escapes.{begins, escape_at}
+use Rattle.logos_pattern_tokens.specs.bracket.Spelling.{code_of, begins_operator, begins_range}
+
+-- ---- items
+
+-- an escape that is a character
+abbrev pub symbol_of : Atom → Option Symbol
+symbol_of (atoms.Character c) = Some (Character c)
+symbol_of (atoms.Byte b) = Some (Byte b)
+symbol_of _ = None
+
+-- the last end of a range
+unfoldable pub last_at : Text → Option (Symbol × Text)
+last_at [] = None
+last_at (c ∷ rest) =
+    if c == 92 then escape_at rest >>= (λ x. option_map (λ s. (s, x.1)) (symbol_of x.0))
+    else Some (Character c, rest)
+
+unfoldable pub range_token : Symbol → Symbol × Text → Option (BracketToken × Text)
+range_token a x = if nat_le (code_of a) (code_of x.0) then Some (tokens.Item (items.Range a x.0), x.1) else None
+
+-- a character, or the range that it begins
+unfoldable pub range_at : Symbol → Text → Option (BracketToken × Text)
+range_at a rest = if begins_range rest then last_at (drop 1 rest) >>= range_token a else Some (tokens.Item (items.One a), rest)
+
+-- a class, which begins no range
+unfoldable pub lone_at : Item → Text → Option (BracketToken × Text)
+lone_at item rest = if begins_range rest then None else Some (tokens.Item item, rest)
+
+unfoldable pub escape_item : Atom → Text → Option (BracketToken × Text)
+escape_item (atoms.Character c) rest = range_at (Character c) rest
+escape_item (atoms.Byte b) rest = range_at (Byte b) rest
+escape_item (atoms.Perl kind negated) rest = lone_at (items.Perl kind negated) rest
+escape_item (atoms.Property set negated) rest = lone_at (items.Property set negated) rest
+escape_item _ rest = None
+
+unfoldable pub item_at : Text → Option (BracketToken × Text)
+item_at [] = None
+item_at (c ∷ rest) = if c == 92 then escape_at rest >>= (λ x. escape_item x.0 x.1) else range_at (Character c) rest
+
+-- ---- openings
+
+-- the number of dashes at the front, behind those before them
+abbrev pub dashes_from : ℕ → Text → ℕ × Text
+dashes_from n [] = (n, [])
+dashes_from n (c ∷ rest) = if c == 45 then dashes_from (n + 1) rest else (n, c ∷ rest)
+
+unfoldable pub lead_at : Text → Lead × Text
+lead_at [] = (Dashes 0, [])
+lead_at (c ∷ rest) = if c == 93 then (LoneBracket, rest) else (Dashes (dashes_from 0 (c ∷ rest)).0, (dashes_from 0 (c ∷ rest)).1)
+
+-- after `[`
+unfoldable pub open_at : Text → Bool × Lead × Text
+open_at text =
+    if begins 94 text then (true, (lead_at (drop 1 text)).0, (lead_at (drop 1 text)).1)
+    else (false, (lead_at text).0, (lead_at text).1)
+
+-- ---- classes of ASCII characters
+
+-- `]` behind the name
+unfoldable pub class_end : Bool → Text → Text → Option (BracketToken × Text)
+class_end negated name [] = None
+class_end negated name (c ∷ rest) = if c == 93 then option_map (λ kind. (tokens.Item (items.Ascii kind negated), rest)) (ascii_named name) else None
+
+-- `name:]`
+unfoldable pub name_end : Bool → Text → Option (BracketToken × Text)
+name_end negated text = cut_at 58 text >>= (λ x. class_end negated x.0 x.1)
+
+-- after `[:`
+unfoldable pub colon_at : Text → Option (BracketToken × Text)
+colon_at [] = None
+colon_at (c ∷ rest) = if c == 94 then name_end true rest else name_end false (c ∷ rest)
+
+-- after `[`
+unfoldable pub class_at : Text → Option (BracketToken × Text)
+class_at [] = None
+class_at (c ∷ rest) = if c == 58 then colon_at rest else None
+
+-- ---- tokens
+
+-- a class, or else a nested bracket
+unfoldable pub inner_at : Text → BracketToken × Text
+inner_at text = unwrap_or (class_at text) (tokens.Open (open_at text).0 (open_at text).1, (open_at text).2)
+
+abbrev pub operator_of : ℕ → SetOperator
+operator_of c = if c == 38 then Intersection else if c == 45 then Difference else SymmetricDifference
+
+unfoldable pub bracket_token_at : Text → Option (BracketToken × Text)
+bracket_token_at [] = None
+bracket_token_at (c ∷ rest) =
+    if c == 93 then Some (tokens.Close, rest)
+    else if c == 91 then Some (inner_at rest)
+    else if begins_operator c rest then Some (tokens.Operator (operator_of c), drop 1 rest)
+    else item_at (c ∷ rest)

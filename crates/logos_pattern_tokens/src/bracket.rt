@@ -1,0 +1,4 @@
+//! The tokens inside brackets.
+
+pub mod reader;
+pub mod token;

@@ -1,0 +1,295 @@
+//! The tokens inside brackets, read one by one from the front.
+
+ghost use Rattle.std.specs.Prelude.{◌≡◌, ◌+◌, ◌≤◌, Option, Some, MatchOption, option_map};
+ghost use Rattle.logos_pattern_tokens.specs.Token.{Gives};
+ghost use Rattle.logos_pattern_tokens.specs.bracket.Spelling.{code_of, begins_operator, begins_range};
+ghost use Rattle.logos_pattern_tokens.specs.bracket.Reader.{symbol_of, last_at, range_token, range_at, lone_at, escape_item, item_at, dashes_from, lead_at, open_at, class_end, name_end, colon_at, class_at, inner_at, operator_of, bracket_token_at};
+
+use crate::bracket::token::{BracketToken, Item, Lead, Symbol};
+use crate::counts::cut_at;
+use crate::error::{Fault, Kind};
+use crate::escapes::escape_at;
+use crate::token::Atom;
+use logos_hir::property::AsciiKind;
+use logos_hir::sets::operands::SetOperator;
+use std::alloc::Global;
+
+/// The number of a character or of a byte.
+pub fn code_of(symbol: Symbol) -> u32
+    ensures { result ≡ code_of symbol }
+{
+    match symbol {
+        Symbol::Character(c) => c as u32,
+        Symbol::Byte(b) => b as u32,
+    }
+}
+
+/// A `-` that is neither before `]` nor the first of two.
+fn begins_range(text: &[char]) -> bool
+    ensures { result ≡ begins_range text.now }
+{
+    match text {
+        ['-', d, ..] => !(*d == ']' || *d == '-'),
+        _ => false,
+    }
+}
+
+/// Whether the character and the next one are an operator.
+fn begins_operator(c: char, rest: &[char]) -> bool
+    ensures { result ≡ begins_operator c rest.now }
+{
+    match rest {
+        [d, ..] => c == *d && (c == '&' || (c == '-' || c == '~')),
+        [] => false,
+    }
+}
+
+/// An escape that is a character.
+fn symbol_of(atom: Atom) -> Option<Symbol>
+    ensures { result ≡ symbol_of atom }
+{
+    match atom {
+        Atom::Character(c) => Some(Symbol::Character(c)),
+        Atom::Byte(b) => Some(Symbol::Byte(b)),
+        _ => None,
+    }
+}
+
+/// What is wrong with an escape as an end of a range.
+fn no_symbol(atom: Atom) -> Kind {
+    match atom {
+        Atom::Perl(_, _) | Atom::Property(_, _) => Kind::ClassRange,
+        _ => Kind::EscapeUnknown,
+    }
+}
+
+/// The last end of a range.
+#[tactic(auto, unfolding(crate::specs::bracket::Reader::last_at))]
+fn last_at(alloc: Global, text: &[char]) -> Result<(Symbol, &[char]), Fault>
+    ensures { Gives (λ x. (x.0, x.1.now)) result (last_at text.now) }
+{
+    match text {
+        [] => Err(Fault::Syntax(Kind::Unclosed)),
+        ['\\', rest @ ..] => {
+            let (atom, after) = escape_at(alloc, rest)?;
+            match symbol_of(atom) {
+                Some(symbol) => Ok((symbol, after)),
+                None => Err(Fault::Syntax(no_symbol(atom))),
+            }
+        }
+        [c, rest @ ..] => Ok((Symbol::Character(*c), rest)),
+    }
+}
+
+/// The range from one end to the other, which is not before it.
+#[tactic(auto, unfolding(crate::specs::bracket::Reader::range_token))]
+fn range_token<'t>(
+    first: Symbol,
+    last: Symbol,
+    rest: &'t [char],
+) -> Result<(BracketToken, &'t [char]), Fault>
+    ensures { Gives (λ x. (x.0, x.1.now)) result (range_token first (last, rest.now)) }
+{
+    if code_of(first) > code_of(last) {
+        return Err(Fault::Syntax(Kind::ClassRange));
+    }
+    Ok((BracketToken::Item(Item::Range(first, last)), rest))
+}
+
+/// A character, or the range that it begins.
+#[tactic(auto, unfolding(crate::specs::bracket::Reader::range_at))]
+fn range_at(alloc: Global, first: Symbol, rest: &[char]) -> Result<(BracketToken, &[char]), Fault>
+    ensures { Gives (λ x. (x.0, x.1.now)) result (range_at first rest.now) }
+{
+    if !begins_range(rest) {
+        return Ok((BracketToken::Item(Item::One(first)), rest));
+    }
+    let (last, after) = last_at(alloc, &rest[1..])?;
+    range_token(first, last, after)
+}
+
+/// A class, which begins no range.
+#[tactic(auto, unfolding(crate::specs::bracket::Reader::lone_at))]
+fn lone_at(item: Item, rest: &[char]) -> Result<(BracketToken, &[char]), Fault>
+    ensures { Gives (λ x. (x.0, x.1.now)) result (lone_at item rest.now) }
+{
+    if begins_range(rest) {
+        return Err(Fault::Syntax(Kind::ClassRange));
+    }
+    Ok((BracketToken::Item(item), rest))
+}
+
+/// The item that begins with an escape.
+#[tactic(auto, unfolding(crate::specs::bracket::Reader::escape_item))]
+fn escape_item(alloc: Global, atom: Atom, rest: &[char]) -> Result<(BracketToken, &[char]), Fault>
+    ensures { Gives (λ x. (x.0, x.1.now)) result (escape_item atom rest.now) }
+{
+    match atom {
+        Atom::Character(c) => range_at(alloc, Symbol::Character(c), rest),
+        Atom::Byte(b) => range_at(alloc, Symbol::Byte(b), rest),
+        Atom::Perl(kind, negated) => lone_at(Item::Perl(kind, negated), rest),
+        Atom::Property(set, negated) => lone_at(Item::Property(set, negated), rest),
+        _ => Err(Fault::Syntax(Kind::EscapeUnknown)),
+    }
+}
+
+/// A character, a range or a class.
+#[tactic(auto, unfolding(crate::specs::bracket::Reader::item_at))]
+fn item_at(alloc: Global, text: &[char]) -> Result<(BracketToken, &[char]), Fault>
+    ensures { Gives (λ x. (x.0, x.1.now)) result (item_at text.now) }
+{
+    match text {
+        [] => Err(Fault::Syntax(Kind::Unclosed)),
+        ['\\', rest @ ..] => {
+            let (atom, after) = escape_at(alloc, rest)?;
+            escape_item(alloc, atom, after)
+        }
+        [c, rest @ ..] => range_at(alloc, Symbol::Character(*c), rest),
+    }
+}
+
+/// The dashes at the front.
+fn dashes_at(text: &[char]) -> (usize, &[char])
+    ensures count { result.0 ≡ (dashes_from 0 text.now).0 }
+    ensures rest { result.1.now ≡ (dashes_from 0 text.now).1 }
+{
+    let mut count = 0;
+    let mut rest = text;
+    while let ['-', after @ ..] = rest {
+        count += 1;
+        rest = after;
+    }
+    (count, rest)
+}
+
+/// The literals behind `[` or `[^`.
+#[tactic(auto, unfolding(crate::specs::bracket::Reader::lead_at))]
+fn lead_at(text: &[char]) -> (Lead, &[char])
+    ensures lead { result.0 ≡ (lead_at text.now).0 }
+    ensures rest { result.1.now ≡ (lead_at text.now).1 }
+{
+    match text {
+        [']', rest @ ..] => (Lead::Bracket, rest),
+        _ => {
+            let (count, rest) = dashes_at(text);
+            (Lead::Dashes(count), rest)
+        }
+    }
+}
+
+/// What follows `[`: whether it is negated, and the literals at its front.
+#[tactic(auto, unfolding(crate::specs::bracket::Reader::open_at))]
+pub fn open_at(text: &[char]) -> (bool, Lead, &[char])
+    ensures negated { result.0 ≡ (open_at text.now).0 }
+    ensures lead { result.1 ≡ (open_at text.now).1 }
+    ensures rest { result.2.now ≡ (open_at text.now).2 }
+{
+    match text {
+        ['^', after @ ..] => {
+            let (lead, rest) = lead_at(after);
+            (true, lead, rest)
+        }
+        _ => {
+            let (lead, rest) = lead_at(text);
+            (false, lead, rest)
+        }
+    }
+}
+
+/// The bracket behind the name of a class.
+#[tactic(auto, unfolding(crate::specs::bracket::Reader::class_end))]
+fn class_end<'t>(
+    negated: bool,
+    name: &[char],
+    text: &'t [char],
+) -> Option<(BracketToken, &'t [char])>
+    ensures { option_map (λ x. (x.0, x.1.now)) result ≡ class_end negated name.now text.now }
+{
+    match text {
+        [']', rest @ ..] => match AsciiKind::from_name(name) {
+            Some(kind) => Some((BracketToken::Item(Item::Ascii(kind, negated)), rest)),
+            None => None,
+        },
+        _ => None,
+    }
+}
+
+/// The class with the name up to a colon.
+#[tactic(auto, unfolding(crate::specs::bracket::Reader::name_end))]
+fn name_end(negated: bool, text: &[char]) -> Option<(BracketToken, &[char])>
+    ensures { option_map (λ x. (x.0, x.1.now)) result ≡ name_end negated text.now }
+{
+    match cut_at(':', text) {
+        Some((name, rest)) => class_end(negated, name, rest),
+        None => None,
+    }
+}
+
+/// What follows `[:`, if it is a class.
+#[tactic(auto, unfolding(crate::specs::bracket::Reader::colon_at))]
+fn colon_at(text: &[char]) -> Option<(BracketToken, &[char])>
+    ensures { option_map (λ x. (x.0, x.1.now)) result ≡ colon_at text.now }
+{
+    match text {
+        [] => None,
+        ['^', rest @ ..] => name_end(true, rest),
+        _ => name_end(false, text),
+    }
+}
+
+/// What follows `[`, if it is a class.
+#[tactic(auto, unfolding(crate::specs::bracket::Reader::class_at))]
+fn class_at(text: &[char]) -> Option<(BracketToken, &[char])>
+    ensures { option_map (λ x. (x.0, x.1.now)) result ≡ class_at text.now }
+{
+    match text {
+        [':', rest @ ..] => colon_at(rest),
+        _ => None,
+    }
+}
+
+/// What follows `[` inside a bracket: a class, or else a nested bracket.
+#[tactic(auto, unfolding(crate::specs::bracket::Reader::inner_at))]
+fn inner_at(text: &[char]) -> (BracketToken, &[char])
+    ensures token { result.0 ≡ (inner_at text.now).0 }
+    ensures rest { result.1.now ≡ (inner_at text.now).1 }
+{
+    match class_at(text) {
+        Some(found) => found,
+        None => {
+            let (negated, lead, rest) = open_at(text);
+            (BracketToken::Open(negated, lead), rest)
+        }
+    }
+}
+
+/// The operator that is this character twice.
+fn operator_of(c: char) -> SetOperator
+    ensures { result ≡ operator_of c }
+{
+    match c {
+        '&' => SetOperator::Intersection,
+        '-' => SetOperator::Difference,
+        _ => SetOperator::SymmetricDifference,
+    }
+}
+
+/// The token at the front, and what follows it.
+#[tactic(auto, unfolding(crate::specs::bracket::Reader::bracket_token_at))]
+pub fn bracket_token_at(alloc: Global, text: &[char]) -> Result<(BracketToken, &[char]), Fault>
+    ensures { Gives (λ x. (x.0, x.1.now)) result (bracket_token_at text.now) }
+{
+    let [c, rest @ ..] = text else {
+        return Err(Fault::Syntax(Kind::Unclosed));
+    };
+    match *c {
+        ']' => Ok((BracketToken::Close, rest)),
+        '[' => Ok(inner_at(rest)),
+        _ => {
+            if begins_operator(*c, rest) {
+                return Ok((BracketToken::Operator(operator_of(*c)), &rest[1..]));
+            }
+            item_at(alloc, text)
+        }
+    }
+}

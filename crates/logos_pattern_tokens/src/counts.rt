@@ -1,0 +1,177 @@
+//! Numbers in a pattern, and the operators with counts.
+
+ghost use Rattle.std.specs.Prelude.{◌≡◌, ◌==◌, option_map, position};
+ghost use Rattle.logos_pattern_tokens.specs.Token.{Gives, token_view, is_digit, hex_digit, hex_from, scalar_of, cut_at, number_from, fits, number_at, lazy_at, count_end, order_at, most_at, bounds_at, count_at};
+
+use crate::error::{Fault, Kind};
+use crate::token::{Operator, Token};
+
+/// The value of a hex digit.
+pub fn hex_digit(c: char) -> Option<u32>
+    ensures { result ≡ hex_digit c }
+{
+    c.to_digit(16)
+}
+
+/// The Unicode scalar value that hex digits write.
+pub fn scalar_of(digits: &[char]) -> Result<char, Fault>
+    ensures { Gives (λ n. n) result (scalar_of digits.now) }
+{
+    let mut number = 0;
+    for c in digits {
+        let Some(digit) = hex_digit(*c) else {
+            return Err(Fault::Syntax(Kind::HexSyntax));
+        };
+        number = number * 16 + digit;
+        if number > 0x10_FFFF {
+            return Err(Fault::Syntax(Kind::HexNotScalar));
+        }
+    }
+    match char::from_u32(number) {
+        Some(c) => Ok(c),
+        None => Err(Fault::Syntax(Kind::HexNotScalar)),
+    }
+}
+
+/// What stands before the first such character, and behind it.
+pub fn cut_at(end: char, text: &[char]) -> Option<(&[char], &[char])>
+    ensures { option_map (λ x. (x.0.now, x.1.now)) result ≡ cut_at end text.now }
+{
+    match place_of(end, text) {
+        Some(at) => Some((&text[..at], &text[at + 1..])),
+        None => None,
+    }
+}
+
+/// Where the character stands first.
+fn place_of(end: char, text: &[char]) -> Option<usize>
+    ensures { result ≡ position (λ c. c == end) text.now }
+{
+    text.iter().position(|c| *c == end)
+}
+
+/// Whether it is an ASCII digit.
+fn is_digit(c: char) -> bool
+    ensures { result ≡ is_digit c }
+{
+    '0' <= c && c <= '9'
+}
+
+/// The digits at the front, behind a number. A number of 2^32 and more is not read.
+fn number_from(start: u32, text: &[char]) -> Option<(u32, &[char])>
+    ensures { option_map (λ x. (x.0, x.1.now)) result ≡ fits (number_from start text.now) }
+{
+    let mut number = start;
+    let mut rest = text;
+    loop {
+        let [c, after @ ..] = rest else {
+            return Some((number, rest));
+        };
+        if !is_digit(*c) {
+            return Some((number, rest));
+        }
+        let Some(shifted) = number.checked_mul(10) else {
+            return None;
+        };
+        let Some(more) = shifted.checked_add(*c as u32 - '0' as u32) else {
+            return None;
+        };
+        number = more;
+        rest = after;
+    }
+}
+
+/// The number at the front, and what follows it.
+#[tactic(auto, unfolding(crate::specs::Token::number_at))]
+fn number_at(text: &[char]) -> Result<(u32, &[char]), Fault>
+    ensures { Gives (λ x. (x.0, x.1.now)) result (number_at text.now) }
+{
+    match text {
+        [c, ..] if is_digit(*c) => {
+            number_from(0, text).ok_or(Fault::Syntax(Kind::CountTooLarge))
+        }
+        [] => Err(Fault::Syntax(Kind::Unclosed)),
+        _ => Err(Fault::Syntax(Kind::CountSyntax)),
+    }
+}
+
+/// An operator with these counts, which a `?` behind it makes lazy.
+#[tactic(auto, unfolding(crate::specs::Token::lazy_at))]
+pub fn lazy_at<'t>(least: u32, most: Option<u32>, text: &'t [char]) -> (Token<'t>, &'t [char])
+    ensures token { token_view result.0 ≡ (lazy_at least most text.now).0 }
+    ensures rest { result.1.now ≡ (lazy_at least most text.now).1 }
+{
+    match text {
+        ['?', rest @ ..] => (
+            Token::Repeat(Operator {
+                least,
+                most,
+                lazy: true,
+            }),
+            rest,
+        ),
+        _ => (
+            Token::Repeat(Operator {
+                least,
+                most,
+                lazy: false,
+            }),
+            text,
+        ),
+    }
+}
+
+/// The brace after the counts.
+#[tactic(auto, unfolding(crate::specs::Token::count_end))]
+fn count_end<'t>(
+    least: u32,
+    most: Option<u32>,
+    text: &'t [char],
+) -> Result<(Token<'t>, &'t [char]), Fault>
+    ensures { Gives (λ x. (token_view x.0, x.1.now)) result (count_end least most text.now) }
+{
+    match text {
+        ['}', rest @ ..] => Ok(lazy_at(least, most, rest)),
+        [] => Err(Fault::Syntax(Kind::Unclosed)),
+        _ => Err(Fault::Syntax(Kind::CountSyntax)),
+    }
+}
+
+/// What follows `{n,`.
+#[tactic(auto, unfolding(crate::specs::Token::most_at, crate::specs::Token::order_at))]
+fn most_at(least: u32, text: &[char]) -> Result<(Token<'_>, &[char]), Fault>
+    ensures { Gives (λ x. (token_view x.0, x.1.now)) result (most_at least text.now) }
+{
+    match text {
+        [] => Err(Fault::Syntax(Kind::Unclosed)),
+        ['}', rest @ ..] => Ok(lazy_at(least, None, rest)),
+        _ => {
+            let (most, rest) = number_at(text)?;
+            if least > most {
+                return Err(Fault::Syntax(Kind::CountOrder));
+            }
+            count_end(least, Some(most), rest)
+        }
+    }
+}
+
+/// What follows `{n`.
+#[tactic(auto, unfolding(crate::specs::Token::bounds_at))]
+fn bounds_at(least: u32, text: &[char]) -> Result<(Token<'_>, &[char]), Fault>
+    ensures { Gives (λ x. (token_view x.0, x.1.now)) result (bounds_at least text.now) }
+{
+    match text {
+        [] => Err(Fault::Syntax(Kind::Unclosed)),
+        [',', rest @ ..] => most_at(least, rest),
+        _ => count_end(least, Some(least), text),
+    }
+}
+
+/// What follows `{`.
+#[tactic(auto, unfolding(crate::specs::Token::count_at))]
+pub fn count_at(text: &[char]) -> Result<(Token<'_>, &[char]), Fault>
+    ensures { Gives (λ x. (token_view x.0, x.1.now)) result (count_at text.now) }
+{
+    let (least, rest) = number_at(text)?;
+    bounds_at(least, rest)
+}

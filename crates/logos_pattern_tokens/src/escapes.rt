@@ -1,0 +1,223 @@
+//! What stands behind a backslash.
+
+ghost use Rattle.std.specs.Prelude.{◌≡◌, MatchResult};
+ghost use Rattle.logos_pattern_tokens.specs.Token.{Gives, is_among};
+ghost use Rattle.logos_pattern_tokens.specs.Escapes.{is_escapable, single_of, begins, is_form, plain_property, property_of, property_at, braces_at, fixed_at, byte_at, hex_at, boundary_at, single_at, escape_at};
+
+use crate::counts::{cut_at, hex_digit, scalar_of};
+use crate::error::{Fault, Kind};
+use crate::token::Atom;
+use logos_hir::property::{PerlKind, property_named};
+use std::alloc::Global;
+use unicode::sets::Set;
+
+/// Whether a backslash lets the character stand for itself.
+fn is_escapable(c: char) -> bool
+    ensures { result ≡ is_escapable c }
+{
+    c.is_ascii() && !(c.is_ascii_alphanumeric() || c == '<' || c == '>')
+}
+
+/// The escapes of one character: itself, another character, or a class.
+fn single_of(c: char) -> Option<Atom>
+    ensures { result ≡ single_of c }
+{
+    if is_escapable(c) {
+        return Some(Atom::Character(c));
+    }
+    match c {
+        'a' => Some(Atom::Character('\x07')),
+        'f' => Some(Atom::Character('\x0C')),
+        't' => Some(Atom::Character('\t')),
+        'n' => Some(Atom::Character('\n')),
+        'r' => Some(Atom::Character('\r')),
+        'v' => Some(Atom::Character('\x0B')),
+        'd' => Some(Atom::Perl(PerlKind::Digit, false)),
+        's' => Some(Atom::Perl(PerlKind::Space, false)),
+        'w' => Some(Atom::Perl(PerlKind::Word, false)),
+        'D' => Some(Atom::Perl(PerlKind::Digit, true)),
+        'S' => Some(Atom::Perl(PerlKind::Space, true)),
+        'W' => Some(Atom::Perl(PerlKind::Word, true)),
+        'A' => Some(Atom::TextStart),
+        'z' => Some(Atom::TextEnd),
+        'B' => Some(Atom::Boundary(true)),
+        _ => None,
+    }
+}
+
+/// Whether the character stands in the name.
+fn contains(name: &[char], c: char) -> bool
+    ensures { result ≡ is_among c name.now }
+{
+    name.contains(&c)
+}
+
+/// Whether the name has a value, or is negated.
+fn is_form(name: &[char]) -> bool
+    ensures { result ≡ is_form name.now }
+{
+    contains(name, '=') || contains(name, ':') || matches!(name, ['^', ..])
+}
+
+/// The set of a property's name.
+#[tactic(auto, unfolding(crate::specs::Escapes::plain_property))]
+fn plain_property(alloc: Global, name: &[char]) -> Result<Set, Fault>
+    ensures { Gives (λ set. set) result (plain_property name.now) }
+{
+    if is_form(name) {
+        return Err(Fault::Syntax(Kind::PropertyForm));
+    }
+    match property_named(alloc, name)? {
+        Some(set) => Ok(set),
+        None => Err(Fault::Syntax(Kind::UnknownProperty)),
+    }
+}
+
+/// The property with this name.
+#[tactic(auto, unfolding(crate::specs::Escapes::property_of))]
+fn property_of<'t>(
+    alloc: Global,
+    negated: bool,
+    name: &[char],
+    rest: &'t [char],
+) -> Result<(Atom, &'t [char]), Fault>
+    ensures { Gives (λ x. (x.0, x.1.now)) result (property_of negated name.now rest.now) }
+{
+    let set = plain_property(alloc, name)?;
+    Ok((Atom::Property(set, negated), rest))
+}
+
+/// A property in braces, or of one character.
+#[tactic(auto, unfolding(crate::specs::Escapes::property_at))]
+fn property_at(alloc: Global, negated: bool, text: &[char]) -> Result<(Atom, &[char]), Fault>
+    ensures { Gives (λ x. (x.0, x.1.now)) result (property_at negated text.now) }
+{
+    match text {
+        [] => Err(Fault::Syntax(Kind::UnknownProperty)),
+        ['{', rest @ ..] => {
+            let Some((name, after)) = cut_at('}', rest) else {
+                return Err(Fault::Syntax(Kind::Unclosed));
+            };
+            property_of(alloc, negated, name, after)
+        }
+        [c, rest @ ..] => match property_of(alloc, negated, &[*c], rest) {
+            Ok(found) => Ok(found),
+            Err(Fault::Syntax(_)) => Err(Fault::Syntax(Kind::UnknownProperty)),
+            Err(Fault::Memory) => Err(Fault::Memory),
+        },
+    }
+}
+
+/// Hex digits up to a brace.
+#[tactic(auto, unfolding(crate::specs::Escapes::braces_at))]
+fn braces_at(text: &[char]) -> Result<(Atom, &[char]), Fault>
+    ensures { Gives (λ x. (x.0, x.1.now)) result (braces_at text.now) }
+{
+    let Some((digits, rest)) = cut_at('}', text) else {
+        return Err(Fault::Syntax(digits_fault(text)));
+    };
+    if digits.is_empty() {
+        return Err(Fault::Syntax(Kind::HexSyntax));
+    }
+    let c = scalar_of(digits)?;
+    Ok((Atom::Character(c), rest))
+}
+
+/// What is wrong with digits that no brace follows.
+fn digits_fault(digits: &[char]) -> Kind {
+    if digits.iter().all(|c| hex_digit(*c).is_some()) {
+        Kind::Unclosed
+    } else {
+        Kind::HexSyntax
+    }
+}
+
+/// So many hex digits.
+#[tactic(auto, unfolding(crate::specs::Escapes::fixed_at))]
+fn fixed_at(width: usize, text: &[char]) -> Result<(Atom, &[char]), Fault>
+    ensures { Gives (λ x. (x.0, x.1.now)) result (fixed_at width text.now) }
+{
+    if text.len() < width {
+        return Err(Fault::Syntax(Kind::HexSyntax));
+    }
+    let (digits, rest) = text.split_at(width);
+    let c = scalar_of(digits)?;
+    Ok((Atom::Character(c), rest))
+}
+
+/// Two hex digits.
+#[tactic(auto, unfolding(crate::specs::Escapes::byte_at))]
+fn byte_at(text: &[char]) -> Result<(Atom, &[char]), Fault>
+    ensures { Gives (λ x. (x.0, x.1.now)) result (byte_at text.now) }
+{
+    match text {
+        [a, b, rest @ ..] => match (hex_digit(*a), hex_digit(*b)) {
+            (Some(high), Some(low)) => Ok((Atom::Byte((high * 16 + low) as u8), rest)),
+            _ => Err(Fault::Syntax(Kind::HexSyntax)),
+        },
+        _ => Err(Fault::Syntax(Kind::HexSyntax)),
+    }
+}
+
+/// What follows `\x`, `\u` or `\U`.
+#[tactic(auto, unfolding(crate::specs::Escapes::hex_at))]
+fn hex_at(letter: char, text: &[char]) -> Result<(Atom, &[char]), Fault>
+    ensures { Gives (λ x. (x.0, x.1.now)) result (hex_at letter text.now) }
+{
+    match text {
+        [] => Err(Fault::Syntax(Kind::HexSyntax)),
+        ['{', rest @ ..] => braces_at(rest),
+        _ => match letter {
+            'x' => byte_at(text),
+            'u' => fixed_at(4, text),
+            _ => fixed_at(8, text),
+        },
+    }
+}
+
+/// A word boundary, but not one in braces.
+#[tactic(auto, unfolding(crate::specs::Escapes::boundary_at))]
+fn boundary_at(text: &[char]) -> Result<(Atom, &[char]), Fault>
+    ensures { Gives (λ x. (x.0, x.1.now)) result (boundary_at text.now) }
+{
+    match text {
+        ['{', ..] => Err(Fault::Syntax(Kind::WordBoundaryForm)),
+        _ => Ok((Atom::Boundary(false), text)),
+    }
+}
+
+/// What is wrong with an escape of this character.
+fn no_escape(c: char) -> Kind {
+    match c {
+        '<' | '>' => Kind::WordBoundaryForm,
+        _ => Kind::EscapeUnknown,
+    }
+}
+
+/// A character that is escaped, or a class by its letter.
+#[tactic(auto, unfolding(crate::specs::Escapes::single_at))]
+fn single_at(c: char, rest: &[char]) -> Result<(Atom, &[char]), Fault>
+    ensures { Gives (λ x. (x.0, x.1.now)) result (single_at c rest.now) }
+{
+    match single_of(c) {
+        Some(atom) => Ok((atom, rest)),
+        None => Err(Fault::Syntax(no_escape(c))),
+    }
+}
+
+/// What follows a backslash.
+#[tactic(auto, unfolding(crate::specs::Escapes::escape_at))]
+pub fn escape_at(alloc: Global, text: &[char]) -> Result<(Atom, &[char]), Fault>
+    ensures { Gives (λ x. (x.0, x.1.now)) result (escape_at text.now) }
+{
+    let [c, rest @ ..] = text else {
+        return Err(Fault::Syntax(Kind::EscapeUnknown));
+    };
+    match *c {
+        'x' | 'u' | 'U' => hex_at(*c, rest),
+        'p' => property_at(alloc, false, rest),
+        'P' => property_at(alloc, true, rest),
+        'b' => boundary_at(rest),
+        _ => single_at(*c, rest),
+    }
+}

@@ -1,0 +1,235 @@
+//! What stands behind an opening parenthesis.
+
+ghost use Rattle.std.specs.Prelude.{◌≡◌};
+ghost use Rattle.logos_pattern_tokens.specs.Flags.{no_change, set_once, with_letter};
+ghost use Rattle.logos_pattern_tokens.specs.Token.{Gives, token_view, sets, opens, plain};
+ghost use Rattle.logos_pattern_tokens.specs.Openings.{is_name_start, is_name_part, are_name_parts, is_name, name_at, python_at, dash, next_letter, setting_end, letters_from, no_letters, option_at, group_at};
+
+use crate::counts::cut_at;
+use crate::error::{Fault, Kind};
+use crate::token::{Change, Opening, Token};
+use unicode::properties::{GeneralCategory, GeneralCategoryGroup, is_alphabetic};
+
+/// Whether a name may start with the character.
+fn is_name_start(c: char) -> bool
+    ensures { result ≡ is_name_start c }
+{
+    c == '_' || is_alphabetic(c)
+}
+
+/// Whether a name may go on with the character.
+fn is_name_part(c: char) -> bool
+    ensures { result ≡ is_name_part c }
+{
+    is_name_start(c)
+        || GeneralCategoryGroup::Number.contains(GeneralCategory::for_char(c))
+        || matches!(c, '.' | '[' | ']')
+}
+
+/// Whether a name may go on with each of the characters.
+fn are_name_parts(text: &[char]) -> bool
+    ensures { result ≡ are_name_parts text.now }
+{
+    text.iter().all(|c| is_name_part(*c))
+}
+
+/// Whether it is the name of a group.
+fn is_name(text: &[char]) -> bool
+    ensures { result ≡ is_name text.now }
+{
+    match text {
+        [] => false,
+        [c, rest @ ..] => is_name_start(*c) && are_name_parts(rest),
+    }
+}
+
+/// What is wrong with a name that no `>` follows.
+fn name_fault(text: &[char]) -> Kind {
+    if text.is_empty() || is_name(text) {
+        Kind::Unclosed
+    } else {
+        Kind::GroupSyntax
+    }
+}
+
+/// What follows `(?<` or `(?P<`.
+#[tactic(auto, unfolding(crate::specs::Openings::name_at))]
+fn name_at(text: &[char]) -> Result<(Token<'_>, &[char]), Fault>
+    ensures { Gives (λ x. (token_view x.0, x.1.now)) result (name_at text.now) }
+{
+    let Some((name, rest)) = cut_at('>', text) else {
+        return Err(Fault::Syntax(name_fault(text)));
+    };
+    if !is_name(name) {
+        return Err(Fault::Syntax(Kind::GroupSyntax));
+    }
+    Ok((Token::Open(Opening::Named(name)), rest))
+}
+
+/// What follows `(?P`.
+#[tactic(auto, unfolding(crate::specs::Openings::python_at))]
+fn python_at(text: &[char]) -> Result<(Token<'_>, &[char]), Fault>
+    ensures { Gives (λ x. (token_view x.0, x.1.now)) result (python_at text.now) }
+{
+    match text {
+        [] => Err(Fault::Syntax(Kind::Unclosed)),
+        ['<', rest @ ..] => name_at(rest),
+        _ => Err(Fault::Syntax(Kind::FlagSyntax)),
+    }
+}
+
+/// The letters of a flag setting so far.
+#[derive(Clone, Copy)]
+pub struct Letters {
+    change: Change,
+    /// The letters stand before the dash.
+    on: bool,
+    /// A letter has to follow.
+    pending: bool,
+}
+
+/// A flag setting that leaves each flag.
+fn no_change() -> Change
+    ensures { result ≡ no_change }
+{
+    Change {
+        unicode: None,
+        ignore_case: None,
+        multi_line: None,
+        dot_all: None,
+        swap_greed: None,
+        crlf: None,
+    }
+}
+
+/// A flag is set once.
+fn set_once(flag: Option<bool>, on: bool) -> Result<Option<bool>, Fault>
+    ensures { Gives (λ x. x) result (set_once flag on) }
+{
+    match flag {
+        None => Ok(Some(on)),
+        Some(_) => Err(Fault::Syntax(Kind::FlagSyntax)),
+    }
+}
+
+/// A flag setting with one more letter, which turns its flag on or off.
+fn with_letter(change: Change, on: bool, letter: char) -> Result<Change, Fault>
+    ensures { Gives (λ x. x) result (with_letter change on letter) }
+{
+    let mut next = change;
+    match letter {
+        'i' => next.ignore_case = set_once(change.ignore_case, on)?,
+        'm' => next.multi_line = set_once(change.multi_line, on)?,
+        's' => next.dot_all = set_once(change.dot_all, on)?,
+        'U' => next.swap_greed = set_once(change.swap_greed, on)?,
+        'u' => next.unicode = set_once(change.unicode, on)?,
+        'R' => next.crlf = set_once(change.crlf, on)?,
+        'x' => return Err(Fault::Syntax(Kind::FlagUnsupported)),
+        _ => return Err(Fault::Syntax(Kind::FlagSyntax)),
+    }
+    Ok(next)
+}
+
+/// A dash turns off the letters behind it.
+#[tactic(auto, unfolding(crate::specs::Openings::dash))]
+fn dash(letters: Letters) -> Result<Letters, Fault>
+    ensures { Gives (λ x. x) result (dash letters) }
+{
+    if letters.on {
+        Ok(Letters {
+            change: letters.change,
+            on: false,
+            pending: true,
+        })
+    } else {
+        Err(Fault::Syntax(Kind::FlagSyntax))
+    }
+}
+
+/// A letter or the dash behind other letters.
+#[tactic(auto, unfolding(crate::specs::Openings::next_letter))]
+fn next_letter(letters: Letters, c: char) -> Result<Letters, Fault>
+    ensures { Gives (λ x. x) result (next_letter letters c) }
+{
+    if c == '-' {
+        return dash(letters);
+    }
+    let change = with_letter(letters.change, letters.on, c)?;
+    Ok(Letters {
+        change,
+        on: letters.on,
+        pending: false,
+    })
+}
+
+/// The token at the end of a flag setting.
+#[tactic(auto, unfolding(crate::specs::Openings::setting_end))]
+fn setting_end<'t>(
+    letters: Letters,
+    token: Token<'t>,
+    rest: &'t [char],
+) -> Result<(Token<'t>, &'t [char]), Fault>
+    ensures { Gives (λ x. (token_view x.0, x.1.now)) result
+        (setting_end letters (token_view token.entry) rest.now) }
+{
+    if letters.pending {
+        Err(Fault::Syntax(Kind::FlagSyntax))
+    } else {
+        Ok((token, rest))
+    }
+}
+
+/// Letters up to `)` or `:`.
+fn letters_from(start: Letters, text: &[char]) -> Result<(Token<'_>, &[char]), Fault>
+    ensures { Gives (λ x. (token_view x.0, x.1.now)) result (letters_from start text.now) }
+{
+    let mut letters = start;
+    let mut rest = text;
+    while let [c, after @ ..] = rest {
+        if *c == ')' {
+            return setting_end(letters, Token::Setting(letters.change), after);
+        }
+        if *c == ':' {
+            return setting_end(letters, Token::Open(Opening::Plain(letters.change)), after);
+        }
+        letters = next_letter(letters, *c)?;
+        rest = after;
+    }
+    Err(Fault::Syntax(Kind::Unclosed))
+}
+
+/// What follows `(?`.
+#[tactic(auto, unfolding(crate::specs::Openings::option_at))]
+fn option_at(text: &[char]) -> Result<(Token<'_>, &[char]), Fault>
+    ensures { Gives (λ x. (token_view x.0, x.1.now)) result (option_at text.now) }
+{
+    match text {
+        [] => Err(Fault::Syntax(Kind::Unclosed)),
+        [':', rest @ ..] => Ok((Token::Open(Opening::Plain(no_change())), rest)),
+        ['<', rest @ ..] => name_at(rest),
+        ['P', rest @ ..] => python_at(rest),
+        _ => letters_from(no_letters(), text),
+    }
+}
+
+/// The letters before the first one.
+fn no_letters() -> Letters
+    ensures { result ≡ no_letters }
+{
+    Letters {
+        change: no_change(),
+        on: true,
+        pending: true,
+    }
+}
+
+/// What follows an opening parenthesis.
+#[tactic(auto, unfolding(crate::specs::Openings::group_at))]
+pub fn group_at(text: &[char]) -> Result<(Token<'_>, &[char]), Fault>
+    ensures { Gives (λ x. (token_view x.0, x.1.now)) result (group_at text.now) }
+{
+    match text {
+        ['?', rest @ ..] => option_at(rest),
+        _ => Ok((Token::Open(Opening::Capture), text)),
+    }
+}

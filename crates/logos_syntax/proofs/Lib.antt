@@ -1,0 +1,2 @@
+pub mod brackets
+pub mod patterns

@@ -1,0 +1,5 @@
+pub mod Levels
+pub mod Reading
+pub mod Depth
+pub mod NameLemmas
+pub mod Texts

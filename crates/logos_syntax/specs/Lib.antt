@@ -1,0 +1,4 @@
+pub mod bracket
+pub mod inside
+pub mod Written
+pub mod Grammar

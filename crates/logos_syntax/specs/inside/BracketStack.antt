@@ -1,0 +1,51 @@
+-- Reading a bracket token by token, with the brackets that are open.
+use Rattle.std.specs.Prelude.{ℕ, ◌+◌, max, Bool, false, List, [], ◌∷◌, length, Option, Some, None}
+use Rattle.logos_pattern_tokens.specs.declared.token.Flags.{Flags}
+use Rattle.logos_hir.specs.declared.sets.operands.SetOperator.{SetOperator}
+use Rattle.logos_pattern_tokens.specs.declared.bracket.token.Lead.{Lead}
+use Rattle.logos_pattern_tokens.specs.declared.bracket.token.BracketToken.{BracketToken}
+use Rattle.logos_pattern_tokens.specs.declared.bracket.token.BracketToken.TheVariants.{Item, Open, Operator, Close}
+use Rattle.logos_hir.specs.Sets.{Set, union}
+use Rattle.logos_syntax.specs.bracket.Meaning.{set_or_complement, item_set, lead_set}
+use Rattle.logos_hir.specs.Operands.{combination}
+
+-- the inside of a bracket so far
+pub record Frame : Type 0 where
+  pub negated : Bool
+  -- what the operands before make, and the operator behind them
+  pub before : Option (Set × SetOperator)
+  -- the operand so far
+  pub here : Set
+  -- how deep its innermost place is in the whole pattern
+  pub inner : ℕ
+
+pub record Frames : Type 0 where
+  pub top : Frame
+  -- the brackets around it, the innermost first
+  pub below : List Frame
+
+abbrev pub fresh_frame : Bool → Lead → ℕ → Frame
+fresh_frame negated lead level = record { negated = negated; before = None; here = lead_set lead; inner = level }
+
+abbrev pub with_before : Option (Set × SetOperator) → Set → Set
+with_before None set = set
+with_before (Some before) set = combination before.1 before.0 set
+
+-- all operands so far
+abbrev pub value : Frame → Set
+value f = with_before f.before f.here
+
+-- the bracket, once it is closed
+abbrev pub whole : Flags → Frame → Set
+whole flags f = set_or_complement flags f.negated (value f)
+
+abbrev pub close : Flags → Frame → List Frame → Option Frames
+close flags f [] = None
+close flags f (g ∷ gs) = Some (record { top = record g { here = union g.here (whole flags f); inner = max g.inner f.inner }; below = gs })
+
+-- The step of a token, so many groups and brackets around the whole bracket.
+abbrev pub bracket_step : Flags → ℕ → Frames → BracketToken → Option Frames
+bracket_step flags base s (Item item) = Some (record s { top = record s.top { here = union s.top.here (item_set flags item) } })
+bracket_step flags base s (Open negated lead) = Some (record { top = fresh_frame negated lead (base + length s.below + 2); below = s.top ∷ s.below })
+bracket_step flags base s (Operator op) = Some (record s { top = record s.top { before = Some (value s.top, op); here = λ c. false } })
+bracket_step flags base s Close = close flags s.top s.below

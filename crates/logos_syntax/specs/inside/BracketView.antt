@@ -1,0 +1,97 @@
+-- What the values of the bracket reader stand for, and what its functions promise.
+use Rattle.std.specs.Prelude.{◌≡◌, ℕ, ◌+◌, ◌<◌, ◌≤◌, Bool, true, false, [], ◌∷◌, ◌++◌, map, reverse, length, Some, Result, Ok, Err}
+use Rattle.std.specs.Option.{option_map}
+use Rattle.logos_pattern_tokens.specs.declared.error.Stop.{Stop}
+use Rattle.logos_pattern_tokens.specs.declared.error.Stop.TheVariants as stops
+use Rattle.logos_pattern_tokens.specs.declared.token.Flags.{Flags}
+use Rattle.logos_pattern_tokens.specs.declared.bracket.token.BracketToken.{BracketToken}
+use Rattle.logos_pattern_tokens.specs.declared.bracket.token.BracketToken.TheVariants.{Item, Open, Operator, Close}
+use Rattle.logos_syntax.specs.declared.bracket.stack.Frame.{Frame as FrameValue}
+use Rattle.logos_syntax.specs.declared.bracket.stack.Frames.{Frames as FramesValue}
+use Rattle.logos_syntax.specs.declared.bracket.stack.BracketValue.{BracketValue}
+use Rattle.logos_hir.specs.Hir.{pairs}
+use Rattle.logos_hir.specs.Sets.{members}
+use Rattle.logos_hir.specs.RangeSets.{set_of}
+use Rattle.logos_hir.specs.Operands.{with_operands}
+use Rattle.logos_pattern_tokens.specs.Token.{Text}
+use Rattle.std.specs.Borrow.{Bor}
+use Rattle.logos_pattern_tokens.specs.declared.error.Fault.{Fault}
+use Rattle.logos_pattern_tokens.specs.declared.error.Fault.TheVariants as faults
+use Rattle.logos_pattern_tokens.specs.declared.bracket.token.Lead.{Lead}
+use Rattle.logos_pattern_tokens.specs.bracket.Form.{Bracket, bracket, Operands}
+use Rattle.logos_pattern_tokens.specs.bracket.Spelling.{operands_tokens, BracketCuts, Encloses}
+use Rattle.logos_syntax.specs.bracket.Meaning.{bracket_set, item_fits, BracketFits, bracket_depth}
+use Rattle.logos_syntax.specs.inside.BracketStack.{Frame, Frames, bracket_step}
+
+abbrev pub frame_view : FrameValue → Frame
+frame_view f = record {
+  negated = f.negated;
+  before = option_map (λ op. (with_operands f.before.items (λ c. false), op)) f.operator;
+  here = members (pairs f.ranges.items);
+  inner = f.inner;
+}
+
+abbrev pub frames_view : FramesValue → Frames
+frames_view m = record { top = frame_view m.top; below = reverse (map frame_view m.below.items) }
+
+-- the token makes no step: an item that may not stand here, or the end of the whole bracket
+abbrev pub NoStep : Flags → Frames → BracketToken → Type 0
+NoStep flags s (Item item) = item_fits flags item ≡ false
+NoStep flags s (Open negated lead) = ⊥
+NoStep flags s (Operator op) = ⊥
+NoStep flags s Close = s.below ≡ []
+
+-- the token opens a bracket that is too deep
+abbrev pub TooDeep : ℕ → Frames → BracketToken → Type 0
+TooDeep base s (Open negated lead) = 250 < base + length s.below + 2
+TooDeep base s _ = ⊥
+
+-- the token may stand where the flags hold
+abbrev pub MayStand : Flags → BracketToken → Type 0
+MayStand flags (Item item) = item_fits flags item ≡ true
+MayStand flags _ = Unit {0}
+
+abbrev pub BracketSteps : Flags → ℕ → Frames → BracketToken → Result (Unit {0}) Stop → Frames → Type 0
+BracketSteps flags base old token (Ok _) new = MayStand flags token × (bracket_step flags base old token ≡ Some new)
+BracketSteps flags base old token (Err (stops.Syntax kind left)) new = NoStep flags old token
+BracketSteps flags base old token (Err stops.LimitPatternNesting) new = TooDeep base old token
+BracketSteps flags base old token (Err stops.Memory) new = Unit {0}
+
+-- the set, and how deep it is, of a bracket whose inside stands at the text
+pub record IsInside (flags : Flags) (base : ℕ) (negated : Bool) (lead : Lead) (text : Text) (found : BracketValue) (rest : Text) : Type 0 where
+  pub inside : Operands
+  pub cut : BracketCuts text (operands_tokens inside ++ Close ∷ []) rest
+  pub fits : BracketFits flags (bracket negated lead inside)
+  pub is_set : set_of found.set ≡ bracket_set flags (bracket negated lead inside)
+  pub is_depth : found.depth ≡ base + bracket_depth (bracket negated lead inside)
+  pub shallow : found.depth ≤ 250
+
+-- what a reader that stopped says of a bracket
+abbrev pub Denies : Flags → ℕ → Stop → Bracket → Type 0
+Denies flags base (stops.Syntax kind left) b = BracketFits flags b → ⊥
+Denies flags base stops.LimitPatternNesting b = 250 < base + bracket_depth b
+Denies flags base stops.Memory b = Unit {0}
+
+abbrev pub ReadsInside : Flags → ℕ → Bool → Lead → Text → Result (BracketValue × Bor Text) Stop → Type 0
+ReadsInside flags base negated lead text (Ok x) = IsInside flags base negated lead text x.0 x.1.now
+ReadsInside flags base negated lead text (Err e) = (inside : Operands) (rest : Text) → BracketCuts text (operands_tokens inside ++ Close ∷ []) rest → Denies flags base e (bracket negated lead inside)
+
+-- the set, and how deep it is, of a bracket that stands at the text, behind `[`
+pub record IsBracketValue (flags : Flags) (base : ℕ) (text : Text) (found : BracketValue) (rest : Text) : Type 0 where
+  pub written : Bracket
+  pub encloses : Encloses written text rest
+  pub fits : BracketFits flags written
+  pub is_set : set_of found.set ≡ bracket_set flags written
+  pub is_depth : found.depth ≡ base + bracket_depth written
+  pub shallow : found.depth ≤ 250
+
+abbrev pub ReadsBracket : Flags → ℕ → Text → Result (BracketValue × Bor Text) Stop → Type 0
+ReadsBracket flags base text (Ok x) = IsBracketValue flags base text x.0 x.1.now
+ReadsBracket flags base text (Err e) = (b : Bracket) (rest : Text) → Encloses b text rest → Denies flags base e b
+
+-- a fault as a stop
+abbrev pub IsStopOf : Fault → Stop → Type 0
+IsStopOf (faults.Syntax kind) (stops.Syntax other left) = Unit {0}
+IsStopOf (faults.Syntax kind) _ = ⊥
+IsStopOf faults.Memory (stops.Memory) = Unit {0}
+IsStopOf faults.Memory _ = ⊥

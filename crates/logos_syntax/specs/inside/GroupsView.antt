@@ -1,0 +1,49 @@
+-- What the parser's values stand for, and what its functions promise.
+use Rattle.std.specs.Prelude.{◌≡◌, ◌≢◌, ◌<◌, ◌≤◌, [], map, reverse, Option, Some, None, Result, Ok, Err}
+use Rattle.std.specs.Option.{option_map}
+use Rattle.logos_pattern_tokens.specs.declared.error.Stop.{Stop}
+use Rattle.logos_pattern_tokens.specs.declared.error.Stop.TheVariants as stops
+use Rattle.logos_hir.specs.declared.hir.Hir.{Hir}
+use Rattle.logos_syntax.specs.declared.groups.Part.{Part as PartValue}
+use Rattle.logos_syntax.specs.declared.groups.OpenGroup.{OpenGroup}
+use Rattle.logos_syntax.specs.declared.groups.Groups.{Groups}
+use Rattle.logos_hir.specs.Hir.{tree_of}
+use Rattle.logos_pattern_tokens.specs.Token.{Token}
+use Rattle.logos_syntax.specs.Grammar.{TokenFits}
+use Rattle.logos_syntax.specs.inside.Groups.{Part, Group, State, step, whole_tree, deepest}
+
+abbrev pub part_view : PartValue → Part
+part_view p = (tree_of p.tree, p.depth)
+
+abbrev pub group_view : OpenGroup → Group
+group_view l = record {
+  flags = l.flags;
+  captured = l.captured;
+  branches = map tree_of l.branches.items;
+  parts = map tree_of l.parts.items;
+  last = option_map part_view l.last;
+  inner = l.inner;
+}
+
+abbrev pub state_view : Groups → State
+state_view m = record { top = group_view m.top; below = reverse (map group_view m.below.items) }
+
+-- what a step did, or why there is none: the token does not fit, or a place is too deep
+abbrev pub Steps : State → Token → Result (Unit {0}) Stop → State → Type 0
+Steps old token (Ok _) new = TokenFits old.top.flags token × (step old token ≡ Some new)
+Steps old token (Err (stops.Syntax kind left)) new = TokenFits old.top.flags token → step old token ≡ None
+Steps old token (Err stops.LimitPatternNesting) new = (s : State) × (step old token ≡ Some s) × (250 < deepest s)
+Steps old token (Err stops.Memory) new = Unit {0}
+
+abbrev pub Repeats : Result (Unit {0}) Stop → Option Group → Group → Type 0
+Repeats (Ok _) read new = read ≡ Some new
+Repeats (Err (stops.Syntax kind left)) read new = read ≡ None
+Repeats (Err stops.LimitPatternNesting) read new = (g : Group) × (read ≡ Some g) × (250 < g.inner)
+Repeats (Err stops.Memory) read new = Unit {0}
+
+-- the tree of a parser that has no group open
+abbrev pub Ends : Result Hir Stop → State → Type 0
+Ends (Ok hir) s = (s.below ≡ []) × (tree_of hir ≡ whole_tree s.top) × (s.top.inner ≤ 250)
+Ends (Err (stops.Syntax kind left)) s = s.below ≢ []
+Ends (Err stops.LimitPatternNesting) s = ⊥
+Ends (Err stops.Memory) s = Unit {0}

@@ -1,0 +1,60 @@
+-- What reading a whole pattern promises.
+use Rattle.std.specs.Prelude.{◌≡◌, ℕ, ◌<◌, List, [], ◌∷◌, Some, None, Result, Ok, Err}
+use Rattle.std.specs.Borrow.{Bor}
+use Rattle.logos_pattern_tokens.specs.declared.error.Stop.{Stop}
+use Rattle.logos_pattern_tokens.specs.declared.error.Stop.TheVariants as stops
+use Rattle.logos_pattern_tokens.specs.declared.token.Flags.{Flags}
+use Rattle.logos_syntax.specs.declared.names.Names.{Names}
+use Rattle.logos_pattern_tokens.specs.Token.{Text, Token}
+use Rattle.logos_pattern_tokens.specs.Spelling.{Takes}
+use Rattle.logos_syntax.specs.Written.{Starts, Cuts, IsNew, with_name, NamesDiffer}
+use Rattle.logos_syntax.specs.Grammar.{TokenFits, IsSpelled}
+use Rattle.logos_syntax.specs.inside.Groups.{State, start, step, Runs, deepest}
+use Rattle.logos_syntax.specs.inside.Names.{HasNames}
+
+-- ---- one token
+
+-- a token stands at the text, may stand there behind these names, and the parser goes on
+pub record GoesOn (old : State) (seen : List Text) (text : Text) (new : State) (names : Names) (rest : Text) : Type 0 where
+  pub token : Token
+  pub starts : Starts token text rest
+  pub fits : TokenFits old.top.flags token
+  pub is_new : IsNew seen token
+  pub moves : step old token ≡ Some new
+  pub has : HasNames names (with_name seen token)
+
+-- what a stop says of a token that stands at the text
+abbrev pub StopsAt : Stop → State → List Text → Token → Type 0
+StopsAt (stops.Syntax kind left) old seen token = TokenFits old.top.flags token → IsNew seen token → step old token ≡ None
+StopsAt stops.LimitPatternNesting old seen token = (new : State) × (step old token ≡ Some new) × (250 < deepest new)
+StopsAt stops.Memory old seen token = Unit {0}
+
+abbrev pub ReadsToken : State → List Text → Text → Result (Bor Text) Stop → State → Names → Type 0
+ReadsToken old seen text (Ok rest) new names = GoesOn old seen text new names rest.now
+ReadsToken old seen text (Err stop) new names = (token : Token) (rest : Text) → Starts token text rest → StopsAt stop old seen token
+
+-- the same of tokens that are no brackets
+abbrev pub ReadsSimple : State → List Text → Text → Result (Bor Text) Stop → State → Names → Type 0
+ReadsSimple old seen text (Ok rest) new names = GoesOn old seen text new names rest.now
+ReadsSimple old seen text (Err stop) new names = (token : Token) (rest : Text) → Takes token text rest → StopsAt stop old seen token
+
+-- ---- the whole text
+
+-- the names behind these tokens
+abbrev pub names_behind : List Text → List Token → List Text
+names_behind seen [] = seen
+names_behind seen (token ∷ tokens) = names_behind (with_name seen token) tokens
+
+-- these tokens of the text are read, up to rest
+pub record HasRead (flags : Flags) (text rest : Text) (s : State) (names : Names) : Type 0 where
+  pub tokens : List Token
+  pub cut : Cuts text tokens rest
+  pub run : Runs (start flags) tokens s
+  pub differ : NamesDiffer [] tokens
+  pub has : HasNames names (names_behind [] tokens)
+
+-- what a stop says of the text
+abbrev pub StopsText : Flags → Text → Stop → Type 0
+StopsText flags text (stops.Syntax kind left) = (depth : ℕ) → IsSpelled flags text depth → ⊥
+StopsText flags text stops.LimitPatternNesting = (depth : ℕ) → IsSpelled flags text depth → 250 < depth
+StopsText flags text stops.Memory = Unit {0}

@@ -1,0 +1,110 @@
+//! Reads a whole bracket.
+
+ghost use Rattle.std.specs.Prelude.{◌≡◌, ◌<◌, ◌≤◌};
+ghost use Rattle.logos_syntax.specs.inside.BracketView.{IsStopOf, ReadsInside, ReadsBracket};
+
+use crate::bracket::stack::{BracketOpening, BracketValue, Frames, MAX_NESTING};
+use logos_pattern_tokens::bracket::reader::{bracket_token_at, open_at};
+use logos_pattern_tokens::error::{Fault, Kind, Stop};
+use logos_pattern_tokens::token::Flags;
+use std::alloc::Global;
+
+/// The number of characters from the brace of an escape on that no brace closes.
+fn left_at_brace(text: &[char]) -> usize {
+    let mut rest = behind_braces(text);
+    while let [_, after @ ..] = rest {
+        if let ['\\', _, '{', ..] = rest {
+            return rest.len().saturating_sub(2);
+        }
+        rest = after;
+    }
+    text.len()
+}
+
+/// What stands behind the last closing brace.
+fn behind_braces(text: &[char]) -> &[char] {
+    match text.iter().rposition(|c| *c == '}') {
+        Some(at) if at < text.len() => &text[at..],
+        _ => text,
+    }
+}
+
+/// The place of a fault at the front of the text.
+pub(crate) fn stop_for(flags: Flags, fault: Fault, rest: &[char]) -> Stop
+    ensures { IsStopOf fault result }
+{
+    match fault {
+        Fault::Memory => Stop::Memory,
+        Fault::Syntax(Kind::Unclosed) => Stop::Syntax {
+            kind: Kind::Unclosed,
+            left: left_at_brace(rest),
+        },
+        Fault::Syntax(kind) => Stop::Syntax {
+            kind: property_kind(flags, kind),
+            left: rest.len(),
+        },
+    }
+}
+
+/// Where bytes are matched, no property is looked at.
+fn property_kind(flags: Flags, kind: Kind) -> Kind {
+    match kind {
+        Kind::UnknownProperty | Kind::PropertyForm if !flags.unicode => Kind::NotInBytes,
+        kind => kind,
+    }
+}
+
+/// Reads what stands behind the opening of a bracket, up to its end.
+fn read_inside(
+    alloc: Global,
+    flags: Flags,
+    base: usize,
+    opening: BracketOpening,
+    text: &[char],
+) -> Result<(BracketValue, &[char]), Stop>
+    requires { base < 250 }
+    ensures { ReadsInside flags base opening.negated opening.lead text.now result }
+{
+    let mut frames = Frames::new(alloc, opening, base + 1)?;
+    let mut rest = text;
+    while !rest.is_empty() {
+        let (token, after) = match bracket_token_at(alloc, rest) {
+            Ok(found) => found,
+            Err(fault) => return Err(stop_for(flags, fault, rest)),
+        };
+        if frames.ends_by(token) {
+            return Ok((frames.finish(alloc, flags)?, after));
+        }
+        if let Err(stop) = frames.step(alloc, flags, base, token, rest.len()) {
+            return Err(stop);
+        }
+        rest = after;
+    }
+    Err(Stop::Syntax {
+        kind: Kind::Unclosed,
+        left: frames.left(),
+    })
+}
+
+/// Reads a bracket from behind its first character, with so many groups around it.
+pub(crate) fn read_bracket(
+    alloc: Global,
+    flags: Flags,
+    base: usize,
+    text: &[char],
+) -> Result<(BracketValue, &[char]), Stop>
+    requires { base ≤ 250 }
+    ensures { ReadsBracket flags base text.now result }
+{
+    if base >= MAX_NESTING {
+        return Err(Stop::LimitPatternNesting);
+    }
+    let (negated, lead, inside) = open_at(text);
+    let left = text.len().saturating_add(1);
+    let opening = BracketOpening {
+        negated,
+        lead,
+        left,
+    };
+    read_inside(alloc, flags, base, opening, inside)
+}

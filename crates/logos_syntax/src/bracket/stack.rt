@@ -1,0 +1,264 @@
+//! Reads a bracket, with the brackets that are open in it on a stack.
+
+ghost use Rattle.std.specs.Prelude.{◌≡◌, ◌+◌, ◌≤◌, ◌<◌, [], IfOk, OnOk, MatchBool, vec_len, length};
+ghost use Rattle.logos_hir.specs.Hir.{pairs};
+ghost use Rattle.logos_hir.specs.Sets.{members};
+
+use crate::bracket::translate::{item_fits, lead_ranges, push_item, push_set, set_or_complement};
+use logos_hir::hir::Range;
+use logos_hir::sets::RangeSet;
+use logos_hir::sets::operands::{Operand, SetOperator, combination, operands_set};
+use logos_pattern_tokens::bracket::token::{BracketToken, Item, Lead};
+use logos_pattern_tokens::error::{Kind, Stop};
+use logos_pattern_tokens::token::Flags;
+use std::alloc::{AllocError, Global};
+use std::mem;
+
+/// How many groups, brackets and repetitions may be around one place.
+pub(crate) const MAX_NESTING: usize = 250;
+
+/// How a bracket opens, and the number of characters from there on.
+#[derive(Clone, Copy)]
+pub(crate) struct BracketOpening {
+    pub negated: bool,
+    pub lead: Lead,
+    pub left: usize,
+}
+
+/// The inside of a bracket so far.
+#[derive(Drop)]
+pub(crate) struct Frame {
+    negated: bool,
+    /// The operands before.
+    before: Vec<Operand>,
+    /// The operator behind them.
+    operator: Option<SetOperator>,
+    /// The operand so far.
+    ranges: Vec<Range>,
+    /// How deep its innermost place is in the whole pattern.
+    inner: usize,
+    /// The number of characters from its opening on.
+    left: usize,
+    ghost shallow: { inner ≤ 250 },
+}
+
+/// The brackets that are open.
+#[derive(Drop)]
+pub(crate) struct Frames {
+    top: Frame,
+    /// The brackets around it, the outermost first.
+    below: Vec<Frame>,
+    ghost shallow: { vec_len below ≤ 250 },
+}
+
+/// The set of a bracket, and how deep its innermost place is in the whole pattern.
+#[derive(Drop)]
+pub(crate) struct BracketValue {
+    pub set: RangeSet,
+    pub depth: usize,
+}
+
+impl Frame {
+    ghost use Rattle.logos_hir.specs.RangeSets.{set_of};
+    ghost use Rattle.logos_syntax.specs.inside.BracketStack.{fresh_frame, value, whole};
+    ghost use Rattle.logos_syntax.specs.inside.BracketView.{frame_view};
+
+    /// A bracket of which nothing is read but its opening.
+    fn new(alloc: Global, opening: BracketOpening, level: usize) -> Result<Frame, AllocError>
+        requires { level ≤ 250 }
+        ensures { IfOk result (λ f. frame_view f ≡ fresh_frame opening.negated opening.lead level) }
+    {
+        Ok(Frame {
+            negated: opening.negated,
+            before: Vec::new(alloc),
+            operator: None,
+            ranges: lead_ranges(alloc, opening.lead)?,
+            inner: level,
+            left: opening.left,
+        })
+    }
+
+    /// All operands so far.
+    fn value(&self, alloc: Global) -> Result<RangeSet, AllocError>
+        ensures { IfOk result (λ set. set_of set ≡ value (frame_view self.now)) }
+    {
+        let here = RangeSet::from_ranges(alloc, &self.ranges)?;
+        match self.operator {
+            None => Ok(here),
+            Some(op) => combination(op, &operands_set(alloc, &self.before)?, &here),
+        }
+    }
+
+    /// The bracket, once it is closed.
+    fn whole(&self, alloc: Global, flags: Flags) -> Result<RangeSet, AllocError>
+        ensures { IfOk result (λ set. set_of set ≡ whole flags (frame_view self.now)) }
+    {
+        set_or_complement(flags, self.negated, self.value(alloc)?)
+    }
+}
+
+impl Frames {
+    ghost use Rattle.std.specs.Prelude.{not, ◌==◌};
+    ghost use Rattle.logos_hir.specs.RangeSets.{set_of};
+    ghost use Rattle.logos_syntax.specs.inside.BracketStack.{fresh_frame, whole};
+    ghost use Rattle.logos_syntax.specs.inside.BracketView.{frame_view, frames_view, BracketSteps};
+
+    /// One bracket that is open.
+    pub(crate) fn new(
+        alloc: Global,
+        opening: BracketOpening,
+        level: usize,
+    ) -> Result<Frames, AllocError>
+        requires { level ≤ 250 }
+        ensures { IfOk result (λ m. frames_view m ≡
+            record { top = fresh_frame opening.negated opening.lead level; below = [] }) }
+    {
+        Ok(Frames {
+            top: Frame::new(alloc, opening, level)?,
+            below: Vec::new(alloc),
+        })
+    }
+
+    /// The token ends the outermost bracket.
+    pub(crate) fn ends_by(&self, token: BracketToken) -> bool
+        ensures { MatchBool result ((token ≡ BracketToken.Close) ×
+            ((frames_view self.now).below ≡ [])) (token ≡
+            BracketToken.Close → (frames_view self.now).below ≡ [] → ⊥) }
+    {
+        match token {
+            BracketToken::Close => self.below.is_empty(),
+            _ => false,
+        }
+    }
+
+    /// The number of characters from the innermost opening on.
+    pub(crate) fn left(&self) -> usize {
+        self.top.left
+    }
+
+    /// The whole bracket, once it is closed.
+    pub(crate) fn finish(&self, alloc: Global, flags: Flags) -> Result<BracketValue, AllocError>
+        ensures { IfOk result (λ found. (set_of found.set ≡
+            whole flags (frames_view self.now).top) ×
+            (found.depth ≡ (frames_view self.now).top.inner) × (found.depth ≤ 250)) }
+    {
+        let set = self.top.whole(alloc, flags)?;
+        Ok(BracketValue {
+            set,
+            depth: self.top.inner,
+        })
+    }
+
+    /// Adds an item to the innermost bracket.
+    fn item(
+        &mut self,
+        alloc: Global,
+        flags: Flags,
+        base: usize,
+        item: Item,
+        left: usize,
+    ) -> Result<(), Stop>
+        ensures { BracketSteps flags base (frames_view self.old) (BracketToken.Item item) result
+            (frames_view self.new) }
+    {
+        if !item_fits(flags, item) {
+            return Err(Stop::Syntax {
+                kind: Kind::NotInBytes,
+                left,
+            });
+        }
+        push_item(alloc, &mut self.top.ranges, flags, item)?;
+        Ok(())
+    }
+
+    /// Opens a bracket in the innermost one.
+    fn open(
+        &mut self,
+        alloc: Global,
+        flags: Flags,
+        base: usize,
+        opening: BracketOpening,
+    ) -> Result<(), Stop>
+        requires { base ≤ 250 }
+        ensures { BracketSteps flags base (frames_view self.old)
+            (BracketToken.Open opening.negated opening.lead) result (frames_view self.new) }
+    {
+        let level = base + self.below.len() + 2;
+        if level > MAX_NESTING {
+            return Err(Stop::LimitPatternNesting);
+        }
+        let inside = Frame::new(alloc, opening, level)?;
+        let outside = mem::replace(&mut self.top, inside);
+        self.below.push(outside)?;
+        Ok(())
+    }
+
+    /// Ends the operand of the innermost bracket.
+    fn operator(
+        &mut self,
+        alloc: Global,
+        flags: Flags,
+        base: usize,
+        op: SetOperator,
+    ) -> Result<(), Stop>
+        ensures { BracketSteps flags base (frames_view self.old) (BracketToken.Operator op) result
+            (frames_view self.new) }
+    {
+        let set = RangeSet::from_ranges(alloc, &self.top.ranges)?;
+        let operator = self.top.operator;
+        self.top.before.push(Operand { operator, set })?;
+        self.top.operator = Some(op);
+        self.top.ranges = Vec::new(alloc);
+        Ok(())
+    }
+
+    /// Closes the innermost bracket, which stands in another one.
+    fn close(&mut self, alloc: Global, flags: Flags, base: usize, left: usize) -> Result<(), Stop>
+        ensures { BracketSteps flags base (frames_view self.old) BracketToken.Close result
+            (frames_view self.new) }
+    {
+        let Some(outside) = self.below.pop() else {
+            return Err(Stop::Syntax {
+                kind: Kind::Unopened,
+                left,
+            });
+        };
+        let inside = mem::replace(&mut self.top, outside);
+        let set = inside.whole(alloc, flags)?;
+        push_set(&mut self.top.ranges, &set)?;
+        self.top.inner = self.top.inner.max(inside.inner);
+        Ok(())
+    }
+
+    /// Takes the next token.
+    pub(crate) fn step(
+        &mut self,
+        alloc: Global,
+        flags: Flags,
+        base: usize,
+        token: BracketToken,
+        left: usize,
+    ) -> Result<(), Stop>
+        requires { base ≤ 250 }
+        ensures { BracketSteps flags base (frames_view self.old) token result
+            (frames_view self.new) }
+    {
+        match token {
+            BracketToken::Item(item) => self.item(alloc, flags, base, item, left),
+            BracketToken::Open(negated, lead) => {
+                self.open(
+                    alloc,
+                    flags,
+                    base,
+                    BracketOpening {
+                        negated,
+                        lead,
+                        left,
+                    },
+                )
+            }
+            BracketToken::Operator(op) => self.operator(alloc, flags, base, op),
+            BracketToken::Close => self.close(alloc, flags, base, left),
+        }
+    }
+}

@@ -1,0 +1,192 @@
+//! The sets that the items of a bracket stand for.
+
+ghost use Rattle.std.specs.Prelude.{◌≡◌, ◌==◌, ◌∷◌, [], IfOk, IfSome, OnOk};
+ghost use Rattle.logos_hir.specs.Hir.{pairs};
+ghost use Rattle.logos_hir.specs.Sets.{only_chars, members, union, in_range};
+ghost use Rattle.logos_pattern_tokens.specs.bracket.Spelling.{code_of};
+ghost use Rattle.logos_hir.specs.RangeSets.{set_of};
+ghost use Rattle.logos_syntax.specs.bracket.Meaning.{last_of, case_closure, set_or_complement, item_test, is_negated, item_set, lead_set, symbol_fits, item_fits};
+ghost use Rattle.logos_hir.specs.Operands.{combination};
+
+use logos_hir::fold::{fold_ascii, fold_case};
+use logos_hir::hir::Range;
+use logos_hir::property::{ascii_set, perl_set, property_set};
+use logos_hir::sets::RangeSet;
+use logos_hir::sets::operands::SetOperator;
+use logos_pattern_tokens::bracket::reader::code_of;
+use logos_pattern_tokens::bracket::token::{Item, Lead, Symbol};
+use logos_pattern_tokens::token::Flags;
+use std::alloc::{AllocError, Global};
+
+/// The last character, or the last byte.
+fn last_of(flags: Flags) -> char
+    ensures { result ≡ last_of flags }
+{
+    if flags.unicode { char::MAX } else { '\u{FF}' }
+}
+
+/// Under `i` the set with all that has the same letters.
+pub(crate) fn case_closure(
+    alloc: Global,
+    flags: Flags,
+    set: RangeSet,
+) -> Result<RangeSet, AllocError>
+    ensures { IfOk result (λ out. set_of out ≡ case_closure flags (set_of set)) }
+{
+    if !flags.ignore_case {
+        return Ok(set);
+    }
+    if flags.unicode {
+        return fold_case(alloc, &set);
+    }
+    fold_ascii(alloc, &set)
+}
+
+/// The set, or its complement.
+pub(crate) fn set_or_complement(
+    flags: Flags,
+    negated: bool,
+    set: RangeSet,
+) -> Result<RangeSet, AllocError>
+    ensures { IfOk result (λ out. set_of out ≡ set_or_complement flags negated (set_of set)) }
+{
+    if negated {
+        return set.complement(last_of(flags));
+    }
+    Ok(set)
+}
+
+/// The numbers of a range.
+fn range_set(alloc: Global, first: u32, last: u32) -> Result<RangeSet, AllocError>
+    ensures { IfOk result (λ set. set_of set ≡ members ((first, last) ∷ [])) }
+{
+    RangeSet::from_ranges(alloc, &[Range { first, last }])
+}
+
+/// Just this number.
+pub(crate) fn number_set(alloc: Global, code: u32) -> Result<RangeSet, AllocError>
+    ensures { IfOk result (λ set. set_of set ≡ only_chars (λ c. c == code)) }
+{
+    range_set(alloc, code, code)
+}
+
+/// The characters from one symbol to the other.
+fn symbols_set(alloc: Global, first: Symbol, last: Symbol) -> Result<RangeSet, AllocError>
+    ensures { IfOk result (λ set. set_of set ≡ only_chars
+        (in_range (code_of first, code_of last))) }
+{
+    range_set(alloc, code_of(first), code_of(last))
+}
+
+/// The set of an item without its negation, before the flags.
+fn item_test(alloc: Global, flags: Flags, item: Item) -> Result<RangeSet, AllocError>
+    ensures { IfOk result (λ set. set_of set ≡ only_chars (item_test flags item)) }
+{
+    match item {
+        Item::One(s) => number_set(alloc, code_of(s)),
+        Item::Range(a, b) => symbols_set(alloc, a, b),
+        Item::Perl(kind, _) => perl_set(alloc, kind, flags.unicode),
+        Item::Property(set, _) => property_set(alloc, set),
+        Item::Ascii(kind, _) => ascii_set(alloc, kind),
+    }
+}
+
+/// Whether the item is negated.
+fn is_negated(item: Item) -> bool
+    ensures { result ≡ is_negated item }
+{
+    match item {
+        Item::One(_) | Item::Range(_, _) => false,
+        Item::Perl(_, negated) | Item::Property(_, negated) | Item::Ascii(_, negated) => negated,
+    }
+}
+
+/// The set of an item.
+fn item_set(alloc: Global, flags: Flags, item: Item) -> Result<RangeSet, AllocError>
+    ensures { IfOk result (λ set. set_of set ≡ item_set flags item) }
+{
+    let test = item_test(alloc, flags, item)?;
+    let same_letters = case_closure(alloc, flags, test)?;
+    set_or_complement(flags, is_negated(item), same_letters)
+}
+
+/// The ends of an item that is a range as it stands.
+fn plain_ends(flags: Flags, item: Item) -> Option<(u32, u32)>
+    ensures { IfSome result (λ ends. item_set flags item ≡ members (ends ∷ [])) }
+{
+    if flags.ignore_case {
+        return None;
+    }
+    match item {
+        Item::One(s) => Some((code_of(s), code_of(s))),
+        Item::Range(a, b) => Some((code_of(a), code_of(b))),
+        _ => None,
+    }
+}
+
+/// Adds the set of an item.
+pub(crate) fn push_item(
+    alloc: Global,
+    ranges: &mut Vec<Range>,
+    flags: Flags,
+    item: Item,
+) -> Result<(), AllocError>
+    ensures { OnOk result (members (pairs ranges.new.items) ≡
+        union (members (pairs ranges.old.items)) (item_set flags item)) }
+{
+    match plain_ends(flags, item) {
+        Some((first, last)) => push_range(ranges, first, last),
+        None => push_set(ranges, &item_set(alloc, flags, item)?),
+    }
+}
+
+/// Adds a range.
+fn push_range(ranges: &mut Vec<Range>, first: u32, last: u32) -> Result<(), AllocError>
+    ensures { OnOk result (members (pairs ranges.new.items) ≡
+        union (members (pairs ranges.old.items)) (members ((first, last) ∷ []))) }
+{
+    ranges.push(Range { first, last })?;
+    Ok(())
+}
+
+/// Adds a set.
+pub(crate) fn push_set(ranges: &mut Vec<Range>, set: &RangeSet) -> Result<(), AllocError>
+    ensures { OnOk result (members (pairs ranges.new.items) ≡
+        union (members (pairs ranges.old.items)) (set_of set.now)) }
+{
+    ranges.extend_from_slice(set.ranges())?;
+    Ok(())
+}
+
+/// The literals at the front of a bracket.
+pub(crate) fn lead_ranges(alloc: Global, lead: Lead) -> Result<Vec<Range>, AllocError>
+    ensures { IfOk result (λ ranges. members (pairs ranges.items) ≡ lead_set lead) }
+{
+    match lead {
+        Lead::Dashes(0) => Ok(Vec::new(alloc)),
+        Lead::Dashes(_) => Vec::from_slice(alloc, &[Range::new(45, 45)]),
+        Lead::Bracket => Vec::from_slice(alloc, &[Range::new(93, 93)]),
+    }
+}
+
+/// Where bytes are matched, a character is ASCII.
+fn symbol_fits(flags: Flags, symbol: Symbol) -> bool
+    ensures { result ≡ symbol_fits flags symbol }
+{
+    match symbol {
+        Symbol::Character(c) => flags.unicode || c.is_ascii(),
+        Symbol::Byte(_) => true,
+    }
+}
+
+/// Where bytes are matched, characters are ASCII, and there are no properties.
+pub(crate) fn item_fits(flags: Flags, item: Item) -> bool
+    ensures { result ≡ item_fits flags item }
+{
+    match item {
+        Item::One(s) => symbol_fits(flags, s),
+        Item::Range(a, b) => symbol_fits(flags, a) && symbol_fits(flags, b),
+        Item::Property(_, _) => flags.unicode,
+        Item::Perl(_, _) | Item::Ascii(_, _) => true,
+    }
+}

@@ -1,0 +1,372 @@
+//! Puts tokens together to a tree, with the groups that are open on a stack.
+
+ghost use Rattle.std.specs.Prelude.{◌≤◌, ◌≡◌, ◌+◌, ◌<◌, length, map, IfOk, OnOk, Some, unwrap_or, vec_len};
+ghost use Rattle.logos_hir.specs.Hir.{tree_of};
+ghost use Rattle.logos_pattern_tokens.specs.Flags.{flags_after};
+ghost use Rattle.logos_pattern_tokens.specs.Token.{opening_view, token_view, closes, opens, repeats, sets, bracketed, atom as token_atom};
+ghost use Rattle.logos_pattern_tokens.specs.bracket.Form.{Bracket};
+ghost use Rattle.logos_hir.specs.RangeSets.{set_of};
+ghost use Rattle.logos_syntax.specs.bracket.Meaning.{bracket_set, bracket_depth};
+ghost use Rattle.logos_syntax.specs.Written.{inner_flags};
+ghost use Rattle.logos_syntax.specs.Grammar.{captures, group_tree, is_greedy};
+
+use crate::bracket::stack::{BracketValue, MAX_NESTING};
+use crate::translate::{atom_fits, atom_tree, one_of};
+use logos_hir::build;
+use logos_hir::hir::Hir;
+use logos_pattern_tokens::error::{Kind, Stop};
+use logos_pattern_tokens::token::{Atom, Change, Flags, Opening, Operator, Token};
+use std::alloc::{AllocError, Global};
+use std::mem;
+
+/// A tree, how deep its innermost place is in the whole pattern, and the number of characters from
+/// its first one on.
+#[derive(Drop)]
+pub(crate) struct Part {
+    tree: Hir,
+    depth: usize,
+    left: usize,
+    ghost shallow: { depth ≤ 250 },
+}
+
+/// The inside of a group so far.
+#[derive(Drop)]
+pub(crate) struct OpenGroup {
+    flags: Flags,
+    /// The group is a capture.
+    captured: bool,
+    branches: Vec<Hir>,
+    parts: Vec<Hir>,
+    /// What an operator would repeat.
+    last: Option<Part>,
+    /// How deep its innermost place is in the whole pattern.
+    inner: usize,
+    /// The number of characters from its opening on.
+    left: usize,
+    ghost shallow: { inner ≤ 250 },
+}
+
+/// The groups that are open.
+#[derive(Drop)]
+pub(crate) struct Groups {
+    top: OpenGroup,
+    /// The groups around it, the outermost first.
+    below: Vec<OpenGroup>,
+    ghost shallow: { vec_len below ≤ 250 },
+}
+
+/// What a flag is behind a setting.
+fn set_or(change: Option<bool>, flag: bool) -> bool
+    ensures { result ≡ unwrap_or change flag }
+{
+    change.unwrap_or(flag)
+}
+
+/// The flags behind a flag setting.
+fn flags_after(change: Change, flags: Flags) -> Flags
+    ensures { result ≡ flags_after change flags }
+{
+    Flags {
+        unicode: set_or(change.unicode, flags.unicode),
+        ignore_case: set_or(change.ignore_case, flags.ignore_case),
+        multi_line: set_or(change.multi_line, flags.multi_line),
+        dot_all: set_or(change.dot_all, flags.dot_all),
+        swap_greed: set_or(change.swap_greed, flags.swap_greed),
+        crlf: set_or(change.crlf, flags.crlf),
+    }
+}
+
+/// The flags inside a group.
+fn inner_flags(opening: Opening<'_>, flags: Flags) -> Flags
+    ensures { result ≡ inner_flags (opening_view opening.entry) flags }
+{
+    match opening {
+        Opening::Capture | Opening::Named(_) => flags,
+        Opening::Plain(change) => flags_after(change, flags),
+    }
+}
+
+/// Whether the group is a capture.
+fn captures(opening: Opening<'_>) -> bool
+    ensures { result ≡ captures (opening_view opening.entry) }
+{
+    match opening {
+        Opening::Capture | Opening::Named(_) => true,
+        Opening::Plain(_) => false,
+    }
+}
+
+/// Whether the operator takes as many as it can.
+fn is_greedy(flags: Flags, op: Operator) -> bool
+    ensures { result ≡ is_greedy flags op }
+{
+    if flags.swap_greed { op.lazy } else { !op.lazy }
+}
+
+/// A group that may be a capture.
+fn group_tree(alloc: Global, captured: bool, tree: Hir) -> Result<Hir, AllocError>
+    ensures { IfOk result (λ hir. tree_of hir ≡ group_tree captured (tree_of tree)) }
+{
+    if captured {
+        return build::capture(alloc, tree);
+    }
+    Ok(tree)
+}
+
+impl OpenGroup {
+    ghost use Rattle.logos_syntax.specs.inside.Groups.{Group, fresh, all_parts, put, set, next_branch, all_branches, whole_tree, repeat};
+    ghost use Rattle.logos_syntax.specs.inside.GroupsView.{part_view, group_view, Repeats};
+
+    /// A group of which nothing is read but its opening.
+    fn new(alloc: Global, flags: Flags, captured: bool, level: usize, left: usize) -> OpenGroup
+        requires { level ≤ 250 }
+        ensures { group_view result ≡ fresh flags captured level }
+    {
+        OpenGroup {
+            flags,
+            captured,
+            branches: Vec::new(alloc),
+            parts: Vec::new(alloc),
+            last: None,
+            inner: level,
+            left,
+        }
+    }
+
+    /// Nothing is left that an operator could repeat.
+    fn settle(&mut self) -> Result<(), AllocError>
+        ensures { OnOk result (group_view self.new ≡ set (group_view self.old) self.old.flags) }
+    {
+        if let Some(part) = self.last.take() {
+            self.parts.push(part.tree)?;
+        }
+        Ok(())
+    }
+
+    /// Adds what an operator could repeat.
+    fn put(&mut self, part: Part) -> Result<(), AllocError>
+        ensures { OnOk result (group_view self.new ≡ put (group_view self.old) (part_view part)) }
+    {
+        self.settle()?;
+        self.inner = self.inner.max(part.depth);
+        self.last = Some(part);
+        Ok(())
+    }
+
+    /// Sets the flags for what follows.
+    fn set(&mut self, flags: Flags) -> Result<(), AllocError>
+        ensures { OnOk result (group_view self.new ≡ set (group_view self.old) flags) }
+    {
+        self.settle()?;
+        self.flags = flags;
+        Ok(())
+    }
+
+    /// Ends a branch.
+    fn next_branch(&mut self) -> Result<(), AllocError>
+        ensures { OnOk result (group_view self.new ≡ next_branch (group_view self.old)) }
+    {
+        self.settle()?;
+        let empty = Vec::new(*self.parts.allocator());
+        let parts = mem::replace(&mut self.parts, empty);
+        self.branches.push(build::concat(parts)?)?;
+        Ok(())
+    }
+
+    /// The whole group, once it is closed.
+    fn finish(mut self, alloc: Global) -> Result<Hir, AllocError>
+        ensures { IfOk result (λ hir. tree_of hir ≡ whole_tree (group_view self)) }
+    {
+        self.next_branch()?;
+        let captured = self.captured;
+        group_tree(alloc, captured, build::alternation(self.branches)?)
+    }
+
+    /// Repeats what stands last.
+    fn repeat(&mut self, alloc: Global, op: Operator, left: usize) -> Result<(), Stop>
+        ensures { Repeats result (repeat (group_view self.old) op (group_view self.old).last)
+            (group_view self.new) }
+    {
+        let Some(part) = self.last.take() else {
+            return Err(Stop::Syntax {
+                kind: Kind::NothingToRepeat,
+                left,
+            });
+        };
+        if part.depth >= MAX_NESTING {
+            return Err(Stop::LimitPatternNesting);
+        }
+        let depth = part.depth + 1;
+        let left = part.left;
+        let greedy = is_greedy(self.flags, op);
+        let tree = build::repetition(alloc, op.least, op.most, greedy, part.tree)?;
+        self.inner = self.inner.max(depth);
+        self.last = Some(Part { tree, depth, left });
+        Ok(())
+    }
+}
+
+impl Groups {
+    ghost use Rattle.std.specs.Prelude.{[]};
+    ghost use Rattle.logos_syntax.specs.inside.Groups.{State, start, whole_tree, step};
+    ghost use Rattle.logos_syntax.specs.inside.GroupsView.{state_view, Steps, Ends};
+
+    /// The whole pattern as a group that nothing is read of.
+    pub(crate) fn new(alloc: Global, flags: Flags, left: usize) -> Groups
+        ensures { state_view result ≡ start flags }
+    {
+        Groups {
+            top: OpenGroup::new(alloc, flags, false, 0, left),
+            below: Vec::new(alloc),
+        }
+    }
+
+    /// The flags that hold here.
+    pub(crate) fn flags(&self) -> Flags
+        ensures { result ≡ (state_view self.now).top.flags }
+    {
+        self.top.flags
+    }
+
+    /// How many groups are open.
+    pub(crate) fn depth(&self) -> usize
+        ensures depth { result ≡ length (state_view self.now).below }
+        ensures shallow { result ≤ 250 }
+    {
+        self.below.len()
+    }
+
+    /// The number of characters from the innermost opening on.
+    pub(crate) fn opening(&self) -> usize {
+        self.top.left
+    }
+
+    /// The number of characters from the first one on of what an operator would repeat.
+    pub(crate) fn repeated(&self) -> Option<usize> {
+        match &self.top.last {
+            Some(part) => Some(part.left),
+            None => None,
+        }
+    }
+
+    /// Adds an atom.
+    fn atom(&mut self, alloc: Global, atom: Atom, left: usize) -> Result<(), Stop>
+        ensures { Steps (state_view self.old) (token_atom atom) result (state_view self.new) }
+    {
+        let flags = self.top.flags;
+        if !atom_fits(flags, atom) {
+            return Err(Stop::Syntax {
+                kind: unfit_kind(atom),
+                left,
+            });
+        }
+        let tree = atom_tree(alloc, flags, atom)?;
+        let depth = self.below.len();
+        self.top.put(Part { tree, depth, left })?;
+        Ok(())
+    }
+
+    /// Puts the set of a bracket.
+    pub(crate) fn class(
+        &mut self,
+        alloc: Global,
+        found: BracketValue,
+        left: usize,
+    ) -> Result<(), AllocError>
+        requires { found.depth ≤ 250 }
+        ensures { (b : Bracket) → set_of found.set ≡
+            bracket_set (state_view self.old).top.flags b → found.depth ≡
+            length (state_view self.old).below + bracket_depth b
+            → OnOk result (step (state_view self.old) (bracketed b) ≡ Some (state_view self.new)) }
+    {
+        let BracketValue { set, depth } = found;
+        let tree = one_of(alloc, self.top.flags, set)?;
+        self.top.put(Part { tree, depth, left })?;
+        Ok(())
+    }
+
+    /// Opens a group.
+    fn open(&mut self, alloc: Global, opening: Opening<'_>, left: usize) -> Result<(), Stop>
+        ensures { Steps (state_view self.old) (opens (opening_view opening.entry)) result
+            (state_view self.new) }
+    {
+        if self.below.len() >= MAX_NESTING {
+            return Err(Stop::LimitPatternNesting);
+        }
+        let flags = inner_flags(opening, self.top.flags);
+        let level = self.below.len() + 1;
+        let inside = OpenGroup::new(alloc, flags, captures(opening), level, left);
+        let outside = mem::replace(&mut self.top, inside);
+        self.below.push(outside)?;
+        Ok(())
+    }
+
+    /// Closes the innermost group.
+    fn close(&mut self, alloc: Global, left: usize) -> Result<(), Stop>
+        ensures { Steps (state_view self.old) closes result (state_view self.new) }
+    {
+        let Some(outside) = self.below.pop() else {
+            return Err(Stop::Syntax {
+                kind: Kind::Unopened,
+                left,
+            });
+        };
+        let inside = mem::replace(&mut self.top, outside);
+        let depth = inside.inner;
+        let left = inside.left;
+        let tree = inside.finish(alloc)?;
+        self.top.put(Part { tree, depth, left })?;
+        Ok(())
+    }
+
+    /// Sets flags in the innermost group.
+    fn setting(&mut self, change: Change) -> Result<(), Stop>
+        ensures { Steps (state_view self.old) (sets change) result (state_view self.new) }
+    {
+        let flags = flags_after(change, self.top.flags);
+        Ok(self.top.set(flags)?)
+    }
+
+    /// Repeats what stands last in the innermost group.
+    fn repeat(&mut self, alloc: Global, op: Operator, left: usize) -> Result<(), Stop>
+        ensures { Steps (state_view self.old) (repeats op) result (state_view self.new) }
+    {
+        self.top.repeat(alloc, op, left)
+    }
+
+    /// Takes the next token.
+    pub(crate) fn step(&mut self, alloc: Global, token: Token<'_>, left: usize) -> Result<(), Stop>
+        ensures { Steps (state_view self.old) (token_view token.entry) result
+            (state_view self.new) }
+    {
+        match token {
+            Token::Atom(atom) => self.atom(alloc, atom, left),
+            Token::Bar => Ok(self.top.next_branch()?),
+            Token::Open(opening) => self.open(alloc, opening, left),
+            Token::Close => self.close(alloc, left),
+            Token::Setting(change) => self.setting(change),
+            Token::Repeat(op) => self.repeat(alloc, op, left),
+        }
+    }
+
+    /// The whole pattern, if no group is open.
+    pub(crate) fn finish(self, alloc: Global) -> Result<Hir, Stop>
+        ensures { Ends result (state_view self) }
+    {
+        if !self.below.is_empty() {
+            return Err(Stop::Syntax {
+                kind: Kind::Unclosed,
+                left: self.top.left,
+            });
+        }
+        Ok(self.top.finish(alloc)?)
+    }
+}
+
+/// What is wrong with an atom that may not stand where it stands.
+fn unfit_kind(atom: Atom) -> Kind {
+    match atom {
+        Atom::Boundary(_) => Kind::UnicodeWordBoundary,
+        _ => Kind::NotInBytes,
+    }
+}

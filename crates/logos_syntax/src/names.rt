@@ -1,0 +1,52 @@
+//! The names of groups, of which no two are equal.
+
+ghost use Rattle.std.specs.Prelude.{◌≡◌, ◌∷◌, [], List, not, bytes_eq, IfOk};
+ghost use Rattle.std.specs.List.{list_any};
+ghost use Rattle.logos_pattern_tokens.specs.Token.{Text, token_view};
+
+use logos_pattern_tokens::token::{Opening, Token};
+use std::alloc::{AllocError, Global};
+use std::collections::BTreeSet;
+
+/// The names that stand in a pattern so far.
+#[derive(Drop)]
+pub(crate) struct Names {
+    seen: BTreeSet<Vec<char>>,
+}
+
+impl Names {
+    ghost use Rattle.logos_syntax.specs.inside.Names.{HasNames, Admits};
+
+    /// No names.
+    pub(crate) fn new(alloc: Global) -> Names
+        ensures { HasNames result [] }
+    {
+        Names {
+            seen: BTreeSet::new(alloc),
+        }
+    }
+
+    /// Adds a name, and says whether it is a new one.
+    fn add(&mut self, alloc: Global, name: &[char]) -> Result<bool, AllocError>
+        ensures { (seen : List Text) → HasNames self.old seen →
+            IfOk result (λ added. (added ≡ not (list_any (bytes_eq name.now) seen)) ×
+            HasNames self.new (name.now ∷ seen)) }
+    {
+        let key = Vec::from_slice(alloc, name)?;
+        Ok(self.seen.insert(key)?)
+    }
+
+    /// Adds the name of a group, if it has one, and says whether it is a new one.
+    pub(crate) fn admit(&mut self, alloc: Global, token: Token<'_>) -> Result<bool, AllocError>
+        ensures { (seen : List Text) → HasNames self.old seen →
+            IfOk result (λ admitted. Admits seen (token_view token.entry) admitted self.new) }
+    {
+        match token {
+            Token::Open(Opening::Named(name)) => {
+                let added = self.add(alloc, name)?;
+                Ok(added)
+            }
+            _ => Ok(true),
+        }
+    }
+}

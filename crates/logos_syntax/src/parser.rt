@@ -1,0 +1,205 @@
+//! Reads a whole pattern.
+
+ghost use Rattle.std.specs.Prelude.{◌≡◌, ℕ, List, ◌∷◌, [], chars, IfOk, IfErr, MatchResult};
+ghost use Rattle.logos_pattern_tokens.specs.declared.token.Flags.{Flags as FlagsValue};
+ghost use Rattle.logos_pattern_tokens.specs.declared.error.Fault.TheVariants as faults;
+ghost use Rattle.logos_pattern_tokens.specs.Token.{Text};
+ghost use Rattle.logos_hir.specs.Tree.{Tree};
+ghost use Rattle.logos_hir.specs.Hir.{tree_of};
+ghost use Rattle.logos_syntax.specs.Grammar.{Spells, IsFound, Refuses};
+ghost use Rattle.logos_syntax.specs.inside.Reading.{StopsText};
+
+use crate::bracket::parser::{read_bracket, stop_for};
+use crate::groups::Groups;
+use crate::names::Names;
+use logos_hir::hir::Hir;
+use logos_pattern_tokens::error::{Fault, Kind, PatternError, Stop};
+use logos_pattern_tokens::reader::token_at;
+use logos_pattern_tokens::token::Flags;
+use std::alloc::{AllocError, Global};
+
+/// A pattern that is being read.
+#[derive(Drop)]
+pub(crate) struct Parser {
+    groups: Groups,
+    names: Names,
+}
+
+impl Parser {
+    ghost use Rattle.logos_syntax.specs.inside.Names.{HasNames};
+    ghost use Rattle.logos_syntax.specs.inside.GroupsView.{state_view};
+    ghost use Rattle.logos_syntax.specs.inside.BracketView.{IsStopOf};
+    ghost use Rattle.logos_syntax.specs.inside.Groups.{start};
+    ghost use Rattle.logos_syntax.specs.inside.Reading.{ReadsToken, ReadsSimple};
+
+    /// A parser at the front of a text of so many characters.
+    fn new(alloc: Global, flags: Flags, left: usize) -> Parser
+        ensures groups { state_view result.groups ≡ start flags }
+        ensures names { HasNames result.names [] }
+    {
+        Parser {
+            groups: Groups::new(alloc, flags, left),
+            names: Names::new(alloc),
+        }
+    }
+
+    /// The place of a fault at the front of the text.
+    fn stop(&self, fault: Fault, text: &[char]) -> Stop
+        ensures { IsStopOf fault result }
+    {
+        match (fault, text) {
+            (Fault::Syntax(kind), ['(', ..]) => Stop::Syntax {
+                kind: group_kind(kind, text),
+                left: text.len(),
+            },
+            (Fault::Syntax(kind), ['{', ..]) => self.count_stop(kind, text.len()),
+            (fault, _) => stop_for(self.groups.flags(), fault, text),
+        }
+    }
+
+    /// The place of a fault of counts: that of what they would repeat.
+    fn count_stop(&self, kind: Kind, left: usize) -> Stop
+        ensures { IsStopOf (faults.Syntax kind) result }
+    {
+        match (kind, self.groups.repeated()) {
+            (_, None) => Stop::Syntax {
+                kind: Kind::NothingToRepeat,
+                left,
+            },
+            (Kind::Unclosed, _) => Stop::Syntax { kind, left },
+            (_, Some(left)) => Stop::Syntax { kind, left },
+        }
+    }
+
+    /// Reads a bracket from behind its first character.
+    fn bracket<'t>(&mut self, alloc: Global, inside: &'t [char]) -> Result<&'t [char], Stop>
+        ensures { (seen : List Text) → HasNames self.old.names seen →
+            ReadsToken (state_view self.old.groups) seen (91 ∷ inside.now) result
+            (state_view self.new.groups) self.new.names }
+    {
+        let left = inside.len().saturating_add(1);
+        let flags = self.groups.flags();
+        let (found, rest) = match read_bracket(alloc, flags, self.groups.depth(), inside) {
+            Ok(found) => found,
+            Err(stop) => return Err(stop),
+        };
+        self.groups.class(alloc, found, left)?;
+        Ok(rest)
+    }
+
+    /// Reads a token that is no bracket.
+    fn simple<'t>(&mut self, alloc: Global, text: &'t [char]) -> Result<&'t [char], Stop>
+        ensures { (seen : List Text) → HasNames self.old.names seen →
+            ReadsSimple (state_view self.old.groups) seen text.now result
+            (state_view self.new.groups) self.new.names }
+    {
+        let (token, rest) = match token_at(alloc, text) {
+            Ok(found) => found,
+            Err(fault) => return Err(self.stop(fault, text)),
+        };
+        if !self.names.admit(alloc, token)? {
+            return Err(Stop::Syntax {
+                kind: Kind::GroupSyntax,
+                left: text.len(),
+            });
+        }
+        if let Err(stop) = self.groups.step(alloc, token, text.len()) {
+            return Err(stop);
+        }
+        Ok(rest)
+    }
+
+    /// Reads the token at the front.
+    fn token<'t>(&mut self, alloc: Global, text: &'t [char]) -> Result<&'t [char], Stop>
+        ensures { (seen : List Text) → HasNames self.old.names seen →
+            ReadsToken (state_view self.old.groups) seen text.now result
+            (state_view self.new.groups) self.new.names }
+    {
+        let [c, inside @ ..] = text else {
+            return self.simple(alloc, text);
+        };
+        if *c == '[' {
+            return self.bracket(alloc, inside);
+        }
+        self.simple(alloc, text)
+    }
+}
+
+/// What is wrong with the opening of a group.
+fn group_kind(kind: Kind, text: &[char]) -> Kind {
+    match text {
+        ['(', '?', '=' | '!', ..] => Kind::GroupSyntax,
+        _ => kind,
+    }
+}
+
+/// Reads the whole text.
+fn run(alloc: Global, flags: Flags, text: &[char]) -> Result<Hir, Stop>
+    ensures found { IfOk result (λ hir. IsFound flags text.now (tree_of hir)) }
+    ensures stopped { IfErr result (StopsText flags text.now) }
+{
+    let mut parser = Parser::new(alloc, flags, text.len());
+    let mut rest = text;
+    while !rest.is_empty() {
+        rest = match parser.token(alloc, rest) {
+            Ok(after) => after,
+            Err(stop) => return Err(stop),
+        };
+    }
+    parser.groups.finish(alloc)
+}
+
+/// The number of bytes of the characters.
+fn byte_len(text: &[char]) -> usize {
+    let mut len: usize = 0;
+    for c in text {
+        len = len.saturating_add(c.len_utf8());
+    }
+    len
+}
+
+/// The error of a stop, by the place where it is.
+fn error_at(text: &[char], stop: Stop) -> PatternError
+    ensures { (flags : FlagsValue) (t : Text) → StopsText flags t stop → Refuses flags t result }
+{
+    match stop {
+        Stop::Syntax { kind, left } => {
+            let before = text.len().saturating_sub(left);
+            PatternError::Syntax {
+                kind,
+                at: byte_len(&text[..before]),
+            }
+        }
+        Stop::LimitPatternNesting => PatternError::LimitPatternNesting,
+        Stop::Memory => PatternError::Memory,
+    }
+}
+
+/// The characters of a text.
+fn characters(alloc: Global, regex: &str) -> Result<Vec<char>, AllocError>
+    ensures { IfOk result (λ v. v.items ≡ chars regex.now) }
+{
+    regex.chars().collect(alloc)
+}
+
+/// Reads a pattern under the flags that hold at its beginning.
+///
+/// What the grammar does not allow is `Syntax`, with the byte offset of the place in the text.
+/// Where groups, brackets and operators nest more than 250 deep, the answer is
+/// `LimitPatternNesting`, and where memory runs out it is `Memory`.
+pub fn parse(alloc: Global, flags: Flags, regex: &str) -> Result<Hir, PatternError>
+    ensures found { IfOk result (λ hir. IsFound flags (chars regex.now) (tree_of hir)) }
+    ensures refused { IfErr result (Refuses flags (chars regex.now)) }
+{
+    let text = characters(alloc, regex)?;
+    match run(alloc, flags, &text) {
+        Ok(hir) => Ok(hir),
+        Err(stop) => Err(error_at(&text, stop)),
+    }
+}
+
+/// A text has at most one tree.
+pub fn one_tree()
+    ensures { (flags : FlagsValue) (text : Text) (a b : Tree) (m n : ℕ) → Spells flags text a m →
+        Spells flags text b n → (a ≡ b) × (m ≡ n) }
+{}

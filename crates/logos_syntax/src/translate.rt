@@ -1,0 +1,162 @@
+//! The trees of what can be repeated and has no parts.
+
+ghost use Rattle.std.specs.Prelude.{◌≡◌, ◌==◌, IfOk, encode_utf8, if◌then◌else◌};
+ghost use Rattle.logos_hir.specs.Tree.{literal};
+ghost use Rattle.logos_hir.specs.Hir.{tree_of};
+ghost use Rattle.logos_hir.specs.Sets.{only_chars};
+ghost use Rattle.logos_hir.specs.RangeSets.{set_of};
+ghost use Rattle.logos_syntax.specs.bracket.Meaning.{set_or_complement, case_closure};
+ghost use Rattle.logos_syntax.specs.Grammar.{one_of, same_as, character_tree, byte_tree, dot_set, start_look, end_look, atom_tree, atom_fits};
+
+use crate::bracket::translate::{case_closure, number_set, set_or_complement};
+use logos_hir::build;
+use logos_hir::hir::{Hir, Look, Range};
+use logos_hir::property::{perl_set, property_set};
+use logos_hir::sets::RangeSet;
+use logos_pattern_tokens::token::{Atom, Flags};
+use std::alloc::{AllocError, Global};
+
+/// One character, or one byte, of the set.
+pub(crate) fn one_of(alloc: Global, flags: Flags, set: RangeSet) -> Result<Hir, AllocError>
+    ensures { IfOk result (λ hir. tree_of hir ≡ one_of flags (set_of set)) }
+{
+    if flags.unicode {
+        return build::char_class(alloc, set);
+    }
+    build::byte_class(alloc, set)
+}
+
+/// The number, and under `i` what has the same letter.
+fn same_as(alloc: Global, flags: Flags, code: u32) -> Result<RangeSet, AllocError>
+    ensures { IfOk result (λ set. set_of set ≡ same_as flags code) }
+{
+    let only = number_set(alloc, code)?;
+    case_closure(alloc, flags, only)
+}
+
+/// The bytes of a character.
+fn encoding(alloc: Global, c: char) -> Result<Hir, AllocError>
+    ensures { IfOk result (λ hir. tree_of hir ≡ literal (encode_utf8 c)) }
+{
+    let mut buffer = [0; 4];
+    let bytes = c.encode_utf8(&mut buffer).as_bytes();
+    Ok(Hir::Literal(Vec::from_slice(alloc, bytes)?))
+}
+
+/// A character by itself, under `i` in each case.
+fn character(alloc: Global, flags: Flags, c: char) -> Result<Hir, AllocError>
+    ensures { IfOk result (λ hir. tree_of hir ≡ character_tree flags c) }
+{
+    if flags.ignore_case && (flags.unicode || c.is_ascii()) {
+        return one_of(alloc, flags, same_as(alloc, flags, c as u32)?);
+    }
+    encoding(alloc, c)
+}
+
+/// A byte, or the character with its number.
+fn byte(alloc: Global, flags: Flags, b: u8) -> Result<Hir, AllocError>
+    ensures { IfOk result (λ hir. tree_of hir ≡ byte_tree flags b) }
+{
+    if flags.unicode {
+        return character(alloc, flags, b as char);
+    }
+    if flags.ignore_case {
+        return build::byte_class(alloc, same_as(alloc, flags, b as u32)?);
+    }
+    Ok(Hir::Literal(Vec::from_slice(alloc, &[b])?))
+}
+
+/// All but line ends, under `s` all.
+fn dot_set(alloc: Global, flags: Flags) -> Result<RangeSet, AllocError>
+    ensures { IfOk result (λ set. set_of set ≡ dot_set flags) }
+{
+    let last = 0x10_FFFF;
+    if flags.dot_all {
+        return RangeSet::from_ranges(alloc, &[Range::new(0, last)]);
+    }
+    if flags.crlf {
+        let ends = [Range::new(0, 9), Range::new(11, 12), Range::new(14, last)];
+        return RangeSet::from_ranges(alloc, &ends);
+    }
+    RangeSet::from_ranges(alloc, &[Range::new(0, 9), Range::new(11, last)])
+}
+
+/// What `^` asks for.
+fn start_look(flags: Flags) -> Look
+    ensures { result ≡ start_look flags }
+{
+    match (flags.multi_line, flags.crlf) {
+        (false, _) => Look::Start,
+        (true, false) => Look::StartLF,
+        (true, true) => Look::StartCRLF,
+    }
+}
+
+/// What `$` asks for.
+fn end_look(flags: Flags) -> Look
+    ensures { result ≡ end_look flags }
+{
+    match (flags.multi_line, flags.crlf) {
+        (false, _) => Look::End,
+        (true, false) => Look::EndLF,
+        (true, true) => Look::EndCRLF,
+    }
+}
+
+/// A word boundary, or a place that is none.
+fn boundary(negated: bool) -> Look
+    ensures { result ≡ (if negated then Look.WordAsciiNegate else Look.WordAscii) }
+{
+    if negated {
+        Look::WordAsciiNegate
+    } else {
+        Look::WordAscii
+    }
+}
+
+/// One of a class, or of its complement.
+fn class(alloc: Global, flags: Flags, negated: bool, set: RangeSet) -> Result<Hir, AllocError>
+    ensures { IfOk result (λ hir. tree_of hir ≡
+        one_of flags (set_or_complement flags negated (case_closure flags (set_of set)))) }
+{
+    let same_letters = case_closure(alloc, flags, set)?;
+    one_of(
+        alloc,
+        flags,
+        set_or_complement(flags, negated, same_letters)?,
+    )
+}
+
+/// The tree of an atom.
+pub(crate) fn atom_tree(alloc: Global, flags: Flags, atom: Atom) -> Result<Hir, AllocError>
+    ensures { IfOk result (λ hir. tree_of hir ≡ atom_tree flags atom) }
+{
+    match atom {
+        Atom::Character(c) => character(alloc, flags, c),
+        Atom::Byte(b) => byte(alloc, flags, b),
+        Atom::Dot => one_of(alloc, flags, dot_set(alloc, flags)?),
+        Atom::Caret => Ok(build::look(start_look(flags))),
+        Atom::Dollar => Ok(build::look(end_look(flags))),
+        Atom::TextStart => Ok(build::look(Look::Start)),
+        Atom::TextEnd => Ok(build::look(Look::End)),
+        Atom::Boundary(negated) => Ok(build::look(boundary(negated))),
+        Atom::Perl(kind, negated) => class(
+            alloc,
+            flags,
+            negated,
+            perl_set(alloc, kind, flags.unicode)?,
+        ),
+        Atom::Property(set, negated) => class(alloc, flags, negated, property_set(alloc, set)?),
+    }
+}
+
+/// Word boundaries stand where bytes are matched, properties where characters are.
+pub(crate) fn atom_fits(flags: Flags, atom: Atom) -> bool
+    ensures { result ≡ atom_fits flags atom }
+{
+    match atom {
+        Atom::Boundary(_) => !flags.unicode,
+        Atom::Property(_, _) => flags.unicode,
+        _ => true,
+    }
+}
