@@ -6,6 +6,7 @@
 pub mod build;
 pub mod fold;
 pub mod hir;
+pub mod laws;
 pub mod leaf;
 pub mod measure;
 pub mod property;

@@ -1,11 +1,10 @@
 -- Operands of a bracket: what they make of each character.
-use Rattle.std.proofs.Common.{◌≡◌, ℕ, Bool, true, false, cond, not, ◌&&◌, ◌||◌, List, [], ◌∷◌, ◌++◌, Option, Some, None, option_map, Result, Ok, Err, IfOk, refl, sym, ap, ap₂, ◌∙◌}
+use Rattle.std.proofs.Common.{◌≡◌, ℕ, Bool, true, false, cond, not, ◌&&◌, ◌||◌, List, [], ◌∷◌, ◌++◌, Option, Some, None, Result, Ok, Err, IfOk, refl, sym, ap, ap₂, ◌∙◌}
 use Rattle.std.proofs.lemmas.Bool.{le-leb}
 use Rattle.std.proofs.Math.Path.{fun_ext}
 use lib.Utf8.{scalar}
 use Rattle.logos_hir.specs.declared.sets.operands.SetOperator.{SetOperator}
 use Rattle.logos_hir.specs.declared.sets.operands.SetOperator.TheVariants.{Intersection, Difference, SymmetricDifference}
-use Rattle.logos_hir.specs.declared.sets.RangeSet.{RangeSet}
 use Rattle.logos_hir.specs.declared.sets.operands.Effect.{Effect}
 use Rattle.logos_hir.specs.declared.sets.operands.Operand.{Operand}
 use Rattle.logos_hir.specs.Hir.{pairs}
