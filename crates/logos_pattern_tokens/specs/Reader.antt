@@ -1,5 +1,5 @@
 -- Whole tokens outside brackets, read from the front.
-use Rattle.std.specs.Prelude.{ℕ, ◌==◌, [], ◌∷◌, Option, Some, None, option_map, if◌then◌else◌}
+use Rattle.std.specs.Prelude.{◌==◌, [], ◌∷◌, Option, Some, None, option_map, if◌then◌else◌}
 use Rattle.logos_pattern_tokens.specs.declared.token.Atom.TheVariants.{Character, Dot, Caret, Dollar}
 use Rattle.logos_pattern_tokens.specs.Token.{Text, Token, atom, bar, closes, lazy_at, count_at}
 use Rattle.logos_pattern_tokens.specs.Escapes.{escape_at}

@@ -1,3 +1,4 @@
 pub mod Levels
 pub mod Texts
 pub mod Answered
+pub mod OperandLemmas
