@@ -12,7 +12,7 @@ bench=$(cd "$(dirname "${BASH_SOURCE[0]}")" && pwd)
 copy=$(mktemp -d)
 trap 'rm -rf "$copy"' EXIT
 tar -C "$bench/.." --exclude=out -cf - crates crates.txt HANDLES | tar -C "$copy" -xf -
-for name in logos_token logos_pattern; do
+for name in logos_token logos_hir logos_pattern_tokens logos_syntax logos_pattern; do
     if [ -d "$bench/../crates/$name/out" ]; then
         cp -R "$bench/../crates/$name/out" "$copy/crates/$name/out"
     fi
