@@ -5,14 +5,13 @@ use Rattle.logos_pattern_tokens.specs.declared.bracket.token.Symbol.{Symbol}
 use Rattle.logos_pattern_tokens.specs.declared.bracket.token.Symbol.TheVariants.{Character, Byte}
 use Rattle.logos_pattern_tokens.specs.declared.bracket.token.Item.{Item}
 use Rattle.logos_pattern_tokens.specs.declared.bracket.token.Item.TheVariants as items
-use Rattle.logos_hir.specs.declared.sets.operands.SetOperator.{SetOperator}
-use Rattle.logos_hir.specs.declared.sets.operands.SetOperator.TheVariants.{Intersection, Difference, SymmetricDifference}
 use Rattle.logos_pattern_tokens.specs.declared.bracket.token.Lead.{Lead}
 use Rattle.logos_pattern_tokens.specs.declared.bracket.token.Lead.TheVariants.{Dashes, Bracket as LoneBracket}
 use Rattle.logos_pattern_tokens.specs.declared.bracket.token.BracketToken.{BracketToken}
 use Rattle.logos_pattern_tokens.specs.declared.bracket.token.BracketToken.TheVariants as tokens
 use Rattle.unicode.specs.Sets.{in_set}
-use Rattle.logos_hir.specs.Sets.{Set, only_chars, union, intersection, difference, symmetric_difference, complement, in_range}
+use Rattle.logos_hir.specs.Sets.{Set, only_chars, union, complement, in_range}
+use Rattle.logos_hir.specs.Operands.{combination}
 use Rattle.logos_hir.specs.Property.{ascii_set, perl_set}
 use Rattle.logos_hir.specs.Fold.{fold_case, fold_ascii}
 use Rattle.logos_pattern_tokens.specs.bracket.Form.{Bracket, bracket, Operands, lone, joined, Members, nobody, member, nested}
