@@ -140,7 +140,8 @@ pub fn repetition(
 
 /// Adds bytes behind a part, which comes first; a literal takes them in.
 fn push_behind(parts: &mut Vec<Hir>, last: Hir, bytes: Vec<u8>) -> Result<(), AllocError>
-    ensures { OnOk result (map tree_of parts.new.items ≡ map tree_of parts.old.items ++ part_text (tree_of last) bytes.items) }
+    ensures { OnOk result (map tree_of parts.new.items ≡
+        map tree_of parts.old.items ++ part_text (tree_of last) bytes.items) }
 {
     match last {
         Hir::Literal(mut before) => {
@@ -156,7 +157,8 @@ fn push_behind(parts: &mut Vec<Hir>, last: Hir, bytes: Vec<u8>) -> Result<(), Al
 
 /// Adds bytes behind all parts.
 fn push_literal(parts: &mut Vec<Hir>, bytes: Vec<u8>) -> Result<(), AllocError>
-    ensures { OnOk result (map tree_of parts.new.items ≡ add_text (map tree_of parts.old.items) bytes.items) }
+    ensures { OnOk result (map tree_of parts.new.items ≡
+        add_text (map tree_of parts.old.items) bytes.items) }
 {
     match parts.pop() {
         Some(last) => push_behind(parts, last, bytes),
@@ -166,7 +168,8 @@ fn push_literal(parts: &mut Vec<Hir>, bytes: Vec<u8>) -> Result<(), AllocError>
 
 /// Adds a part behind the others.
 fn push_part(parts: &mut Vec<Hir>, part: Hir) -> Result<(), AllocError>
-    ensures { OnOk result (map tree_of parts.new.items ≡ add_part (map tree_of parts.old.items) (tree_of part)) }
+    ensures { OnOk result (map tree_of parts.new.items ≡
+        add_part (map tree_of parts.old.items) (tree_of part)) }
 {
     match part {
         Hir::Literal(bytes) => push_literal(parts, bytes),
@@ -176,7 +179,8 @@ fn push_part(parts: &mut Vec<Hir>, part: Hir) -> Result<(), AllocError>
 
 /// Adds parts one by one behind the others.
 fn push_parts(parts: &mut Vec<Hir>, inner: Vec<Hir>) -> Result<(), AllocError>
-    ensures { OnOk result (map tree_of parts.new.items ≡ add_parts (map tree_of parts.old.items) (map tree_of inner.items)) }
+    ensures { OnOk result (map tree_of parts.new.items ≡
+        add_parts (map tree_of parts.old.items) (map tree_of inner.items)) }
 {
     for part in inner {
         push_part(parts, part)?;
@@ -208,7 +212,8 @@ fn are_apart(parts: &[Hir]) -> bool
 
 /// Adds parts behind the others. The first ones are taken over as they are, if none of them join.
 fn push_all(parts: &mut Vec<Hir>, inner: Vec<Hir>) -> Result<(), AllocError>
-    ensures { OnOk result (map tree_of parts.new.items ≡ add_parts (map tree_of parts.old.items) (map tree_of inner.items)) }
+    ensures { OnOk result (map tree_of parts.new.items ≡
+        add_parts (map tree_of parts.old.items) (map tree_of inner.items)) }
 {
     if parts.is_empty() && are_apart(&inner) {
         *parts = inner;
@@ -219,7 +224,8 @@ fn push_all(parts: &mut Vec<Hir>, inner: Vec<Hir>) -> Result<(), AllocError>
 
 /// Adds the parts that a tree brings into a concatenation.
 fn push_flat(parts: &mut Vec<Hir>, part: Hir) -> Result<(), AllocError>
-    ensures { OnOk result (map tree_of parts.new.items ≡ add_parts (map tree_of parts.old.items) (parts_of (tree_of part))) }
+    ensures { OnOk result (map tree_of parts.new.items ≡
+        add_parts (map tree_of parts.old.items) (parts_of (tree_of part))) }
 {
     match part {
         Hir::Empty => Ok(()),
@@ -269,7 +275,8 @@ fn characters(alloc: Global, text: &str) -> Result<Vec<char>, AllocError>
 
 /// Adds the ranges of a class of characters, or of a literal of one character.
 fn push_char_ranges(out: &mut Vec<Range>, branch: &Hir) -> Result<bool, AllocError>
-    ensures { IfOk result (λ done. IsAdded (char_ranges_of (tree_of branch.now)) done (pairs out.old.items) (pairs out.new.items)) }
+    ensures { IfOk result (λ done. IsAdded (char_ranges_of (tree_of branch.now)) done
+        (pairs out.old.items) (pairs out.new.items)) }
 {
     match branch {
         Hir::Class(Class::Characters(ranges)) => {
@@ -289,7 +296,8 @@ fn push_char_ranges(out: &mut Vec<Range>, branch: &Hir) -> Result<bool, AllocErr
 
 /// Adds the ranges of a class of bytes, or of a literal of one byte.
 fn push_byte_ranges(out: &mut Vec<Range>, branch: &Hir) -> Result<bool, AllocError>
-    ensures { IfOk result (λ done. IsAdded (byte_ranges_of (tree_of branch.now)) done (pairs out.old.items) (pairs out.new.items)) }
+    ensures { IfOk result (λ done. IsAdded (byte_ranges_of (tree_of branch.now)) done
+        (pairs out.old.items) (pairs out.new.items)) }
 {
     match branch {
         Hir::Class(Class::Bytes(ranges)) => {
@@ -309,7 +317,8 @@ fn push_byte_ranges(out: &mut Vec<Range>, branch: &Hir) -> Result<bool, AllocErr
 
 /// The ranges of all branches, if each is of characters.
 fn char_ranges(alloc: Global, branches: &[Hir]) -> Result<Option<Vec<Range>>, AllocError>
-    ensures { IfOk result (λ o. option_map (λ v. pairs v.items) o ≡ all_ranges char_ranges_of (map tree_of branches.now)) }
+    ensures { IfOk result (λ o. option_map (λ v. pairs v.items) o ≡
+        all_ranges char_ranges_of (map tree_of branches.now)) }
 {
     let mut out = Vec::new(alloc);
     for branch in branches {
@@ -322,7 +331,8 @@ fn char_ranges(alloc: Global, branches: &[Hir]) -> Result<Option<Vec<Range>>, Al
 
 /// The ranges of all branches, if each is of bytes.
 fn byte_ranges(alloc: Global, branches: &[Hir]) -> Result<Option<Vec<Range>>, AllocError>
-    ensures { IfOk result (λ o. option_map (λ v. pairs v.items) o ≡ all_ranges byte_ranges_of (map tree_of branches.now)) }
+    ensures { IfOk result (λ o. option_map (λ v. pairs v.items) o ≡
+        all_ranges byte_ranges_of (map tree_of branches.now)) }
 {
     let mut out = Vec::new(alloc);
     for branch in branches {
@@ -335,7 +345,8 @@ fn byte_ranges(alloc: Global, branches: &[Hir]) -> Result<Option<Vec<Range>>, Al
 
 /// Adds branches behind the others. The first ones are taken over as they are.
 fn push_branches(branches: &mut Vec<Hir>, mut inner: Vec<Hir>) -> Result<(), AllocError>
-    ensures { OnOk result (map tree_of branches.new.items ≡ map tree_of branches.old.items ++ map tree_of inner.items) }
+    ensures { OnOk result (map tree_of branches.new.items ≡
+        map tree_of branches.old.items ++ map tree_of inner.items) }
 {
     if branches.is_empty() {
         *branches = inner;
@@ -346,7 +357,8 @@ fn push_branches(branches: &mut Vec<Hir>, mut inner: Vec<Hir>) -> Result<(), All
 
 /// Adds the branches that a tree brings into an alternation.
 fn push_branch(branches: &mut Vec<Hir>, branch: Hir) -> Result<(), AllocError>
-    ensures { OnOk result (map tree_of branches.new.items ≡ map tree_of branches.old.items ++ branches_of (tree_of branch)) }
+    ensures { OnOk result (map tree_of branches.new.items ≡
+        map tree_of branches.old.items ++ branches_of (tree_of branch)) }
 {
     match branch {
         Hir::Alternation(inner) => push_branches(branches, inner),
@@ -356,7 +368,9 @@ fn push_branch(branches: &mut Vec<Hir>, branch: Hir) -> Result<(), AllocError>
 
 /// One byte if each branch is of bytes, else one of the branches.
 fn bytes_or(alloc: Global, branches: Vec<Hir>) -> Result<Hir, AllocError>
-    ensures { IfOk result (λ hir. tree_of hir ≡ bytes_or (map tree_of branches.items) (all_ranges byte_ranges_of (map tree_of branches.items))) }
+    ensures { IfOk result (λ hir. tree_of hir ≡
+        bytes_or (map tree_of branches.items)
+        (all_ranges byte_ranges_of (map tree_of branches.items))) }
 {
     match byte_ranges(alloc, &branches)? {
         Some(ranges) => byte_class(alloc, RangeSet::from_ranges(alloc, &ranges)?),
@@ -366,7 +380,9 @@ fn bytes_or(alloc: Global, branches: Vec<Hir>) -> Result<Hir, AllocError>
 
 /// One character if each branch is of characters, else bytes or branches.
 fn chars_or(alloc: Global, branches: Vec<Hir>) -> Result<Hir, AllocError>
-    ensures { IfOk result (λ hir. tree_of hir ≡ chars_or (map tree_of branches.items) (all_ranges char_ranges_of (map tree_of branches.items))) }
+    ensures { IfOk result (λ hir. tree_of hir ≡
+        chars_or (map tree_of branches.items)
+        (all_ranges char_ranges_of (map tree_of branches.items))) }
 {
     match char_ranges(alloc, &branches)? {
         Some(ranges) => char_class(alloc, RangeSet::from_ranges(alloc, &ranges)?),

@@ -18,7 +18,8 @@ use unicode::case;
 /// The pairs that begin with a number of the range, of pairs that ascend.
 fn within(table: &[(u32, u32)], range: Range) -> &[(u32, u32)]
     requires { IsNonDecreasingBy (λ p. p.0) table.now }
-    ensures { (c : ℕ) → in_values result.now c ≡ in_image table.now (in_range (range.first, range.last)) c }
+    ensures { (c : ℕ) → in_values result.now c ≡
+        in_image table.now (in_range (range.first, range.last)) c }
 {
     let rest = &table[table.partition_point(|pair| pair.0 < range.first)..];
     &rest[..rest.partition_point(|pair| pair.0 <= range.last)]
@@ -39,7 +40,8 @@ fn push_values(out: &mut Vec<Range>, table: &[(u32, u32)]) -> Result<(), AllocEr
 
 /// Adds the other characters that share a simple folding with one in the ranges.
 fn push_folds(out: &mut Vec<Range>, ranges: &[Range]) -> Result<(), AllocError>
-    ensures { OnOk result (Adds (pairs out.old.items) (pairs out.new.items) (in_image fold_pairs (in_ranges (pairs ranges.now)))) }
+    ensures { OnOk result (Adds (pairs out.old.items) (pairs out.new.items)
+        (in_image fold_pairs (in_ranges (pairs ranges.now)))) }
 {
     let table = case::fold_pairs();
     for range in ranges {

@@ -147,7 +147,8 @@ fn ranges_of(alloc: Global, runs: &[(u32, u32)]) -> Result<Vec<Range>, AllocErro
 
 /// The characters of the runs, which may hold surrogates.
 fn from_runs(alloc: Global, runs: &[(u32, u32)]) -> Result<RangeSet, AllocError>
-    ensures { (p : ℕ → Bool) → HasExactly runs.now p → IfOk result (λ set. set_of set ≡ only_chars p) }
+    ensures { (p : ℕ → Bool) → HasExactly runs.now p →
+        IfOk result (λ set. set_of set ≡ only_chars p) }
 {
     RangeSet::from_ranges(alloc, &ranges_of(alloc, runs)?)
 }

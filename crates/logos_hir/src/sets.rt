@@ -48,8 +48,10 @@ fn push_gap(out: &mut Vec<Range>, first: u32, end: u32, last: u32) -> Result<(),
     requires canonical { AreCanonical (pairs out.old.items) }
     requires free { free_from 0 (pairs out.old.items) ≤ first }
     ensures canonical { OnOk result (AreCanonical (pairs out.new.items)) }
-    ensures free { (n : ℕ) → first ≤ n → end < n → OnOk result (free_from 0 (pairs out.new.items) ≤ n) }
-    ensures members { OnOk result (AddsCharacters (pairs out.old.items) (pairs out.new.items) (in_gap first end last)) }
+    ensures free { (n : ℕ) → first ≤ n → end < n →
+        OnOk result (free_from 0 (pairs out.new.items) ≤ n) }
+    ensures members { OnOk result (AddsCharacters (pairs out.old.items) (pairs out.new.items)
+        (in_gap first end last)) }
 {
     if first >= end {
         return Ok(());
@@ -68,7 +70,8 @@ fn gaps(alloc: Global, ranges: &[Range], last: u32) -> Result<Vec<Range>, AllocE
     requires sorted { IsNonDecreasingBy (λ r. r.first) ranges.now }
     requires last { scalar last ≡ true }
     ensures canonical { IfOk result (λ out. AreCanonical (pairs out.items)) }
-    ensures members { IfOk result (λ out. HasCharacters (pairs out.items) (λ c. nat_le c last && not (in_ranges (pairs ranges.now) c))) }
+    ensures members { IfOk result (λ out. HasCharacters (pairs out.items)
+        (λ c. nat_le c last && not (in_ranges (pairs ranges.now) c))) }
 {
     let mut out = Vec::new(alloc);
     let mut first = 0;
@@ -123,7 +126,8 @@ fn push_chars(out: &mut Vec<Range>, range: Range) -> Result<(), AllocError>
 /// The ranges cut to characters, where they have some.
 fn chars_of(alloc: Global, ranges: &[Range]) -> Result<Vec<Range>, AllocError>
     ensures ranges { IfOk result (λ out. AreRanges (pairs out.items)) }
-    ensures members { IfOk result (λ out. HasCharacters (pairs out.items) (in_ranges (pairs ranges.now))) }
+    ensures members { IfOk result (λ out. HasCharacters (pairs out.items)
+        (in_ranges (pairs ranges.now))) }
 {
     let mut out = Vec::new(alloc);
     for range in ranges {
@@ -162,7 +166,8 @@ impl RangeSet {
 
     /// The members up to U+00FF, which are bytes.
     pub fn bytes(&self) -> Result<RangeSet, AllocError>
-        ensures { IfOk result (λ set. set_of set ≡ intersection (set_of self.now) (in_range (0, 255))) }
+        ensures { IfOk result (λ set. set_of set ≡
+            intersection (set_of self.now) (in_range (0, 255))) }
     {
         self.complement(char::MAX)?.complement('\u{FF}')
     }
@@ -204,7 +209,8 @@ impl RangeSet {
 
     /// The members of both sets.
     pub fn intersection(&self, other: &RangeSet) -> Result<RangeSet, AllocError>
-        ensures { IfOk result (λ set. set_of set ≡ intersection (set_of self.now) (set_of other.now)) }
+        ensures { IfOk result (λ set. set_of set ≡
+            intersection (set_of self.now) (set_of other.now)) }
     {
         let outside = self
             .complement(char::MAX)?
@@ -214,14 +220,16 @@ impl RangeSet {
 
     /// The members of this set that the other one lacks.
     pub fn difference(&self, other: &RangeSet) -> Result<RangeSet, AllocError>
-        ensures { IfOk result (λ set. set_of set ≡ difference (set_of self.now) (set_of other.now)) }
+        ensures { IfOk result (λ set. set_of set ≡
+            difference (set_of self.now) (set_of other.now)) }
     {
         self.intersection(&other.complement(char::MAX)?)
     }
 
     /// The members of just one of the sets.
     pub fn symmetric_difference(&self, other: &RangeSet) -> Result<RangeSet, AllocError>
-        ensures { IfOk result (λ set. set_of set ≡ symmetric_difference (set_of self.now) (set_of other.now)) }
+        ensures { IfOk result (λ set. set_of set ≡
+            symmetric_difference (set_of self.now) (set_of other.now)) }
     {
         self.difference(other)?.union(&other.difference(self)?)
     }

@@ -18,5 +18,6 @@ pub fn ranges_of_a_set()
     ensures chars_canonical { (set : ℕ → Bool) → AreCanonical (char_ranges set) }
     ensures chars_members { (set : ℕ → Bool) → members (char_ranges set) ≡ only_chars set }
     ensures bytes_canonical { (set : ℕ → Bool) → AreCanonical (byte_ranges set) }
-    ensures bytes_members { (set : ℕ → Bool) → members (byte_ranges set) ≡ only_chars (intersection set (in_range (0, 255))) }
+    ensures bytes_members { (set : ℕ → Bool) → members (byte_ranges set) ≡
+        only_chars (intersection set (in_range (0, 255))) }
 {}

@@ -61,7 +61,8 @@ fn copy(alloc: Global, set: &RangeSet) -> Result<RangeSet, AllocError>
 
 /// The members of `inside` that are in the test, and those of `outside` that are not.
 fn selection(test: &RangeSet, inside: &RangeSet, outside: &RangeSet) -> Result<RangeSet, AllocError>
-    ensures { IfOk result (λ set. set_of set ≡ selection (set_of test.now) (set_of inside.now) (set_of outside.now)) }
+    ensures { IfOk result (λ set. set_of set ≡ selection (set_of test.now) (set_of inside.now)
+        (set_of outside.now)) }
 {
     test.intersection(inside)?.union(&outside.difference(test)?)
 }
@@ -85,7 +86,8 @@ impl Effect {
 
     /// The effect of an operand behind an operator.
     fn behind(alloc: Global, op: SetOperator, set: &RangeSet) -> Result<Effect, AllocError>
-        ensures { IfOk result (λ effect. Makes effect (λ before. combination op before (set_of set.now))) }
+        ensures { IfOk result (λ effect. Makes effect
+            (λ before. combination op before (set_of set.now))) }
     {
         match op {
             SetOperator::Intersection => Ok(Effect {
@@ -105,7 +107,8 @@ impl Effect {
 
     /// The effect of one operand.
     fn of(alloc: Global, operand: &Operand) -> Result<Effect, AllocError>
-        ensures { IfOk result (λ effect. Makes effect (λ before. with_operand operand.now.operator before (set_of operand.now.set))) }
+        ensures { IfOk result (λ effect. Makes effect
+            (λ before. with_operand operand.now.operator before (set_of operand.now.set))) }
     {
         match operand.operator {
             None => Ok(Effect {
@@ -118,7 +121,8 @@ impl Effect {
 
     /// The effect of these operands, and then of others.
     fn then(&self, other: &Effect) -> Result<Effect, AllocError>
-        ensures { IfOk result (λ effect. (f g : Set → Set) → Makes self.now f → Makes other.now g → Makes effect (λ before. g (f before))) }
+        ensures { IfOk result (λ effect. (f g : Set → Set) → Makes self.now f → Makes other.now g →
+            Makes effect (λ before. g (f before))) }
     {
         Ok(Effect {
             outside: selection(&self.outside, &other.inside, &other.outside)?,
