@@ -3,3 +3,4 @@ pub mod Reading
 pub mod Depth
 pub mod NameLemmas
 pub mod Texts
+pub mod Fronts

@@ -2,3 +2,4 @@ pub mod bracket
 pub mod inside
 pub mod Written
 pub mod Grammar
+pub mod Nesting

@@ -6,8 +6,10 @@ ghost use Rattle.logos_pattern_tokens.specs.declared.error.Fault.TheVariants as 
 ghost use Rattle.logos_pattern_tokens.specs.Token.{Text};
 ghost use Rattle.logos_hir.specs.Tree.{Tree};
 ghost use Rattle.logos_hir.specs.Hir.{tree_of};
+ghost use Rattle.logos_pattern_tokens.specs.declared.error.PatternError.TheVariants as errors;
+ghost use Rattle.logos_syntax.specs.Nesting.{IsTooDeep};
 ghost use Rattle.logos_syntax.specs.Grammar.{Spells, IsFound, Refuses};
-ghost use Rattle.logos_syntax.specs.inside.Reading.{StopsText};
+ghost use Rattle.logos_syntax.specs.inside.Reading.{StopsText, TellsText};
 
 use crate::bracket::parser::{read_bracket, stop_for};
 use crate::groups::Groups;
@@ -137,6 +139,7 @@ fn group_kind(kind: Kind, text: &[char]) -> Kind {
 fn run(alloc: Global, flags: Flags, text: &[char]) -> Result<Hir, Stop>
     ensures found { IfOk result (λ hir. IsFound flags text.now (tree_of hir)) }
     ensures stopped { IfErr result (StopsText flags text.now) }
+    ensures deep { IfErr result (TellsText flags text.now) }
 {
     let mut parser = Parser::new(alloc, flags, text.len());
     let mut rest = text;
@@ -158,18 +161,26 @@ fn byte_len(text: &[char]) -> usize {
     len
 }
 
+/// The error of a fault where so many characters are left.
+fn syntax_at(text: &[char], kind: Kind, left: usize) -> PatternError
+    ensures { (at : ℕ) × (result ≡ errors.Syntax kind at) }
+{
+    let before = text.len().saturating_sub(left);
+    PatternError::Syntax {
+        kind,
+        at: byte_len(&text[..before]),
+    }
+}
+
 /// The error of a stop, by the place where it is.
 fn error_at(text: &[char], stop: Stop) -> PatternError
-    ensures { (flags : FlagsValue) (t : Text) → StopsText flags t stop → Refuses flags t result }
+    ensures refused { (flags : FlagsValue) (t : Text) → StopsText flags t stop →
+        Refuses flags t result }
+    ensures deep { (flags : FlagsValue) (t : Text) → TellsText flags t stop →
+        result ≡ errors.LimitPatternNesting → IsTooDeep flags t }
 {
     match stop {
-        Stop::Syntax { kind, left } => {
-            let before = text.len().saturating_sub(left);
-            PatternError::Syntax {
-                kind,
-                at: byte_len(&text[..before]),
-            }
-        }
+        Stop::Syntax { kind, left } => syntax_at(text, kind, left),
         Stop::LimitPatternNesting => PatternError::LimitPatternNesting,
         Stop::Memory => PatternError::Memory,
     }
@@ -189,7 +200,11 @@ fn characters(alloc: Global, regex: &str) -> Result<Vec<char>, AllocError>
 /// `LimitPatternNesting`, and where memory runs out it is `Memory`.
 pub fn parse(alloc: Global, flags: Flags, regex: &str) -> Result<Hir, PatternError>
     ensures found { IfOk result (λ hir. IsFound flags (chars regex.now) (tree_of hir)) }
+    // What is refused has no tree, or only one that is nested too deep, or memory ran out.
     ensures refused { IfErr result (Refuses flags (chars regex.now)) }
+    // Behind some beginning of what is refused as too deep, more than 250 are around one place.
+    ensures deep { IfErr result (λ e. e ≡ errors.LimitPatternNesting →
+        IsTooDeep flags (chars regex.now)) }
 {
     let text = characters(alloc, regex)?;
     match run(alloc, flags, &text) {

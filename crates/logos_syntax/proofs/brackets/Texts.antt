@@ -41,7 +41,7 @@ snoc_split {A = A} (x ∷ xs) (t ∷ ts) c others e = from (snoc_split xs ts c o
 
 -- ---- cuts
 
-taken : (text rest : Text) (t : BracketToken) → bracket_token_at text ≡ Some (t, rest) → BracketTakes t text rest
+pub taken : (text rest : Text) (t : BracketToken) → bracket_token_at text ≡ Some (t, rest) → BracketTakes t text rest
 taken text rest t e = let h = subst (IsTaken BracketTakes text) e (bracket_token_taken text) in h
 
 abbrev Front : Type 0
@@ -296,7 +296,7 @@ at_opening flags base negated lead text s e = record {
   frames = e ∙ ap (λ (n : ℕ). record { top = fresh_frame negated lead n; below = [] }) (let m : base + 1 ≡ base + 0 + 1 + 0 = omega arith in m);
 }
 
-fits_more : (flags : Flags) (ts : List BracketToken) (t : BracketToken) → TokensFit flags ts → MayStand flags t → TokensFit flags (ts ++ t ∷ [])
+pub fits_more : (flags : Flags) (ts : List BracketToken) (t : BracketToken) → TokensFit flags ts → MayStand flags t → TokensFit flags (ts ++ t ∷ [])
 fits_more flags [] (Item item) f m = (m, tt)
 fits_more flags [] (Open n d) f m = tt
 fits_more flags [] (Operator op) f m = tt

@@ -18,5 +18,5 @@ repeats_deep g op (Some q) p e h =
 pub repeat_steps : (s : State) (op : Operator) (r : Result (Unit {0}) Stop) (g : Group) → Repeats r (repeat s.top op s.top.last) g → Steps s (repeats op) r (record s { top = g })
 repeat_steps s op (Ok x) g e = (tt, ap (option_map (λ h. record s { top = h })) e)
 repeat_steps s op (Err (stops.Syntax kind left)) g e = λ fit. ap (option_map (λ h. record s { top = h })) e
-repeat_steps s op (Err stops.LimitPatternNesting) g h = (record s { top = h.0 }, ap (option_map (λ k. record s { top = k })) h.1, omega (arith, h.2))
+repeat_steps s op (Err stops.LimitPatternNesting) g h = (tt, (record s { top = h.0 }, ap (option_map (λ k. record s { top = k })) h.1, omega (arith, h.2)))
 repeat_steps s op (Err stops.Memory) g h = tt

@@ -143,7 +143,7 @@ pub depth_inside : (b : Option Branches) (its : Items) → branches_depth (insid
 depth_inside None its = refl
 depth_inside (Some bs) its = refl
 
-flags_inside : (flags : Flags) (b : Option Branches) (its : Items) → items_flags (branch_flags flags b) its ≡ branches_flags flags (inside b its)
+pub flags_inside : (flags : Flags) (b : Option Branches) (its : Items) → items_flags (branch_flags flags b) its ≡ branches_flags flags (inside b its)
 flags_inside flags None its = refl
 flags_inside flags (Some bs) its = refl
 

@@ -53,7 +53,7 @@ one_taken text t u rest after a b =
     let same : ◌≡◌ {A = Taken} (t, rest) (u, after) = cc in
     (ap (λ (x : Taken). x.0) same, ap (λ (x : Taken). x.1) same)
 
-taken_here : (text rest : Text) (t : Token) → token_at text ≡ Some (t, rest) → Takes t text rest
+pub taken_here : (text rest : Text) (t : Token) → token_at text ≡ Some (t, rest) → Takes t text rest
 taken_here text rest t e = let h = subst (IsTaken Takes text) e (is_taken text) in h
 
 -- two tokens at the front of a text are one
@@ -245,7 +245,7 @@ step_stops s u seen text rest token stop is h t after k = let e = one_taken text
   where
     from : (stop : Stop) → Steps s token (Err stop) u → StopsAt stop s seen token
     from (stops.Syntax kind left) h = λ fit fresh. h fit
-    from stops.LimitPatternNesting h = h
+    from stops.LimitPatternNesting h = h.1
     from stops.Memory h = tt
 
 pub simple_goes : (s u : State) (seen : List Text) (text rest : Text) (token : Token) (names : Names) (r : Unit {0}) → token_at text ≡ Some (token, rest) → Admits seen token true names → Steps s token (Ok r) u → GoesOn s seen text u names rest
@@ -260,7 +260,7 @@ simple_goes s u seen text rest token names r is new h = record {
 
 pub not_bracket : (s u : State) (seen : List Text) (text : Text) (r : Result (Bor Text) Stop) (names : Names) → ((x : Text) → text ≡ 91 ∷ x → ⊥) → ReadsSimple s seen text r u names → ReadsToken s seen text r u names
 not_bracket s u seen text (Ok rest) names other h = h
-not_bracket s u seen text (Err stop) names other h = λ t rest k. from t text rest k other h
+not_bracket s u seen text (Err stop) names other h = (λ t rest k. from t text rest k other h.0, h.1)
   where
     from : (t : Token) (text rest : Text) → Starts t text rest → ((x : Text) → text ≡ 91 ∷ x → ⊥) → ((t : Token) (rest : Text) → Takes t text rest → StopsAt stop s seen t) → StopsAt stop s seen t
     from t text rest (taken v x r k) other h = h v r k

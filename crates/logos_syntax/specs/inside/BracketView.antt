@@ -21,6 +21,7 @@ use Rattle.logos_pattern_tokens.specs.declared.bracket.token.Lead.{Lead}
 use Rattle.logos_pattern_tokens.specs.bracket.Form.{Bracket, bracket, Operands}
 use Rattle.logos_pattern_tokens.specs.bracket.Spelling.{operands_tokens, BracketCuts, Encloses}
 use Rattle.logos_syntax.specs.bracket.Meaning.{bracket_set, item_fits, BracketFits, bracket_depth}
+use Rattle.logos_syntax.specs.Nesting.{InsideFront, BracketFront}
 use Rattle.logos_syntax.specs.inside.BracketStack.{Frame, Frames, bracket_step}
 
 abbrev pub frame_view : FrameValue → Frame
@@ -72,9 +73,22 @@ Denies flags base (stops.Syntax kind left) b = BracketFits flags b → ⊥
 Denies flags base stops.LimitPatternNesting b = 250 < base + bracket_depth b
 Denies flags base stops.Memory b = Unit {0}
 
+-- a stop at the limit names a beginning that is too deep
+abbrev pub TellsInside : Flags → ℕ → Stop → Text → Type 0
+TellsInside flags base (stops.Syntax kind left) text = Unit {0}
+TellsInside flags base stops.LimitPatternNesting text = (count : ℕ) × InsideFront flags text count × (250 < base + count)
+TellsInside flags base stops.Memory text = Unit {0}
+
+abbrev pub TellsBracket : Flags → ℕ → Stop → Text → Type 0
+TellsBracket flags base (stops.Syntax kind left) text = Unit {0}
+TellsBracket flags base stops.LimitPatternNesting text = (count : ℕ) × BracketFront flags text count × (250 < base + count)
+TellsBracket flags base stops.Memory text = Unit {0}
+
 abbrev pub ReadsInside : Flags → ℕ → Bool → Lead → Text → Result (BracketValue × Bor Text) Stop → Type 0
 ReadsInside flags base negated lead text (Ok x) = IsInside flags base negated lead text x.0 x.1.now
-ReadsInside flags base negated lead text (Err e) = (inside : Operands) (rest : Text) → BracketCuts text (operands_tokens inside ++ Close ∷ []) rest → Denies flags base e (bracket negated lead inside)
+ReadsInside flags base negated lead text (Err e) =
+    ((inside : Operands) (rest : Text) → BracketCuts text (operands_tokens inside ++ Close ∷ []) rest → Denies flags base e (bracket negated lead inside))
+    × TellsInside flags base e text
 
 -- the set, and how deep it is, of a bracket that stands at the text, behind `[`
 pub record IsBracketValue (flags : Flags) (base : ℕ) (text : Text) (found : BracketValue) (rest : Text) : Type 0 where
@@ -87,7 +101,9 @@ pub record IsBracketValue (flags : Flags) (base : ℕ) (text : Text) (found : Br
 
 abbrev pub ReadsBracket : Flags → ℕ → Text → Result (BracketValue × Bor Text) Stop → Type 0
 ReadsBracket flags base text (Ok x) = IsBracketValue flags base text x.0 x.1.now
-ReadsBracket flags base text (Err e) = (b : Bracket) (rest : Text) → Encloses b text rest → Denies flags base e b
+ReadsBracket flags base text (Err e) =
+    ((b : Bracket) (rest : Text) → Encloses b text rest → Denies flags base e b)
+    × TellsBracket flags base e text
 
 -- a fault as a stop
 abbrev pub IsStopOf : Fault → Stop → Type 0

@@ -32,7 +32,8 @@ state_view m = record { top = group_view m.top; below = reverse (map group_view 
 abbrev pub Steps : State → Token → Result (Unit {0}) Stop → State → Type 0
 Steps old token (Ok _) new = TokenFits old.top.flags token × (step old token ≡ Some new)
 Steps old token (Err (stops.Syntax kind left)) new = TokenFits old.top.flags token → step old token ≡ None
-Steps old token (Err stops.LimitPatternNesting) new = (s : State) × (step old token ≡ Some s) × (250 < deepest s)
+Steps old token (Err stops.LimitPatternNesting) new =
+    TokenFits old.top.flags token × ((s : State) × (step old token ≡ Some s) × (250 < deepest s))
 Steps old token (Err stops.Memory) new = Unit {0}
 
 abbrev pub Repeats : Result (Unit {0}) Stop → Option Group → Group → Type 0

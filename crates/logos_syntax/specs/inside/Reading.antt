@@ -1,5 +1,5 @@
 -- What reading a whole pattern promises.
-use Rattle.std.specs.Prelude.{◌≡◌, ℕ, ◌<◌, List, [], ◌∷◌, Some, None, Result, Ok, Err}
+use Rattle.std.specs.Prelude.{◌≡◌, ℕ, ◌+◌, ◌<◌, List, [], ◌∷◌, length, Some, None, Result, Ok, Err}
 use Rattle.std.specs.Borrow.{Bor}
 use Rattle.logos_pattern_tokens.specs.declared.error.Stop.{Stop}
 use Rattle.logos_pattern_tokens.specs.declared.error.Stop.TheVariants as stops
@@ -9,6 +9,7 @@ use Rattle.logos_pattern_tokens.specs.Token.{Text, Token}
 use Rattle.logos_pattern_tokens.specs.Spelling.{Takes}
 use Rattle.logos_syntax.specs.Written.{Starts, Cuts, IsNew, with_name, NamesDiffer}
 use Rattle.logos_syntax.specs.Grammar.{TokenFits, IsSpelled}
+use Rattle.logos_syntax.specs.Nesting.{BracketFront, IsTooDeep}
 use Rattle.logos_syntax.specs.inside.Groups.{State, start, step, Runs, deepest}
 use Rattle.logos_syntax.specs.inside.Names.{HasNames}
 
@@ -29,14 +30,29 @@ StopsAt (stops.Syntax kind left) old seen token = TokenFits old.top.flags token 
 StopsAt stops.LimitPatternNesting old seen token = (new : State) × (step old token ≡ Some new) × (250 < deepest new)
 StopsAt stops.Memory old seen token = Unit {0}
 
+-- at the text the parser gets too deep: behind a token, or in a bracket
+pub data IsDeepAt (old : State) (seen : List Text) (names : Names) : Text → Type 0 where
+  token_deep : (text rest : Text) (new : State) → GoesOn old seen text new names rest → 250 < deepest new → IsDeepAt old seen names text
+  bracket_deep : (behind : Text) (count : ℕ) → BracketFront old.top.flags behind count → 250 < length old.below + count → IsDeepAt old seen names (91 ∷ behind)
+
+-- a stop at the limit is at such a place
+abbrev pub TellsToken : Stop → State → List Text → Text → Names → Type 0
+TellsToken (stops.Syntax kind left) old seen text names = Unit {0}
+TellsToken stops.LimitPatternNesting old seen text names = IsDeepAt old seen names text
+TellsToken stops.Memory old seen text names = Unit {0}
+
 abbrev pub ReadsToken : State → List Text → Text → Result (Bor Text) Stop → State → Names → Type 0
 ReadsToken old seen text (Ok rest) new names = GoesOn old seen text new names rest.now
-ReadsToken old seen text (Err stop) new names = (token : Token) (rest : Text) → Starts token text rest → StopsAt stop old seen token
+ReadsToken old seen text (Err stop) new names =
+    ((token : Token) (rest : Text) → Starts token text rest → StopsAt stop old seen token)
+    × TellsToken stop old seen text names
 
 -- the same of tokens that are no brackets
 abbrev pub ReadsSimple : State → List Text → Text → Result (Bor Text) Stop → State → Names → Type 0
 ReadsSimple old seen text (Ok rest) new names = GoesOn old seen text new names rest.now
-ReadsSimple old seen text (Err stop) new names = (token : Token) (rest : Text) → Takes token text rest → StopsAt stop old seen token
+ReadsSimple old seen text (Err stop) new names =
+    ((token : Token) (rest : Text) → Takes token text rest → StopsAt stop old seen token)
+    × TellsToken stop old seen text names
 
 -- ---- the whole text
 
@@ -58,3 +74,9 @@ abbrev pub StopsText : Flags → Text → Stop → Type 0
 StopsText flags text (stops.Syntax kind left) = (depth : ℕ) → IsSpelled flags text depth → ⊥
 StopsText flags text stops.LimitPatternNesting = (depth : ℕ) → IsSpelled flags text depth → 250 < depth
 StopsText flags text stops.Memory = Unit {0}
+
+-- what a stop at the limit says of the text
+abbrev pub TellsText : Flags → Text → Stop → Type 0
+TellsText flags text (stops.Syntax kind left) = Unit {0}
+TellsText flags text stops.LimitPatternNesting = IsTooDeep flags text
+TellsText flags text stops.Memory = Unit {0}

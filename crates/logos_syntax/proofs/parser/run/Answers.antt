@@ -1,6 +1,7 @@
 use Rattle.std.proofs.Common.{rules}
 use Rattle.logos_syntax.specs.inside.GroupsView.{state_view}
 use Rattle.logos_syntax.specs.inside.Reading.{names_behind}
+use Rattle.logos_syntax.proofs.patterns.Fronts.{told, ended_told}
 use Rattle.logos_syntax.proofs.patterns.Texts.{nothing_read, reads_on, start_some, stopped, ended}
 use Rattle.logos_syntax.proofs.brackets.Answered.{empty_text}
 use Rattle.logos_syntax.proofs.parser.run.Goals as goal
@@ -11,7 +12,12 @@ loop-rest-init c = nothing_read c.args.flags c.args.text.now (state_view c.new-p
 pub returns-in-Err-clause-stopped : goal.returns-in-Err-clause-stopped
 returns-in-Err-clause-stopped c =
     let i = c.loop-rest.invariant in
-    stopped c.args.flags c.args.text.now c.loop-rest.rest.now (state_view c.loop-rest.parser.groups) c.loop-rest.parser.names c.in-Err.stop i (search rules) (c.in-Err.ensures (names_behind _ i.tokens) i.has)
+    stopped c.args.flags c.args.text.now c.loop-rest.rest.now (state_view c.loop-rest.parser.groups) c.loop-rest.parser.names c.in-Err.stop i (search rules) (c.in-Err.ensures (names_behind _ i.tokens) i.has).0
+
+pub returns-in-Err-clause-deep : goal.returns-in-Err-clause-deep
+returns-in-Err-clause-deep c =
+    let i = c.loop-rest.invariant in
+    told c.args.flags c.args.text.now c.loop-rest.rest.now (state_view c.loop-rest.parser.groups) c.loop-rest.parser.names _ c.in-Err.stop i (c.in-Err.ensures (names_behind _ i.tokens) i.has).1
 
 pub loop-rest-smaller : goal.loop-rest-smaller
 loop-rest-smaller c =
@@ -29,3 +35,6 @@ returns-clause-found c = (ended c.args.flags c.args.text.now c.loop-rest.rest.no
 
 pub returns-clause-stopped : goal.returns-clause-stopped
 returns-clause-stopped c = (ended c.args.flags c.args.text.now c.loop-rest.rest.now (state_view c.loop-rest.parser.groups) c.loop-rest.parser.names c.finish.result (empty_text c.loop-rest.rest.now c.loop-rest-test.ensures) c.loop-rest.invariant c.finish.ensures).1
+
+pub returns-clause-deep : goal.returns-clause-deep
+returns-clause-deep c = ended_told c.args.flags c.args.text.now (state_view c.loop-rest.parser.groups) c.finish.result c.finish.ensures

@@ -1,0 +1,102 @@
+-- How deep groups, brackets and operators nest in a beginning of a text.
+use Rattle.std.specs.Prelude.{◌≡◌, ℕ, zero, suc, ◌+◌, ◌<◌, max, Bool, List, [], ◌∷◌, ◌++◌}
+use Rattle.logos_pattern_tokens.specs.declared.token.Flags.{Flags}
+use Rattle.logos_pattern_tokens.specs.declared.bracket.token.Item.{Item as ItemValue}
+use Rattle.logos_pattern_tokens.specs.declared.bracket.token.Lead.{Lead}
+use Rattle.logos_hir.specs.declared.sets.operands.SetOperator.{SetOperator}
+use Rattle.logos_pattern_tokens.specs.declared.bracket.token.BracketToken.{BracketToken}
+use Rattle.logos_pattern_tokens.specs.declared.bracket.token.BracketToken.TheVariants as tokens
+use Rattle.logos_pattern_tokens.specs.Token.{Text, Opening, Token, opens}
+use Rattle.logos_pattern_tokens.specs.bracket.Spelling.{Opens, BracketCuts}
+use Rattle.logos_syntax.specs.bracket.Meaning.{TokensFit}
+use Rattle.logos_syntax.specs.Written.{Branches, branches_tokens, Cuts, NamesDiffer, branches_flags, inner_flags}
+use Rattle.logos_syntax.specs.Grammar.{BranchesFit, branches_depth}
+
+-- ---- groups
+
+-- the groups that are open, with the whole pattern as the outermost one: what is written in each, and how the next one opens
+pub data Around : Type 0 where
+  outermost : Around
+  within : (around : Around) (inside : Branches) (opening : Opening) → Around
+
+-- how many groups are open
+abbrev pub groups_open : Around → ℕ
+groups_open outermost = 0
+groups_open (within around inside opening) = suc (groups_open around)
+
+abbrev pub around_tokens : Around → List Token
+around_tokens outermost = []
+around_tokens (within around inside opening) =
+    (around_tokens around ++ branches_tokens inside) ++ opens opening ∷ []
+
+-- the flags at the front of the innermost group
+abbrev pub around_flags : Flags → Around → Flags
+around_flags flags outermost = flags
+around_flags flags (within around inside opening) =
+    inner_flags opening (branches_flags (around_flags flags around) inside)
+
+-- what is written may stand where it stands
+abbrev pub AroundFits : Flags → Around → Type 0
+AroundFits flags outermost = Unit {0}
+AroundFits flags (within around inside opening) =
+    AroundFits flags around × BranchesFit (around_flags flags around) inside
+
+-- the innermost place of what is written in the groups around, or 0
+abbrev pub around_depth : Around → ℕ
+around_depth outermost = 0
+around_depth (within around inside opening) =
+    max (groups_open around + branches_depth inside) (around_depth around)
+
+-- A beginning of the text is a beginning of a pattern, and rest follows it.
+pub record Front (flags : Flags) (text rest : Text) : Type 0 where
+  pub around : Around
+  -- what is written in the innermost group
+  pub inside : Branches
+  pub cut : Cuts text (around_tokens around ++ branches_tokens inside) rest
+  pub around_fits : AroundFits flags around
+  pub inside_fits : BranchesFit (around_flags flags around) inside
+  pub names : NamesDiffer [] (around_tokens around ++ branches_tokens inside)
+
+-- how many groups, brackets and operators are around one place of it, at most
+abbrev pub front_depth : {flags : Flags} {text rest : Text} → Front flags text rest → ℕ
+front_depth front = max (groups_open front.around + branches_depth front.inside) (around_depth front.around)
+
+-- the flags behind it
+abbrev pub front_flags : {flags : Flags} {text rest : Text} → Front flags text rest → Flags
+front_flags {flags = flags} front = branches_flags (around_flags flags front.around) front.inside
+
+-- ---- brackets
+
+-- Behind the tokens of a bracket as many brackets are open as the last number says, where as many are as the first one says.
+-- The outermost one stays open.
+pub data LeavesOpen : ℕ → List BracketToken → ℕ → Type 0 where
+  done : (n : ℕ) → LeavesOpen n [] n
+  item : (n m : ℕ) (i : ItemValue) (others : List BracketToken) → LeavesOpen n others m → LeavesOpen n (tokens.Item i ∷ others) m
+  operator : (n m : ℕ) (op : SetOperator) (others : List BracketToken) → LeavesOpen n others m → LeavesOpen n (tokens.Operator op ∷ others) m
+  opening : (n m : ℕ) (negated : Bool) (lead : Lead) (others : List BracketToken) → LeavesOpen (suc n) others m →
+      LeavesOpen n (tokens.Open negated lead ∷ others) m
+  closing : (n m : ℕ) (others : List BracketToken) → LeavesOpen (suc n) others m → LeavesOpen (suc (suc n)) (tokens.Close ∷ others) m
+
+-- A beginning of the text, which stands behind the opening of a bracket, leaves so many brackets open.
+pub record InsideFront (flags : Flags) (text : Text) (count : ℕ) : Type 0 where
+  pub written : List BracketToken
+  pub rest : Text
+  pub cut : BracketCuts text written rest
+  pub fits : TokensFit flags written
+  pub leaves : LeavesOpen 1 written count
+
+-- A beginning of the text, which stands behind `[`, leaves so many brackets open, the one of that `[` among them.
+pub record BracketFront (flags : Flags) (text : Text) (count : ℕ) : Type 0 where
+  pub negated : Bool
+  pub lead : Lead
+  pub behind : Text
+  pub opens : Opens negated lead text behind
+  pub inside : InsideFront flags behind count
+
+-- ---- the limit
+
+-- behind a beginning of the text more than 250 groups, brackets and operators are around one place
+pub data IsTooDeep (flags : Flags) (text : Text) : Type 0 where
+  by_groups : (rest : Text) (front : Front flags text rest) → 250 < front_depth front → IsTooDeep flags text
+  by_brackets : (behind : Text) (front : Front flags text (91 ∷ behind)) (count : ℕ) →
+      BracketFront (front_flags front) behind count → 250 < groups_open front.around + count → IsTooDeep flags text
