@@ -2,14 +2,16 @@
 ghost use Rattle.std.specs.Prelude.{◌≡◌, ◌∷◌, ◌++◌, ◌<◌, ℕ, [], IsTrue, IsFalse, IfOk, OnOk, false, length, map, slice_index_or, if◌then◌else◌};
 ghost use Rattle.logos_automaton.specs.Alike.{IsAlike, IsTold, AreTold, AreKindBytes, AreFirstBytes};
 ghost use Rattle.logos_places.specs.Core as core;
+ghost use Rattle.logos_places.specs.ForestView.{cores_of};
 ghost use Rattle.logos_places.specs.Kinds.{kind_of_byte};
 ghost use Rattle.logos_places.specs.Marks.{IsRising, Has};
 ghost use Rattle.logos_places.specs.Node.{core_of};
 ghost use Rattle.logos_places.specs.Repeat.{spelled};
-ghost use Rattle.logos_places.specs.Several.{AreStarts};
 ghost use Rattle.logos_places.specs.Table.{reader_of};
 
+use crate::basis::Basis;
 use logos_places::characters::reader::Table;
+use logos_places::forest::Forest;
 use logos_places::node::Node;
 use logos_places::places::all::next_tree;
 use logos_places::places::look::kind_of;
@@ -39,7 +41,7 @@ fn literal_tells(text: &[u8], one: u8, other: u8) -> bool
     false
 }
 
-/// The same for a class of characters.
+/// Whether the bytes can be told apart by the class of characters.
 fn table_tells(table: &Table, one: u8, other: u8) -> bool
     ensures { IsFalse result → IsAlike (core.character (reader_of table.now)) one other }
 {
@@ -54,7 +56,7 @@ fn table_tells(table: &Table, one: u8, other: u8) -> bool
     false
 }
 
-/// The same for a tree.
+/// Whether the bytes can be told apart by the tree.
 #[cycle(tells)]
 fn tells(node: &Node, one: u8, other: u8) -> bool
     ensures { IsFalse result → IsAlike (core_of node.now) one other }
@@ -86,7 +88,8 @@ pub struct Told {
 
 /// Adds the byte if it is one of them.
 fn note(bytes: &mut Vec<u8>, byte: u8, is_one: bool) -> Result<(), AllocError>
-    ensures { OnOk result (bytes.new.items ≡ (if is_one then bytes.old.items ++ byte ∷ [] else bytes.old.items)) }
+    ensures { OnOk result (bytes.new.items ≡
+        (if is_one then bytes.old.items ++ byte ∷ [] else bytes.old.items)) }
 {
     if is_one {
         bytes.push(byte)?;
@@ -106,14 +109,15 @@ fn told_by(alloc: Global, node: &Node) -> Result<Told, AllocError>
     Ok(Told { bytes })
 }
 
-/// The same for each tree.
-pub fn told_by_each(alloc: Global, nodes: &[Node]) -> Result<Vec<Told>, AllocError>
-    ensures { IfOk result (λ told. AreTold nodes.now told.items (length nodes.now)) }
+/// The bytes that each tree tells apart from the one before.
+pub fn told_by_each(alloc: Global, forest: &Forest) -> Result<Vec<Told>, AllocError>
+    ensures { IfOk result (λ told. AreTold forest.now.nodes.items told.items
+        (length forest.now.nodes.items)) }
 {
     let mut told = Vec::new(alloc);
     let mut number = 0;
-    while number < nodes.len() {
-        told.push(told_by(alloc, &nodes[number])?)?;
+    while number < forest.nodes.len() {
+        told.push(told_by(alloc, &forest.nodes[number])?)?;
         number += 1;
     }
     Ok(told)
@@ -148,25 +152,15 @@ fn add_bytes(bytes: &[u8], first: &mut [bool; 256])
 }
 
 /// The bytes that the marks or looks can tell apart from the one before.
-pub fn first_bytes(
-    nodes: &[Node],
-    starts: &[usize],
-    told: &[Told],
-    kinds: &[bool; 256],
-    marks: &[usize],
-    entered: bool,
-) -> [bool; 256]
-    requires starts { AreStarts nodes.now starts.now }
-    requires told { AreTold nodes.now told.now (length nodes.now) }
-    requires kinds { AreKindBytes kinds.now }
+pub fn first_bytes(basis: &Basis, marks: &[usize], entered: bool) -> [bool; 256]
     requires rising { IsRising marks.now }
-    ensures { AreFirstBytes (map core_of nodes.now) (Has marks.now) (IsTrue entered) result }
+    ensures { AreFirstBytes (cores_of basis.now.forest) (Has marks.now) (IsTrue entered) result }
 {
-    let mut first = *kinds;
-    let mut number = next_tree(starts, marks, entered, 0);
-    while number < nodes.len() {
-        add_bytes(&told[number].bytes, &mut first);
-        number = next_tree(starts, marks, entered, number + 1);
+    let mut first = basis.kinds;
+    let mut number = next_tree(&basis.forest, marks, entered, 0);
+    while number < basis.forest.nodes.len() {
+        add_bytes(&basis.told[number].bytes, &mut first);
+        number = next_tree(&basis.forest, marks, entered, number + 1);
     }
     first
 }

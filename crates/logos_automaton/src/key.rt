@@ -1,14 +1,12 @@
 //! States of the automaton, while it is built.
 ghost use Rattle.std.specs.Prelude.{◌≡◌, ◌^◌, ◌<◌, ◌≤◌, ◌+◌, Bool, List, IsTrue, IfOk, OnOk, length, map};
+ghost use Rattle.logos_places.specs.ForestView.{cores_of};
 ghost use Rattle.logos_places.specs.Core.{Core};
 ghost use Rattle.logos_automaton.specs.Keys as keys;
 ghost use Rattle.logos_places.specs.Marks.{IsRising};
-ghost use Rattle.logos_places.specs.Node.{core_of, AreMeasured};
-ghost use Rattle.logos_places.specs.Run.{width_of};
-ghost use Rattle.logos_places.specs.Several.{AreStarts};
 
 use indexmap::IndexSet;
-use logos_places::node::Node;
+use logos_places::forest::Forest;
 use logos_places::places::all::{exits_all, step_all};
 use logos_places::places::look::{Context, Kind, kind_of};
 use std::alloc::{AllocError, Global};
@@ -56,31 +54,20 @@ pub fn start_key(alloc: Global) -> Key
 /// The state after one more byte.
 pub fn step_key(
     alloc: Global,
-    nodes: &[Node],
-    starts: &[usize],
+    forest: &Forest,
     looks: bool,
     key: &Key,
     byte: u8,
 ) -> Result<Key, AllocError>
-    requires fits { width_of (map core_of nodes.now) < 2 ^ 64 }
-    requires measured { AreMeasured nodes.now }
-    requires starts { AreStarts nodes.now starts.now }
     requires rising { IsRising key.now.places.items }
-    ensures { IfOk result (λ made. keys.IsNext (map core_of nodes.now) looks (keys.state_of key.now) byte (keys.state_of made)) }
+    ensures { IfOk result (λ made. keys.IsNext (cores_of forest.now) looks (keys.state_of key.now)
+        byte (keys.state_of made)) }
 {
     let at = Context {
         before: key.kind,
         after: Some(byte),
     };
-    let reached = step_all(
-        alloc,
-        nodes,
-        starts,
-        &key.places,
-        is_start(key.kind),
-        at,
-        byte,
-    )?;
+    let reached = step_all(alloc, forest, &key.places, is_start(key.kind), at, byte)?;
     Ok(Key {
         kind: kept_of(looks, &reached.places, byte),
         places: reached.places,
@@ -89,23 +76,16 @@ pub fn step_key(
 }
 
 /// The state after the end.
-pub fn end_key(
-    alloc: Global,
-    nodes: &[Node],
-    starts: &[usize],
-    key: &Key,
-) -> Result<Key, AllocError>
-    requires fits { width_of (map core_of nodes.now) < 2 ^ 64 }
-    requires measured { AreMeasured nodes.now }
-    requires starts { AreStarts nodes.now starts.now }
+pub fn end_key(alloc: Global, forest: &Forest, key: &Key) -> Result<Key, AllocError>
     requires rising { IsRising key.now.places.items }
-    ensures { IfOk result (λ made. keys.IsLast (map core_of nodes.now) (keys.state_of key.now) (keys.state_of made)) }
+    ensures { IfOk result (λ made. keys.IsLast (cores_of forest.now) (keys.state_of key.now)
+        (keys.state_of made)) }
 {
     let at = Context {
         before: key.kind,
         after: None,
     };
-    let matches = exits_all(alloc, nodes, starts, &key.places, is_start(key.kind), at)?;
+    let matches = exits_all(alloc, forest, &key.places, is_start(key.kind), at)?;
     Ok(Key {
         places: Vec::new(alloc),
         kind: Kind::Unseen,
@@ -116,9 +96,12 @@ pub fn end_key(
 /// The number of a state, which is added if it is new.
 pub fn number_of(states: &mut IndexSet<Key>, key: Key) -> Result<usize, AllocError>
     ensures grows { OnOk result (keys.Grows states.old.keys states.new.keys) }
-    ensures rising { keys.AreRising states.old.keys → IsRising key.places.items → OnOk result (keys.AreRising states.new.keys) }
-    ensures distinct { keys.AreDistinct states.old.keys → OnOk result (keys.AreDistinct states.new.keys) }
-    ensures reached { (ts : List Core) (looks : Bool) → keys.AreReached ts looks states.old.keys → keys.IsReached ts looks (keys.state_of key) →
+    ensures rising { keys.AreRising states.old.keys → IsRising key.places.items →
+        OnOk result (keys.AreRising states.new.keys) }
+    ensures distinct { keys.AreDistinct states.old.keys →
+        OnOk result (keys.AreDistinct states.new.keys) }
+    ensures reached { (ts : List Core) (looks : Bool) → keys.AreReached ts looks states.old.keys →
+        keys.IsReached ts looks (keys.state_of key) →
         OnOk result (keys.AreReached ts looks states.new.keys) }
     ensures longer { OnOk result (length states.old.keys ≤ length states.new.keys) }
     ensures few { OnOk result (length states.new.keys ≤ length states.old.keys + 1) }

@@ -3,6 +3,7 @@
 #![tactic(auto)]
 
 mod alike;
+mod basis;
 pub mod dfa;
 pub mod errors;
 pub mod faults;

@@ -1,6 +1,7 @@
 pub mod ByteRanges
 pub mod Characters
 pub mod Core
+pub mod ForestView
 pub mod IsCore
 pub mod Kinds
 pub mod Marks

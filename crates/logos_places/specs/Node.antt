@@ -1,4 +1,6 @@
 -- What a tree that was made ready stands for.
+use mathlib.Core.HLevel.{×_prop, Unit-prop}
+use mathlib.Core.Bool.{Bool-set}
 use Rattle.std.specs.Prelude.{ℕ, ◌+◌, Bool, true, ◌&&◌, ◌==◌, nat_lt, nat_le, IsTrue, List, [], ◌∷◌, Option, Some, None}
 use Rattle.logos_pattern.specs.Hir.{pairs}
 use Rattle.logos_places.specs.ByteRanges.{is_in}
@@ -53,3 +55,7 @@ is_measured node = (sized_of node).measured
 abbrev pub AreMeasured : List Node → Type 0
 AreMeasured [] = Unit {0}
 AreMeasured (node ∷ nodes) = IsTrue (is_measured node) × AreMeasured nodes
+
+pub AreMeasured-prop : (nodes : List Node) → IsProp (AreMeasured nodes)
+AreMeasured-prop [] = Unit-prop
+AreMeasured-prop (node ∷ nodes) = ×_prop (Bool-set _ _) (AreMeasured-prop nodes)

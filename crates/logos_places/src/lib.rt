@@ -3,6 +3,7 @@
 #![tactic(auto)]
 
 pub mod characters;
+pub mod forest;
 pub mod node;
 pub mod places;
 pub mod prepare;

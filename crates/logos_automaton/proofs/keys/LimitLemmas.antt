@@ -10,8 +10,7 @@ use Rattle.logos_automaton.specs.ReadKeys as reads
 use Rattle.logos_places.specs.Places.{Place}
 use Rattle.logos_automaton.specs.ReadKeys.{Read, nothing, upto, whole, IsRead, SameKey, SameAfter, HasRead, seen_kind, HasMoreKeys}
 use Rattle.logos_automaton.specs.Rules.{AreRuleCores, AreFree, some_look}
-use Rattle.logos_automaton.specs.Faults.{AllStart}
-use Rattle.logos_automaton.specs.Faults.{some_passable}
+use Rattle.logos_automaton.specs.Faults.{AllStart, some_passable}
 use Rattle.logos_pattern.proofs.Laws.{passes}
 use Rattle.logos_places.specs.Run.{Marked, MarkedIn}
 use Rattle.logos_automaton.specs.declared.key.Key.{Key}

@@ -1,28 +1,29 @@
 //! The automaton of leaves: one loop over its states, from the start on, until each has its targets.
 ghost use Rattle.std.specs.Prelude.{◌≡◌, ◌^◌, ◌<◌, ◌≤◌, ◌+◌, [], Bool, List, IfOk, IfErr, OnOk, length, map, vec_len};
-ghost use Rattle.logos_automaton.specs.Alike.{AreTold, AreKindBytes};
+ghost use Rattle.logos_places.specs.ForestView.{cores_of};
 ghost use Rattle.logos_automaton.specs.Building.{IsUnderway, FailsOn, FailsFor};
 ghost use Rattle.logos_places.specs.Core.{Core};
 ghost use Rattle.logos_automaton.specs.DfaView.{dfa_of};
 ghost use Rattle.logos_automaton.specs.Keys.{AreDistinct, AreReached, IsBuilt};
 ghost use Rattle.logos_places.specs.Node.{core_of, AreMeasured};
 ghost use Rattle.logos_places.specs.Run.{width_of};
-ghost use Rattle.logos_places.specs.Several.{AreStarts};
 ghost use Rattle.logos_automaton.specs.Measures.{size_of};
 ghost use Rattle.logos_automaton.specs.Faults.{AllStart};
 ghost use Rattle.logos_automaton.specs.Automaton.{IsTotal, ReadsOneByteLate};
 ghost use Rattle.logos_automaton.specs.View.{rules_of};
 
 use super::Dfa;
-use crate::alike::{Told, kind_bytes, told_by_each};
+use crate::alike::{kind_bytes, told_by_each};
+use crate::basis::Basis;
 use crate::errors::BuildError;
 use crate::key::{Key, number_of, start_key};
 use crate::nodes::nodes_of;
 use crate::row::{Row, end_of, row_of};
 use crate::rule::{RuleView, some_look};
 use indexmap::IndexSet;
+use logos_places::forest::Forest;
 use logos_places::node::Node;
-use logos_places::places::all::starts_of;
+use logos_places::places::all::forest_of;
 use std::alloc::{AllocError, Global};
 
 /// How many states an automaton may have.
@@ -30,40 +31,34 @@ pub const MAX_STATES: usize = 65_536;
 
 /// The list of the start alone.
 fn only_start(alloc: Global) -> Result<IndexSet<Key>, AllocError>
-    ensures { (looks : Bool) (ts : List Core) → IfOk result (λ states. IsUnderway ts looks states.keys [] []) }
+    ensures { (looks : Bool) (ts : List Core) →
+        IfOk result (λ states. IsUnderway ts looks states.keys [] []) }
 {
     let mut states = IndexSet::new(alloc);
     number_of(&mut states, start_key(alloc))?;
     Ok(states)
 }
 
-/// Adds the targets of the first state that has none yet, where `told` has the bytes that each tree tells apart, and `kinds` those
-/// that looks do.
+/// Adds the targets of the first state that has none yet.
 fn fill_next(
     alloc: Global,
-    nodes: &[Node],
-    starts: &[usize],
-    looks: bool,
-    told: &[Told],
-    kinds: &[bool; 256],
+    basis: &Basis,
     states: &mut IndexSet<Key>,
     rows: &mut Vec<Row>,
     ends: &mut Vec<u32>,
 ) -> Result<(), BuildError>
-    requires fits { width_of (map core_of nodes.now) < 2 ^ 64 }
-    requires measured { AreMeasured nodes.now }
-    requires starts { AreStarts nodes.now starts.now }
-    requires told { AreTold nodes.now told.now (length nodes.now) }
-    requires kinds { AreKindBytes kinds.now }
     requires left { vec_len rows.old < length states.old.keys }
-    requires underway { IsUnderway (map core_of nodes.now) looks states.old.keys rows.old.items ends.old.items }
-    ensures underway { OnOk result (IsUnderway (map core_of nodes.now) looks states.new.keys rows.new.items ends.new.items) }
+    requires underway { IsUnderway (cores_of basis.now.forest)
+        basis.now.looks states.old.keys rows.old.items ends.old.items }
+    ensures underway { OnOk result (IsUnderway (cores_of basis.now.forest)
+        basis.now.looks states.new.keys rows.new.items
+        ends.new.items) }
     ensures next { OnOk result (vec_len rows.new ≡ vec_len rows.old + 1) }
-    ensures fails { IfErr result (FailsOn (map core_of nodes.now) looks) }
+    ensures fails { IfErr result (FailsOn (cores_of basis.now.forest) basis.now.looks) }
 {
     let state = rows.len();
-    let row = row_of(alloc, nodes, starts, looks, told, kinds, states, state)?;
-    let end = end_of(alloc, nodes, starts, states, state)?;
+    let row = row_of(alloc, basis, states, state)?;
+    let end = end_of(alloc, basis, states, state)?;
     if states.len() > MAX_STATES {
         return Err(BuildError::LimitStates);
     }
@@ -72,39 +67,57 @@ fn fill_next(
     Ok(())
 }
 
-/// The automaton of these trees.
-fn build_nodes(alloc: Global, nodes: &[Node], looks: bool) -> Result<Dfa, BuildError>
-    requires fits { width_of (map core_of nodes.now) < 2 ^ 64 }
-    requires measured { AreMeasured nodes.now }
-    ensures built { IfOk result (λ dfa. IsBuilt (map core_of nodes.now) looks 0 dfa.states.keys dfa.rows.items dfa.ends.items) }
-    ensures distinct { IfOk result (λ dfa. AreDistinct dfa.states.keys) }
-    ensures reached { IfOk result (λ dfa. AreReached (map core_of nodes.now) looks dfa.states.keys) }
-    ensures few { IfOk result (λ dfa. length dfa.states.keys ≤ 65536) }
-    ensures fails { IfErr result (FailsOn (map core_of nodes.now) looks) }
+/// What the states of the automaton of a forest are made from.
+fn basis_of(alloc: Global, forest: Forest, looks: bool) -> Result<Basis, AllocError>
+    ensures { IfOk result (λ basis. (basis.forest ≡ forest) × (basis.looks ≡ looks)) }
 {
-    let starts = starts_of(alloc, nodes)?;
-    let told = told_by_each(alloc, nodes)?;
-    let kinds = kind_bytes();
+    let told = told_by_each(alloc, &forest)?;
+    Ok(Basis {
+        forest,
+        told,
+        kinds: kind_bytes(),
+        looks,
+    })
+}
+
+/// The automaton of a basis.
+fn build_states(alloc: Global, basis: &Basis) -> Result<Dfa, BuildError>
+    ensures built { IfOk result (λ dfa.
+        IsBuilt (cores_of basis.now.forest) basis.now.looks 0 dfa.states.keys dfa.rows.items
+        dfa.ends.items) }
+    ensures distinct { IfOk result (λ dfa. AreDistinct dfa.states.keys) }
+    ensures reached { IfOk result (λ dfa.
+        AreReached (cores_of basis.now.forest) basis.now.looks dfa.states.keys) }
+    ensures few { IfOk result (λ dfa. length dfa.states.keys ≤ 65536) }
+    ensures fails { IfErr result (FailsOn (cores_of basis.now.forest) basis.now.looks) }
+{
     let mut states = only_start(alloc)?;
     let mut rows = Vec::new(alloc);
     let mut ends = Vec::new(alloc);
     while rows.len() < states.len() {
-        fill_next(
-            alloc,
-            nodes,
-            &starts,
-            looks,
-            &told,
-            &kinds,
-            &mut states,
-            &mut rows,
-            &mut ends,
-        )?;
+        fill_next(alloc, basis, &mut states, &mut rows, &mut ends)?;
     }
     Ok(Dfa { states, rows, ends })
 }
 
-/// The automaton of these leaves. It fails where it would have more than 65,536 states, and where there is no memory.
+/// The automaton of these trees.
+fn build_nodes(alloc: Global, nodes: Vec<Node>, looks: bool) -> Result<Dfa, BuildError>
+    requires fits { width_of (map core_of nodes.items) < 2 ^ 64 }
+    requires measured { AreMeasured nodes.items }
+    ensures built { IfOk result (λ dfa.
+        IsBuilt (map core_of nodes.items) looks 0 dfa.states.keys dfa.rows.items dfa.ends.items) }
+    ensures distinct { IfOk result (λ dfa. AreDistinct dfa.states.keys) }
+    ensures reached { IfOk result (λ dfa.
+        AreReached (map core_of nodes.items) looks dfa.states.keys) }
+    ensures few { IfOk result (λ dfa. length dfa.states.keys ≤ 65536) }
+    ensures fails { IfErr result (FailsOn (map core_of nodes.items) looks) }
+{
+    let forest = forest_of(alloc, nodes)?;
+    let basis = basis_of(alloc, forest, looks)?;
+    build_states(alloc, &basis)
+}
+
+/// The automaton of these rules. It fails where it would have more than 65,536 states, and where there is no memory.
 pub fn build(alloc: Global, rules: &[RuleView<'_>]) -> Result<Dfa, BuildError>
     requires size { size_of (rules_of rules.now) ≤ 2 ^ 20 }
     requires start { AllStart (rules_of rules.now) }
@@ -114,5 +127,5 @@ pub fn build(alloc: Global, rules: &[RuleView<'_>]) -> Result<Dfa, BuildError>
     ensures fails { IfErr result (FailsFor (rules_of rules.now)) }
 {
     let nodes = nodes_of(alloc, rules)?;
-    build_nodes(alloc, &nodes, some_look(rules))
+    build_nodes(alloc, nodes, some_look(rules))
 }

@@ -1,13 +1,12 @@
 // From leaves to their graph.
 ghost use Rattle.std.specs.Prelude.{◌≡◌, ◌^◌, ◌<◌, ◌≤◌, [], IfOk, IfErr, length, map};
 ghost use Rattle.logos_automaton.specs.DfaView.{dfa_of};
-ghost use Rattle.logos_automaton.specs.Faults.{AreFaults};
+ghost use Rattle.logos_automaton.specs.Faults.{AreFaults, AllStart};
 ghost use Rattle.logos_automaton.specs.Errors.{fault_of};
 ghost use Rattle.logos_automaton.specs.View as views;
 ghost use Rattle.logos_graph.specs.GraphOf.{IsGraphOf, AreFindings, Refuses};
 ghost use Rattle.logos_automaton.specs.Measures.{size_of};
 ghost use Rattle.logos_graph.specs.View.{rules_of};
-ghost use Rattle.logos_automaton.specs.Faults.{AllStart};
 ghost use Rattle.logos_automaton.specs.Automaton.{IsTotal, ReadsOneByteLate};
 ghost use Rattle.logos_automaton.specs.declared.errors.BuildError.TheVariants.{Memory, LimitSize};
 

@@ -1,12 +1,11 @@
 -- Steps on several patterns.
-use Rattle.std.proofs.Common.{◌≡◌, ℕ, zero, suc, ◌+◌, ◌-◌, ◌<◌, ◌≤◌, ◌↔◌, ◌⊎◌, Bool, true, false, IsTrue, List, [], ◌∷◌, ◌++◌, length, if◌then◌else◌, refl, sym, ap, ◌∙◌, subst, inl, inr, ⊎_elim, true≢false, arith}
+use Rattle.std.proofs.Common.{◌≡◌, ℕ, zero, suc, ◌+◌, ◌-◌, ◌<◌, ◌≤◌, ◌↔◌, ◌⊎◌, Bool, true, false, IsTrue, List, [], ◌∷◌, ◌++◌, length, if◌then◌else◌, refl, sym, ap, ◌∙◌, subst, inl, inr, ⊎_elim, true≢false, arith, get_or, slice_index, length-append, drop, map, drop-cons, add-one}
 use Rattle.logos_places.specs.Core.{Core, width, Exits, Steps}
 use Rattle.logos_places.specs.Marks.{Has, IsSet}
 use Rattle.logos_places.specs.Run.{width_of, StepsIn, ExitsIn}
 use Rattle.logos_places.specs.Several.{ReadBy, LeftBy, OwesPlaces, OwesNumbers, AreFirstStarts, AreStarts}
 use Rattle.logos_places.specs.inside.Stepped.{Stepped}
 use Rattle.logos_pattern.specs.declared.pattern.hir.Look.{Look}
-use Rattle.std.proofs.Common.{get_or, slice_index, length-append, drop, map, drop-cons, add-one}
 use Rattle.std.proofs.lemmas.List.{get_or_append_left}
 use Rattle.std.proofs.Math.Seq.{get_or-append_seam}
 use Rattle.logos_places.specs.Node.{core_of, is_measured, AreMeasured}

@@ -1,6 +1,5 @@
 -- What each form of a node stands for.
-use Rattle.std.proofs.Common.{◌≡◌, ℕ, ◌+◌, ◌<◌, ◌≤◌, Bool, true, ◌&&◌, ◌==◌, nat_lt, nat_le, Option, Some, None, Vec, Box, Global, sym, ap, ◌∙◌, eqb-true}
-use Rattle.std.proofs.Common.{arith, suc, ◌-◌, ◌*◌, length}
+use Rattle.std.proofs.Common.{◌≡◌, ℕ, ◌+◌, ◌<◌, ◌≤◌, Bool, true, ◌&&◌, ◌==◌, nat_lt, nat_le, Option, Some, None, Vec, Box, Global, sym, ap, ◌∙◌, eqb-true, arith, suc, ◌-◌, ◌*◌, length}
 use Rattle.std.proofs.lemmas.Bool.{and_parts}
 use Rattle.std.proofs.lemmas.Bool.Decides.{nat_tests}
 use Rattle.logos_pattern.specs.Hir.{pairs}

@@ -1,6 +1,6 @@
 use Rattle.std.proofs.Common.{map, refl, sym, arith}
 use Rattle.logos_automaton.specs.Keys.{state_of, IsAt, by_end}
-use Rattle.logos_places.specs.Node.{core_of}
+use Rattle.logos_places.specs.ForestView.{cores_of}
 use Rattle.logos_places.proofs.steps.SeveralLemmas.{no_places}
 use Rattle.logos_automaton.proofs.row.end_of.Goals as goal
 
@@ -12,15 +12,15 @@ pub overflow_cast-result : goal.overflow_cast-result
 overflow_cast-result c = omega (arith, c.in_ok-target.ensures.within, c.in_ok-target.ensures.few, c.requires.few)
 
 pub returns-clause-extends : goal.returns-clause-extends
-returns-clause-extends c = λ looks.
+returns-clause-extends c =
     let n = c.in_ok-target.ensures in
-    let ts = map core_of c.args.nodes.now in
+    let ts = cores_of c.args.basis.now.forest in
     let here : IsAt c.args.states.now.keys c.args.state (state_of c.in-Some.key.now) = record { key = c.in-Some.key.now; is = sym c.in-Some.ensures.key; same = refl } in
     record {
       grows = n.grows;
       rising = λ h. n.rising h (rw c.in_ok-made-in-Some.ensures.places no_places.rising);
       distinct = n.distinct;
-      reached = λ h. n.reached ts looks h
+      reached = λ h. n.reached ts c.args.basis.now.looks h
           (by_end (state_of c.in-Some.key.now) (state_of c.in_ok-made-in-Some.made)
           (h.reached c.args.state (state_of c.in-Some.key.now) here) c.in_ok-made-in-Some.ensures);
       longer = n.longer;

@@ -1,4 +1,4 @@
-use Rattle.std.proofs.Common.{◌≡◌, [], sym, ap, ◌∙◌, subst, arith, rules, map, drop}
+use Rattle.std.proofs.Common.{◌≡◌, [], sym, ap, ◌∙◌, subst, arith, rules, map, drop, append-nil}
 use Rattle.std.proofs.lemmas.Result.{IfOk-weaker}
 use Rattle.logos_pattern.specs.Tree.{trees}
 use Rattle.logos_pattern.specs.Hir.{tree_of}
@@ -11,7 +11,6 @@ use Rattle.logos_places.proofs.trees.RepetitionLemmas.{core_repetition, core_no_
 use Rattle.logos_places.proofs.trees.PrepareLemmas.{tree-Empty, tree-Literal, tree-Look, tree-Concat, tree-Alternation, joined_parts, joined_branches, width_of-cores, stand_more, size_at, AreMeasured-push}
 use Rattle.logos_pattern.specs.declared.pattern.hir.Hir.{the_lemmas}
 use Rattle.std.proofs.Math.ListN.{drop_of_length-le}
-use Rattle.std.proofs.Common.{append-nil}
 use Rattle.logos_places.specs.Repeat.{IsOrdered}
 use Rattle.logos_places.proofs.prepare.+prepare.Goals as goal
 use Rattle.logos_places.proofs.prepare.+prepare.Goals.{prepare_repetition-in-Some+else-most-min+else-most-eq0, prepare_repetition-in_default}

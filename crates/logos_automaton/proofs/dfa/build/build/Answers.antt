@@ -41,17 +41,17 @@ module _ (rules : List Rule) (ts : List Core) (looks : Bool) (are : AreRuleCores
 pub build_nodes-requires-clause-fits : goal.build_nodes-requires-clause-fits
 build_nodes-requires-clause-fits c =
     let w = rules_width (rules_of c.args.rules.now) (map core_of c.in_ok-nodes.nodes.items) c.in_ok-nodes.ensures.cores in
-    rw c.deref.ensures.value (omega (arith, w, c.requires.size))
+    omega (arith, w, c.requires.size)
 
 pub returns-clause-late : goal.returns-clause-late
 returns-clause-late c =
-    late (rules_of c.args.rules.now) (map core_of c.deref.result.now) c.some_look.result (rw c.deref.ensures.value c.in_ok-nodes.ensures.cores) c.some_look.ensures c.build_nodes.result c.build_nodes.ensures.built
+    late (rules_of c.args.rules.now) (map core_of c.in_ok-nodes.nodes.items) c.some_look.result c.in_ok-nodes.ensures.cores c.some_look.ensures c.build_nodes.result c.build_nodes.ensures.built
 
 pub returns-clause-total : goal.returns-clause-total
 returns-clause-total c =
-    total (rules_of c.args.rules.now) (map core_of c.deref.result.now) c.some_look.result (rw c.deref.ensures.value c.in_ok-nodes.ensures.cores) c.some_look.ensures c.requires.start c.build_nodes.result
+    total (rules_of c.args.rules.now) (map core_of c.in_ok-nodes.nodes.items) c.some_look.result c.in_ok-nodes.ensures.cores c.some_look.ensures c.requires.start c.build_nodes.result
     c.build_nodes.ensures.built c.build_nodes.ensures.distinct c.build_nodes.ensures.reached
 
 pub returns-clause-fails : goal.returns-clause-fails
 returns-clause-fails c =
-    fails (rules_of c.args.rules.now) (map core_of c.deref.result.now) c.some_look.result (rw c.deref.ensures.value c.in_ok-nodes.ensures.cores) c.some_look.ensures c.requires.start c.build_nodes.result c.build_nodes.ensures.fails
+    fails (rules_of c.args.rules.now) (map core_of c.in_ok-nodes.nodes.items) c.some_look.result c.in_ok-nodes.ensures.cores c.some_look.ensures c.requires.start c.build_nodes.result c.build_nodes.ensures.fails

@@ -5,29 +5,29 @@ use Rattle.logos_places.proofs.steps.SeveralLemmas.{next_measured, numbers_after
 use Rattle.logos_places.proofs.places.all.exits_all.Goals as goal
 
 pub exits-leaves-requires-clause-measured : goal.exits-leaves-requires-clause-measured
-exits-leaves-requires-clause-measured c = next_measured c.args.nodes.now c.loop-number.number c.index-nodes-number.result c.loop-number-test.true c.index-nodes-number.is c.requires.measured
+exits-leaves-requires-clause-measured c = next_measured c.args.forest.now.nodes.items c.loop-number.number c.index.result.now (omega arith) c.index.ensures c.args.forest.now.measured
 
 pub loop-number-init : goal.loop-number-init
 loop-number-init c =
     let n = c.next_tree-number.ensures in
-    let nodes = c.args.nodes.now in
-    let starts = c.args.starts.now in
-    let within : c.next_tree-number.result ≤ length nodes = omega (arith, n.bound, c.requires.starts.count) in
+    let nodes = c.args.forest.now.nodes.items in
+    let starts = c.args.forest.now.starts.items in
+    let within : c.next_tree-number.result ≤ length nodes = omega (arith, n.bound, c.args.forest.now.begin.count) in
     record {
       within = within;
-      numbers = pass_numbers nodes starts c.requires.starts c.args.marks.now (test_at c.args.at) (map core_of nodes) c.args.entered _ 0 c.next_tree-number.result n.after within n.stays n.unmarked
-          (rw c.new-left.ensures.items (numbers_first nodes starts c.requires.starts c.args.marks.now (test_at c.args.at) (map core_of nodes) c.args.entered refl));
+      numbers = pass_numbers nodes starts c.args.forest.now.begin c.args.marks.now (test_at c.args.at) (map core_of nodes) c.args.entered _ 0 c.next_tree-number.result n.after within n.stays n.unmarked
+          (rw c.new-left.ensures.items (numbers_first nodes starts c.args.forest.now.begin c.args.marks.now (test_at c.args.at) (map core_of nodes) c.args.entered refl));
     }
 
 pub loop-number-preserved : goal.loop-number-preserved
 loop-number-preserved c =
     let n = c.next_tree-number-in-loop-number.ensures in
-    let nodes = c.args.nodes.now in
-    let starts = c.args.starts.now in
-    let within : c.next_tree-number-in-loop-number.result ≤ length nodes = omega (arith, n.bound, c.requires.starts.count) in
+    let nodes = c.args.forest.now.nodes.items in
+    let starts = c.args.forest.now.starts.items in
+    let within : c.next_tree-number-in-loop-number.result ≤ length nodes = omega (arith, n.bound, c.args.forest.now.begin.count) in
     record {
       within = within;
-      numbers = pass_numbers nodes starts c.requires.starts c.args.marks.now (test_at c.args.at) (map core_of nodes) c.args.entered _ (c.loop-number.number + 1) c.next_tree-number-in-loop-number.result n.after within n.stays n.unmarked
-          (numbers_after nodes starts c.requires.starts c.args.marks.now (test_at c.args.at) (map core_of nodes) c.args.entered c.exits-leaves.result _ _ c.loop-number.number c.index-nodes-number.result
-          c.loop-number-test.true c.index-nodes-number.is c.exits-leaves.ensures c.in_ok-note.ensures c.loop-number.invariant.numbers);
+      numbers = pass_numbers nodes starts c.args.forest.now.begin c.args.marks.now (test_at c.args.at) (map core_of nodes) c.args.entered _ (c.loop-number.number + 1) c.next_tree-number-in-loop-number.result n.after within n.stays n.unmarked
+          (numbers_after nodes starts c.args.forest.now.begin c.args.marks.now (test_at c.args.at) (map core_of nodes) c.args.entered c.exits-leaves.result _ _ c.loop-number.number c.index.result.now
+          (omega arith) c.index.ensures c.exits-leaves.ensures c.in_ok-note.ensures c.loop-number.invariant.numbers);
     }

@@ -5,34 +5,34 @@ use Rattle.logos_places.proofs.steps.SeveralLemmas.{next_measured, numbers_after
 use Rattle.logos_places.proofs.places.all.step_all.Goals as goal
 
 pub step-requires-clause-measured : goal.step-requires-clause-measured
-step-requires-clause-measured c = next_measured c.args.nodes.now c.loop-number.number c.index-nodes-number.result c.loop-number-test.true c.index-nodes-number.is c.requires.measured
+step-requires-clause-measured c = next_measured c.args.forest.now.nodes.items c.loop-number.number c.index.result.now (omega arith) c.index.ensures c.args.forest.now.measured
 
 pub loop-number-init : goal.loop-number-init
 loop-number-init c =
     let n = c.next_tree-number.ensures in
-    let nodes = c.args.nodes.now in
-    let starts = c.args.starts.now in
-    let within : c.next_tree-number.result ≤ length nodes = omega (arith, n.bound, c.requires.starts.count) in
+    let nodes = c.args.forest.now.nodes.items in
+    let starts = c.args.forest.now.starts.items in
+    let within : c.next_tree-number.result ≤ length nodes = omega (arith, n.bound, c.args.forest.now.begin.count) in
     record {
       within = within;
-      places = pass_places nodes starts c.requires.starts c.args.marks.now (test_at c.args.at) (map core_of nodes) c.args.byte c.args.entered _ 0 c.next_tree-number.result n.after within n.stays n.unmarked
-          (rw c.new-places.ensures.items (places_first nodes starts c.requires.starts c.args.marks.now (test_at c.args.at) (map core_of nodes) c.args.byte c.args.entered refl));
-      numbers = pass_numbers nodes starts c.requires.starts c.args.marks.now (test_at c.args.at) (map core_of nodes) c.args.entered _ 0 c.next_tree-number.result n.after within n.stays n.unmarked
-          (rw c.new-left.ensures.items (numbers_first nodes starts c.requires.starts c.args.marks.now (test_at c.args.at) (map core_of nodes) c.args.entered refl));
+      places = pass_places nodes starts c.args.forest.now.begin c.args.marks.now (test_at c.args.at) (map core_of nodes) c.args.byte c.args.entered _ 0 c.next_tree-number.result n.after within n.stays n.unmarked
+          (rw c.new-places.ensures.items (places_first nodes starts c.args.forest.now.begin c.args.marks.now (test_at c.args.at) (map core_of nodes) c.args.byte c.args.entered refl));
+      numbers = pass_numbers nodes starts c.args.forest.now.begin c.args.marks.now (test_at c.args.at) (map core_of nodes) c.args.entered _ 0 c.next_tree-number.result n.after within n.stays n.unmarked
+          (rw c.new-left.ensures.items (numbers_first nodes starts c.args.forest.now.begin c.args.marks.now (test_at c.args.at) (map core_of nodes) c.args.entered refl));
     }
 
 pub loop-number-preserved : goal.loop-number-preserved
 loop-number-preserved c =
     let n = c.next_tree-number-in-loop-number.ensures in
-    let nodes = c.args.nodes.now in
-    let starts = c.args.starts.now in
-    let within : c.next_tree-number-in-loop-number.result ≤ length nodes = omega (arith, n.bound, c.requires.starts.count) in
+    let nodes = c.args.forest.now.nodes.items in
+    let starts = c.args.forest.now.starts.items in
+    let within : c.next_tree-number-in-loop-number.result ≤ length nodes = omega (arith, n.bound, c.args.forest.now.begin.count) in
     record {
       within = within;
-      places = pass_places nodes starts c.requires.starts c.args.marks.now (test_at c.args.at) (map core_of nodes) c.args.byte c.args.entered _ (c.loop-number.number + 1) c.next_tree-number-in-loop-number.result n.after within n.stays n.unmarked
-          (places_after nodes starts c.requires.starts c.args.marks.now (test_at c.args.at) (map core_of nodes) c.args.byte c.args.entered c.in_ok-leaves.leaves _ _ c.loop-number.number c.index-nodes-number.result
-          c.loop-number-test.true c.index-nodes-number.is c.in_ok-leaves.ensures c.loop-number.invariant.places);
-      numbers = pass_numbers nodes starts c.requires.starts c.args.marks.now (test_at c.args.at) (map core_of nodes) c.args.entered _ (c.loop-number.number + 1) c.next_tree-number-in-loop-number.result n.after within n.stays n.unmarked
-          (numbers_after nodes starts c.requires.starts c.args.marks.now (test_at c.args.at) (map core_of nodes) c.args.entered c.in_ok-leaves.leaves _ _ c.loop-number.number c.index-nodes-number.result
-          c.loop-number-test.true c.index-nodes-number.is c.in_ok-leaves.ensures.leaves c.in_ok-note.ensures c.loop-number.invariant.numbers);
+      places = pass_places nodes starts c.args.forest.now.begin c.args.marks.now (test_at c.args.at) (map core_of nodes) c.args.byte c.args.entered _ (c.loop-number.number + 1) c.next_tree-number-in-loop-number.result n.after within n.stays n.unmarked
+          (places_after nodes starts c.args.forest.now.begin c.args.marks.now (test_at c.args.at) (map core_of nodes) c.args.byte c.args.entered c.in_ok-leaves.leaves _ _ c.loop-number.number c.index.result.now
+          (omega arith) c.index.ensures c.in_ok-leaves.ensures c.loop-number.invariant.places);
+      numbers = pass_numbers nodes starts c.args.forest.now.begin c.args.marks.now (test_at c.args.at) (map core_of nodes) c.args.entered _ (c.loop-number.number + 1) c.next_tree-number-in-loop-number.result n.after within n.stays n.unmarked
+          (numbers_after nodes starts c.args.forest.now.begin c.args.marks.now (test_at c.args.at) (map core_of nodes) c.args.entered c.in_ok-leaves.leaves _ _ c.loop-number.number c.index.result.now
+          (omega arith) c.index.ensures c.in_ok-leaves.ensures.leaves c.in_ok-note.ensures c.loop-number.invariant.numbers);
     }

@@ -5,9 +5,9 @@ abbrev pub invariant-loop-low : goal.invariant-loop-low
 invariant-loop-low l = record {
   after : l.from ≤ l.low;
   order : l.low < l.high;
-  within : l.high < length l.starts;
-  begins : slice_index l.starts l.low ≤ l.place;
-  ends : l.place < slice_index l.starts l.high;
+  within : l.high < length l.forest.starts.items;
+  begins : slice_index l.forest.starts.items l.low ≤ l.place;
+  ends : l.place < slice_index l.forest.starts.items l.high;
 }
 
 abbrev pub decreases-loop-low : goal.decreases-loop-low
