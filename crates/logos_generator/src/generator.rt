@@ -10,8 +10,6 @@ mod fork;
 mod leaves;
 mod nodes;
 mod states;
-#[cfg(test)]
-mod tests;
 mod tests_by_bits;
 
 use crate::code::{Code, Kept};

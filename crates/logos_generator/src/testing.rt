@@ -40,12 +40,12 @@ fn leaf(alloc: Global, rule: &(&str, usize, Fate)) -> Result<Leaf<'static>, Fail
     Ok(leaf)
 }
 
-/// The graph of leaves.
-pub(crate) fn graph_of(
+/// The code of leaves for the enum `A<u8>`, on whose errors `failed` is called.
+pub(crate) fn code_of(
     alloc: Global,
     utf8_mode: bool,
     rules: Rules<'_>,
-) -> Result<Graph<'static>, Fail> {
+) -> Result<Code<'static>, Fail> {
     let mut leaves = Vec::new(alloc);
     for rule in rules {
         leaves.push(leaf(alloc, rule)?)?;
@@ -54,16 +54,6 @@ pub(crate) fn graph_of(
     if !graph.errors().is_empty() {
         return Err(Fail::from("the leaves have faults"));
     }
-    Ok(graph)
-}
-
-/// The code of leaves for the enum `A<u8>`, on whose errors `failed` is called.
-pub(crate) fn code_of(
-    alloc: Global,
-    utf8_mode: bool,
-    rules: Rules<'_>,
-) -> Result<Code<'static>, Fail> {
-    let graph = graph_of(alloc, utf8_mode, rules)?;
     let config = Config {
         use_state_machine_codegen: true,
     };
