@@ -99,7 +99,13 @@ pub struct Leaf<'s> {
 impl<'s> Leaf<'s> {
     /// A leaf that skips, of priority 0 and without a callback.
     pub fn new(span: Span, pattern: Pattern<'s>) -> Leaf<'s>
-        ensures { result ≡ record { pattern = pattern.entry; span = span; priority = 0; kind = VariantKind.Skip; callback = None } }
+        ensures { result ≡ record {
+          pattern = pattern.entry;
+          span = span;
+          priority = 0;
+          kind = VariantKind.Skip;
+          callback = None;
+        } }
     {
         Leaf {
             pattern,

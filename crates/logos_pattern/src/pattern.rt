@@ -5,6 +5,7 @@ ghost use Rattle.logos_hir.specs.Hir.{tree_of, literal_tree};
 ghost use Rattle.logos_hir.specs.Priority.{value};
 ghost use Rattle.logos_hir.specs.Measure.{fitted, is_text, has_greedy_dot};
 ghost use Rattle.logos_pattern_tokens.specs.declared.error.PatternError.TheVariants as errors;
+ghost use Rattle.logos_syntax.specs.Nesting.{IsTooDeep};
 ghost use Rattle.logos_syntax.specs.Grammar.{IsSpelled, IsFound, Refuses, first_flags};
 ghost use Rattle.logos_pattern.specs.Leaf.{pattern_tree, source_of, is_token, pattern_text};
 ghost use Rattle.logos_pattern.specs.Literals.{token_of, held_bytes, literal_value};
@@ -54,6 +55,10 @@ impl<'s> Pattern<'s> {
         // What is refused has no tree, or only one that is nested too deep, or memory ran out.
         ensures refused { IfErr result (Refuses (first_flags unicode ignore_case)
             (chars regex.now)) }
+        // Behind some beginning of what is refused as too deep, more than 250 groups, brackets and
+        // operators are around one place.
+        ensures deep { IfErr result (λ e. e ≡ errors.LimitPatternNesting →
+            IsTooDeep (first_flags unicode ignore_case) (chars regex.now)) }
         // What has a tree within the limit is read.
         ensures complete { (depth : ℕ) → depth ≤ 250 →
             IsSpelled (first_flags unicode ignore_case) (chars regex.now) depth →
