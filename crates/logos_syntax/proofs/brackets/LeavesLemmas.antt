@@ -1,5 +1,5 @@
 -- A beginning of a bracket, and how many brackets it leaves open.
-use Rattle.std.proofs.Common.{◌≡◌, ℕ, suc, ◌+◌, ◌<◌, ◌≤◌, Bool, Result, Ok, Err, List, [], ◌∷◌, ◌++◌, length, Option, Some, None, refl, sym, ap, subst, ◌∙◌, arith, option_and_then}
+use Rattle.std.proofs.Common.{◌≡◌, ℕ, suc, ◌+◌, ◌≤◌, Bool, Err, List, [], ◌∷◌, ◌++◌, length, Some, refl, ap, subst, ◌∙◌, arith, option_and_then}
 use Rattle.logos_pattern_tokens.specs.declared.token.Flags.{Flags}
 use Rattle.logos_pattern_tokens.specs.declared.bracket.token.Lead.{Lead}
 use Rattle.logos_pattern_tokens.specs.declared.bracket.token.BracketToken.{BracketToken}
@@ -9,14 +9,13 @@ use Rattle.logos_pattern_tokens.specs.declared.error.Fault.TheVariants as faults
 use Rattle.logos_pattern_tokens.specs.declared.error.Stop.{Stop}
 use Rattle.logos_pattern_tokens.specs.declared.error.Stop.TheVariants as stops
 use Rattle.logos_pattern_tokens.specs.Token.{Text}
-use Rattle.logos_pattern_tokens.specs.bracket.Spelling.{BracketTakes, BracketCuts}
 use Rattle.logos_pattern_tokens.specs.bracket.Reader.{open_at, bracket_token_at}
 use Rattle.logos_pattern_tokens.proofs.BracketTokens.{open_taken}
-use Rattle.logos_syntax.specs.Nesting.{LeavesOpen, done, item, operator, opening, closing, InsideFront, BracketFront}
+use Rattle.logos_syntax.specs.Nesting.{LeavesOpen, done, item, operator, opening, closing, InsideFront}
 use Rattle.logos_syntax.specs.inside.BracketStack.{Frames}
-use Rattle.logos_syntax.specs.inside.BracketView.{IsStopOf, BracketSteps, TooDeep, TellsInside, TellsBracket}
-use Rattle.logos_syntax.proofs.brackets.Levels.{Level, Stack, bottom, over, Place, frames_of, size, starting, advance, walk, walk_more, length-below_of, with_members, level_inside}
-use Rattle.logos_syntax.proofs.brackets.Texts.{InBracket, HasWalked, cuts_more, taken, fits_more}
+use Rattle.logos_syntax.specs.inside.BracketView.{IsStopOf, BracketSteps, TellsInside, TellsBracket}
+use Rattle.logos_syntax.proofs.brackets.Levels.{Level, Stack, bottom, over, Place, size, starting, walk, walk_more, length-below_of}
+use Rattle.logos_syntax.proofs.brackets.Texts.{InBracket, cuts_more, taken, fits_more}
 
 abbrev at : Stack → Level → Place
 at k l = record { level = l; stack = k }

@@ -9,15 +9,15 @@ use Rattle.logos_hir.specs.declared.hir.Hir.{Hir}
 use Rattle.logos_pattern_tokens.specs.Token.{Text, Token, opens}
 use Rattle.logos_pattern_tokens.specs.Reader.{token_at}
 use Rattle.logos_syntax.specs.declared.names.Names.{Names}
-use Rattle.logos_syntax.specs.Written.{Branches, branches_tokens, taken as start_taken, Cuts, NamesDiffer, branches_flags, inner_flags}
+use Rattle.logos_syntax.specs.Written.{branches_tokens, taken as start_taken, Cuts, NamesDiffer, branches_flags, inner_flags}
 use Rattle.logos_syntax.specs.Grammar.{BranchesFit, branches_depth}
-use Rattle.logos_syntax.specs.Nesting.{Around, outermost, within, groups_open, around_tokens, around_flags, AroundFits, around_depth, Front, front_depth, front_flags, BracketFront, IsTooDeep, by_groups, by_brackets}
-use Rattle.logos_syntax.specs.inside.Groups.{State, start, deepest, deepest_below}
+use Rattle.logos_syntax.specs.Nesting.{Around, outermost, within, groups_open, around_tokens, around_flags, AroundFits, around_depth, Front, front_flags, BracketFront, IsTooDeep, by_groups, by_brackets}
+use Rattle.logos_syntax.specs.inside.Groups.{State, deepest, deepest_below}
 use Rattle.logos_syntax.specs.inside.BracketView.{IsStopOf, TellsBracket}
 use Rattle.logos_syntax.specs.inside.GroupsView.{Steps, Ends}
 use Rattle.logos_syntax.specs.inside.Names.{Admits}
-use Rattle.logos_syntax.specs.inside.Reading.{GoesOn, IsDeepAt, token_deep, bracket_deep, TellsToken, TellsText, names_behind, HasRead}
-use Rattle.logos_syntax.proofs.patterns.Levels.{Level, Stack, bottom, over, Place, level_flags, level_inside, state_of, below_of, size, length-below_of, flags_inside, depth_inside, branch_flags, inside_depth}
+use Rattle.logos_syntax.specs.inside.Reading.{IsDeepAt, token_deep, bracket_deep, TellsToken, TellsText, names_behind, HasRead}
+use Rattle.logos_syntax.proofs.patterns.Levels.{Stack, bottom, over, Place, level_inside, state_of, below_of, size, length-below_of, flags_inside, depth_inside}
 use Rattle.logos_syntax.proofs.patterns.Levels as levels
 use Rattle.logos_syntax.proofs.patterns.Reading.{stack_tokens, tokens_of, StackFits, IsRead, is_read}
 use Rattle.logos_syntax.proofs.patterns.Texts.{reads_on, taken_here}
