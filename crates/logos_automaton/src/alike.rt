@@ -39,7 +39,7 @@ fn literal_tells(text: &[u8], one: u8, other: u8) -> bool
     false
 }
 
-/// The same for a class of characters.
+/// Whether the bytes can be told apart by the class of characters.
 fn table_tells(table: &Table, one: u8, other: u8) -> bool
     ensures { IsFalse result → IsAlike (core.character (reader_of table.now)) one other }
 {
@@ -54,7 +54,7 @@ fn table_tells(table: &Table, one: u8, other: u8) -> bool
     false
 }
 
-/// The same for a tree.
+/// Whether the bytes can be told apart by the tree.
 #[cycle(tells)]
 fn tells(node: &Node, one: u8, other: u8) -> bool
     ensures { IsFalse result → IsAlike (core_of node.now) one other }
@@ -86,7 +86,8 @@ pub struct Told {
 
 /// Adds the byte if it is one of them.
 fn note(bytes: &mut Vec<u8>, byte: u8, is_one: bool) -> Result<(), AllocError>
-    ensures { OnOk result (bytes.new.items ≡ (if is_one then bytes.old.items ++ byte ∷ [] else bytes.old.items)) }
+    ensures { OnOk result (bytes.new.items ≡
+        (if is_one then bytes.old.items ++ byte ∷ [] else bytes.old.items)) }
 {
     if is_one {
         bytes.push(byte)?;
@@ -106,7 +107,7 @@ fn told_by(alloc: Global, node: &Node) -> Result<Told, AllocError>
     Ok(Told { bytes })
 }
 
-/// The same for each tree.
+/// The bytes that each tree tells apart from the one before.
 pub fn told_by_each(alloc: Global, nodes: &[Node]) -> Result<Vec<Told>, AllocError>
     ensures { IfOk result (λ told. AreTold nodes.now told.items (length nodes.now)) }
 {

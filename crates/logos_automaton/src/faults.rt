@@ -1,12 +1,11 @@
-//! The faults of a list of leaves.
+//! The faults of a list of rules.
 ghost use Rattle.std.specs.Prelude.{◌≡◌, ℕ, ◌≤◌, ◌⊎◌, ◌↔◌, IfOk, OnOk, List, map, Contains, vec_len};
 ghost use Rattle.logos_automaton.specs.DfaView.{dfa_of};
 ghost use Rattle.logos_automaton.specs.Errors.{fault_of, numbers};
-ghost use Rattle.logos_automaton.specs.Faults.{AreFaults, ArePassable, AreAmbiguous, Ascends, empty_match, disambiguation};
+ghost use Rattle.logos_automaton.specs.Faults.{AreFaults, ArePassable, AreAmbiguous, Ascends, empty_match, disambiguation, AllStart};
 ghost use Rattle.logos_automaton.specs.Munch.{priority_of};
 ghost use Rattle.logos_automaton.specs.TopSets.{highest_of, with_priority, top_of, IsTopSet, IsTopIn, AreTopSets};
 ghost use Rattle.logos_automaton.specs.View.{rules_of};
-ghost use Rattle.logos_automaton.specs.Faults.{AllStart};
 ghost use Rattle.logos_automaton.specs.Automaton.{IsTotal, ReadsOneByteLate};
 
 use crate::dfa::Dfa;
@@ -59,7 +58,8 @@ fn with_priority(
     listed: &[usize],
     priority: usize,
 ) -> Result<Vec<usize>, AllocError>
-    ensures { IfOk result (λ kept. kept.items ≡ with_priority (rules_of rules.now) priority listed.now) }
+    ensures { IfOk result (λ kept. kept.items ≡
+        with_priority (rules_of rules.now) priority listed.now) }
 {
     let mut kept = Vec::new(alloc);
     for leaf in listed {
@@ -78,7 +78,8 @@ fn add_top_set(
     sets: &mut BTreeSet<Vec<usize>>,
 ) -> Result<(), AllocError>
     ensures { OnOk result ((set : List ℕ) → Contains (map (λ v. v.items) sets.new.keys) set
-        ↔ (Contains (map (λ v. v.items) sets.old.keys) set ⊎ IsTopSet (rules_of rules.now) listed.now set)) }
+        ↔ (Contains (map (λ v. v.items) sets.old.keys) set ⊎
+        IsTopSet (rules_of rules.now) listed.now set)) }
 {
     if listed.len() < 2 {
         return Ok(());
@@ -106,7 +107,8 @@ fn top_sets(
     dfa: &Dfa,
 ) -> Result<BTreeSet<Vec<usize>>, AllocError>
     ensures { IfOk result (λ sets. (set : List ℕ) →
-        Contains (map (λ v. v.items) sets.keys) set ↔ IsTopIn (rules_of rules.now) (dfa_of dfa.now).matches set) }
+        Contains (map (λ v. v.items) sets.keys) set ↔
+        IsTopIn (rules_of rules.now) (dfa_of dfa.now).matches set) }
 {
     let mut sets = BTreeSet::new(alloc);
     for state in 0..state_count(dfa) {
@@ -129,7 +131,8 @@ fn leaf_ids(alloc: Global, set: &[usize]) -> Result<Vec<LeafId>, AllocError>
 /// The sets in order.
 fn in_order(alloc: Global, sets: &BTreeSet<Vec<usize>>) -> Result<Vec<Vec<LeafId>>, AllocError>
     ensures ascends { IfOk result (λ named. Ascends (map (λ set. numbers set.items) named.items)) }
-    ensures same { IfOk result (λ named. map (λ set. numbers set.items) named.items ≡ map (λ v. v.items) sets.now.keys) }
+    ensures same { IfOk result (λ named. map (λ set. numbers set.items) named.items ≡
+        map (λ v. v.items) sets.now.keys) }
 {
     let mut named = Vec::new(alloc);
     for set in sets {
@@ -146,7 +149,8 @@ pub fn ambiguous_sets(
     dfa: &Dfa,
 ) -> Result<Vec<Vec<LeafId>>, AllocError>
     requires total { IsTotal (dfa_of dfa.now) }
-    ensures { IfOk result (λ sets. ReadsOneByteLate (rules_of rules.now) (dfa_of dfa.now) → AllStart (rules_of rules.now) →
+    ensures { IfOk result (λ sets. ReadsOneByteLate (rules_of rules.now) (dfa_of dfa.now) →
+        AllStart (rules_of rules.now) →
         AreAmbiguous (rules_of rules.now) (map (λ set. numbers set.items) sets.items)) }
 {
     let sets = top_sets(alloc, rules, dfa)?;
@@ -155,7 +159,8 @@ pub fn ambiguous_sets(
 
 /// The faults of leaves that can match nothing.
 fn empty_matches(alloc: Global, passed: Vec<LeafId>) -> Result<Vec<GraphError>, AllocError>
-    ensures { IfOk result (λ errors. map fault_of errors.items ≡ map empty_match (numbers passed.items)) }
+    ensures { IfOk result (λ errors. map fault_of errors.items ≡
+        map empty_match (numbers passed.items)) }
 {
     let mut errors = Vec::new(alloc);
     for leaf in &passed {
@@ -166,7 +171,8 @@ fn empty_matches(alloc: Global, passed: Vec<LeafId>) -> Result<Vec<GraphError>, 
 
 /// The faults of sets that can't be told apart.
 fn disambiguations(alloc: Global, sets: Vec<Vec<LeafId>>) -> Result<Vec<GraphError>, AllocError>
-    ensures { IfOk result (λ errors. map fault_of errors.items ≡ map disambiguation (map (λ set. numbers set.items) sets.items)) }
+    ensures { IfOk result (λ errors. map fault_of errors.items ≡
+        map disambiguation (map (λ set. numbers set.items) sets.items)) }
 {
     let mut errors = Vec::new(alloc);
     for set in sets {
@@ -182,7 +188,8 @@ pub fn graph_errors(
     dfa: &Dfa,
 ) -> Result<Vec<GraphError>, AllocError>
     requires total { IsTotal (dfa_of dfa.now) }
-    ensures { IfOk result (λ errors. (AllStart (rules_of rules.now) → ReadsOneByteLate (rules_of rules.now) (dfa_of dfa.now)) →
+    ensures { IfOk result (λ errors.
+        (AllStart (rules_of rules.now) → ReadsOneByteLate (rules_of rules.now) (dfa_of dfa.now)) →
         AreFaults (rules_of rules.now) (map fault_of errors.items)) }
 {
     if some_leads(rules) {

@@ -66,7 +66,8 @@ pub fn step_key(
     requires measured { AreMeasured nodes.now }
     requires starts { AreStarts nodes.now starts.now }
     requires rising { IsRising key.now.places.items }
-    ensures { IfOk result (λ made. keys.IsNext (map core_of nodes.now) looks (keys.state_of key.now) byte (keys.state_of made)) }
+    ensures { IfOk result (λ made. keys.IsNext (map core_of nodes.now) looks (keys.state_of key.now)
+        byte (keys.state_of made)) }
 {
     let at = Context {
         before: key.kind,
@@ -99,7 +100,8 @@ pub fn end_key(
     requires measured { AreMeasured nodes.now }
     requires starts { AreStarts nodes.now starts.now }
     requires rising { IsRising key.now.places.items }
-    ensures { IfOk result (λ made. keys.IsLast (map core_of nodes.now) (keys.state_of key.now) (keys.state_of made)) }
+    ensures { IfOk result (λ made. keys.IsLast (map core_of nodes.now) (keys.state_of key.now)
+        (keys.state_of made)) }
 {
     let at = Context {
         before: key.kind,
@@ -116,9 +118,12 @@ pub fn end_key(
 /// The number of a state, which is added if it is new.
 pub fn number_of(states: &mut IndexSet<Key>, key: Key) -> Result<usize, AllocError>
     ensures grows { OnOk result (keys.Grows states.old.keys states.new.keys) }
-    ensures rising { keys.AreRising states.old.keys → IsRising key.places.items → OnOk result (keys.AreRising states.new.keys) }
-    ensures distinct { keys.AreDistinct states.old.keys → OnOk result (keys.AreDistinct states.new.keys) }
-    ensures reached { (ts : List Core) (looks : Bool) → keys.AreReached ts looks states.old.keys → keys.IsReached ts looks (keys.state_of key) →
+    ensures rising { keys.AreRising states.old.keys → IsRising key.places.items →
+        OnOk result (keys.AreRising states.new.keys) }
+    ensures distinct { keys.AreDistinct states.old.keys →
+        OnOk result (keys.AreDistinct states.new.keys) }
+    ensures reached { (ts : List Core) (looks : Bool) → keys.AreReached ts looks states.old.keys →
+        keys.IsReached ts looks (keys.state_of key) →
         OnOk result (keys.AreReached ts looks states.new.keys) }
     ensures longer { OnOk result (length states.old.keys ≤ length states.new.keys) }
     ensures few { OnOk result (length states.new.keys ≤ length states.old.keys + 1) }

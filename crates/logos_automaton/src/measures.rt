@@ -125,6 +125,7 @@ fn some_has_look(hirs: &[Hir]) -> bool
 
 // Below, `None` stands for a size beyond the limit.
 
+/// The size, if it is within the limit.
 fn limited(size: usize) -> Option<usize>
     ensures { IsWithinLimit size result }
 {
@@ -134,6 +135,7 @@ fn limited(size: usize) -> Option<usize>
     Some(size)
 }
 
+/// The sum of two sizes, if both and the sum are within the limit.
 pub fn plus(a: Option<usize>, b: Option<usize>) -> Option<usize>
     ensures { (m n : ℕ) → IsWithinLimit m a → IsWithinLimit n b → IsWithinLimit (m + n) result }
 {
@@ -152,6 +154,7 @@ fn copies(min: u32, max: Option<u32>) -> usize
     }
 }
 
+/// The size of a repetition of a body of this size, if both are within the limit.
 fn times(body: Option<usize>, min: u32, max: Option<u32>) -> Option<usize>
     ensures { (n : ℕ) → IsWithinLimit n body → IsWithinLimit (n * places.copies min max) result }
 {

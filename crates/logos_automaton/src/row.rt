@@ -32,8 +32,10 @@ fn target_of(
     requires rising { AreRising states.old.keys }
     requires reached { AreReached (map core_of nodes.now) looks states.old.keys }
     requires few { length states.old.keys < 2 ^ 31 }
-    ensures extends { OnOk result (Extends (map core_of nodes.now) looks states.old.keys states.new.keys 1) }
-    ensures leads { IfOk result (λ target. LeadsTo (map core_of nodes.now) looks states.new.keys state byte target) }
+    ensures extends { OnOk result (Extends (map core_of nodes.now)
+        looks states.old.keys states.new.keys 1) }
+    ensures leads { IfOk result (λ target.
+        LeadsTo (map core_of nodes.now) looks states.new.keys state byte target) }
 {
     let made = match states.get_index(state) {
         Some(key) => step_key(alloc, nodes, starts, looks, key, byte)?,
@@ -57,8 +59,10 @@ pub fn end_of(
     requires within { state < length states.old.keys }
     requires rising { AreRising states.old.keys }
     requires few { length states.old.keys < 2 ^ 31 }
-    ensures extends { (looks : Bool) → OnOk result (Extends (map core_of nodes.now) looks states.old.keys states.new.keys 1) }
-    ensures ends { IfOk result (λ target. EndsIn (map core_of nodes.now) states.new.keys state target) }
+    ensures extends { (looks : Bool) →
+        OnOk result (Extends (map core_of nodes.now) looks states.old.keys states.new.keys 1) }
+    ensures ends { IfOk result (λ target.
+        EndsIn (map core_of nodes.now) states.new.keys state target) }
 {
     let made = match states.get_index(state) {
         Some(key) => end_key(alloc, nodes, starts, key)?,
@@ -87,9 +91,12 @@ fn next_target(
     requires rising { AreRising states.old.keys }
     requires reached { AreReached (map core_of nodes.now) looks states.old.keys }
     requires few { length states.old.keys < 2 ^ 31 }
-    requires same { IsFalse is_first → LeadsTo (map core_of nodes.now) looks states.old.keys state byte before }
-    ensures extends { OnOk result (Extends (map core_of nodes.now) looks states.old.keys states.new.keys 1) }
-    ensures leads { IfOk result (λ target. LeadsTo (map core_of nodes.now) looks states.new.keys state byte target) }
+    requires same { IsFalse is_first →
+        LeadsTo (map core_of nodes.now) looks states.old.keys state byte before }
+    ensures extends { OnOk result (Extends (map core_of nodes.now)
+        looks states.old.keys states.new.keys 1) }
+    ensures leads { IfOk result (λ target.
+        LeadsTo (map core_of nodes.now) looks states.new.keys state byte target) }
 {
     if is_first {
         return target_of(alloc, nodes, starts, looks, states, state, byte);
@@ -139,8 +146,10 @@ pub fn row_of(
     requires few { length states.old.keys < 2 ^ 30 }
     requires told { AreTold nodes.now told.now (length nodes.now) }
     requires kinds { AreKindBytes kinds.now }
-    ensures extends { OnOk result (Extends (map core_of nodes.now) looks states.old.keys states.new.keys 257) }
-    ensures row { IfOk result (λ row. IsRow (map core_of nodes.now) looks states.new.keys state row 256) }
+    ensures extends { OnOk result (Extends (map core_of nodes.now)
+        looks states.old.keys states.new.keys 257) }
+    ensures row { IfOk result (λ row.
+        IsRow (map core_of nodes.now) looks states.new.keys state row 256) }
     ensures wide { IfOk result (λ row. length row ≡ 256) }
 {
     let first = first_in(nodes, starts, told, kinds, states, state);

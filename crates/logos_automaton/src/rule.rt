@@ -12,6 +12,7 @@ use logos_hir::hir::Hir;
 pub struct RuleView<'h> {
     /// The tree of the leaf's pattern.
     pub tree: &'h Hir,
+    /// The leaf's priority.
     pub priority: usize,
     /// Whether matches are left out.
     pub skips: bool,

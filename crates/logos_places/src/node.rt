@@ -79,3 +79,13 @@ pub fn width(node: &Node) -> usize
         } => *each * copy_count(*least, *most),
     }
 }
+
+/// Copies of the body of a repetition, one after another.
+#[derive(Clone, Copy)]
+pub(crate) struct Copies {
+    /// The first place of the first one.
+    pub base: usize,
+    /// How many places each has.
+    pub each: usize,
+    pub count: usize,
+}

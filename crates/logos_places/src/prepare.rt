@@ -30,7 +30,8 @@ fn pair(alloc: Global, in_order: bool, first: Node, second: Node) -> Result<Node
     requires first { IsTrue (is_measured first) }
     requires second { IsTrue (is_measured second) }
     requires fits { core.width (core_of first) + core.width (core_of second) < 2 ^ 64 }
-    ensures stands { IfOk result (λ node. core_of node ≡ pair_up in_order (core_of first) (core_of second)) }
+    ensures stands { IfOk result (λ node. core_of node ≡
+        pair_up in_order (core_of first) (core_of second)) }
     ensures measured { IfOk result (λ node. IsTrue (is_measured node)) }
 {
     let split = width(&first);
@@ -81,7 +82,8 @@ fn sole(in_order: bool, mut nodes: Vec<Node>) -> Node
 fn join(alloc: Global, in_order: bool, mut nodes: Vec<Node>) -> Result<Node, AllocError>
     requires measured { AreMeasured nodes.items }
     requires fits { width_of (map core_of nodes.items) < 2 ^ 64 }
-    ensures stands { IfOk result (λ node. IsJoined in_order (map core_of nodes.items) (core_of node)) }
+    ensures stands { IfOk result (λ node.
+        IsJoined in_order (map core_of nodes.items) (core_of node)) }
     ensures measured { IfOk result (λ node. IsTrue (is_measured node)) }
 {
     if nodes.len() < 2 {
@@ -93,7 +95,7 @@ fn join(alloc: Global, in_order: bool, mut nodes: Vec<Node>) -> Result<Node, All
     pair(alloc, in_order, first, second)
 }
 
-/// The same count.
+/// A count as a number of copies.
 fn widen(count: Option<u32>) -> Option<usize>
     ensures { result ≡ count }
 {
@@ -128,7 +130,7 @@ pub fn prepare(alloc: Global, hir: &Hir) -> Result<Node, AllocError>
     }
 }
 
-/// The same for a repetition.
+/// A repetition, made ready. It has to be of a size within the limit.
 #[cycle(prepare)]
 fn prepare_repetition(
     alloc: Global,
@@ -137,7 +139,8 @@ fn prepare_repetition(
     sub: &Hir,
 ) -> Result<Node, AllocError>
     requires { size (repetition min max true (tree_of sub.now)) ≤ 2 ^ 20 }
-    ensures stands { IfOk result (λ node. (greedy : Bool) → IsCoreOf (repetition min max greedy (tree_of sub.now)) (core_of node)) }
+    ensures stands { IfOk result (λ node. (greedy : Bool) →
+        IsCoreOf (repetition min max greedy (tree_of sub.now)) (core_of node)) }
     ensures measured { IfOk result (λ node. IsTrue (is_measured node)) }
 {
     if let Some(most) = max {
@@ -158,11 +161,12 @@ fn prepare_repetition(
     })
 }
 
-/// The same for each tree of a list.
+/// Each tree of a list, made ready. Their size has to be within the limit.
 #[cycle(prepare)]
 fn prepare_all(alloc: Global, hirs: &[Hir]) -> Result<Vec<Node>, AllocError>
     requires { sizes (trees (map tree_of hirs.now)) ≤ 2 ^ 20 }
-    ensures stand { IfOk result (λ nodes. AreCoresOf (trees (map tree_of hirs.now)) (map core_of nodes.items)) }
+    ensures stand { IfOk result (λ nodes.
+        AreCoresOf (trees (map tree_of hirs.now)) (map core_of nodes.items)) }
     ensures measured { IfOk result (λ nodes. AreMeasured nodes.items) }
 {
     let mut nodes = Vec::new(alloc);

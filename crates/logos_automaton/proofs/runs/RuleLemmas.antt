@@ -11,8 +11,7 @@ use Rattle.logos_automaton.specs.Rules.{AreRuleCores, AreFree, some_look}
 use Rattle.logos_places.specs.Run.{width_of}
 use Rattle.logos_places.specs.Size.{size}
 use Rattle.logos_automaton.specs.Measures.{size_of}
-use Rattle.logos_automaton.specs.View.{rule_of}
-use Rattle.logos_automaton.specs.View.{rules_of}
+use Rattle.logos_automaton.specs.View.{rule_of, rules_of}
 use Rattle.logos_places.specs.declared.node.Node.{Node}
 
 -- one more tree is made ready

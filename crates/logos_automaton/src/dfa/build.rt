@@ -30,7 +30,8 @@ pub const MAX_STATES: usize = 65_536;
 
 /// The list of the start alone.
 fn only_start(alloc: Global) -> Result<IndexSet<Key>, AllocError>
-    ensures { (looks : Bool) (ts : List Core) → IfOk result (λ states. IsUnderway ts looks states.keys [] []) }
+    ensures { (looks : Bool) (ts : List Core) →
+        IfOk result (λ states. IsUnderway ts looks states.keys [] []) }
 {
     let mut states = IndexSet::new(alloc);
     number_of(&mut states, start_key(alloc))?;
@@ -56,8 +57,10 @@ fn fill_next(
     requires told { AreTold nodes.now told.now (length nodes.now) }
     requires kinds { AreKindBytes kinds.now }
     requires left { vec_len rows.old < length states.old.keys }
-    requires underway { IsUnderway (map core_of nodes.now) looks states.old.keys rows.old.items ends.old.items }
-    ensures underway { OnOk result (IsUnderway (map core_of nodes.now) looks states.new.keys rows.new.items ends.new.items) }
+    requires underway { IsUnderway (map core_of nodes.now)
+        looks states.old.keys rows.old.items ends.old.items }
+    ensures underway { OnOk result (IsUnderway (map core_of nodes.now)
+        looks states.new.keys rows.new.items ends.new.items) }
     ensures next { OnOk result (vec_len rows.new ≡ vec_len rows.old + 1) }
     ensures fails { IfErr result (FailsOn (map core_of nodes.now) looks) }
 {
@@ -76,9 +79,11 @@ fn fill_next(
 fn build_nodes(alloc: Global, nodes: &[Node], looks: bool) -> Result<Dfa, BuildError>
     requires fits { width_of (map core_of nodes.now) < 2 ^ 64 }
     requires measured { AreMeasured nodes.now }
-    ensures built { IfOk result (λ dfa. IsBuilt (map core_of nodes.now) looks 0 dfa.states.keys dfa.rows.items dfa.ends.items) }
+    ensures built { IfOk result (λ dfa.
+        IsBuilt (map core_of nodes.now) looks 0 dfa.states.keys dfa.rows.items dfa.ends.items) }
     ensures distinct { IfOk result (λ dfa. AreDistinct dfa.states.keys) }
-    ensures reached { IfOk result (λ dfa. AreReached (map core_of nodes.now) looks dfa.states.keys) }
+    ensures reached { IfOk result (λ dfa.
+        AreReached (map core_of nodes.now) looks dfa.states.keys) }
     ensures few { IfOk result (λ dfa. length dfa.states.keys ≤ 65536) }
     ensures fails { IfErr result (FailsOn (map core_of nodes.now) looks) }
 {
@@ -104,7 +109,7 @@ fn build_nodes(alloc: Global, nodes: &[Node], looks: bool) -> Result<Dfa, BuildE
     Ok(Dfa { states, rows, ends })
 }
 
-/// The automaton of these leaves. It fails where it would have more than 65,536 states, and where there is no memory.
+/// The automaton of these rules. It fails where it would have more than 65,536 states, and where there is no memory.
 pub fn build(alloc: Global, rules: &[RuleView<'_>]) -> Result<Dfa, BuildError>
     requires size { size_of (rules_of rules.now) ≤ 2 ^ 20 }
     requires start { AllStart (rules_of rules.now) }

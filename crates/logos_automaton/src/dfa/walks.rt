@@ -95,9 +95,12 @@ impl Dfa {
     pub fn iter_children(&self, state: StateId) -> Children<'_>
         requires { state.0 < length (dfa_of self.now).matches }
         ensures count { length (children_left result) ≡ 257 }
-        ensures by_byte { (byte : ℕ) → byte < 256 → slice_get (children_left result) byte ≡ dfa_next (dfa_of self.now) (Some state.0) byte }
-        ensures at_end { slice_get (children_left result) 256 ≡ slice_get (dfa_of self.now).at_end state.0 }
-        ensures within { All (λ child. child < length (dfa_of self.now).matches) (children_left result) }
+        ensures by_byte { (byte : ℕ) → byte < 256 → slice_get (children_left result) byte ≡
+            dfa_next (dfa_of self.now) (Some state.0) byte }
+        ensures at_end { slice_get (children_left result) 256 ≡
+            slice_get (dfa_of self.now).at_end state.0 }
+        ensures within { All (λ child. child < length (dfa_of self.now).matches)
+            (children_left result) }
     {
         Children {
             row: &self.rows[state.0],

@@ -1,5 +1,5 @@
 -- Rows of the table.
-use Rattle.std.proofs.Common.{◌≡◌, ℕ, zero, suc, ◌+◌, ◌-◌, ◌*◌, ◌/◌, ◌%◌, slice_index_or, ◌<◌, ◌≤◌, ◌⊎◌, Bool, true, false, ◌&&◌, ◌||◌, if◌then◌else◌, List, [], ◌∷◌, ◌++◌, Option, Some, None, length, get_or, slice_get, refl, sym, ap, ◌∙◌, subst, inl, inr, ⊎_elim, arith}
+use Rattle.std.proofs.Common.{◌≡◌, ℕ, zero, suc, ◌+◌, ◌-◌, ◌*◌, ◌/◌, ◌%◌, slice_index_or, ◌<◌, ◌≤◌, ◌⊎◌, Bool, true, false, ◌&&◌, ◌||◌, if◌then◌else◌, List, [], ◌∷◌, ◌++◌, Option, Some, None, length, get_or, slice_get, refl, sym, ap, ◌∙◌, subst, inl, inr, ⊎_elim, arith, nat_le, le-leb}
 use Rattle.std.proofs.lemmas.Bool.{and_parts, and_from}
 use Rattle.std.proofs.lemmas.Option.{same_Some, get_or_from_slice_get}
 use Rattle.std.proofs.lemmas.List.Sums.{sum_by-drop_more, sum_by-cons}
@@ -15,7 +15,6 @@ use Rattle.logos_places.specs.Table.{Row, row_of, IsAt, Grows, AreRests, IsRowFo
 use Rattle.logos_places.specs.declared.characters.ranges.CharRange.{CharRange}
 use Rattle.logos_places.specs.declared.characters.build.Rest.{Rest}
 use Rattle.logos_places.proofs.classes.RangeLemmas.{part_of}
-use Rattle.std.proofs.Common.{nat_le, le-leb}
 
 abbrev same_range : CharRange → CharRange → Bool
 same_range a b = eqb a.first b.first && eqb a.last b.last

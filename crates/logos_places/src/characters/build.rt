@@ -24,8 +24,11 @@ fn number_of(rests: &mut IndexSet<Rest>, rest: Rest) -> Result<usize, AllocError
     ensures grows { OnOk result (table.Grows rests.old.keys rests.new.keys) }
     ensures stored { IfOk result (λ i. table.IsAt rests.new.keys i (table.row_of rest)) }
     ensures longer { OnOk result (length rests.old.keys ≤ length rests.new.keys) }
-    ensures rests { 0 < rest.left → rest.left ≤ 3 → table.AreRests rests.old.keys → OnOk result (table.AreRests rests.new.keys) }
-    ensures weight { (n : ℕ) → OnOk result (table.weight n rests.new.keys ≤ table.weight n rests.old.keys + (1 + 64 * table.led_to (rest.left - 1))) }
+    ensures rests { 0 < rest.left → rest.left ≤ 3 → table.AreRests rests.old.keys →
+        OnOk result (table.AreRests rests.new.keys) }
+    ensures weight { (n : ℕ) → OnOk result
+        (table.weight n rests.new.keys ≤ table.weight n rests.old.keys +
+        (1 + 64 * table.led_to (rest.left - 1))) }
 {
     let (i, _) = rests.insert_full(rest)?;
     Ok(i)
@@ -44,7 +47,8 @@ fn place(
     ensures longer { OnOk result (length rests.old.keys ≤ length rests.new.keys) }
     ensures rests { OnOk result (table.AreRests rests.new.keys) }
     ensures finds { IfOk result (table.Finds rests.new.keys left (in_ranges offsets.items)) }
-    ensures weight { (n : ℕ) → OnOk result (table.weight n rests.new.keys ≤ table.weight n rests.old.keys + table.led_to left) }
+    ensures weight { (n : ℕ) → OnOk result
+        (table.weight n rests.new.keys ≤ table.weight n rests.old.keys + table.led_to left) }
 {
     if offsets.is_empty() {
         return Ok(None);
@@ -71,8 +75,10 @@ fn row_for(
     ensures grows { OnOk result (table.Grows rests.old.keys rests.new.keys) }
     ensures longer { OnOk result (length rests.old.keys ≤ length rests.new.keys) }
     ensures rests { OnOk result (table.AreRests rests.new.keys) }
-    ensures finds { IfOk result (table.Finds rests.new.keys left (from_floor (in_ranges ranges.now) floor start)) }
-    ensures weight { (n : ℕ) → OnOk result (table.weight n rests.new.keys ≤ table.weight n rests.old.keys + table.led_to left) }
+    ensures finds { IfOk result (table.Finds rests.new.keys left (from_floor (in_ranges ranges.now)
+        floor start)) }
+    ensures weight { (n : ℕ) → OnOk result
+        (table.weight n rests.new.keys ≤ table.weight n rests.old.keys + table.led_to left) }
 {
     let offsets = clip(alloc, ranges, floor, start, block_size(left))?;
     place(rests, left, offsets)
@@ -90,7 +96,8 @@ fn first_for(
     ensures longer { OnOk result (length rests.old.keys ≤ length rests.new.keys) }
     ensures rests { OnOk result (table.AreRests rests.new.keys) }
     ensures finds { IfOk result (table.FindsFirst rests.new.keys (in_ranges ranges.now) (lead byte)) }
-    ensures weight { OnOk result (table.weight 0 rests.new.keys + table.first_weight byte ≤ table.weight 0 rests.old.keys + table.first_weight (byte + 1)) }
+    ensures weight { OnOk result (table.weight 0 rests.new.keys + table.first_weight byte ≤
+        table.weight 0 rests.old.keys + table.first_weight (byte + 1)) }
 {
     let value = byte as u32;
     if value < 0x80 {
@@ -116,7 +123,8 @@ fn after(alloc: Global, rest: &Rest, left: u8, part: u32) -> Result<Vec<CharRang
     requires small { left < 3 }
     requires part { part < 64 }
     ensures parts { IfOk result (λ v. AreParts (size left) v.items) }
-    ensures members { IfOk result (λ v. (o : ℕ) → o < size left → in_ranges v.items o ≡ from_floor (in_ranges rest.now.offsets.items) 0 (part * size left) o) }
+    ensures members { IfOk result (λ v. (o : ℕ) → o < size left → in_ranges v.items o ≡
+        from_floor (in_ranges rest.now.offsets.items) 0 (part * size left) o) }
 {
     let size = block_size(left);
     clip(alloc, &rest.offsets, 0, part * size, size)
@@ -134,8 +142,11 @@ fn next_for(
     ensures grows { OnOk result (table.Grows rests.old.keys rests.new.keys) }
     ensures longer { OnOk result (length rests.old.keys ≤ length rests.new.keys) }
     ensures rests { OnOk result (table.AreRests rests.new.keys) }
-    ensures finds { (r : table.Row) → table.IsAt rests.old.keys row r → IfOk result (table.FindsNext rests.new.keys r r.left (0x80 + part)) }
-    ensures weight { (r : table.Row) → table.IsAt rests.old.keys row r → (n : ℕ) → OnOk result (table.weight n rests.new.keys ≤ table.weight n rests.old.keys + table.led_to (r.left - 1)) }
+    ensures finds { (r : table.Row) → table.IsAt rests.old.keys row r →
+        IfOk result (table.FindsNext rests.new.keys r r.left (0x80 + part)) }
+    ensures weight { (r : table.Row) → table.IsAt rests.old.keys row r → (n : ℕ) →
+        OnOk result (table.weight n rests.new.keys ≤ table.weight n rests.old.keys + table.led_to
+        (r.left - 1)) }
 {
     let rest = match rests.get_index(row) {
         None => return Ok(None),
@@ -149,6 +160,7 @@ fn next_for(
     place(rests, left, offsets)
 }
 
+/// How many numbers so many continuation bytes tell apart.
 fn block_size(left: u8) -> u32
     requires { left ≤ 3 }
     ensures size { result ≡ size left }
@@ -171,8 +183,11 @@ fn first_cells(
     requires rests { table.AreRests rests.old.keys }
     ensures rests { OnOk result (table.AreRests rests.new.keys) }
     ensures long { IfOk result (λ cells. vec_len cells ≡ 256) }
-    ensures cells { IfOk result (λ cells. (b : ℕ) → b < 256 → table.FindsFirst rests.new.keys (in_ranges ranges.now) (lead b) (slice_index_or cells.items b None)) }
-    ensures weight { OnOk result (table.weight 0 rests.new.keys + table.first_weight 0 ≤ table.weight 0 rests.old.keys + table.first_weight 256) }
+    ensures cells { IfOk result (λ cells. (b : ℕ) → b < 256 →
+        table.FindsFirst rests.new.keys (in_ranges ranges.now) (lead b)
+        (slice_index_or cells.items b None)) }
+    ensures weight { OnOk result (table.weight 0 rests.new.keys + table.first_weight 0 ≤
+        table.weight 0 rests.old.keys + table.first_weight 256) }
 {
     let mut cells: Vec<Option<usize>> = Vec::new(alloc);
     for byte in 0..256_u32 {
@@ -198,8 +213,10 @@ fn follow_row(
     ensures longer { OnOk result (length rests.old.keys ≤ length rests.new.keys) }
     ensures rests { OnOk result (table.AreRests rests.new.keys) }
     ensures long { OnOk result (vec_len cells.new ≡ 64 * (row + 1)) }
-    ensures cells { OnOk result ((j : ℕ) → j < 64 * (row + 1) → table.IsCell rests.new.keys cells.new.items j) }
-    ensures weight { OnOk result (table.weight (row + 1) rests.new.keys + 1 ≤ table.weight row rests.old.keys) }
+    ensures cells { OnOk result ((j : ℕ) → j < 64 * (row + 1) →
+        table.IsCell rests.new.keys cells.new.items j) }
+    ensures weight { OnOk result (table.weight (row + 1)
+        rests.new.keys + 1 ≤ table.weight row rests.old.keys) }
 {
     for part in 0..64_u32 {
         let to = next_for(alloc, rests, row, part)?;
@@ -216,7 +233,8 @@ fn follow_cells(alloc: Global, rests: &mut IndexSet<Rest>) -> Result<Vec<Option<
     ensures rests { OnOk result (table.AreRests rests.new.keys) }
     ensures few { OnOk result (length rests.new.keys ≤ 34_361) }
     ensures long { IfOk result (λ cells. vec_len cells ≡ 64 * length rests.new.keys) }
-    ensures cells { IfOk result (λ cells. (j : ℕ) → j < vec_len cells → table.IsCell rests.new.keys cells.items j) }
+    ensures cells { IfOk result (λ cells. (j : ℕ) → j < vec_len cells →
+        table.IsCell rests.new.keys cells.items j) }
 {
     let mut cells: Vec<Option<usize>> = Vec::new(alloc);
     let mut row = 0;
@@ -255,7 +273,8 @@ fn build(alloc: Global, ranges: &[CharRange]) -> Result<Table, AllocError>
 
 /// The table of the class of the characters of these ranges.
 pub fn table_of(alloc: Global, ranges: &[Range]) -> Result<Table, AllocError>
-    ensures { IfOk result (λ made. IsReaderOf (is_char_in (pairs ranges.now)) (table.reader_of made)) }
+    ensures { IfOk result (λ made. IsReaderOf (is_char_in (pairs ranges.now))
+        (table.reader_of made)) }
 {
     let ranges = scalars(alloc, ranges)?;
     build(alloc, &ranges)

@@ -43,7 +43,8 @@ fn push_clip(
 ) -> Result<(), AllocError>
     requires fits { start + size < 2 ^ 32 }
     requires some { 0 < size }
-    ensures members { OnOk result ((o : ℕ) → o < size → in_ranges out.new.items o ≡ (in_ranges out.old.items o || from_floor (in_range range) floor start o)) }
+    ensures members { OnOk result ((o : ℕ) → o < size → in_ranges out.new.items o ≡
+        (in_ranges out.old.items o || from_floor (in_range range) floor start o)) }
     ensures parts { AreParts size out.old.items → OnOk result (AreParts size out.new.items) }
 {
     match clip_range(range, floor, start, size) {
@@ -65,7 +66,8 @@ pub fn clip(
 ) -> Result<Vec<CharRange>, AllocError>
     requires fits { start + size < 2 ^ 32 }
     requires some { 0 < size }
-    ensures members { IfOk result (λ out. (o : ℕ) → o < size → in_ranges out.items o ≡ from_floor (in_ranges ranges.now) floor start o) }
+    ensures members { IfOk result (λ out. (o : ℕ) → o < size → in_ranges out.items o ≡
+        from_floor (in_ranges ranges.now) floor start o) }
     ensures parts { IfOk result (λ out. AreParts size out.items) }
 {
     let mut out = Vec::new(alloc);
@@ -77,7 +79,8 @@ pub fn clip(
 
 /// Adds the range, unless it holds no number.
 fn push_range(out: &mut Vec<CharRange>, first: u32, last: u32) -> Result<(), AllocError>
-    ensures { OnOk result ((c : ℕ) → in_ranges out.new.items c ≡ (in_ranges out.old.items c || (nat_le first c && nat_le c last))) }
+    ensures { OnOk result ((c : ℕ) → in_ranges out.new.items c ≡
+        (in_ranges out.old.items c || (nat_le first c && nat_le c last))) }
 {
     if first <= last {
         out.push(CharRange { first, last })?;
@@ -87,7 +90,8 @@ fn push_range(out: &mut Vec<CharRange>, first: u32, last: u32) -> Result<(), All
 
 /// Adds the characters of one range.
 fn push_scalars(out: &mut Vec<CharRange>, range: Range) -> Result<(), AllocError>
-    ensures { OnOk result ((c : ℕ) → in_ranges out.new.items c ≡ (in_ranges out.old.items c || (scalar c && (nat_le range.first c && nat_le c range.last)))) }
+    ensures { OnOk result ((c : ℕ) → in_ranges out.new.items c ≡
+        (in_ranges out.old.items c || (scalar c && (nat_le range.first c && nat_le c range.last)))) }
 {
     push_range(out, range.first, range.last.min(0xD7FF))?;
     push_range(out, range.first.max(0xE000), range.last.min(0x10_FFFF))
@@ -95,7 +99,8 @@ fn push_scalars(out: &mut Vec<CharRange>, range: Range) -> Result<(), AllocError
 
 /// The characters of the ranges: no surrogate, and nothing past the last character.
 pub fn scalars(alloc: Global, ranges: &[Range]) -> Result<Vec<CharRange>, AllocError>
-    ensures { IfOk result (λ made. (c : ℕ) → in_ranges made.items c ≡ is_char_in (pairs ranges.now) c) }
+    ensures { IfOk result (λ made. (c : ℕ) → in_ranges made.items c ≡
+        is_char_in (pairs ranges.now) c) }
 {
     let mut out = Vec::new(alloc);
     for range in ranges {

@@ -10,7 +10,7 @@ use crate::node::{Node, width};
 use crate::places::exits::exits;
 use crate::places::look::Context;
 use crate::places::set::first_from;
-use crate::places::step::step;
+use crate::places::step::{Reading, step};
 use std::alloc::{AllocError, Global};
 
 /// What a step gives.
@@ -70,7 +70,8 @@ pub fn next_tree(starts: &[usize], marks: &[usize], entered: bool, from: usize) 
     ensures after { from ≤ result }
     ensures bound { result < length starts.now }
     ensures stays { IsTrue entered → result ≡ from }
-    ensures unmarked { (q : ℕ) → slice_index starts.now from ≤ q → q < slice_index starts.now result → ¬ (Has marks.now q) }
+    ensures unmarked { (q : ℕ) → slice_index starts.now from ≤ q →
+        q < slice_index starts.now result → ¬ (Has marks.now q) }
 {
     let last = starts.len() - 1;
     if entered | (from == last) {
@@ -88,7 +89,8 @@ pub fn next_tree(starts: &[usize], marks: &[usize], entered: bool, from: usize) 
 
 /// Adds the number if it is one of them.
 fn note(numbers: &mut Vec<usize>, number: usize, is_one: bool) -> Result<(), AllocError>
-    ensures { OnOk result (numbers.new.items ≡ (if is_one then numbers.old.items ++ number ∷ [] else numbers.old.items)) }
+    ensures { OnOk result (numbers.new.items ≡
+        (if is_one then numbers.old.items ++ number ∷ [] else numbers.old.items)) }
 {
     if is_one {
         numbers.push(number)?;
@@ -110,15 +112,20 @@ pub fn step_all(
     requires measured { AreMeasured nodes.now }
     requires starts { AreStarts nodes.now starts.now }
     requires rising { IsRising marks.now }
-    ensures places { IfOk result (λ reached. ReadBy (map core_of nodes.now) (test_at at) byte (Has marks.now) (IsTrue entered) reached.places.items) }
-    ensures left { IfOk result (λ reached. LeftBy (map core_of nodes.now) (test_at at) (Has marks.now) (IsTrue entered) reached.left.items) }
+    ensures places { IfOk result (λ reached.
+        ReadBy (map core_of nodes.now) (test_at at) byte (Has marks.now) (IsTrue entered)
+        reached.places.items) }
+    ensures left { IfOk result (λ reached.
+        LeftBy (map core_of nodes.now) (test_at at) (Has marks.now) (IsTrue entered)
+        reached.left.items) }
 {
+    let by = Reading { byte, marks, at };
     let mut places = Vec::new(alloc);
     let mut left = Vec::new(alloc);
     let mut number = next_tree(starts, marks, entered, 0);
     while number < nodes.len() {
         let base = starts[number];
-        let leaves = step(&nodes[number], byte, marks, base, entered, at, &mut places)?;
+        let leaves = step(&nodes[number], by, base, entered, &mut places)?;
         note(&mut left, number, leaves)?;
         number = next_tree(starts, marks, entered, number + 1);
     }
@@ -138,7 +145,8 @@ pub fn exits_all(
     requires measured { AreMeasured nodes.now }
     requires starts { AreStarts nodes.now starts.now }
     requires rising { IsRising marks.now }
-    ensures { IfOk result (λ left. LeftBy (map core_of nodes.now) (test_at at) (Has marks.now) (IsTrue entered) left.items) }
+    ensures { IfOk result (λ left. LeftBy (map core_of nodes.now) (test_at at) (Has marks.now)
+        (IsTrue entered) left.items) }
 {
     let mut left = Vec::new(alloc);
     let mut number = next_tree(starts, marks, entered, 0);

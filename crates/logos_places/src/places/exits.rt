@@ -8,7 +8,7 @@ ghost use Rattle.logos_places.specs.Node.{core_of, is_measured};
 ghost use Rattle.logos_places.specs.Repeat.{spelled, in_front, up_to, repeated, count_of, IsOrdered};
 ghost use Rattle.logos_hir.specs.declared.hir.Look.{Look};
 
-use crate::node::{Node, width};
+use crate::node::{Copies, Node, width};
 use crate::places::look::{Context, holds};
 use crate::places::set::{any_mark, has_mark, next_copy};
 
@@ -18,7 +18,8 @@ pub fn exits(node: &Node, marks: &[usize], base: usize, entered: bool, at: Conte
     requires fits { base + core.width (core_of node.now) < 2 ^ 64 }
     requires measured { IsTrue (is_measured node.now) }
     requires rising { IsRising marks.now }
-    ensures { IsTrue result ↔ Exits (core_of node.now) (test_at at) (λ q. Has marks.now (base + q)) (IsTrue entered) }
+    ensures { IsTrue result ↔ Exits (core_of node.now) (test_at at) (λ q.
+        Has marks.now (base + q)) (IsTrue entered) }
 {
     if !entered && !any_mark(marks, base, width(node)) {
         return false;
@@ -54,15 +55,23 @@ pub fn exits(node: &Node, marks: &[usize], base: usize, entered: bool, at: Conte
             most,
             each,
             body,
-        } => exits_repeat(*least, *most, *each, body, marks, base, entered, at),
+        } => {
+            let copies = Copies {
+                base,
+                each: *each,
+                count: *least,
+            };
+            exits_repeat(body, copies, *most, marks, entered, at)
+        }
     }
 }
 
-/// The same for a literal: whether its last place is marked.
+/// Whether a literal can be left: whether its last place is marked.
 fn exits_literal(text: &[u8], marks: &[usize], base: usize, entered: bool) -> bool
     requires fits { base + length text.now < 2 ^ 64 }
     requires rising { IsRising marks.now }
-    ensures { (test : Look → Bool) → IsTrue result ↔ Exits (spelled text.now) test (λ q. Has marks.now (base + q)) (IsTrue entered) }
+    ensures { (test : Look → Bool) → IsTrue result ↔
+        Exits (spelled text.now) test (λ q. Has marks.now (base + q)) (IsTrue entered) }
 {
     if text.is_empty() {
         return entered;
@@ -70,101 +79,111 @@ fn exits_literal(text: &[u8], marks: &[usize], base: usize, entered: bool) -> bo
     has_mark(marks, base + text.len() - 1)
 }
 
-/// The same for a repetition of a body of `each` places.
+/// Whether a repetition can be left: at least these copies of its body, and at most `most` if there is such a count.
 #[cycle(exits)]
 fn exits_repeat(
-    least: usize,
-    most: Option<usize>,
-    each: usize,
     body: &Node,
+    copies: Copies,
+    most: Option<usize>,
     marks: &[usize],
-    base: usize,
     entered: bool,
     at: Context,
 ) -> bool
-    requires fits { base + each * count_of least most < 2 ^ 64 }
-    requires count { IsOrdered least most }
-    requires each { each ≡ core.width (core_of body.now) }
+    requires fits { copies.base + copies.each * count_of copies.count most < 2 ^ 64 }
+    requires count { IsOrdered copies.count most }
+    requires each { copies.each ≡ core.width (core_of body.now) }
     requires measured { IsTrue (is_measured body.now) }
     requires rising { IsRising marks.now }
-    ensures { IsTrue result ↔ Exits (repeated least most (core_of body.now)) (test_at at) (λ q. Has marks.now (base + q)) (IsTrue entered) }
+    ensures { IsTrue result ↔ Exits (repeated copies.count most (core_of body.now)) (test_at at)
+        (λ q. Has marks.now (copies.base + q)) (IsTrue entered) }
 {
+    let least = copies.count;
     match most {
         Some(most) => {
-            let front = exits_copies(body, each, least, marks, base, entered, at);
-            exits_up_to(
-                body,
-                each,
-                most - least,
-                marks,
-                base + each * least,
-                front,
-                at,
-            )
+            let front = exits_copies(body, copies, marks, entered, at);
+            let rest = Copies {
+                base: copies.base + copies.each * least,
+                each: copies.each,
+                count: most - least,
+            };
+            exits_up_to(body, rest, marks, front, at)
         }
         None => {
             if least == 0 {
-                let last = exits(body, marks, base, entered, at);
+                let last = exits(body, marks, copies.base, entered, at);
                 last | entered
             } else {
-                let front = exits_copies(body, each, least - 1, marks, base, entered, at);
-                exits(body, marks, base + each * (least - 1), front, at)
+                let fronts = Copies {
+                    base: copies.base,
+                    each: copies.each,
+                    count: least - 1,
+                };
+                let front = exits_copies(body, fronts, marks, entered, at);
+                exits(
+                    body,
+                    marks,
+                    copies.base + copies.each * (least - 1),
+                    front,
+                    at,
+                )
             }
         }
     }
 }
 
-/// The same for `count` copies of the body, before anything else.
+/// Whether all of the copies can be left, before anything else.
 #[cycle(exits)]
-fn exits_copies(
-    body: &Node,
-    each: usize,
-    count: usize,
-    marks: &[usize],
-    base: usize,
-    entered: bool,
-    at: Context,
-) -> bool
-    requires fits { base + each * count < 2 ^ 64 }
-    requires each { each ≡ core.width (core_of body.now) }
+fn exits_copies(body: &Node, copies: Copies, marks: &[usize], entered: bool, at: Context) -> bool
+    requires fits { copies.base + copies.each * copies.count < 2 ^ 64 }
+    requires each { copies.each ≡ core.width (core_of body.now) }
     requires measured { IsTrue (is_measured body.now) }
     requires rising { IsRising marks.now }
-    ensures { (b : Core) → Exits b (test_at at) (λ q. Has marks.now (base + each * count + q)) (IsTrue result)
-        ↔ Exits (in_front count (core_of body.now) b) (test_at at) (λ q. Has marks.now (base + q)) (IsTrue entered) }
+    ensures { (b : Core) →
+        Exits b (test_at at) (λ q. Has marks.now (copies.base + copies.each * copies.count + q))
+        (IsTrue result)
+        ↔ Exits (in_front copies.count (core_of body.now) b) (test_at at)
+        (λ q. Has marks.now (copies.base + q)) (IsTrue entered) }
 {
-    let mut done = next_copy(entered, marks, base, each, 0, count);
+    let mut done = next_copy(entered, marks, copies.base, copies.each, 0, copies.count);
     let mut left = entered;
-    while done < count {
-        left = exits(body, marks, base + each * done, left, at);
-        done = next_copy(left, marks, base, each, done + 1, count);
+    while done < copies.count {
+        left = exits(body, marks, copies.base + copies.each * done, left, at);
+        done = next_copy(
+            left,
+            marks,
+            copies.base,
+            copies.each,
+            done + 1,
+            copies.count,
+        );
     }
     left
 }
 
-/// The same for at most `count` copies of the body.
+/// Whether at most as many copies can be left.
 #[cycle(exits)]
-fn exits_up_to(
-    body: &Node,
-    each: usize,
-    count: usize,
-    marks: &[usize],
-    base: usize,
-    entered: bool,
-    at: Context,
-) -> bool
-    requires fits { base + each * count < 2 ^ 64 }
-    requires each { each ≡ core.width (core_of body.now) }
+fn exits_up_to(body: &Node, copies: Copies, marks: &[usize], entered: bool, at: Context) -> bool
+    requires fits { copies.base + copies.each * copies.count < 2 ^ 64 }
+    requires each { copies.each ≡ core.width (core_of body.now) }
     requires measured { IsTrue (is_measured body.now) }
     requires rising { IsRising marks.now }
-    ensures { IsTrue result ↔ Exits (up_to count (core_of body.now)) (test_at at) (λ q. Has marks.now (base + q)) (IsTrue entered) }
+    ensures { IsTrue result ↔ Exits (up_to copies.count (core_of body.now)) (test_at at)
+        (λ q. Has marks.now (copies.base + q)) (IsTrue entered) }
 {
-    let mut done = next_copy(entered, marks, base, each, 0, count);
+    let mut done = next_copy(entered, marks, copies.base, copies.each, 0, copies.count);
     let mut left = entered;
     let mut any = false;
-    while done < count {
+    while done < copies.count {
         any = any | left;
-        left = exits(body, marks, base + each * done, left, at);
-        done = next_copy(left, marks, base, each, done + 1, count);
+        left = exits(body, marks, copies.base + copies.each * done, left, at);
+        done = next_copy(
+            left,
+            marks,
+            copies.base,
+            copies.each,
+            done + 1,
+            copies.count,
+        );
     }
     any | left
 }

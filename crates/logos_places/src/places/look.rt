@@ -59,18 +59,21 @@ fn is_start(before: Kind) -> bool
     matches!(before, Kind::Start)
 }
 
+/// Whether the byte before is a carriage return.
 fn is_cr(before: Kind) -> bool
     ensures { result ≡ is_byte 13 (side_before before) }
 {
     matches!(before, Kind::Cr)
 }
 
+/// Whether the byte before is a line feed.
 fn is_lf(before: Kind) -> bool
     ensures { result ≡ is_byte 10 (side_before before) }
 {
     matches!(before, Kind::Lf)
 }
 
+/// Whether the byte before is one of `[0-9A-Za-z_]`.
 fn is_word_before(before: Kind) -> bool
     ensures { result ≡ looks.is_word (side_before before) }
 {
@@ -87,6 +90,7 @@ fn is_this(side: Option<u8>, byte: u8) -> bool
     }
 }
 
+/// Whether the byte is there, and one of `[0-9A-Za-z_]`.
 fn is_word_after(side: Option<u8>) -> bool
     ensures { result ≡ looks.is_word side }
 {

@@ -77,7 +77,8 @@ pub fn next_copy(
     ensures after { done ≤ result }
     ensures bound { result ≤ count }
     ensures stays { IsTrue entered → result ≡ done }
-    ensures unmarked { (q : ℕ) → each * done ≤ q → q < each * result → ¬ (Has marks.now (base + q)) }
+    ensures unmarked { (q : ℕ) → each * done ≤ q → q < each * result →
+        ¬ (Has marks.now (base + q)) }
 {
     done + empty_parts(entered, marks, base + each * done, each, count - done)
 }
@@ -86,7 +87,8 @@ pub fn next_copy(
 pub fn insert_mark(marks: &mut Vec<usize>, place: usize) -> Result<(), AllocError>
     requires { IsRising marks.old.items }
     ensures rising { OnOk result (IsRising marks.new.items) }
-    ensures has { OnOk result ((q : ℕ) → Has marks.new.items q ↔ (Has marks.old.items q ⊎ (q ≡ place))) }
+    ensures has { OnOk result ((q : ℕ) → Has marks.new.items q ↔
+        (Has marks.old.items q ⊎ (q ≡ place))) }
 {
     if has_mark(marks, place) {
         return Ok(());

@@ -13,12 +13,20 @@ ghost use Rattle.logos_hir.specs.Hir.{pairs};
 ghost use Rattle.logos_hir.specs.declared.hir.Look.{Look};
 
 use crate::characters::reader::Table;
-use crate::node::{Node, width};
+use crate::node::{Copies, Node, width};
 use crate::places::exits::exits;
 use crate::places::look::{Context, holds};
 use crate::places::set::{any_mark, first_from, has_mark, insert_mark, next_copy};
 use logos_hir::hir::Range;
 use std::alloc::AllocError;
+
+/// What a step reads: a byte, where `marks` are the places that read the one before.
+#[derive(Clone, Copy)]
+pub(crate) struct Reading<'m> {
+    pub byte: u8,
+    pub marks: &'m [usize],
+    pub at: Context,
+}
 
 /// Whether the byte lies in one of the ranges.
 pub fn has_byte(ranges: &[Range], byte: u8) -> bool
@@ -45,7 +53,8 @@ fn step_byte(
     requires rising { IsRising marks.now }
     requires set { IsSet next.old.items base }
     ensures { IfOk result (λ left. (c : ℕ → Bool) (test : Look → Bool) → c byte ≡ fits →
-        Stepped (core.byte_in c) test byte marks.now next.old.items next.new.items base entered left) }
+        Stepped (core.byte_in c) test byte marks.now next.old.items next.new.items base entered
+        left) }
 {
     let left = has_mark(marks, base);
     if !(entered & fits) {
@@ -67,7 +76,9 @@ fn step_literal(
     requires fits { base + length text.now < 2 ^ 64 }
     requires rising { IsRising marks.now }
     requires set { IsSet next.old.items base }
-    ensures { IfOk result (λ left. (test : Look → Bool) → Stepped (spelled text.now) test byte marks.now next.old.items next.new.items base entered left) }
+    ensures { IfOk result (λ left. (test : Look → Bool) →
+        Stepped (spelled text.now) test byte marks.now next.old.items next.new.items base entered
+        left) }
 {
     let mut done = next_copy(entered, marks, base, 1, 0, text.len());
     let mut left = entered;
@@ -88,7 +99,8 @@ fn insert_row(
     requires fits { base + rows < 2 ^ 64 }
     requires set { IsSet next.old.items (base + rows) }
     ensures set { OnOk result (IsSet next.new.items (base + rows)) }
-    ensures has { OnOk result ((q : ℕ) → Has next.new.items q ↔ (Has next.old.items q ⊎ ((p : ℕ) × (p < rows) × (row ≡ Some p) × (q ≡ base + p)))) }
+    ensures has { OnOk result ((q : ℕ) → Has next.new.items q ↔
+        (Has next.old.items q ⊎ ((p : ℕ) × (p < rows) × (row ≡ Some p) × (q ≡ base + p)))) }
 {
     let Some(row) = row else {
         return Ok(());
@@ -112,7 +124,8 @@ fn step_characters(
     requires rising { IsRising marks.now }
     requires set { IsSet next.old.items base }
     ensures { IfOk result (λ left. (test : Look → Bool) →
-        Stepped (core.character (reader_of table.now)) test byte marks.now next.old.items next.new.items base entered left) }
+        Stepped (core.character (reader_of table.now))
+        test byte marks.now next.old.items next.new.items base entered left) }
 {
     let left = has_mark(marks, base);
     let first = if entered { table.first(byte) } else { None };
@@ -125,42 +138,44 @@ fn step_characters(
     Ok(left)
 }
 
-/// Adds the places of the tree, from `base` on, that read `byte` after `marks`, and says whether the tree can be left before that
-/// byte.
+/// Adds the places of the tree, from `base` on, that read the byte, and says whether the tree can be left before that byte.
 #[cycle(step)]
-pub fn step(
+pub(crate) fn step(
     node: &Node,
-    byte: u8,
-    marks: &[usize],
+    by: Reading<'_>,
     base: usize,
     entered: bool,
-    at: Context,
     next: &mut Vec<usize>,
 ) -> Result<bool, AllocError>
     requires fits { base + core.width (core_of node.now) < 2 ^ 64 }
     requires measured { IsTrue (is_measured node.now) }
-    requires rising { IsRising marks.now }
+    requires rising { IsRising by.marks.now }
     requires set { IsSet next.old.items base }
-    ensures { IfOk result (λ left. Stepped (core_of node.now) (test_at at) byte marks.now next.old.items next.new.items base entered left) }
+    ensures { IfOk result (λ left. Stepped (core_of node.now) (test_at by.entry.at)
+        by.entry.byte by.entry.marks.now
+        next.old.items next.new.items base entered left) }
 {
-    if !entered && !any_mark(marks, base, width(node)) {
+    if !entered && !any_mark(by.marks, base, width(node)) {
         return Ok(false);
     }
     match node {
         Node::Void => Ok(false),
         Node::Empty => Ok(entered),
-        Node::Literal(text) => step_literal(text, byte, marks, base, entered, next),
-        Node::Bytes(ranges) => step_byte(has_byte(ranges, byte), byte, marks, base, entered, next),
-        Node::Characters(table) => step_characters(table, byte, marks, base, entered, next),
-        Node::Look(look) => Ok(entered && holds(*look, at)),
+        Node::Literal(text) => step_literal(text, by.byte, by.marks, base, entered, next),
+        Node::Bytes(ranges) => {
+            let fits = has_byte(ranges, by.byte);
+            step_byte(fits, by.byte, by.marks, base, entered, next)
+        }
+        Node::Characters(table) => step_characters(table, by.byte, by.marks, base, entered, next),
+        Node::Look(look) => Ok(entered && holds(*look, by.at)),
         Node::Cat {
             split,
             first,
             second,
             ..
         } => {
-            let left = step(first, byte, marks, base, entered, at, next)?;
-            step(second, byte, marks, base + *split, left, at, next)
+            let left = step(first, by, base, entered, next)?;
+            step(second, by, base + *split, left, next)
         }
         Node::Alt {
             split,
@@ -168,8 +183,8 @@ pub fn step(
             second,
             ..
         } => {
-            let one = step(first, byte, marks, base, entered, at, next)?;
-            let other = step(second, byte, marks, base + *split, entered, at, next)?;
+            let one = step(first, by, base, entered, next)?;
+            let other = step(second, by, base + *split, entered, next)?;
             Ok(one | other)
         }
         Node::Repeat {
@@ -177,72 +192,64 @@ pub fn step(
             most,
             each,
             body,
-        } => step_repeat(
-            *least, *most, *each, body, byte, marks, base, entered, at, next,
-        ),
+        } => {
+            let copies = Copies {
+                base,
+                each: *each,
+                count: *least,
+            };
+            step_repeat(body, copies, *most, by, entered, next)
+        }
     }
 }
 
-/// The same for a repetition of a body of `each` places.
+/// The step on a repetition: at least these copies of its body, and at most `most` if there is such a count.
 #[cycle(step)]
 fn step_repeat(
-    least: usize,
-    most: Option<usize>,
-    each: usize,
     body: &Node,
-    byte: u8,
-    marks: &[usize],
-    base: usize,
+    copies: Copies,
+    most: Option<usize>,
+    by: Reading<'_>,
     entered: bool,
-    at: Context,
     next: &mut Vec<usize>,
 ) -> Result<bool, AllocError>
-    requires fits { base + each * count_of least most < 2 ^ 64 }
-    requires count { IsOrdered least most }
-    requires each { each ≡ core.width (core_of body.now) }
+    requires fits { copies.base + copies.each * count_of copies.count most < 2 ^ 64 }
+    requires count { IsOrdered copies.count most }
+    requires each { copies.each ≡ core.width (core_of body.now) }
     requires measured { IsTrue (is_measured body.now) }
-    requires rising { IsRising marks.now }
-    requires set { IsSet next.old.items base }
-    ensures { IfOk result (λ left. Stepped (repeated least most (core_of body.now)) (test_at at) byte marks.now next.old.items next.new.items base entered left) }
+    requires rising { IsRising by.marks.now }
+    requires set { IsSet next.old.items copies.base }
+    ensures { IfOk result (λ left. Stepped (repeated copies.count most (core_of body.now))
+        (test_at by.entry.at) by.entry.byte
+        by.entry.marks.now next.old.items next.new.items copies.base entered left) }
 {
+    let least = copies.count;
     match most {
         Some(most) => {
-            let front = step_copies(body, each, least, byte, marks, base, entered, at, next)?;
-            step_up_to(
-                body,
-                each,
-                most - least,
-                byte,
-                marks,
-                base + each * least,
-                front,
-                at,
-                next,
-            )
+            let front = step_copies(body, copies, by, entered, next)?;
+            let rest = Copies {
+                base: copies.base + copies.each * least,
+                each: copies.each,
+                count: most - least,
+            };
+            step_up_to(body, rest, by, front, next)
         }
         None => {
             if least == 0 {
-                let last = step_plus(body, byte, marks, base, entered, at, next)?;
+                let last = step_plus(body, by, copies.base, entered, next)?;
                 Ok(last | entered)
             } else {
-                let front = step_copies(
-                    body,
-                    each,
-                    least - 1,
-                    byte,
-                    marks,
-                    base,
-                    entered,
-                    at,
-                    next,
-                )?;
+                let fronts = Copies {
+                    base: copies.base,
+                    each: copies.each,
+                    count: least - 1,
+                };
+                let front = step_copies(body, fronts, by, entered, next)?;
                 step_plus(
                     body,
-                    byte,
-                    marks,
-                    base + each * (least - 1),
+                    by,
+                    copies.base + copies.each * (least - 1),
                     front,
-                    at,
                     next,
                 )
             }
@@ -250,84 +257,95 @@ fn step_repeat(
     }
 }
 
-/// The same for `count` copies of the body, before anything else.
+/// The step on all of the copies, before anything else.
 #[cycle(step)]
 fn step_copies(
     body: &Node,
-    each: usize,
-    count: usize,
-    byte: u8,
-    marks: &[usize],
-    base: usize,
+    copies: Copies,
+    by: Reading<'_>,
     entered: bool,
-    at: Context,
     next: &mut Vec<usize>,
 ) -> Result<bool, AllocError>
-    requires fits { base + each * count < 2 ^ 64 }
-    requires each { each ≡ core.width (core_of body.now) }
+    requires fits { copies.base + copies.each * copies.count < 2 ^ 64 }
+    requires each { copies.each ≡ core.width (core_of body.now) }
     requires measured { IsTrue (is_measured body.now) }
-    requires rising { IsRising marks.now }
-    requires set { IsSet next.old.items base }
-    ensures { IfOk result (λ left. (b : Core) → Owes (in_front count (core_of body.now) b) b (test_at at) byte marks.now next.old.items next.new.items base (base + each * count) entered left false) }
+    requires rising { IsRising by.marks.now }
+    requires set { IsSet next.old.items copies.base }
+    ensures { IfOk result (λ left. (b : Core) →
+        Owes (in_front copies.count (core_of body.now) b) b (test_at by.entry.at)
+        by.entry.byte by.entry.marks.now next.old.items next.new.items
+        copies.base (copies.base + copies.each * copies.count) entered left false) }
 {
-    let mut done = next_copy(entered, marks, base, each, 0, count);
+    let mut done = next_copy(entered, by.marks, copies.base, copies.each, 0, copies.count);
     let mut left = entered;
-    while done < count {
-        left = step(body, byte, marks, base + each * done, left, at, next)?;
-        done = next_copy(left, marks, base, each, done + 1, count);
+    while done < copies.count {
+        left = step(body, by, copies.base + copies.each * done, left, next)?;
+        done = next_copy(
+            left,
+            by.marks,
+            copies.base,
+            copies.each,
+            done + 1,
+            copies.count,
+        );
     }
     Ok(left)
 }
 
-/// The same for at most `count` copies of the body.
+/// The step on at most as many copies.
 #[cycle(step)]
 fn step_up_to(
     body: &Node,
-    each: usize,
-    count: usize,
-    byte: u8,
-    marks: &[usize],
-    base: usize,
+    copies: Copies,
+    by: Reading<'_>,
     entered: bool,
-    at: Context,
     next: &mut Vec<usize>,
 ) -> Result<bool, AllocError>
-    requires fits { base + each * count < 2 ^ 64 }
-    requires each { each ≡ core.width (core_of body.now) }
+    requires fits { copies.base + copies.each * copies.count < 2 ^ 64 }
+    requires each { copies.each ≡ core.width (core_of body.now) }
     requires measured { IsTrue (is_measured body.now) }
-    requires rising { IsRising marks.now }
-    requires set { IsSet next.old.items base }
-    ensures { IfOk result (λ left. Stepped (up_to count (core_of body.now)) (test_at at) byte marks.now next.old.items next.new.items base entered left) }
+    requires rising { IsRising by.marks.now }
+    requires set { IsSet next.old.items copies.base }
+    ensures { IfOk result (λ left. Stepped (up_to copies.count (core_of body.now))
+        (test_at by.entry.at) by.entry.byte by.entry.marks.now
+        next.old.items next.new.items copies.base entered left) }
 {
-    let mut done = next_copy(entered, marks, base, each, 0, count);
+    let mut done = next_copy(entered, by.marks, copies.base, copies.each, 0, copies.count);
     let mut left = entered;
     let mut any = false;
-    while done < count {
+    while done < copies.count {
         any = any | left;
-        left = step(body, byte, marks, base + each * done, left, at, next)?;
-        done = next_copy(left, marks, base, each, done + 1, count);
+        left = step(body, by, copies.base + copies.each * done, left, next)?;
+        done = next_copy(
+            left,
+            by.marks,
+            copies.base,
+            copies.each,
+            done + 1,
+            copies.count,
+        );
     }
     Ok(any | left)
 }
 
-/// The same for one or more of the body.
+/// The step on one or more of the body.
 #[cycle(step)]
 fn step_plus(
     body: &Node,
-    byte: u8,
-    marks: &[usize],
+    by: Reading<'_>,
     base: usize,
     entered: bool,
-    at: Context,
     next: &mut Vec<usize>,
 ) -> Result<bool, AllocError>
     requires fits { base + core.width (core_of body.now) < 2 ^ 64 }
     requires measured { IsTrue (is_measured body.now) }
-    requires rising { IsRising marks.now }
+    requires rising { IsRising by.marks.now }
     requires set { IsSet next.old.items base }
-    ensures { IfOk result (λ left. Stepped (core.plus (core_of body.now)) (test_at at) byte marks.now next.old.items next.new.items base entered left) }
+    ensures { IfOk result (λ left. Stepped (core.plus (core_of body.now)) (test_at by.entry.at)
+        by.entry.byte by.entry.marks.now
+        next.old.items next.new.items base entered left) }
 {
-    let left = exits(body, marks, base, entered, at);
-    step(body, byte, marks, base, entered | left, at, next)?;
+    let left = exits(body, by.marks, base, entered, by.at);
+    step(body, by, base, entered | left, next)?;
     Ok(left)
 }

@@ -3,8 +3,7 @@ use Rattle.std.proofs.Math.ListN.{drop_of_length-le}
 use Rattle.logos_places.specs.IsCore.{IsCoreOf}
 use Rattle.logos_places.specs.Node.{core_of}
 use Rattle.logos_automaton.specs.Rules.{AreRuleCores}
-use Rattle.logos_automaton.specs.View.{rule_of}
-use Rattle.logos_automaton.specs.View.{rules_of}
+use Rattle.logos_automaton.specs.View.{rule_of, rules_of}
 use Rattle.logos_automaton.proofs.runs.RuleLemmas.{cores_more, tree_size}
 use Rattle.logos_places.proofs.trees.PrepareLemmas.{AreMeasured-push}
 use Rattle.logos_automaton.proofs.nodes.nodes_of.Goals as goal

@@ -81,12 +81,12 @@ pub exits_copies-loop-done-init : goal.exits_copies-loop-done-init
 exits_copies-loop-done-init t c =
     let a = core_of c.args.body.now in
     let n = c.next_copy-done.ensures in
-    let all : c.args.count - 0 ≡ c.args.count = omega arith in
-    let start : c.args.base + c.args.each * 0 ≡ c.args.base = omega arith in
+    let all : c.args.copies.count - 0 ≡ c.args.copies.count = omega arith in
+    let start : c.args.copies.base + c.args.copies.each * 0 ≡ c.args.copies.base = omega arith in
     record {
       within = n.bound;
       same = λ b. rw (all, start) at
-          (front_skip (test_at c.args.at) c.args.marks.now a c.args.each c.args.base c.requires.each b 0 c.next_copy-done.result c.args.count c.args.entered
+          (front_skip (test_at c.args.at) c.args.marks.now a c.args.copies.each c.args.copies.base c.requires.each b 0 c.next_copy-done.result c.args.copies.count c.args.entered
           n.after n.bound n.stays n.unmarked);
     }
 
@@ -98,36 +98,36 @@ exits_copies-loop-done-preserved t c =
     record {
       within = n.bound;
       same = λ b. iff_trans
-          (front_skip test c.args.marks.now a c.args.each c.args.base c.requires.each b (c.loop-done.done + 1) c.next_copy-done-in-loop-done.result c.args.count
+          (front_skip test c.args.marks.now a c.args.copies.each c.args.copies.base c.requires.each b (c.loop-done.done + 1) c.next_copy-done-in-loop-done.result c.args.copies.count
           c.exits-left.result n.after n.bound n.stays n.unmarked)
           (iff_trans
-          (front_step test c.args.marks.now a c.args.each c.args.base c.requires.each b c.loop-done.done c.args.count c.loop-done.left c.exits-left.result
+          (front_step test c.args.marks.now a c.args.copies.each c.args.copies.base c.requires.each b c.loop-done.done c.args.copies.count c.loop-done.left c.exits-left.result
           c.loop-done-test.true c.exits-left.ensures)
           (c.loop-done.invariant.same b));
     }
 
 pub exits_copies-returns : goal.exits_copies-returns
 exits_copies-returns t c =
-    let none : c.args.count - c.loop-done.done ≡ 0 = omega arith in
-    let all : c.loop-done.done ≡ c.args.count = omega arith in
+    let none : c.args.copies.count - c.loop-done.done ≡ 0 = omega arith in
+    let all : c.loop-done.done ≡ c.args.copies.count = omega arith in
     λ b. rw all at (rw none at c.loop-done.invariant.same b)
 
 pub exits_repeat-returns-else-least-eq0 : goal.exits_repeat-returns-else-least-eq0
 exits_repeat-returns-else-least-eq0 t c =
     let a = core_of c.args.body.now in
-    rw (c.in-None.is, at_least-some c.args.least a c.if-least-eq0.false)
+    rw (c.in-None.is, at_least-some c.args.copies.count a c.if-least-eq0.false)
     (iff_trans c.exits.ensures (c.exits_copies-front-else-least-eq0.ensures (core.plus a)))
 
 pub exits_up_to-loop-done-init : goal.exits_up_to-loop-done-init
 exits_up_to-loop-done-init t c =
     let a = core_of c.args.body.now in
     let n = c.next_copy-done.ensures in
-    let all : c.args.count - 0 ≡ c.args.count = omega arith in
-    let start : c.args.base + c.args.each * 0 ≡ c.args.base = omega arith in
+    let all : c.args.copies.count - 0 ≡ c.args.copies.count = omega arith in
+    let start : c.args.copies.base + c.args.copies.each * 0 ≡ c.args.copies.base = omega arith in
     record {
       within = n.bound;
       same = iff_trans (rw (all, start) at
-          (up_to_skip (test_at c.args.at) c.args.marks.now a c.args.each c.args.base c.requires.each 0 c.next_copy-done.result c.args.count false c.args.entered
+          (up_to_skip (test_at c.args.at) c.args.marks.now a c.args.copies.each c.args.copies.base c.requires.each 0 c.next_copy-done.result c.args.copies.count false c.args.entered
           n.after n.bound n.stays n.unmarked))
           (λ h. ⊎_elim (λ e. absurd (true≢false (sym e))) (λ u. u) h, inr);
     }
@@ -140,10 +140,10 @@ exits_up_to-loop-done-preserved t c =
     record {
       within = n.bound;
       same = iff_trans
-          (up_to_skip test c.args.marks.now a c.args.each c.args.base c.requires.each (c.loop-done.done + 1) c.next_copy-done-in-loop-done.result c.args.count
+          (up_to_skip test c.args.marks.now a c.args.copies.each c.args.copies.base c.requires.each (c.loop-done.done + 1) c.next_copy-done-in-loop-done.result c.args.copies.count
           _ c.exits-left.result n.after n.bound n.stays n.unmarked)
           (iff_trans
-          (up_to_step test c.args.marks.now a c.args.each c.args.base c.requires.each c.loop-done.done c.args.count c.loop-done.any c.loop-done.left c.exits-left.result
+          (up_to_step test c.args.marks.now a c.args.copies.each c.args.copies.base c.requires.each c.loop-done.done c.args.copies.count c.loop-done.any c.loop-done.left c.exits-left.result
           c.loop-done-test.true c.exits-left.ensures)
           c.loop-done.invariant.same);
     }

@@ -8,20 +8,20 @@ use Rattle.logos_places.proofs.places.exits.+exits.Given as goal
 
 abbrev pub invariant-exits_copies-loop-done : goal.invariant-exits_copies-loop-done
 invariant-exits_copies-loop-done l = record {
-  within : l.done ≤ l.count;
-  same : (b : Core) → Exits (in_front (l.count - l.done) (core_of l.body) b) (test_at l.at) (λ q. Has l.marks (l.base + l.each * l.done + q)) (IsTrue l.left)
-      ↔ Exits (in_front l.count (core_of l.body) b) (test_at l.at) (λ q. Has l.marks (l.base + q)) (IsTrue l.entered);
+  within : l.done ≤ l.copies.count;
+  same : (b : Core) → Exits (in_front (l.copies.count - l.done) (core_of l.body) b) (test_at l.at) (λ q. Has l.marks (l.copies.base + l.copies.each * l.done + q)) (IsTrue l.left)
+      ↔ Exits (in_front l.copies.count (core_of l.body) b) (test_at l.at) (λ q. Has l.marks (l.copies.base + q)) (IsTrue l.entered);
 }
 
 abbrev pub invariant-exits_up_to-loop-done : goal.invariant-exits_up_to-loop-done
 invariant-exits_up_to-loop-done l = record {
-  within : l.done ≤ l.count;
-  same : (IsTrue l.any ⊎ Exits (up_to (l.count - l.done) (core_of l.body)) (test_at l.at) (λ q. Has l.marks (l.base + l.each * l.done + q)) (IsTrue l.left))
-      ↔ Exits (up_to l.count (core_of l.body)) (test_at l.at) (λ q. Has l.marks (l.base + q)) (IsTrue l.entered);
+  within : l.done ≤ l.copies.count;
+  same : (IsTrue l.any ⊎ Exits (up_to (l.copies.count - l.done) (core_of l.body)) (test_at l.at) (λ q. Has l.marks (l.copies.base + l.copies.each * l.done + q)) (IsTrue l.left))
+      ↔ Exits (up_to l.copies.count (core_of l.body)) (test_at l.at) (λ q. Has l.marks (l.copies.base + q)) (IsTrue l.entered);
 }
 
 abbrev pub decreases-exits_copies-loop-done : goal.decreases-exits_copies-loop-done
-decreases-exits_copies-loop-done l = l.count - l.done
+decreases-exits_copies-loop-done l = l.copies.count - l.done
 
 abbrev pub decreases-exits_up_to-loop-done : goal.decreases-exits_up_to-loop-done
-decreases-exits_up_to-loop-done l = l.count - l.done
+decreases-exits_up_to-loop-done l = l.copies.count - l.done

@@ -21,7 +21,7 @@ use Rattle.logos_places.proofs.places.step.+step.Goals as goal
 pub step-returns-then-not-any_mark : goal.step-returns-then-not-any_mark
 step-returns-then-not-any_mark t c =
     rw c.if-not-entered.true
-    (stepped_nothing (test_at c.args.at) c.args.byte c.args.marks.now (core_of c.args.node.now) _ c.args.base c.requires.set
+    (stepped_nothing (test_at c.args.by.at) c.args.by.byte c.args.by.marks.now (core_of c.args.node.now) _ c.args.base c.requires.set
     (λ q lt has. true≢false (sym (c.any_mark.ensures.1 (q, omega (arith, lt, c.width.ensures), has)) ∙ c.if-not-any_mark.true)))
 
 pub step-step_literal-requires-clause-fits : goal.step-step_literal-requires-clause-fits
@@ -43,17 +43,17 @@ pub step-returns-in-Bytes : goal.step-returns-in-Bytes
 step-returns-in-Bytes t c =
     rw (ap core_of c.in-Bytes.is ∙ core-Bytes _)
     (IfOk-weaker _ _ _
-    (λ left (s : (k : ℕ → Bool) (test : Look → Bool) → k c.args.byte ≡ c.has_byte.result → Stepped (core.byte_in k) test c.args.byte c.args.marks.now
+    (λ left (s : (k : ℕ → Bool) (test : Look → Bool) → k c.args.by.byte ≡ c.has_byte-fits.result → Stepped (core.byte_in k) test c.args.by.byte c.args.by.marks.now
     c.args.next.now.items c.step_byte.new.next.items c.args.base c.args.entered left).
-    s (is_in (pairs c.in-Bytes.ranges.items)) (test_at c.args.at) (sym (rw c.deref-in-Bytes.ensures.value at c.has_byte.ensures)))
+    s (is_in (pairs c.in-Bytes.ranges.items)) (test_at c.args.by.at) (sym (rw c.deref-in-Bytes.ensures.value at c.has_byte-fits.ensures)))
     c.step_byte.ensures)
 
 pub step-returns-in-Characters : goal.step-returns-in-Characters
 step-returns-in-Characters t c =
     rw (ap core_of c.in-Characters.is ∙ core-Characters _)
     (IfOk-weaker _ _ _
-    (λ left (s : (test : Look → Bool) → Stepped (core.character (reader_of c.in-Characters.table)) test c.args.byte c.args.marks.now
-    c.args.next.now.items c.step_characters.new.next.items c.args.base c.args.entered left). s (test_at c.args.at))
+    (λ left (s : (test : Look → Bool) → Stepped (core.character (reader_of c.in-Characters.table)) test c.args.by.byte c.args.by.marks.now
+    c.args.next.now.items c.step_characters.new.next.items c.args.base c.args.entered left). s (test_at c.args.by.at))
     c.step_characters.ensures)
 
 pub step-returns-in_ok-left-in-Cat : goal.step-returns-in_ok-left-in-Cat
@@ -61,7 +61,7 @@ step-returns-in_ok-left-in-Cat t c =
     let p = pair-Cat _ _ c.in-Cat.first c.in-Cat.second (rw c.in-Cat.is at c.requires.measured) in
     rw (ap core_of c.in-Cat.is ∙ core-Cat _ _ _ _)
     (IfOk-weaker _ _ _
-    (λ last s. stepped_cat (test_at c.args.at) c.args.byte c.args.marks.now (core_of c.in-Cat.first.value) (core_of c.in-Cat.second.value)
+    (λ last s. stepped_cat (test_at c.args.by.at) c.args.by.byte c.args.by.marks.now (core_of c.in-Cat.first.value) (core_of c.in-Cat.second.value)
     _ c.step.new.next.items _ c.args.base c.in-Cat.split c.args.entered c.in_ok-left-in-Cat.left last p.split_is c.requires.set
     (rw c.deref-in-Cat.ensures at c.in_ok-left-in-Cat.ensures)
     (rw c.deref-in-Cat-2.ensures at s))
@@ -71,15 +71,15 @@ pub step-returns-in_ok-other-in-Alt : goal.step-returns-in_ok-other-in-Alt
 step-returns-in_ok-other-in-Alt t c =
     let p = pair-Alt _ _ c.in-Alt.first c.in-Alt.second (rw c.in-Alt.is at c.requires.measured) in
     rw (ap core_of c.in-Alt.is ∙ core-Alt _ _ _ _)
-    (stepped_alt (test_at c.args.at) c.args.byte c.args.marks.now (core_of c.in-Alt.first.value) (core_of c.in-Alt.second.value)
+    (stepped_alt (test_at c.args.by.at) c.args.by.byte c.args.by.marks.now (core_of c.in-Alt.first.value) (core_of c.in-Alt.second.value)
     _ c.step-in-Alt.new.next.items _ c.args.base c.in-Alt.split c.args.entered c.in_ok-one-in-Alt.one c.in_ok-other-in-Alt.other p.split_is
     (rw c.deref-in-Alt.ensures at c.in_ok-one-in-Alt.ensures)
     (rw c.deref-in-Alt-2.ensures at c.in_ok-other-in-Alt.ensures))
 
 pub step_copies-step-requires : goal.step_copies-step-requires
 step_copies-step-requires t c =
-    let more : c.loop-done.done + 1 ≤ c.args.count = omega arith in
-    let few = mul-le-mul_left c.args.each more in (
+    let more : c.loop-done.done + 1 ≤ c.args.copies.count = omega arith in
+    let few = mul-le-mul_left c.args.copies.each more in (
       search (rules, the_lemmas),
       (omega (arith, c.requires.fits, c.requires.each, few), (c.requires.measured, (c.requires.rising, (c.loop-done.invariant.owes core.empty).set))),
     )
@@ -88,66 +88,66 @@ pub step_copies-loop-done-init : goal.step_copies-loop-done-init
 step_copies-loop-done-init t c =
     let a = core_of c.args.body.now in
     let n = c.next_copy-done.ensures in
-    let start : c.args.base + c.args.each * 0 ≡ c.args.base = omega arith in
-    let all : c.args.count - 0 ≡ c.args.count = omega arith in
+    let start : c.args.copies.base + c.args.copies.each * 0 ≡ c.args.copies.base = omega arith in
+    let all : c.args.copies.count - 0 ≡ c.args.copies.count = omega arith in
     record {
       within = n.bound;
-      owes = λ b. owes_front_skip (test_at c.args.at) c.args.byte c.args.marks.now (in_front c.args.count a b) c.args.next.now.items c.args.base c.args.entered
-          a c.args.each c.requires.each b 0 c.next_copy-done.result c.args.count c.args.next.now.items c.args.entered false n.after n.bound n.stays n.unmarked
-          (rw (start, all) (owes_all (test_at c.args.at) c.args.byte c.args.marks.now (in_front c.args.count a b) c.args.next.now.items c.args.base c.args.entered c.requires.set));
+      owes = λ b. owes_front_skip (test_at c.args.by.at) c.args.by.byte c.args.by.marks.now (in_front c.args.copies.count a b) c.args.next.now.items c.args.copies.base c.args.entered
+          a c.args.copies.each c.requires.each b 0 c.next_copy-done.result c.args.copies.count c.args.next.now.items c.args.entered false n.after n.bound n.stays n.unmarked
+          (rw (start, all) (owes_all (test_at c.args.by.at) c.args.by.byte c.args.by.marks.now (in_front c.args.copies.count a b) c.args.next.now.items c.args.copies.base c.args.entered c.requires.set));
     }
 
 pub step_copies-loop-done-preserved : goal.step_copies-loop-done-preserved
 step_copies-loop-done-preserved t c =
     let a = core_of c.args.body.now in
     let n = c.next_copy-done-in-loop-done.ensures in
-    let test = test_at c.args.at in
+    let test = test_at c.args.by.at in
     record {
       within = n.bound;
-      owes = λ b. owes_front_skip test c.args.byte c.args.marks.now (in_front c.args.count a b) c.args.next.now.items c.args.base c.args.entered
-          a c.args.each c.requires.each b (c.loop-done.done + 1) c.next_copy-done-in-loop-done.result c.args.count _ c.in_ok-left.left false n.after n.bound n.stays n.unmarked
-          (owes_front_step test c.args.byte c.args.marks.now (in_front c.args.count a b) c.args.next.now.items c.args.base c.args.entered
-          a c.args.each c.requires.each b c.loop-done.done c.args.count c.loop-done.next.items _ c.loop-done.left c.in_ok-left.left false c.loop-done-test.true
+      owes = λ b. owes_front_skip test c.args.by.byte c.args.by.marks.now (in_front c.args.copies.count a b) c.args.next.now.items c.args.copies.base c.args.entered
+          a c.args.copies.each c.requires.each b (c.loop-done.done + 1) c.next_copy-done-in-loop-done.result c.args.copies.count _ c.in_ok-left.left false n.after n.bound n.stays n.unmarked
+          (owes_front_step test c.args.by.byte c.args.by.marks.now (in_front c.args.copies.count a b) c.args.next.now.items c.args.copies.base c.args.entered
+          a c.args.copies.each c.requires.each b c.loop-done.done c.args.copies.count c.loop-done.next.items _ c.loop-done.left c.in_ok-left.left false c.loop-done-test.true
           (c.loop-done.invariant.owes b) c.in_ok-left.ensures);
     }
 
 pub step_copies-returns : goal.step_copies-returns
 step_copies-returns t c =
-    let none : c.args.count - c.loop-done.done ≡ 0 = omega arith in
-    let all : c.loop-done.done ≡ c.args.count = omega arith in
+    let none : c.args.copies.count - c.loop-done.done ≡ 0 = omega arith in
+    let all : c.loop-done.done ≡ c.args.copies.count = omega arith in
     λ b. rw all at (rw none at c.loop-done.invariant.owes b)
 
 pub step_plus-returns : goal.step_plus-returns
 step_plus-returns t c =
     let a = core_of c.args.body.now in
-    stepped_plus (test_at c.args.at) c.args.byte c.args.marks.now a _ _ c.args.base c.args.entered _ c.exits-left.result _
-    (again_iff (test_at c.args.at) c.args.marks.now a c.args.base c.args.entered c.exits-left.result c.exits-left.ensures)
+    stepped_plus (test_at c.args.by.at) c.args.by.byte c.args.by.marks.now a _ _ c.args.base c.args.entered _ c.exits-left.result _
+    (again_iff (test_at c.args.by.at) c.args.by.marks.now a c.args.base c.args.entered c.exits-left.result c.exits-left.ensures)
     c.in_ok-step.ensures c.exits-left.ensures
 
 pub step_up_to-loop-done-init : goal.step_up_to-loop-done-init
 step_up_to-loop-done-init t c =
     let a = core_of c.args.body.now in
     let n = c.next_copy-done.ensures in
-    let start : c.args.base + c.args.each * 0 ≡ c.args.base = omega arith in
-    let all : c.args.count - 0 ≡ c.args.count = omega arith in
+    let start : c.args.copies.base + c.args.copies.each * 0 ≡ c.args.copies.base = omega arith in
+    let all : c.args.copies.count - 0 ≡ c.args.copies.count = omega arith in
     record {
       within = n.bound;
-      owes = owes_up_to_skip (test_at c.args.at) c.args.byte c.args.marks.now (up_to c.args.count a) c.args.next.now.items c.args.base c.args.entered
-          a c.args.each c.requires.each 0 c.next_copy-done.result c.args.count c.args.next.now.items c.args.entered false n.after n.bound n.stays n.unmarked
-          (rw (start, all) (owes_all (test_at c.args.at) c.args.byte c.args.marks.now (up_to c.args.count a) c.args.next.now.items c.args.base c.args.entered c.requires.set));
+      owes = owes_up_to_skip (test_at c.args.by.at) c.args.by.byte c.args.by.marks.now (up_to c.args.copies.count a) c.args.next.now.items c.args.copies.base c.args.entered
+          a c.args.copies.each c.requires.each 0 c.next_copy-done.result c.args.copies.count c.args.next.now.items c.args.entered false n.after n.bound n.stays n.unmarked
+          (rw (start, all) (owes_all (test_at c.args.by.at) c.args.by.byte c.args.by.marks.now (up_to c.args.copies.count a) c.args.next.now.items c.args.copies.base c.args.entered c.requires.set));
     }
 
 pub step_up_to-loop-done-preserved : goal.step_up_to-loop-done-preserved
 step_up_to-loop-done-preserved t c =
     let a = core_of c.args.body.now in
     let n = c.next_copy-done-in-loop-done.ensures in
-    let test = test_at c.args.at in
+    let test = test_at c.args.by.at in
     record {
       within = n.bound;
-      owes = owes_up_to_skip test c.args.byte c.args.marks.now (up_to c.args.count a) c.args.next.now.items c.args.base c.args.entered
-          a c.args.each c.requires.each (c.loop-done.done + 1) c.next_copy-done-in-loop-done.result c.args.count _ c.in_ok-left.left _ n.after n.bound n.stays n.unmarked
-          (owes_up_to_step test c.args.byte c.args.marks.now (up_to c.args.count a) c.args.next.now.items c.args.base c.args.entered
-          a c.args.each c.requires.each c.loop-done.done c.args.count c.loop-done.next.items _ c.loop-done.left c.in_ok-left.left c.loop-done.any c.loop-done-test.true
+      owes = owes_up_to_skip test c.args.by.byte c.args.by.marks.now (up_to c.args.copies.count a) c.args.next.now.items c.args.copies.base c.args.entered
+          a c.args.copies.each c.requires.each (c.loop-done.done + 1) c.next_copy-done-in-loop-done.result c.args.copies.count _ c.in_ok-left.left _ n.after n.bound n.stays n.unmarked
+          (owes_up_to_step test c.args.by.byte c.args.by.marks.now (up_to c.args.copies.count a) c.args.next.now.items c.args.copies.base c.args.entered
+          a c.args.copies.each c.requires.each c.loop-done.done c.args.copies.count c.loop-done.next.items _ c.loop-done.left c.in_ok-left.left c.loop-done.any c.loop-done-test.true
           c.loop-done.invariant.owes c.in_ok-left.ensures);
     }
 
@@ -156,19 +156,19 @@ step_repeat-returns-in_ok-front-in-Some t c =
     let a = core_of c.args.body.now in
     rw c.in-Some.is
     (IfOk-weaker _ _ _
-    (λ last s. owes_done (test_at c.args.at) c.args.byte c.args.marks.now
-    (in_front c.args.least a (up_to (c.in-Some.most - c.args.least) a)) c.args.next.now.items c.args.base c.args.entered
-    (up_to (c.in-Some.most - c.args.least) a) c.step_copies.new.next.items _ _ c.in_ok-front-in-Some.front last false
-    (c.in_ok-front-in-Some.ensures (up_to (c.in-Some.most - c.args.least) a)) s)
+    (λ last s. owes_done (test_at c.args.by.at) c.args.by.byte c.args.by.marks.now
+    (in_front c.args.copies.count a (up_to (c.in-Some.most - c.args.copies.count) a)) c.args.next.now.items c.args.copies.base c.args.entered
+    (up_to (c.in-Some.most - c.args.copies.count) a) c.step_copies.new.next.items _ _ c.in_ok-front-in-Some.front last false
+    (c.in_ok-front-in-Some.ensures (up_to (c.in-Some.most - c.args.copies.count) a)) s)
     c.step_up_to.ensures)
 
 pub step_repeat-returns-in_ok-front-in-None : goal.step_repeat-returns-in_ok-front-in-None
 step_repeat-returns-in_ok-front-in-None t c =
     let a = core_of c.args.body.now in
-    rw (c.in-None.is, at_least-some c.args.least a c.if-least-eq0.false)
+    rw (c.in-None.is, at_least-some c.args.copies.count a c.if-least-eq0.false)
     (IfOk-weaker _ _ _
-    (λ last s. owes_done (test_at c.args.at) c.args.byte c.args.marks.now
-    (in_front (c.args.least - 1) a (core.plus a)) c.args.next.now.items c.args.base c.args.entered
+    (λ last s. owes_done (test_at c.args.by.at) c.args.by.byte c.args.by.marks.now
+    (in_front (c.args.copies.count - 1) a (core.plus a)) c.args.next.now.items c.args.copies.base c.args.entered
     (core.plus a) c.step_copies-else-least-eq0.new.next.items _ _ c.in_ok-front-in-None.front last false
     (c.in_ok-front-in-None.ensures (core.plus a)) s)
     c.step_plus-else-least-eq0.ensures)

@@ -8,20 +8,20 @@ use Rattle.logos_places.proofs.places.step.+step.Given as goal
 
 abbrev pub invariant-step_copies-loop-done : goal.invariant-step_copies-loop-done
 invariant-step_copies-loop-done l = record {
-  within : l.done ≤ l.count;
-  owes : (b : Core) → Owes (in_front l.count (core_of l.body) b) (in_front (l.count - l.done) (core_of l.body) b)
-      (test_at l.at) l.byte l.marks l.initial.next.items l.next.items l.base (l.base + l.each * l.done) l.entered l.left false;
+  within : l.done ≤ l.copies.count;
+  owes : (b : Core) → Owes (in_front l.copies.count (core_of l.body) b) (in_front (l.copies.count - l.done) (core_of l.body) b)
+      (test_at l.by.at) l.by.byte l.by.marks.now l.initial.next.items l.next.items l.copies.base (l.copies.base + l.copies.each * l.done) l.entered l.left false;
 }
 
 abbrev pub invariant-step_up_to-loop-done : goal.invariant-step_up_to-loop-done
 invariant-step_up_to-loop-done l = record {
-  within : l.done ≤ l.count;
-  owes : Owes (up_to l.count (core_of l.body)) (up_to (l.count - l.done) (core_of l.body))
-      (test_at l.at) l.byte l.marks l.initial.next.items l.next.items l.base (l.base + l.each * l.done) l.entered l.left l.any;
+  within : l.done ≤ l.copies.count;
+  owes : Owes (up_to l.copies.count (core_of l.body)) (up_to (l.copies.count - l.done) (core_of l.body))
+      (test_at l.by.at) l.by.byte l.by.marks.now l.initial.next.items l.next.items l.copies.base (l.copies.base + l.copies.each * l.done) l.entered l.left l.any;
 }
 
 abbrev pub decreases-step_copies-loop-done : goal.decreases-step_copies-loop-done
-decreases-step_copies-loop-done l = l.count - l.done
+decreases-step_copies-loop-done l = l.copies.count - l.done
 
 abbrev pub decreases-step_up_to-loop-done : goal.decreases-step_up_to-loop-done
-decreases-step_up_to-loop-done l = l.count - l.done
+decreases-step_up_to-loop-done l = l.copies.count - l.done
