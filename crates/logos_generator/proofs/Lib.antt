@@ -4,6 +4,7 @@ pub mod InOrder
 pub mod CodeLemmas
 pub mod RowLemmas
 pub mod SignLemmas
+pub mod UseLemmas
 pub mod StandLemmas
 pub mod LexerLemmas
 pub mod SoundLemmas

@@ -1,5 +1,5 @@
 -- Tests by their numbers.
-use Rattle.std.proofs.Common.{◌≡◌, ◌∙◌, ℕ, suc, zero, ◌+◌, ◌-◌, ◌*◌, ◌<◌, ◌≤◌, Bool, true, false, if◌then◌else◌, List, [], ◌∷◌, ◌++◌, length, map, drop, get_or, slice_get, Some, fold, slice_index_or, nat_le, append-nil, refl, sym, ap, subst, arith}
+use Rattle.std.proofs.Common.{◌≡◌, ◌∙◌, ℕ, suc, ◌+◌, ◌-◌, ◌*◌, ◌<◌, ◌≤◌, Bool, true, false, if◌then◌else◌, List, [], ◌∷◌, ◌++◌, length, map, drop, get_or, slice_get, Some, slice_index_or, append-nil, refl, sym, ap, subst, arith}
 use Rattle.std.specs.Bool.{beq}
 use Rattle.std.specs.Cmp.Lexicographic.{pointwise}
 use Rattle.std.specs.List.{flat_map, list_any, range_with_len}
@@ -15,7 +15,7 @@ use Rattle.logos_graph.specs.GraphView.{edge_of}
 use Rattle.logos_graph.specs.declared.byte_class.ByteClass.{ByteClass}
 use Rattle.logos_graph.specs.declared.graph.State.{State}
 use Rattle.logos_generator.specs.Nodes.{tests_byte, Extends}
-use Rattle.logos_generator.specs.Numbering.{set_of, with_use, numbered, branch_uses, state_uses, uses_from, bits_from, bit_table}
+use Rattle.logos_generator.specs.Numbering.{set_of, with_use, numbered, state_uses, uses_from, bits_from, bit_table}
 
 -- a list by its elements, which a function of their numbers gives
 pub listed : {A : Type 0} (xs : List A) (f : ℕ → A) (n : ℕ) → length xs ≡ n → ((k : ℕ) (d : A) → k < n → get_or xs k d ≡ f k) → xs ≡ map f (range_with_len 0 n)

@@ -16,4 +16,5 @@ pub mod Order
 pub mod GeneratorValue
 pub mod NodeCalls
 pub mod Signs
+pub mod Uses
 pub mod Looks

@@ -1,6 +1,9 @@
 -- The nodes that a generator makes one by one.
 use Rattle.std.specs.Prelude.{◌≡◌, ℕ, Bool, List, ◌∷◌, [], Option, Some, option_map, slice_get}
 use Rattle.logos_graph.specs.Graph.{GraphState}
+use Rattle.logos_graph.specs.GraphView.{graph_state_of, state_number}
+use Rattle.logos_graph.specs.declared.graph.State.{State}
+use Rattle.logos_graph.specs.declared.graph.StateData.{StateData}
 use Rattle.logos_generator.specs.CodeView.{fork_of}
 use Rattle.logos_generator.specs.GeneratorValue.{GeneratorValue}
 use Rattle.logos_generator.specs.Nodes.{Extends, IsForkOf, IsLoopOf, IsTest, left_out}
@@ -15,15 +18,15 @@ pub record Continues (old new : GeneratorValue) : Type 0 where
   pub tests : Extends old.tests new.tests
   pub jumps : Extends old.jumps new.jumps
 
--- the fork of a state's edges, with the edge back to state s or without it
-pub record MakesFork (old new : GeneratorValue) (s : ℕ) (state : GraphState) (ignore_self : Bool) (made : Fork) : Type 0 where
-  pub is : IsForkOf new.tests (left_out ignore_self s) state.normal (fork_of new.jumps made)
-  pub numbers : new.tests ≡ numbered old.tests (fork_uses (left_out ignore_self s) state.normal)
+-- the fork of a state by its data, without the edge back to it or with it
+pub record MakesFork (old new : GeneratorValue) (state : State) (state_data : StateData) (ignore_self : Bool) (made : Fork) : Type 0 where
+  pub is : IsForkOf new.tests (left_out ignore_self (state_number state)) (graph_state_of state_data).normal (fork_of new.jumps made)
+  pub numbers : new.tests ≡ numbered old.tests (fork_uses (left_out ignore_self (state_number state)) (graph_state_of state_data).normal)
 
--- the fast loop of state s of the graph, if an edge leads back to it
-pub record MakesLoop (old new : GeneratorValue) (s : ℕ) (made : Option FastLoop) : Type 0 where
-  pub is : (state : GraphState) → slice_get old.graph.states s ≡ Some state → IsLoopOf new.tests s state.normal (option_map (λ node. node.test) made)
-  pub numbers : (state : GraphState) → slice_get old.graph.states s ≡ Some state → new.tests ≡ numbered old.tests (loop_uses s state.normal)
+-- the fast loop of a state of the graph, if an edge leads back to it
+pub record MakesLoop (old new : GeneratorValue) (state : State) (made : Option FastLoop) : Type 0 where
+  pub is : (at : GraphState) → slice_get old.graph.states (state_number state) ≡ Some at → IsLoopOf new.tests (state_number state) at.normal (option_map (λ node. node.test) made)
+  pub numbers : (at : GraphState) → slice_get old.graph.states (state_number state) ≡ Some at → new.tests ≡ numbered old.tests (loop_uses (state_number state) at.normal)
 
 -- the fast loop over these bytes
 pub record MakesLoopOver (old new : GeneratorValue) (ranges : List (ℕ × ℕ)) (made : FastLoop) : Type 0 where

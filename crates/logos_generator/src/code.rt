@@ -11,6 +11,7 @@ pub(crate) mod rows;
 pub(crate) mod signs;
 #[cfg(test)]
 mod tests;
+pub(crate) mod uses;
 
 use crate::generator::Config;
 use logos_graph::byte_class::Comparisons;
@@ -21,6 +22,7 @@ use rows::{Step, rows_of};
 use signs::{Sign, signs_of};
 use std::alloc::{AllocError, Global};
 use std::marker::Model;
+use uses::{LeafUse, uses_of};
 
 /// A match of this leaf ends where the state is, or one byte before where it is late.
 #[derive(Clone, Copy, Debug, PartialEq, Eq)]
@@ -108,6 +110,8 @@ pub struct Code<'s> {
     rows: Vec<[u32; 256]>,
     /// What the mark of each state says.
     signs: Vec<Sign>,
+    /// What becomes of the matches of each leaf.
+    uses: Vec<LeafUse>,
 }
 
 impl<'s> Model for Code<'s> {
@@ -118,11 +122,12 @@ impl<'s> Model for Code<'s> {
     ghost use Rattle.logos_generator.specs.CodeView.{code_of, IsKept};
     ghost use Rattle.logos_generator.specs.Rows.{AreRows};
     ghost use Rattle.logos_generator.specs.Signs.{mark_by, AreSigns};
-    ghost use Rattle.std.specs.Prelude.{map};
+    ghost use Rattle.logos_generator.specs.Uses.{use_by};
+    ghost use Rattle.std.specs.Prelude.{◌≡◌, map};
 
     ghost view = { λ code. code_of code.parts };
 
-    ghost invariant = { λ code. IsKept code.parts × AreRows (code_of code.parts) code.rows.items × AreSigns (code_of code.parts) (map mark_by code.signs.items) };
+    ghost invariant = { λ code. IsKept code.parts × AreRows (code_of code.parts) code.rows.items × AreSigns (code_of code.parts) (map mark_by code.signs.items) × (map use_by code.uses.items ≡ (code_of code.parts).leaves) };
 }
 
 impl<'s> Code<'s> {
@@ -133,7 +138,13 @@ impl<'s> Code<'s> {
     {
         let rows = rows_of(alloc, &parts)?;
         let signs = signs_of(alloc, &parts)?;
-        Ok(Code { parts, rows, signs })
+        let uses = uses_of(alloc, &parts)?;
+        Ok(Code {
+            parts,
+            rows,
+            signs,
+            uses,
+        })
     }
 }
 
@@ -251,19 +262,21 @@ impl Code<'_> {
     }
 
     /// Whether a callback is asked for the matches of the leaf.
+    #[inline]
     pub(crate) fn asks(&self, leaf: LeafId) -> bool
         requires { leaf.0 < length self.now.leaves }
         ensures { result ≡ asks_for self.now leaf.0 }
     {
-        self.parts.leaves[leaf.0].callback.is_some()
+        self.uses[leaf.0].asks
     }
 
     /// Whether the matches of the leaf are left out.
+    #[inline]
     pub(crate) fn skips(&self, leaf: LeafId) -> bool
         requires { leaf.0 < length self.now.leaves }
         ensures { result ≡ skips_over self.now leaf.0 }
     {
-        matches!(self.parts.leaves[leaf.0].kind, VariantKind::Skip)
+        self.uses[leaf.0].skips
     }
 }
 

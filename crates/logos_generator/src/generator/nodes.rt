@@ -56,7 +56,7 @@ impl<'s> Generator<'_, 's> {
     ) -> Result<Fork, AllocError>
         requires { IsCodable (graph_state_of state_data.now) }
         ensures continues { OnOk result (Continues self.old self.new) }
-        ensures is { IfOk result (MakesFork self.old self.new (state_number state) (graph_state_of state_data.now) ignore_self) }
+        ensures is { IfOk result (MakesFork self.old self.new state state_data.now ignore_self) }
         ensures error { OnErr result (self.new ≡ self.old) }
     {
         let left_out = left_out(ignore_self, state.index());
@@ -82,7 +82,7 @@ impl<'s> Generator<'_, 's> {
     pub fn maybe_impl_fast_loop(&mut self, state: State) -> Result<Option<FastLoop>, AllocError>
         requires { state_number state < length self.old.graph.states }
         ensures continues { OnOk result (Continues self.old self.new) }
-        ensures is { IfOk result (MakesLoop self.old self.new (state_number state)) }
+        ensures is { IfOk result (MakesLoop self.old self.new state) }
         ensures error { OnErr result (self.new ≡ self.old) }
     {
         let data = self.graph.get_state(state);
