@@ -2,7 +2,7 @@
 use Rattle.std.proofs.Common.{◌≡◌, ◌∙◌, ℕ, ◌+◌, ◌<◌, List, [], ◌∷◌, ◌++◌, length, drop, map, get_or, slice_get, Some, option_map, ap, sym, append_assoc}
 use Rattle.std.proofs.lemmas.List.{drop_more, length-map, map-append}
 use Rattle.std.proofs.lemmas.Option.{slice_get-get_or, slice_get-map}
-use Rattle.logos_graph.specs.Munch.{Use}
+use Rattle.logos_automaton.specs.Munch.{Use}
 use Rattle.logos_generator.specs.CodeView.{use_of}
 use Rattle.logos_generator.specs.Uses.{use_by}
 use Rattle.logos_generator.specs.declared.code.CodeLeaf.{CodeLeaf}

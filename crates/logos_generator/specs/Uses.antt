@@ -1,5 +1,5 @@
 -- What contracts see of the uses that a code keeps of its leaves.
-use Rattle.logos_graph.specs.Munch.{Use}
+use Rattle.logos_automaton.specs.Munch.{Use}
 use Rattle.logos_generator.specs.declared.code.uses.LeafUse.{LeafUse}
 
 abbrev pub use_by : LeafUse → Use
