@@ -1,4 +1,4 @@
-//! The program `logos`: it lexes a file by the enum in another.
+//! The program `logos`: it prints the lexer of an enum in a file, charts it, or lexes another file by it.
 
 #![tactic(auto)]
 
