@@ -7,7 +7,7 @@ enum Looks {
     LineEnd,
     #[regex("(?Rm)c$")]
     CrLfEnd,
-    #[regex("d\\z")]
+    #[regex("dd\\z")]
     End,
     #[token("d")]
     D,
