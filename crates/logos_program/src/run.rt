@@ -1,6 +1,6 @@
 //! The commands, over any files and any writers.
 
-ghost use Rattle.std.specs.Prelude.{◌≡◌, ◌≤◌, ◌↔◌, None, map, string_bytes};
+ghost use Rattle.std.specs.Prelude.{◌≡◌, ◌≤◌, ◌⊎◌, ◌↔◌, None, map, string_bytes};
 ghost use Rattle.logos_program.specs.Commands.{asked, status_of};
 
 mod command;
@@ -62,6 +62,18 @@ fn carry_out<'w, F: Files, O: Write>(
     }
 }
 
+/// Says why there are no words, and gives the exit status: 3 where there was no memory for them, and else 2, since a word is
+/// no text.
+pub fn refuse_words<E: Write>(why: io::ErrorKind, err: &mut E) -> u8
+    ensures { (result ≡ 2) ⊎ (result ≡ 3) }
+{
+    match why {
+        io::ErrorKind::OutOfMemory => report(&Failure::Memory, err),
+        _ => usage(err),
+    }
+}
+
+/// Writes the line that says what the words may be.
 fn usage<E: Write>(err: &mut E) -> u8
     ensures { result ≡ 2 }
 {
