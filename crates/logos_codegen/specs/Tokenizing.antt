@@ -1,5 +1,6 @@
 -- What the tokenizer of expressions makes of a text.
-use Rattle.std.specs.Prelude.{◌≡◌, ℕ, ◌==◌, Bool, List, [], ◌∷◌, ◌++◌, map, Option, if◌then◌else◌, Result, Ok, Err, Vec, Global}
+use Rattle.std.specs.Prelude.{◌≡◌, ℕ, ◌==◌, Bool, List, [], ◌∷◌, ◌++◌, map, Option, if◌then◌else◌, Result, Ok, Err, Vec}
+use Rattle.std.specs.Global.{Global}
 use Rattle.logos_automaton.specs.Munch.{Rule}
 use Rattle.logos_generator.specs.Items.{Callback, Item, token, error, Items, IsNext}
 use Rattle.logos_generator.specs.declared.machine.Action.TheVariants.{Emit}
@@ -22,7 +23,7 @@ pub record Token : Type 0 where
   pub slice : List ℕ
 
 abbrev pub token_value : ExprToken → Token
-token_value token = record { kind = token.kind; from = token.span.from; to = token.span.to; slice = token.slice.now }
+token_value t = record { kind = t.kind; from = t.span.from; to = t.span.to; slice = t.slice.now }
 
 -- what a text gives: these tokens, in order, or an error at this span
 pub data Outcome : Type 0 where

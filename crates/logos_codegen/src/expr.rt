@@ -178,8 +178,8 @@ impl Language {
 
 /// The token that an item is, or the span of an error.
 fn token_of(item: Item<'_>) -> Result<ExprToken<'_>, Span>
-    ensures ok { IfOk result (λ token. outcome_of (item_of item ∷ []) ≡ gives (token_value token ∷ [])) }
-    ensures err { IfErr result (λ span. outcome_of (item_of item ∷ []) ≡ bad span.from span.to) }
+    ensures ok { IfOk result (λ token. outcome_of (item_of item.entry ∷ []) ≡ gives (token_value token ∷ [])) }
+    ensures err { IfErr result (λ span. outcome_of (item_of item.entry ∷ []) ≡ bad span.from span.to) }
 {
     match item {
         Item::Token { leaf, span, slice } => Ok(ExprToken {

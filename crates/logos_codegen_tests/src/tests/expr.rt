@@ -159,7 +159,7 @@ fn word(text: &[u8]) -> (Front, usize) {
 }
 
 /// What stands at the front of the text, and its length.
-fn front(text: &[u8]) -> (Front, usize) {
+fn front_of(text: &[u8]) -> (Front, usize) {
     match text {
         [b' ' | b'\t' | b'\n', ..] => (Front::Blank, 1),
         [b'0'..=b'9', ..] => (Front::Token(ExprKind::Number), digits(text)),
@@ -186,7 +186,7 @@ fn plain(alloc: Global, input: &str) -> Result<(Vec<Wanted>, Option<Span>), Allo
         if text.is_empty() {
             break;
         }
-        let (front, len) = front(text);
+        let (front, len) = front_of(text);
         let to = from.saturating_add(len);
         match front {
             Front::Token(kind) => tokens.push((kind, from, to))?,
