@@ -56,7 +56,7 @@ accepted_texts source rules a =
     rw a.same_rules (texts_are a.leaves text)
 
 -- the same items by a callback that answers no less
-may_by : (uses : List Use) (bytes : List ℕ) (callback other : Callback) → ((leaf : ℕ) (slice : List ℕ) (answer : Action) → callback leaf slice answer → other leaf slice answer) →
+pub may_by : (uses : List Use) (bytes : List ℕ) (callback other : Callback) → ((leaf : ℕ) (slice : List ℕ) (answer : Action) → callback leaf slice answer → other leaf slice answer) →
     (leaf : ℕ) (slice : List ℕ) (answer : Action) → MayAnswer uses callback bytes leaf slice answer → MayAnswer uses other bytes leaf slice answer
 may_by uses bytes callback other h leaf slice answer m = go (asks uses callback bytes leaf) m
   where
@@ -64,7 +64,7 @@ may_by uses bytes callback other h leaf slice answer m = go (asks uses callback 
     go true m = h leaf slice answer m
     go false m = m
 
-lexes_by : (uses : List Use) (bytes : List ℕ) (search : Search) (callback other : Callback) → ((leaf : ℕ) (slice : List ℕ) (answer : Action) → callback leaf slice answer → other leaf slice answer) →
+pub lexes_by : (uses : List Use) (bytes : List ℕ) (search : Search) (callback other : Callback) → ((leaf : ℕ) (slice : List ℕ) (answer : Action) → callback leaf slice answer → other leaf slice answer) →
     {from : ℕ} {items : List Item} → Lexes uses callback bytes search from items → Lexes uses other bytes search from items
 lexes_by uses bytes search callback other h (over from s) = over from s
 lexes_by uses bytes search callback other h (match from to leaf Emit rest s m l) = match from to leaf Emit rest s (may_by uses bytes callback other h leaf _ Emit m) (lexes_by uses bytes search callback other h l)

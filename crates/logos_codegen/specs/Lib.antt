@@ -6,3 +6,5 @@ pub mod Refusals
 pub mod Steps
 pub mod Kept
 pub mod SourceGraph
+pub mod Language
+pub mod Tokenizing

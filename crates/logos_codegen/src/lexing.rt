@@ -134,6 +134,3 @@ pub fn lex_source<'i, C: Fn(LeafId, &[u8]) -> Action + Drop>(
     let generated = generate(alloc, src, config)?;
     lex_input(alloc, &generated.code, input, callbacks)
 }
-
-#[cfg(test)]
-mod tests;

@@ -2,6 +2,7 @@
 
 #![tactic(auto)]
 
+pub mod expr;
 mod generation;
 pub mod laws;
 mod leaves;

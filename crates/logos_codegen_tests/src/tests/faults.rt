@@ -1,9 +1,8 @@
 //! Sources that are refused.
 
 use super::give;
-use crate::generation::generate;
-use crate::refusal::Refusal;
-use logos_generator::generator::Config;
+use logos_codegen::generator::Config;
+use logos_codegen::{Refusal, generate};
 use std::alloc::Global;
 use std::process::Abort;
 use std::test::Fail;

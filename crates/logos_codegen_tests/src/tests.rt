@@ -1,10 +1,15 @@
 //! Sources, inputs, and the items and faults that they give, in both shapes.
 
+mod expr;
 mod faults;
 mod generated;
 
-use super::*;
-use logos_pattern::leaf::VariantKind;
+use logos_codegen::error::Errors;
+use logos_codegen::generator::Config;
+use logos_codegen::leaf::VariantKind;
+use logos_codegen::machine::{Action, Item};
+use logos_codegen::{LexSourceError, generate, lex_source};
+use std::alloc::{AllocError, Global};
 use std::process::Abort;
 use std::test::Fail;
 

@@ -2,13 +2,12 @@
 //! is compared with a plain lexer, which looks at every rule at each place.
 
 use super::shown;
-use crate::generation::generate;
-use crate::refusal::Refusal;
-use logos_generator::code::Code;
-use logos_generator::generator::Config;
-use logos_generator::machine::{Action, Item, Lexer};
-use logos_hir::leaf::LeafId;
-use logos_token::token::Span;
+use logos_codegen::code::Code;
+use logos_codegen::generator::Config;
+use logos_codegen::leaf::LeafId;
+use logos_codegen::machine::{Action, Item, Lexer};
+use logos_codegen::token::Span;
+use logos_codegen::{Refusal, generate};
 use std::alloc::{AllocError, Global};
 use std::process::Abort;
 use std::test::Fail;

@@ -1,0 +1,15 @@
+-- The tokenizer of expressions, as its type keeps it.
+use Rattle.std.specs.Prelude.{Bool, List}
+use Rattle.logos_automaton.specs.Munch.{Rule}
+use Rattle.logos_generator.specs.Code.{CodeValue}
+use Rattle.logos_generator.specs.Headline.{IsLexer}
+use Rattle.logos_codegen.specs.Source.{IsAccepted}
+use Rattle.logos_codegen.specs.declared.expr.TheConstants.{SOURCE}
+
+-- The code finds at each place of each input what maximal munch finds there by the leaves of the enum, so each of its runs on a text
+-- gives exactly the items of maximal munch.
+pub record IsLanguage (code : CodeValue) : Type 0 where
+  pub rules : List Rule
+  pub utf8 : Bool
+  pub accepted : IsAccepted SOURCE.now rules utf8
+  pub lexer : IsLexer rules utf8 code

@@ -1,0 +1,92 @@
+-- What the tokenizer of expressions makes of a text.
+use Rattle.std.specs.Prelude.{◌≡◌, ℕ, ◌==◌, Bool, List, [], ◌∷◌, ◌++◌, map, Option, if◌then◌else◌, Result, Ok, Err, Vec}
+use Rattle.std.specs.Global.{Global}
+use Rattle.logos_automaton.specs.Munch.{Rule}
+use Rattle.logos_generator.specs.Items.{Callback, Item, token, error, Items, IsNext}
+use Rattle.logos_generator.specs.declared.machine.Action.TheVariants.{Emit}
+use Rattle.logos_codegen.specs.Source.{IsAccepted, IsRefused}
+use Rattle.logos_token.specs.Faults.{Fault as ListedFault}
+use Rattle.logos_codegen.specs.declared.refusal.Refusal.{Refusal}
+use Rattle.logos_codegen.specs.declared.refusal.Refusal.TheVariants as refusals
+use Rattle.logos_codegen.specs.declared.expr.TheConstants.{SOURCE}
+use Rattle.logos_codegen.specs.declared.expr.ExprKind.{ExprKind}
+use Rattle.logos_codegen.specs.declared.expr.ExprKind.TheVariants.{Number, Name, Let, EqEq, Eq, Plus, Minus, Star, Slash, Open, Close}
+use Rattle.logos_codegen.specs.declared.expr.ExprToken.{ExprToken}
+use Rattle.logos_codegen.specs.declared.expr.ExprError.{ExprError}
+use Rattle.logos_codegen.specs.declared.expr.ExprError.TheVariants as errors
+
+-- a token: its kind, its span, and the text at its span
+pub record Token : Type 0 where
+  pub kind : ExprKind
+  pub from : ℕ
+  pub to : ℕ
+  pub slice : List ℕ
+
+abbrev pub token_value : ExprToken → Token
+token_value t = record { kind = t.kind; from = t.span.from; to = t.span.to; slice = t.slice.now }
+
+-- what a text gives: these tokens, in order, or an error at this span
+pub data Outcome : Type 0 where
+  gives : List Token → Outcome
+  bad : (from to : ℕ) → Outcome
+
+-- every match is a token
+abbrev pub emits : Callback
+emits leaf slice answer = answer ≡ Emit
+
+-- the kind of the variant whose leaf has this number; leaf 0 is the skip, which gives no token, and 11 is the last
+abbrev pub kind_of : ℕ → ExprKind
+kind_of leaf =
+    if leaf == 1 then Number else if leaf == 2 then Name else if leaf == 3 then Let else if leaf == 4 then EqEq
+    else if leaf == 5 then Eq else if leaf == 6 then Plus else if leaf == 7 then Minus else if leaf == 8 then Star
+    else if leaf == 9 then Slash else if leaf == 10 then Open else Close
+
+-- tokens in front of what the rest gives
+abbrev pub in_front : List Token → Outcome → Outcome
+in_front tokens (gives others) = gives (tokens ++ others)
+in_front tokens (bad from to) = bad from to
+
+-- The outcome of items: where an error is among them, the span of the first; else the tokens in order, each leaf as the kind of
+-- its variant.
+abbrev pub outcome_of : List Item → Outcome
+outcome_of [] = gives []
+outcome_of (token leaf from to slice ∷ items) =
+    in_front (record { kind = kind_of leaf; from = from; to = to; slice = slice } ∷ []) (outcome_of items)
+outcome_of (error leaf from to slice ∷ items) = bad from to
+
+-- Of the items of a text from a place on, those that the outcome needs: all of them, where no error is among them, and else those
+-- up to the first error. Each is the next one behind the one before it.
+pub data AreRead (rules : List Rule) (utf8 : Bool) (text : List ℕ) : ℕ → List Item → Type 0 where
+  all_read : (at : ℕ) → Items rules emits utf8 text at [] → AreRead rules utf8 text at []
+  token_read : (at leaf from to : ℕ) (slice : List ℕ) (next : ℕ) (items : List Item) →
+      IsNext rules emits utf8 text at (token leaf from to slice) next → AreRead rules utf8 text next items →
+      AreRead rules utf8 text at (token leaf from to slice ∷ items)
+  error_read : (at : ℕ) (leaf : Option ℕ) (from to : ℕ) (slice : List ℕ) (next : ℕ) →
+      IsNext rules emits utf8 text at (error leaf from to slice) next → AreRead rules utf8 text at (error leaf from to slice ∷ [])
+
+-- what a text gives, by the leaves of the enum
+pub record Tokenizes (text : List ℕ) (outcome : Outcome) : Type 0 where
+  pub rules : List Rule
+  pub utf8 : Bool
+  pub accepted : IsAccepted SOURCE.now rules utf8
+  pub items : List Item
+  pub read : AreRead rules utf8 text 0 items
+  pub is : outcome ≡ outcome_of items
+
+-- the answer is an outcome of which this holds, or memory ran out
+abbrev pub Answers : (Outcome → Type 0) → Result (Vec ExprToken Global) ExprError → Type 0
+Answers Holds (Ok tokens) = Holds (gives (map token_value tokens.items))
+Answers Holds (Err errors.Refused) = ⊥
+Answers Holds (Err (errors.Bad span)) = Holds (bad span.from span.to)
+Answers Holds (Err errors.Memory) = Unit {0}
+
+-- why there is no tokenizer: its enum is refused, or memory ran out
+abbrev pub IsRefusalOf : ExprError → Type 0
+IsRefusalOf errors.Refused = (faults : List ListedFault) × IsRefused SOURCE.now faults
+IsRefusalOf (errors.Bad span) = ⊥
+IsRefusalOf errors.Memory = Unit {0}
+
+-- the refusal of a source, as an error of the tokenizer
+abbrev pub IsThatError : Refusal → ExprError → Type 0
+IsThatError (refusals.Errors faults) error = error ≡ errors.Refused
+IsThatError refusals.Memory error = error ≡ errors.Memory
