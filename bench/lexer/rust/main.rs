@@ -8,8 +8,8 @@ include!("lexer.rs");
 fn main() {
     let path = std::env::args().nth(1).expect("a file");
     let input = std::fs::read(path).expect("a file that can be read");
-    let source = <<RULES as logos::Logos>::Source as Read>::read(&input);
-    let mut lexer = logos::Lexer::<RULES>::new(source);
+    let source = <<Rules as logos::Logos>::Source as Read>::read(&input);
+    let mut lexer = logos::Lexer::<Rules>::new(source);
     let (mut tokens, mut errors) = (0u64, 0u64);
     let start = std::time::Instant::now();
     while let Some(item) = lexer.next() {
