@@ -1,0 +1,39 @@
+#include "scanner.h"
+
+static unsigned long tokens;
+static unsigned long errors;
+
+static void lex(const unsigned char *cursor, const unsigned char *limit)
+{
+    const unsigned char *marker;
+    (void)marker;
+    for (;;) {
+        /*!re2c
+            re2c:define:YYCTYPE = "unsigned char";
+            re2c:define:YYCURSOR = cursor;
+            re2c:define:YYMARKER = marker;
+            re2c:yyfill:enable = 0;
+
+            "if" | "else" | "while" | "for" | "return" { tokens++; continue; }
+            "let" | "fn" | "break" | "continue" | "struct" { tokens++; continue; }
+            [A-Za-z_][A-Za-z0-9_]* { tokens++; continue; }
+            [0-9]+("."[0-9]+)? { tokens++; continue; }
+            ["]([^"\\\n\x00]|[\\][^\n\x00])*["] { tokens++; continue; }
+            [-+*/=<>!(){};,.[\]] | "==" | "!=" | "<=" | ">=" | "&&" | "||" { tokens++; continue; }
+            [ \t\n]+ { continue; }
+            "\x00" { if (cursor > limit) return; errors++; continue; }
+            * { errors++; continue; }
+        */
+    }
+}
+
+int main(int argc, char **argv)
+{
+    size_t size;
+    char *text = read_text(argc, argv, &size);
+    double start = now();
+    lex((const unsigned char *)text, (const unsigned char *)text + size);
+    double end = now();
+    report(start, end, tokens, errors);
+    return 0;
+}

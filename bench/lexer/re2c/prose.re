@@ -1,0 +1,37 @@
+#include "scanner.h"
+
+static unsigned long tokens;
+static unsigned long errors;
+
+static void lex(const unsigned char *cursor, const unsigned char *limit)
+{
+    const unsigned char *marker;
+    (void)marker;
+    for (;;) {
+        /*!include:re2c "unicode_categories.re" */
+        /*!re2c
+            re2c:define:YYCTYPE = "unsigned char";
+            re2c:define:YYCURSOR = cursor;
+            re2c:define:YYMARKER = marker;
+            re2c:yyfill:enable = 0;
+
+            L (L | M)* { tokens++; continue; }
+            N+ { tokens++; continue; }
+            P { tokens++; continue; }
+            [ \t\r\n]+ { continue; }
+            "\x00" { if (cursor > limit) return; errors++; continue; }
+            * { errors++; continue; }
+        */
+    }
+}
+
+int main(int argc, char **argv)
+{
+    size_t size;
+    char *text = read_text(argc, argv, &size);
+    double start = now();
+    lex((const unsigned char *)text, (const unsigned char *)text + size);
+    double end = now();
+    report(start, end, tokens, errors);
+    return 0;
+}

@@ -1,0 +1,38 @@
+#[derive(Logos)]
+#[logos(skip r"[ \t]+")]
+enum Log {
+    #[regex(r"[0-9]{4}-[0-9]{2}-[0-9]{2}T[0-9]{2}:[0-9]{2}:[0-9]{2}\.[0-9]{3}Z")]
+    Time,
+    #[token("TRACE")]
+    Trace,
+    #[token("DEBUG")]
+    Debug,
+    #[token("INFO")]
+    Info,
+    #[token("WARN")]
+    Warn,
+    #[token("ERROR")]
+    Error,
+    #[regex(r"[0-9]+\.[0-9]+\.[0-9]+\.[0-9]+")]
+    Address,
+    #[regex(r"[0-9]+(\.[0-9]+)?(ms|us|s|kB|MB)?")]
+    Number,
+    #[regex("[A-Za-z_][A-Za-z0-9_]*([.-][A-Za-z0-9_]+)*")]
+    Name,
+    #[regex(r"/[A-Za-z0-9_./?=&%+-]*")]
+    Path,
+    #[regex(r#""[^"\r\n]*""#)]
+    Text,
+    #[token("[")]
+    BracketOpen,
+    #[token("]")]
+    BracketClose,
+    #[token("=")]
+    Equals,
+    #[token(":")]
+    Colon,
+    #[token(",")]
+    Comma,
+    #[token("\n")]
+    LineEnd,
+}

@@ -1,0 +1,39 @@
+//! Measures the lexer that the text beside this file says: `rules.rs` is the enum without its attributes, `lexer.rs` the text.
+//! Lexes the file that the first argument names, and prints the seconds, the tokens and the errors.
+#![allow(warnings)]
+
+include!("rules.rs");
+include!("lexer.rs");
+
+fn main() {
+    let path = std::env::args().nth(1).expect("a file");
+    let input = std::fs::read(path).expect("a file that can be read");
+    let source = <<Rules as logos::Logos>::Source as Read>::read(&input);
+    let mut lexer = logos::Lexer::<Rules>::new(source);
+    let (mut tokens, mut errors) = (0u64, 0u64);
+    let start = std::time::Instant::now();
+    while let Some(item) = lexer.next() {
+        match item {
+            Ok(_) => tokens += 1,
+            Err(_) => errors += 1,
+        }
+    }
+    let seconds = start.elapsed().as_secs_f64();
+    println!("{seconds:.6} {tokens} {errors}");
+}
+
+trait Read {
+    fn read(bytes: &[u8]) -> &Self;
+}
+
+impl Read for str {
+    fn read(bytes: &[u8]) -> &str {
+        std::str::from_utf8(bytes).expect("UTF-8")
+    }
+}
+
+impl Read for [u8] {
+    fn read(bytes: &[u8]) -> &[u8] {
+        bytes
+    }
+}
