@@ -66,11 +66,14 @@ fn push_items(
     answer: Reply,
     input: &[u8],
 ) -> Result<(), Fail> {
-    let items = lex_all(alloc, code, input, |_, slice| action_of(answer, slice))?;
-    for item in &items {
-        push_item(alloc, text, item)?;
+    let mut lexer = Lexer::start(code, input, |_, slice| action_of(answer, slice));
+    for _ in 0..input.len() + 1 {
+        let Some(item) = lexer.next() else {
+            return Ok(());
+        };
+        push_item(alloc, text, &item)?;
     }
-    Ok(())
+    Err(Fail::from("items without end"))
 }
 
 fn emit(_leaf: LeafId, _slice: &[u8]) -> Action {
