@@ -7,7 +7,7 @@ use Rattle.logos_automaton.specs.DfaView.{dfa_of}
 use Rattle.logos_automaton.specs.declared.dfa.Dfa.{Dfa}
 use Rattle.logos_automaton.specs.declared.key.Key.{Key}
 use Rattle.logos_automaton.proofs.runs.ReachLemmas.{reachable_within}
-use Rattle.logos_automaton.proofs.dfa.walks.Dfa.get_states.Goals as goal
+use Rattle.logos_automaton.proofs.dfa.Dfa.get_states.Goals as goal
 
 in_range : (n s : ℕ) → Contains (range_with_len 0 n) s → s < n
 in_range n s (k, l, e) =
