@@ -8,6 +8,7 @@ pub mod Faults
 pub mod Keys
 pub mod Measures
 pub mod Munch
+pub mod Reach
 pub mod ReadKeys
 pub mod Rules
 pub mod Targets

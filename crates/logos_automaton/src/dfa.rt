@@ -1,5 +1,7 @@
 //! The automaton of leaves, which reads matches one byte late.
 ghost use Rattle.std.specs.Prelude.{◌≡◌, ◌<◌, length, vec_len};
+ghost use Rattle.logos_automaton.specs.Keys.{automaton_of};
+ghost use Rattle.logos_automaton.specs.Reach.{AreReachable};
 ghost use Rattle.logos_automaton.specs.Targets.{AreByteRows, LeadWithin, EndWithin};
 
 pub mod build;
@@ -24,4 +26,5 @@ pub struct Dfa {
     ghost wide: { AreByteRows rows.items },
     ghost leads: { LeadWithin rows.items (length states.keys) },
     ghost ends_within: { EndWithin ends.items (length states.keys) },
+    ghost reached: { AreReachable (automaton_of 0 states.keys rows.items ends.items) },
 }

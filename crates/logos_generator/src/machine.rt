@@ -1,10 +1,8 @@
 //! What a run of a lexer gives.
 
-ghost use Rattle.std.specs.Prelude.{◌≡◌, ◌<◌, ◌≤◌, map, length, option_map, slice_range, MatchBool, MatchOption, IfOk, IfErr, IsTrue, IsUtf8, drop};
+ghost use Rattle.std.specs.Prelude.{◌≡◌, ◌<◌, ◌≤◌, length, option_map, slice_range, MatchBool, MatchOption, IfOk, IfErr, IsTrue, IsUtf8, drop};
 ghost use Rattle.std.specs.Str.{IsValidUpTo};
 ghost use Rattle.logos_generator.specs.CodeView.{asks_for};
-ghost use Rattle.logos_generator.specs.Runs.{Runs};
-ghost use Rattle.logos_generator.specs.Order.{AreInOrder};
 ghost use Rattle.logos_generator.specs.LexerValue.{answers_of, begun, item_of, Gives, Ends, Keeps, MatchGives};
 
 mod attempt;
@@ -14,7 +12,6 @@ use crate::code::Code;
 use attempt::{Found, attempt};
 use logos_hir::leaf::LeafId;
 use logos_token::token::Span;
-use std::alloc::{AllocError, Global};
 use std::marker::Model;
 
 /// What a callback answers to a match.
@@ -181,25 +178,7 @@ impl<'c, 's, 'i, C: Fn(LeafId, &[u8]) -> Action> Lexer<'c, 's, 'i, C> {
     }
 }
 
-/// All items of the input, in order. They borrow the input alone.
-pub fn lex_all<'i, C: Fn(LeafId, &[u8]) -> Action + Drop>(
-    alloc: Global,
-    code: &Code,
-    input: &'i [u8],
-    callback: C,
-) -> Result<Vec<Item<'i>>, AllocError>
-    requires { C.IsAlwaysCallable callback }
-    ensures items { IfOk result (λ items. Runs code.now (answers_of C.Fn callback) input.now 0 (map item_of items.items)) }
-    ensures order { IfOk result (λ items. AreInOrder (length input.now) 0 (map item_of items.items)) }
-{
-    let mut items = Vec::new(alloc);
-    let mut lexer = Lexer::start(code, input, callback);
-    while let Some(item) = lexer.next() {
-        items.push(item)?;
-    }
-    Ok(items)
-}
-
+/// Whether the bytes are UTF-8, and else how long their longest beginning is that is.
 fn check_utf8(input: &[u8]) -> Result<(), NotUtf8>
     ensures accepted { IfOk result (λ _. IsUtf8 input.now) }
     ensures refused { IfErr result (λ refusal. ¬ IsUtf8 input.now × IsValidUpTo input.now refusal.valid_up_to) }

@@ -17,6 +17,7 @@ pub mod LeastLemmas
 pub mod FinishedLaws
 pub mod EdgeLemmas
 pub mod StateLemmas
+pub mod BackwardLemmas
 pub mod TellingLemmas
 pub mod RawLemmas
 pub mod GraphMade

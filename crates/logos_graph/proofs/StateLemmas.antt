@@ -17,7 +17,7 @@ use Rattle.logos_reduce.proofs.tables.EdgeLemmas.{edge_within}
 use Rattle.logos_graph.proofs.EdgeLemmas.{edges_neat, edges_increase}
 
 -- what stands at an index of a list with one more element
-got_pushed : {A : Type 0} (xs : List A) (x y : A) (i : ℕ) → slice_get (xs ++ x ∷ []) i ≡ Some y → (slice_get xs i ≡ Some y) ⊎ ((i ≡ length xs) × (x ≡ y))
+pub got_pushed : {A : Type 0} (xs : List A) (x y : A) (i : ℕ) → slice_get (xs ++ x ∷ []) i ≡ Some y → (slice_get xs i ≡ Some y) ⊎ ((i ≡ length xs) × (x ≡ y))
 got_pushed [] x y zero e = inr (refl, cc)
 got_pushed [] x y (suc i) e = absurd (cc)
 got_pushed (z ∷ xs) x y zero e = inl e
@@ -27,7 +27,7 @@ got_pushed (z ∷ xs) x y (suc i) e = go (got_pushed xs x y i e)
     go (inl p) = inl p
     go (inr p) = inr (let q = p.0 in omega arith, p.1)
 
-there : {A : Type 0} (xs : List A) (i : ℕ) → i < length xs → (x : A) × (slice_get xs i ≡ Some x)
+pub there : {A : Type 0} (xs : List A) (i : ℕ) → i < length xs → (x : A) × (slice_get xs i ≡ Some x)
 there [] i l = absurd (omega arith)
 there (x ∷ xs) zero l = (x, refl)
 there (x ∷ xs) (suc i) l = there xs i (omega arith)

@@ -8,6 +8,7 @@ pub mod First
 pub mod Walk
 pub mod ReduceShown
 pub mod GraphView
+pub mod Backward
 pub mod FinishedGraph
 pub mod GraphOf
 pub mod States

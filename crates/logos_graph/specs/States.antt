@@ -1,9 +1,12 @@
 -- The states of a graph that shows a table, while they are made.
-use Rattle.std.specs.Prelude.{◌≡◌, ◌≢◌, ℕ, ◌-◌, ◌<◌, ◌≤◌, true, List, [], ◌∷◌, ◌++◌, map, Option, Some, None, if◌then◌else◌, ◌==◌, nat_lt, slice_get}
+use Rattle.std.specs.Prelude.{◌≡◌, ◌≢◌, ℕ, ◌-◌, ◌<◌, ◌≤◌, true, List, [], ◌∷◌, ◌++◌, map, Option, Some, None, if◌then◌else◌, ◌==◌, nat_lt, Vec, slice_get, slice_index_or}
 use Rattle.std.specs.List.{All}
+use Rattle.std.specs.declared.alloc.Global.{Global}
 use Rattle.logos_graph.specs.Bytes.{AreSeparated}
 use Rattle.logos_graph.specs.FinishedGraph.{Edge, edge_leads}
 use Rattle.logos_graph.specs.Graph.{GraphState}
+use Rattle.logos_graph.specs.GraphView.{state_number}
+use Rattle.logos_graph.specs.declared.graph.StateData.{StateData}
 use Rattle.logos_places.specs.ByteRanges.{is_in}
 use Rattle.logos_places.specs.Marks.{IsRising}
 use Rattle.logos_reduce.specs.Table.{to, mark, type_of}
@@ -48,3 +51,11 @@ pub record IsStateOf (table : Table) (s : ℕ) (state : GraphState) : Type 0 whe
 -- all of them, in order
 abbrev pub AreStatesOf : Table → List GraphState → Type 0
 AreStatesOf table graph = (s : ℕ) (state : GraphState) → slice_get graph s ≡ Some state → IsStateOf table s state
+
+-- the numbers in the lists
+abbrev pub numbers_of : List (Vec ℕ Global) → List (List ℕ)
+numbers_of = map (λ v. v.items)
+
+-- the states have, one by one, the numbers of the lists
+pub record HaveNumbers (lists : List (Vec ℕ Global)) (states : List StateData) : Type 0 where
+  pub each : (s : ℕ) (state : StateData) → slice_get states s ≡ Some state → map state_number state.backward.items ≡ slice_index_or (numbers_of lists) s []

@@ -1,7 +1,9 @@
 //! Laws of trees.
 
-ghost use Rattle.std.specs.Prelude.{◌≡◌, ℕ, Bool, List, Option};
+ghost use Rattle.std.specs.Prelude.{◌≡◌, ◌≢◌, ℕ, ◌++◌, ◌∷◌, false, Bool, List, Option, Some, length};
+ghost use Rattle.logos_hir.specs.Looks.{is_word, Holds};
 ghost use Rattle.logos_hir.specs.Tree.{Tree, repetition};
+ghost use Rattle.logos_hir.specs.declared.hir.Look.{Look};
 ghost use Rattle.logos_hir.specs.Matches.{Matches};
 ghost use Rattle.logos_hir.specs.Priority.{value};
 
@@ -13,4 +15,11 @@ pub fn lazy_and_greedy()
         Matches (repetition least most greedy body) bytes from to }
     ensures priority { (least : ℕ) (most : Option ℕ) (lazy greedy : Bool) (body : Tree) →
         value (repetition least most lazy body) ≡ value (repetition least most greedy body) }
+{}
+
+/// A look that holds between some bytes and a byte that is neither a word byte nor CR nor LF holds at the end of those bytes too.
+pub fn looks_hold_at_the_end()
+    ensures { (look : Look) (bytes rest : List ℕ) (b : ℕ) →
+        is_word (Some b) ≡ false → b ≢ 10 → b ≢ 13 →
+        Holds look (bytes ++ b ∷ rest) (length bytes) → Holds look bytes (length bytes) }
 {}

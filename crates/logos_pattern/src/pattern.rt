@@ -17,7 +17,7 @@ pub mod literal;
 pub use error::{Kind, PatternError};
 pub use hir::{Class, Hir, Look, Range};
 pub use literal::Literal;
-pub use logos_hir::laws::lazy_and_greedy;
+pub use logos_hir::laws::{lazy_and_greedy, looks_hold_at_the_end};
 use logos_hir::measure;
 use logos_pattern_tokens::token::Flags;
 pub use logos_syntax::parser::one_tree;

@@ -1,6 +1,7 @@
 -- Lists of states, one for each state or block.
-use Rattle.std.specs.Prelude.{◌≡◌, ◌<◌, ◌==◌, ℕ, zero, suc, Bool, true, false, List, [], ◌∷◌, Vec, Option, Some}
+use Rattle.std.specs.Prelude.{◌≡◌, ◌<◌, ◌==◌, All, ℕ, zero, suc, Bool, true, false, List, [], ◌∷◌, Vec, Option, Some}
 use Rattle.std.specs.List.{list_any}
+use Rattle.std.specs.List.Sorted.{IsStrictlyIncreasing}
 use Rattle.std.specs.declared.alloc.Global.{Global}
 
 -- a list has a number
@@ -18,3 +19,12 @@ pub record ArePredecessors (n width : ℕ) (to : ℕ → ℕ → Option ℕ)
     (lists : List (Vec ℕ Global)) : Type 0 where
   pub all : (s k t : ℕ) → s < n → k < width → to s k ≡ Some t → has_in lists t s ≡ true
   pub only : (t s : ℕ) → has_in lists t s ≡ true → (k : ℕ) × (k < width) × (to s k ≡ Some t)
+
+-- numbers below n, ascending and each once
+pub record Rises (n : ℕ) (xs : List ℕ) : Type 0 where
+  pub ascending : IsStrictlyIncreasing xs
+  pub below : All (λ x. x < n) xs
+
+-- each of the lists has numbers below n, ascending and each once
+pub record AreRising (n : ℕ) (lists : List (Vec ℕ Global)) : Type 0 where
+  pub each : All (λ v. Rises n v.items) lists

@@ -1,6 +1,6 @@
 //! Lists of states, one for each state or block.
-ghost use Rattle.std.specs.Prelude.{true, ◌≡◌, ℕ, ◌<◌, ◌≤◌, ◌⊎◌, Some, OnOk, IfOk, IsTrue, length, vec_len};
-ghost use Rattle.logos_reduce.specs.Lists.{has, has_in, ArePredecessors};
+ghost use Rattle.std.specs.Prelude.{true, ◌≡◌, ◌≢◌, ℕ, ◌+◌, ◌-◌, ◌<◌, ◌≤◌, ◌⊎◌, Some, OnOk, IfOk, IsTrue, IsFalse, length, slice_get, vec_len};
+ghost use Rattle.logos_reduce.specs.Lists.{has, has_in, Rises, AreRising, ArePredecessors};
 ghost use Rattle.logos_reduce.specs.Table.{size, to};
 ghost use Rattle.logos_reduce.specs.Rows.{target_by};
 
@@ -12,6 +12,7 @@ use std::alloc::{AllocError, Global};
 pub fn empty_lists(alloc: Global, len: usize) -> Result<Vec<Vec<usize>>, AllocError>
     ensures len { IfOk result (λ v. vec_len v ≡ len) }
     ensures empty { IfOk result (λ v. (b s : ℕ) → has_in v.items b s ≡ true → ⊥) }
+    ensures rising { IfOk result (λ v. AreRising 0 v.items) }
 {
     let mut lists = Vec::new(alloc);
     for _i in 0..len {
@@ -22,7 +23,8 @@ pub fn empty_lists(alloc: Global, len: usize) -> Result<Vec<Vec<usize>>, AllocEr
 
 /// Whether the last number of a list is this one.
 fn ends_with(list: &Vec<usize>, s: usize) -> bool
-    ensures { IsTrue result → has list.now.items s ≡ true }
+    ensures hit { IsTrue result → has list.now.items s ≡ true }
+    ensures miss { IsFalse result → slice_get list.now.items (vec_len list.now - 1) ≢ Some s }
 {
     match list.last() {
         Some(last) => *last == s,
@@ -35,6 +37,7 @@ pub fn add(list: &mut Vec<usize>, s: usize) -> Result<(), AllocError>
     ensures has { OnOk result (has list.new.items s ≡ true) }
     ensures kept { (t : ℕ) → has list.old.items t ≡ true → has list.new.items t ≡ true }
     ensures only { (t : ℕ) → has list.new.items t ≡ true → (has list.old.items t ≡ true) ⊎ (t ≡ s) }
+    ensures rising { Rises (s + 1) list.old.items → Rises (s + 1) list.new.items }
 {
     if !ends_with(list, s) {
         list.push(s)?;
@@ -51,6 +54,7 @@ pub fn file(lists: &mut Vec<Vec<usize>>, b: usize, s: usize) -> Result<(), Alloc
         has_in lists.new.items c t ≡ true }
     ensures only { (c t : ℕ) → has_in lists.new.items c t ≡ true →
         (has_in lists.old.items c t ≡ true) ⊎ ((c ≡ b) × (t ≡ s)) }
+    ensures rising { AreRising (s + 1) lists.old.items → AreRising (s + 1) lists.new.items }
 {
     add(&mut lists[b], s)?;
     Ok(())
@@ -73,6 +77,7 @@ fn file_row(
     ensures only { (t u : ℕ) → has_in lists.new.items t u ≡ true →
         (has_in lists.old.items t u ≡ true)
         ⊎ ((u ≡ s) × ((k : ℕ) × (k < width) × (target_by row.now k ≡ Some t))) }
+    ensures rising { AreRising (s + 1) lists.old.items → AreRising (s + 1) lists.new.items }
 {
     for k in 0..width {
         if let Some(t) = target_at(row, k) {
@@ -82,7 +87,7 @@ fn file_row(
     Ok(())
 }
 
-/// For each state, the states that lead to it by one of the first symbols.
+/// For each state, the states that lead to it by one of the first symbols, ascending and each once.
 pub fn predecessors(
     alloc: Global,
     table: &Table,
@@ -92,6 +97,7 @@ pub fn predecessors(
     ensures len { IfOk result (λ v. vec_len v ≡ size table.now) }
     ensures lists { IfOk result (λ v.
         ArePredecessors (size table.now) width (to table.now) v.items) }
+    ensures rising { IfOk result (λ v. AreRising (size table.now) v.items) }
 {
     let mut lists = empty_lists(alloc, table.len())?;
     for s in 0..table.len() {

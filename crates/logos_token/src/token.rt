@@ -2,7 +2,6 @@
 
 mod entry;
 mod laws;
-mod literal_text;
 mod printing;
 mod reader;
 mod value;

@@ -13,14 +13,14 @@ use Rattle.logos_automaton.proofs.keys.LimitLemmas.{same_rising, same_state_as, 
 use Rattle.logos_places.proofs.steps.StepLemmas.{iff_trans, iff_sym}
 
 -- a byte leads to one state
-next_same : (ts : List Core) (looks : Bool) (s : State) (x : ℕ) (n m : State) → IsNext ts looks s x n → IsNext ts looks s x m → n ≡ m
+pub next_same : (ts : List Core) (looks : Bool) (s : State) (x : ℕ) (n m : State) → IsNext ts looks s x n → IsNext ts looks s x m → n ≡ m
 next_same ts looks s x n m f g =
     let e : n.places ≡ m.places = same_rising n.places m.places f.places.set.rising g.places.set.rising (λ q. iff_trans (f.places.has q) (iff_sym (g.places.has q))) in
     same_state_as n m e (f.kind ∙ ap (λ xs. kept_of looks xs x) e ∙ sym g.kind)
     (same_rising n.matches m.matches f.matches.set.rising g.matches.set.rising (λ k. iff_trans (f.matches.has k) (iff_sym (g.matches.has k))))
 
 -- and so does the end
-last_same : (ts : List Core) (s n m : State) → IsLast ts s n → IsLast ts s m → n ≡ m
+pub last_same : (ts : List Core) (s n m : State) → IsLast ts s n → IsLast ts s m → n ≡ m
 last_same ts s n m f g =
     same_state_as n m (f.places ∙ sym g.places) (f.kind ∙ sym g.kind)
     (same_rising n.matches m.matches f.matches.set.rising g.matches.set.rising (λ k. iff_trans (f.matches.has k) (iff_sym (g.matches.has k))))

@@ -42,10 +42,11 @@ impl StateId {
 }
 
 impl Dfa {
-    ghost use Rattle.std.specs.Prelude.{◌≡◌, ◌<◌, ◌↔◌, ℕ, IsTrue, Some, length, slice_get};
+    ghost use Rattle.std.specs.Prelude.{◌≡◌, ◌<◌, ◌↔◌, ℕ, IsTrue, Some, Contains, length, slice_get};
     ghost use Rattle.std.specs.List.{All, range_with_len};
     ghost use Rattle.logos_automaton.specs.DfaView.{dfa_of};
     ghost use Rattle.logos_automaton.specs.Automaton.{dfa_next};
+    ghost use Rattle.logos_automaton.specs.Reach.{IsReachable};
     ghost use Rattle.logos_automaton.specs.Walks.{matches_left, children_left, states_left};
 
     /// The state before the first byte.
@@ -110,7 +111,9 @@ impl Dfa {
 
     /// The start and all states that are reached from it in any number of steps, ascending: all states of the automaton.
     pub fn get_states(&self) -> States
-        ensures { states_left result ≡ range_with_len 0 (length (dfa_of self.now).matches) }
+        ensures all { states_left result ≡ range_with_len 0 (length (dfa_of self.now).matches) }
+        ensures reached { (s : ℕ) → Contains (states_left result) s ↔
+            IsReachable (dfa_of self.now) s }
     {
         States {
             next: 0,

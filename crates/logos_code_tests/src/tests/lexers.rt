@@ -73,10 +73,13 @@ fn push_items(
     let Ok(mut lexer) = lexer else {
         return Err(Fail::from("the input is not UTF-8"));
     };
-    while let Some(item) = lexer.next() {
+    for _ in 0..input.len() + 1 {
+        let Some(item) = lexer.next() else {
+            return Ok(());
+        };
         push_item(alloc, text, &item)?;
     }
-    Ok(())
+    Err(Fail::from("items without end"))
 }
 
 fn emit(_leaf: LeafId, _slice: &[u8]) -> Action {

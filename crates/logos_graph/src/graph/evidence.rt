@@ -4,7 +4,8 @@ ghost use Rattle.logos_graph.specs.Graph.{TellsApart};
 ghost use Rattle.logos_graph.specs.Least.{IsEvidence};
 
 use super::{Graph, State};
-use std::alloc::{AllocError, Global};
+use logos_token::error::Memory;
+use std::alloc::Global;
 
 /// Bytes that tell two states apart: they lead to states of different types, or can be followed from just one of the two.
 #[derive(Debug, Drop)]
@@ -20,8 +21,8 @@ impl Graph<'_> {
     ///
     /// # Errors
     ///
-    /// There is no memory for the bytes.
-    pub fn telling(&self, alloc: Global, s: State, t: State) -> Result<Telling, AllocError>
+    /// `Memory` where there is none for the bytes.
+    pub fn telling(&self, alloc: Global, s: State, t: State) -> Result<Telling, Memory>
         requires s_in { s.0 < length self.now.states }
         requires t_in { t.0 < length self.now.states }
         requires different { s.0 ≢ t.0 }

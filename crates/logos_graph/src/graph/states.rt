@@ -1,6 +1,7 @@
 // The states of a finished graph, from its table.
 ghost use Rattle.std.specs.Prelude.{◌≡◌, ◌≢◌, ℕ, ◌<◌, ◌≤◌, ◌++◌, ◌∷◌, [], IsTrue, IsFalse, IfOk, OnOk, length, map, option_map, slice_index};
 ghost use Rattle.std.specs.List.{All};
+ghost use Rattle.logos_graph.specs.Backward.{HaveBackward};
 ghost use Rattle.logos_graph.specs.Bytes.{bounds};
 ghost use Rattle.logos_graph.specs.FinishedGraph.{AreNeat, IsFit, IsFinished};
 ghost use Rattle.logos_graph.specs.GraphView.{edge_of, graph_state_of, leaf_number, state_number, state_type_of};
@@ -177,7 +178,8 @@ fn state_of(
     before: &[usize],
 ) -> Result<StateData, AllocError>
     requires { s < size table.now }
-    ensures { IfOk result (λ state. IsStateOf table.now s (graph_state_of state)) }
+    ensures state { IfOk result (λ state. IsStateOf table.now s (graph_state_of state)) }
+    ensures backward { IfOk result (λ state. map state_number state.backward.items ≡ before.now) }
 {
     let normal = edges_of(alloc, table.row(s))?;
     let backward = numbered(alloc, before)?;
@@ -194,6 +196,7 @@ pub(crate) fn states_of(alloc: Global, table: &Table) -> Result<Vec<StateData>, 
     ensures shows { IfOk result (λ states. Shows table.now (map graph_state_of states.items)) }
     ensures neat { IfOk result (λ states. All (λ state. AreNeat (graph_state_of state).normal) states.items) }
     ensures finished { IfOk result (λ states. (leaves : ℕ) → IsFit table.now leaves → IsFinished (map graph_state_of states.items) leaves) }
+    ensures backward { IfOk result (λ states. HaveBackward states.items) }
 {
     let before = predecessors(alloc, table, WIDTH)?;
     let mut states = Vec::new(alloc);

@@ -3,6 +3,7 @@ ghost use Rattle.std.specs.Prelude.{◌≡◌, ◌≢◌, ℕ, ◌-◌, ◌<◌,
 ghost use Rattle.std.specs.List.{range_with_len};
 ghost use Rattle.logos_automaton.specs.DfaView.{dfa_of};
 ghost use Rattle.logos_automaton.specs.Errors.{fault_of};
+ghost use Rattle.logos_graph.specs.Backward.{AreBackward};
 ghost use Rattle.logos_graph.specs.FinishedGraph.{IsFit, IsFinished};
 ghost use Rattle.logos_graph.specs.GraphView.{graph_state_of, state_number};
 ghost use Rattle.logos_graph.specs.Mermaid.{mermaid_of};
@@ -146,7 +147,9 @@ impl Graph<'_> {
     /// What the graph has of one of its states, as `contains` tests.
     pub fn get_state(&self, state: State) -> &StateData
         requires { state.0 < length self.now.states }
-        ensures { slice_get self.now.states state.0 ≡ Some (graph_state_of result.now) }
+        ensures state { slice_get self.now.states state.0 ≡ Some (graph_state_of result.now) }
+        ensures backward { AreBackward self.now.states state.0
+            (map state_number result.now.backward.items) }
     {
         &self.states[state.0]
     }

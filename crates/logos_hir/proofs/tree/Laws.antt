@@ -1,13 +1,17 @@
 -- Laws of the definitions.
-use Rattle.std.proofs.Common.{◌≡◌, ◌≢◌, ℕ, zero, suc, ◌+◌, ◌≤◌, ◌<◌, ◌⊎◌, inl, inr, Bool, true, false, ◌&&◌, ◌||◌, List, [], ◌∷◌, length, ◌==◌, Option, None, Some, IsTrue, refl, arith, encode_utf8}
+use Rattle.std.proofs.Common.{◌≡◌, ◌≢◌, ℕ, zero, suc, ◌+◌, ◌≤◌, ◌<◌, ◌⊎◌, inl, inr, Bool, true, false, ◌&&◌, ◌||◌, List, [], ◌∷◌, ◌++◌, ◌-◌, length, slice_get, if◌then◌else◌, ◌==◌, Option, None, Some, IsTrue, refl, sym, ap, subst, ◌∙◌, arith, encode_utf8}
 use Rattle.std.proofs.lemmas.Bool.Decides.{nat_tests}
+use Rattle.std.proofs.lemmas.List.{length-append}
+use Rattle.std.proofs.lemmas.Option.{slice_get-get_or, slice_get_past}
 use Rattle.std.proofs.lemmas.Str.{length-encode, len_utf8_bounds}
-use Rattle.logos_hir.specs.Text.{StandsAt}
+use Rattle.std.proofs.Math.ListN.{get_or-append}
+use Rattle.std.proofs.Math.Seq.{get_or-append_seam}
+use Rattle.logos_hir.specs.Text.{StandsAt, byte_before, byte_after}
 use Rattle.logos_hir.proofs.tree.Bounds.{Within, pieces_within, matches_within, parts_within}
 use Rattle.logos_hir.specs.Tree.{Tree, empty, literal, byte_class, char_class, look, repetition, capture, concat, alternation, Trees, none, also}
 use Rattle.logos_hir.specs.declared.hir.Look.{Look}
 use Rattle.logos_hir.specs.declared.hir.Look.TheVariants.{Start, End, StartLF, EndLF, StartCRLF, EndCRLF, WordAscii, WordAsciiNegate}
-use Rattle.logos_hir.specs.Looks.{holds_between, is_word}
+use Rattle.logos_hir.specs.Looks.{holds_between, is_word, Holds}
 use Rattle.logos_hir.specs.Matches.{Matches, MatchesInOrder, SomeMatches, Pieces}
 use Rattle.logos_hir.specs.Priority.{passable, all_passable, some_passable, value}
 
@@ -31,6 +35,33 @@ holds_at_end StartCRLF before b w lf cr h = rw (not_lf b lf) at h
 holds_at_end EndCRLF before b w lf cr h = refl
 holds_at_end WordAscii before b w lf cr h = rw w at h
 holds_at_end WordAsciiNegate before b w lf cr h = rw w at h
+
+before_same : (bytes rest : List ℕ) (at : ℕ) → at ≤ length bytes → byte_before (bytes ++ rest) at ≡ byte_before bytes at
+before_same bytes rest at l = go (at == 0) refl
+  where
+    go : (b : Bool) → (at == 0) ≡ b → (if b then None else slice_get (bytes ++ rest) (at - 1)) ≡ (if b then None else slice_get bytes (at - 1))
+    go true e = refl
+    go false e =
+        let some : 0 < at = grind (arith, nat_tests, e) in
+        slice_get-get_or (bytes ++ rest) (at - 1) 0 (let n = length-append bytes rest in omega (arith, n, some, l))
+        ∙ ap Some (get_or-append bytes rest 0 (at - 1) (omega (arith, some, l)))
+        ∙ sym (slice_get-get_or bytes (at - 1) 0 (omega (arith, some, l)))
+
+after_there : (bytes rest : List ℕ) (b : ℕ) → byte_after (bytes ++ b ∷ rest) (length bytes) ≡ Some b
+after_there bytes rest b =
+    slice_get-get_or (bytes ++ b ∷ rest) (length bytes) 0 (let e = length-append bytes (b ∷ rest) in omega (arith, e))
+    ∙ ap Some (get_or-append_seam bytes b rest 0)
+
+-- the same between bytes and a byte behind them
+pub held_at_end : (l : Look) (bytes rest : List ℕ) (b : ℕ) → is_word (Some b) ≡ false → b ≢ 10 → b ≢ 13 →
+    Holds l (bytes ++ b ∷ rest) (length bytes) → Holds l bytes (length bytes)
+held_at_end l bytes rest b w lf cr h =
+    let there : IsTrue (holds_between l (byte_before bytes (length bytes)) (Some b)) =
+      subst (λ (after : Option ℕ). IsTrue (holds_between l (byte_before bytes (length bytes)) after)) (after_there bytes rest b)
+        (subst (λ (before : Option ℕ). IsTrue (holds_between l before (byte_after (bytes ++ b ∷ rest) (length bytes)))) (before_same bytes (b ∷ rest) (length bytes) (omega arith)) h)
+    in
+    subst (λ (after : Option ℕ). IsTrue (holds_between l (byte_before bytes (length bytes)) after)) (sym (slice_get_past bytes (length bytes) (omega arith)))
+      (holds_at_end l (byte_before bytes (length bytes)) b w lf cr there)
 
 -- no byte stands on an empty span
 pub no_text : (text bytes : List ℕ) (at : ℕ) → 0 < length text → StandsAt text bytes at at → ⊥

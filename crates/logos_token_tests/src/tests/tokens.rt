@@ -72,10 +72,15 @@ fn push_spans(
     Ok(())
 }
 
+/// The text between two quotes.
+fn between_quotes(text: &str) -> Option<&str> {
+    text.strip_prefix('"')?.strip_suffix('"')
+}
+
 fn push_text(text: &mut String, tree: TokenTree<'_, '_>) -> Result<(), Fail> {
     match tree {
         TokenTree::Ident(ident) => text.push_str(ident.text)?,
-        TokenTree::Literal(literal) => text.push_str(literal.text_value())?,
+        TokenTree::Literal(literal) => text.push_str(between_quotes(literal.text).unwrap_or(""))?,
         TokenTree::Punct(punct) => {
             text.push(punct.character)?;
             if punct.spacing == Spacing::Joint {

@@ -1,7 +1,20 @@
-use Rattle.std.proofs.Common.{map, arith}
+use Rattle.std.proofs.Common.{◌≡◌, ℕ, Bool, List, length, map, subst, ◌∙◌, arith}
+use Rattle.logos_automaton.specs.Building.{IsUnderway}
+use Rattle.logos_automaton.specs.Keys.{AreRows, IsBuilt}
+use Rattle.logos_automaton.specs.declared.key.Key.{Key}
+use Rattle.logos_places.specs.Core.{Core}
 use Rattle.logos_places.specs.Node.{core_of}
 use Rattle.logos_automaton.proofs.runs.BuildingLemmas.{start_there, rows_wide, rows_within, ends_within}
+use Rattle.logos_automaton.proofs.runs.ReachLemmas.{all_reachable}
 use Rattle.logos_automaton.proofs.dfa.build.build_nodes.Goals as goal
+
+built : (ts : List Core) (looks : Bool) (ks : List Key) (rows : List (List ℕ)) (ends : List ℕ) → IsUnderway ts looks ks rows ends → length rows ≡ length ks → IsBuilt ts looks 0 ks rows ends
+built ts looks ks rows ends u full = record {
+  start_is = u.start_is;
+  rows_count = full;
+  ends_count = u.ends_count ∙ full;
+  rows_are = subst (AreRows ts looks ks rows ends) full u.rows_are;
+}
 
 pub loop-alloc-init : goal.loop-alloc-init
 loop-alloc-init c = rw (c.new-rows.ensures.items, c.new-ends.ensures.items) (c.in_ok-states.ensures c.args.looks (map core_of c.args.nodes.now))
@@ -20,4 +33,5 @@ invariant_of-result c =
       wide = rows_wide ts c.args.looks ks rows ends u;
       leads = rows_within ts c.args.looks ks rows ends u;
       ends_within = ends_within ts c.args.looks ks rows ends u;
+      reached = all_reachable ts c.args.looks ks rows ends (built ts c.args.looks ks rows ends u (omega (arith, u.within))) u.distinct u.reached;
     }

@@ -41,7 +41,7 @@ get_state-requires c =
     omega (arith, n.0, n.1)
 
 pub state_made-requires : goal.state_made-requires
-state_made-requires c = codable_at c.args.graph.now.states (state_number c.in-Some.state) _ c.requires.codable c.get_state.ensures
+state_made-requires c = codable_at c.args.graph.now.states (state_number c.in-Some.state) _ c.requires.codable c.get_state.ensures.state
 
 pub loop-state-preserved : goal.loop-state-preserved
 loop-state-preserved c =
@@ -52,7 +52,7 @@ loop-state-preserved c =
     let items = c.in_ok-push.ensures.items in
     let count = c.loop-state.invariant.count in
     let at : slice_get c.args.graph.now.states (length c.loop-state.yielded) ≡ Some (graph_state_of c.get_state.result.now) =
-    subst (λ k. slice_get c.args.graph.now.states k ≡ Some (graph_state_of c.get_state.result.now)) n.0 c.get_state.ensures in
+    subst (λ k. slice_get c.args.graph.now.states k ≡ Some (graph_state_of c.get_state.result.now)) n.0 c.get_state.ensures.state in
     let numbers = subst (λ s. c.state_made.new.tests.keys ≡ numbered c.loop-state.tests.keys (state_uses s (graph_state_of c.get_state.result.now).normal)) (c.index.ensures ∙ n.0) made.numbers in
     let next : length (c.loop-state.yielded ++ c.in-Some.state ∷ []) ≡ length c.loop-state.yielded + 1 = length-append c.loop-state.yielded (c.in-Some.state ∷ []) in
     record {

@@ -7,5 +7,6 @@ invariant_of-result c = record {
   shown = (c.in_ok-states.ensures.shows, c.requires.tellable);
   told = λ e. refl;
   finished = λ e. c.in_ok-states.ensures.finished (length c.args.leaves.items) c.requires.fit;
+  backward = c.in_ok-states.ensures.backward;
   bare = λ some. absurd (some (ap (map fault_of) c.new.ensures.items));
 }
