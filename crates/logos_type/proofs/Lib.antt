@@ -1,0 +1,3 @@
+pub mod PartTrees
+pub mod PartLemmas
+pub mod DepthLemmas
