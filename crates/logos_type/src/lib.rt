@@ -2,10 +2,12 @@
 
 #![tactic(auto)]
 
+mod equality;
 mod laws;
 mod print;
 mod type_expr;
 
+pub use equality::is_same_type;
 pub use laws::exceeds_is_deeper;
 pub use print::print_type;
 pub use type_expr::{Leaf, Part, TypeExpr, exceeds};
