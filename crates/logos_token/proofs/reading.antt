@@ -8,3 +8,4 @@ pub mod ReadingLemmas
 pub mod ClosingLemmas
 pub mod RefusalLemmas
 pub mod OrderLemmas
+pub mod LengthLemmas

@@ -94,7 +94,7 @@ impl Clone for TokenStream<'_> {
 
 impl<'t, 's> Tokens<'t, 's> {
     ghost use Rattle.std.specs.Prelude.{◌≡◌, ◌↔◌, IsTrue, MatchOption, option_map, IfOk};
-    ghost use Rattle.logos_token.specs.Tokens.{none, also, IsRestOf, first_of, rest_of, run_span};
+    ghost use Rattle.logos_token.specs.Tokens.{none, also, IsRestOf, first_of, rest_of, run_span, count_of};
     ghost use Rattle.logos_token.specs.Views.{stream_tokens, tokens_of, tree_of, iter_rest, listed};
 
     /// Whether there is no tree.
@@ -102,6 +102,13 @@ impl<'t, 's> Tokens<'t, 's> {
         ensures { IsTrue result ↔ (tokens_of self.entry ≡ none) }
     {
         self.entries.is_empty()
+    }
+
+    /// How many tokens there are, those inside groups too; a group counts as one beside them.
+    pub fn count(self) -> usize
+        ensures { result ≡ count_of (tokens_of self.entry) }
+    {
+        self.entries.len()
     }
 
     /// The first tree, if there is one.
