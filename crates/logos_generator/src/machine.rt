@@ -235,5 +235,3 @@ fn answer<C: Fn(LeafId, &[u8]) -> Action>(
     }
 }
 
-#[cfg(test)]
-mod tests;
