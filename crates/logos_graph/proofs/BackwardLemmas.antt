@@ -1,9 +1,8 @@
 -- The states that lead to a state.
-use Rattle.std.proofs.Common.{◌≡◌, ℕ, ◌<◌, ◌≤◌, ◌⊎◌, inl, inr, true, List, [], ◌∷◌, ◌++◌, Vec, Global, length, map, get_or, slice_get, slice_index, Contains, Option, Some, None, option_map, option_and_then, refl, sym, ◌∙◌, ap, subst, arith}
+use Rattle.std.proofs.Common.{◌≡◌, ℕ, ◌<◌, ◌≤◌, ◌⊎◌, inl, inr, true, List, [], ◌∷◌, ◌++◌, Vec, Global, length, map, get_or, slice_get, Contains, Some, None, option_and_then, sym, ◌∙◌, ap, subst, arith}
 use Rattle.std.proofs.lemmas.Bool.{cases_lt}
 use Rattle.std.proofs.lemmas.List.{get_or-map, length-map}
 use Rattle.std.proofs.lemmas.Option.{slice_get-get_or, slice_get_past, slice_get_within, get_or_from_slice_get}
-use Rattle.logos_places.specs.ByteRanges.{is_in}
 use Rattle.logos_reduce.specs.Lists.{has, has_in, Rises, AreRising, ArePredecessors}
 use Rattle.logos_reduce.specs.Table.{size, to}
 use Rattle.logos_reduce.specs.declared.table.Table.{Table}
