@@ -1,9 +1,8 @@
 -- The states that lead to a state.
-use Rattle.std.proofs.Common.{◌≡◌, ℕ, ◌<◌, ◌≤◌, ◌⊎◌, inl, inr, true, List, [], ◌∷◌, ◌++◌, Vec, Global, length, map, get_or, slice_get, slice_index, Contains, Option, Some, None, option_map, option_and_then, refl, sym, ◌∙◌, ap, subst, arith}
+use Rattle.std.proofs.Common.{◌≡◌, ℕ, ◌<◌, ◌≤◌, ◌⊎◌, inl, inr, true, List, [], ◌∷◌, ◌++◌, Vec, Global, length, map, get_or, slice_get, Contains, Some, None, option_and_then, sym, ◌∙◌, ap, subst, arith}
 use Rattle.std.proofs.lemmas.Bool.{cases_lt}
 use Rattle.std.proofs.lemmas.List.{get_or-map, length-map}
 use Rattle.std.proofs.lemmas.Option.{slice_get-get_or, slice_get_past, slice_get_within, get_or_from_slice_get}
-use Rattle.logos_places.specs.ByteRanges.{is_in}
 use Rattle.logos_reduce.specs.Lists.{has, has_in, Rises, AreRising, ArePredecessors}
 use Rattle.logos_reduce.specs.Table.{size, to}
 use Rattle.logos_reduce.specs.declared.table.Table.{Table}
@@ -26,16 +25,21 @@ none_backward = record { each = λ s state e. absurd (cc) }
 pub none_numbered : (lists : List (Vec ℕ Global)) → HaveNumbers lists []
 none_numbered lists = record { each = λ s state e. absurd (cc) }
 
+-- the numbers of a list
+pub numbered_at : (lists : List (Vec ℕ Global)) (s : ℕ) (u : Vec ℕ Global) (numbers : List ℕ) → s < length lists → u ≡ get_or lists s u → numbers ≡ u.items → numbers ≡ get_or (numbers_of lists) s []
+numbered_at lists s u numbers l at is = is ∙ ap (λ (v : Vec ℕ Global). v.items) at ∙ sym (get_or-map (λ (v : Vec ℕ Global). v.items) lists s u [] l)
+
 -- one more state, with the numbers of its list
-pub more_numbered : (lists : List (Vec ℕ Global)) (states : List StateData) (state : StateData) → map state_number state.backward.items ≡ get_or (numbers_of lists) (length states) [] →
+pub more_numbered : (lists : List (Vec ℕ Global)) (states : List StateData) (state : StateData) (n : ℕ) → length states ≡ n → map state_number state.backward.items ≡ get_or (numbers_of lists) n [] →
     HaveNumbers lists states → HaveNumbers lists (states ++ state ∷ [])
-more_numbered lists states state is have = record { each = λ s found e. go s found (got_pushed states state found s e) }
+more_numbered lists states state n len is have = record { each = λ s found e. go s found (got_pushed states state found s e) }
   where
     go : (s : ℕ) (found : StateData) → (slice_get states s ≡ Some found) ⊎ ((s ≡ length states) × (state ≡ found)) → map state_number found.backward.items ≡ get_or (numbers_of lists) s []
     go s found (inl p) = have.each s found p
     go s found (inr p) =
+        let e : n ≡ s = let q = p.0 in omega arith in
         subst (λ (x : StateData). map state_number x.backward.items ≡ get_or (numbers_of lists) s []) p.1
-        (subst (λ n. map state_number state.backward.items ≡ get_or (numbers_of lists) n []) (sym p.0) is)
+        (subst (λ m. map state_number state.backward.items ≡ get_or (numbers_of lists) m []) e is)
 
 module _ (table : Table) (graph : List GraphState) (shows : Shows table graph) (lists : List (Vec ℕ Global)) (count : length lists ≡ size table)
     (are : ArePredecessors (size table) 257 (to table) lists) (rise : AreRising (size table) lists) where

@@ -1,7 +1,6 @@
 -- What contracts see of a graph and of its leaves.
 use Rattle.std.specs.Prelude.{Bool, List, map}
 use Rattle.logos_pattern.specs.Leaf.{pattern_tree, is_skip, asks}
-use Rattle.logos_hir.specs.Text.{IsBytes}
 use Rattle.logos_automaton.specs.Munch.{Rule}
 use Rattle.logos_graph.specs.Graph.{GraphState}
 use Rattle.logos_automaton.specs.Faults.{Fault}
