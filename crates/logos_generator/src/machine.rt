@@ -259,5 +259,3 @@ fn answer<C: Fn(LeafId, &[u8]) -> Action>(
     }
 }
 
-#[cfg(test)]
-mod tests;
