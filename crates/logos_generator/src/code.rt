@@ -208,7 +208,7 @@ impl Code<'_> {
     }
 
     /// The row of the state.
-    #[inline]
+    #[inline(always)]
     pub(crate) fn row(&self, state: usize) -> &[u32; 256]
         requires { state < length self.now.states }
         ensures { IsRow self.now (state_at self.now state) result.now }
@@ -225,7 +225,7 @@ impl Code<'_> {
     }
 
     /// What the end of the input does in the state.
-    #[inline]
+    #[inline(always)]
     pub(crate) fn last_step(&self, state: usize) -> Step
         requires { state < length self.now.states }
         ensures says { SaysAtEnd (state_at self.now state) result }
@@ -242,7 +242,7 @@ impl Code<'_> {
     }
 
     /// What the mark of the state says.
-    #[inline]
+    #[inline(always)]
     pub(crate) fn sign(&self, state: usize) -> Sign
         requires { state < length self.now.states }
         ensures { mark_by result ≡ (state_at self.now state).mark }
@@ -251,7 +251,7 @@ impl Code<'_> {
     }
 
     /// Where the end of the input leads from the state.
-    #[inline]
+    #[inline(always)]
     pub(crate) fn at_end(&self, state: usize) -> Option<usize>
         requires { state < length self.now.states }
         ensures { result ≡ (state_at self.now state).at_end }
@@ -260,7 +260,7 @@ impl Code<'_> {
     }
 
     /// Whether a callback is asked for the matches of the leaf.
-    #[inline]
+    #[inline(always)]
     pub(crate) fn asks(&self, leaf: LeafId) -> bool
         requires { leaf.0 < length self.now.leaves }
         ensures { result ≡ asks_for self.now leaf.0 }
@@ -269,7 +269,7 @@ impl Code<'_> {
     }
 
     /// Whether the matches of the leaf are left out.
-    #[inline]
+    #[inline(always)]
     pub(crate) fn skips(&self, leaf: LeafId) -> bool
         requires { leaf.0 < length self.now.leaves }
         ensures { result ≡ skips_over self.now leaf.0 }

@@ -110,6 +110,7 @@ impl<'c, 's, 'i, C: Fn(LeafId, &[u8]) -> Action> Lexer<'c, 's, 'i, C> {
     }
 
     /// The next item, or `None` at the end of the input, and ever after.
+    #[inline(always)]
     pub fn next(&mut self) -> Option<Item<'i>>
         requires { C.IsAlwaysCallable self.old.callback }
         ensures keeps { Keeps self.old self.new }
@@ -192,6 +193,7 @@ fn check_utf8(input: &[u8]) -> Result<(), NotUtf8>
 }
 
 /// The item that a match gives, if it is not skipped.
+#[inline(always)]
 fn matched_item<'i, C: Fn(LeafId, &[u8]) -> Action>(
     code: &Code,
     input: &'i [u8],
@@ -218,6 +220,7 @@ fn matched_item<'i, C: Fn(LeafId, &[u8]) -> Action>(
 }
 
 /// What is answered to a match.
+#[inline(always)]
 fn answer<C: Fn(LeafId, &[u8]) -> Action>(
     code: &Code,
     callback: &C,

@@ -18,7 +18,7 @@ use std::alloc::{AllocError, Global};
 const STAYS: u32 = u32::MAX - 1;
 
 /// Whether the fast loop takes a byte with this entry.
-#[inline]
+#[inline(always)]
 pub(crate) fn is_staying(entry: u32) -> bool
     ensures { result ≡ (entry == 4294967294) }
 {
@@ -45,7 +45,7 @@ pub(crate) enum Step {
 }
 
 /// The step that the entry of a byte stands for that does not stay.
-#[inline]
+#[inline(always)]
 pub(crate) fn step_of(entry: u32) -> Step
     ensures { IsStepOf entry result }
 {

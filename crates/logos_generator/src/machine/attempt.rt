@@ -149,7 +149,7 @@ fn is_continuation(byte: u8) -> bool
 }
 
 /// What is found from a place of the input on, and the number of states entered.
-#[inline]
+#[inline(always)]
 pub(super) fn attempt(code: &Code, input: &[u8], start: usize) -> (Found, usize)
     requires { start ≤ length input.now }
     ensures tries { Tries code.now input.now start (found_of result.0) result.1 }
@@ -158,13 +158,13 @@ pub(super) fn attempt(code: &Code, input: &[u8], start: usize) -> (Found, usize)
 {
     match match_soon(code, input, start) {
         Some((leaf, to, steps)) => (Found::Matched(leaf, to), steps),
-        None => attempt_with_marks(code, input, start),
+        None => attempt_again(code, input, start),
     }
 }
 
 /// A match that ends in the state in which the try does: no mark has to be kept for it. Its leaf, its end, and the
 /// number of states entered.
-#[inline]
+#[inline(always)]
 fn match_soon(code: &Code, input: &[u8], start: usize) -> Option<(LeafId, usize, usize)>
     requires { start ≤ length input.now }
     ensures { IfSome result (λ r. FindsSoon code.now input.now start r.0.0 r.1 r.2) }
@@ -192,7 +192,7 @@ fn match_soon(code: &Code, input: &[u8], start: usize) -> Option<(LeafId, usize,
 }
 
 /// Where the state's fast loop ends, and the entry of the byte there, if one is there.
-#[inline]
+#[inline(always)]
 fn look(code: &Code, input: &[u8], state: usize, offset: usize) -> Option<(usize, u32)>
     requires state { state < length code.now.states }
     requires within { offset ≤ length input.now }
@@ -202,6 +202,17 @@ fn look(code: &Code, input: &[u8], state: usize, offset: usize) -> Option<(usize
         Some((len, entry)) => Some((offset + len, entry)),
         None => None,
     }
+}
+
+/// The same as `attempt_with_marks`. The room for what that one gives is made here, so a try that needs no marks makes none.
+#[inline(always)]
+fn attempt_again(code: &Code, input: &[u8], start: usize) -> (Found, usize)
+    requires { start ≤ length input.now }
+    ensures tries { Tries code.now input.now start (found_of result.0) result.1 }
+    ensures within { StaysWithin code.now input.now start (found_of result.0) }
+    ensures few { result.1 ≤ (length input.now - start) + 2 }
+{
+    attempt_with_marks(code, input, start)
 }
 
 /// The same as `attempt`, where the marks passed are kept.

@@ -4,7 +4,7 @@ ghost use Rattle.logos_generator.specs.Rows.{StopsIn};
 use crate::code::rows::is_staying;
 
 /// The same as `stop_in`. One byte is looked at by itself, since in most states the first one leads on.
-#[inline]
+#[inline(always)]
 pub(super) fn first_stop(row: &[u32; 256], bytes: &[u8]) -> Option<(usize, u32)>
     ensures { StopsIn row.now bytes.now result }
 {
@@ -23,7 +23,7 @@ pub(super) fn first_stop(row: &[u32; 256], bytes: &[u8]) -> Option<(usize, u32)>
 
 /// Where the bytes at the front end that stay in the state of the row: how many they are, and the entry of the byte behind them.
 /// Eight bytes are taken at a time while eight are there.
-#[inline]
+#[inline(always)]
 pub(super) fn stop_in(row: &[u32; 256], bytes: &[u8]) -> Option<(usize, u32)>
     ensures { StopsIn row.now bytes.now result }
 {
@@ -39,7 +39,7 @@ pub(super) fn stop_in(row: &[u32; 256], bytes: &[u8]) -> Option<(usize, u32)>
 }
 
 /// The same for a few bytes. The compiler unrolls it where eight are handed over.
-#[inline]
+#[inline(always)]
 fn stop_in_few(row: &[u32; 256], bytes: &[u8]) -> Option<(usize, u32)>
     ensures { StopsIn row.now bytes.now result }
 {
