@@ -3,14 +3,14 @@ use Rattle.logos_token.proofs.reading.CountLemmas.{IsRestOf-self, count_of-rest}
 use Rattle.logos_item.proofs.RuleLemmas.{IsRestOf-join, IsRestOf-token}
 use Rattle.logos_item.proofs.extents.skip_extent.Goals as goal
 
-pub returns-then-len-eq0-clause-front : goal.returns-then-len-eq0-clause-front
-returns-then-len-eq0-clause-front c = IsRestOf-self _
+pub returns-then-count-eq0-clause-front : goal.returns-then-count-eq0-clause-front
+returns-then-count-eq0-clause-front c = IsRestOf-self _
 
 pub loop-next-init : goal.loop-next-init
 loop-next-init c = record { same = refl; front = IsRestOf-self _; shorter = omega arith }
 
 pub skip_token-requires : goal.skip_token-requires
-skip_token-requires c = omega (arith, c.loop-next.invariant.shorter, c.len.ensures, c.len.type_inv)
+skip_token-requires c = omega (arith, c.loop-next.invariant.shorter, c.count.ensures, c.count.type_inv)
 
 pub loop-next-preserved : goal.loop-next-preserved
 loop-next-preserved c =
