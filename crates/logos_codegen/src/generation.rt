@@ -1,6 +1,6 @@
 //! From a source text to the code of its lexer.
 
-ghost use Rattle.std.specs.Prelude.{◌≡◌, ◌<◌, ◌↔◌, ◌∷◌, ◌++◌, ℕ, Bool, List, [], length, map, flat_map, true, None, IfOk, IfErr, IsErrAnd, OnOk, IsTrue};
+ghost use Rattle.std.specs.Prelude.{◌≡◌, ◌<◌, ◌↔◌, ◌∷◌, ◌++◌, ℕ, Bool, List, [], length, map, flat_map, true, None, IfOk, IfErr, IsErrAnd, OnOk, IsTrue, string_bytes};
 ghost use Rattle.logos_parser.specs.Values.{ident_slice};
 ghost use Rattle.logos_automaton.specs.Munch.{Rule};
 ghost use Rattle.logos_automaton.specs.Errors.{fault_of};
@@ -8,6 +8,8 @@ ghost use Rattle.logos_graph.specs.GraphOf.{IsGraphOf};
 ghost use Rattle.logos_graph.specs.View.{rules_of};
 ghost use Rattle.logos_generator.specs.GeneratorValue.{KeepsGiven};
 ghost use Rattle.logos_generator.specs.Headline.{IsLexer};
+ghost use Rattle.logos_text.specs.Standing.{StandInOrder};
+ghost use Rattle.logos_text.specs.Texts.{texts_of};
 ghost use Rattle.logos_codegen.specs.Texts.{named_leaf, listed_of};
 ghost use Rattle.logos_codegen.specs.Rules.{named_rule};
 ghost use Rattle.logos_codegen.specs.Source.{IsNamed, IsAccepted, IsRefused, IsWithinSizes, IsWithinLimits, too_long};
@@ -24,6 +26,7 @@ use logos_generator::code::Code;
 use logos_generator::generator::{Config, Generator};
 use logos_graph::graph::{BuildError, Config as GraphConfig, Graph, GraphError};
 use logos_pattern::leaf::Leaf;
+use logos_text::{Around, text_in};
 use logos_token::error::{Errors, FaultCode, Memory};
 use logos_token::token::{Ident, Span, TokenStream};
 use std::alloc::{AllocError, Global};
@@ -37,6 +40,24 @@ pub struct Generated<'s> {
     pub graph: Graph<'s>,
     /// The name of the enum.
     pub name: Ident<'s>,
+}
+
+impl Generated<'_> {
+    /// The whole Rust text of the lexer: the implementation of `Logos` for the enum, as printed tokens. Where the code has tests by
+    /// tables, the texts of all bit tables, by number, and behind them those of the conditions of all forks, by states and by the
+    /// fork's order, stand in it without overlap. It fails only where there is no memory.
+    pub fn text(&self, alloc: Global) -> Result<String, Memory>
+        ensures { IfOk result (λ text. StandInOrder (texts_of self.now.code) (string_bytes text)) }
+    {
+        let source = if self.graph.utf8_mode() { "str" } else { "[ u8 ]" };
+        let around = Around {
+            logos: ":: logos",
+            error: "( )",
+            extras: "( )",
+            source,
+        };
+        text_in(alloc, &self.code, around)
+    }
 }
 
 // Lists the faults of a graph.

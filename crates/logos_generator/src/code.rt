@@ -9,8 +9,6 @@ ghost use Rattle.logos_generator.specs.Signs.{mark_by};
 
 pub(crate) mod rows;
 pub(crate) mod signs;
-#[cfg(test)]
-mod tests;
 pub(crate) mod uses;
 
 use crate::generator::Config;

@@ -6,5 +6,3 @@ pub mod code;
 pub mod generator;
 pub mod laws;
 pub mod machine;
-#[cfg(test)]
-mod testing;

@@ -256,5 +256,3 @@ fn answer<C: Fn(LeafId, &[u8]) -> Action>(
     }
 }
 
-#[cfg(test)]
-mod tests;

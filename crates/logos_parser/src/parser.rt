@@ -752,6 +752,3 @@ pub fn enum_or_misfit()
     ensures misfit_begins { (run : TokenList) (span : Span) → IsMisfit run span → IsAnnounced run }
     ensures either { (run : TokenList) → IsAnnounced run → ((value : EnumValue) × IsEnum run value) ⊎ ((span : Span) × IsMisfit run span) }
 {}
-
-#[cfg(test)]
-mod tests;

@@ -1,33 +1,77 @@
--- What words the program takes, and the status of what it cannot do.
-use Rattle.std.specs.Prelude.{◌≡◌, ℕ, List, length, Option, Some, option_map, slice_get, string_bytes, codes}
-use Rattle.std.specs.declared.string.String.{String}
+-- What the program's words ask for, and the status of what it cannot do.
+use Rattle.std.specs.Prelude.{◌≡◌, ◌∷◌, [], ℕ, List, Option, Some, None, true, false, if◌then◌else◌, option_map, bytes_eq, codes}
+use Rattle.logos_generator.specs.declared.generator.Config.{Config}
 use Rattle.logos_codegen.specs.declared.lexing.LexSourceError.{LexSourceError}
 use Rattle.logos_codegen.specs.declared.lexing.LexSourceError.TheVariants as errors
+use Rattle.logos_codegen.specs.declared.refusal.Refusal.{Refusal}
+use Rattle.logos_codegen.specs.declared.refusal.Refusal.TheVariants as refusals
+use Rattle.logos_program.specs.declared.run.command.Command.{Command}
+use Rattle.logos_program.specs.declared.run.command.Command.TheVariants.{Text, Items, Chart}
 use Rattle.logos_program.specs.declared.run.Failure.{Failure}
-use Rattle.logos_program.specs.declared.run.Failure.TheVariants.{Read, Write, Refused, NotUtf8, Memory}
+use Rattle.logos_program.specs.declared.run.Failure.TheVariants.{Read, Write, Refused, NotUtf8, Alike, Memory}
 
--- the word at a place, if there is one
-abbrev pub word_at : {A : Type 0} → List (String A) → ℕ → Option (List ℕ)
-word_at words i = option_map string_bytes (slice_get words i)
+-- What the words ask for: the Rust text of the lexer in a file, the items of an input by it, or the chart of its graph.
+pub data Asked : Type 0 where
+  pub asks_text : (file : List ℕ) → (shape : Config) → Asked
+  pub asks_items : (file input : List ℕ) → (shape : Config) → Asked
+  pub asks_chart : (file : List ℕ) → Asked
 
--- the words are the command `lex` and the paths of two files
-pub record IsLex {A : Type 0} (words : List (String A)) : Type 0 where
-  pub three : length words ≡ 3
-  pub first : word_at words 0 ≡ Some (codes "lex")
+-- the shape of a name
+abbrev pub shape_named : List ℕ → Option Config
+shape_named name =
+    if bytes_eq name (codes "state_machine") then Some (record { use_state_machine_codegen = true })
+    else (if bytes_eq name (codes "tailcall") then Some (record { use_state_machine_codegen = false })
+    else None)
 
--- these are the paths
-pub record AreLexPaths {A : Type 0} (words : List (String A)) (from on : List ℕ) : Type 0 where
-  pub lex : IsLex words
-  pub source : word_at words 1 ≡ Some from
-  pub input : word_at words 2 ≡ Some on
+-- the shape that the last words name: one loop over a state where there are none
+abbrev pub shape_in : List (List ℕ) → Option Config
+shape_in [] = Some (record { use_state_machine_codegen = true })
+shape_in (option ∷ name ∷ []) = if bytes_eq option (codes "--shape") then shape_named name else None
+shape_in words = None
 
--- 1 where source or input are refused, 3 where a file or the memory fails
+-- behind `gen`: a file, and perhaps a shape
+abbrev pub text_in : List (List ℕ) → Option Asked
+text_in (file ∷ rest) = option_map (asks_text file) (shape_in rest)
+text_in [] = None
+
+-- behind `lex`: a file, an input, and perhaps a shape
+abbrev pub items_in : List (List ℕ) → Option Asked
+items_in (file ∷ input ∷ rest) = option_map (asks_items file input) (shape_in rest)
+items_in words = None
+
+-- behind `mermaid`: a file
+abbrev pub chart_in : List (List ℕ) → Option Asked
+chart_in (file ∷ []) = Some (asks_chart file)
+chart_in words = None
+
+-- what the words ask for, if they are a command
+abbrev pub asked : List (List ℕ) → Option Asked
+asked [] = None
+asked (name ∷ rest) =
+    if bytes_eq name (codes "gen") then text_in rest
+    else (if bytes_eq name (codes "lex") then items_in rest
+    else (if bytes_eq name (codes "mermaid") then chart_in rest
+    else None))
+
+-- what a command asks for
+abbrev pub command_asked : Command → Asked
+command_asked (Text file config) = asks_text file.now config
+command_asked (Items file input config) = asks_items file.now input.now config
+command_asked (Chart file) = asks_chart file.now
+
+-- 1 where source, input or graph are refused, 3 where a file or the memory fails
 abbrev pub status_of : Failure → ℕ
 status_of (Read path) = 3
 status_of (Write path) = 3
 status_of (Refused errors) = 1
 status_of (NotUtf8 valid_up_to) = 1
+status_of (Alike s t) = 1
 status_of Memory = 3
+
+-- what is not done where a source is refused
+abbrev pub refused_by : Refusal → Failure
+refused_by (refusals.Errors faults) = Refused faults
+refused_by refusals.Memory = Memory
 
 -- what is not done where a source or an input is refused
 abbrev pub failure_of : LexSourceError → Failure

@@ -1,8 +1,8 @@
 //! The files of the system.
 
 use crate::run::{FileError, Files};
-use std::fs;
 use std::rt::Files as Runtime;
+use std::{fs, io};
 
 /// Files behind the runtime.
 #[derive(Drop)]
@@ -12,6 +12,17 @@ pub struct Disk<'r, R> {
 
 impl<R: Runtime + AllocGlobal> Files for Disk<'_, R> {
     fn read(&mut self, path: &str) -> Result<Vec<u8>, FileError> {
-        fs::read(self.rt, path).map_err(|_| FileError::Failed)
+        match fs::read(self.rt, path) {
+            Ok(bytes) => Ok(bytes),
+            Err(error) => Err(file_error(&error)),
+        }
+    }
+}
+
+/// Why a file was not read: there was no memory for its bytes, or something else.
+fn file_error(error: &io::Error) -> FileError {
+    match error.kind() {
+        io::ErrorKind::OutOfMemory => FileError::Memory,
+        _ => FileError::Failed,
     }
 }

@@ -1,4 +1,4 @@
-//! The program `logos`: it lexes a file by the enum in another.
+//! The program `logos`: it prints the lexer of an enum in a file, charts it, or lexes another file by it.
 
 #![tactic(auto)]
 
@@ -6,22 +6,33 @@ mod disk;
 mod run;
 
 use disk::Disk;
+use std::alloc::AllocError;
 use std::process::ExitCode;
+use std::rt::Env;
 use std::{env, io};
 
-fn main(rt: HostRuntime) -> io::Result<ExitCode> {
-    let alloc = rt.alloc();
-    let mut words = Vec::new(alloc);
-    for word in env::args(&rt)?.skip(1) {
-        words.push(word)?;
+/// The words behind the program's name.
+fn words<R: Env + AllocGlobal>(rt: &R) -> io::Result<Vec<String>> {
+    let mut words = Vec::new(rt.alloc());
+    for word in env::args(rt)?.skip(1) {
+        if words.push(word).is_err() {
+            return Err(io::Error::from(AllocError));
+        }
     }
+    Ok(words)
+}
+
+fn main(rt: HostRuntime) -> io::Result<ExitCode> {
     let mut files = Disk { rt: &rt };
-    let status = run::run(
-        alloc,
-        words.as_slice(),
-        &mut files,
-        &mut rt.stdout(),
-        &mut rt.stderr(),
-    );
+    let status = match words(&rt) {
+        Ok(words) => run::run(
+            rt.alloc(),
+            words.as_slice(),
+            &mut files,
+            &mut rt.stdout(),
+            &mut rt.stderr(),
+        ),
+        Err(error) => run::refuse_words(error.kind(), &mut rt.stderr()),
+    };
     Ok(ExitCode::from(status))
 }

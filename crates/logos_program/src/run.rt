@@ -1,12 +1,15 @@
 //! The commands, over any files and any writers.
 
-ghost use Rattle.std.specs.Prelude.{◌≡◌, ◌≤◌, ◌↔◌, MatchOption};
-ghost use Rattle.logos_program.specs.Commands.{IsLex, AreLexPaths, status_of};
+ghost use Rattle.std.specs.Prelude.{◌≡◌, ◌≤◌, ◌⊎◌, ◌↔◌, None, map, string_bytes};
+ghost use Rattle.logos_program.specs.Commands.{asked, status_of};
 
-use logos_codegen::error::Errors;
-use logos_codegen::generator::Config;
-use logos_codegen::machine::{Action, Item};
-use logos_codegen::{LexSourceError, lex_source};
+mod command;
+mod outcome;
+
+use command::{Command, command_of};
+use logos_codegen::error::{Errors, Memory};
+use logos_codegen::{LexSourceError, Refusal};
+use outcome::outcome;
 use std::alloc::{AllocError, Global};
 use std::io;
 use std::io::Write;
@@ -33,30 +36,44 @@ pub fn run<F: Files, O: Write, E: Write>(
     out: &mut O,
     err: &mut E,
 ) -> u8
-    ensures usage { (result ≡ 2) ↔ ¬ IsLex words.now }
+    ensures usage { (result ≡ 2) ↔ (asked (map string_bytes words.now) ≡ None) }
     ensures known { result ≤ 3 }
 {
-    let Some((file, input)) = lex_paths(words) else {
+    let Some(command) = command_of(words) else {
         return usage(err);
     };
-    match lex(alloc, file, input, files, out) {
+    match carry_out(alloc, command, files, out) {
         Ok(()) => 0,
         Err(failure) => report(&failure, err),
     }
 }
 
-/// The paths of the source and of the input, where the words are `lex` and these.
-fn lex_paths(words: &[String]) -> Option<(&str, &str)>
-    ensures { MatchOption result (¬ IsLex words.now) (λ paths. AreLexPaths words.now paths.0.now paths.1.now) }
-{
-    match words {
-        [command, file, input] if command.as_str() == "lex" => {
-            Some((file.as_str(), input.as_str()))
-        }
-        _ => None,
+/// Writes what the command gives, whole, once it is made.
+fn carry_out<'w, F: Files, O: Write>(
+    alloc: Global,
+    command: Command<'w>,
+    files: &mut F,
+    out: &mut O,
+) -> Result<(), Failure<'w>> {
+    let text = outcome(alloc, command, files)?;
+    match out.write_all(text.as_bytes()) {
+        Ok(()) => Ok(()),
+        Err(_) => Err(Failure::Write("standard output")),
     }
 }
 
+/// Says why there are no words, and gives the exit status: 3 where there was no memory for them, and else 2, since a word is
+/// no text.
+pub fn refuse_words<E: Write>(why: io::ErrorKind, err: &mut E) -> u8
+    ensures { (result ≡ 2) ⊎ (result ≡ 3) }
+{
+    match why {
+        io::ErrorKind::OutOfMemory => report(&Failure::Memory, err),
+        _ => usage(err),
+    }
+}
+
+/// Writes the line that says what the words may be.
 fn usage<E: Write>(err: &mut E) -> u8
     ensures { result ≡ 2 }
 {
@@ -71,6 +88,8 @@ enum Failure<'w> {
     Write(&'w str),
     Refused(Errors),
     NotUtf8 { valid_up_to: usize },
+    /// Two states of a graph that nothing tells apart.
+    Alike { s: usize, t: usize },
     Memory,
 }
 
@@ -82,6 +101,31 @@ impl From<AllocError> for Failure<'_> {
 
     fn from(_error: AllocError) -> Self {
         Failure::Memory
+    }
+}
+
+impl From<Memory> for Failure<'_> {
+    ghost use Rattle.std.specs.Prelude.{◌≡◌};
+    ghost use Rattle.logos_program.specs.declared.run.Failure.TheVariants.{Memory as OutOfMemory};
+
+    ghost from_gives = { λ _ failure. failure ≡ OutOfMemory };
+
+    fn from(_error: Memory) -> Self {
+        Failure::Memory
+    }
+}
+
+impl From<Refusal> for Failure<'_> {
+    ghost use Rattle.std.specs.Prelude.{◌≡◌};
+    ghost use Rattle.logos_program.specs.Commands.{refused_by};
+
+    ghost from_gives = { λ refusal failure. failure ≡ refused_by refusal };
+
+    fn from(refusal: Refusal) -> Self {
+        match refusal {
+            Refusal::Errors(errors) => Failure::Refused(errors),
+            Refusal::Memory => Failure::Memory,
+        }
     }
 }
 
@@ -111,6 +155,10 @@ fn report<E: Write>(failure: &Failure<'_>, err: &mut E) -> u8
         }
         Failure::NotUtf8 { valid_up_to } => {
             let _ = writeln!(err, "NotUtf8 {valid_up_to}");
+            1
+        }
+        Failure::Alike { s, t } => {
+            let _ = writeln!(err, "states {s} and {t} are alike");
             1
         }
         Failure::Read(path) => {
@@ -152,63 +200,6 @@ fn write_on_one_line<E: Write>(text: &str, err: &mut E) -> io::Result<()> {
         begun = true;
     }
     Ok(())
-}
-
-fn read<'w, F: Files>(path: &'w str, files: &mut F) -> Result<Vec<u8>, Failure<'w>> {
-    match files.read(path) {
-        Ok(bytes) => Ok(bytes),
-        Err(FileError::Failed) => Err(Failure::Read(path)),
-        Err(FileError::Memory) => Err(Failure::Memory),
-    }
-}
-
-fn lex<'w, F: Files, O: Write>(
-    alloc: Global,
-    file: &'w str,
-    input: &'w str,
-    files: &mut F,
-    out: &mut O,
-) -> Result<(), Failure<'w>> {
-    let source = read(file, files)?;
-    let Ok(source) = String::from_utf8(source) else {
-        return Err(Failure::Read(file));
-    };
-    let bytes = read(input, files)?;
-    let config = Config {
-        use_state_machine_codegen: true,
-    };
-    let emit = |_leaf, _slice: &[u8]| Action::Emit;
-    let items = lex_source(alloc, source.as_str(), config, bytes.as_slice(), emit)?;
-    let text = text_of(alloc, items.as_slice())?;
-    match out.write_all(text.as_bytes()) {
-        Ok(()) => Ok(()),
-        Err(_) => Err(Failure::Write("standard output")),
-    }
-}
-
-/// A line for each item.
-fn text_of(alloc: Global, items: &[Item<'_>]) -> Result<String, AllocError> {
-    let mut text = String::new(alloc);
-    for item in items {
-        push_item(&mut text, item)?;
-    }
-    Ok(text)
-}
-
-fn push_item(text: &mut String, item: &Item<'_>) -> Result<(), AllocError> {
-    match item {
-        Item::Token { leaf, span, .. } => {
-            let number = leaf.0;
-            let from = span.from;
-            let to = span.to;
-            writeln!(text, "token {number} {from}..{to}")
-        }
-        Item::Error { span, .. } => {
-            let from = span.from;
-            let to = span.to;
-            writeln!(text, "error {from}..{to}")
-        }
-    }
 }
 
 #[cfg(test)]

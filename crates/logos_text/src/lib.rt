@@ -14,10 +14,6 @@ mod names;
 mod pieces;
 mod states;
 mod tables;
-#[cfg(test)]
-mod testing;
-#[cfg(test)]
-mod tests;
 
 pub use code::{text, text_in};
 pub use implementation::Around;

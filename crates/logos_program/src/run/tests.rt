@@ -176,15 +176,96 @@ fn refuses(rt: HostRuntime) -> Result<(), Fail> {
     Ok(())
 }
 
+/// The chart of a text's graph.
+const ROPE: &str = "flowchart TB\nn0[\"State 0\"]\nstyle n0 stroke:#000000\nen0n1{\"r\"}\nstyle en0n1 stroke:#000000\nn0-->en0n1\nen0n1-->n1\nn1[\"State 1\"]\nstyle n1 stroke:#000000\nen1n2{\"o\"}\nstyle en1n2 stroke:#000000\nn1-->en1n2\nen1n2-->n2\nn2[\"State 2\"]\nstyle n2 stroke:#000000\nen2n3{\"p\"}\nstyle en2n3 stroke:#000000\nn2-->en2n3\nen2n3-->n3\nn3[\"State 3\"]\nstyle n3 stroke:#000000\nen3n4{\"e\"}\nstyle en3n4 stroke:#000000\nn3-->en3n4\nen3n4-->n4\nn4[\"State 4<br>early(0)\"]\nstyle n4 stroke:#00C853\n";
+
+#[test]
+fn charts(rt: HostRuntime) -> Result<(), Fail> {
+    for (source, status, out, err) in [
+        (b"enum T { #[token(\"rope\")] A }".as_slice(), 0, ROPE, ""),
+        (
+            b"enum T { #[token(\"\")] A }".as_slice(),
+            1,
+            "",
+            "17..19 EmptyMatch: The pattern #[token(\"\")] ::A can match the empty string, which is unsupported by logos.\n",
+        ),
+    ] {
+        let case = Case {
+            words: &["mermaid", "t.rs"],
+            source,
+            input: b"",
+            status,
+            out,
+            err,
+        };
+        check(&rt, rt.alloc(), &case)?;
+    }
+    Ok(())
+}
+
+/// What `gen` with these words behind the file writes for the source.
+fn text_of(
+    rt: &impl Abort,
+    alloc: Global,
+    source: &str,
+    shape: &[&str],
+) -> Result<Vec<u8>, Fail> {
+    let mut words = words(alloc, &["gen", "t.rs"])?;
+    for word in shape {
+        words.push(String::from_str(alloc, word)?)?;
+    }
+    let mut files = make_shelf(alloc, source.as_bytes(), b"")?;
+    let (mut out, mut err) = (Vec::new(alloc), Vec::new(alloc));
+    let status = run(alloc, words.as_slice(), &mut files, &mut out, &mut err);
+    assert_eq!(rt; status, 0);
+    Ok(out)
+}
+
+#[test]
+fn prints_texts(rt: HostRuntime) -> Result<(), Fail> {
+    let (letters, bytes) = (
+        "enum T { #[regex(\"[a-z]+\")] A }",
+        "#[logos(utf8 = false)] enum T { #[regex(\"[a-z]+\")] A }",
+    );
+    let by_states = "if ( matches ! ( byte , b'a' ..= b'z' ) ) { offset += 1 ; state = LogosState :: State1 ; continue ; }";
+    let by_functions = "if ( matches ! ( byte , b'a' ..= b'z' ) ) { offset += 1 ; return state1 ( lex , offset , context ) ; }";
+    let head = "impl < 's > :: logos :: Logos < 's > for T { type Error = ( ) ; type Extras = ( ) ; type Source = str ; ";
+    let bytes_head = "impl < 's > :: logos :: Logos < 's > for T { type Error = ( ) ; type Extras = ( ) ; type Source = [ u8 ] ; ";
+    let cases: [(&str, &[&str], &str, &str); 4] = [
+        (letters, &[], head, by_states),
+        (letters, &["--shape", "state_machine"], head, by_states),
+        (letters, &["--shape", "tailcall"], head, by_functions),
+        (bytes, &[], bytes_head, by_states),
+    ];
+    for (source, shape, head, part) in cases {
+        let text = text_of(&rt, rt.alloc(), source, shape)?;
+        let Ok(text) = String::from_utf8(text) else {
+            return Err(Fail::from("no text"));
+        };
+        assert!(rt; text.starts_with(head), "another beginning");
+        assert!(rt; text.contains(part), "another condition");
+        assert!(rt; text.ends_with(" } }\n"), "another end");
+    }
+    Ok(())
+}
+
 #[test]
 fn tells_usage(rt: HostRuntime) -> Result<(), Fail> {
-    let all: [&'static [&'static str]; 6] = [
+    let all: [&'static [&'static str]; 14] = [
         &[],
         &["lex"],
         &["lex", "t.rs"],
         &["Lex", "t.rs", "input"],
         &["lex", "t.rs", "input", "more"],
+        &["lex", "t.rs", "input", "--shape"],
+        &["lex", "t.rs", "input", "--shape", "loop"],
+        &["lex", "t.rs", "input", "shape", "tailcall"],
+        &["lex", "t.rs", "input", "--shape", "tailcall", "more"],
+        &["gen"],
         &["gen", "t.rs", "input"],
+        &["gen", "--shape", "tailcall", "t.rs"],
+        &["mermaid"],
+        &["mermaid", "t.rs", "--shape", "tailcall"],
     ];
     for words in all {
         let case = Case {
@@ -203,18 +284,25 @@ fn tells_usage(rt: HostRuntime) -> Result<(), Fail> {
 #[test]
 fn tells_files(rt: HostRuntime) -> Result<(), Fail> {
     let source: &'static [u8] = b"enum T { }";
-    for (words, source, err) in [
-        (["lex", "none", "input"], source, "cannot read none\n"),
-        (["lex", "t.rs", "none"], source, "cannot read none\n"),
+    let torn: &'static [u8] = b"enum \xff";
+    let cases: [(&'static [&'static str], &'static [u8], &str); 8] = [
+        (&["lex", "none", "input"], source, "cannot read none\n"),
+        (&["lex", "t.rs", "none"], source, "cannot read none\n"),
+        (&["lex", "t.rs", "input"], torn, "cannot read t.rs\n"),
+        (&["lex", "none", "gone"], source, "cannot read none\n"),
+        // these are paths, where a file and an input are wanted
         (
-            ["lex", "t.rs", "input"],
-            b"enum \xff".as_slice(),
-            "cannot read t.rs\n",
+            &["lex", "--shape", "tailcall"],
+            source,
+            "cannot read --shape\n",
         ),
-        (["lex", "none", "gone"], source, "cannot read none\n"),
-    ] {
+        (&["gen", "--shape"], source, "cannot read --shape\n"),
+        (&["gen", "t.rs"], torn, "cannot read t.rs\n"),
+        (&["mermaid", "none"], source, "cannot read none\n"),
+    ];
+    for (words, source, err) in cases {
         let alloc = rt.alloc();
-        let words = self::words(alloc, words.as_slice())?;
+        let words = self::words(alloc, words)?;
         let mut files = make_shelf(alloc, source, b"")?;
         let mut out: Vec<u8> = Vec::new(alloc);
         let mut told: Vec<u8> = Vec::new(alloc);

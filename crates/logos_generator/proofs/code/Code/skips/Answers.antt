@@ -1,6 +1,6 @@
 use Rattle.std.proofs.Common.{◌≡◌, ◌<◌, length, Some, slice_get, false, ap, sym, subst, arith}
 use Rattle.std.specs.Option.{option_map_or}
-use Rattle.logos_graph.specs.Munch.{Use}
+use Rattle.logos_automaton.specs.Munch.{Use}
 use Rattle.logos_generator.specs.Code.{CodeValue}
 use Rattle.logos_generator.specs.CodeView.{skips_over, code_of}
 use Rattle.logos_generator.specs.Uses.{use_by}

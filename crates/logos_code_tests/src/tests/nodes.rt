@@ -1,7 +1,9 @@
 // The nodes of codes of patterns.
 
-use super::*;
-use crate::testing::{Fate, Rules, code_of};
+use super::codes::{Fate, Rules, code_of};
+use logos_generator::code::{Code, CodeLeaf, CodeState, Condition, Fork, Mark, NOWHERE};
+use logos_graph::byte_class::Comparisons;
+use logos_pattern::leaf::{Callback, VariantKind};
 use logos_token::token::print;
 use std::alloc::Global;
 use std::process::Abort;
@@ -157,15 +159,15 @@ fn kept(alloc: Global, code: &Code<'_>) -> Result<String, Fail> {
 /// The nodes of the code: its states, then its jump tables, its tests, and its leaves.
 fn nodes(alloc: Global, code: &Code<'_>) -> Result<String, Fail> {
     let mut text = String::new(alloc);
-    for state in &code.parts.states {
+    for state in &code.parts().states {
         push_state(alloc, &mut text, state)?;
     }
     text.push_str("| ")?;
-    for table in &code.parts.jump_tables {
+    for table in &code.parts().jump_tables {
         push_jumps(alloc, &mut text, table)?;
     }
     text.push_str("| ")?;
-    push_tests(alloc, &mut text, &code.parts.bit_tables)?;
+    push_tests(alloc, &mut text, &code.parts().bit_tables)?;
     text.push_str("| ")?;
     push_leaves(alloc, &mut text, code.leaves())?;
     Ok(text)
@@ -174,7 +176,7 @@ fn nodes(alloc: Global, code: &Code<'_>) -> Result<String, Fail> {
 /// The code of each list of rules has the nodes beside them.
 fn have_nodes(rt: &impl Abort, alloc: Global, cases: &[(Rules<'_>, &str)]) -> Result<(), Fail> {
     for case in cases {
-        let code = code_of(alloc, true, case.0)?;
+        let code = code_of(alloc, true, true, case.0)?;
         assert!(rt; nodes(alloc, &code)?.as_str() == case.1, "other nodes");
     }
     Ok(())
@@ -244,7 +246,7 @@ fn the_ninth_test_stands_in_the_second_table(rt: HostRuntime) -> Result<(), Fail
 
 /// The code of no rules keeps what its generator was given.
 fn is_kept(alloc: Global, wanted: &str) -> Result<bool, Fail> {
-    let code = code_of(alloc, true, &[])?;
+    let code = code_of(alloc, true, true, &[])?;
     Ok(kept(alloc, &code)?.as_str() == wanted)
 }
 

@@ -1,5 +1,7 @@
-use super::*;
-use logos_token::token::tokenize;
+//! Enums that are read, and the first misfits of others.
+
+use logos_parser::parser::{DefinitionKind, ReadError, read_enum};
+use logos_token::token::{Span, tokenize};
 use std::test::Fail;
 
 #[test]

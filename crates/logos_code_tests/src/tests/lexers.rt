@@ -1,7 +1,10 @@
 // Lexers of patterns.
 
-use super::*;
-use crate::testing::{Fate, Rules, code_of};
+use super::codes::{Fate, Rules, code_of};
+use logos_generator::code::Code;
+use logos_generator::machine::{Action, Item, Lexer};
+use logos_hir::leaf::LeafId;
+use logos_token::token::Span;
 use std::alloc::Global;
 use std::process::Abort;
 use std::test::Fail;
@@ -66,9 +69,12 @@ fn push_items(
     answer: Reply,
     input: &[u8],
 ) -> Result<(), Fail> {
-    let items = lex_all(alloc, code, input, |_, slice| action_of(answer, slice))?;
-    for item in &items {
-        push_item(alloc, text, item)?;
+    let lexer = Lexer::new_bytes(code, input, |_, slice| action_of(answer, slice));
+    let Ok(mut lexer) = lexer else {
+        return Err(Fail::from("the input is not UTF-8"));
+    };
+    while let Some(item) = lexer.next() {
+        push_item(alloc, text, &item)?;
     }
     Ok(())
 }
@@ -129,7 +135,7 @@ fn answers(
     rules: Rules<'_>,
     cases: &[(Ask<'_>, &str)],
 ) -> Result<(), Fail> {
-    let code = code_of(alloc, utf8_mode, rules)?;
+    let code = code_of(alloc, true, utf8_mode, rules)?;
     for case in cases {
         assert!(rt;
             answer(alloc, &code, case.0)?.as_str() == case.1,
@@ -142,7 +148,7 @@ fn answers(
 /// The code of each list of rules finds the items behind it in the input, in UTF-8 mode.
 fn find(rt: &impl Abort, alloc: Global, cases: &[(Rules<'_>, &str, &str)]) -> Result<(), Fail> {
     for case in cases {
-        let code = code_of(alloc, true, case.0)?;
+        let code = code_of(alloc, true, true, case.0)?;
         let found = answer(alloc, &code, Ask::Items(Reply::Emit, case.1.as_bytes()))?;
         assert!(rt; found.as_str() == case.2, "other items: {}", case.1);
     }
@@ -377,7 +383,7 @@ fn errors_end_between_characters(rt: HostRuntime) -> Result<(), Fail> {
 
 /// The first item, when lexer and code are gone.
 fn first_item<'i>(alloc: Global, input: &'i str) -> Result<Option<Item<'i>>, Fail> {
-    let code = code_of(alloc, true, &[("[a-z]+", 1, Fate::Token)])?;
+    let code = code_of(alloc, true, true, &[("[a-z]+", 1, Fate::Token)])?;
     let mut lexer = Lexer::new_str(&code, input, emit);
     Ok(lexer.next())
 }

@@ -1,9 +1,9 @@
 // The texts of codes of patterns.
 
-use super::{Around, text, text_in};
-use crate::testing::{Fate, Rules, code_by, code_of};
+use super::codes::{Fate, Rules, code_by, code_of};
 use logos_pattern::leaf::{Callback, InlineCallback, Leaf};
 use logos_pattern::pattern::Pattern;
+use logos_text::{Around, text, text_in};
 use logos_token::token::{Ident, Span, print, tokenize};
 use std::alloc::Global;
 use std::process::Abort;

@@ -1,0 +1,117 @@
+//! The commands that words ask for.
+
+ghost use Rattle.std.specs.Prelude.{◌≡◌, bytes_eq, map, option_map, string_bytes};
+ghost use Rattle.logos_program.specs.Commands.{asked, chart_in, command_asked, items_in, shape_in, shape_named, text_in};
+
+use logos_codegen::generator::Config;
+
+/// A command with its files.
+#[derive(Clone, Copy)]
+pub(super) enum Command<'w> {
+    /// The Rust text of the lexer that the file says.
+    Text { file: &'w str, config: Config },
+    /// The items of the input by the lexer that the file says.
+    Items {
+        file: &'w str,
+        input: &'w str,
+        config: Config,
+    },
+    /// The chart of the graph of the lexer that the file says.
+    Chart { file: &'w str },
+}
+
+/// What the words ask for, if they are a command.
+pub(super) fn command_of(words: &[String]) -> Option<Command<'_>>
+    ensures { option_map command_asked result ≡ asked (map string_bytes words.now) }
+{
+    let [name, words @ ..] = words else {
+        return None;
+    };
+    if is_word(name, "gen") {
+        return text_of(words);
+    }
+    if is_word(name, "lex") {
+        return items_of(words);
+    }
+    if is_word(name, "mermaid") {
+        return chart_of(words);
+    }
+    None
+}
+
+/// Whether the word is this text.
+fn is_word(word: &String, text: &str) -> bool
+    ensures { result ≡ bytes_eq (string_bytes word.now) text.now }
+{
+    word.as_str() == text
+}
+
+/// What the words behind `gen` ask for.
+fn text_of(words: &[String]) -> Option<Command<'_>>
+    ensures { option_map command_asked result ≡ text_in (map string_bytes words.now) }
+{
+    let [file, words @ ..] = words else {
+        return None;
+    };
+    let config = shape_of(words)?;
+    let file = file.as_str();
+    Some(Command::Text { file, config })
+}
+
+/// What the words behind `lex` ask for.
+fn items_of(words: &[String]) -> Option<Command<'_>>
+    ensures { option_map command_asked result ≡ items_in (map string_bytes words.now) }
+{
+    let [file, input, words @ ..] = words else {
+        return None;
+    };
+    let config = shape_of(words)?;
+    let (file, input) = (file.as_str(), input.as_str());
+    Some(Command::Items {
+        file,
+        input,
+        config,
+    })
+}
+
+/// What the words behind `mermaid` ask for.
+fn chart_of(words: &[String]) -> Option<Command<'_>>
+    ensures { option_map command_asked result ≡ chart_in (map string_bytes words.now) }
+{
+    match words {
+        [file] => Some(Command::Chart {
+            file: file.as_str(),
+        }),
+        _ => None,
+    }
+}
+
+/// The shape that the last words of a command name: one loop over a state where there are none.
+fn shape_of(words: &[String]) -> Option<Config>
+    ensures { result ≡ shape_in (map string_bytes words.now) }
+{
+    match words {
+        [] => Some(Config {
+            use_state_machine_codegen: true,
+        }),
+        [option, shape] if is_word(option, "--shape") => shape_by_name(shape),
+        _ => None,
+    }
+}
+
+/// The shape of this name.
+fn shape_by_name(name: &String) -> Option<Config>
+    ensures { result ≡ shape_named (string_bytes name.now) }
+{
+    if is_word(name, "state_machine") {
+        return Some(Config {
+            use_state_machine_codegen: true,
+        });
+    }
+    if is_word(name, "tailcall") {
+        return Some(Config {
+            use_state_machine_codegen: false,
+        });
+    }
+    None
+}

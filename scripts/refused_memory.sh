@@ -1,0 +1,59 @@
+#!/usr/bin/env bash
+# Refuses each request for memory of the program in turn, and looks at its answer.
+#
+# For each source and input in scripts/refused_memory each command runs once with ample memory, and then once for each of its
+# requests with just that one refused. Each time it must answer as it did, or with `out of memory`, status 3, and nothing on
+# standard output. The script fails where another answer comes, where nothing was refused, or where no refusal was told.
+#
+# It needs gcc, and the program as `rt ci` or `rt run` leaves it in crates/logos_program/out, or the first argument.
+set -euo pipefail
+
+scripts=$(cd "$(dirname "${BASH_SOURCE[0]}")" && pwd)
+program=${1:-$scripts/../crates/logos_program/out/logos_program}
+room=$(mktemp -d)
+trap 'rm -rf "$room"' EXIT
+gcc -O1 -shared -fPIC -o "$room/refuse.so" "$scripts/refused_memory/refuse.c"
+
+fail() {
+    echo "refused_memory: $1" >&2
+    exit 1
+}
+
+# Runs the program with the request of this number refused, 0 for none, and keeps what it writes and its status.
+answer() {
+    local number=$1 to=$2 status=0
+    shift 2
+    LD_PRELOAD="$room/refuse.so" REFUSE=$number REQUESTS="$room/requests" \
+        "$program" "$@" > "$to.out" 2> "$to.err" || status=$?
+    echo "$status" > "$to.status"
+}
+
+# The words of a command, with each of its requests refused in turn.
+refuse_each() {
+    local number
+    answer 0 "$room/ample" "$@"
+    local requests
+    requests=$(cat "$room/requests")
+    for ((number = 1; number <= requests; number++)); do
+        answer "$number" "$room/one" "$@"
+        refused=$((refused + 1))
+        if [ "$(cat "$room/one.status")" = 3 ] && [ ! -s "$room/one.out" ] && [ "$(cat "$room/one.err")" = "out of memory" ]; then
+            told=$((told + 1))
+        elif ! cmp -s "$room/one.status" "$room/ample.status" || ! cmp -s "$room/one.out" "$room/ample.out" \
+            || ! cmp -s "$room/one.err" "$room/ample.err"; then
+            cat "$room/one.out" "$room/one.err" >&2
+            fail "request $number of $* is answered with status $(cat "$room/one.status")"
+        fi
+    done
+}
+
+refused=0
+told=0
+for source in "$scripts"/refused_memory/*.rs; do
+    refuse_each lex "$source" "${source%.rs}.txt"
+    refuse_each gen "$source" --shape tailcall
+    refuse_each mermaid "$source"
+done
+[ "$refused" -gt 0 ] || fail "nothing was refused"
+[ "$told" -gt 0 ] || fail "no refusal was told"
+echo "refused_memory: of $refused refused requests $told end in out of memory, and $((refused - told)) change nothing"

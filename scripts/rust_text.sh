@@ -1,0 +1,69 @@
+#!/usr/bin/env bash
+# Compiles the Rust texts that `logos gen` prints and compares what they find with `logos lex`.
+#
+# Each source of scripts/rust_text/sources is printed in both shapes. rustc compiles all texts at once beside the project's small runtime,
+# and what comes of each input of scripts/rust_text/inputs is compared, item by item. A source has each attribute on a line of its own,
+# and at most one on a variant, so that a variant's place tells its leaf. Where an input is refused, since it is not UTF-8, nothing is
+# compared. The program `logos` is that which the gate has built, or the first argument. Where there is no rustc, it says so and ends well.
+set -euo pipefail
+
+root=$(cd "$(dirname "${BASH_SOURCE[0]}")/.." && pwd)
+logos=${1:-$root/crates/logos_program/out/logos_program}
+room=$(mktemp -d)
+trap 'rm -rf "$room"' EXIT
+if ! command -v rustc > /dev/null; then
+    echo "rust_text: there is no rustc here, so no printed text was compiled"
+    exit 0
+fi
+
+# A module for each source and shape, and an arm for each in `main`.
+cp "$root/scripts/rust_text/main.rs.in" "$room/main.rs"
+arms=
+for source in "$root"/scripts/rust_text/sources/*.rs; do
+    name=$(basename "$source" .rs)
+    enum=$(sed -n 's/^enum \([A-Za-z]*\) {$/\1/p' "$source")
+    skips=$(grep -c '^#\[logos(skip' "$source" || true)
+    for shape in state_machine tailcall; do
+        "$logos" gen "$source" --shape "$shape" > "$room/$name.$shape.rs"
+        { echo "mod ${name}_$shape {"
+          grep -v '^ *#\[' "$source"
+          cat "$room/$name.$shape.rs"
+          echo "pub fn lines(input: &[u8]) { super::lines::<$enum>(super::Input::of(input), |token| leaf(token)) }"
+          if grep -q '^    [A-Z]' "$source"; then
+              echo "fn leaf(token: $enum) -> usize { token as usize + $skips }"
+          else
+              echo "fn leaf(token: $enum) -> usize { match token {} }"
+          fi
+          echo "}"; } >> "$room/main.rs"
+        arms+="(\"$name\", \"$shape\") => ${name}_$shape::lines(&input), "
+    done
+done
+{ echo "fn main() {"
+  echo "let words: Vec<String> = std::env::args().collect();"
+  echo "let input = std::fs::read(&words[3]).expect(\"an input\");"
+  echo "match (words[1].as_str(), words[2].as_str()) { $arms _ => panic!(\"no such text\") }"
+  echo "}"; } >> "$room/main.rs"
+rustc --edition 2021 --crate-type rlib --crate-name logos -o "$room/liblogos.rlib" "$root/bench/lexer/rust/runtime.rs"
+rustc --edition 2021 --extern "logos=$room/liblogos.rlib" -o "$room/items" "$room/main.rs"
+
+compared=0
+for source in "$root"/scripts/rust_text/sources/*.rs; do
+    name=$(basename "$source" .rs)
+    for input in "$root"/scripts/rust_text/inputs/*; do
+        for shape in state_machine tailcall; do
+            if ! "$logos" lex "$source" "$input" --shape "$shape" > "$room/wanted" 2> "$room/said"; then
+                grep -q '^NotUtf8 ' "$room/said" || { cat "$room/said" >&2; exit 1; }
+                continue
+            fi
+            "$room/items" "$name" "$shape" "$input" > "$room/found"
+            if ! cmp -s "$room/wanted" "$room/found"; then
+                echo "rust_text: the $shape text of $name finds other items in $(basename "$input"):" >&2
+                diff "$room/wanted" "$room/found" >&2 || true
+                exit 1
+            fi
+            compared=$((compared + 1))
+        done
+    done
+done
+[ "$compared" -gt 0 ] || { echo "rust_text: nothing was compared" >&2; exit 1; }
+echo "rust_text: the compiled texts find what the lexer finds, in $compared comparisons"
