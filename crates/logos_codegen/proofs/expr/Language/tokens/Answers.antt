@@ -1,4 +1,4 @@
-use Rattle.std.proofs.Common.{◌≡◌, ◌∙◌, ap, arith, map, subst, tt}
+use Rattle.std.proofs.Common.{◌≡◌, ◌∙◌, ap, arith, map, subst, rules}
 use Rattle.std.proofs.lemmas.List.{map-append}
 use Rattle.logos_generator.specs.LexerValue.{item_of}
 use Rattle.logos_codegen.specs.Language.{IsLanguage}
@@ -24,16 +24,25 @@ loop-item-preserved c =
       same_input = keeps.input ∙ c.loop-item.invariant.same_input;
       within = rw (keeps.input ∙ c.loop-item.invariant.same_input) at given.within;
       goes_on = λ rules utf8 lexer. rw (c.in_ok-push-in-Ok.ensures.items, map-append)
-          (token_more _ (λ leaf slice answer w. ?) c.args.self.now c.args.input.now (are_bytes c.args.input.now c.type_inv.input) c.utf8.input c.loop-item.lexer c.next.new.self
+          (token_more _ (λ leaf slice answer w. search rules) c.args.self.now c.args.input.now (are_bytes c.args.input.now c.type_inv.input) c.utf8.input c.loop-item.lexer c.next.new.self
           c.loop-item.invariant.same_code c.loop-item.invariant.same_input (map token_value c.loop-item.tokens.items) c.loop-item.invariant.goes_on
           (item_of c.in-Some.item) (token_value c.in-Ok.token) given c.in-Ok.ensures.ok rules utf8 lexer);
     }
 
 pub returns-clause-reads : goal.returns-clause-reads
 returns-clause-reads c =
-    tokenized_all _ (λ leaf slice answer w. ?) c.args.self.now c.args.input.now (are_bytes c.args.input.now c.type_inv.input) c.utf8.input c.loop-item.lexer c.next.new.self
+    tokenized_all _ (λ leaf slice answer w. search rules) c.args.self.now c.args.input.now (are_bytes c.args.input.now c.type_inv.input) c.utf8.input c.loop-item.lexer c.next.new.self
     c.loop-item.invariant.same_code c.loop-item.invariant.same_input (map token_value c.loop-item.tokens.items) c.loop-item.invariant.goes_on
     (subst IsLanguage c.self.view_is c.self.invariant) c.in_default.ensures.item
 
 pub returns-clause-all : goal.returns-clause-all
 returns-clause-all c = outcome_is c.args.input.now _ (returns-clause-reads c)
+
+pub returns-in-Err-clause-reads : goal.returns-in-Err-clause-reads
+returns-in-Err-clause-reads c =
+    tokenized_bad _ (λ leaf slice answer w. search rules) c.args.self.now c.args.input.now (are_bytes c.args.input.now c.type_inv.input) c.utf8.input c.loop-item.lexer c.next.new.self
+    c.loop-item.invariant.same_code c.loop-item.invariant.same_input (map token_value c.loop-item.tokens.items) c.loop-item.invariant.goes_on
+    (subst IsLanguage c.self.view_is c.self.invariant) (item_of c.in-Some.item) c.in-Err.span.from c.in-Err.span.to c.in-Some.ensures.item c.in-Err.ensures.err
+
+pub returns-in-Err-clause-all : goal.returns-in-Err-clause-all
+returns-in-Err-clause-all c = outcome_is c.args.input.now _ (returns-in-Err-clause-reads c)
