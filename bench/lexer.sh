@@ -1,13 +1,13 @@
 #!/usr/bin/env bash
 # Measures `Lexer` beside scanners of the same rules on the same texts: those that flex and re2c make, and, where rustc is found,
-# what it makes of the Rust text that `text_in` prints for these rules. Each text has 32 MiB and is made by a script:
+# what it makes of the Rust text that `logos gen` prints for these rules, in both shapes. Each text has 32 MiB and is made by a script:
 # a program, words of forty letters, blanks alone and operators of one byte by the rules of a small language; JSON; log lines; prose in
 # several scripts. Prints a table of megabytes a second, and of the time by that of the fastest of the others. Of the runs, taken in turns,
 # the fastest of each counts; the first argument says how many, ten without it.
 #
-# It needs flex, re2c, gcc and python3, as in `apt-get install flex re2c gcc python3`, and uses rustc where it is found. The programs
-# of bench/lexer are built in a copy of the repository as `rt run` builds them, so the crates are proved first, where they are
-# not already. Their sources do not end in .rt here, since the gate refuses such files outside the crates.
+# It needs flex, re2c, gcc and python3, as in `apt-get install flex re2c gcc python3`, and uses rustc where it is found. The program
+# of bench/lexer, and `logos`, are built in a copy of the repository as `rt run` builds them, so the crates are proved first, where they
+# are not already. The former's source does not end in .rt here, since the gate refuses such files outside the crates.
 set -euo pipefail
 
 bench=$(cd "$(dirname "${BASH_SOURCE[0]}")" && pwd)
@@ -42,32 +42,35 @@ for crate in "$bench"/../crates/*/out; do
     cp -R "$crate" "$copy/crates/$name/out"
 done
 
-# NAME SOURCE CRATES ARGUMENTS ..: a program of this folder, built and run once
+# FOLDER ARGUMENTS ..: builds the program of a crate of the copy, and runs it once
 build() {
-    local crate="$copy/crates/$1"
-    echo "$1: $3" >> "$copy/crates.txt"
-    mkdir -p "$crate/src" "$crate/specs" "$crate/proofs"
-    touch "$crate/specs/Lib.antt" "$crate/proofs/Lib.antt"
-    cp "$bench/lexer/$2" "$crate/src/main.rt"
-    if ! (cd "$crate" && rt run -- "${@:4}") > "$copy/log" 2>&1; then
+    if ! (cd "$copy/crates/$1" && rt run -- "${@:2}") > "$copy/log" 2>&1; then
         tail -n 30 "$copy/log" >&2
         exit 1
     fi
 }
-build lexer_bench main.rt.in "logos_codegen logos_generator logos_pattern" "$bench/lexer/rules/json.rs" "$bench/lexer/rules/json.rs"
+echo "lexer_bench: logos_codegen logos_generator logos_pattern" >> "$copy/crates.txt"
+crate="$copy/crates/lexer_bench"
+mkdir -p "$crate/src" "$crate/specs" "$crate/proofs"
+touch "$crate/specs/Lib.antt" "$crate/proofs/Lib.antt"
+cp "$bench/lexer/main.rt.in" "$crate/src/main.rt"
+build lexer_bench "$bench/lexer/rules/json.rs" "$bench/lexer/rules/json.rs"
 
 scanners=(lexer flex re2c)
 if command -v rustc > /dev/null; then
-    scanners+=(rust)
-    build print_bench print.rt.in "logos_codegen logos_generator logos_text" "$bench/lexer/rules/json.rs" functions
+    scanners+=(tailcall state_machine)
+    build logos_program gen "$bench/lexer/rules/json.rs"
     rustc --edition 2021 -C opt-level=3 --crate-type rlib --crate-name logos -o "$copy/liblogos.rlib" "$bench/lexer/rust/runtime.rs"
     for name in program json log prose; do
-        mkdir "$copy/$name"
-        cp "$bench/lexer/rust/main.rs" "$copy/$name/main.rs"
-        { grep -v '^ *#\[' "$bench/lexer/rules/$name.rs"
-          sed -n 's/^enum \([A-Za-z]*\) {$/type Rules = \1;/p' "$bench/lexer/rules/$name.rs"; } > "$copy/$name/rules.rs"
-        "$copy/crates/print_bench/out/print_bench" "$bench/lexer/rules/$name.rs" functions > "$copy/$name/lexer.rs"
-        rustc --edition 2021 -C opt-level=3 --extern "logos=$copy/liblogos.rlib" -o "$copy/$name.rust" "$copy/$name/main.rs"
+        for shape in tailcall state_machine; do
+            folder="$copy/$name.$shape.text"
+            mkdir "$folder"
+            cp "$bench/lexer/rust/main.rs" "$folder/main.rs"
+            { grep -v '^ *#\[' "$bench/lexer/rules/$name.rs"
+              sed -n 's/^enum \([A-Za-z]*\) {$/type Rules = \1;/p' "$bench/lexer/rules/$name.rs"; } > "$folder/rules.rs"
+            "$copy/crates/logos_program/out/logos_program" gen "$bench/lexer/rules/$name.rs" --shape "$shape" > "$folder/lexer.rs"
+            rustc --edition 2021 -C opt-level=3 --extern "logos=$copy/liblogos.rlib" -o "$copy/$name.$shape" "$folder/main.rs"
+        done
     done
 fi
 
