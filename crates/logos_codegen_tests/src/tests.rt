@@ -69,9 +69,8 @@ fn kept(alloc: Global, source: &str, machine: bool) -> Result<String, Fail> {
     let is_machine = made.code.shape().use_state_machine_codegen;
     write!(text, "{is_machine} {}:", made.code.name().text)?;
     for leaf in made.code.leaves() {
-        match &leaf.kind {
+        match leaf.kind {
             VariantKind::Unit(name) => write!(text, " {}", name.text)?,
-            VariantKind::Value(name, _) => write!(text, " {}(_)", name.text)?,
             VariantKind::Skip => write!(text, " skipped")?,
         }
     }
