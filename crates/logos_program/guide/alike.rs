@@ -1,6 +1,0 @@
-enum Expr {
-    #[token("let")]
-    Let,
-    #[regex("let|var")]
-    Word,
-}

@@ -1,6 +1,0 @@
-enum Expr {
-    #[token("==")]
-    EqEq,
-    #[token("=")]
-    Eq,
-}

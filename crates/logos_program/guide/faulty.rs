@@ -1,6 +1,0 @@
-enum Expr {
-    #[regex("[0-9]*")]
-    Number,
-    #[regex("[a-z")]
-    Name,
-}
