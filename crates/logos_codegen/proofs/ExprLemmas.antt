@@ -13,10 +13,14 @@ use Rattle.logos_generator.specs.declared.machine.Action.TheVariants.{Emit, Skip
 use Rattle.logos_generator.specs.Items.{Callback, Search, Item, token, error, asks, MayAnswer, items_of, over, match, fault, NextItem, passes, gives as gives_item, fails, Items, IsNext}
 use Rattle.logos_generator.proofs.Compose.{runs_iff, next_iff}
 use Rattle.logos_generator.proofs.InOrder.{best_within, stop_within}
-use Rattle.logos_codegen.specs.Source.{IsAccepted}
+use Rattle.logos_codegen.specs.Source.{IsAccepted, IsRefused}
+use Rattle.logos_codegen.specs.Refusals.{Refuses}
+use Rattle.logos_codegen.specs.declared.refusal.Refusal.{Refusal}
+use Rattle.logos_codegen.specs.declared.refusal.Refusal.TheVariants as refusals
+use Rattle.logos_codegen.specs.declared.expr.ExprError.{ExprError}
 use Rattle.logos_codegen.specs.Language.{IsLanguage}
 use Rattle.logos_codegen.specs.declared.expr.TheConstants.{SOURCE}
-use Rattle.logos_codegen.specs.Tokenizing.{Token, Outcome, gives, bad, emits, kind_of, in_front, outcome_of, AreRead, all_read, token_read, error_read, Tokenizes}
+use Rattle.logos_codegen.specs.Tokenizing.{Token, Outcome, gives, bad, emits, kind_of, in_front, outcome_of, AreRead, all_read, token_read, error_read, Tokenizes, IsOutcome, IsRefusalOf, IsThatError}
 use Rattle.logos_codegen.proofs.AcceptLemmas.{accepted_once}
 use Rattle.logos_codegen.proofs.LexLemmas.{may_by, lexes_by}
 
@@ -44,12 +48,14 @@ module _ (rules : List Rule) (utf8 : Bool) (text : List ℕ) where
   -- one token more
   pub token_on : (tokens : List Token) (at next : ℕ) (item : Item) (t : Token) → GoesOn tokens at → IsNext rules emits utf8 text at item next →
       outcome_of (item ∷ []) ≡ gives (t ∷ []) → GoesOn (tokens ++ t ∷ []) next
-  token_on tokens at next (token leaf from to slice) t goes n e = record { on = λ rest r.
-      let u : Token = record { kind = kind_of leaf; from = from; to = to; slice = slice } in
-      let read = goes.on (token leaf from to slice ∷ rest) (token_read at leaf from to slice next rest n r) in
-      let same : u ≡ t = one_given u t e in
-      let both : in_front tokens (in_front (u ∷ []) (outcome_of rest)) ≡ in_front (tokens ++ u ∷ []) (outcome_of rest) = in_front_both tokens (u ∷ []) (outcome_of rest) in
-      (read.0, read.1, read.2 ∙ both ∙ ap (λ x. in_front (tokens ++ x ∷ []) (outcome_of rest)) same) }
+  token_on tokens at next (token leaf from to slice) t goes n e = record {
+    on = λ rest r.
+        let u : Token = record { kind = kind_of leaf; from = from; to = to; slice = slice } in
+        let read = goes.on (token leaf from to slice ∷ rest) (token_read at leaf from to slice next rest n r) in
+        let same : u ≡ t = one_given u t e in
+        let both : in_front tokens (in_front (u ∷ []) (outcome_of rest)) ≡ in_front (tokens ++ u ∷ []) (outcome_of rest) = in_front_both tokens (u ∷ []) (outcome_of rest) in
+        (read.0, read.1, read.2 ∙ both ∙ ap (λ x. in_front (tokens ++ x ∷ []) (outcome_of rest)) same);
+  }
   token_on tokens at next (error leaf from to slice) t goes n e = absurd (cc)
 
   -- the first error
@@ -113,7 +119,7 @@ module _ (rules : List Rule) (utf8 : Bool) (text : List ℕ) where
       let a : answer ≡ Emit = answer_is leaf (slice_range text from to) answer m in
       let b : reply ≡ Emit = answer_is other (slice_range text from end) reply n in
       ap (λ x. items_of uses_of emits text x other from end) (b ∙ sym a) ∙ ap (λ x. items_of uses_of emits text answer x from end) (sym l)
-          ∙ ap (λ x. items_of uses_of emits text answer leaf from x) (sym t)
+      ∙ ap (λ x. items_of uses_of emits text answer leaf from x) (sym t)
 
   one_end : (from leaf to other end : ℕ) → from ≤ length text → Finds rules utf8 text from (matched leaf to) → Finds rules utf8 text from (matched other end) → matched leaf to ≡ matched other end
   one_end from leaf to other end inside s t = finds_one rules utf8 text from inside (matched leaf to) (matched other end) s t
@@ -182,9 +188,8 @@ module _ (rules : List Rule) (utf8 : Bool) (text : List ℕ) where
       ap outcome_of (sym b.are)
 
 -- the outcome of a text is that of all its items
-pub outcome_is : (text : List ℕ) (outcome : Outcome) → Tokenizes text outcome → (rules : List Rule) (utf8 : Bool) (items : List Item) →
-    IsAccepted SOURCE.now rules utf8 → Items rules emits utf8 text 0 items → outcome ≡ outcome_of items
-outcome_is text outcome t rules utf8 items a all =
+pub outcome_is : (text : List ℕ) (outcome : Outcome) → Tokenizes text outcome → IsOutcome text outcome
+outcome_is text outcome t = λ rules utf8 items a all.
     let same = accepted_once SOURCE.now rules t.rules utf8 t.utf8 a t.accepted in
     let all' : Items t.rules emits t.utf8 text 0 items = rw (← same.0, ← same.1) all in
     t.is ∙ read_outcome t.rules t.utf8 text (omega arith) t.read all'
@@ -216,3 +221,8 @@ module _ {C : Type 0} (callback : Callback) (answers : (leaf : ℕ) (slice : Lis
       let over : Runs code callback text old.to [] = rw (same_code, same_input) at g.over in
       let read = end_on l.rules l.utf8 text tokens old.to (goes_on l.rules l.utf8 l.lexer) (none_emitted l.rules l.utf8 code text l.lexer (bytes, λ t. valid) callback answers old.to over) in
       record { rules = l.rules; utf8 = l.utf8; accepted = l.accepted; items = read.0; read = read.1; is = sym read.2 }
+
+-- why there is no tokenizer
+pub refusal_of : (refusal : Refusal) (error : ExprError) → IsThatError refusal error → Refuses (IsRefused SOURCE.now) refusal → IsRefusalOf error
+refusal_of (refusals.Errors faults) error e r = rw e (faults, r)
+refusal_of refusals.Memory error e r = rw e tt

@@ -5,3 +5,4 @@ pub mod Listing
 pub mod AcceptLemmas
 pub mod GraphLemmas
 pub mod LexLemmas
+pub mod ExprLemmas

@@ -5,6 +5,7 @@ use Rattle.logos_automaton.specs.Munch.{Rule}
 use Rattle.logos_generator.specs.Items.{Callback, Item, token, error, Items, IsNext}
 use Rattle.logos_generator.specs.declared.machine.Action.TheVariants.{Emit}
 use Rattle.logos_codegen.specs.Source.{IsAccepted, IsRefused}
+use Rattle.logos_lexeme.specs.declared.lexeme.Span.{Span}
 use Rattle.logos_token.specs.Faults.{Fault as ListedFault}
 use Rattle.logos_codegen.specs.declared.refusal.Refusal.{Refusal}
 use Rattle.logos_codegen.specs.declared.refusal.Refusal.TheVariants as refusals
@@ -54,6 +55,14 @@ outcome_of (token leaf from to slice ∷ items) =
     in_front (record { kind = kind_of leaf; from = from; to = to; slice = slice } ∷ []) (outcome_of items)
 outcome_of (error leaf from to slice ∷ items) = bad from to
 
+-- the item is this token
+abbrev pub IsToken : Item → ExprToken → Type 0
+IsToken item t = outcome_of (item ∷ []) ≡ gives (token_value t ∷ [])
+
+-- the item is an error at this span
+abbrev pub IsErrorAt : Item → Span → Type 0
+IsErrorAt item span = outcome_of (item ∷ []) ≡ bad span.from span.to
+
 -- Of the items of a text from a place on, those that the outcome needs: all of them, where no error is among them, and else those
 -- up to the first error. Each is the next one behind the one before it.
 pub data AreRead (rules : List Rule) (utf8 : Bool) (text : List ℕ) : ℕ → List Item → Type 0 where
@@ -72,6 +81,10 @@ pub record Tokenizes (text : List ℕ) (outcome : Outcome) : Type 0 where
   pub items : List Item
   pub read : AreRead rules utf8 text 0 items
   pub is : outcome ≡ outcome_of items
+
+-- whatever list of items is that of the text, by the leaves of the enum, this is its outcome
+abbrev pub IsOutcome : List ℕ → Outcome → Type 0
+IsOutcome text outcome = (rules : List Rule) (utf8 : Bool) (items : List Item) → IsAccepted SOURCE.now rules utf8 → Items rules emits utf8 text 0 items → outcome ≡ outcome_of items
 
 -- the answer is an outcome of which this holds, or memory ran out
 abbrev pub Answers : (Outcome → Type 0) → Result (Vec ExprToken Global) ExprError → Type 0

@@ -1,13 +1,10 @@
 //! A tokenizer of expressions that stands on the library: what a front end makes of `generate` and
 //! `Lexer`, by their contracts alone.
 
-ghost use Rattle.std.specs.Prelude.{◌≡◌, ◌∷◌, [], Bool, List, IfOk, IfErr};
-ghost use Rattle.logos_automaton.specs.Munch.{Rule};
-ghost use Rattle.logos_generator.specs.Items.{Item as ItemValue, Items};
+ghost use Rattle.std.specs.Prelude.{◌≡◌, IfOk, IfErr};
 ghost use Rattle.logos_generator.specs.LexerValue.{item_of};
-ghost use Rattle.logos_codegen.specs.Source.{IsAccepted};
 ghost use Rattle.logos_codegen.specs.Language.{IsLanguage};
-ghost use Rattle.logos_codegen.specs.Tokenizing.{kind_of, token_value, emits, outcome_of, gives, bad, Tokenizes, Answers, IsRefusalOf};
+ghost use Rattle.logos_codegen.specs.Tokenizing.{kind_of, IsToken, IsErrorAt, Tokenizes, IsOutcome, Answers, IsRefusalOf};
 
 use crate::generation::generate;
 use crate::refusal::Refusal;
@@ -153,16 +150,11 @@ impl Language {
     /// `Bad` comes where something else stands in the text, with the span of the first such error: it
     /// reaches over the longest beginning of a token, or over one character. `Memory` comes where
     /// memory runs out.
-    pub fn tokens<'i>(
-        &self,
-        alloc: Global,
-        input: &'i str,
-    ) -> Result<Vec<ExprToken<'i>>, ExprError>
+    pub fn tokens<'i>(&self, alloc: Global, input: &'i str) -> Result<Vec<ExprToken<'i>>, ExprError>
         // What comes is said by the items of maximal munch from the start of the text on.
         ensures reads { Answers (Tokenizes input.now) result }
         // It is the outcome of all the items of the text, by the leaves of the enum.
-        ensures all { (rules : List Rule) (utf8 : Bool) (items : List ItemValue) → IsAccepted SOURCE.now rules utf8 →
-            Items rules emits utf8 input.now 0 items → Answers (λ outcome. outcome ≡ outcome_of items) result }
+        ensures all { Answers (IsOutcome input.now) result }
     {
         let mut tokens = Vec::new(alloc);
         let mut lexer = Lexer::new_str(&self.code, input, |_leaf, _slice: &[u8]| Action::Emit);
@@ -178,8 +170,8 @@ impl Language {
 
 /// The token that an item is, or the span of an error.
 fn token_of(item: Item<'_>) -> Result<ExprToken<'_>, Span>
-    ensures ok { IfOk result (λ token. outcome_of (item_of item.entry ∷ []) ≡ gives (token_value token ∷ [])) }
-    ensures err { IfErr result (λ span. outcome_of (item_of item.entry ∷ []) ≡ bad span.from span.to) }
+    ensures ok { IfOk result (IsToken (item_of item.entry)) }
+    ensures err { IfErr result (IsErrorAt (item_of item.entry)) }
 {
     match item {
         Item::Token { leaf, span, slice } => Ok(ExprToken {

@@ -35,12 +35,7 @@ fn are_tokens(tokens: &[ExprToken<'_>], wanted: &[Wanted], input: &str) -> bool 
 }
 
 /// Whether the text gives these tokens.
-fn gives(
-    alloc: Global,
-    language: &Language,
-    input: &str,
-    wanted: &[Wanted],
-) -> Result<bool, Fail> {
+fn gives(alloc: Global, language: &Language, input: &str, wanted: &[Wanted]) -> Result<bool, Fail> {
     match language.tokens(alloc, input) {
         Ok(tokens) => Ok(are_tokens(tokens.as_slice(), wanted, input)),
         Err(ExprError::Memory) => Err("memory ran out".into()),
@@ -98,13 +93,13 @@ fn reads_expressions(rt: HostRuntime) -> Result<(), Fail> {
                 (ExprKind::Name, 7, 9),
             ],
         ),
-        (
-            "12let",
-            &[(ExprKind::Number, 0, 2), (ExprKind::Let, 2, 5)],
-        ),
+        ("12let", &[(ExprKind::Number, 0, 2), (ExprKind::Let, 2, 5)]),
     ];
     for (input, wanted) in rows {
-        assert!(rt; gives(alloc, &language, input, wanted)?, "other tokens: {input}");
+        assert!(rt;
+            gives(alloc, &language, input, wanted)?,
+            "other tokens: {input}"
+        );
     }
     let faulty: [(&str, usize, usize); 4] = [
         ("1.5", 1, 2),
@@ -113,7 +108,10 @@ fn reads_expressions(rt: HostRuntime) -> Result<(), Fail> {
         ("X", 0, 1),
     ];
     for (input, from, to) in faulty {
-        assert!(rt; is_bad(alloc, &language, input, Span { from, to })?, "no such error: {input}");
+        assert!(rt;
+            is_bad(alloc, &language, input, Span { from, to })?,
+            "no such error: {input}"
+        );
     }
     Ok(())
 }

@@ -1,0 +1,6 @@
+enum Expr {
+    #[token("let")]
+    Let,
+    #[regex("let|var")]
+    Word,
+}

@@ -1,0 +1,6 @@
+enum Expr {
+    #[token("==")]
+    EqEq,
+    #[token("=")]
+    Eq,
+}

@@ -1,0 +1,6 @@
+enum Expr {
+    #[regex("[0-9]*")]
+    Number,
+    #[regex("[a-z")]
+    Name,
+}
