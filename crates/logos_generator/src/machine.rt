@@ -234,4 +234,3 @@ fn answer<C: Fn(LeafId, &[u8]) -> Action>(
         Action::Emit
     }
 }
-
