@@ -49,7 +49,11 @@ impl Generated<'_> {
     pub fn text(&self, alloc: Global) -> Result<String, Memory>
         ensures { IfOk result (λ text. StandInOrder (texts_of self.now.code) (string_bytes text)) }
     {
-        let source = if self.graph.utf8_mode() { "str" } else { "[ u8 ]" };
+        let source = if self.graph.utf8_mode() {
+            "str"
+        } else {
+            "[ u8 ]"
+        };
         let around = Around {
             logos: ":: logos",
             error: "( )",

@@ -14,8 +14,7 @@ ghost use Rattle.logos_codegen.specs.Refusals.{Refuses, MatchReadError};
 use crate::refusal::Refusal;
 use logos_parser::parser::{ItemEnum, ReadError, read_enum};
 use logos_token::error::{Errors, FaultCode};
-use logos_token::token::lexeme::LexicalKind;
-use logos_token::token::{Span, TokenError, TokenStream, tokenize};
+use logos_token::token::{LexicalKind, Span, TokenError, TokenStream, tokenize};
 use std::alloc::Global;
 
 // The refusal with one fault.

@@ -237,4 +237,3 @@ fn answer<C: Fn(LeafId, &[u8]) -> Action>(
         Action::Emit
     }
 }
-

@@ -107,7 +107,7 @@ module _ (table : Table) (graph : List GraphState) (shows : Shows table graph) (
       let p = there lists s l in
       let at : p.0 ≡ get_or lists s p.0 = sym (get_or_from_slice_get lists s p.0 p.0 p.1) in
       let same : p.0.items ≡ numbers =
-        ap (λ (v : Vec ℕ Global). v.items) at ∙ sym (get_or-map (λ (v : Vec ℕ Global). v.items) lists s p.0 [] l) ∙ sym is
+      ap (λ (v : Vec ℕ Global). v.items) at ∙ sym (get_or-map (λ (v : Vec ℕ Global). v.items) lists s p.0 [] l) ∙ sym is
       in
       subst (AreBackward graph s) same (backward_here s within p.0 at)
 

@@ -8,7 +8,6 @@ mod value;
 mod views;
 
 pub use laws::{prints_back, prints_runs_back};
-pub use logos_lexeme::lexeme;
 pub use logos_lexeme::lexeme::{Delimiter, LexicalKind, Spacing, Span};
 pub use printing::print;
 pub use reader::{TokenError, spelled_in_order, spells_once, tokenize};

@@ -7,7 +7,7 @@ mod escaping;
 
 use crate::error::Memory;
 use crate::token::{Ident, Spacing, Span, TokenStream, TokenTree, print};
-pub use escaping::push_escaped;
+pub(crate) use escaping::push_escaped;
 use std::alloc::Global;
 use std::mem;
 

@@ -57,11 +57,11 @@ pub held_at_end : (l : Look) (bytes rest : List ℕ) (b : ℕ) → is_word (Some
     Holds l (bytes ++ b ∷ rest) (length bytes) → Holds l bytes (length bytes)
 held_at_end l bytes rest b w lf cr h =
     let there : IsTrue (holds_between l (byte_before bytes (length bytes)) (Some b)) =
-      subst (λ (after : Option ℕ). IsTrue (holds_between l (byte_before bytes (length bytes)) after)) (after_there bytes rest b)
-        (subst (λ (before : Option ℕ). IsTrue (holds_between l before (byte_after (bytes ++ b ∷ rest) (length bytes)))) (before_same bytes (b ∷ rest) (length bytes) (omega arith)) h)
+    subst (λ (after : Option ℕ). IsTrue (holds_between l (byte_before bytes (length bytes)) after)) (after_there bytes rest b)
+    (subst (λ (before : Option ℕ). IsTrue (holds_between l before (byte_after (bytes ++ b ∷ rest) (length bytes)))) (before_same bytes (b ∷ rest) (length bytes) (omega arith)) h)
     in
     subst (λ (after : Option ℕ). IsTrue (holds_between l (byte_before bytes (length bytes)) after)) (sym (slice_get_past bytes (length bytes) (omega arith)))
-      (holds_at_end l (byte_before bytes (length bytes)) b w lf cr there)
+    (holds_at_end l (byte_before bytes (length bytes)) b w lf cr there)
 
 -- no byte stands on an empty span
 pub no_text : (text bytes : List ℕ) (at : ℕ) → 0 < length text → StandsAt text bytes at at → ⊥
