@@ -1,6 +1,6 @@
 -- From a lexer's items to what the tokenizer of expressions makes of them.
-use Rattle.std.proofs.Common.{◌≡◌, ℕ, ◌<◌, ◌≤◌, Bool, true, false, List, [], ◌∷◌, ◌++◌, length, map, slice_range, refl, sym, ap, ◌∙◌, append_assoc, append-nil, MatchBool, arith, Option, None, IsTrue, IsUtf8}
-use Rattle.logos_automaton.specs.Munch.{Use, Rule, Found, ended, matched, failed, Finds}
+use Rattle.std.proofs.Common.{◌≡◌, ℕ, ◌≤◌, Bool, true, false, List, [], ◌∷◌, ◌++◌, length, map, slice_range, refl, sym, ap, ◌∙◌, append_assoc, append-nil, MatchBool, arith, None, IsUtf8}
+use Rattle.logos_automaton.specs.Munch.{Use, Rule, ended, matched, failed, Finds}
 use Rattle.logos_automaton.proofs.munch.Unique.{finds_one}
 use Rattle.logos_graph.specs.Found.{IsInput}
 use Rattle.logos_hir.specs.Text.{IsBytes}
@@ -13,7 +13,7 @@ use Rattle.logos_generator.specs.declared.machine.Action.TheVariants.{Emit, Skip
 use Rattle.logos_generator.specs.Items.{Callback, Search, Item, token, error, asks, MayAnswer, items_of, over, match, fault, NextItem, passes, gives as gives_item, fails, Items, IsNext}
 use Rattle.logos_generator.proofs.Compose.{runs_iff, next_iff}
 use Rattle.logos_generator.proofs.InOrder.{best_within, stop_within}
-use Rattle.logos_codegen.specs.Source.{IsAccepted, IsRefused}
+use Rattle.logos_codegen.specs.Source.{IsRefused}
 use Rattle.logos_codegen.specs.Refusals.{Refuses}
 use Rattle.logos_codegen.specs.declared.refusal.Refusal.{Refusal}
 use Rattle.logos_codegen.specs.declared.refusal.Refusal.TheVariants as refusals
@@ -223,6 +223,6 @@ module _ {C : Type 0} (callback : Callback) (answers : (leaf : ℕ) (slice : Lis
       record { rules = l.rules; utf8 = l.utf8; accepted = l.accepted; items = read.0; read = read.1; is = sym read.2 }
 
 -- why there is no tokenizer
-pub refusal_of : (refusal : Refusal) (error : ExprError) → IsThatError refusal error → Refuses (IsRefused SOURCE.now) refusal → IsRefusalOf error
-refusal_of (refusals.Errors faults) error e r = rw e (faults, r)
-refusal_of refusals.Memory error e r = rw e tt
+pub refusal_of : (refusal : Refusal) (why : ExprError) → IsThatError refusal why → Refuses (IsRefused SOURCE.now) refusal → IsRefusalOf why
+refusal_of (refusals.Errors faults) why e r = rw e (faults, r)
+refusal_of refusals.Memory why e r = rw e tt

@@ -101,5 +101,5 @@ IsRefusalOf errors.Memory = Unit {0}
 
 -- the refusal of a source, as an error of the tokenizer
 abbrev pub IsThatError : Refusal → ExprError → Type 0
-IsThatError (refusals.Errors faults) error = error ≡ errors.Refused
-IsThatError refusals.Memory error = error ≡ errors.Memory
+IsThatError (refusals.Errors faults) e = e ≡ errors.Refused
+IsThatError refusals.Memory e = e ≡ errors.Memory

@@ -1,4 +1,4 @@
-use Rattle.std.proofs.Common.{◌≡◌, ◌∙◌, ap, arith, map, subst, rules}
+use Rattle.std.proofs.Common.{◌∙◌, ap, arith, map, subst, rules}
 use Rattle.std.proofs.lemmas.List.{map-append}
 use Rattle.logos_generator.specs.LexerValue.{item_of}
 use Rattle.logos_codegen.specs.Language.{IsLanguage}
