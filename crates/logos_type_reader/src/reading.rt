@@ -11,8 +11,8 @@ ghost use Rattle.logos_type.specs.TypeTrees.{type_tree};
 ghost use Rattle.logos_type_reader.specs.TypeExprs.{IsTypeExpr, NoTypeExpr};
 
 use crate::table::{Place, Spot, Step, Stop, begin, next_at, read_name};
-use logos_type::{Leaf, Part, TypeExpr};
 use logos_token::token::{Span, TokenTree, Tokens};
+use logos_type::{Leaf, Part, TypeExpr};
 use std::alloc::{AllocError, AllocFailed, Global};
 
 /// Why a run does not begin with a type.

@@ -9,7 +9,10 @@ use logos_codegen::generator::Config;
 #[derive(Clone, Copy)]
 pub(super) enum Command<'w> {
     /// The Rust text of the lexer that the file says.
-    Text { file: &'w str, config: Config },
+    Text {
+        file: &'w str,
+        config: Config,
+    },
     /// The items of the input by the lexer that the file says.
     Items {
         file: &'w str,
@@ -17,7 +20,9 @@ pub(super) enum Command<'w> {
         config: Config,
     },
     /// The chart of the graph of the lexer that the file says.
-    Chart { file: &'w str },
+    Chart {
+        file: &'w str,
+    },
 }
 
 /// What the words ask for, if they are a command.

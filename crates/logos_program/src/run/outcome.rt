@@ -72,11 +72,7 @@ fn items<'w, F: Files>(
 }
 
 /// The chart of a source's graph, once each state is told apart from the next.
-fn chart<'w, F: Files>(
-    alloc: Global,
-    file: &'w str,
-    files: &mut F,
-) -> Result<String, Failure<'w>> {
+fn chart<'w, F: Files>(alloc: Global, file: &'w str, files: &mut F) -> Result<String, Failure<'w>> {
     let source = read_text(file, files)?;
     let config = Config {
         use_state_machine_codegen: true,
@@ -99,12 +95,7 @@ fn test_neighbours(alloc: Global, graph: &Graph<'_>) -> Result<(), Failure<'stat
 }
 
 /// Refuses two different states that nothing tells apart.
-fn test_pair(
-    alloc: Global,
-    graph: &Graph<'_>,
-    s: State,
-    t: State,
-) -> Result<(), Failure<'static>> {
+fn test_pair(alloc: Global, graph: &Graph<'_>, s: State, t: State) -> Result<(), Failure<'static>> {
     let is_pair = graph.contains(s) & graph.contains(t);
     if !is_pair || s.index() == t.index() {
         return Ok(());

@@ -177,7 +177,8 @@ fn refuses(rt: HostRuntime) -> Result<(), Fail> {
 }
 
 /// The chart of a text's graph.
-const ROPE: &str = "flowchart TB\nn0[\"State 0\"]\nstyle n0 stroke:#000000\nen0n1{\"r\"}\nstyle en0n1 stroke:#000000\nn0-->en0n1\nen0n1-->n1\nn1[\"State 1\"]\nstyle n1 stroke:#000000\nen1n2{\"o\"}\nstyle en1n2 stroke:#000000\nn1-->en1n2\nen1n2-->n2\nn2[\"State 2\"]\nstyle n2 stroke:#000000\nen2n3{\"p\"}\nstyle en2n3 stroke:#000000\nn2-->en2n3\nen2n3-->n3\nn3[\"State 3\"]\nstyle n3 stroke:#000000\nen3n4{\"e\"}\nstyle en3n4 stroke:#000000\nn3-->en3n4\nen3n4-->n4\nn4[\"State 4<br>early(0)\"]\nstyle n4 stroke:#00C853\n";
+const ROPE: &str =
+    "flowchart TB\nn0[\"State 0\"]\nstyle n0 stroke:#000000\nen0n1{\"r\"}\nstyle en0n1 stroke:#000000\nn0-->en0n1\nen0n1-->n1\nn1[\"State 1\"]\nstyle n1 stroke:#000000\nen1n2{\"o\"}\nstyle en1n2 stroke:#000000\nn1-->en1n2\nen1n2-->n2\nn2[\"State 2\"]\nstyle n2 stroke:#000000\nen2n3{\"p\"}\nstyle en2n3 stroke:#000000\nn2-->en2n3\nen2n3-->n3\nn3[\"State 3\"]\nstyle n3 stroke:#000000\nen3n4{\"e\"}\nstyle en3n4 stroke:#000000\nn3-->en3n4\nen3n4-->n4\nn4[\"State 4<br>early(0)\"]\nstyle n4 stroke:#00C853\n";
 
 #[test]
 fn charts(rt: HostRuntime) -> Result<(), Fail> {
@@ -204,12 +205,7 @@ fn charts(rt: HostRuntime) -> Result<(), Fail> {
 }
 
 /// What `gen` with these words behind the file writes for the source.
-fn text_of(
-    rt: &impl Abort,
-    alloc: Global,
-    source: &str,
-    shape: &[&str],
-) -> Result<Vec<u8>, Fail> {
+fn text_of(rt: &impl Abort, alloc: Global, source: &str, shape: &[&str]) -> Result<Vec<u8>, Fail> {
     let mut words = words(alloc, &["gen", "t.rs"])?;
     for word in shape {
         words.push(String::from_str(alloc, word)?)?;
@@ -227,10 +223,14 @@ fn prints_texts(rt: HostRuntime) -> Result<(), Fail> {
         "enum T { #[regex(\"[a-z]+\")] A }",
         "#[logos(utf8 = false)] enum T { #[regex(\"[a-z]+\")] A }",
     );
-    let by_states = "if ( matches ! ( byte , b'a' ..= b'z' ) ) { offset += 1 ; state = LogosState :: State1 ; continue ; }";
-    let by_functions = "if ( matches ! ( byte , b'a' ..= b'z' ) ) { offset += 1 ; return state1 ( lex , offset , context ) ; }";
-    let head = "impl < 's > :: logos :: Logos < 's > for T { type Error = ( ) ; type Extras = ( ) ; type Source = str ; ";
-    let bytes_head = "impl < 's > :: logos :: Logos < 's > for T { type Error = ( ) ; type Extras = ( ) ; type Source = [ u8 ] ; ";
+    let by_states =
+        "if ( matches ! ( byte , b'a' ..= b'z' ) ) { offset += 1 ; state = LogosState :: State1 ; continue ; }";
+    let by_functions =
+        "if ( matches ! ( byte , b'a' ..= b'z' ) ) { offset += 1 ; return state1 ( lex , offset , context ) ; }";
+    let head =
+        "impl < 's > :: logos :: Logos < 's > for T { type Error = ( ) ; type Extras = ( ) ; type Source = str ; ";
+    let bytes_head =
+        "impl < 's > :: logos :: Logos < 's > for T { type Error = ( ) ; type Extras = ( ) ; type Source = [ u8 ] ; ";
     let cases: [(&str, &[&str], &str, &str); 4] = [
         (letters, &[], head, by_states),
         (letters, &["--shape", "state_machine"], head, by_states),

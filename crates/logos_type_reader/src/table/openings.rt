@@ -7,8 +7,8 @@ ghost use Rattle.logos_type_reader.specs.ReadingViews.{IsFirst};
 
 use crate::table::place::{Behind, Binder, First, Opening, PathKind, Place, Spot, Stop};
 use crate::table::tokens::{begins_mark, behind_colons, first_span, goes_on, split};
-use logos_type::Leaf;
 use logos_token::token::{Delimiter, Group, Ident, Punct, TokenTree, Tokens};
+use logos_type::Leaf;
 
 /// This token, which types that are left out do not have alone, and behind it this place.
 fn start<'t, 's>(

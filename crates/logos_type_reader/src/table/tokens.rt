@@ -6,8 +6,8 @@ ghost use Rattle.logos_type_reader.specs.Table.{first_span, begins_colons, begin
 ghost use Rattle.logos_type_reader.specs.ReadingViews.{behind_of, IsStep};
 
 use crate::table::place::{Behind, Next, Place, Spot, Step, Stop};
-use logos_type::Leaf;
 use logos_token::token::{Delimiter, Group, Spacing, Span, TokenTree, Tokens};
+use logos_type::Leaf;
 
 /// The first tree, and the trees behind it.
 pub(super) fn split<'t, 's>(tokens: Tokens<'t, 's>) -> Option<(TokenTree<'t, 's>, Tokens<'t, 's>)>
