@@ -12,9 +12,9 @@ use Rattle.logos_program.specs.declared.run.Failure.TheVariants.{Read, Write, Re
 
 -- What the words ask for: the Rust text of the lexer in a file, the items of an input by it, or the chart of its graph.
 pub data Asked : Type 0 where
-  pub asks_text : (file : List ℕ) → (shape : Config) → Asked
-  pub asks_items : (file input : List ℕ) → (shape : Config) → Asked
-  pub asks_chart : (file : List ℕ) → Asked
+  asks_text : (file : List ℕ) → (shape : Config) → Asked
+  asks_items : (file input : List ℕ) → (shape : Config) → Asked
+  asks_chart : (file : List ℕ) → Asked
 
 -- the shape of a name
 abbrev pub shape_named : List ℕ → Option Config
