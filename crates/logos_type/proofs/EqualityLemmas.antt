@@ -28,12 +28,13 @@ next_differs xs ys k p q h i e f same = heads (fronts xs ys k p q h i e f same)
 -- the next of them are the same
 pub next_same : (xs ys : List Part) (k : ℕ) (p q : Part) → k < length xs → k < length ys → p ≡ get_or xs k p → q ≡ get_or ys k q → tree_of p ≡ tree_of q →
     SameFrom k xs ys ↔ SameFrom (k + 1) xs ys
-next_same xs ys k p q h i e f one =
-    ( λ same. tails (fronts xs ys k p q h i e f same),
-    λ same. list_front xs k p h e
-    ∙ ap (λ (t : Tree). t ∷ map tree_of (drop (k + 1) xs)) one
-    ∙ ap (λ (ts : List Tree). tree_of q ∷ ts) same
-    ∙ sym (list_front ys k q i f) )
+next_same xs ys k p q h i e f one = (
+  λ same. tails (fronts xs ys k p q h i e f same),
+  λ same. list_front xs k p h e
+      ∙ ap (λ (t : Tree). t ∷ map tree_of (drop (k + 1) xs)) one
+      ∙ ap (λ (ts : List Tree). tree_of q ∷ ts) same
+      ∙ sym (list_front ys k q i f),
+)
 
 -- nothing is left of either
 pub both_ended : (xs ys : List Part) (k : ℕ) → length xs ≤ k → length xs ≡ length ys → SameFrom k xs ys
@@ -61,13 +62,15 @@ inside_still e = cc
 pub same_whole : {r : Bool} (p q : Part) (ps qs : Vec Part Global) → p ≡ Whole ps → q ≡ Whole qs → IsTrue r ↔ (map tree_of ps.items ≡ map tree_of qs.items) → IsTrue r ↔ (tree_of p ≡ tree_of q)
 same_whole p q ps qs e f h =
     let a : tree_of p ≡ whole (trees (map tree_of ps.items)) = ap tree_of e ∙ tree-Whole ps in
-    let b : tree_of q ≡ whole (trees (map tree_of qs.items)) = ap tree_of f ∙ tree-Whole qs in
-    ( λ t. a ∙ ap (λ (ts : List Tree). whole (trees ts)) (h.0 t) ∙ sym b,
-    λ s. h.1 (one_list _ _ (inside_whole (sym a ∙ s ∙ b))) )
+    let b : tree_of q ≡ whole (trees (map tree_of qs.items)) = ap tree_of f ∙ tree-Whole qs in (
+      λ t. a ∙ ap (λ (ts : List Tree). whole (trees ts)) (h.0 t) ∙ sym b,
+      λ s. h.1 (one_list _ _ (inside_whole (sym a ∙ s ∙ b))),
+    )
 
 pub same_still : {r : Bool} (p q : Part) (ps qs : Vec Part Global) → p ≡ Still ps → q ≡ Still qs → IsTrue r ↔ (map tree_of ps.items ≡ map tree_of qs.items) → IsTrue r ↔ (tree_of p ≡ tree_of q)
 same_still p q ps qs e f h =
     let a : tree_of p ≡ still (trees (map tree_of ps.items)) = ap tree_of e ∙ tree-Still ps in
-    let b : tree_of q ≡ still (trees (map tree_of qs.items)) = ap tree_of f ∙ tree-Still qs in
-    ( λ t. a ∙ ap (λ (ts : List Tree). still (trees ts)) (h.0 t) ∙ sym b,
-    λ s. h.1 (one_list _ _ (inside_still (sym a ∙ s ∙ b))) )
+    let b : tree_of q ≡ still (trees (map tree_of qs.items)) = ap tree_of f ∙ tree-Still qs in (
+      λ t. a ∙ ap (λ (ts : List Tree). still (trees ts)) (h.0 t) ∙ sym b,
+      λ s. h.1 (one_list _ _ (inside_still (sym a ∙ s ∙ b))),
+    )

@@ -287,9 +287,7 @@ fn disagreement(
     if text.as_str() == wanted.as_str() {
         return Ok(None);
     }
-    Ok(Some(
-        format!(in alloc; "{source}: {text}, wanted {wanted}\n")?,
-    ))
+    Ok(Some(format!(in alloc; "{source}: {text}, wanted {wanted}\n")?))
 }
 
 /// What is said of the base with one change, or with two of which the second is at most six pieces behind the first, where the plain

@@ -8,8 +8,8 @@ ghost use Rattle.logos_type_reader.specs.ReadingViews.{behind_of, IsStep};
 use crate::table::paths::{close, path_step};
 use crate::table::place::{Behind, Binder, BoundKind, Next, PathKind, Place, Step};
 use crate::table::tokens::{begins_bound, misfit, open, split, take};
-use logos_type::Leaf;
 use logos_token::token::{Delimiter, TokenTree, Tokens};
+use logos_type::Leaf;
 
 /// The place behind a bound.
 fn behind_bound(kind: BoundKind) -> Place

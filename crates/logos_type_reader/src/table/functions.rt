@@ -7,8 +7,8 @@ ghost use Rattle.logos_type_reader.specs.ReadingViews.{behind_of, IsStep};
 use crate::table::paths::close;
 use crate::table::place::{Behind, Next, Place, Step};
 use crate::table::tokens::{bar, behind_dots, is_typing, misfit, open, split, take};
-use logos_type::Leaf;
 use logos_token::token::{Delimiter, TokenTree, Tokens};
+use logos_type::Leaf;
 
 /// Behind `extern` and its literal.
 pub(super) fn linked_step<'t, 's>(run: Tokens<'t, 's>, behind: Behind<'t, 's>) -> Next<'t, 's>

@@ -7,8 +7,8 @@ ghost use Rattle.logos_type_reader.specs.ReadingViews.{behind_of, IsStep};
 use crate::table::paths::close;
 use crate::table::place::{Behind, Next, PathKind, Place, Step};
 use crate::table::tokens::{behind_colons, keep, misfit, split, take};
-use logos_type::Leaf;
 use logos_token::token::{Delimiter, TokenTree, Tokens};
+use logos_type::Leaf;
 
 /// Behind `&` and its lifetime.
 pub(super) fn referent_step<'t, 's>(run: Tokens<'t, 's>, behind: Behind<'t, 's>) -> Next<'t, 's>

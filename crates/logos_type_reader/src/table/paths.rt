@@ -9,8 +9,8 @@ use crate::table::place::{Behind, Next, PathKind, Place, Step};
 use crate::table::tokens::{
     bar, begins_mark, behind_arrow, behind_colons, is_typing, keep, misfit, nest, open, split, take,
 };
-use logos_type::Leaf;
 use logos_token::token::{Delimiter, TokenTree, Tokens};
+use logos_type::Leaf;
 
 /// What the path is once it has had arguments.
 fn argued(kind: PathKind) -> PathKind

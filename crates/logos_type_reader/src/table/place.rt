@@ -1,7 +1,7 @@
 //! The places inside a type, and what may come next there.
 
-use logos_type::Leaf;
 use logos_token::token::{Span, Tokens};
+use logos_type::Leaf;
 
 /// What a path is.
 #[derive(Clone, Copy, Debug, PartialEq, Eq)]

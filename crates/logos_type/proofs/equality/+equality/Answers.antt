@@ -6,9 +6,10 @@ use Rattle.logos_type.proofs.equality.+equality.Goals as goal
 pub are_same_parts-returns-then-not-is_same_part : goal.are_same_parts-returns-then-not-is_same_part
 are_same_parts-returns-then-not-is_same_part t c =
     let bound = rw c.if-parts-others.false at c.loop-index-test.true in
-    let no = c.if-not-is_same_part.ensures in
-    ( λ e. absurd (let k : false ≡ true = e in cc),
-    λ same. no.1 (next_differs c.args.parts.now c.args.others.now _ _ _ c.loop-index-test.true bound c.index-parts-index.is c.index-others-index.is (c.loop-index.invariant.0 same)) )
+    let no = c.if-not-is_same_part.ensures in (
+      λ e. absurd (let k : false ≡ true = e in cc),
+      λ same. no.1 (next_differs c.args.parts.now c.args.others.now _ _ _ c.loop-index-test.true bound c.index-parts-index.is c.index-others-index.is (c.loop-index.invariant.0 same)),
+    )
 
 pub are_same_parts-loop-index-preserved : goal.are_same_parts-loop-index-preserved
 are_same_parts-loop-index-preserved t c =
