@@ -21,7 +21,8 @@ fn is_path_mark(punct: Punct) -> bool
 
 /// That no token is left.
 fn read_end(tokens: Tokens<'_, '_>) -> Result<(), Misfit>
-    ensures { MatchResult result (λ _. end_misfit (tokens_of tokens.entry) ≡ None) (λ misfit. end_misfit (tokens_of tokens.entry) ≡ Some misfit.span) }
+    ensures { MatchResult result (λ _. end_misfit (tokens_of tokens.entry) ≡ None)
+        (λ misfit. end_misfit (tokens_of tokens.entry) ≡ Some misfit.span) }
 {
     match tokens.first() {
         Some(tree) => Err(Misfit { span: tree.span() }),
@@ -31,7 +32,8 @@ fn read_end(tokens: Tokens<'_, '_>) -> Result<(), Misfit>
 
 /// That a token is left.
 fn read_value(tokens: Tokens<'_, '_>) -> Result<(), Misfit>
-    ensures { MatchResult result (λ _. value_misfit (tokens_of tokens.entry) ≡ None) (λ misfit. value_misfit (tokens_of tokens.entry) ≡ Some misfit.span) }
+    ensures { MatchResult result (λ _. value_misfit (tokens_of tokens.entry) ≡ None)
+        (λ misfit. value_misfit (tokens_of tokens.entry) ≡ Some misfit.span) }
 {
     match split(tokens) {
         Some(_) => Ok(()),
@@ -43,7 +45,10 @@ fn read_value(tokens: Tokens<'_, '_>) -> Result<(), Misfit>
 
 /// What is behind an identifier of a path.
 fn read_segment<'t, 's>(tokens: Tokens<'t, 's>) -> Result<Tokens<'t, 's>, Misfit>
-    ensures { MatchResult result (λ rest. (segment_misfit (tokens_of tokens.entry) ≡ path_misfit (tokens_of rest)) × (count_of (tokens_of rest) < count_of (tokens_of tokens.entry))) (λ misfit. segment_misfit (tokens_of tokens.entry) ≡ Some misfit.span) }
+    ensures { MatchResult result
+        (λ rest. (segment_misfit (tokens_of tokens.entry) ≡ path_misfit (tokens_of rest))
+        × (count_of (tokens_of rest) < count_of (tokens_of tokens.entry)))
+        (λ misfit. segment_misfit (tokens_of tokens.entry) ≡ Some misfit.span) }
 {
     match split(tokens) {
         Some((TokenTree::Ident(_), rest)) => Ok(rest),
@@ -53,7 +58,10 @@ fn read_segment<'t, 's>(tokens: Tokens<'t, 's>) -> Result<Tokens<'t, 's>, Misfit
 
 /// What is behind the second `:` of `::` and an identifier.
 fn read_colon<'t, 's>(tokens: Tokens<'t, 's>) -> Result<Tokens<'t, 's>, Misfit>
-    ensures { MatchResult result (λ rest. (colon_misfit (tokens_of tokens.entry) ≡ path_misfit (tokens_of rest)) × (count_of (tokens_of rest) < count_of (tokens_of tokens.entry))) (λ misfit. colon_misfit (tokens_of tokens.entry) ≡ Some misfit.span) }
+    ensures { MatchResult result
+        (λ rest. (colon_misfit (tokens_of tokens.entry) ≡ path_misfit (tokens_of rest))
+        × (count_of (tokens_of rest) < count_of (tokens_of tokens.entry)))
+        (λ misfit. colon_misfit (tokens_of tokens.entry) ≡ Some misfit.span) }
 {
     match split(tokens) {
         Some((TokenTree::Punct(punct), rest)) if punct.character == ':' => read_segment(rest),
@@ -95,7 +103,8 @@ fn path_step<'t, 's>(tokens: Tokens<'t, 's>) -> Result<Option<Tokens<'t, 's>>, M
 
 /// That what is behind the first identifier of an attribute's path is well formed.
 fn read_path(tokens: Tokens<'_, '_>) -> Result<(), Misfit>
-    ensures { MatchResult result (λ _. path_misfit (tokens_of tokens.entry) ≡ None) (λ misfit. path_misfit (tokens_of tokens.entry) ≡ Some misfit.span) }
+    ensures { MatchResult result (λ _. path_misfit (tokens_of tokens.entry) ≡ None)
+        (λ misfit. path_misfit (tokens_of tokens.entry) ≡ Some misfit.span) }
 {
     let mut rest = tokens;
     while let Some(next) = path_step(rest)? {
@@ -106,7 +115,8 @@ fn read_path(tokens: Tokens<'_, '_>) -> Result<(), Misfit>
 
 /// That what the brackets of an attribute hold is well formed.
 fn check_attribute(tokens: Tokens<'_, '_>) -> Result<(), Misfit>
-    ensures { MatchResult result (λ _. attribute_misfit (tokens_of tokens.entry) ≡ None) (λ misfit. attribute_misfit (tokens_of tokens.entry) ≡ Some misfit.span) }
+    ensures { MatchResult result (λ _. attribute_misfit (tokens_of tokens.entry) ≡ None)
+        (λ misfit. attribute_misfit (tokens_of tokens.entry) ≡ Some misfit.span) }
 {
     match split(tokens) {
         Some((TokenTree::Ident(_), rest)) => read_path(rest),
@@ -120,7 +130,10 @@ fn check_attribute(tokens: Tokens<'_, '_>) -> Result<(), Misfit>
 
 /// What is behind the brackets of an attribute, behind whose `#` the tokens are.
 fn skip_brackets<'t, 's>(tokens: Tokens<'t, 's>) -> Result<Tokens<'t, 's>, ReadError>
-    ensures value { MatchResult result (λ rest. (behind_hash (tokens_of tokens.entry) ≡ behind_attributes (tokens_of rest)) × (count_of (tokens_of rest) < count_of (tokens_of tokens.entry))) (λ error. behind_hash (tokens_of tokens.entry) ≡ Err error) }
+    ensures value { MatchResult result
+        (λ rest. (behind_hash (tokens_of tokens.entry) ≡ behind_attributes (tokens_of rest))
+        × (count_of (tokens_of rest) < count_of (tokens_of tokens.entry)))
+        (λ error. behind_hash (tokens_of tokens.entry) ≡ Err error) }
     ensures front { IfOk result (λ rest. IsRestOf (tokens_of tokens.entry) (tokens_of rest)) }
 {
     match split(tokens) {
@@ -136,8 +149,13 @@ fn skip_brackets<'t, 's>(tokens: Tokens<'t, 's>) -> Result<Tokens<'t, 's>, ReadE
 
 /// What is behind an attribute that comes first; `None` where none comes first.
 fn skip_attribute<'t, 's>(tokens: Tokens<'t, 's>) -> Result<Option<Tokens<'t, 's>>, ReadError>
-    ensures value { MatchResult result (λ found. MatchOption found (behind_attributes (tokens_of tokens.entry) ≡ Ok (tokens_of tokens.entry)) (λ rest. (behind_attributes (tokens_of tokens.entry) ≡ behind_attributes (tokens_of rest)) × (count_of (tokens_of rest) < count_of (tokens_of tokens.entry)))) (λ error. behind_attributes (tokens_of tokens.entry) ≡ Err error) }
-    ensures front { IfOk result (λ found. IfSome found (λ rest. IsRestOf (tokens_of tokens.entry) (tokens_of rest))) }
+    ensures value { MatchResult result
+        (λ found. MatchOption found (behind_attributes (tokens_of tokens.entry) ≡ Ok (tokens_of tokens.entry))
+        (λ rest. (behind_attributes (tokens_of tokens.entry) ≡ behind_attributes (tokens_of rest))
+        × (count_of (tokens_of rest) < count_of (tokens_of tokens.entry))))
+        (λ error. behind_attributes (tokens_of tokens.entry) ≡ Err error) }
+    ensures front { IfOk result (λ found. IfSome found
+        (λ rest. IsRestOf (tokens_of tokens.entry) (tokens_of rest))) }
 {
     match split(tokens) {
         Some((TokenTree::Punct(punct), rest)) if punct.character == '#' => {
@@ -152,8 +170,10 @@ fn skip_attribute<'t, 's>(tokens: Tokens<'t, 's>) -> Result<Option<Tokens<'t, 's
 pub(crate) fn read_attributes<'t, 's>(
     tokens: Tokens<'t, 's>,
 ) -> Result<(Tokens<'t, 's>, Tokens<'t, 's>), ReadError>
-    ensures ok { IfOk result (λ read. Attributes (tokens_of tokens.entry) (Ok (tokens_of read.0, tokens_of read.1))) }
-    ensures shorter { IfOk result (λ read. count_of (tokens_of read.1) ≤ count_of (tokens_of tokens.entry)) }
+    ensures ok { IfOk result
+        (λ read. Attributes (tokens_of tokens.entry) (Ok (tokens_of read.0, tokens_of read.1))) }
+    ensures shorter { IfOk result
+        (λ read. count_of (tokens_of read.1) ≤ count_of (tokens_of tokens.entry)) }
     ensures err { IfErr result (λ error. Attributes (tokens_of tokens.entry) (Err error)) }
 {
     let mut rest = tokens;
@@ -187,7 +207,8 @@ pub(crate) fn skip_visibility<'t, 's>(tokens: Tokens<'t, 's>) -> Tokens<'t, 's>
 
 /// What is behind `enum`, which comes first.
 pub(crate) fn skip_keyword<'t, 's>(tokens: Tokens<'t, 's>) -> Option<Tokens<'t, 's>>
-    ensures { MatchOption result (behind_keyword (tokens_of tokens.entry) ≡ None) (λ rest. behind_keyword (tokens_of tokens.entry) ≡ Some (tokens_of rest)) }
+    ensures { MatchOption result (behind_keyword (tokens_of tokens.entry) ≡ None)
+        (λ rest. behind_keyword (tokens_of tokens.entry) ≡ Some (tokens_of rest)) }
 {
     match split(tokens) {
         Some((TokenTree::Ident(word), rest)) if word.text == "enum" => Some(rest),

@@ -75,7 +75,9 @@ fn skip_token<'t, 's>(
     tokens: Tokens<'t, 's>,
 ) -> Option<(Angles, Tokens<'t, 's>)>
     requires { angles.depth + count_of (tokens_of tokens) < 18446744073709551616 }
-    ensures { MatchOption result (behind_from end angles.arrow angles.depth (tokens_of tokens.entry) ≡ tokens_of tokens.entry) (λ read. IsStep end angles (tokens_of tokens.entry) read.0 (tokens_of read.1)) }
+    ensures { MatchOption result (behind_from end angles.arrow angles.depth (tokens_of tokens.entry) ≡
+        tokens_of tokens.entry)
+        (λ read. IsStep end angles (tokens_of tokens.entry) read.0 (tokens_of read.1)) }
 {
     match split(tokens)? {
         (TokenTree::Punct(punct), rest) => {
@@ -120,7 +122,8 @@ pub(crate) fn skip_extent<'t, 's>(end: End, tokens: Tokens<'t, 's>) -> Tokens<'t
 
 /// The tokens of an extent.
 pub(crate) fn extent<'t, 's>(end: End, tokens: Tokens<'t, 's>) -> Tokens<'t, 's>
-    ensures { tokens_of tokens.entry ≡ append (tokens_of result) (behind_extent end (tokens_of tokens.entry)) }
+    ensures { tokens_of tokens.entry ≡
+        append (tokens_of result) (behind_extent end (tokens_of tokens.entry)) }
 {
     tokens.before(skip_extent(end, tokens))
 }

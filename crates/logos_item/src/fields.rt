@@ -62,8 +62,10 @@ fn read_typed<'t, 's>(
     alloc: Global,
     tokens: Tokens<'t, 's>,
 ) -> Result<(Typed<'t, 's>, Tokens<'t, 's>), ReadError>
-    ensures ok { IfOk result (λ read. FieldType (tokens_of tokens.entry) (Ok (typed_value read.0, tokens_of read.1))) }
-    ensures shorter { IfOk result (λ read. count_of (tokens_of read.1) < count_of (tokens_of tokens.entry)) }
+    ensures ok { IfOk result
+        (λ read. FieldType (tokens_of tokens.entry) (Ok (typed_value read.0, tokens_of read.1))) }
+    ensures shorter { IfOk result
+        (λ read. count_of (tokens_of read.1) < count_of (tokens_of tokens.entry)) }
     ensures err { IfErr result (Stands (λ error. FieldType (tokens_of tokens.entry) (Err error))) }
 {
     let run = extent(End::OfField, tokens);
@@ -75,7 +77,10 @@ fn read_typed<'t, 's>(
 
 /// What is behind `:`, which comes first.
 fn skip_colon<'t, 's>(tokens: Tokens<'t, 's>) -> Result<Tokens<'t, 's>, ReadError>
-    ensures { MatchResult result (λ rest. (colon_in (tokens_of tokens.entry) ≡ Ok (tt, tokens_of rest)) × (count_of (tokens_of rest) ≤ count_of (tokens_of tokens.entry))) (λ error. colon_in (tokens_of tokens.entry) ≡ Err error) }
+    ensures { MatchResult result
+        (λ rest. (colon_in (tokens_of tokens.entry) ≡ Ok (tt, tokens_of rest))
+        × (count_of (tokens_of rest) ≤ count_of (tokens_of tokens.entry)))
+        (λ error. colon_in (tokens_of tokens.entry) ≡ Err error) }
 {
     match split(tokens) {
         Some((TokenTree::Punct(punct), rest)) if punct.character == ':' => Ok(rest),
@@ -85,8 +90,10 @@ fn skip_colon<'t, 's>(tokens: Tokens<'t, 's>) -> Result<Tokens<'t, 's>, ReadErro
 
 /// What is behind the name of a field and `:`, where fields have names.
 fn skip_label<'t, 's>(named: bool, tokens: Tokens<'t, 's>) -> Result<Tokens<'t, 's>, ReadError>
-    ensures ok { IfOk result (λ rest. label named (tokens_of tokens.entry) (Ok (tt, tokens_of rest))) }
-    ensures shorter { IfOk result (λ rest. count_of (tokens_of rest) ≤ count_of (tokens_of tokens.entry)) }
+    ensures ok { IfOk result
+        (λ rest. label named (tokens_of tokens.entry) (Ok (tt, tokens_of rest))) }
+    ensures shorter { IfOk result
+        (λ rest. count_of (tokens_of rest) ≤ count_of (tokens_of tokens.entry)) }
     ensures err { IfErr result (λ error. label named (tokens_of tokens.entry) (Err error)) }
 {
     if !named {
@@ -103,9 +110,12 @@ fn read_field<'t, 's>(
     named: bool,
     tokens: Tokens<'t, 's>,
 ) -> Result<(Field<'t, 's>, Tokens<'t, 's>), ReadError>
-    ensures ok { IfOk result (λ read. field named (tokens_of tokens.entry) (Ok (field_value read.0, tokens_of read.1))) }
-    ensures shorter { IfOk result (λ read. count_of (tokens_of read.1) < count_of (tokens_of tokens.entry)) }
-    ensures err { IfErr result (Stands (λ error. field named (tokens_of tokens.entry) (Err error))) }
+    ensures ok { IfOk result
+        (λ read. field named (tokens_of tokens.entry) (Ok (field_value read.0, tokens_of read.1))) }
+    ensures shorter { IfOk result
+        (λ read. count_of (tokens_of read.1) < count_of (tokens_of tokens.entry)) }
+    ensures err { IfErr result (Stands
+        (λ error. field named (tokens_of tokens.entry) (Err error))) }
 {
     let (attributes, visible) = read_attributes(tokens)?;
     let labelled = skip_label(named, skip_visibility(visible))?;
@@ -124,8 +134,10 @@ fn read_fields<'t, 's>(
     named: bool,
     tokens: Tokens<'t, 's>,
 ) -> Result<Vec<Field<'t, 's>>, ReadError>
-    ensures ok { IfOk result (λ list. fields named (tokens_of tokens.entry) (Ok (map field_value list.items, none))) }
-    ensures err { IfErr result (Stands (λ error. fields named (tokens_of tokens.entry) (Err error))) }
+    ensures ok { IfOk result
+        (λ list. fields named (tokens_of tokens.entry) (Ok (map field_value list.items, none))) }
+    ensures err { IfErr result (Stands
+        (λ error. fields named (tokens_of tokens.entry) (Err error))) }
 {
     let mut list = Vec::new(alloc);
     let mut rest = tokens;
@@ -143,8 +155,11 @@ fn read_tuple<'t, 's>(
     alloc: Global,
     tokens: Tokens<'t, 's>,
 ) -> Result<Option<(Fields<'t, 's>, Tokens<'t, 's>)>, ReadError>
-    ensures ok { IfOk result (λ found. MatchOption found (parenthesis_in (tokens_of tokens.entry) ≡ None) (λ read. Holding (tokens_of tokens.entry) (Ok (fields_value read.0, tokens_of read.1)))) }
-    ensures shorter { IfOk result (λ found. IfSome found (λ read. count_of (tokens_of read.1) ≤ count_of (tokens_of tokens.entry))) }
+    ensures ok { IfOk result
+        (λ found. MatchOption found (parenthesis_in (tokens_of tokens.entry) ≡ None)
+        (λ read. Holding (tokens_of tokens.entry) (Ok (fields_value read.0, tokens_of read.1)))) }
+    ensures shorter { IfOk result (λ found. IfSome found
+        (λ read. count_of (tokens_of read.1) ≤ count_of (tokens_of tokens.entry))) }
     ensures err { IfErr result (Stands (λ error. Holding (tokens_of tokens.entry) (Err error))) }
 {
     let Some(opened) = open_parenthesis(tokens) else {
@@ -160,8 +175,10 @@ fn read_named<'t, 's>(
     tokens: Tokens<'t, 's>,
 ) -> Result<(Fields<'t, 's>, Tokens<'t, 's>), ReadError>
     requires { parenthesis_in (tokens_of tokens) ≡ None }
-    ensures ok { IfOk result (λ read. Holding (tokens_of tokens.entry) (Ok (fields_value read.0, tokens_of read.1))) }
-    ensures shorter { IfOk result (λ read. count_of (tokens_of read.1) ≤ count_of (tokens_of tokens.entry)) }
+    ensures ok { IfOk result
+        (λ read. Holding (tokens_of tokens.entry) (Ok (fields_value read.0, tokens_of read.1))) }
+    ensures shorter { IfOk result
+        (λ read. count_of (tokens_of read.1) ≤ count_of (tokens_of tokens.entry)) }
     ensures err { IfErr result (Stands (λ error. Holding (tokens_of tokens.entry) (Err error))) }
 {
     let Some(opened) = open_brace(tokens) else {
@@ -176,8 +193,10 @@ pub(crate) fn read_holding<'t, 's>(
     alloc: Global,
     tokens: Tokens<'t, 's>,
 ) -> Result<(Fields<'t, 's>, Tokens<'t, 's>), ReadError>
-    ensures ok { IfOk result (λ read. Holding (tokens_of tokens.entry) (Ok (fields_value read.0, tokens_of read.1))) }
-    ensures shorter { IfOk result (λ read. count_of (tokens_of read.1) ≤ count_of (tokens_of tokens.entry)) }
+    ensures ok { IfOk result
+        (λ read. Holding (tokens_of tokens.entry) (Ok (fields_value read.0, tokens_of read.1))) }
+    ensures shorter { IfOk result
+        (λ read. count_of (tokens_of read.1) ≤ count_of (tokens_of tokens.entry)) }
     ensures err { IfErr result (Stands (λ error. Holding (tokens_of tokens.entry) (Err error))) }
 {
     let found = read_tuple(alloc, tokens)?;

@@ -44,7 +44,10 @@ fn read_head_of<'t, 's>(
     kind: ParameterKind,
     tokens: Tokens<'t, 's>,
 ) -> Result<(Head<'s>, Tokens<'t, 's>), ReadError>
-    ensures { MatchResult result (λ read. (head_of kind (tokens_of tokens.entry) ≡ Ok (head_value read.0, tokens_of read.1)) × (count_of (tokens_of read.1) < count_of (tokens_of tokens.entry))) (λ error. head_of kind (tokens_of tokens.entry) ≡ Err error) }
+    ensures { MatchResult result
+        (λ read. (head_of kind (tokens_of tokens.entry) ≡ Ok (head_value read.0, tokens_of read.1))
+        × (count_of (tokens_of read.1) < count_of (tokens_of tokens.entry)))
+        (λ error. head_of kind (tokens_of tokens.entry) ≡ Err error) }
 {
     match split(tokens) {
         Some((TokenTree::Ident(name), rest)) => Ok((Head { kind, name }, rest)),
@@ -54,7 +57,10 @@ fn read_head_of<'t, 's>(
 
 /// The kind and the name of a parameter, which come first, and what is behind them.
 fn read_head<'t, 's>(tokens: Tokens<'t, 's>) -> Result<(Head<'s>, Tokens<'t, 's>), ReadError>
-    ensures { MatchResult result (λ read. (head_in (tokens_of tokens.entry) ≡ Ok (head_value read.0, tokens_of read.1)) × (count_of (tokens_of read.1) < count_of (tokens_of tokens.entry))) (λ error. head_in (tokens_of tokens.entry) ≡ Err error) }
+    ensures { MatchResult result
+        (λ read. (head_in (tokens_of tokens.entry) ≡ Ok (head_value read.0, tokens_of read.1))
+        × (count_of (tokens_of read.1) < count_of (tokens_of tokens.entry)))
+        (λ error. head_in (tokens_of tokens.entry) ≡ Err error) }
 {
     match split(tokens) {
         Some((TokenTree::Punct(punct), rest)) if punct.character == '\'' => {
@@ -70,7 +76,10 @@ fn read_head<'t, 's>(tokens: Tokens<'t, 's>) -> Result<(Head<'s>, Tokens<'t, 's>
 
 /// What is behind an extent of at least one token.
 fn skip_some<'t, 's>(end: End, tokens: Tokens<'t, 's>) -> Result<Tokens<'t, 's>, ReadError>
-    ensures { MatchResult result (λ rest. (some_in end (tokens_of tokens.entry) ≡ Ok (tt, tokens_of rest)) × (count_of (tokens_of rest) ≤ count_of (tokens_of tokens.entry))) (λ error. some_in end (tokens_of tokens.entry) ≡ Err error) }
+    ensures { MatchResult result
+        (λ rest. (some_in end (tokens_of tokens.entry) ≡ Ok (tt, tokens_of rest))
+        × (count_of (tokens_of rest) ≤ count_of (tokens_of tokens.entry)))
+        (λ error. some_in end (tokens_of tokens.entry) ≡ Err error) }
 {
     match tokens.first() {
         Some(TokenTree::Punct(punct)) if ends(end, punct.character) => Err(grammar_at(tokens)),
@@ -94,7 +103,10 @@ fn skip_bounds<'t, 's>(tokens: Tokens<'t, 's>) -> Tokens<'t, 's>
 
 /// What is behind `:` and the type of a constant, which come first.
 fn skip_constant<'t, 's>(tokens: Tokens<'t, 's>) -> Result<Tokens<'t, 's>, ReadError>
-    ensures { MatchResult result (λ rest. (constant_in (tokens_of tokens.entry) ≡ Ok (tt, tokens_of rest)) × (count_of (tokens_of rest) ≤ count_of (tokens_of tokens.entry))) (λ error. constant_in (tokens_of tokens.entry) ≡ Err error) }
+    ensures { MatchResult result
+        (λ rest. (constant_in (tokens_of tokens.entry) ≡ Ok (tt, tokens_of rest))
+        × (count_of (tokens_of rest) ≤ count_of (tokens_of tokens.entry)))
+        (λ error. constant_in (tokens_of tokens.entry) ≡ Err error) }
 {
     match split(tokens) {
         Some((TokenTree::Punct(punct), rest)) if punct.character == ':' => {
@@ -106,7 +118,10 @@ fn skip_constant<'t, 's>(tokens: Tokens<'t, 's>) -> Result<Tokens<'t, 's>, ReadE
 
 /// What is behind `=` and a default, if `=` comes first.
 fn skip_default<'t, 's>(tokens: Tokens<'t, 's>) -> Result<Tokens<'t, 's>, ReadError>
-    ensures { MatchResult result (λ rest. (default_in (tokens_of tokens.entry) ≡ Ok (tt, tokens_of rest)) × (count_of (tokens_of rest) ≤ count_of (tokens_of tokens.entry))) (λ error. default_in (tokens_of tokens.entry) ≡ Err error) }
+    ensures { MatchResult result
+        (λ rest. (default_in (tokens_of tokens.entry) ≡ Ok (tt, tokens_of rest))
+        × (count_of (tokens_of rest) ≤ count_of (tokens_of tokens.entry)))
+        (λ error. default_in (tokens_of tokens.entry) ≡ Err error) }
 {
     match split(tokens) {
         Some((TokenTree::Punct(punct), rest)) if punct.character == '=' => {
@@ -121,8 +136,10 @@ fn skip_tail<'t, 's>(
     kind: ParameterKind,
     tokens: Tokens<'t, 's>,
 ) -> Result<Tokens<'t, 's>, ReadError>
-    ensures ok { IfOk result (λ rest. tail kind (tokens_of tokens.entry) (Ok (tt, tokens_of rest))) }
-    ensures shorter { IfOk result (λ rest. count_of (tokens_of rest) ≤ count_of (tokens_of tokens.entry)) }
+    ensures ok { IfOk result
+        (λ rest. tail kind (tokens_of tokens.entry) (Ok (tt, tokens_of rest))) }
+    ensures shorter { IfOk result
+        (λ rest. count_of (tokens_of rest) ≤ count_of (tokens_of tokens.entry)) }
     ensures err { IfErr result (λ error. tail kind (tokens_of tokens.entry) (Err error)) }
 {
     match kind {
@@ -140,8 +157,10 @@ fn skip_tail<'t, 's>(
 
 /// The kind and the name of a parameter, and what is behind the whole of it.
 fn read_shape<'t, 's>(tokens: Tokens<'t, 's>) -> Result<(Head<'s>, Tokens<'t, 's>), ReadError>
-    ensures ok { IfOk result (λ read. shape (tokens_of tokens.entry) (Ok (head_value read.0, tokens_of read.1))) }
-    ensures shorter { IfOk result (λ read. count_of (tokens_of read.1) < count_of (tokens_of tokens.entry)) }
+    ensures ok { IfOk result
+        (λ read. shape (tokens_of tokens.entry) (Ok (head_value read.0, tokens_of read.1))) }
+    ensures shorter { IfOk result
+        (λ read. count_of (tokens_of read.1) < count_of (tokens_of tokens.entry)) }
     ensures err { IfErr result (λ error. shape (tokens_of tokens.entry) (Err error)) }
 {
     let (_, rest) = read_attributes(tokens)?;
@@ -154,8 +173,10 @@ fn read_shape<'t, 's>(tokens: Tokens<'t, 's>) -> Result<(Head<'s>, Tokens<'t, 's
 fn read_parameter<'t, 's>(
     tokens: Tokens<'t, 's>,
 ) -> Result<(Parameter<'t, 's>, Tokens<'t, 's>), ReadError>
-    ensures ok { IfOk result (λ read. OneParameter (tokens_of tokens.entry) (Ok (parameter_value read.0, tokens_of read.1))) }
-    ensures shorter { IfOk result (λ read. count_of (tokens_of read.1) < count_of (tokens_of tokens.entry)) }
+    ensures ok { IfOk result
+        (λ read. OneParameter (tokens_of tokens.entry) (Ok (parameter_value read.0, tokens_of read.1))) }
+    ensures shorter { IfOk result
+        (λ read. count_of (tokens_of read.1) < count_of (tokens_of tokens.entry)) }
     ensures err { IfErr result (λ error. OneParameter (tokens_of tokens.entry) (Err error)) }
 {
     let (head, rest) = read_shape(tokens)?;
@@ -173,8 +194,10 @@ fn read_parameters<'t, 's>(
     alloc: Global,
     tokens: Tokens<'t, 's>,
 ) -> Result<(Vec<Parameter<'t, 's>>, Tokens<'t, 's>), ReadError>
-    ensures ok { IfOk result (λ read. Listed (begins_with greater) OneParameter (tokens_of tokens.entry) (Ok (map parameter_value read.0.items, tokens_of read.1))) }
-    ensures err { IfErr result (Stands (λ error. Listed (begins_with greater) OneParameter (tokens_of tokens.entry) (Err error))) }
+    ensures ok { IfOk result
+        (λ read. Listed (begins_with greater) OneParameter (tokens_of tokens.entry) (Ok (map parameter_value read.0.items, tokens_of read.1))) }
+    ensures err { IfErr result (Stands
+        (λ error. Listed (begins_with greater) OneParameter (tokens_of tokens.entry) (Err error))) }
 {
     let mut list = Vec::new(alloc);
     let mut rest = tokens;
@@ -189,7 +212,9 @@ fn read_parameters<'t, 's>(
 
 /// What is behind `>`, which comes first.
 fn skip_closing<'t, 's>(tokens: Tokens<'t, 's>) -> Result<Tokens<'t, 's>, ReadError>
-    ensures { MatchResult result (λ rest. closing_in (tokens_of tokens.entry) ≡ Ok (tt, tokens_of rest)) (λ error. closing_in (tokens_of tokens.entry) ≡ Err error) }
+    ensures { MatchResult result
+        (λ rest. closing_in (tokens_of tokens.entry) ≡ Ok (tt, tokens_of rest))
+        (λ error. closing_in (tokens_of tokens.entry) ≡ Err error) }
 {
     match split(tokens) {
         Some((TokenTree::Punct(punct), rest)) if punct.character == '>' => Ok(rest),
@@ -202,7 +227,8 @@ pub(crate) fn read_generics<'t, 's>(
     alloc: Global,
     tokens: Tokens<'t, 's>,
 ) -> Result<(Vec<Parameter<'t, 's>>, Tokens<'t, 's>), ReadError>
-    ensures ok { IfOk result (λ read. Generics (tokens_of tokens.entry) (Ok (map parameter_value read.0.items, tokens_of read.1))) }
+    ensures ok { IfOk result
+        (λ read. Generics (tokens_of tokens.entry) (Ok (map parameter_value read.0.items, tokens_of read.1))) }
     ensures err { IfErr result (Stands (λ error. Generics (tokens_of tokens.entry) (Err error))) }
 {
     let Some(inside) = behind_mark('<', tokens) else {

@@ -17,7 +17,9 @@ pub(crate) struct Opened<'t, 's> {
 
 /// The parenthesis that comes first; `None` where none does.
 pub(crate) fn open_parenthesis<'t, 's>(tokens: Tokens<'t, 's>) -> Option<Opened<'t, 's>>
-    ensures { MatchOption result (parenthesis_in (tokens_of tokens.entry) ≡ None) (λ opened. (parenthesis_in (tokens_of tokens.entry) ≡ Some (opened_value opened)) × (count_of (tokens_of opened.rest) < count_of (tokens_of tokens.entry))) }
+    ensures { MatchOption result (parenthesis_in (tokens_of tokens.entry) ≡ None)
+        (λ opened. (parenthesis_in (tokens_of tokens.entry) ≡ Some (opened_value opened))
+        × (count_of (tokens_of opened.rest) < count_of (tokens_of tokens.entry))) }
 {
     match split(tokens) {
         Some((TokenTree::Group(group), rest)) if group.delimiter == Delimiter::Parenthesis => {
@@ -33,7 +35,9 @@ pub(crate) fn open_parenthesis<'t, 's>(tokens: Tokens<'t, 's>) -> Option<Opened<
 
 /// The brackets that come first; `None` where none do.
 pub(crate) fn open_bracket<'t, 's>(tokens: Tokens<'t, 's>) -> Option<Opened<'t, 's>>
-    ensures { MatchOption result (bracket_in (tokens_of tokens.entry) ≡ None) (λ opened. (bracket_in (tokens_of tokens.entry) ≡ Some (opened_value opened)) × (count_of (tokens_of opened.rest) < count_of (tokens_of tokens.entry))) }
+    ensures { MatchOption result (bracket_in (tokens_of tokens.entry) ≡ None)
+        (λ opened. (bracket_in (tokens_of tokens.entry) ≡ Some (opened_value opened))
+        × (count_of (tokens_of opened.rest) < count_of (tokens_of tokens.entry))) }
 {
     match split(tokens) {
         Some((TokenTree::Group(group), rest)) if group.delimiter == Delimiter::Bracket => {
@@ -49,7 +53,9 @@ pub(crate) fn open_bracket<'t, 's>(tokens: Tokens<'t, 's>) -> Option<Opened<'t, 
 
 /// The braces that come first; `None` where none do.
 pub(crate) fn open_brace<'t, 's>(tokens: Tokens<'t, 's>) -> Option<Opened<'t, 's>>
-    ensures { MatchOption result (brace_in (tokens_of tokens.entry) ≡ None) (λ opened. (brace_in (tokens_of tokens.entry) ≡ Some (opened_value opened)) × (count_of (tokens_of opened.rest) < count_of (tokens_of tokens.entry))) }
+    ensures { MatchOption result (brace_in (tokens_of tokens.entry) ≡ None)
+        (λ opened. (brace_in (tokens_of tokens.entry) ≡ Some (opened_value opened))
+        × (count_of (tokens_of opened.rest) < count_of (tokens_of tokens.entry))) }
 {
     match split(tokens) {
         Some((TokenTree::Group(group), rest)) if group.delimiter == Delimiter::Brace => {

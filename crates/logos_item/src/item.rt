@@ -32,7 +32,9 @@ pub struct ItemEnum<'t, 's> {
 
 /// What is behind the first token, where that is no brace.
 fn skip_other<'t, 's>(tokens: Tokens<'t, 's>) -> Option<Tokens<'t, 's>>
-    ensures { MatchOption result (from_brace (tokens_of tokens.entry) ≡ tokens_of tokens.entry) (λ rest. (from_brace (tokens_of tokens.entry) ≡ from_brace (tokens_of rest)) × (count_of (tokens_of rest) < count_of (tokens_of tokens.entry))) }
+    ensures { MatchOption result (from_brace (tokens_of tokens.entry) ≡ tokens_of tokens.entry)
+        (λ rest. (from_brace (tokens_of tokens.entry) ≡ from_brace (tokens_of rest))
+        × (count_of (tokens_of rest) < count_of (tokens_of tokens.entry))) }
 {
     match split(tokens)? {
         (TokenTree::Group(group), _) if group.delimiter == Delimiter::Brace => None,
@@ -66,7 +68,8 @@ fn read_body<'t, 's>(
     alloc: Global,
     tokens: Tokens<'t, 's>,
 ) -> Result<(Vec<Variant<'t, 's>>, Tokens<'t, 's>), ReadError>
-    ensures ok { IfOk result (λ read. Body (tokens_of tokens.entry) (Ok (map variant_value read.0.items, tokens_of read.1))) }
+    ensures ok { IfOk result
+        (λ read. Body (tokens_of tokens.entry) (Ok (map variant_value read.0.items, tokens_of read.1))) }
     ensures err { IfErr result (Stands (λ error. Body (tokens_of tokens.entry) (Err error))) }
 {
     let Some(braced) = open_brace(tokens) else {
@@ -78,7 +81,8 @@ fn read_body<'t, 's>(
 
 /// That no token is left.
 fn read_end(tokens: Tokens<'_, '_>) -> Result<(), ReadError>
-    ensures { MatchResult result (λ _. end_in (tokens_of tokens.entry) ≡ Ok (tt, none)) (λ error. end_in (tokens_of tokens.entry) ≡ Err error) }
+    ensures { MatchResult result (λ _. end_in (tokens_of tokens.entry) ≡ Ok (tt, none))
+        (λ error. end_in (tokens_of tokens.entry) ≡ Err error) }
 {
     match split(tokens) {
         None => Ok(()),
@@ -91,7 +95,9 @@ fn announced<'t, 's>(
     attributes: Tokens<'t, 's>,
     middle: Tokens<'t, 's>,
 ) -> Option<(Tokens<'t, 's>, Tokens<'t, 's>)>
-    ensures { MatchOption result (announced_in (tokens_of middle.entry) ≡ None) (λ read. (tokens_of read.0 ≡ tokens_of attributes.entry) × (announced_in (tokens_of middle.entry) ≡ Some (tokens_of read.1))) }
+    ensures { MatchOption result (announced_in (tokens_of middle.entry) ≡ None)
+        (λ read. (tokens_of read.0 ≡ tokens_of attributes.entry)
+        × (announced_in (tokens_of middle.entry) ≡ Some (tokens_of read.1))) }
 {
     let rest = skip_keyword(skip_visibility(middle))?;
     Some((attributes, rest))
@@ -100,7 +106,8 @@ fn announced<'t, 's>(
 /// The attributes in front of `enum`, and what is behind it; `None` where well-formed attributes, perhaps a visibility and `enum` do not
 /// come first.
 fn read_front<'t, 's>(tokens: Tokens<'t, 's>) -> Option<(Tokens<'t, 's>, Tokens<'t, 's>)>
-    ensures { MatchOption result (NoFront (tokens_of tokens.entry)) (λ read. IsFront (tokens_of tokens.entry) (tokens_of read.0) (tokens_of read.1)) }
+    ensures { MatchOption result (NoFront (tokens_of tokens.entry))
+        (λ read. IsFront (tokens_of tokens.entry) (tokens_of read.0) (tokens_of read.1)) }
 {
     match read_attributes(tokens) {
         Ok((attributes, middle)) => announced(attributes, middle),
@@ -114,8 +121,10 @@ fn read_item<'t, 's>(
     attributes: Tokens<'t, 's>,
     tokens: Tokens<'t, 's>,
 ) -> Result<ItemEnum<'t, 's>, ReadError>
-    ensures ok { IfOk result (λ read. item (tokens_of attributes.entry) (tokens_of tokens.entry) (Ok (enum_value read, none))) }
-    ensures err { IfErr result (Stands (λ error. item (tokens_of attributes.entry) (tokens_of tokens.entry) (Err error))) }
+    ensures ok { IfOk result
+        (λ read. item (tokens_of attributes.entry) (tokens_of tokens.entry) (Ok (enum_value read, none))) }
+    ensures err { IfErr result (Stands
+        (λ error. item (tokens_of attributes.entry) (tokens_of tokens.entry) (Err error))) }
 {
     let (name, behind_name) = read_name(tokens)?;
     let (parameters, behind_generics) = read_generics(alloc, behind_name)?;
@@ -149,7 +158,8 @@ pub fn read_enum<'t, 's>(
 ) -> Result<ItemEnum<'t, 's>, ReadError>
     ensures ok { IfOk result (λ read. Reads (tokens_of tokens.entry) (Ok (enum_value read))) }
     ensures err { IfErr result (Stands (λ error. Reads (tokens_of tokens.entry) (Err error))) }
-    ensures complete { (value : EnumValue) → Reads (tokens_of tokens.entry) (Ok value) → IfErr result (λ error. error ≡ Memory) }
+    ensures complete { (value : EnumValue) → Reads (tokens_of tokens.entry) (Ok value) →
+        IfErr result (λ error. error ≡ Memory) }
 {
     let Some((attributes, rest)) = read_front(tokens) else {
         return Err(ReadError::NotAnEnum {
@@ -162,5 +172,6 @@ pub fn read_enum<'t, 's>(
 
 /// A run of tokens is at most one enum, or has at most one fault, and never both.
 pub fn reads_once()
-    ensures { (run : TokenList) (one other : Result EnumValue ReadErrorValue) → Reads run one → Reads run other → one ≡ other }
+    ensures { (run : TokenList) (one other : Result EnumValue ReadErrorValue) → Reads run one →
+        Reads run other → one ≡ other }
 {}

@@ -21,7 +21,9 @@ pub struct Attribute<'t, 's> {
 pub fn split_attribute<'t, 's>(
     tokens: Tokens<'t, 's>,
 ) -> Option<(Attribute<'t, 's>, Tokens<'t, 's>)>
-    ensures { MatchOption result (attribute_in (tokens_of tokens.entry) ≡ None) (λ read. (attribute_in (tokens_of tokens.entry) ≡ Some (split_value read)) × (count_of (tokens_of read.1) < count_of (tokens_of tokens.entry))) }
+    ensures { MatchOption result (attribute_in (tokens_of tokens.entry) ≡ None)
+        (λ read. (attribute_in (tokens_of tokens.entry) ≡ Some (split_value read))
+        × (count_of (tokens_of read.1) < count_of (tokens_of tokens.entry))) }
 {
     match split(tokens)? {
         (TokenTree::Doc(doc), rest) => {

@@ -43,7 +43,8 @@ pub(crate) fn grammar_at(tokens: Tokens<'_, '_>) -> ReadError
 
 /// The first tree, and the trees behind it.
 pub(crate) fn split<'t, 's>(tokens: Tokens<'t, 's>) -> Option<(TokenTree<'t, 's>, Tokens<'t, 's>)>
-    ensures { MatchOption result (tokens_of tokens.entry ≡ none) (λ read. tokens_of tokens.entry ≡ also (tree_of read.0) (tokens_of read.1)) }
+    ensures { MatchOption result (tokens_of tokens.entry ≡ none)
+        (λ read. tokens_of tokens.entry ≡ also (tree_of read.0) (tokens_of read.1)) }
 {
     let tree = tokens.first()?;
     Some((tree, tokens.rest()))
@@ -61,7 +62,9 @@ pub(crate) fn begins_with(mark: char, tokens: Tokens<'_, '_>) -> bool
 
 /// What is behind this character, if it comes first.
 pub(crate) fn behind_mark<'t, 's>(mark: char, tokens: Tokens<'t, 's>) -> Option<Tokens<'t, 's>>
-    ensures { MatchOption result (begins_with mark (tokens_of tokens.entry) ≡ false) (λ rest. (begins_with mark (tokens_of tokens.entry) ≡ true) × (tokens_of rest ≡ rest_of (tokens_of tokens.entry))) }
+    ensures { MatchOption result (begins_with mark (tokens_of tokens.entry) ≡ false)
+        (λ rest. (begins_with mark (tokens_of tokens.entry) ≡ true)
+        × (tokens_of rest ≡ rest_of (tokens_of tokens.entry))) }
 {
     match split(tokens) {
         Some((TokenTree::Punct(punct), rest)) if punct.character == mark => Some(rest),
@@ -83,7 +86,10 @@ pub(crate) fn is_outer(text: &str) -> bool
 pub(crate) fn read_name<'t, 's>(
     tokens: Tokens<'t, 's>,
 ) -> Result<(Ident<'s>, Tokens<'t, 's>), ReadError>
-    ensures { MatchResult result (λ read. (name_in (tokens_of tokens.entry) ≡ Ok (ident_slice read.0, tokens_of read.1)) × (count_of (tokens_of read.1) < count_of (tokens_of tokens.entry))) (λ error. name_in (tokens_of tokens.entry) ≡ Err error) }
+    ensures { MatchResult result
+        (λ read. (name_in (tokens_of tokens.entry) ≡ Ok (ident_slice read.0, tokens_of read.1))
+        × (count_of (tokens_of read.1) < count_of (tokens_of tokens.entry)))
+        (λ error. name_in (tokens_of tokens.entry) ≡ Err error) }
 {
     match split(tokens) {
         Some((TokenTree::Ident(name), rest)) => Ok((name, rest)),
@@ -93,7 +99,10 @@ pub(crate) fn read_name<'t, 's>(
 
 /// What is behind an item of a list that ends with its group.
 pub(crate) fn skip_comma<'t, 's>(tokens: Tokens<'t, 's>) -> Result<Tokens<'t, 's>, ReadError>
-    ensures { MatchResult result (λ rest. (behind_item is_none (tokens_of tokens.entry) ≡ Ok (tt, tokens_of rest)) × (count_of (tokens_of rest) ≤ count_of (tokens_of tokens.entry))) (λ error. behind_item is_none (tokens_of tokens.entry) ≡ Err error) }
+    ensures { MatchResult result
+        (λ rest. (behind_item is_none (tokens_of tokens.entry) ≡ Ok (tt, tokens_of rest))
+        × (count_of (tokens_of rest) ≤ count_of (tokens_of tokens.entry)))
+        (λ error. behind_item is_none (tokens_of tokens.entry) ≡ Err error) }
 {
     match split(tokens) {
         None => Ok(tokens),
@@ -106,7 +115,10 @@ pub(crate) fn skip_comma<'t, 's>(tokens: Tokens<'t, 's>) -> Result<Tokens<'t, 's
 pub(crate) fn skip_comma_or_angle<'t, 's>(
     tokens: Tokens<'t, 's>,
 ) -> Result<Tokens<'t, 's>, ReadError>
-    ensures { MatchResult result (λ rest. (behind_item (begins_with greater) (tokens_of tokens.entry) ≡ Ok (tt, tokens_of rest)) × (count_of (tokens_of rest) ≤ count_of (tokens_of tokens.entry))) (λ error. behind_item (begins_with greater) (tokens_of tokens.entry) ≡ Err error) }
+    ensures { MatchResult result
+        (λ rest. (behind_item (begins_with greater) (tokens_of tokens.entry) ≡ Ok (tt, tokens_of rest))
+        × (count_of (tokens_of rest) ≤ count_of (tokens_of tokens.entry)))
+        (λ error. behind_item (begins_with greater) (tokens_of tokens.entry) ≡ Err error) }
 {
     match split(tokens) {
         Some((TokenTree::Punct(punct), _)) if punct.character == '>' => Ok(tokens),

@@ -24,7 +24,9 @@ pub struct Variant<'t, 's> {
 
 /// What is behind the first token, where that is no comma.
 fn skip_other<'t, 's>(tokens: Tokens<'t, 's>) -> Option<Tokens<'t, 's>>
-    ensures { MatchOption result (from_comma (tokens_of tokens.entry) ≡ tokens_of tokens.entry) (λ rest. (from_comma (tokens_of tokens.entry) ≡ from_comma (tokens_of rest)) × (count_of (tokens_of rest) < count_of (tokens_of tokens.entry))) }
+    ensures { MatchOption result (from_comma (tokens_of tokens.entry) ≡ tokens_of tokens.entry)
+        (λ rest. (from_comma (tokens_of tokens.entry) ≡ from_comma (tokens_of rest))
+        × (count_of (tokens_of rest) < count_of (tokens_of tokens.entry))) }
 {
     match split(tokens)? {
         (TokenTree::Punct(punct), _) if punct.character == ',' => None,
@@ -46,7 +48,10 @@ fn skip_to_comma<'t, 's>(tokens: Tokens<'t, 's>) -> Tokens<'t, 's>
 
 /// What is behind one token or more in front of a comma.
 fn skip_value<'t, 's>(tokens: Tokens<'t, 's>) -> Result<Tokens<'t, 's>, ReadError>
-    ensures { MatchResult result (λ rest. (value_in (tokens_of tokens.entry) ≡ Ok (tt, tokens_of rest)) × (count_of (tokens_of rest) ≤ count_of (tokens_of tokens.entry))) (λ error. value_in (tokens_of tokens.entry) ≡ Err error) }
+    ensures { MatchResult result
+        (λ rest. (value_in (tokens_of tokens.entry) ≡ Ok (tt, tokens_of rest))
+        × (count_of (tokens_of rest) ≤ count_of (tokens_of tokens.entry)))
+        (λ error. value_in (tokens_of tokens.entry) ≡ Err error) }
 {
     match split(tokens) {
         Some((TokenTree::Punct(punct), _)) if punct.character == ',' => Err(grammar_at(tokens)),
@@ -57,7 +62,10 @@ fn skip_value<'t, 's>(tokens: Tokens<'t, 's>) -> Result<Tokens<'t, 's>, ReadErro
 
 /// What is behind `=` and the number of a variant, if `=` comes first.
 fn skip_discriminant<'t, 's>(tokens: Tokens<'t, 's>) -> Result<Tokens<'t, 's>, ReadError>
-    ensures { MatchResult result (λ rest. (discriminant_in (tokens_of tokens.entry) ≡ Ok (tt, tokens_of rest)) × (count_of (tokens_of rest) ≤ count_of (tokens_of tokens.entry))) (λ error. discriminant_in (tokens_of tokens.entry) ≡ Err error) }
+    ensures { MatchResult result
+        (λ rest. (discriminant_in (tokens_of tokens.entry) ≡ Ok (tt, tokens_of rest))
+        × (count_of (tokens_of rest) ≤ count_of (tokens_of tokens.entry)))
+        (λ error. discriminant_in (tokens_of tokens.entry) ≡ Err error) }
 {
     match split(tokens) {
         Some((TokenTree::Punct(punct), rest)) if punct.character == '=' => skip_value(rest),
@@ -70,8 +78,10 @@ fn read_variant<'t, 's>(
     alloc: Global,
     tokens: Tokens<'t, 's>,
 ) -> Result<(Variant<'t, 's>, Tokens<'t, 's>), ReadError>
-    ensures ok { IfOk result (λ read. variant (tokens_of tokens.entry) (Ok (variant_value read.0, tokens_of read.1))) }
-    ensures shorter { IfOk result (λ read. count_of (tokens_of read.1) < count_of (tokens_of tokens.entry)) }
+    ensures ok { IfOk result
+        (λ read. variant (tokens_of tokens.entry) (Ok (variant_value read.0, tokens_of read.1))) }
+    ensures shorter { IfOk result
+        (λ read. count_of (tokens_of read.1) < count_of (tokens_of tokens.entry)) }
     ensures err { IfErr result (Stands (λ error. variant (tokens_of tokens.entry) (Err error))) }
 {
     let (attributes, named) = read_attributes(tokens)?;
@@ -91,7 +101,8 @@ pub(crate) fn read_variants<'t, 's>(
     alloc: Global,
     tokens: Tokens<'t, 's>,
 ) -> Result<Vec<Variant<'t, 's>>, ReadError>
-    ensures ok { IfOk result (λ list. variants (tokens_of tokens.entry) (Ok (map variant_value list.items, none))) }
+    ensures ok { IfOk result
+        (λ list. variants (tokens_of tokens.entry) (Ok (map variant_value list.items, none))) }
     ensures err { IfErr result (Stands (λ error. variants (tokens_of tokens.entry) (Err error))) }
 {
     let mut list = Vec::new(alloc);

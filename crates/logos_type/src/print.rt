@@ -65,7 +65,8 @@ impl TypePrinter {
 
     /// Adds a lexeme.
     fn add(&mut self, text: &str, gap: &'static str) -> Result<(), Memory>
-        ensures { OnOk result (printed_of self.new ≡ print_part (printed_of self.old) (record { text = text.now; gap = gap.now })) }
+        ensures { OnOk result (printed_of self.new ≡
+            print_part (printed_of self.old) (record { text = text.now; gap = gap.now })) }
     {
         self.text.push_str(self.gap)?;
         self.text.push_str(text)?;
@@ -75,7 +76,8 @@ impl TypePrinter {
 
     /// Adds a lexeme of one character.
     fn add_character(&mut self, character: char, gap: &'static str) -> Result<(), Memory>
-        ensures { OnOk result (printed_of self.new ≡ print_part (printed_of self.old) (record { text = encode_utf8 character; gap = gap.now })) }
+        ensures { OnOk result (printed_of self.new ≡
+            print_part (printed_of self.old) (record { text = encode_utf8 character; gap = gap.now })) }
     {
         self.text.push_str(self.gap)?;
         self.text.push(character)?;
@@ -85,7 +87,8 @@ impl TypePrinter {
 
     /// Adds a lifetime.
     fn add_lifetime(&mut self, text: &str) -> Result<(), Memory>
-        ensures { OnOk result (printed_of self.new ≡ fold print_part (printed_of self.old) (lifetime_parts text.now)) }
+        ensures { OnOk result (printed_of self.new ≡
+            fold print_part (printed_of self.old) (lifetime_parts text.now)) }
     {
         self.add("'", "")?;
         self.add(text, " ")
@@ -93,7 +96,8 @@ impl TypePrinter {
 
     /// Adds `&`, and the lifetime behind it, if there is one.
     fn add_reference(&mut self, lifetime: Option<&str>) -> Result<(), Memory>
-        ensures { OnOk result (printed_of self.new ≡ fold print_part (printed_of self.old) (sign_parts (sign_of (Leaf.Reference lifetime.entry)))) }
+        ensures { OnOk result (printed_of self.new ≡
+            fold print_part (printed_of self.old) (sign_parts (sign_of (Leaf.Reference lifetime.entry)))) }
     {
         self.add("&", " ")?;
         match lifetime {
@@ -104,7 +108,8 @@ impl TypePrinter {
 
     /// Adds a token.
     fn add_leaf(&mut self, leaf: Leaf<'_>) -> Result<(), Memory>
-        ensures { OnOk result (printed_of self.new ≡ fold print_part (printed_of self.old) (sign_parts (sign_of leaf.entry))) }
+        ensures { OnOk result (printed_of self.new ≡
+            fold print_part (printed_of self.old) (sign_parts (sign_of leaf.entry))) }
     {
         match leaf {
             Leaf::Word(text) => self.add(text, " "),
@@ -124,7 +129,8 @@ impl TypePrinter {
 
     /// Adds a part.
     pub(crate) fn add_part(&mut self, part: &Part<'_>) -> Result<(), Memory>
-        ensures { OnOk result (printed_of self.new ≡ fold print_part (printed_of self.old) (type_parts (tree_of part.now))) }
+        ensures { OnOk result (printed_of self.new ≡
+            fold print_part (printed_of self.old) (type_parts (tree_of part.now))) }
     {
         match part {
             Part::Leaf(leaf) => self.add_leaf(*leaf),

@@ -67,7 +67,8 @@ pub const TYPE_NESTING: u32 = 128;
 /// Adds the tokens of a run as they are, those inside groups too.
 #[cycle(keeping)]
 fn keep_tokens<'s>(run: Tokens<'_, 's>, parts: &mut Vec<Part<'s>>) -> Result<(), AllocError>
-    ensures { OnOk result (map tree_of parts.new.items ≡ map tree_of parts.old.items ++ still_run (tokens_of run.entry)) }
+    ensures { OnOk result (map tree_of parts.new.items ≡
+        map tree_of parts.old.items ++ still_run (tokens_of run.entry)) }
 {
     let mut rest = run;
     while let Some(tree) = rest.first() {
@@ -80,7 +81,8 @@ fn keep_tokens<'s>(run: Tokens<'_, 's>, parts: &mut Vec<Part<'s>>) -> Result<(),
 /// Adds a token as it is.
 #[cycle(keeping)]
 fn keep_token<'s>(tree: TokenTree<'_, 's>, parts: &mut Vec<Part<'s>>) -> Result<(), AllocError>
-    ensures { OnOk result (map tree_of parts.new.items ≡ map tree_of parts.old.items ++ still_token (token_of tree.entry)) }
+    ensures { OnOk result (map tree_of parts.new.items ≡
+        map tree_of parts.old.items ++ still_token (token_of tree.entry)) }
 {
     match tree {
         TokenTree::Ident(ident) => parts.push(Part::Leaf(Leaf::Word(ident.text)))?,
@@ -188,7 +190,8 @@ fn parts_at<'t, 's>(
 /// From the first of the tokens up to the rest.
 fn span_before<'t, 's>(tokens: Tokens<'t, 's>, rest: Tokens<'t, 's>) -> Span
     requires { IsRestOf (tokens_of tokens) (tokens_of rest) }
-    ensures { (split : IsRestOf (tokens_of tokens.entry) (tokens_of rest.entry)) → result ≡ run_span split.front }
+    ensures { (split : IsRestOf (tokens_of tokens.entry) (tokens_of rest.entry)) →
+        result ≡ run_span split.front }
 {
     let front = tokens.before(rest);
     front.span()
@@ -203,7 +206,8 @@ pub(crate) fn type_at<'t, 's>(
     plus: bool,
     tokens: Tokens<'t, 's>,
 ) -> Result<(Part<'s>, Tokens<'t, 's>), TypeFault>
-    ensures ok { IfOk result (λ read. IsType levels plus (tokens_of tokens.entry) (tree_of read.0) (tokens_of read.1)) }
+    ensures ok { IfOk result
+        (λ read. IsType levels plus (tokens_of tokens.entry) (tree_of read.0) (tokens_of read.1)) }
     ensures err { IfErr result (IfFault (NoType levels plus (tokens_of tokens.entry))) }
 {
     if let Some((name, rest)) = read_name(tokens) {
@@ -232,8 +236,10 @@ pub fn read_type<'t, 's>(
     alloc: Global,
     tokens: Tokens<'t, 's>,
 ) -> Result<(TypeExpr<'s>, Tokens<'t, 's>), TypeFault>
-    ensures ok { IfOk result (λ read. IsTypeExpr (tokens_of tokens.entry) (type_tree read.0) (tokens_of read.1)) }
-    ensures shorter { IfOk result (λ read. count_of (tokens_of read.1) < count_of (tokens_of tokens.entry)) }
+    ensures ok { IfOk result
+        (λ read. IsTypeExpr (tokens_of tokens.entry) (type_tree read.0) (tokens_of read.1)) }
+    ensures shorter { IfOk result
+        (λ read. count_of (tokens_of read.1) < count_of (tokens_of tokens.entry)) }
     ensures err { IfErr result (IfFault (NoTypeExpr (tokens_of tokens.entry))) }
 {
     let (part, rest) = type_at(alloc, TYPE_NESTING, true, tokens)?;

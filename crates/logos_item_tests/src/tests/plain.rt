@@ -176,7 +176,7 @@ fn field_step(state: State, kind: Kind) -> Option<State> {
         (State::Field | State::FieldAttribute | State::FieldPub | State::FieldVisible, kind)
             if is_word(kind) => Some(State::FieldName),
         (State::FieldName, Kind::Colon) => Some(State::FieldColon),
-        (State::FieldColon, Kind::Word) => Some(State::FieldWord),
+        (State::FieldColon, Kind::Word | Kind::Pub) => Some(State::FieldWord),
         (State::FieldColon, Kind::Parenthesis | Kind::Bracket) => Some(State::FieldType),
         (State::FieldWord, Kind::Parenthesis) => Some(State::FieldType),
         (State::FieldWord | State::FieldType, Kind::Comma) => Some(State::Field),

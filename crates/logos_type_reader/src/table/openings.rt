@@ -17,7 +17,8 @@ fn start<'t, 's>(
     run: Tokens<'t, 's>,
     behind: Behind<'t, 's>,
 ) -> First<'t, 's>
-    ensures { result ≡ Ok (record { barred = false; leaf = leaf.entry; spot = record { place = place; run = run.entry; behind = behind.entry } }) }
+    ensures { result ≡
+        Ok (record { barred = false; leaf = leaf.entry; spot = record { place = place; run = run.entry; behind = behind.entry } }) }
 {
     Ok(Opening {
         barred: false,
@@ -149,7 +150,9 @@ fn is_reserved(text: &str) -> bool
 
 /// The name and what is behind it, where the type is just a name.
 pub(crate) fn read_name<'t, 's>(tokens: Tokens<'t, 's>) -> Option<(&'s str, Tokens<'t, 's>)>
-    ensures { MatchOption result (name_of (tokens_of tokens.entry) ≡ None) (λ read. (name_of (tokens_of tokens.entry) ≡ Some read.0.now) × (tokens_of read.1 ≡ rest_of (tokens_of tokens.entry))) }
+    ensures { MatchOption result (name_of (tokens_of tokens.entry) ≡ None)
+        (λ read. (name_of (tokens_of tokens.entry) ≡ Some read.0.now)
+        × (tokens_of read.1 ≡ rest_of (tokens_of tokens.entry))) }
 {
     match split(tokens) {
         Some((TokenTree::Ident(name), rest))

@@ -11,7 +11,8 @@ use logos_type::Leaf;
 
 /// The first tree, and the trees behind it.
 pub(super) fn split<'t, 's>(tokens: Tokens<'t, 's>) -> Option<(TokenTree<'t, 's>, Tokens<'t, 's>)>
-    ensures { MatchOption result (tokens_of tokens.entry ≡ none) (λ read. tokens_of tokens.entry ≡ also (tree_of read.0) (tokens_of read.1)) }
+    ensures { MatchOption result (tokens_of tokens.entry ≡ none)
+        (λ read. tokens_of tokens.entry ≡ also (tree_of read.0) (tokens_of read.1)) }
 {
     let tree = tokens.first()?;
     Some((tree, tokens.rest()))
@@ -36,7 +37,9 @@ pub(super) fn misfit<'t, 's>(tokens: Tokens<'t, 's>) -> Next<'t, 's>
 
 /// What is behind `::`, if that comes first.
 pub(super) fn behind_colons<'t, 's>(tokens: Tokens<'t, 's>) -> Option<Tokens<'t, 's>>
-    ensures { MatchOption result (begins_colons (tokens_of tokens.entry) ≡ false) (λ rest. (begins_colons (tokens_of tokens.entry) ≡ true) × (tokens_of rest ≡ behind_two (tokens_of tokens.entry))) }
+    ensures { MatchOption result (begins_colons (tokens_of tokens.entry) ≡ false)
+        (λ rest. (begins_colons (tokens_of tokens.entry) ≡ true)
+        × (tokens_of rest ≡ behind_two (tokens_of tokens.entry))) }
 {
     let (TokenTree::Punct(first), after) = split(tokens)? else {
         return None;
@@ -53,7 +56,9 @@ pub(super) fn behind_colons<'t, 's>(tokens: Tokens<'t, 's>) -> Option<Tokens<'t,
 
 /// What is behind `->`, if that comes first.
 pub(super) fn behind_arrow<'t, 's>(tokens: Tokens<'t, 's>) -> Option<Tokens<'t, 's>>
-    ensures { MatchOption result (begins_arrow (tokens_of tokens.entry) ≡ false) (λ rest. (begins_arrow (tokens_of tokens.entry) ≡ true) × (tokens_of rest ≡ behind_two (tokens_of tokens.entry))) }
+    ensures { MatchOption result (begins_arrow (tokens_of tokens.entry) ≡ false)
+        (λ rest. (begins_arrow (tokens_of tokens.entry) ≡ true)
+        × (tokens_of rest ≡ behind_two (tokens_of tokens.entry))) }
 {
     let (TokenTree::Punct(first), after) = split(tokens)? else {
         return None;
@@ -70,7 +75,9 @@ pub(super) fn behind_arrow<'t, 's>(tokens: Tokens<'t, 's>) -> Option<Tokens<'t, 
 
 /// What is behind `...`, if that comes first.
 pub(super) fn behind_dots<'t, 's>(tokens: Tokens<'t, 's>) -> Option<Tokens<'t, 's>>
-    ensures { MatchOption result (begins_dots (tokens_of tokens.entry) ≡ false) (λ rest. (begins_dots (tokens_of tokens.entry) ≡ true) × (tokens_of rest ≡ behind_three (tokens_of tokens.entry))) }
+    ensures { MatchOption result (begins_dots (tokens_of tokens.entry) ≡ false)
+        (λ rest. (begins_dots (tokens_of tokens.entry) ≡ true)
+        × (tokens_of rest ≡ behind_three (tokens_of tokens.entry))) }
 {
     let (TokenTree::Punct(first), after) = split(tokens)? else {
         return None;
@@ -145,7 +152,8 @@ pub(super) fn take<'t, 's>(
     run: Tokens<'t, 's>,
     behind: Behind<'t, 's>,
 ) -> Next<'t, 's>
-    ensures { result ≡ Ok (Step.Take leaf.entry (record { place = place; run = run.entry; behind = behind.entry })) }
+    ensures { result ≡
+        Ok (Step.Take leaf.entry (record { place = place; run = run.entry; behind = behind.entry })) }
 {
     Ok(Step::Take(leaf, Spot { place, run, behind }))
 }
@@ -157,7 +165,8 @@ pub(super) fn bar<'t, 's>(
     run: Tokens<'t, 's>,
     behind: Behind<'t, 's>,
 ) -> Next<'t, 's>
-    ensures { result ≡ Ok (Step.Bar leaf.entry (record { place = place; run = run.entry; behind = behind.entry })) }
+    ensures { result ≡
+        Ok (Step.Bar leaf.entry (record { place = place; run = run.entry; behind = behind.entry })) }
 {
     Ok(Step::Bar(leaf, Spot { place, run, behind }))
 }
@@ -200,7 +209,8 @@ pub(super) fn nest<'t, 's>(
     run: Tokens<'t, 's>,
     next: Place,
 ) -> Next<'t, 's>
-    ensures { result ≡ Ok (Step.Nest leaf.entry (record { place = place; run = run.entry; behind = None }) next) }
+    ensures { result ≡
+        Ok (Step.Nest leaf.entry (record { place = place; run = run.entry; behind = None }) next) }
 {
     let inner = Spot {
         place,
