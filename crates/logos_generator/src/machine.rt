@@ -258,4 +258,3 @@ fn answer<C: Fn(LeafId, &[u8]) -> Action>(
         Action::Emit
     }
 }
-
