@@ -2,5 +2,4 @@
 
 #![tactic(auto)]
 
-pub mod item;
 pub mod parser;

@@ -1,4 +1,0 @@
-pub mod PartTrees
-pub mod PartLemmas
-pub mod DepthLemmas
-pub mod EqualityLemmas

@@ -1,5 +1,0 @@
-pub mod Parts
-pub mod TypeTrees
-pub mod Depth
-pub mod Printed
-pub mod inside
