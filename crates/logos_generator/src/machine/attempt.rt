@@ -204,7 +204,7 @@ fn look(code: &Code, input: &[u8], state: usize, offset: usize) -> Option<(usize
     }
 }
 
-/// The same as `attempt_with_marks`. The room for what that one gives is made here, so a try that needs no marks makes none.
+/// A try that keeps the marks passed, called apart. The room for what it gives is made here, so a try that needs no marks makes none.
 #[inline(always)]
 fn attempt_again(code: &Code, input: &[u8], start: usize) -> (Found, usize)
     requires { start ≤ length input.now }
@@ -215,7 +215,7 @@ fn attempt_again(code: &Code, input: &[u8], start: usize) -> (Found, usize)
     attempt_with_marks(code, input, start)
 }
 
-/// The same as `attempt`, where the marks passed are kept.
+/// What is found from a place on, and the number of states entered, by a try that keeps the marks passed.
 #[inline(never)]
 fn attempt_with_marks(code: &Code, input: &[u8], start: usize) -> (Found, usize)
     requires { start ≤ length input.now }
