@@ -13,7 +13,7 @@ use crate::lexeme::ends::prefix_of;
 use crate::lexeme::openings::{Content, Opening};
 
 /// What a piece of a string holds.
-#[derive(Clone, Copy, Debug)]
+#[derive(Clone, Copy)]
 pub enum Piece {
     /// Nothing.
     Nothing,
@@ -101,7 +101,10 @@ fn hex_escape(source: &str, content: Content, at: usize) -> Option<u8>
 fn is_digit_or_line(byte: u8) -> bool
     ensures { result ≡ (is_hex byte || (byte == 95)) }
 {
-    char::from(byte).is_digit(16) | (byte == b'_')
+    match digit_of(byte) {
+        Some(_) => true,
+        None => byte == b'_',
+    }
 }
 
 /// Where digits and `_` end.
@@ -120,7 +123,7 @@ fn digits_end(source: &str, from: usize) -> usize
 }
 
 /// How many digits were read, and what they write.
-#[derive(Clone, Copy, Debug)]
+#[derive(Clone, Copy)]
 struct Digits {
     count: u32,
     value: u32,
@@ -205,7 +208,7 @@ fn escape_at(source: &str, content: Content, at: usize) -> Option<(Piece, usize)
         return Some((Piece::Byte(byte), at + 4));
     }
     if letter == b'u' {
-        if content == Content::Bytes {
+        if let Content::Bytes = content {
             return None;
         }
         let (character, brace) = unicode_escape(source, at)?;

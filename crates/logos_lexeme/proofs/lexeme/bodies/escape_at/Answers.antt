@@ -1,5 +1,4 @@
 use Rattle.std.proofs.Common.{refl, sym, ◌∙◌, ap}
-use Rattle.std.proofs.lemmas.Bool.{false≢true}
 use Rattle.logos_lexeme.specs.LiteralBodies.{is_simple, simple, hex, unicode}
 use Rattle.logos_lexeme.proofs.BodyLaws.{no_hex, no_unicode}
 use Rattle.logos_lexeme.proofs.lexeme.bodies.escape_at.Goals as goal
@@ -18,4 +17,4 @@ pub returns-in_err-character : goal.returns-in_err-character
 returns-in_err-character c = rw c.from_residual-in_err-character.ensures (no_unicode c.args.content c.args.source.now c.args.at (sym c.byte_at-letter.ensures ∙ c.if-letter-eq117.true) c.in_err-character.ensures)
 
 pub returns-then-letter-eq117 : goal.returns-then-letter-eq117
-returns-then-letter-eq117 c = rw c.in_ok-character.ensures.1 (unicode (λ e. false≢true (rw e at c.if-eq.ensures)) c.in_ok-character.ensures.0 refl)
+returns-then-letter-eq117 c = rw c.in_ok-character.ensures.1 (unicode c.in_default.not-Bytes c.in_ok-character.ensures.0 refl)
