@@ -57,7 +57,7 @@ impl<T: Drop> From<AllocFailed<T>> for TokenError {
 }
 
 /// A group without its closing delimiter.
-#[derive(Clone, Copy, Debug)]
+#[derive(Clone, Copy)]
 struct OpenGroup {
     delimiter: Delimiter,
     /// The opening delimiter.
