@@ -32,23 +32,10 @@ fn are_two_faults(list: &[SpannedError]) -> bool {
         && second.also == Some(FIRST)
 }
 
-#[test]
-fn faults_in_order(rt: HostRuntime) -> Result<(), Fail> {
-    let errors = two_faults(rt.alloc())?;
-    assert!(rt; are_two_faults(errors.list()));
-    Ok(())
-}
-
 /// The name of a fault, another that is printed, and the text of want of memory.
 fn names(alloc: Global) -> Result<String, Fail> {
     let name = FaultCode::NotAnEnum.name();
     Ok(format!(in alloc; "{name} {}: {}", FaultCode::LimitSource, Memory)?)
-}
-
-#[test]
-fn printed_names(rt: HostRuntime) -> Result<(), Fail> {
-    assert!(rt; names(rt.alloc())?.as_str() == "NotAnEnum LimitSource: out of memory");
-    Ok(())
 }
 
 /// Whether the faults are rendered as this text, or not at all where it is empty.
@@ -70,22 +57,24 @@ fn render(rt: &impl Abort, alloc: Global, cases: &[(FaultCode, &str, &str)]) -> 
     Ok(())
 }
 
+/// Faults with texts that are escaped and texts that are not.
+const RENDERED: [(FaultCode, &str, &str); 2] = [
+    (
+        FaultCode::CallbackValue,
+        "Not a valid callback",
+        "fn _logos_derive_compile_errors ( ) { { compile_error ! ( \"Not a valid callback\" ) } } unimplemented ! ( )",
+    ),
+    (
+        FaultCode::IgnoreUnknown,
+        "\"x\\y\"\n\r\té",
+        "fn _logos_derive_compile_errors ( ) { { compile_error ! ( \"Not a valid callback\" ) } { compile_error ! ( \"\\\"x\\\\y\\\"\\n\\r\\té\" ) } } unimplemented ! ( )",
+    ),
+];
+
 #[test]
-fn rendered_faults(rt: HostRuntime) -> Result<(), Fail> {
-    render(
-        &rt,
-        rt.alloc(),
-        &[
-            (
-                FaultCode::CallbackValue,
-                "Not a valid callback",
-                "fn _logos_derive_compile_errors ( ) { { compile_error ! ( \"Not a valid callback\" ) } } unimplemented ! ( )",
-            ),
-            (
-                FaultCode::IgnoreUnknown,
-                "\"x\\y\"\n\r\té",
-                "fn _logos_derive_compile_errors ( ) { { compile_error ! ( \"Not a valid callback\" ) } { compile_error ! ( \"\\\"x\\\\y\\\"\\n\\r\\té\" ) } } unimplemented ! ( )",
-            ),
-        ],
-    )
+fn faults(rt: HostRuntime) -> Result<(), Fail> {
+    let errors = two_faults(rt.alloc())?;
+    assert!(rt; are_two_faults(errors.list()));
+    assert!(rt; names(rt.alloc())?.as_str() == "NotAnEnum LimitSource: out of memory");
+    render(&rt, rt.alloc(), &RENDERED)
 }

@@ -23,18 +23,6 @@ fn begins_with_comma(run: Tokens<'_, '_>) -> bool {
     stands(run, ',', true) && stands(run, '=', false) && stands(run.rest(), ',', false)
 }
 
-#[test]
-fn single_punctuation(rt: HostRuntime) -> Result<(), Fail> {
-    assert!(rt; begins_with_comma(tokenize(rt.alloc(), ", ,, a")?.run()));
-    Ok(())
-}
-
-#[test]
-fn made_identifiers(rt: HostRuntime) {
-    let ident = "State0".to_ident();
-    assert!(rt; ident.text == "State0" && ident.span == Span { from: 0, to: 0 });
-}
-
 /// How many bytes from the first to the last of the tokens.
 fn width(tokens: &MaybeVoid<'_>) -> Option<usize> {
     match tokens {
@@ -65,12 +53,6 @@ fn are_replaced(alloc: Global, source: &str, text: &str) -> Result<bool, Fail> {
     )
 }
 
-#[test]
-fn tokens_or_none(rt: HostRuntime) -> Result<(), Fail> {
-    assert!(rt; are_replaced(rt.alloc(), "a b (c)", "b ( c )")?);
-    Ok(())
-}
-
 /// A copy of the tokens of a source is printed as this text.
 fn copy_prints(alloc: Global, source: &str, text: &str) -> Result<bool, Fail> {
     let copy = tokenize(alloc, source)?.clone()?;
@@ -85,8 +67,12 @@ fn stands_alone(alloc: Global, ident: Ident<'_>) -> Result<bool, Fail> {
 }
 
 #[test]
-fn made_streams(rt: HostRuntime) -> Result<(), Fail> {
+fn helpers(rt: HostRuntime) -> Result<(), Fail> {
     let alloc = rt.alloc();
+    assert!(rt; begins_with_comma(tokenize(alloc, ", ,, a")?.run()));
+    let made = "State0".to_ident();
+    assert!(rt; made.text == "State0" && made.span == Span { from: 0, to: 0 });
+    assert!(rt; are_replaced(alloc, "a b (c)", "b ( c )")?);
     let ident = Ident {
         text: "Enum",
         span: Span { from: 5, to: 9 },

@@ -168,60 +168,48 @@ fn answers(rt: &impl Abort, alloc: Global, cases: &[(&str, Ask<'_>, &str)]) -> R
     Ok(())
 }
 
-#[test]
-fn tokens_of_sources(rt: HostRuntime) -> Result<(), Fail> {
-    answers(
-        &rt,
-        rt.alloc(),
-        &[
-            ("enum T { #[token(\"a\")] A }", Ask::Extent, "0..26 "),
-            (
-                "enum T { #[token(\"a\")] A }",
-                Ask::Spans(&[
-                    (&[], 0),
-                    (&[], 1),
-                    (&[], 2),
-                    (&[2], 0),
-                    (&[2], 1),
-                    (&[2], 2),
-                    (&[2, 1], 0),
-                    (&[2, 1, 1], 0),
-                ]),
-                "0..4 5..6 7..26 9..10 10..22 23..24 11..16 17..20 ",
-            ),
-            ("a :: \"b\"", Ask::Texts, "a :- : b "),
-            ("a (b) c", Ask::Fronts, "0..1 0..5 none"),
-            ("", Ask::Fronts, "0..0 0..0 none"),
-            ("", Ask::Extent, "none"),
-            (" \t\r\n", Ask::Extent, "none"),
-            ("a,|b|", Ask::Print, "a ,| b |"),
-            (
-                "enum E{#[token(\"a\")]A::B}",
-                Ask::Print,
-                "enum E { # [ token ( \"a\" ) ] A :: B }",
-            ),
-            ("", Ask::Print, ""),
-        ],
-    )
-}
+/// Sources that are read.
+const READABLE: [(&str, Ask<'static>, &str); 10] = [
+    ("enum T { #[token(\"a\")] A }", Ask::Extent, "0..26 "),
+    (
+        "enum T { #[token(\"a\")] A }",
+        Ask::Spans(&[
+            (&[], 0),
+            (&[], 1),
+            (&[], 2),
+            (&[2], 0),
+            (&[2], 1),
+            (&[2], 2),
+            (&[2, 1], 0),
+            (&[2, 1, 1], 0),
+        ]),
+        "0..4 5..6 7..26 9..10 10..22 23..24 11..16 17..20 ",
+    ),
+    ("a :: \"b\"", Ask::Texts, "a :- : b "),
+    ("a (b) c", Ask::Fronts, "0..1 0..5 none"),
+    ("", Ask::Fronts, "0..0 0..0 none"),
+    ("", Ask::Extent, "none"),
+    (" \t\r\n", Ask::Extent, "none"),
+    ("a,|b|", Ask::Print, "a ,| b |"),
+    (
+        "enum E{#[token(\"a\")]A::B}",
+        Ask::Print,
+        "enum E { # [ token ( \"a\" ) ] A :: B }",
+    ),
+    ("", Ask::Print, ""),
+];
 
-#[test]
-fn unreadable_sources(rt: HostRuntime) -> Result<(), Fail> {
-    answers(
-        &rt,
-        rt.alloc(),
-        &[
-            ("enum E {", Ask::Refusal, "unbalanced 7..8 "),
-            (")", Ask::Refusal, "unbalanced 0..1 "),
-            ("( ]", Ask::Refusal, "unbalanced 2..3 "),
-            ("([()", Ask::Refusal, "unbalanced 1..2 "),
-            ("a \"bc", Ask::Refusal, "unterminated 2..5 "),
-            ("( `", Ask::Refusal, "character 2..3 "),
-            ("a £", Ask::Refusal, "character 2..4 "),
-            ("\"a\\b\" c", Ask::Refusal, "literal 0..5 "),
-        ],
-    )
-}
+/// Sources that are refused.
+const UNREADABLE: [(&str, Ask<'static>, &str); 8] = [
+    ("enum E {", Ask::Refusal, "unbalanced 7..8 "),
+    (")", Ask::Refusal, "unbalanced 0..1 "),
+    ("( ]", Ask::Refusal, "unbalanced 2..3 "),
+    ("([()", Ask::Refusal, "unbalanced 1..2 "),
+    ("a \"bc", Ask::Refusal, "unterminated 2..5 "),
+    ("( `", Ask::Refusal, "character 2..3 "),
+    ("a £", Ask::Refusal, "character 2..4 "),
+    ("\"a\\b\" c", Ask::Refusal, "literal 0..5 "),
+];
 
 /// The text of the first tree, if it is an identifier. It outlives the buffer, which ends here.
 fn first_name<'s>(alloc: Global, source: &'s str) -> Result<&'s str, TokenError> {
@@ -232,63 +220,57 @@ fn first_name<'s>(alloc: Global, source: &'s str) -> Result<&'s str, TokenError>
     }
 }
 
-#[test]
-fn texts_outlive_buffers(rt: HostRuntime) -> Result<(), Fail> {
-    assert!(rt; first_name(rt.alloc(), "enum T {}")? == "enum");
-    Ok(())
-}
+/// A text, so many times what opens, as many times what closes, a text behind it, and the reason
+/// for which it is refused.
+type Nested = (
+    &'static str,
+    &'static str,
+    usize,
+    &'static str,
+    &'static str,
+    &'static str,
+);
 
-/// So many pairs of parentheses inside one another, between two texts.
-fn nested(alloc: Global, front: &str, depth: usize, rest: &str) -> Result<String, AllocError> {
-    let opening = "(".repeat(alloc, depth)?;
-    let closing = ")".repeat(alloc, depth)?;
+/// The source that is nested.
+fn nested(alloc: Global, case: &Nested) -> Result<String, AllocError> {
+    let (front, open, times, close, rest, _) = *case;
+    let opening = open.repeat(alloc, times)?;
+    let closing = close.repeat(alloc, times)?;
     format!(in alloc; "{front}{opening}{closing}{rest}")
 }
 
-/// So many pairs between two texts are refused as is said behind them, or read.
-fn nest(rt: &impl Abort, alloc: Global, cases: &[(&str, usize, &str, &str)]) -> Result<(), Fail> {
+/// Nested sources are refused as is said behind them, or read.
+fn nest(rt: &impl Abort, alloc: Global, cases: &[Nested]) -> Result<(), Fail> {
     for case in cases {
-        let source = nested(alloc, case.0, case.1, case.2)?;
+        let source = nested(alloc, case)?;
         let text = answer(alloc, source.as_str(), Ask::Refusal)?;
-        assert!(rt; text.as_str() == case.3, "another answer");
+        assert!(rt;
+            text.as_str() == case.5,
+            "another answer: {} {}",
+            case.2,
+            case.5
+        );
     }
     Ok(())
 }
 
-// The brace of the enum is one of the 128 delimiters that may be open.
-#[test]
-fn nesting(rt: HostRuntime) -> Result<(), Fail> {
-    nest(
-        &rt,
-        rt.alloc(),
-        &[
-            ("", 128, "", ""),
-            ("", 129, "", "nesting 128..129 "),
-            ("enum E { #[token(\"a\")] A = ", 127, " }", ""),
-            (
-                "enum E { #[token(\"a\")] A = ",
-                128,
-                " }",
-                "nesting 154..155 ",
-            ),
-        ],
-    )
-}
-
-/// So many spaces are refused as is said beside them, or read.
-fn spread(rt: &impl Abort, alloc: Global, cases: &[(usize, &str)]) -> Result<(), Fail> {
-    for case in cases {
-        let source = " ".repeat(alloc, case.0)?;
-        let text = answer(alloc, source.as_str(), Ask::Refusal)?;
-        assert!(rt; text.as_str() == case.1, "another answer");
-    }
-    Ok(())
-}
-
-#[test]
-fn length_of_sources(rt: HostRuntime) -> Result<(), Fail> {
-    spread(&rt, rt.alloc(), &[(16_777_216, ""), (16_777_217, "source")])
-}
+/// Delimiters inside one another, of which 128 may be open, the brace of the enum among them; and
+/// sources as long as can be.
+const NESTED: [Nested; 6] = [
+    ("", "(", 128, ")", "", ""),
+    ("", "(", 129, ")", "", "nesting 128..129 "),
+    ("enum E { #[token(\"a\")] A = ", "(", 127, ")", " }", ""),
+    (
+        "enum E { #[token(\"a\")] A = ",
+        "(",
+        128,
+        ")",
+        " }",
+        "nesting 154..155 ",
+    ),
+    ("", " ", 16_777_216, "", "", ""),
+    ("", " ", 16_777_217, "", "", "source"),
+];
 
 /// Whether two trees are the same, their spans aside. Groups are compared by what is printed of
 /// their insides.
@@ -342,92 +324,91 @@ fn print_back(rt: &impl Abort, alloc: Global, sources: &[&str]) -> Result<(), Fa
     Ok(())
 }
 
-#[test]
-fn printed_literals(rt: HostRuntime) -> Result<(), Fail> {
-    print_back(
-        &rt,
-        rt.alloc(),
-        &[
-            "1",
-            "0x1F",
-            "1_000u32",
-            "1.5e-3f32",
-            "1.foo",
-            "1..2",
-            "0b1_0",
-            "2.0",
-            "0o17",
-            "1e+9",
-            "\"\"",
-            "\"a\\\"b\"",
-            "\"a\\u{1F600}\\x41\"",
-            "\"a\\\n   b\"",
-            "\"a\"suffix",
-            "r\"a\\\"",
-            "r#\"a\"b\"#",
-            "r##\"a\"#\"##r",
-            "b\"a\\xFF\"",
-            "br\"a\"",
-            "br#\"\"#",
-            "c\"a\"",
-            "cr#\"a\"#",
-            "'a'",
-            "'\\''",
-            "'\\n'",
-            "'\u{e9}'",
-            "b'a'",
-            "b'\\\\'",
-            "'('u8",
-        ],
-    )
-}
+/// Literals alone.
+const LITERALS: [&str; 30] = [
+    "1",
+    "0x1F",
+    "1_000u32",
+    "1.5e-3f32",
+    "1.foo",
+    "1..2",
+    "0b1_0",
+    "2.0",
+    "0o17",
+    "1e+9",
+    "\"\"",
+    "\"a\\\"b\"",
+    "\"a\\u{1F600}\\x41\"",
+    "\"a\\\n   b\"",
+    "\"a\"suffix",
+    "r\"a\\\"",
+    "r#\"a\"b\"#",
+    "r##\"a\"#\"##r",
+    "b\"a\\xFF\"",
+    "br\"a\"",
+    "br#\"\"#",
+    "c\"a\"",
+    "cr#\"a\"#",
+    "'a'",
+    "'\\''",
+    "'\\n'",
+    "'\u{e9}'",
+    "b'a'",
+    "b'\\\\'",
+    "'('u8",
+];
+
+/// Other lexemes, and some side by side.
+const LEXEMES: [&str; 40] = [
+    "a",
+    "r#fn",
+    "r",
+    "b",
+    "c",
+    "br",
+    "\u{e9}t\u{e9}",
+    "_",
+    "'a",
+    "'r#a",
+    "'a: 'static",
+    "'r\"a\"",
+    "&'a T",
+    "a::b",
+    "->=>",
+    "..=",
+    "<<=",
+    "+ +",
+    "/ /",
+    "a//b\n/c",
+    "a/*b*/c",
+    "+/*a*/+",
+    "+//\n+",
+    "///a\n///b",
+    "//!a\r\nb",
+    "/**a*/b",
+    "/*!a/*b*/c*/",
+    "///a",
+    "/***/",
+    "////a",
+    "$%^!@~?",
+    "()",
+    "[{}]",
+    "(a, [b; 2])",
+    "f(1)(2)",
+    "{'a'}",
+    "#[a = \"b\"]",
+    "\u{feff}a",
+    "a\u{200e}b",
+    "/-/",
+];
 
 #[test]
-fn printed_lexemes(rt: HostRuntime) -> Result<(), Fail> {
-    print_back(
-        &rt,
-        rt.alloc(),
-        &[
-            "a",
-            "r#fn",
-            "r",
-            "b",
-            "c",
-            "br",
-            "\u{e9}t\u{e9}",
-            "_",
-            "'a",
-            "'r#a",
-            "'a: 'static",
-            "'r\"a\"",
-            "&'a T",
-            "a::b",
-            "->=>",
-            "..=",
-            "<<=",
-            "+ +",
-            "/ /",
-            "a//b\n/c",
-            "a/*b*/c",
-            "+/*a*/+",
-            "+//\n+",
-            "///a\n///b",
-            "//!a\r\nb",
-            "/**a*/b",
-            "/*!a/*b*/c*/",
-            "///a",
-            "/***/",
-            "////a",
-            "$%^!@~?",
-            "()",
-            "[{}]",
-            "(a, [b; 2])",
-            "f(1)(2)",
-            "{'a'}",
-            "#[a = \"b\"]",
-            "\u{feff}a",
-            "a\u{200e}b",
-            "/-/",
-        ],
-    )
+fn tokens(rt: HostRuntime) -> Result<(), Fail> {
+    answers(&rt, rt.alloc(), &READABLE)?;
+    answers(&rt, rt.alloc(), &UNREADABLE)?;
+    nest(&rt, rt.alloc(), &NESTED)?;
+    print_back(&rt, rt.alloc(), &LITERALS)?;
+    print_back(&rt, rt.alloc(), &LEXEMES)?;
+    assert!(rt; first_name(rt.alloc(), "enum T {}")? == "enum");
+    Ok(())
 }

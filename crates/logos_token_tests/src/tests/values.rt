@@ -6,118 +6,91 @@ use std::alloc::Global;
 use std::process::Abort;
 use std::test::Fail;
 
-fn value_of(alloc: Global, text: &str) -> Result<Option<LiteralValue>, Memory> {
+/// What a literal is.
+#[derive(Clone, Copy)]
+enum Want {
+    /// A string of this text.
+    Text(&'static str),
+    /// A byte string of these bytes.
+    Bytes(&'static [u8]),
+    /// No string and no byte string.
+    Other,
+}
+
+/// Whether the literal is what is wanted.
+fn is_value(alloc: Global, literal: &str, want: Want) -> Result<bool, Memory> {
     let span = Span {
         from: 0,
-        to: text.len(),
+        to: literal.len(),
     };
-    Literal { text, span }.value(alloc)
-}
-
-/// Whether the literal is a string of this text.
-fn is_text(alloc: Global, literal: &str, text: &str) -> Result<bool, Memory> {
-    match value_of(alloc, literal)? {
-        Some(LiteralValue::Text(found)) => Ok(found.as_str() == text),
-        _ => Ok(false),
+    let value = Literal {
+        text: literal,
+        span,
     }
+    .value(alloc)?;
+    Ok(match (&value, want) {
+        (Some(LiteralValue::Text(found)), Want::Text(text)) => found.as_str() == text,
+        (Some(LiteralValue::Bytes(found)), Want::Bytes(bytes)) => found.as_slice() == bytes,
+        (None, Want::Other) => true,
+        _ => false,
+    })
 }
 
-/// Whether the literal is a byte string of these bytes.
-fn is_bytes(alloc: Global, literal: &str, bytes: &[u8]) -> Result<bool, Memory> {
-    match value_of(alloc, literal)? {
-        Some(LiteralValue::Bytes(found)) => Ok(found.as_slice() == bytes),
-        _ => Ok(false),
-    }
-}
-
-/// Each literal is a string of the text beside it.
-fn are_texts(rt: &impl Abort, alloc: Global, cases: &[(&str, &str)]) -> Result<(), Fail> {
+/// Each literal is what stands beside it.
+fn are_values(rt: &impl Abort, alloc: Global, cases: &[(&str, Want)]) -> Result<(), Fail> {
     for case in cases {
-        assert!(rt; is_text(alloc, case.0, case.1)?, "another text: {}", case.0);
+        assert!(rt;
+            is_value(alloc, case.0, case.1)?,
+            "another value: {}",
+            case.0
+        );
     }
     Ok(())
 }
 
-/// Each literal is a byte string of the bytes beside it.
-fn are_bytes(rt: &impl Abort, alloc: Global, cases: &[(&str, &[u8])]) -> Result<(), Fail> {
-    for case in cases {
-        assert!(rt; is_bytes(alloc, case.0, case.1)?, "other bytes: {}", case.0);
-    }
-    Ok(())
-}
+/// Strings.
+const TEXTS: [(&str, Want); 12] = [
+    ("\"\"", Want::Text("")),
+    ("\"a \u{E9} \u{1F600}\"", Want::Text("a \u{E9} \u{1F600}")),
+    (r#""\n\r\t\\\0\'\"""#, Want::Text("\n\r\t\\\0'\"")),
+    (r#""a\x41\x7fb""#, Want::Text("aA\x7Fb")),
+    (r#""\u{e9}\u{1_F600}c""#, Want::Text("\u{E9}\u{1F600}c")),
+    ("\"a\r\nb\"", Want::Text("a\nb")),
+    ("\"a\\\n  \r\n\t b\"", Want::Text("ab")),
+    ("\"a\\\r\nb\"suffix", Want::Text("ab")),
+    (r#"r"a\n""#, Want::Text("a\\n")),
+    ("r##\"a\"#\"##", Want::Text("a\"#")),
+    ("r\"\u{E9}\\\"x", Want::Text("\u{E9}\\")),
+    ("r\"a\r\nb\"", Want::Text("a\nb")),
+];
 
-/// The literals are no strings and no byte strings.
-fn are_others(rt: &impl Abort, alloc: Global, literals: &[&str]) -> Result<(), Fail> {
-    for literal in literals {
-        assert!(rt; value_of(alloc, literal)?.is_none(), "a value: {literal}");
-    }
-    Ok(())
-}
+/// Byte strings.
+const BYTES: [(&str, Want); 5] = [
+    ("b\"\"", Want::Bytes(&[])),
+    (r#"b"a\xFF\0\\""#, Want::Bytes(&[97, 255, 0, 92])),
+    ("b\"a\r\nb\\\n c\"", Want::Bytes(&[97, 10, 98, 99])),
+    (r#"br"\x""#, Want::Bytes(&[92, 120])),
+    ("br#\"a\"b\"#", Want::Bytes(&[97, 34, 98])),
+];
 
-#[test]
-fn texts(rt: HostRuntime) -> Result<(), Fail> {
-    are_texts(
-        &rt,
-        rt.alloc(),
-        &[
-            ("\"\"", ""),
-            ("\"a \u{E9} \u{1F600}\"", "a \u{E9} \u{1F600}"),
-            (r#""\n\r\t\\\0\'\"""#, "\n\r\t\\\0'\""),
-            (r#""a\x41\x7fb""#, "aA\x7Fb"),
-            (r#""\u{e9}\u{1_F600}c""#, "\u{E9}\u{1F600}c"),
-            ("\"a\r\nb\"", "a\nb"),
-            ("\"a\\\n  \r\n\t b\"", "ab"),
-            ("\"a\\\r\nb\"suffix", "ab"),
-        ],
-    )
-}
-
-#[test]
-fn raw_texts(rt: HostRuntime) -> Result<(), Fail> {
-    are_texts(
-        &rt,
-        rt.alloc(),
-        &[
-            (r#"r"a\n""#, "a\\n"),
-            ("r##\"a\"#\"##", "a\"#"),
-            ("r\"\u{E9}\\\"x", "\u{E9}\\"),
-            ("r\"a\r\nb\"", "a\nb"),
-        ],
-    )
-}
+/// What is no string and no byte string.
+const OTHERS: [(&str, Want); 11] = [
+    ("", Want::Other),
+    ("5", Want::Other),
+    ("'a'", Want::Other),
+    ("b'a'", Want::Other),
+    ("c\"a\"", Want::Other),
+    ("cr\"a\"", Want::Other),
+    ("a", Want::Other),
+    ("\"a", Want::Other),
+    ("\"\\q\"", Want::Other),
+    ("b\"\u{E9}\"", Want::Other),
+    ("\"\r\"", Want::Other),
+];
 
 #[test]
-fn bytes(rt: HostRuntime) -> Result<(), Fail> {
-    are_bytes(
-        &rt,
-        rt.alloc(),
-        &[
-            ("b\"\"", &[]),
-            (r#"b"a\xFF\0\\""#, &[97, 255, 0, 92]),
-            ("b\"a\r\nb\\\n c\"", &[97, 10, 98, 99]),
-            (r#"br"\x""#, &[92, 120]),
-            ("br#\"a\"b\"#", &[97, 34, 98]),
-        ],
-    )
-}
-
-#[test]
-fn others(rt: HostRuntime) -> Result<(), Fail> {
-    are_others(
-        &rt,
-        rt.alloc(),
-        &[
-            "",
-            "5",
-            "'a'",
-            "b'a'",
-            "c\"a\"",
-            "cr\"a\"",
-            "a",
-            "\"a",
-            "\"\\q\"",
-            "b\"\u{E9}\"",
-            "\"\r\"",
-        ],
-    )
+fn values(rt: HostRuntime) -> Result<(), Fail> {
+    are_values(&rt, rt.alloc(), &TEXTS)?;
+    are_values(&rt, rt.alloc(), &BYTES)?;
+    are_values(&rt, rt.alloc(), &OTHERS)
 }
