@@ -15,7 +15,7 @@ use unicode::perl;
 use unicode::sets::{self, Set};
 
 /// One of the classes `[:alnum:]` to `[:xdigit:]`.
-#[derive(Clone, Copy, Debug, PartialEq, Eq)]
+#[derive(Clone, Copy)]
 pub enum AsciiKind {
     Alnum,
     Alpha,
@@ -34,7 +34,7 @@ pub enum AsciiKind {
 }
 
 /// One of the classes `\d`, `\s` and `\w`.
-#[derive(Clone, Copy, Debug, PartialEq, Eq)]
+#[derive(Clone, Copy)]
 pub enum PerlKind {
     Digit,
     Space,

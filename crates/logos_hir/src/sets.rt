@@ -16,7 +16,7 @@ pub const LAST_CHAR: u32 = 0x10_FFFF;
 /// A set of characters, or of bytes: as few ranges as can be, in ascending order. Each range starts
 /// and ends with a character, and between any two stands another one, so that sets with the same
 /// members have the same ranges.
-#[derive(Debug, Drop)]
+#[derive(Drop)]
 pub struct RangeSet {
     ranges: Vec<Range>,
     ghost canonical: { AreCanonical (pairs ranges.items) },
