@@ -60,14 +60,14 @@ pub enum PatternError {
 }
 
 /// Why there is no token at the front of a text.
-#[derive(Debug, Drop)]
+#[derive(Drop)]
 pub enum Fault {
     Syntax(Kind),
     Memory,
 }
 
 /// Why reading stops, with the number of characters that are left at the place.
-#[derive(Debug, Drop)]
+#[derive(Drop)]
 pub enum Stop {
     Syntax { kind: Kind, left: usize },
     LimitPatternNesting,
