@@ -42,6 +42,18 @@ pub(super) enum Ask {
     Literal,
 }
 
+/// The tree of a regular expression of characters.
+pub(super) const TREE: Ask = Ask::Regex {
+    unicode: true,
+    told: Told::Tree,
+};
+
+/// The tree of a regular expression of bytes.
+pub(super) const TREE_OF_BYTES: Ask = Ask::Regex {
+    unicode: false,
+    told: Told::Tree,
+};
+
 /// Adds bytes as a string literal writes them.
 fn push_bytes(out: &mut String, bytes: &[u8]) -> Result<(), AllocError> {
     out.push_str("'")?;
@@ -213,17 +225,6 @@ fn push_value(
     Ok(push_read(out, read, told)?)
 }
 
-/// Adds what is told of the pattern of a `token`.
-fn push_token(
-    alloc: Global,
-    out: &mut String,
-    literal: &Literal<'_>,
-    told: Told,
-) -> Result<(), Memory> {
-    let pattern = Pattern::compile_lit(alloc, literal)?;
-    Ok(push_read(out, Ok(pattern), told)?)
-}
-
 /// Adds the answer of a literal.
 fn push_of_literal(
     alloc: Global,
@@ -237,7 +238,10 @@ fn push_of_literal(
             ignore_case,
             told,
         } => push_value(alloc, out, literal, (escaped, ignore_case), told),
-        Ask::Token(told) => push_token(alloc, out, literal, told),
+        Ask::Token(told) => {
+            let pattern = Pattern::compile_lit(alloc, literal)?;
+            Ok(push_told(out, &pattern, told)?)
+        }
         Ask::Escape { escaped } => push_escaped(alloc, out, literal, escaped),
         _ => push_literal(out, literal),
     }

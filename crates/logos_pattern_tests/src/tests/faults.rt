@@ -1,19 +1,10 @@
 //! What is refused, and where.
 
-use super::asking::{Ask, Nested, Told, answers, nested_answers};
+use super::asking::{Nested, TREE, Told, answers, nested_answers};
 use std::test::Fail;
 
-#[test]
-fn unclosed_and_unopened(rt: HostRuntime) -> Result<(), Fail> {
-    answers(
-        &rt,
-        rt.alloc(),
-        &[(
-            Ask::Regex {
-                unicode: true,
-                told: Told::Tree,
-            },
-            r#"(a => Unclosed at 0
+/// What is not closed or not opened.
+const UNCLOSED_AND_UNOPENED: &str = r#"(a => Unclosed at 0
 a(b(c) => Unclosed at 1
 a(b(c => Unclosed at 3
 [a => Unclosed at 0
@@ -47,22 +38,10 @@ a{3,4 => Unclosed at 1
 a) => Unopened at 1
 (a))b => Unopened at 3
 ) => Unopened at 0
-😀) => Unopened at 4"#,
-        )],
-    )
-}
+😀) => Unopened at 4"#;
 
-#[test]
-fn faults_of_operators_and_ranges(rt: HostRuntime) -> Result<(), Fail> {
-    answers(
-        &rt,
-        rt.alloc(),
-        &[(
-            Ask::Regex {
-                unicode: true,
-                told: Told::Tree,
-            },
-            r#"* => NothingToRepeat at 0
+/// Operators, counts and ranges.
+const FAULTS_OF_OPERATORS_AND_RANGES: &str = r#"* => NothingToRepeat at 0
 a|* => NothingToRepeat at 2
 (?i)* => NothingToRepeat at 4
 (+) => NothingToRepeat at 1
@@ -101,22 +80,10 @@ a{99999999999999999999} => CountTooLarge at 0
 [x[b-a]] => ClassRange at 3
 [\x62-\x61] => ClassRange at 1
 [a-\pL] => ClassRange at 1
-[\p{Zs}-z] => ClassRange at 1"#,
-        )],
-    )
-}
+[\p{Zs}-z] => ClassRange at 1"#;
 
-#[test]
-fn faults_of_groups(rt: HostRuntime) -> Result<(), Fail> {
-    answers(
-        &rt,
-        rt.alloc(),
-        &[(
-            Ask::Regex {
-                unicode: true,
-                told: Told::Tree,
-            },
-            r#"a(?x)a => FlagUnsupported at 1
+/// Groups and flags.
+const FAULTS_OF_GROUPS: &str = r#"a(?x)a => FlagUnsupported at 1
 (?ix:a) => FlagUnsupported at 0
 (?-x) => FlagUnsupported at 0
 (?I) => FlagSyntax at 0
@@ -147,22 +114,10 @@ a(?!b) => GroupSyntax at 1
 (?<.n>a) => GroupSyntax at 0
 (?<n-m>a) => GroupSyntax at 0
 (?<n>a)(?<n>b) => GroupSyntax at 7
-(?<n>a(?P<n>b)) => GroupSyntax at 6"#,
-        )],
-    )
-}
+(?<n>a(?P<n>b)) => GroupSyntax at 6"#;
 
-#[test]
-fn faults_of_escapes(rt: HostRuntime) -> Result<(), Fail> {
-    answers(
-        &rt,
-        rt.alloc(),
-        &[(
-            Ask::Regex {
-                unicode: true,
-                told: Told::Tree,
-            },
-            r#"a\q => EscapeUnknown at 1
+/// Escapes.
+const FAULTS_OF_ESCAPES: &str = r#"a\q => EscapeUnknown at 1
 é\ => EscapeUnknown at 2
 \1 => EscapeUnknown at 0
 \é => EscapeUnknown at 0
@@ -193,22 +148,10 @@ fn faults_of_escapes(rt: HostRuntime) -> Result<(), Fail> {
 [a\uDC00] => HexNotScalar at 2
 \x{D800} => HexNotScalar at 0
 \uD800 => HexNotScalar at 0
-\U00110000 => HexNotScalar at 0"#,
-        )],
-    )
-}
+\U00110000 => HexNotScalar at 0"#;
 
-#[test]
-fn faults_of_names_and_bytes(rt: HostRuntime) -> Result<(), Fail> {
-    answers(
-        &rt,
-        rt.alloc(),
-        &[(
-            Ask::Regex {
-                unicode: true,
-                told: Told::Tree,
-            },
-            r#"\p{zzz} => UnknownProperty at 0
+/// Names, and what stands among bytes.
+const FAULTS_OF_NAMES_AND_BYTES: &str = r#"\p{zzz} => UnknownProperty at 0
 a\pX => UnknownProperty at 1
 \P => UnknownProperty at 0
 [a\p{zzz}] => UnknownProperty at 2
@@ -242,10 +185,7 @@ a\B => UnicodeWordBoundary at 1
 (?-u)\P{^L} => NotInBytes at 5
 (?-u)[\p{sc=Greek}] => NotInBytes at 6
 (?-u)[\x{80}] => NotInBytes at 6
-(?-u)[[aé]] => NotInBytes at 8"#,
-        )],
-    )
-}
+(?-u)[[aé]] => NotInBytes at 8"#;
 
 /// Groups, brackets and operators that nest. Counts are read before the limit is looked at.
 const NESTED: [Nested<'static>; 21] = [
@@ -280,6 +220,17 @@ const NESTED: [Nested<'static>; 21] = [
 ];
 
 #[test]
-fn nesting(rt: HostRuntime) -> Result<(), Fail> {
+fn faults(rt: HostRuntime) -> Result<(), Fail> {
+    answers(
+        &rt,
+        rt.alloc(),
+        &[
+            (TREE, UNCLOSED_AND_UNOPENED),
+            (TREE, FAULTS_OF_OPERATORS_AND_RANGES),
+            (TREE, FAULTS_OF_GROUPS),
+            (TREE, FAULTS_OF_ESCAPES),
+            (TREE, FAULTS_OF_NAMES_AND_BYTES),
+        ],
+    )?;
     nested_answers(&rt, rt.alloc(), Told::Measures, &NESTED)
 }

@@ -84,36 +84,30 @@ fn are_shown(rt: &impl Abort, alloc: Global, cases: &[(Set, &str, &str)]) -> Res
     Ok(())
 }
 
-#[test]
-fn leaves(rt: HostRuntime) -> Result<(), Fail> {
-    are_shown(
-        &rt,
-        rt.alloc(),
-        &[
-            (Set::Variant, "", "#[token(\"ab\")] ::A 4 None"),
-            (
-                Set::Label,
-                "  a::b ",
-                "#[token(\"ab\")] ::<skip> 7 Some(Span { from: 2, to: 6 })",
-            ),
-            (
-                Set::Label,
-                " ",
-                "#[token(\"ab\")] ::<skip> 7 Some(Span { from: 0, to: 0 })",
-            ),
-            (
-                Set::Inline,
-                "lex.bump(1)",
-                "#[token(\"ab\")] ::<skip> 7 Some(Span { from: 0, to: 17 })",
-            ),
-            (
-                Set::Unset,
-                "lex.bump(1)",
-                "#[token(\"ab\")] ::<skip> 0 None",
-            ),
-        ],
-    )
-}
+/// Leaves, and how they are printed.
+const LEAVES: [(Set, &str, &str); 5] = [
+    (Set::Variant, "", "#[token(\"ab\")] ::A 4 None"),
+    (
+        Set::Label,
+        "  a::b ",
+        "#[token(\"ab\")] ::<skip> 7 Some(Span { from: 2, to: 6 })",
+    ),
+    (
+        Set::Label,
+        " ",
+        "#[token(\"ab\")] ::<skip> 7 Some(Span { from: 0, to: 0 })",
+    ),
+    (
+        Set::Inline,
+        "lex.bump(1)",
+        "#[token(\"ab\")] ::<skip> 7 Some(Span { from: 0, to: 17 })",
+    ),
+    (
+        Set::Unset,
+        "lex.bump(1)",
+        "#[token(\"ab\")] ::<skip> 0 None",
+    ),
+];
 
 /// Whether a copy stands at the same place, with tokens that are printed as this text.
 fn copies(alloc: Global, callback: &Callback<'_>, text: &str) -> Result<bool, Fail> {
@@ -134,8 +128,9 @@ fn leaf_copies(alloc: Global, set: Set, tokens: &str, text: &str) -> Result<bool
 }
 
 #[test]
-fn copies_of_callbacks(rt: HostRuntime) -> Result<(), Fail> {
+fn leaves(rt: HostRuntime) -> Result<(), Fail> {
     let alloc = rt.alloc();
+    are_shown(&rt, alloc, &LEAVES)?;
     let label = leaf_copies(alloc, Set::Label, "  a::b ", "a :: b")?;
     let inline = leaf_copies(alloc, Set::Inline, "lex.bump(1)", "lex . bump ( 1 )")?;
     assert!(rt; label & inline);

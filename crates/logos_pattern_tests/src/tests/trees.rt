@@ -1,19 +1,10 @@
 //! What patterns read as.
 
-use super::asking::{Ask, Told, answers};
+use super::asking::{TREE, TREE_OF_BYTES, answers};
 use std::test::Fail;
 
-#[test]
-fn branches_and_groups(rt: HostRuntime) -> Result<(), Fail> {
-    answers(
-        &rt,
-        rt.alloc(),
-        &[(
-            Ask::Regex {
-                unicode: true,
-                told: Told::Tree,
-            },
-            r#" => E
+/// Branches, groups, and what stands side by side.
+const BRANCHES_AND_GROUPS: &str = r#" => E
 abc => 'abc'
 ab|c => alt('ab' 'c')
 a|b => [61-62]
@@ -43,22 +34,10 @@ a(?:)bc => 'abc'
 x(?:^a)b => cat('x' Start 'ab')
 (?:a^b)c => cat('a' Start 'bc')
 [é] => '\xC3\xA9'
-é|a|[b-c] => [61-63,E9]"#,
-        )],
-    )
-}
+é|a|[b-c] => [61-63,E9]"#;
 
-#[test]
-fn operators(rt: HostRuntime) -> Result<(), Fail> {
-    answers(
-        &rt,
-        rt.alloc(),
-        &[(
-            Ask::Regex {
-                unicode: true,
-                told: Told::Tree,
-            },
-            r#"ab* => cat('a' ('b'){0,})
+/// Repetitions.
+const OPERATORS: &str = r#"ab* => cat('a' ('b'){0,})
 a+ => ('a'){1,}
 a? => ('a'){0,1}
 a{3} => ('a'){3,3}
@@ -99,22 +78,10 @@ a{01,002} => ('a'){1,2}
 (?:^|$){2,} => alt(Start End)
 (?:^a)* => (cat(Start 'a')){0,}
 a{2,}? => ('a'){2,}?
-(^){3,7} => cap(Start)"#,
-        )],
-    )
-}
+(^){3,7} => cap(Start)"#;
 
-#[test]
-fn escapes_and_ascii_classes(rt: HostRuntime) -> Result<(), Fail> {
-    answers(
-        &rt,
-        rt.alloc(),
-        &[(
-            Ask::Regex {
-                unicode: true,
-                told: Told::Tree,
-            },
-            r#"\a\f\t\n\r\v => '\x07\x0C\x09\x0A\x0D\x0B'
+/// Escapes, looks, dots and the classes of ASCII.
+const ESCAPES_AND_ASCII_CLASSES: &str = r#"\a\f\t\n\r\v => '\x07\x0C\x09\x0A\x0D\x0B'
 \x41\u0042\U00000043 => 'ABC'
 \x{41}\u{42}\U{43} => 'ABC'
 \xe9\u{1F600} => '\xC3\xA9\xF0\x9F\x98\x80'
@@ -156,22 +123,10 @@ fn escapes_and_ascii_classes(rt: HostRuntime) -> Result<(), Fail> {
 [[:alpha]:] => [3A,61,68,6C,70]
 [:alpha:] => [3A,61,68,6C,70]
 [[:Word:]] => [3A,57,64,6F,72]
-[[::]] => ':'"#,
-        )],
-    )
-}
+[[::]] => ':'"#;
 
-#[test]
-fn bytes(rt: HostRuntime) -> Result<(), Fail> {
-    answers(
-        &rt,
-        rt.alloc(),
-        &[(
-            Ask::Regex {
-                unicode: false,
-                told: Told::Tree,
-            },
-            r#"\xE9 => '\xE9'
+/// Patterns of bytes.
+const BYTES: &str = r#"\xE9 => '\xE9'
 \u00E9 => '\xC3\xA9'
 é => '\xC3\xA9'
 . => <0-9,B-FF>
@@ -207,22 +162,10 @@ fn bytes(rt: HostRuntime) -> Result<(), Fail> {
 \xFF|a => <61,FF>
 (?:(?u:[ab])|\xFF)|abc => alt([61-62] '\xFF' 'abc')
 [^a&&b] => <0-FF>
-[^\n] => <0-9,B-FF>"#,
-        )],
-    )
-}
+[^\n] => <0-9,B-FF>"#;
 
-#[test]
-fn brackets(rt: HostRuntime) -> Result<(), Fail> {
-    answers(
-        &rt,
-        rt.alloc(),
-        &[(
-            Ask::Regex {
-                unicode: true,
-                told: Told::Tree,
-            },
-            r#"[a-z] => [61-7A]
+/// Brackets.
+const BRACKETS: &str = r#"[a-z] => [61-7A]
 [cab] => [61-63]
 [^a-z] => [0-60,7B-10FFFF]
 [-a] => [2D,61]
@@ -270,7 +213,19 @@ fn brackets(rt: HostRuntime) -> Result<(), Fail> {
 [a-a] => 'a'
 [a[c[e]]g] => [61,63,65,67]
 [.*^$(] => [24,28,2A,2E,5E]
-[a-z]|(?-u:[0-9]) => alt([61-7A] <30-39>)"#,
-        )],
+[a-z]|(?-u:[0-9]) => alt([61-7A] <30-39>)"#;
+
+#[test]
+fn trees(rt: HostRuntime) -> Result<(), Fail> {
+    answers(
+        &rt,
+        rt.alloc(),
+        &[
+            (TREE, BRANCHES_AND_GROUPS),
+            (TREE, OPERATORS),
+            (TREE, ESCAPES_AND_ASCII_CLASSES),
+            (TREE, BRACKETS),
+            (TREE_OF_BYTES, BYTES),
+        ],
     )
 }

@@ -3,19 +3,14 @@
 use super::asking::{Ask, Told, answers};
 use std::test::Fail;
 
-/// The counts are as great as can be: three of them give no priority that fits.
-#[test]
-fn priorities(rt: HostRuntime) -> Result<(), Fail> {
-    answers(
-        &rt,
-        rt.alloc(),
-        &[
-            (
-                Ask::Regex {
-                    unicode: true,
-                    told: Told::Measures,
-                },
-                r#" => Some(0) true false
+/// Priorities. The counts are as great as can be: three of them give no priority that fits.
+const PRIORITIES: [(Ask, &str); 2] = [
+    (
+        Ask::Regex {
+            unicode: true,
+            told: Told::Measures,
+        },
+        r#" => Some(0) true false
 rope => Some(8) true false
 é => Some(2) true false
 ^a$ => Some(2) true false
@@ -32,13 +27,13 @@ ab|\d => Some(2) true false
 (?:(?:a{4294967295}){4294967295}){4294967295}x => None true false
 (?:(?:a{4294967295}){4294967295}){4294967295}|x => Some(2) true false
 x|(?:(?:a{4294967295}){4294967295}){4294967295} => Some(2) true false"#,
-            ),
-            (
-                Ask::Regex {
-                    unicode: false,
-                    told: Told::Measures,
-                },
-                r#"\xFF+ => Some(2) false false
+    ),
+    (
+        Ask::Regex {
+            unicode: false,
+            told: Told::Measures,
+        },
+        r#"\xFF+ => Some(2) false false
 \xFF\xFE => Some(4) false false
 \xC3\xA9 => Some(2) true false
 \xC3 => Some(2) false false
@@ -50,22 +45,16 @@ x|(?:(?:a{4294967295}){4294967295}){4294967295} => Some(2) true false"#,
 [\x00-\x80]* => Some(0) false false
 (?u:.) => Some(2) true false
 (?u:.)|(a\xFF)? => Some(0) false false"#,
-            ),
-        ],
-    )
-}
+    ),
+];
 
-#[test]
-fn greedy_dots(rt: HostRuntime) -> Result<(), Fail> {
-    answers(
-        &rt,
-        rt.alloc(),
-        &[(
-            Ask::Regex {
-                unicode: true,
-                told: Told::Measures,
-            },
-            r#".*x => Some(2) true true
+/// Greedy repetitions of a dot.
+const GREEDY_DOTS: [(Ask, &str); 1] = [(
+    Ask::Regex {
+        unicode: true,
+        told: Told::Measures,
+    },
+    r#".*x => Some(2) true true
 .+ => Some(2) true true
 .{3,} => Some(6) true true
 (.+) => Some(2) true true
@@ -92,115 +81,109 @@ ab|c.* => Some(2) true true
 [^a]* => Some(0) true false
 \w* => Some(0) true false
 \.* => Some(0) true false"#,
-        )],
-    )
-}
+)];
 
-#[test]
-fn patterns_of_literals(rt: HostRuntime) -> Result<(), Fail> {
-    answers(
-        &rt,
-        rt.alloc(),
-        &[
-            (
-                Ask::Value {
-                    escaped: true,
-                    ignore_case: false,
-                    told: Told::Tree,
-                },
-                r#""a.b" => 'a.b'
+/// Patterns in literals.
+const PATTERNS_OF_LITERALS: [(Ask, &str); 6] = [
+    (
+        Ask::Value {
+            escaped: true,
+            ignore_case: false,
+            told: Told::Tree,
+        },
+        r#""a.b" => 'a.b'
 b"\xFF." => '\xFF.'
 r"\.+*?()|[]{}^$#&-~" => '\.+*?()|[]{}^$#&-~'
 b"\\.+*?()|[]{}^$#&-~" => '\.+*?()|[]{}^$#&-~'
 "\né<>" => '\x0A\xC3\xA9<>'
 "" => E"#,
-            ),
-            (
-                Ask::Value {
-                    escaped: true,
-                    ignore_case: true,
-                    told: Told::Tree,
-                },
-                r#""k" => [4B,6B,212A]
+    ),
+    (
+        Ask::Value {
+            escaped: true,
+            ignore_case: true,
+            told: Told::Tree,
+        },
+        r#""k" => [4B,6B,212A]
 b"k" => <4B,6B>
 b"\xFF." => '\xFF.'"#,
-            ),
-            (
-                Ask::Value {
-                    escaped: false,
-                    ignore_case: false,
-                    told: Told::Tree,
-                },
-                r#""\\\0\\\n\\\u{7F}" => '\x00\x0A\x7F'"#,
-            ),
-            (
-                Ask::Value {
-                    escaped: false,
-                    ignore_case: true,
-                    told: Told::Tree,
-                },
-                r#""a(?-i:b)" => cat([41,61] 'b')"#,
-            ),
-            (
-                Ask::Value {
-                    escaped: true,
-                    ignore_case: false,
-                    told: Told::Printed,
-                },
-                r#""a.b" => #[token("a.b")] "a.b" true"#,
-            ),
-            (
-                Ask::Regex {
-                    unicode: true,
-                    told: Told::Printed,
-                },
-                r#"".." => #[regex("..")] ".." false"#,
-            ),
-        ],
-    )
-}
+    ),
+    (
+        Ask::Value {
+            escaped: false,
+            ignore_case: false,
+            told: Told::Tree,
+        },
+        r#""\\\0\\\n\\\u{7F}" => '\x00\x0A\x7F'"#,
+    ),
+    (
+        Ask::Value {
+            escaped: false,
+            ignore_case: true,
+            told: Told::Tree,
+        },
+        r#""a(?-i:b)" => cat([41,61] 'b')"#,
+    ),
+    (
+        Ask::Value {
+            escaped: true,
+            ignore_case: false,
+            told: Told::Printed,
+        },
+        r#""a.b" => #[token("a.b")] "a.b" true"#,
+    ),
+    (
+        Ask::Regex {
+            unicode: true,
+            told: Told::Printed,
+        },
+        r#"".." => #[regex("..")] ".." false"#,
+    ),
+];
 
-#[test]
-fn literals(rt: HostRuntime) -> Result<(), Fail> {
-    answers(
-        &rt,
-        rt.alloc(),
-        &[
-            (
-                Ask::Escape { escaped: true },
-                r#"b"\xFF." => "\\xFF\\."
+/// Literals, and what is made of them.
+const LITERALS: [(Ask, &str); 6] = [
+    (
+        Ask::Escape { escaped: true },
+        r#"b"\xFF." => "\\xFF\\."
 b"\x80\n\x7F" => "\\x80\n\u{7f}"
 r"\.+*?()|[]{}^$#&-~" => "\\\\\\.\\+\\*\\?\\(\\)\\|\\[\\]\\{\\}\\^\\$\\#\\&\\-\\~"
 "aZ0_ !%',/:;<=>@`\né" => "aZ0_ !%',/:;<=>@`\né""#,
-            ),
-            (
-                Ask::Escape { escaped: false },
-                r#"b"\xFF." => "\\xFF."
+    ),
+    (
+        Ask::Escape { escaped: false },
+        r#"b"\xFF." => "\\xFF."
 r"\.+*?()|[]{}^$#&-~" => "\\.+*?()|[]{}^$#&-~""#,
-            ),
-            (
-                Ask::Literal,
-                r#"b"\n" => b"\n" Span { from: 3, to: 8 } false [10] 2
+    ),
+    (
+        Ask::Literal,
+        r#"b"\n" => b"\n" Span { from: 3, to: 8 } false [10] 2
 "\n" => "\n" Span { from: 3, to: 7 } true [10] 2
 "é" => "é" Span { from: 3, to: 7 } true [195, 169] 4
 5 => none
 c"a" => none"#,
-            ),
-            (
-                Ask::Token(Told::Tree),
-                r#""\x2E" => '.'
+    ),
+    (
+        Ask::Token(Told::Tree),
+        r#""\x2E" => '.'
 r"" => E"#,
-            ),
-            (
-                Ask::Token(Told::Measures),
-                r#""é" => Some(2) true false
+    ),
+    (
+        Ask::Token(Told::Measures),
+        r#""é" => Some(2) true false
 r"" => Some(0) true false"#,
-            ),
-            (
-                Ask::Token(Told::Printed),
-                r#""\x2E" => #[token("\x2E")] "\x2E" true
+    ),
+    (
+        Ask::Token(Told::Printed),
+        r#""\x2E" => #[token("\x2E")] "\x2E" true
 r"" => #[token(r"")] r"" true"#,
-            ),
-        ],
-    )
+    ),
+];
+
+#[test]
+fn values(rt: HostRuntime) -> Result<(), Fail> {
+    answers(&rt, rt.alloc(), &PRIORITIES)?;
+    answers(&rt, rt.alloc(), &GREEDY_DOTS)?;
+    answers(&rt, rt.alloc(), &PATTERNS_OF_LITERALS)?;
+    answers(&rt, rt.alloc(), &LITERALS)
 }
