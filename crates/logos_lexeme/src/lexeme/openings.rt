@@ -3,7 +3,6 @@
 ghost use Rattle.std.specs.Prelude.{◌≡◌, ◌+◌, ◌<◌, ◌≤◌, min, length, slice_index};
 ghost use Rattle.std.specs.Char.{is_ascii_digit};
 ghost use Rattle.std.specs.Str.{IsCharBoundary};
-ghost use Rattle.logos_lexeme.specs.LexemeCharacters.{past};
 ghost use Rattle.logos_lexeme.specs.LexemeOpenings.{hashes, raw_opening, string_opening, character_opening, bytes_opening, literal_opening, line_kind, block_kind, comment_opening, name_at, spacing, delimiter_kind, single_kind, other_opening, opening_at, kind_of};
 
 use crate::lexeme::characters::{byte_at, char_at, is_mark, is_space, is_start, past};
@@ -91,14 +90,6 @@ fn string_opening(content: Content, source: &str, at: usize) -> Option<Opening>
     None
 }
 
-/// The byte behind the character that begins at a place.
-fn byte_behind(source: &str, at: usize) -> u8
-    requires { IsCharBoundary source.now at }
-    ensures { result ≡ slice_index source.now (past source.now at) }
-{
-    byte_at(source, at + char_at(source, at).len_utf8())
-}
-
 /// A character literal, from behind its `'` on.
 #[tactic(auto, unfolding(crate::specs::LexemeOpenings::character_opening))]
 fn character_opening(source: &str, at: usize) -> Option<Opening>
@@ -108,7 +99,8 @@ fn character_opening(source: &str, at: usize) -> Option<Opening>
     if byte_at(source, at) == b'\\' {
         return Some(Opening::Apostrophes(Content::Text));
     }
-    if byte_behind(source, at) == b'\'' {
+    let behind = at + char_at(source, at).len_utf8();
+    if byte_at(source, behind) == b'\'' {
         return Some(Opening::Character);
     }
     None
