@@ -6,7 +6,7 @@ ghost use Rattle.logos_reduce.specs.RowsView.{rows_of};
 use crate::rows::{Row, Rows, target_at};
 
 /// The leaves whose matches end where a state is, or one byte before.
-#[derive(Clone, Copy, PartialEq, Eq, Hash, Debug, Drop)]
+#[derive(Clone, Copy, PartialEq, Eq, Drop)]
 pub struct Mark {
     /// The leaf whose match ends one byte before.
     pub accept: Option<usize>,

@@ -7,7 +7,7 @@ ghost use Rattle.logos_hir.specs.Looks.{is_byte};
 use logos_hir::hir::Look;
 
 /// What is kept of the byte before a place.
-#[derive(Clone, Copy, Debug, PartialEq, Eq, Hash)]
+#[derive(Clone, Copy, PartialEq, Eq, Hash)]
 pub enum Kind {
     /// There is no byte.
     Start,

@@ -1,10 +1,11 @@
-use Rattle.std.proofs.Common.{◌≡◌, ◌+◌, ◌-◌, ◌*◌, inr, ⊎_elim, IsTrue, false, true≢false, sym, ap, ◌∙◌, arith, rules}
+use Rattle.std.proofs.Common.{◌≡◌, ◌+◌, ◌-◌, ◌*◌, inr, ⊎_elim, IsTrue, false, true≢false, sym, ap, ◌∙◌, arith, rules, max, ◌≤◌}
+use Rattle.std.proofs.Math.Nat.{mul-le-mul_left}
 use Rattle.logos_places.specs.Core as core
 use Rattle.logos_places.specs.Core.{Core, width, Exits}
 use Rattle.logos_places.specs.Kinds.{test_at}
 use Rattle.logos_places.specs.Node.{core_of}
 use Rattle.logos_places.specs.declared.node.Node.{the_lemmas}
-use Rattle.logos_places.proofs.trees.NodeLemmas.{core-Literal, core-Cat, core-Alt, core-Repeat, width-Literal, width-Cat, width-Alt, pair-Cat, pair-Alt, repeat-Repeat, width-Repeat}
+use Rattle.logos_places.proofs.trees.NodeLemmas.{core-Void, core-Empty, core-Literal, core-Bytes, core-Characters, core-Look, core-Cat, core-Alt, core-Repeat, width-Literal, width-Cat, width-Alt, pair-Cat, pair-Alt, repeat-Repeat, width-Repeat}
 use Rattle.logos_places.proofs.steps.StepLemmas.{iff_trans, exits_cat, exits_alt}
 use Rattle.logos_places.proofs.steps.SteppedLemmas.{at_least-some}
 use Rattle.logos_places.proofs.steps.JumpLemmas.{exits_nothing, front_step, front_skip, up_to_step, up_to_skip}
@@ -147,3 +148,81 @@ exits_up_to-loop-done-preserved t c =
           c.loop-done-test.true c.exits-left.ensures)
           c.loop-done.invariant.same);
     }
+
+pub exits-exits-left-requires : goal.exits-exits-left-requires
+exits-exits-left-requires t c =
+    let h = rw c.in-Cat.is at c.requires.measured in
+    let p = pair-Cat _ _ c.in-Cat.first c.in-Cat.second h in
+    let fits = rw c.in-Cat.is at c.requires.fits in
+    let w = width-Cat _ _ _ _ h in (
+      search (rules, the_lemmas),
+      (rw c.deref-in-Cat.ensures (omega (arith, fits, w, p.split_is, p.whole_is)), (rw c.deref-in-Cat.ensures p.first, c.requires.rising)),
+    )
+
+pub exits-overflow_add-base : goal.exits-overflow_add-base
+exits-overflow_add-base t c =
+    let h = rw c.in-Cat.is at c.requires.measured in
+    let p = pair-Cat _ _ c.in-Cat.first c.in-Cat.second h in
+    let fits = rw c.in-Cat.is at c.requires.fits in
+    let w = width-Cat _ _ _ _ h in
+    omega (arith, fits, w, p.whole_is)
+
+pub exits-exits-one-requires : goal.exits-exits-one-requires
+exits-exits-one-requires t c =
+    let h = rw c.in-Alt.is at c.requires.measured in
+    let p = pair-Alt _ _ c.in-Alt.first c.in-Alt.second h in
+    let fits = rw c.in-Alt.is at c.requires.fits in
+    let w = width-Alt _ _ _ _ h in (
+      search (rules, the_lemmas),
+      (rw c.deref-in-Alt.ensures (omega (arith, fits, w, p.split_is, p.whole_is)), (rw c.deref-in-Alt.ensures p.first, c.requires.rising)),
+    )
+
+pub exits-overflow_add-base-in-Alt : goal.exits-overflow_add-base-in-Alt
+exits-overflow_add-base-in-Alt t c =
+    let h = rw c.in-Alt.is at c.requires.measured in
+    let p = pair-Alt _ _ c.in-Alt.first c.in-Alt.second h in
+    let fits = rw c.in-Alt.is at c.requires.fits in
+    let w = width-Alt _ _ _ _ h in
+    omega (arith, fits, w, p.whole_is)
+
+pub exits-returns-in-Void : goal.exits-returns-in-Void
+exits-returns-in-Void t c = rw (ap core_of c.in-Void.is ∙ core-Void) (search rules)
+
+pub exits-returns-in-Empty : goal.exits-returns-in-Empty
+exits-returns-in-Empty t c = rw (ap core_of c.in-Empty.is ∙ core-Empty) (search rules)
+
+pub exits-returns-in-Bytes : goal.exits-returns-in-Bytes
+exits-returns-in-Bytes t c = rw (ap core_of c.in-Bytes.is ∙ core-Bytes _) (search rules)
+
+pub exits-returns-in-Characters : goal.exits-returns-in-Characters
+exits-returns-in-Characters t c = rw (ap core_of c.in-Characters.is ∙ core-Characters _) (search rules)
+
+pub exits-returns-then-entered : goal.exits-returns-then-entered
+exits-returns-then-entered t c = rw (ap core_of c.in-Look.is ∙ core-Look _) (search rules)
+
+pub exits-returns-else-entered : goal.exits-returns-else-entered
+exits-returns-else-entered t c = rw (ap core_of c.in-Look.is ∙ core-Look _) (search rules)
+
+pub exits_repeat-overflow_mul-rest : goal.exits_repeat-overflow_mul-rest
+exits_repeat-overflow_mul-rest t c =
+    let fits = rw c.in-Some.is at c.requires.fits in
+    let order = rw c.in-Some.is at c.requires.count in
+    omega (arith, fits, mul-le-mul_left c.args.copies.each order.0)
+
+pub exits_repeat-overflow_add-rest : goal.exits_repeat-overflow_add-rest
+exits_repeat-overflow_add-rest t c =
+    let fits = rw c.in-Some.is at c.requires.fits in
+    let order = rw c.in-Some.is at c.requires.count in
+    omega (arith, fits, mul-le-mul_left c.args.copies.each order.0)
+
+pub exits_repeat-overflow_mul-copies : goal.exits_repeat-overflow_mul-copies
+exits_repeat-overflow_mul-copies t c =
+    let fits = rw c.in-None.is at c.requires.fits in
+    let fewer : c.args.copies.count - 1 ≤ max c.args.copies.count 1 = omega arith in
+    omega (arith, fits, mul-le-mul_left c.args.copies.each fewer)
+
+pub exits_repeat-overflow_add-copies : goal.exits_repeat-overflow_add-copies
+exits_repeat-overflow_add-copies t c =
+    let fits = rw c.in-None.is at c.requires.fits in
+    let fewer : c.args.copies.count - 1 ≤ max c.args.copies.count 1 = omega arith in
+    omega (arith, fits, mul-le-mul_left c.args.copies.each fewer)

@@ -1,4 +1,4 @@
-use Rattle.std.proofs.Common.{Bool, ◌≡◌, ℕ, ◌+◌, ◌-◌, ◌*◌, ◌≤◌, false, true≢false, sym, ap, ◌∙◌, arith, rules}
+use Rattle.std.proofs.Common.{Bool, ◌≡◌, ℕ, ◌+◌, ◌-◌, ◌*◌, ◌≤◌, false, true≢false, sym, ap, ◌∙◌, arith, rules, max}
 use Rattle.std.proofs.Math.Nat.{mul-le-mul_left}
 use Rattle.std.proofs.lemmas.Result.{IfOk-weaker}
 use Rattle.logos_hir.specs.Hir.{pairs}
@@ -8,11 +8,11 @@ use Rattle.logos_places.specs.Core as core
 use Rattle.logos_places.specs.Core.{Core, width}
 use Rattle.logos_places.specs.Kinds.{test_at}
 use Rattle.logos_places.specs.Node.{core_of}
-use Rattle.logos_places.specs.Repeat.{in_front, up_to}
+use Rattle.logos_places.specs.Repeat.{in_front, up_to, spelled}
 use Rattle.logos_places.specs.inside.Stepped.{Stepped}
 use Rattle.logos_places.specs.Table.{reader_of}
 use Rattle.logos_places.specs.declared.node.Node.{the_lemmas}
-use Rattle.logos_places.proofs.trees.NodeLemmas.{core-Bytes, core-Characters, core-Cat, core-Alt, width-Literal, pair-Cat, pair-Alt, repeat-Repeat, width-Repeat}
+use Rattle.logos_places.proofs.trees.NodeLemmas.{core-Void, core-Empty, core-Literal, core-Bytes, core-Characters, core-Look, core-Cat, core-Alt, core-Repeat, width-Literal, width-Characters, width-Cat, width-Alt, pair-Cat, pair-Alt, repeat-Repeat, width-Repeat}
 use Rattle.logos_places.proofs.steps.StepLemmas.{again_iff}
 use Rattle.logos_places.proofs.steps.SteppedLemmas.{stepped_nothing, stepped_cat, stepped_alt, stepped_plus, owes_all, owes_done, at_least-some}
 use Rattle.logos_places.proofs.steps.OweLemmas.{owes_front_step, owes_front_skip, owes_up_to_step, owes_up_to_skip}
@@ -172,3 +172,114 @@ step_repeat-returns-in_ok-front-in-None t c =
     (core.plus a) c.step_copies-else-least-eq0.new.next.items _ _ c.in_ok-front-in-None.front last false
     (c.in_ok-front-in-None.ensures (core.plus a)) s)
     c.step_plus-else-least-eq0.ensures)
+
+pub step-step-requires : goal.step-step-requires
+step-step-requires t c =
+    let h = rw c.in-Cat.is at c.requires.measured in
+    let p = pair-Cat _ _ c.in-Cat.first c.in-Cat.second h in
+    let fits = rw c.in-Cat.is at c.requires.fits in
+    let w = width-Cat _ _ _ _ h in (
+      search (rules, the_lemmas),
+      (rw c.deref-in-Cat.ensures (omega (arith, fits, w, p.split_is, p.whole_is)), (rw c.deref-in-Cat.ensures p.first, (c.requires.rising, c.requires.set))),
+    )
+
+pub step-overflow_add-base : goal.step-overflow_add-base
+step-overflow_add-base t c =
+    let h = rw c.in-Cat.is at c.requires.measured in
+    let p = pair-Cat _ _ c.in-Cat.first c.in-Cat.second h in
+    let fits = rw c.in-Cat.is at c.requires.fits in
+    let w = width-Cat _ _ _ _ h in
+    omega (arith, fits, w, p.whole_is)
+
+pub step-step-requires-in-Cat : goal.step-step-requires-in-Cat
+step-step-requires-in-Cat t c =
+    let h = rw c.in-Cat.is at c.requires.measured in
+    let p = pair-Cat _ _ c.in-Cat.first c.in-Cat.second h in
+    let fits = rw c.in-Cat.is at c.requires.fits in
+    let w = width-Cat _ _ _ _ h in
+    let s = rw c.deref-in-Cat.ensures at c.in_ok-left-in-Cat.ensures in (
+      search (rules, the_lemmas),
+      (rw c.deref-in-Cat-2.ensures (omega (arith, fits, w, p.whole_is)), (rw c.deref-in-Cat-2.ensures p.second, (c.requires.rising, rw p.split_is s.set))),
+    )
+
+pub step-step-requires-in-Alt : goal.step-step-requires-in-Alt
+step-step-requires-in-Alt t c =
+    let h = rw c.in-Alt.is at c.requires.measured in
+    let p = pair-Alt _ _ c.in-Alt.first c.in-Alt.second h in
+    let fits = rw c.in-Alt.is at c.requires.fits in
+    let w = width-Alt _ _ _ _ h in (
+      search (rules, the_lemmas),
+      (rw c.deref-in-Alt.ensures (omega (arith, fits, w, p.split_is, p.whole_is)), (rw c.deref-in-Alt.ensures p.first, (c.requires.rising, c.requires.set))),
+    )
+
+pub step-overflow_add-base-in-Alt : goal.step-overflow_add-base-in-Alt
+step-overflow_add-base-in-Alt t c =
+    let h = rw c.in-Alt.is at c.requires.measured in
+    let p = pair-Alt _ _ c.in-Alt.first c.in-Alt.second h in
+    let fits = rw c.in-Alt.is at c.requires.fits in
+    let w = width-Alt _ _ _ _ h in
+    omega (arith, fits, w, p.whole_is)
+
+pub step-step-requires-in-Alt-2 : goal.step-step-requires-in-Alt-2
+step-step-requires-in-Alt-2 t c =
+    let h = rw c.in-Alt.is at c.requires.measured in
+    let p = pair-Alt _ _ c.in-Alt.first c.in-Alt.second h in
+    let fits = rw c.in-Alt.is at c.requires.fits in
+    let w = width-Alt _ _ _ _ h in
+    let s = rw c.deref-in-Alt.ensures at c.in_ok-one-in-Alt.ensures in (
+      search (rules, the_lemmas),
+      (rw c.deref-in-Alt-2.ensures (omega (arith, fits, w, p.whole_is)), (rw c.deref-in-Alt-2.ensures p.second, (c.requires.rising, rw p.split_is s.set))),
+    )
+
+pub step-step_characters-requires-clause-fits : goal.step-step_characters-requires-clause-fits
+step-step_characters-requires-clause-fits t c =
+    let fits = rw c.in-Characters.is at c.requires.fits in
+    omega (arith, fits, width-Characters c.in-Characters.table)
+
+pub step-returns-in-Void : goal.step-returns-in-Void
+step-returns-in-Void t c = rw (ap core_of c.in-Void.is ∙ core-Void) (search rules)
+
+pub step-returns-in-Empty : goal.step-returns-in-Empty
+step-returns-in-Empty t c = rw (ap core_of c.in-Empty.is ∙ core-Empty) (search rules)
+
+pub step-returns-then-entered : goal.step-returns-then-entered
+step-returns-then-entered t c = rw (ap core_of c.in-Look.is ∙ core-Look _) (search rules)
+
+pub step-returns-else-entered : goal.step-returns-else-entered
+step-returns-else-entered t c = rw (ap core_of c.in-Look.is ∙ core-Look _) (search rules)
+
+pub step-returns-in-Literal : goal.step-returns-in-Literal
+step-returns-in-Literal t c =
+    rw (ap core_of c.in-Literal.is ∙ core-Literal _)
+    (IfOk-weaker _ _ _
+    (λ left (s : (test : Look → Bool) → Stepped (spelled c.in-Literal.text.items) test c.args.by.byte c.args.by.marks.now
+    c.args.next.now.items c.step_literal.new.next.items c.args.base c.args.entered left). s (test_at c.args.by.at))
+    (rw c.deref.ensures.value at c.step_literal.ensures))
+
+pub step-returns-in-Repeat : goal.step-returns-in-Repeat
+step-returns-in-Repeat t c =
+    rw (ap core_of c.in-Repeat.is ∙ core-Repeat _ _ _ _) (rw c.deref-in-Repeat.ensures at c.step_repeat.ensures)
+
+pub step_repeat-overflow_mul-rest : goal.step_repeat-overflow_mul-rest
+step_repeat-overflow_mul-rest t c =
+    let fits = rw c.in-Some.is at c.requires.fits in
+    let order = rw c.in-Some.is at c.requires.count in
+    omega (arith, fits, mul-le-mul_left c.args.copies.each order.0)
+
+pub step_repeat-overflow_add-rest : goal.step_repeat-overflow_add-rest
+step_repeat-overflow_add-rest t c =
+    let fits = rw c.in-Some.is at c.requires.fits in
+    let order = rw c.in-Some.is at c.requires.count in
+    omega (arith, fits, mul-le-mul_left c.args.copies.each order.0)
+
+pub step_repeat-overflow_mul-copies : goal.step_repeat-overflow_mul-copies
+step_repeat-overflow_mul-copies t c =
+    let fits = rw c.in-None.is at c.requires.fits in
+    let fewer : c.args.copies.count - 1 ≤ max c.args.copies.count 1 = omega arith in
+    omega (arith, fits, mul-le-mul_left c.args.copies.each fewer)
+
+pub step_repeat-overflow_add-copies : goal.step_repeat-overflow_add-copies
+step_repeat-overflow_add-copies t c =
+    let fits = rw c.in-None.is at c.requires.fits in
+    let fewer : c.args.copies.count - 1 ≤ max c.args.copies.count 1 = omega arith in
+    omega (arith, fits, mul-le-mul_left c.args.copies.each fewer)
