@@ -4,12 +4,15 @@
 # For each source and input in scripts/refused_memory each command runs once with ample memory, and then once for each of its
 # requests with just that one refused. Each time it must answer as it did, or with `out of memory`, status 3, and nothing on
 # standard output. The script fails where another answer comes, where nothing was refused, or where no refusal was told.
+# Then it does the same with the tokenizer that stands on the library, by a test that takes its tokens or `Memory` alone.
 #
-# It needs gcc, and the program as `rt ci` or `rt run` leaves it in crates/logos_program/out, or the first argument.
+# It needs gcc, and the program and the tests as `rt ci` leaves them in crates/logos_program/out and
+# crates/logos_codegen_tests/out, or the first and the second argument.
 set -euo pipefail
 
 scripts=$(cd "$(dirname "${BASH_SOURCE[0]}")" && pwd)
 program=${1:-$scripts/../crates/logos_program/out/logos_program}
+tests=${2:-$scripts/../crates/logos_codegen_tests/out/logos_codegen_tests_tests}
 room=$(mktemp -d)
 trap 'rm -rf "$room"' EXIT
 gcc -O1 -shared -fPIC -o "$room/refuse.so" "$scripts/refused_memory/refuse.c"
@@ -57,3 +60,13 @@ done
 [ "$refused" -gt 0 ] || fail "nothing was refused"
 [ "$told" -gt 0 ] || fail "no refusal was told"
 echo "refused_memory: of $refused refused requests $told end in out of memory, and $((refused - told)) change nothing"
+
+test=tests::expr::gives_tokens_or_lacks_memory
+LD_PRELOAD="$room/refuse.so" REFUSE=0 REQUESTS="$room/requests" "$tests" "$test" > "$room/said" || fail "$test fails with ample memory"
+requests=$(cat "$room/requests")
+[ "$requests" -gt 0 ] || fail "$test asks for no memory"
+for ((number = 1; number <= requests; number++)); do
+    LD_PRELOAD="$room/refuse.so" REFUSE=$number REQUESTS="$room/requests" "$tests" "$test" > "$room/said" 2>&1 \
+        || fail "$test fails with request $number refused: $(cat "$room/said")"
+done
+echo "refused_memory: each of the $requests requests of $test refused, it gives its tokens or Memory"

@@ -1,5 +1,5 @@
 //! The targets of the states of an automaton, while it is built.
-ghost use Rattle.std.specs.Prelude.{Bool, ◌≡◌, ◌^◌, ◌<◌, ◌≤◌, ◌+◌, IsFalse, IfOk, OnOk, length, map};
+ghost use Rattle.std.specs.Prelude.{Bool, ℕ, ◌≡◌, ◌^◌, ◌<◌, ◌≤◌, ◌+◌, IsFalse, IfOk, OnOk, length, map, slice_index};
 ghost use Rattle.logos_automaton.specs.Alike.{AreTold, AreKindBytes};
 ghost use Rattle.logos_automaton.specs.Keys.{AreRising, AreReached, AreFirstIn, Extends, LeadsTo, EndsIn, IsRow};
 ghost use Rattle.logos_places.specs.Node.{core_of, AreMeasured};
@@ -13,7 +13,10 @@ use logos_places::node::Node;
 use std::alloc::{AllocError, Global};
 
 /// The targets of a state by bytes.
-pub type Row = [u32; 256];
+pub type Row = [u16; 256];
+
+/// The same while the automaton is built, which may meet a few more states than it may have.
+pub type DraftRow = [u32; 256];
 
 /// The target of a state by a byte.
 fn target_of(
@@ -136,7 +139,7 @@ pub fn row_of(
     kinds: &[bool; 256],
     states: &mut IndexSet<Key>,
     state: usize,
-) -> Result<Row, AllocError>
+) -> Result<DraftRow, AllocError>
     requires fits { width_of (map core_of nodes.now) < 2 ^ 64 }
     requires measured { AreMeasured nodes.now }
     requires starts { AreStarts nodes.now starts.now }
@@ -169,4 +172,17 @@ pub fn row_of(
         )?;
     }
     Ok(row)
+}
+
+/// The row in half the room, where each target has a number below 65,536.
+pub fn narrowed(row: &DraftRow) -> Row
+    requires { (byte : ℕ) → byte < 256 → slice_index row.now byte < 2 ^ 16 }
+    ensures wide { length result ≡ 256 }
+    ensures same { (byte : ℕ) → byte < 256 → slice_index result byte ≡ slice_index row.now byte }
+{
+    let mut narrow = [0; 256];
+    for byte in 0..256 {
+        narrow[byte] = row[byte] as u16;
+    }
+    narrow
 }

@@ -95,7 +95,7 @@ fn raw_row(row: &ByteRow, end: u32) -> Row
 {
     let mut made = [end + 1; 257];
     for k in 0..256 {
-        made[k] = row[k] + 1;
+        made[k] = row[k] as u32 + 1;
     }
     made
 }

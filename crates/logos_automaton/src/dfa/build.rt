@@ -18,7 +18,7 @@ use crate::alike::{Told, kind_bytes, told_by_each};
 use crate::errors::BuildError;
 use crate::key::{Key, number_of, start_key};
 use crate::nodes::nodes_of;
-use crate::row::{Row, end_of, row_of};
+use crate::row::{Row, end_of, narrowed, row_of};
 use crate::rule::{RuleView, some_look};
 use indexmap::IndexSet;
 use logos_places::node::Node;
@@ -70,7 +70,7 @@ fn fill_next(
     if states.len() > MAX_STATES {
         return Err(BuildError::LimitStates);
     }
-    rows.push(row)?;
+    rows.push(narrowed(&row))?;
     ends.push(end)?;
     Ok(())
 }

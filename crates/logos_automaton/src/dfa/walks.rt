@@ -18,7 +18,7 @@ pub struct Matches<'d> {
 /// The targets of a state: by each byte from 0 to 255, and then by the end. Targets that are equal come more than once.
 #[derive(Clone, Copy, Debug)]
 pub struct Children<'d> {
-    row: &'d [u32],
+    row: &'d [u16],
     end: Option<u32>,
 }
 

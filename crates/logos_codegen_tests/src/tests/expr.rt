@@ -116,6 +116,32 @@ fn reads_expressions(rt: HostRuntime) -> Result<(), Fail> {
     Ok(())
 }
 
+/// Whether the text gives these tokens by a tokenizer made for it, or memory ran out on the way.
+fn gives_or_lacks_memory(alloc: Global, input: &str, wanted: &[Wanted]) -> bool {
+    let language = match Language::new(alloc) {
+        Ok(language) => language,
+        Err(error) => return error == ExprError::Memory,
+    };
+    match language.tokens(alloc, input) {
+        Ok(tokens) => are_tokens(tokens.as_slice(), wanted, input),
+        Err(error) => error == ExprError::Memory,
+    }
+}
+
+/// `scripts/refused_memory.sh` runs this test once for each of its requests for memory, with just that one refused.
+#[test]
+fn gives_tokens_or_lacks_memory(rt: HostRuntime) {
+    let wanted = [
+        (ExprKind::Let, 0, 3),
+        (ExprKind::Name, 4, 5),
+        (ExprKind::Eq, 5, 6),
+        (ExprKind::Open, 6, 7),
+        (ExprKind::Number, 7, 8),
+        (ExprKind::Close, 8, 9),
+    ];
+    assert!(rt; gives_or_lacks_memory(rt.alloc(), "let a=(1)", &wanted));
+}
+
 /// What stands at the front of a text.
 enum Front {
     Token(ExprKind),

@@ -50,10 +50,15 @@ fn text<'w, F: Files>(
     files: &mut F,
 ) -> Result<String, Failure<'w>> {
     let source = read_text(file, files)?;
-    let made = generate(alloc, source.as_str(), config)?;
-    let mut text = made.text(alloc)?;
+    let mut text = text_of_source(alloc, source.as_str(), config)?;
     text.push('\n')?;
     Ok(text)
+}
+
+/// The Rust text of a source's lexer.
+fn text_of_source(alloc: Global, source: &str, config: Config) -> Result<String, Failure<'static>> {
+    let made = generate(alloc, source, config)?;
+    Ok(made.text(alloc)?)
 }
 
 /// A line for each item of the input.
@@ -71,15 +76,25 @@ fn items<'w, F: Files>(
     Ok(lines_of(alloc, items.as_slice())?)
 }
 
-/// The chart of a source's graph, once each state is told apart from the next.
+/// The chart of a source's graph.
 fn chart<'w, F: Files>(alloc: Global, file: &'w str, files: &mut F) -> Result<String, Failure<'w>> {
     let source = read_text(file, files)?;
+    chart_of_source(alloc, source.as_str())
+}
+
+/// The chart of a source's graph, once each state is told apart from the next.
+fn chart_of_source(alloc: Global, source: &str) -> Result<String, Failure<'static>> {
     let config = Config {
         use_state_machine_codegen: true,
     };
-    let made = generate(alloc, source.as_str(), config)?;
-    test_neighbours(alloc, &made.graph)?;
-    Ok(made.graph.get_mermaid(alloc)?)
+    let made = generate(alloc, source, config)?;
+    tested_chart(alloc, &made.graph)
+}
+
+/// The chart of a graph, once each state is told apart from the next.
+fn tested_chart(alloc: Global, graph: &Graph<'_>) -> Result<String, Failure<'static>> {
+    test_neighbours(alloc, graph)?;
+    Ok(graph.get_mermaid(alloc)?)
 }
 
 /// Refuses a graph in which a state is like the next.
