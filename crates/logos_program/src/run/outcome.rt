@@ -5,7 +5,7 @@ use super::{Failure, FileError, Files};
 use logos_codegen::generator::Config;
 use logos_codegen::graph::{Graph, State};
 use logos_codegen::machine::{Action, Item};
-use logos_codegen::{generate, lex_source};
+use logos_codegen::{Generated, generate, lex_source};
 use std::alloc::{AllocError, Global};
 
 /// The text that a command writes.
@@ -58,6 +58,11 @@ fn text<'w, F: Files>(
 /// The Rust text of a source's lexer.
 fn text_of_source(alloc: Global, source: &str, config: Config) -> Result<String, Failure<'static>> {
     let made = generate(alloc, source, config)?;
+    text_of_lexer(alloc, &made)
+}
+
+/// The Rust text of a lexer that was made.
+fn text_of_lexer(alloc: Global, made: &Generated<'_>) -> Result<String, Failure<'static>> {
     Ok(made.text(alloc)?)
 }
 
