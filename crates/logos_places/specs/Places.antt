@@ -1,10 +1,8 @@
 -- The places of a tree, where it reads a byte.
-use Rattle.std.specs.Prelude.{◌≡◌, ℕ, ◌+◌, ◌<◌, min, max, ◌↔◌, ◌⊎◌, Bool, ◌||◌, false, true, List, [], ◌∷◌, ◌++◌, length, take, Option, Some, None, if◌then◌else◌, ◌==◌, slice_get, IfSome, IsSomeAnd, encode_utf8, AllPairs}
-use Rattle.std.specs.List.{list_any}
+use Rattle.std.specs.Prelude.{◌≡◌, ℕ, ◌+◌, ◌<◌, min, max, ◌⊎◌, Bool, ◌||◌, false, true, List, [], length, take, Option, Some, None, if◌then◌else◌, ◌==◌, IfSome, encode_utf8}
 use Rattle.std.specs.Char.{IsScalar}
-use Rattle.logos_hir.specs.Text.{IsBytes, InRanges, StandsAt}
+use Rattle.logos_hir.specs.Text.{InRanges, StandsAt}
 use Rattle.logos_hir.specs.Tree.{Tree, empty, literal, byte_class, char_class, look, repetition, capture, concat, alternation, Trees, none, also}
-use Rattle.logos_hir.specs.Looks.{is_word}
 use Rattle.logos_hir.specs.Matches.{Matches, Pieces}
 
 -- A place of a tree: where it reads a byte.

@@ -1,5 +1,5 @@
 -- The size of trees.
-use Rattle.std.specs.Prelude.{ℕ, ◌+◌, ◌*◌, max, List, length, sum_by}
+use Rattle.std.specs.Prelude.{ℕ, ◌+◌, ◌*◌, max, length}
 use Rattle.logos_hir.specs.Tree.{Tree, empty, literal, byte_class, char_class, look, repetition, capture, concat, alternation, Trees, none, also}
 use Rattle.logos_places.specs.Places.{copies}
 

@@ -1,7 +1,7 @@
 //! Steps on several trees, whose places stand one after another.
-ghost use Rattle.std.specs.Prelude.{◌≡◌, ◌∷◌, ◌++◌, ◌^◌, ◌<◌, ◌≤◌, ◌+◌, ◌-◌, ℕ, [], IsTrue, IfOk, OnOk, length, map, slice_index, if◌then◌else◌};
+ghost use Rattle.std.specs.Prelude.{◌≡◌, ◌∷◌, ◌++◌, ◌^◌, ◌<◌, ◌≤◌, ◌+◌, ◌-◌, ℕ, [], IsTrue, IsFalse, IfOk, OnOk, length, map, slice_index, if◌then◌else◌};
 ghost use Rattle.logos_places.specs.Kinds.{test_at};
-ghost use Rattle.logos_places.specs.Marks.{IsRising, Has};
+ghost use Rattle.logos_places.specs.Marks.{IsRising, Has, HasBetween};
 ghost use Rattle.logos_places.specs.Node.{core_of, AreMeasured};
 ghost use Rattle.logos_places.specs.Run.{width_of};
 ghost use Rattle.logos_places.specs.Several.{ReadBy, LeftBy, AreStarts};
@@ -72,6 +72,8 @@ pub fn next_tree(starts: &[usize], marks: &[usize], entered: bool, from: usize) 
     ensures stays { IsTrue entered → result ≡ from }
     ensures unmarked { (q : ℕ) → slice_index starts.now from ≤ q →
         q < slice_index starts.now result → ¬ (Has marks.now q) }
+    ensures marked { result + 1 < length starts.now → IsFalse entered →
+        HasBetween marks.now (slice_index starts.now result) (slice_index starts.now (result + 1)) }
 {
     let last = starts.len() - 1;
     if entered | (from == last) {

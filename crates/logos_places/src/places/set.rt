@@ -1,6 +1,6 @@
 //! Sets of places, as rising lists.
-ghost use Rattle.std.specs.Prelude.{◌⊎◌, OnOk, ◌^◌, ◌≡◌, ℕ, ◌+◌, ◌*◌, ◌<◌, ◌≤◌, ◌↔◌, IsTrue, length};
-ghost use Rattle.logos_places.specs.Marks.{IsRising, Has, IsFirstFrom};
+ghost use Rattle.std.specs.Prelude.{◌⊎◌, OnOk, ◌^◌, ◌≡◌, ℕ, ◌+◌, ◌*◌, ◌<◌, ◌≤◌, ◌↔◌, IsTrue, IsFalse, length};
+ghost use Rattle.logos_places.specs.Marks.{IsRising, Has, HasBetween, IsFirstFrom};
 
 use std::alloc::AllocError;
 
@@ -47,6 +47,8 @@ fn empty_parts(entered: bool, marks: &[usize], start: usize, each: usize, most: 
     ensures bound { result ≤ most }
     ensures stays { IsTrue entered → result ≡ 0 }
     ensures unmarked { (q : ℕ) → q < each * result → ¬ (Has marks.now (start + q)) }
+    ensures marked { result < most → IsFalse entered →
+        HasBetween marks.now (start + each * result) (start + each * (result + 1)) }
 {
     if entered {
         return 0;
@@ -79,6 +81,8 @@ pub fn next_copy(
     ensures stays { IsTrue entered → result ≡ done }
     ensures unmarked { (q : ℕ) → each * done ≤ q → q < each * result →
         ¬ (Has marks.now (base + q)) }
+    ensures marked { result < count → IsFalse entered →
+        HasBetween marks.now (base + each * result) (base + each * (result + 1)) }
 {
     done + empty_parts(entered, marks, base + each * done, each, count - done)
 }
