@@ -7,12 +7,12 @@
 # Then it does the same with the tokenizer that stands on the library, by a test that takes its tokens or `Memory` alone.
 #
 # It needs gcc, and the program and the tests as `rt ci` leaves them in crates/logos_program/out and
-# crates/logos_codegen_tests/out, or the first and the second argument.
+# crates/logos_code_tests/out, or the first and the second argument.
 set -euo pipefail
 
 scripts=$(cd "$(dirname "${BASH_SOURCE[0]}")" && pwd)
 program=${1:-$scripts/../crates/logos_program/out/logos_program}
-tests=${2:-$scripts/../crates/logos_codegen_tests/out/logos_codegen_tests_tests}
+tests=${2:-$scripts/../crates/logos_code_tests/out/logos_code_tests_tests}
 room=$(mktemp -d)
 trap 'rm -rf "$room"' EXIT
 gcc -O1 -shared -fPIC -o "$room/refuse.so" "$scripts/refused_memory/refuse.c"
@@ -61,7 +61,7 @@ done
 [ "$told" -gt 0 ] || fail "no refusal was told"
 echo "refused_memory: of $refused refused requests $told end in out of memory, and $((refused - told)) change nothing"
 
-test=tests::expr::gives_tokens_or_lacks_memory
+test=tests::sources::expr::gives_tokens_or_lacks_memory
 LD_PRELOAD="$room/refuse.so" REFUSE=0 REQUESTS="$room/requests" "$tests" "$test" > "$room/said" || fail "$test fails with ample memory"
 requests=$(cat "$room/requests")
 [ "$requests" -gt 0 ] || fail "$test asks for no memory"

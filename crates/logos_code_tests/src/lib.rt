@@ -1,4 +1,5 @@
-//! Tests of the public calls on code values: their nodes, the lexer, the printed text. They stand apart from the crates that they test, so that those are proved once less.
+//! Tests of the public calls on code values, and of those from a source to its items. They stand in a crate of their own, so that the
+//! crates that they ask are proved once less.
 
 #![tactic(auto)]
 

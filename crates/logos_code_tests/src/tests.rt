@@ -1,6 +1,4 @@
-//! Codes of patterns: what they keep, the items that they give, and how they are printed.
+//! What the public calls answer, by example.
 
 mod codes;
-mod lexers;
-mod nodes;
-mod texts;
+mod sources;

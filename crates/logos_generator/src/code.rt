@@ -63,7 +63,7 @@ pub struct CodeState {
 }
 
 /// What becomes of the matches of a leaf.
-#[derive(Debug, Drop)]
+#[derive(Drop)]
 pub struct CodeLeaf<'s> {
     pub kind: VariantKind<'s>,
     /// What is called on a match, if anything is.

@@ -15,7 +15,7 @@ use logos_token::token::{Delimiter, Ident, Literal, Punct, Spacing, Span, TokenT
 use std::alloc::{AllocError, AllocFailed, Global};
 
 /// What a definition gives.
-#[derive(Clone, Copy, Debug)]
+#[derive(Clone, Copy)]
 pub enum DefinitionKind<'s> {
     /// `#[token(..)]` on the variant of this name.
     Token(Ident<'s>),
@@ -26,14 +26,14 @@ pub enum DefinitionKind<'s> {
 }
 
 /// A string or byte string literal, and what it is for.
-#[derive(Clone, Copy, Debug)]
+#[derive(Clone, Copy)]
 pub struct Definition<'s> {
     pub literal: Literal<'s>,
     pub kind: DefinitionKind<'s>,
 }
 
 /// An enum, with its definitions.
-#[derive(Debug, Drop)]
+#[derive(Drop)]
 pub struct ItemEnum<'s> {
     pub name: Ident<'s>,
     /// Skips first, then those of the variants, in source order.
@@ -43,14 +43,14 @@ pub struct ItemEnum<'s> {
 }
 
 /// The literal of a `token` or `regex` attribute.
-#[derive(Clone, Copy, Debug)]
+#[derive(Clone, Copy)]
 struct Pattern<'s> {
     literal: Literal<'s>,
     is_regex: bool,
 }
 
 /// What the `logos` attributes of an enum say.
-#[derive(Debug, Drop)]
+#[derive(Drop)]
 struct Options<'s> {
     skips: Vec<Definition<'s>>,
     utf8: Option<bool>,
@@ -89,7 +89,7 @@ impl<T: Drop> From<AllocFailed<T>> for ReadError {
 }
 
 /// Where a run has its first token that does not fit.
-#[derive(Clone, Copy, Debug)]
+#[derive(Clone, Copy)]
 struct Misfit {
     span: Span,
 }

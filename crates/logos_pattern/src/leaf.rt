@@ -20,7 +20,7 @@ pub enum VariantKind<'s> {
 }
 
 /// What is called on a match.
-#[derive(Debug, Drop)]
+#[derive(Drop)]
 pub enum Callback<'s> {
     /// Tokens that name a function.
     Label(TokenStream<'s>),
@@ -29,7 +29,7 @@ pub enum Callback<'s> {
 }
 
 /// A callback that is written out, as `|lex| body`.
-#[derive(Debug, Drop)]
+#[derive(Drop)]
 pub struct InlineCallback<'s> {
     /// The parameter.
     pub arg: Ident<'s>,

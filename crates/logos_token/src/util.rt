@@ -57,7 +57,7 @@ impl<'a> ToIdent<'a> for &'a str {
 }
 
 /// Tokens, or none; none are printed as `()`.
-#[derive(Debug, Drop)]
+#[derive(Drop)]
 pub enum MaybeVoid<'s> {
     Some(TokenStream<'s>),
     Void,

@@ -10,20 +10,20 @@ use logos_hir::leaf::LeafId;
 pub struct StateId(pub(crate) usize);
 
 /// The leaves that a state lists, ascending.
-#[derive(Clone, Copy, Debug)]
+#[derive(Clone, Copy)]
 pub struct Matches<'d> {
     leaves: &'d [usize],
 }
 
 /// The targets of a state: by each byte from 0 to 255, and then by the end. Targets that are equal come more than once.
-#[derive(Clone, Copy, Debug)]
+#[derive(Clone, Copy)]
 pub struct Children<'d> {
     row: &'d [u16],
     end: Option<u32>,
 }
 
 /// States of an automaton, ascending.
-#[derive(Clone, Copy, Debug)]
+#[derive(Clone, Copy)]
 pub struct States {
     next: usize,
     count: usize,

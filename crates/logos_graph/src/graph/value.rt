@@ -35,7 +35,7 @@ pub struct Graph<'s> {
 }
 
 /// The states of a graph, ascending.
-#[derive(Clone, Copy, Debug)]
+#[derive(Clone, Copy)]
 pub struct States {
     next: usize,
     end: usize,

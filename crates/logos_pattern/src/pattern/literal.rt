@@ -11,21 +11,21 @@ use logos_token::token::{LiteralValue, Span};
 use std::alloc::{AllocError, Global};
 
 /// A string and its value.
-#[derive(Debug, Drop)]
+#[derive(Drop)]
 pub struct StringLiteral<'s> {
     token: token::Literal<'s>,
     value: String,
 }
 
 /// A byte string and its value.
-#[derive(Debug, Drop)]
+#[derive(Drop)]
 pub struct ByteStringLiteral<'s> {
     token: token::Literal<'s>,
     value: Vec<u8>,
 }
 
 /// The literal of a `token`, `regex` or `skip`.
-#[derive(Debug, Drop)]
+#[derive(Drop)]
 pub enum Literal<'s> {
     /// A string, which speaks of characters.
     Utf8(StringLiteral<'s>),

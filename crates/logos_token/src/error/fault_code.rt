@@ -5,7 +5,7 @@ ghost use Rattle.logos_token.specs.FaultNames.{name_of};
 use std::fmt;
 
 /// What is wrong.
-#[derive(Clone, Copy, Debug, PartialEq, Eq)]
+#[derive(Clone, Copy, PartialEq, Eq)]
 pub enum FaultCode {
     /// The source has no tokens here.
     Lexical,
@@ -250,6 +250,12 @@ impl fmt::Display for FaultCode {
 
     ghost output = { λ code. Some (name_of code) };
 
+    fn fmt<W: fmt::Write>(&self, f: &mut fmt::Formatter<W>) -> fmt::Result {
+        f.write_str(self.name())
+    }
+}
+
+impl fmt::Debug for FaultCode {
     fn fmt<W: fmt::Write>(&self, f: &mut fmt::Formatter<W>) -> fmt::Result {
         f.write_str(self.name())
     }

@@ -3,7 +3,7 @@
 use crate::token::{Delimiter, Doc, Ident, Literal, Punct, Span};
 
 /// A token without the tokens inside it, which follow it.
-#[derive(Clone, Copy, Debug)]
+#[derive(Clone, Copy)]
 pub enum Entry<'s> {
     Ident(Ident<'s>),
     Punct(Punct),

@@ -8,21 +8,21 @@ use crate::token::{Delimiter, Doc, Ident, Literal, Punct, Span};
 use std::alloc::{AllocError, Global};
 
 /// All tokens of a source.
-#[derive(Debug, Drop)]
+#[derive(Drop)]
 pub struct TokenStream<'s> {
     entries: Vec<Entry<'s>>,
     ghost nested: { IsFlat entries.items } by { Prim.hlevel props },
 }
 
 /// A run of neighbouring token trees. It is a view of a buffer and copies nothing.
-#[derive(Clone, Copy, Debug)]
+#[derive(Clone, Copy)]
 pub struct Tokens<'t, 's> {
     entries: &'t [Entry<'s>],
     ghost nested: { IsFlat entries.now } by { Prim.hlevel props },
 }
 
 /// A delimiter, its partner, and what stands between them.
-#[derive(Clone, Copy, Debug)]
+#[derive(Clone, Copy)]
 pub struct Group<'t, 's> {
     pub delimiter: Delimiter,
     /// From the opening delimiter to the closing one.
@@ -31,7 +31,7 @@ pub struct Group<'t, 's> {
 }
 
 /// A token, or a group with the tokens inside it.
-#[derive(Clone, Copy, Debug)]
+#[derive(Clone, Copy)]
 pub enum TokenTree<'t, 's> {
     Ident(Ident<'s>),
     Punct(Punct),
@@ -41,7 +41,7 @@ pub enum TokenTree<'t, 's> {
 }
 
 /// The trees of a run, one after another.
-#[derive(Clone, Copy, Debug)]
+#[derive(Clone, Copy)]
 pub struct TokenIter<'t, 's> {
     rest: Tokens<'t, 's>,
 }

@@ -1,5 +1,5 @@
 use Rattle.logos_token.proofs.reading.CountLemmas.{IsRestOf-self, IsRestOf-rest}
-use Rattle.logos_token_tests.proofs.tests.tokens.fronts.Goals as goal
+use Rattle.logos_front_tests.proofs.tests.tokens.tokens.fronts.Goals as goal
 
 pub before-requires : goal.before-requires
 before-requires g = rw g.rest.ensures (IsRestOf-rest _ _ (IsRestOf-self _))

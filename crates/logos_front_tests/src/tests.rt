@@ -1,0 +1,6 @@
+//! What the public calls answer, by example: a module for each of the crates that users know.
+
+mod graphs;
+mod parser;
+mod patterns;
+mod tokens;

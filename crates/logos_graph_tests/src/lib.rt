@@ -1,6 +1,0 @@
-//! Tests of the public calls of the crate of graphs. They stand apart from it, so that it is proved once less.
-
-#![tactic(auto)]
-
-#[cfg(test)]
-mod tests;

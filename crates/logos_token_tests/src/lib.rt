@@ -1,7 +1,0 @@
-//! Tests of `logos_lexeme` and `logos_token` that ask their public calls. They stand in a crate of
-//! their own, so that the crates that they ask are proved once less.
-
-#![tactic(auto)]
-
-#[cfg(test)]
-mod tests;
