@@ -121,10 +121,16 @@ pub struct Language {
 }
 
 impl Model for Language {
+    ghost use Rattle.std.specs.Coded.{codes};
+    ghost use Rattle.logos_type.specs.contracts.type_expr.Part as p;
+    ghost use mir.Syntax.{named};
+    ghost use Rattle.std.specs.Prelude.{[]};
     ghost use Rattle.logos_generator.specs.Code.{CodeValue};
     ghost use Rattle.logos_codegen.specs.Language.{IsLanguage};
 
     ghost Value = { CodeValue };
+
+    ghost coded = { Prim.hlevel (codes, (p.the_row (record { mir = named 1; lft = [] })).coded) };
 
     ghost view = { λ l. l.code };
 

@@ -217,7 +217,7 @@ fn utf8_text(alloc: Global, leaf: &Leaf<'_>) -> Result<String, AllocError>
     ensures { IfOk result (λ text. string_bytes text ≡ utf8_text (named_leaf leaf.now)) }
 {
     let source = leaf.pattern.source();
-    let kind = leaf.kind;
+    let kind = &leaf.kind;
     let text = format!(in alloc;
         "UTF-8 mode is requested, but the pattern {source} of variant `{kind}` can match invalid utf8.\nYou can disable UTF-8 mode with #[logos(utf8 = false)]"
     )?;

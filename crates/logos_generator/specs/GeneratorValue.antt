@@ -1,9 +1,8 @@
 -- What contracts see of a generator, and what a code value keeps of it.
 use Rattle.std.specs.Prelude.{◌≡◌, ℕ, Bool, List, map, Option, option_map}
 use Rattle.logos_token.specs.Views.{stream_tokens}
-use Rattle.logos_pattern.specs.Leaf.{CallbackValue, callback_value}
+use Rattle.logos_pattern.specs.Leaf.{CallbackValue, callback_value, KindValue, kind_value}
 use Rattle.logos_pattern.specs.declared.leaf.Leaf.{Leaf}
-use Rattle.logos_pattern.specs.declared.leaf.VariantKind.{VariantKind}
 use Rattle.logos_graph.specs.View.{GraphValue}
 use Rattle.logos_generator.specs.Code.{CodeValue}
 use Rattle.logos_generator.specs.declared.code.CodeLeaf.{CodeLeaf}
@@ -16,16 +15,16 @@ pub record GeneratorValue : Type 0 where
   pub tests : List (List Bool)
   pub jumps : List (List ℕ)
 
--- what becomes of the matches of a leaf, its callback by its tokens
+-- what becomes of the matches of a leaf, a type by its parts and its callback by its tokens
 pub record LeafValue : Type 0 where
-  pub kind : VariantKind
+  pub kind : KindValue
   pub callback : Option CallbackValue
 
 abbrev pub leaf_value : Leaf → LeafValue
-leaf_value leaf = record { kind = leaf.kind; callback = option_map callback_value leaf.callback }
+leaf_value leaf = record { kind = kind_value leaf.kind; callback = option_map callback_value leaf.callback }
 
 abbrev pub code_leaf_value : CodeLeaf → LeafValue
-code_leaf_value leaf = record { kind = leaf.kind; callback = option_map callback_value leaf.callback }
+code_leaf_value leaf = record { kind = kind_value leaf.kind; callback = option_map callback_value leaf.callback }
 
 -- the same shape and name, and the same tokens
 pub record IsCopy (given kept : Kept) : Type 0 where

@@ -113,9 +113,15 @@ pub struct Code<'s> {
 }
 
 impl<'s> Model for Code<'s> {
+    ghost use Rattle.std.specs.Coded.{codes};
+    ghost use Rattle.logos_type.specs.contracts.type_expr.Part as p;
+    ghost use mir.Syntax.{named};
+    ghost use Rattle.std.specs.Prelude.{[]};
     ghost use Rattle.logos_generator.specs.Code.{CodeValue};
 
     ghost Value = { CodeValue };
+
+    ghost coded = { Prim.hlevel (codes, (p.the_row (record { mir = named 1; lft = [] })).coded) };
 
     ghost use Rattle.logos_generator.specs.CodeView.{code_of, IsKept};
     ghost use Rattle.logos_generator.specs.Rows.{AreRows};

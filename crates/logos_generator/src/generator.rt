@@ -47,11 +47,13 @@ impl<'g, 's> Model for Generator<'g, 's> {
     ghost use Rattle.std.specs.Coded.{codes};
     ghost use Rattle.std.specs.Prelude.{◌≡◌, [], option_copied};
     ghost use Rattle.logos_hir.specs.contracts.hir.Hir as e;
+    ghost use Rattle.logos_type.specs.contracts.type_expr.Part as p;
+    ghost use mir.Syntax.{named};
     ghost use Rattle.logos_generator.specs.GeneratorValue.{GeneratorValue};
 
     ghost Value = { GeneratorValue };
 
-    ghost coded = { Prim.hlevel (codes, e.the_row.coded) };
+    ghost coded = { Prim.hlevel (codes, e.the_row.coded, (p.the_row (record { mir = named 1; lft = [] })).coded) };
 
     ghost view = { λ g. record { given = record { shape = g.config; name = g.name; this = g.this.now; error_callback = option_copied g.error_callback }; graph = g.graph.now; tests = g.tests.keys; jumps = g.jumps.keys } };
 

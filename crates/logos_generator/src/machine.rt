@@ -61,10 +61,15 @@ pub struct Lexer<'c, 's, 'i, C> {
 }
 
 impl<'c, 's, 'i, C> Model for Lexer<'c, 's, 'i, C> {
-    ghost use Rattle.std.specs.Prelude.{◌≤◌, length};
+    ghost use Rattle.std.specs.Coded.{codes};
+    ghost use Rattle.logos_type.specs.contracts.type_expr.Part as p;
+    ghost use mir.Syntax.{named};
+    ghost use Rattle.std.specs.Prelude.{◌≤◌, [], length};
     ghost use Rattle.logos_generator.specs.LexerValue.{LexerValue};
 
     ghost Value = { LexerValue C };
+
+    ghost coded = { Prim.hlevel (codes, (p.the_row (record { mir = named 1; lft = [] })).coded) };
 
     ghost view = { λ l. record { code = l.code.now; input = l.input.now; callback = l.callback; from = l.from; to = l.to; steps = l.steps } };
 

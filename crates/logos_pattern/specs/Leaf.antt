@@ -12,7 +12,9 @@ use Rattle.logos_pattern.specs.declared.leaf.Callback.{Callback}
 use Rattle.logos_pattern.specs.declared.leaf.Callback.TheVariants.{Label, Inline}
 use Rattle.logos_pattern.specs.declared.leaf.InlineCallback.{InlineCallback}
 use Rattle.logos_pattern.specs.declared.leaf.VariantKind.{VariantKind}
-use Rattle.logos_pattern.specs.declared.leaf.VariantKind.TheVariants.{Unit as UnitVariant, Skip}
+use Rattle.logos_pattern.specs.declared.leaf.VariantKind.TheVariants.{Unit as UnitVariant, Value, Skip}
+use Rattle.logos_type.specs.Parts.{Tree as TypeTree}
+use Rattle.logos_type.specs.TypeTrees.{type_tree}
 
 -- the tree of a pattern
 abbrev pub pattern_tree : Pattern → Tree
@@ -29,7 +31,19 @@ is_token pattern = pattern.is_literal
 -- matches are left out
 abbrev pub is_skip : VariantKind → Bool
 is_skip (UnitVariant name) = false
+is_skip (Value name type) = false
 is_skip Skip = true
+
+-- what a match gives: a variant without a field, one with a field of this type, or nothing
+pub data KindValue : Type 0 where
+  plain : (name : Ident) → KindValue
+  holding : (name : Ident) (type : TypeTree) → KindValue
+  skipped : KindValue
+
+abbrev pub kind_value : VariantKind → KindValue
+kind_value (UnitVariant name) = plain name
+kind_value (Value name type) = holding name (type_tree type)
+kind_value Skip = skipped
 
 -- where a callback stands: from its first token to its last
 abbrev pub callback_span : Callback → Span
@@ -59,6 +73,7 @@ pattern_text pattern = codes "#[" ++ (if is_token pattern then codes "token" els
 -- how what a match gives prints
 abbrev pub kind_text : VariantKind → List ℕ
 kind_text (UnitVariant name) = codes "::" ++ name.text.now
+kind_text (Value name type) = codes "::" ++ name.text.now ++ codes "(_)"
 kind_text Skip = codes "::<skip>"
 
 -- how a leaf prints

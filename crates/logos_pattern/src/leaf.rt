@@ -1,20 +1,23 @@
 //! Leaves of a lexer: a pattern, its priority, and what becomes of its matches.
 
 ghost use Rattle.std.specs.Prelude.{◌≡◌, Some};
-ghost use Rattle.logos_pattern.specs.Leaf.{kind_text, leaf_text, callback_span, callback_value, inline_value};
+ghost use Rattle.logos_pattern.specs.Leaf.{kind_text, leaf_text, kind_value, callback_span, callback_value, inline_value};
 ghost use Rattle.logos_pattern.specs.declared.leaf.Callback.TheVariants as callbacks;
 
 use crate::pattern::Pattern;
 pub use logos_hir::leaf::LeafId;
 use logos_token::token::{Ident, Span, TokenStream};
+use logos_type::TypeExpr;
 use std::alloc::AllocError;
 use std::fmt;
 
 /// What a match of a leaf gives.
-#[derive(Clone, Copy, Debug)]
+#[derive(Drop)]
 pub enum VariantKind<'s> {
     /// A variant without a field.
     Unit(Ident<'s>),
+    /// A variant with a field of this type.
+    Value(Ident<'s>, TypeExpr<'s>),
     /// Nothing: the match is left out.
     Skip,
 }
@@ -56,6 +59,19 @@ impl<'s> From<InlineCallback<'s>> for Callback<'s> {
 
     fn from(inline: InlineCallback<'s>) -> Callback<'s> {
         Callback::Inline(inline)
+    }
+}
+
+impl Clone for VariantKind<'_> {
+    // A copy is of the same form, with the same name and a type of the same parts.
+    ghost is_clone = { λ kind copy. kind_value copy ≡ kind_value kind };
+
+    fn clone(&self) -> Result<Self, AllocError> {
+        match self {
+            VariantKind::Unit(name) => Ok(VariantKind::Unit(*name)),
+            VariantKind::Value(name, field) => Ok(VariantKind::Value(*name, field.clone()?)),
+            VariantKind::Skip => Ok(VariantKind::Skip),
+        }
     }
 }
 
@@ -150,6 +166,10 @@ impl fmt::Display for VariantKind<'_> {
                 let text = name.text;
                 write!(f, "::{text}")
             }
+            VariantKind::Value(name, _) => {
+                let text = name.text;
+                write!(f, "::{text}(_)")
+            }
             VariantKind::Skip => f.write_str("::<skip>"),
         }
     }
@@ -160,7 +180,7 @@ impl fmt::Display for Leaf<'_> {
 
     fn fmt<W: fmt::Write>(&self, f: &mut fmt::Formatter<W>) -> fmt::Result {
         let pattern = &self.pattern;
-        let kind = self.kind;
+        let kind = &self.kind;
         write!(f, "{pattern} {kind}")
     }
 }

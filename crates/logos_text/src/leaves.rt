@@ -8,6 +8,7 @@ use crate::pieces::{comma_before, push};
 use logos_generator::code::CodeLeaf;
 use logos_pattern::leaf::VariantKind;
 use logos_token::error::Memory;
+use logos_type::print_type;
 use std::alloc::Global;
 
 /// Adds the names of the leaves with their numbers.
@@ -98,7 +99,7 @@ fn push_leaf(
     push(text, "let cb_result = ")?;
     push_call(alloc, text, callback)?;
     push(text, "; ")?;
-    push_result(text, &leaf.kind, names)
+    push_result(alloc, text, &leaf.kind, names)
 }
 
 /// Adds what a match of the leaf gives where nothing is called.
@@ -108,6 +109,7 @@ fn push_plain(text: &mut String, kind: &VariantKind<'_>, names: Names<'_>) -> Re
     match kind {
         VariantKind::Skip => push(text, "CallbackResult :: Skip "),
         VariantKind::Unit(variant) => push_unit(text, variant.text, names),
+        VariantKind::Value(variant, _) => push_value(text, variant.text, names),
     }
 }
 
@@ -119,13 +121,33 @@ fn push_unit(text: &mut String, variant: &str, names: Names<'_>) -> Result<(), M
     Ok(())
 }
 
+fn push_value(text: &mut String, variant: &str, names: Names<'_>) -> Result<(), Memory>
+    ensures { OnOk result (Grows (string_bytes text.old) (string_bytes text.new)) }
+{
+    let name = names.name;
+    write!(
+        text,
+        "let token = {name} :: {variant} ( lex . slice ( ) ) ; CallbackResult :: Emit ( token ) "
+    )?;
+    Ok(())
+}
+
 /// Adds what a match of the leaf gives by what was called.
-fn push_result(text: &mut String, kind: &VariantKind<'_>, names: Names<'_>) -> Result<(), Memory>
+fn push_result(
+    alloc: Global,
+    text: &mut String,
+    kind: &VariantKind<'_>,
+    names: Names<'_>,
+) -> Result<(), Memory>
     ensures { OnOk result (Grows (string_bytes text.old) (string_bytes text.new)) }
 {
     match kind {
         VariantKind::Skip => push_skip_result(text, names),
         VariantKind::Unit(variant) => push_unit_result(text, variant.text, names),
+        VariantKind::Value(variant, field) => {
+            let printed = print_type(alloc, field)?;
+            push_value_result(text, variant.text, printed.as_str(), names)
+        }
     }
 }
 
@@ -148,6 +170,23 @@ fn push_unit_result(text: &mut String, variant: &str, names: Names<'_>) -> Resul
     write!(
         text,
         "CallbackRetVal :: < 's , ( ) , {this} > :: construct ( cb_result , | ( ) | {name} :: {variant} ) "
+    )?;
+    Ok(())
+}
+
+fn push_value_result(
+    text: &mut String,
+    variant: &str,
+    field: &str,
+    names: Names<'_>,
+) -> Result<(), Memory>
+    ensures { OnOk result (Grows (string_bytes text.old) (string_bytes text.new)) }
+{
+    let this = names.this;
+    let name = names.name;
+    write!(
+        text,
+        "CallbackRetVal :: < 's , {field} , {this} > :: construct ( cb_result , {name} :: {variant} ) "
     )?;
     Ok(())
 }

@@ -44,11 +44,14 @@ pub struct States {
 impl<'s> Model for Graph<'s> {
     ghost use Rattle.std.specs.Coded.{codes};
     ghost use Rattle.logos_hir.specs.contracts.hir.Hir as e;
+    ghost use Rattle.logos_type.specs.contracts.type_expr.Part as p;
+    ghost use Rattle.std.specs.Prelude.{[]};
+    ghost use mir.Syntax.{named};
     ghost use Rattle.logos_graph.specs.View.{GraphValue};
 
     ghost Value = { GraphValue };
 
-    ghost coded = { Prim.hlevel (codes, e.the_row.coded) };
+    ghost coded = { Prim.hlevel (codes, e.the_row.coded, (p.the_row (record { mir = named 1; lft = [] })).coded) };
 
     ghost use Rattle.logos_graph.specs.GraphInside.{value_of, IsKept};
 

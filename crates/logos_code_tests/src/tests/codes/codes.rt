@@ -6,6 +6,7 @@ use logos_graph::graph::Graph;
 use logos_pattern::leaf::{Callback, Leaf, VariantKind};
 use logos_pattern::pattern::Pattern;
 use logos_token::token::{Ident, Span, tokenize};
+use logos_type::{Part, TypeExpr};
 use std::alloc::Global;
 use std::test::Fail;
 
@@ -18,9 +19,13 @@ pub(super) const NAME: Ident<'static> = Ident {
 #[derive(Clone, Copy, PartialEq, Eq)]
 pub(super) enum Fate {
     Token,
+    /// A token with a field of the type `u8`.
+    Value,
     Skip,
     /// A token, after a function was called.
     Called,
+    /// A token with a field of the type `u8`, after a function was called.
+    CalledValue,
     /// They are left out, after a function was called.
     CalledSkip,
 }
@@ -34,19 +39,23 @@ fn leaf(alloc: Global, rule: &(&str, usize, Fate)) -> Result<Leaf<'static>, Fail
     if matches!(rule.2, Fate::Token | Fate::Called) {
         leaf.kind = VariantKind::Unit(NAME);
     }
-    if matches!(rule.2, Fate::Called | Fate::CalledSkip) {
+    if matches!(rule.2, Fate::Value | Fate::CalledValue) {
+        let part = Part::Name("u8");
+        leaf.kind = VariantKind::Value(NAME, TypeExpr { part });
+    }
+    if matches!(rule.2, Fate::Called | Fate::CalledValue | Fate::CalledSkip) {
         leaf.callback = Some(Callback::Label(tokenize(alloc, "matched")?));
     }
     Ok(leaf)
 }
 
-/// The code of leaves for the enum `A<u8>`, on whose errors `failed` is called: as one loop over a state variable or not.
+/// The code of leaves, in a box so that a function that keeps it is cheap to prove: for the enum `A<u8>`, on whose errors `failed` is called: as one loop over a state variable or not.
 pub(super) fn code_of(
     alloc: Global,
     use_state_machine_codegen: bool,
     utf8_mode: bool,
     rules: Rules<'_>,
-) -> Result<Code<'static>, Fail> {
+) -> Result<Box<Code<'static>>, Fail> {
     let mut leaves = Vec::new(alloc);
     for rule in rules {
         leaves.push(leaf(alloc, rule)?)?;
@@ -69,7 +78,7 @@ pub(super) fn code_by(
     leaves: Vec<Leaf<'static>>,
     this: &'static str,
     failed: Option<&Callback<'static>>,
-) -> Result<Code<'static>, Fail> {
+) -> Result<Box<Code<'static>>, Fail> {
     let graph = Graph::new(alloc, leaves, logos_graph::graph::Config { utf8_mode })?;
     if !graph.errors().is_empty() {
         return Err(Fail::from("the leaves have faults"));
@@ -79,5 +88,5 @@ pub(super) fn code_by(
         use_state_machine_codegen,
     };
     let mut generator = Generator::new(alloc, config, NAME, &this, &graph, failed);
-    Ok(generator.generate(alloc)?)
+    Ok(Box::new(alloc, generator.generate(alloc)?)?)
 }

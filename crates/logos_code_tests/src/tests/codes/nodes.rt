@@ -131,8 +131,9 @@ fn push_callback(
 /// What becomes of the matches of each leaf.
 fn push_leaves(alloc: Global, text: &mut String, leaves: &[CodeLeaf<'_>]) -> Result<(), Fail> {
     for leaf in leaves {
-        text.push_str(match leaf.kind {
+        text.push_str(match &leaf.kind {
             VariantKind::Unit(_) => "token ",
+            VariantKind::Value(_, _) => "value ",
             VariantKind::Skip => "skip ",
         })?;
         push_callback(alloc, text, leaf.callback.as_ref())?;

@@ -25,7 +25,8 @@ const CASES: &[Rules<'static>] = &[
 /// Each text is its tokens, printed.
 fn is_printed(rt: &impl Abort, alloc: Global, machine: bool) -> Result<(), Fail> {
     for rules in CASES {
-        let printed = text(alloc, &code_of(alloc, machine, true, rules)?)?;
+        let code = code_of(alloc, machine, true, rules)?;
+        let printed = text(alloc, &*code)?;
         let tokens = tokenize(alloc, &printed)?;
         let again = print(alloc, tokens.run())?;
         assert!(rt; printed.as_str() == again.as_str(), "other spaces");
@@ -47,7 +48,8 @@ fn has(
     rules: Rules<'_>,
     part: &str,
 ) -> Result<(), Fail> {
-    let printed = text(alloc, &code_of(alloc, machine, false, rules)?)?;
+    let code = code_of(alloc, machine, false, rules)?;
+    let printed = text(alloc, &*code)?;
     assert!(rt; printed.contains(part), "the part is not there");
     Ok(())
 }
@@ -82,6 +84,25 @@ fn conditions_of_patterns(rt: HostRuntime) -> Result<(), Fail> {
         true,
         &[("(?-u:[^b])", 1, Fate::Token)],
         "if ( matches ! ( byte , 0u8 ..= 255u8 ) && byte != 98u8 ) {",
+    )
+}
+
+#[test]
+fn a_field_is_the_slice_or_what_the_callback_gives(rt: HostRuntime) -> Result<(), Fail> {
+    let rules: Rules<'_> = &[("a", 1, Fate::Value), ("b", 1, Fate::CalledValue)];
+    has(
+        &rt,
+        rt.alloc(),
+        true,
+        rules,
+        "let token = A :: A ( lex . slice ( ) ) ; CallbackResult :: Emit ( token ) }",
+    )?;
+    has(
+        &rt,
+        rt.alloc(),
+        false,
+        rules,
+        "CallbackRetVal :: < 's , u8 , A < u8 > > :: construct ( cb_result , A :: A ) }",
     )
 }
 

@@ -1,127 +1,105 @@
 //! Sources that are refused.
 
-use super::give;
-use logos_codegen::generator::Config;
-use logos_codegen::{Refusal, generate};
+use super::{give, made};
+use logos_codegen::Refusal;
 use std::alloc::Global;
 use std::process::Abort;
 use std::test::Fail;
 
-#[test]
-fn names_faults_of_leaves(rt: HostRuntime) -> Result<(), Fail> {
-    give(
-        &rt,
-        rt.alloc(),
-        &[
-            (
-                r#"enum T { #[token("z")] Z, #[regex("[a-z]")] L }"#,
-                b"z",
-                "17..20 Disambiguation: The pattern #[token(\"z\")] ::Z can match simultaneously with the following variants:\n  #[regex(\"[a-z]\")] ::L\n\n(all at the priority 2); 34..41 Disambiguation: The pattern #[regex(\"[a-z]\")] ::L can match simultaneously with the following variants:\n  #[token(\"z\")] ::Z\n\n(all at the priority 2); ",
-            ),
-            (
-                r#"enum T { #[regex("a$")] A, #[regex("a")] B }"#,
-                b"a",
-                "17..21 Disambiguation: The pattern #[regex(\"a$\")] ::A can match simultaneously with the following variants:\n  #[regex(\"a\")] ::B\n\n(all at the priority 2); 35..38 Disambiguation: The pattern #[regex(\"a\")] ::B can match simultaneously with the following variants:\n  #[regex(\"a$\")] ::A\n\n(all at the priority 2); ",
-            ),
-            (
-                r#"enum T { #[regex("^a")] A }"#,
-                b"a",
-                "0..27 NoUniversalStart: The state machine implementing this lexer is missing a universal start state,which is unsupported by logos. This is most likely do to a lookbehind assertion at the start of the regex.; ",
-            ),
-            (
-                r#"enum T { #[regex("a*$")] A }"#,
-                b"a",
-                "0..28 NoUniversalStart: The state machine implementing this lexer is missing a universal start state,which is unsupported by logos. This is most likely do to a lookbehind assertion at the start of the regex.; ",
-            ),
-            // all faults are collected
-            (
-                r#"enum T { #[regex("(")] A, #[regex(".*x")] B, #[token("")] C }"#,
-                b"a",
-                "17..20 Regex: regex fault at byte 0: Unclosed; 34..39 GreedyDot: This pattern contains an unbounded greedy dot repetition, i.e. `.*` or `.+` (or a character class that is equivalent to a dot, i.e., `[^\\n]*`). This will cause the entirety of the input to be read for every token. Consider making your repetition non-greedy or changing it to a more specific character class. If this is the intended behavior, add #[regex(..., allow_greedy = true)] or#[logos(skip(..., allow_greedy = true))]; 53..55 EmptyMatch: The pattern #[token(\"\")] ::C can match the empty string, which is unsupported by logos.; ",
-            ),
-            (
-                r#"enum T { #[regex("(?R).*")] A }"#,
-                b"a",
-                "17..25 GreedyDot: This pattern contains an unbounded greedy dot repetition, i.e. `.*` or `.+` (or a character class that is equivalent to a dot, i.e., `[^\\n]*`). This will cause the entirety of the input to be read for every token. Consider making your repetition non-greedy or changing it to a more specific character class. If this is the intended behavior, add #[regex(..., allow_greedy = true)] or#[logos(skip(..., allow_greedy = true))]; 17..25 EmptyMatch: The pattern #[regex(\"(?R).*\")] ::A can match the empty string, which is unsupported by logos.; ",
-            ),
-        ],
-    )
-}
+const NAMES_FAULTS_OF_LEAVES: &[(&str, &[u8], &str)] = &[
+    (
+        r#"enum T { #[token("z")] Z, #[regex("[a-z]")] L }"#,
+        b"z",
+        "17..20 Disambiguation: The pattern #[token(\"z\")] ::Z can match simultaneously with the following variants:\n  #[regex(\"[a-z]\")] ::L\n\n(all at the priority 2); 34..41 Disambiguation: The pattern #[regex(\"[a-z]\")] ::L can match simultaneously with the following variants:\n  #[token(\"z\")] ::Z\n\n(all at the priority 2); ",
+    ),
+    (
+        r#"enum T { #[regex("a$")] A, #[regex("a")] B }"#,
+        b"a",
+        "17..21 Disambiguation: The pattern #[regex(\"a$\")] ::A can match simultaneously with the following variants:\n  #[regex(\"a\")] ::B\n\n(all at the priority 2); 35..38 Disambiguation: The pattern #[regex(\"a\")] ::B can match simultaneously with the following variants:\n  #[regex(\"a$\")] ::A\n\n(all at the priority 2); ",
+    ),
+    (
+        r#"enum T { #[regex("^a")] A }"#,
+        b"a",
+        "0..27 NoUniversalStart: The state machine implementing this lexer is missing a universal start state,which is unsupported by logos. This is most likely do to a lookbehind assertion at the start of the regex.; ",
+    ),
+    (
+        r#"enum T { #[regex("a*$")] A }"#,
+        b"a",
+        "0..28 NoUniversalStart: The state machine implementing this lexer is missing a universal start state,which is unsupported by logos. This is most likely do to a lookbehind assertion at the start of the regex.; ",
+    ),
+    // all faults are collected
+    (
+        r#"enum T { #[regex("(")] A, #[regex(".*x")] B, #[token("")] C }"#,
+        b"a",
+        "17..20 Regex: regex fault at byte 0: Unclosed; 34..39 GreedyDot: This pattern contains an unbounded greedy dot repetition, i.e. `.*` or `.+` (or a character class that is equivalent to a dot, i.e., `[^\\n]*`). This will cause the entirety of the input to be read for every token. Consider making your repetition non-greedy or changing it to a more specific character class. If this is the intended behavior, add #[regex(..., allow_greedy = true)] or#[logos(skip(..., allow_greedy = true))]; 53..55 EmptyMatch: The pattern #[token(\"\")] ::C can match the empty string, which is unsupported by logos.; ",
+    ),
+    (
+        r#"enum T { #[regex("(?R).*")] A }"#,
+        b"a",
+        "17..25 GreedyDot: This pattern contains an unbounded greedy dot repetition, i.e. `.*` or `.+` (or a character class that is equivalent to a dot, i.e., `[^\\n]*`). This will cause the entirety of the input to be read for every token. Consider making your repetition non-greedy or changing it to a more specific character class. If this is the intended behavior, add #[regex(..., allow_greedy = true)] or#[logos(skip(..., allow_greedy = true))]; 17..25 EmptyMatch: The pattern #[regex(\"(?R).*\")] ::A can match the empty string, which is unsupported by logos.; ",
+    ),
+];
 
-#[test]
-fn names_faulty_patterns(rt: HostRuntime) -> Result<(), Fail> {
-    give(
-        &rt,
-        rt.alloc(),
-        &[
-            (
-                r#"enum T { #[regex("(?:(?:a{4294967295}){4294967295}){4294967295}")] A }"#,
-                b"a",
-                "17..64 PriorityOverflow: the default priority is too large; ",
-            ),
-            (
-                r#"enum T { #[regex("a*")] A }"#,
-                b"a",
-                "17..21 EmptyMatch: The pattern #[regex(\"a*\")] ::A can match the empty string, which is unsupported by logos.; ",
-            ),
-            (
-                r#"enum T { #[regex("([a&&b])*")] A }"#,
-                b"a",
-                "17..28 EmptyMatch: The pattern #[regex(\"([a&&b])*\")] ::A can match the empty string, which is unsupported by logos.; ",
-            ),
-            (
-                r#"#[logos(skip "a*")] enum T { }"#,
-                b"a",
-                "13..17 EmptyMatch: The pattern #[regex(\"a*\")] ::<skip> can match the empty string, which is unsupported by logos.; ",
-            ),
-            (
-                r#"enum T { #[regex("(?-u:[^a])")] A }"#,
-                b"a",
-                "17..29 Utf8Pattern: UTF-8 mode is requested, but the pattern \"(?-u:[^a])\" of variant `::A` can match invalid utf8.\nYou can disable UTF-8 mode with #[logos(utf8 = false)]; ",
-            ),
-            (
-                r#"enum T { #[regex(r"a\b")] A }"#,
-                b"a",
-                "17..23 Regex: regex fault at byte 1: UnicodeWordBoundary; ",
-            ),
-            (
-                r#"enum T { #[regex("(?x)a")] A }"#,
-                b"a",
-                "17..24 Regex: regex fault at byte 0: FlagUnsupported; ",
-            ),
-        ],
-    )
-}
+const NAMES_FAULTY_PATTERNS: &[(&str, &[u8], &str)] = &[
+    (
+        r#"enum T { #[regex("(?:(?:a{4294967295}){4294967295}){4294967295}")] A }"#,
+        b"a",
+        "17..64 PriorityOverflow: the default priority is too large; ",
+    ),
+    (
+        r#"enum T { #[regex("a*")] A }"#,
+        b"a",
+        "17..21 EmptyMatch: The pattern #[regex(\"a*\")] ::A can match the empty string, which is unsupported by logos.; ",
+    ),
+    (
+        r#"enum T { #[regex("([a&&b])*")] A }"#,
+        b"a",
+        "17..28 EmptyMatch: The pattern #[regex(\"([a&&b])*\")] ::A can match the empty string, which is unsupported by logos.; ",
+    ),
+    (
+        r#"#[logos(skip "a*")] enum T { }"#,
+        b"a",
+        "13..17 EmptyMatch: The pattern #[regex(\"a*\")] ::<skip> can match the empty string, which is unsupported by logos.; ",
+    ),
+    (
+        r#"enum T { #[regex("(?-u:[^a])")] A }"#,
+        b"a",
+        "17..29 Utf8Pattern: UTF-8 mode is requested, but the pattern \"(?-u:[^a])\" of variant `::A` can match invalid utf8.\nYou can disable UTF-8 mode with #[logos(utf8 = false)]; ",
+    ),
+    (
+        r#"enum T { #[regex(r"a\b")] A }"#,
+        b"a",
+        "17..23 Regex: regex fault at byte 1: UnicodeWordBoundary; ",
+    ),
+    (
+        r#"enum T { #[regex("(?x)a")] A }"#,
+        b"a",
+        "17..24 Regex: regex fault at byte 0: FlagUnsupported; ",
+    ),
+];
 
-#[test]
-fn names_passed_limits(rt: HostRuntime) -> Result<(), Fail> {
-    give(
-        &rt,
-        rt.alloc(),
-        &[
-            (
-                r#"enum E { #[regex("[x&&y]a{1048576}")] A }"#,
-                b"a",
-                "0..41 LimitSize: limit LimitSize passed; ",
-            ),
-            (
-                r#"enum E { #[regex("[x&&y]{4294967295}")] A }"#,
-                b"a",
-                "0..43 LimitSize: limit LimitSize passed; ",
-            ),
-            (
-                r#"enum T { #[regex("x|(?:(?:a{4294967295}){4294967295}){4294967295}")] A }"#,
-                b"a",
-                "0..72 LimitSize: limit LimitSize passed; ",
-            ),
-            (
-                r#"enum E { #[regex("a{70000}")] A }"#,
-                b"a",
-                "0..33 LimitStates: limit LimitStates passed; ",
-            ),
-        ],
-    )
-}
+const NAMES_PASSED_LIMITS: &[(&str, &[u8], &str)] = &[
+    (
+        r#"enum E { #[regex("[x&&y]a{1048576}")] A }"#,
+        b"a",
+        "0..41 LimitSize: limit LimitSize passed; ",
+    ),
+    (
+        r#"enum E { #[regex("[x&&y]{4294967295}")] A }"#,
+        b"a",
+        "0..43 LimitSize: limit LimitSize passed; ",
+    ),
+    (
+        r#"enum T { #[regex("x|(?:(?:a{4294967295}){4294967295}){4294967295}")] A }"#,
+        b"a",
+        "0..72 LimitSize: limit LimitSize passed; ",
+    ),
+    (
+        r#"enum E { #[regex("a{70000}")] A }"#,
+        b"a",
+        "0..33 LimitStates: limit LimitStates passed; ",
+    ),
+];
 
 /// The source of a regex in so many groups.
 fn in_groups(alloc: Global, depth: usize, regex: &str) -> Result<String, Fail> {
@@ -167,42 +145,42 @@ fn names_what_is_nested_too_deep(rt: HostRuntime) -> Result<(), Fail> {
     )
 }
 
+const REFUSES_BEFORE_IT_READS_THE_INPUT: &[(&str, &[u8], &str)] = &[
+    (
+        "",
+        b"\xFF",
+        "0..0 NotAnEnum: Logos can be only be derived for enums; ",
+    ),
+    (
+        "enum E {",
+        b"\xFF",
+        "7..8 Lexical: unreadable source: Unbalanced; ",
+    ),
+    (
+        "enum E { A B }",
+        b"\xFF",
+        "11..12 Grammar: the enum is not well formed; ",
+    ),
+    (
+        r#"enum E { #[token("")] A }"#,
+        b"\xFF",
+        "17..19 EmptyMatch: The pattern #[token(\"\")] ::A can match the empty string, which is unsupported by logos.; ",
+    ),
+];
+
 #[test]
-fn refuses_before_it_reads_the_input(rt: HostRuntime) -> Result<(), Fail> {
-    give(
-        &rt,
-        rt.alloc(),
-        &[
-            (
-                "",
-                b"\xFF",
-                "0..0 NotAnEnum: Logos can be only be derived for enums; ",
-            ),
-            (
-                "enum E {",
-                b"\xFF",
-                "7..8 Lexical: unreadable source: Unbalanced; ",
-            ),
-            (
-                "enum E { A B }",
-                b"\xFF",
-                "11..12 Grammar: the enum is not well formed; ",
-            ),
-            (
-                r#"enum E { #[token("")] A }"#,
-                b"\xFF",
-                "17..19 EmptyMatch: The pattern #[token(\"\")] ::A can match the empty string, which is unsupported by logos.; ",
-            ),
-        ],
-    )
+fn faulty_sources_give_what_the_rows_say(rt: HostRuntime) -> Result<(), Fail> {
+    let alloc = rt.alloc();
+    give(&rt, alloc, NAMES_FAULTS_OF_LEAVES)?;
+    give(&rt, alloc, NAMES_FAULTY_PATTERNS)?;
+    give(&rt, alloc, NAMES_PASSED_LIMITS)?;
+    give(&rt, alloc, REFUSES_BEFORE_IT_READS_THE_INPUT)?;
+    Ok(())
 }
 
 /// The priority of the first leaf of a source; 0 where it has none or is refused.
 fn first_priority(alloc: Global, source: &str) -> usize {
-    let config = Config {
-        use_state_machine_codegen: true,
-    };
-    match generate(alloc, source, config) {
+    match made(alloc, source, true) {
         Ok(generated) => match generated.graph.leaves() {
             [leaf, ..] => leaf.priority,
             [] => 0,

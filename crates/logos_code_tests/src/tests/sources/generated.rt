@@ -1,13 +1,12 @@
 //! Small sets of rules, words and repeated words, made by a fixed rule of chance, on all short inputs: what the machine gives
 //! is compared with a plain lexer, which looks at every rule at each place.
 
-use super::shown;
+use super::{made, shown};
+use logos_codegen::Refusal;
 use logos_codegen::code::Code;
-use logos_codegen::generator::Config;
 use logos_codegen::leaf::LeafId;
 use logos_codegen::machine::{Action, Item, Lexer};
 use logos_codegen::token::Span;
-use logos_codegen::{Refusal, generate};
 use std::alloc::{AllocError, Global};
 use std::process::Abort;
 use std::test::Fail;
@@ -262,11 +261,8 @@ fn agree(
     shape: bool,
 ) -> Result<bool, Fail> {
     let source = source_of(alloc, rules, skips)?;
-    let config = Config {
-        use_state_machine_codegen: shape,
-    };
     let is_refused = some_conflict(alloc, rules)?;
-    let generated = match generate(alloc, source.as_str(), config) {
+    let generated = match made(alloc, source.as_str(), shape) {
         Ok(generated) => generated,
         Err(Refusal::Errors(_)) if is_refused => return Ok(false),
         Err(Refusal::Errors(_)) => return Err("the source is refused".into()),

@@ -1,54 +1,49 @@
 // Graphs of whole patterns: their states, charts and faults, and what they list and find.
 
-use super::asking::{Ask, answers};
+use super::asking::{Ask, Rules, answers};
 use std::test::Fail;
 
-#[test]
-fn states_of_small_graphs(rt: HostRuntime) -> Result<(), Fail> {
-    answers(
-        &rt,
-        rt.alloc(),
-        &[
-            (
-                &[("a*b", 2)],
-                Ask::Listing,
-                "  state0 => StateData() {
+const STATES_OF_SMALL_GRAPHS: &[(Rules<'static>, Ask<'static>, &str)] = &[
+    (
+        &[("a*b", 2)],
+        Ask::Listing,
+        "  state0 => StateData() {
     a => state0
     b => state1
   }
   state1 => StateData(early(0) ) {
   }",
-            ),
-            (
-                &[("[a-z]+", 2)],
-                Ask::Listing,
-                "  state0 => StateData() {
+    ),
+    (
+        &[("[a-z]+", 2)],
+        Ask::Listing,
+        "  state0 => StateData() {
     a..=z => state1
   }
   state1 => StateData(early(0) ) {
     a..=z => state1
   }",
-            ),
-            (
-                &[("xa*|ya*", 2)],
-                Ask::Listing,
-                "  state0 => StateData() {
+    ),
+    (
+        &[("xa*|ya*", 2)],
+        Ask::Listing,
+        "  state0 => StateData() {
     x..=y => state1
   }
   state1 => StateData(early(0) ) {
     a => state1
   }",
-            ),
-            (
-                &[("(?:aa)*[x&&y]", 2)],
-                Ask::Listing,
-                "  state0 => StateData() {
+    ),
+    (
+        &[("(?:aa)*[x&&y]", 2)],
+        Ask::Listing,
+        "  state0 => StateData() {
   }",
-            ),
-            (
-                &[("f(ee)?", 2)],
-                Ask::Listing,
-                "  state0 => StateData() {
+    ),
+    (
+        &[("f(ee)?", 2)],
+        Ask::Listing,
+        "  state0 => StateData() {
     f => state1
   }
   state1 => StateData(early(0) ) {
@@ -59,11 +54,11 @@ fn states_of_small_graphs(rt: HostRuntime) -> Result<(), Fail> {
   }
   state3 => StateData(early(0) ) {
   }",
-            ),
-            (
-                &[("fe{0,2}", 2)],
-                Ask::Listing,
-                "  state0 => StateData() {
+    ),
+    (
+        &[("fe{0,2}", 2)],
+        Ask::Listing,
+        "  state0 => StateData() {
     f => state1
   }
   state1 => StateData(early(0) ) {
@@ -74,21 +69,14 @@ fn states_of_small_graphs(rt: HostRuntime) -> Result<(), Fail> {
   }
   state3 => StateData(early(0) ) {
   }",
-            ),
-        ],
-    )
-}
+    ),
+];
 
-#[test]
-fn states_of_several_patterns(rt: HostRuntime) -> Result<(), Fail> {
-    answers(
-        &rt,
-        rt.alloc(),
-        &[
-            (
-                &[("a$", 3), ("a", 2)],
-                Ask::Listing,
-                "  state0 => StateData() {
+const STATES_OF_SEVERAL_PATTERNS: &[(Rules<'static>, Ask<'static>, &str)] = &[
+    (
+        &[("a$", 3), ("a", 2)],
+        Ask::Listing,
+        "  state0 => StateData() {
     a => state1
   }
   state1 => StateData() {
@@ -99,12 +87,12 @@ fn states_of_several_patterns(rt: HostRuntime) -> Result<(), Fail> {
   }
   state3 => StateData(accept(0) ) {
   }",
-            ),
-            // a mark of one leaf before the last byte, and one of the other behind it
-            (
-                &[("a(?-u:\\B)", 3), ("ab", 4)],
-                Ask::Listing,
-                "  state0 => StateData() {
+    ),
+    // a mark of one leaf before the last byte, and one of the other behind it
+    (
+        &[("a(?-u:\\B)", 3), ("ab", 4)],
+        Ask::Listing,
+        "  state0 => StateData() {
     a => state1
   }
   state1 => StateData() {
@@ -115,12 +103,12 @@ fn states_of_several_patterns(rt: HostRuntime) -> Result<(), Fail> {
   }
   state3 => StateData(accept(0) early(1) ) {
   }",
-            ),
-            // numbers by first visit, breadth first
-            (
-                &[("x0", 4), ("x1", 4), ("y0", 4), ("y1", 4)],
-                Ask::Listing,
-                "  state0 => StateData() {
+    ),
+    // numbers by first visit, breadth first
+    (
+        &[("x0", 4), ("x1", 4), ("y0", 4), ("y1", 4)],
+        Ask::Listing,
+        "  state0 => StateData() {
     x => state1
     y => state2
   }
@@ -140,52 +128,38 @@ fn states_of_several_patterns(rt: HostRuntime) -> Result<(), Fail> {
   }
   state6 => StateData(early(3) ) {
   }",
-            ),
-        ],
-    )
-}
+    ),
+];
 
-#[test]
-fn printed_states(rt: HostRuntime) -> Result<(), Fail> {
-    answers(
-        &rt,
-        rt.alloc(),
-        &[
-            (
-                &[("a*b", 2)],
-                Ask::States,
-                "StateData(); StateData() {
+const PRINTED_STATES: &[(Rules<'static>, Ask<'static>, &str)] = &[
+    (
+        &[("a*b", 2)],
+        Ask::States,
+        "StateData(); StateData() {
   a => state0
   b => state1
 };StateData(early(0) ); StateData(early(0) ) {
 };",
-            ),
-            (
-                &[("(?-u:[\\x00-\t\"'a-z~-\\xff])", 2)],
-                Ask::States,
-                "StateData(); StateData() {
+    ),
+    (
+        &[("(?-u:[\\x00-\t\"'a-z~-\\xff])", 2)],
+        Ask::States,
+        "StateData(); StateData() {
   \\x00..=\\t|\\\"|\\'|a..=z|~..=\\xff => state1
 };StateData(early(0) ); StateData(early(0) ) {
 };",
-            ),
-            (&[("a*b", 2)], Ask::Backward, "0 ;0 ;"),
-            (&[("a$", 3), ("a", 2)], Ask::Backward, ";0 ;1 ;1 ;"),
-            (&[("a{3}", 6)], Ask::Len, "4 "),
-            (&[("a{2000}", 4000)], Ask::Len, "2001 "),
-        ],
-    )
-}
+    ),
+    (&[("a*b", 2)], Ask::Backward, "0 ;0 ;"),
+    (&[("a$", 3), ("a", 2)], Ask::Backward, ";0 ;1 ;1 ;"),
+    (&[("a{3}", 6)], Ask::Len, "4 "),
+    (&[("a{2000}", 4000)], Ask::Len, "2001 "),
+];
 
-#[test]
-fn charts(rt: HostRuntime) -> Result<(), Fail> {
-    answers(
-        &rt,
-        rt.alloc(),
-        &[
-            (
-                &[("rope", 8)],
-                Ask::Chart,
-                "flowchart TB
+const CHARTS: &[(Rules<'static>, Ask<'static>, &str)] = &[
+    (
+        &[("rope", 8)],
+        Ask::Chart,
+        "flowchart TB
 n0[\"State 0\"]
 style n0 stroke:#000000
 en0n1{\"r\"}
@@ -213,11 +187,11 @@ en3n4-->n4
 n4[\"State 4<br>early(0)\"]
 style n4 stroke:#00C853
 ",
-            ),
-            (
-                &[("[a-y]", 2), ("z", 2)],
-                Ask::Chart,
-                "flowchart TB
+    ),
+    (
+        &[("[a-y]", 2), ("z", 2)],
+        Ask::Chart,
+        "flowchart TB
 n0[\"State 0\"]
 style n0 stroke:#000000
 en0n1{\"a..=y\"}
@@ -233,11 +207,11 @@ style n1 stroke:#00C853
 n2[\"State 2<br>early(1)\"]
 style n2 stroke:#00C853
 ",
-            ),
-            (
-                &[("f(ee)?", 2)],
-                Ask::Chart,
-                "flowchart TB
+    ),
+    (
+        &[("f(ee)?", 2)],
+        Ask::Chart,
+        "flowchart TB
 n0[\"State 0\"]
 style n0 stroke:#000000
 en0n1{\"f\"}
@@ -259,11 +233,11 @@ en2n3-->n3
 n3[\"State 3<br>early(0)\"]
 style n3 stroke:#00C853
 ",
-            ),
-            (
-                &[("fe{0,2}", 2)],
-                Ask::Chart,
-                "flowchart TB
+    ),
+    (
+        &[("fe{0,2}", 2)],
+        Ask::Chart,
+        "flowchart TB
 n0[\"State 0\"]
 style n0 stroke:#000000
 en0n1{\"f\"}
@@ -285,21 +259,14 @@ en2n3-->n3
 n3[\"State 3<br>early(0)\"]
 style n3 stroke:#00C853
 ",
-            ),
-        ],
-    )
-}
+    ),
+];
 
-#[test]
-fn charts_of_several_patterns(rt: HostRuntime) -> Result<(), Fail> {
-    answers(
-        &rt,
-        rt.alloc(),
-        &[
-            (
-                &[("a$", 3), ("a", 2)],
-                Ask::Chart,
-                "flowchart TB
+const CHARTS_OF_SEVERAL_PATTERNS: &[(Rules<'static>, Ask<'static>, &str)] = &[
+    (
+        &[("a$", 3), ("a", 2)],
+        Ask::Chart,
+        "flowchart TB
 n0[\"State 0\"]
 style n0 stroke:#000000
 en0n1{\"a\"}
@@ -321,11 +288,11 @@ style n2 stroke:#00C853
 n3[\"State 3<br>late(0)\"]
 style n3 stroke:#00C853
 ",
-            ),
-            (
-                &[("a(?-u:\\B)", 3), ("ab", 4)],
-                Ask::Chart,
-                "flowchart TB
+    ),
+    (
+        &[("a(?-u:\\B)", 3), ("ab", 4)],
+        Ask::Chart,
+        "flowchart TB
 n0[\"State 0\"]
 style n0 stroke:#000000
 en0n1{\"a\"}
@@ -347,17 +314,17 @@ style n2 stroke:#00C853
 n3[\"State 3<br>early(1)\"]
 style n3 stroke:#00C853
 ",
-            ),
-            // blanks, the word `fast`, a period, and words
-            (
-                &[
-                    ("[ \\t\\n\\f]+", 2),
-                    ("fast", 8),
-                    ("\\.", 2),
-                    ("[a-zA-Z]+", 2),
-                ],
-                Ask::Chart,
-                "flowchart TB
+    ),
+    // blanks, the word `fast`, a period, and words
+    (
+        &[
+            ("[ \\t\\n\\f]+", 2),
+            ("fast", 8),
+            ("\\.", 2),
+            ("[a-zA-Z]+", 2),
+        ],
+        Ask::Chart,
+        "flowchart TB
 n0[\"State 0\"]
 style n0 stroke:#000000
 en0n1{\"\\\\t..=\\\\n<br>\\\\x0c<br> \"}
@@ -427,310 +394,265 @@ style en7n3 stroke:#000000
 n7-->en7n3
 en7n3-->n3
 ",
-            ),
+    ),
+];
+
+const LABELS_OF_CHARTS: &[(Rules<'static>, Ask<'static>, &str)] = &[
+    (&[("\"", 2)], Ask::Label, "en0n1{\"\\\\&quot\"}"),
+    (&[("\\\\", 2)], Ask::Label, "en0n1{\"\\\\\\\\\"}"),
+    (
+        &[("[\\n-\\x10]", 2)],
+        Ask::Label,
+        "en0n1{\"\\\\n..=\\\\x10\"}",
+    ),
+    (&[("[abd]", 2)], Ask::Label, "en0n1{\"a..=b<br>d\"}"),
+];
+
+const FAULTS: &[(Rules<'static>, Ask<'static>, &str)] = &[
+    (&[("a$", 2), ("a", 2)], Ask::Faults, "same 0 1 "),
+    (&[("a$", 3), ("a", 2)], Ask::Faults, ""),
+    (&[("z", 2), ("[a-z]", 2)], Ask::Faults, "same 0 1 "),
+    (&[("a", 2), ("a", 2)], Ask::Faults, "same 0 1 "),
+    (&[("x", 2), ("a*", 0)], Ask::Faults, "empty 1 "),
+    (&[("", 0)], Ask::Faults, "empty 0 "),
+    (&[("a+", 2), ("[a&&b]", 2)], Ask::Faults, ""),
+    (
+        &[("([a&&b])*", 2), ("a", 2), ("b*", 2)],
+        Ask::Faults,
+        "empty 0 empty 2 ",
+    ),
+    (&[("(?R).*", 0)], Ask::Faults, "empty 0 "),
+    (&[("^a", 2)], Ask::Faults, "start "),
+    // a missing start is told alone
+    (
+        &[("a*$", 0), ("b*", 0), ("a", 2), ("a", 2)],
+        Ask::Faults,
+        "start ",
+    ),
+    // three words of one text, and a fourth of two of them
+    (
+        &[("ab", 4), ("a[b]", 4), ("ac", 4), ("[a]c|ab", 4)],
+        Ask::Faults,
+        "same 0 1 3 same 2 3 ",
+    ),
+    // a common text alone is no fault
+    (
+        &[
+            ("[ \\t\\n\\f]+", 2),
+            ("fast", 8),
+            ("\\.", 2),
+            ("[a-zA-Z]+", 2),
         ],
-    )
-}
+        Ask::Faults,
+        "",
+    ),
+];
+
+const LIMITS: &[(Rules<'static>, Ask<'static>, &str)] = &[
+    (&[(".{100}", 200)], Ask::Faults, ""),
+    (&[("[x&&y]a{1048575}", 2)], Ask::Faults, ""),
+    (&[("[x&&y]a{1048576}", 2)], Ask::Faults, "size"),
+    (&[("a{1048576,}", 2)], Ask::Faults, "size"),
+    (&[("[x&&y]{4294967295}", 2)], Ask::Faults, "size"),
+    // the sizes of all leaves add up
+    (&[("[x&&y]a{1048574}", 2), ("b", 2)], Ask::Faults, ""),
+    (&[("[x&&y]a{1048574}", 2), ("bc", 4)], Ask::Faults, "size"),
+    (
+        &[("(?:(?:a{4294967295}){4294967295}){4294967295}", 1)],
+        Ask::Faults,
+        "size",
+    ),
+    (
+        &[("x|(?:(?:a{4294967295}){4294967295}){4294967295}", 2)],
+        Ask::Faults,
+        "size",
+    ),
+];
+
+const LISTS_OF_THE_AUTOMATON: &[(Rules<'static>, Ask<'static>, &str)] = &[
+    (
+        &[("abcd", 8), ("a", 2), ("[a-c]", 1)],
+        Ask::Lists(&["", "a", "ab", "cx", "abc", "abcd", "abcdx", "abcdxx"]),
+        ";;1 2 ;2 ;;;0 ;;",
+    ),
+    (
+        &[("abcd", 8), ("a", 2), ("[a-c]", 1)],
+        Ask::ListsAtEnd(&["", "a", "abc", "abcd"]),
+        ";1 2 ;;0 ;",
+    ),
+    (
+        &[("(?:ab){2,3}", 8), ("a{3}", 6), ("b{2,}", 4)],
+        Ask::Lists(&[
+            "abab",
+            "ababa",
+            "ababab",
+            "abababa",
+            "ababababx",
+            "aaax",
+            "aaaax",
+        ]),
+        ";0 ;;0 ;;1 ;;",
+    ),
+    (
+        &[("(?:ab){2,3}", 8), ("a{3}", 6), ("b{2,}", 4)],
+        Ask::ListsAtEnd(&["ab", "ababab", "b", "bb", "bbbbb"]),
+        ";0 ;;2 ;2 ;",
+    ),
+    (
+        &[("[a\u{e9}-\u{fc}\u{20ac}\u{1f600}]", 2), ("[\u{e9}b]", 1)],
+        Ask::Lists(&[
+            "ax",
+            "\u{e9}",
+            "\u{e9}x",
+            "\u{e8}x",
+            "\u{fc}x",
+            "\u{fd}x",
+            "\u{20ac}x",
+            "\u{20ad}x",
+        ]),
+        "0 ;;0 1 ;;0 ;;0 ;;",
+    ),
+    (
+        &[("[a\u{e9}-\u{fc}\u{20ac}\u{1f600}]", 2), ("[\u{e9}b]", 1)],
+        Ask::ListsAtEnd(&["\u{1f600}", "\u{1f601}"]),
+        "0 ;;",
+    ),
+    // the start, behind an a, behind one more byte, and where nothing matches any more
+    (&[("a", 2)], Ask::Children, "4 1 256 0 "),
+];
+
+const LISTS_OF_NO_LEAVES: &[(Rules<'static>, Ask<'static>, &str)] = &[
+    (&[], Ask::Lists(&["", "a", "ab"]), ";;;"),
+    (&[], Ask::ListsAtEnd(&["", "a"]), ";;"),
+];
+
+const LOOKS_ARE_SEEN_ONE_BYTE_LATE: &[(Rules<'static>, Ask<'static>, &str)] = &[
+    (&[("a$", 3), ("a", 2)], Ask::Lists(&["ab", "a\n"]), "1 ;1 ;"),
+    (
+        &[
+            ("a(?-u:\\b)", 2),
+            ("a(?-u:\\B)", 2),
+            ("a-(?-u:\\b)", 2),
+            ("a(?-u:\\b)\u{e9}", 4),
+        ],
+        Ask::Lists(&["ab", "a_", "a-", "a-b", "a--", "a\u{e9}x"]),
+        "1 ;1 ;0 ;2 ;;3 ;",
+    ),
+    (&[("xa(?-u:\\b)b", 2)], Ask::Lists(&["xabc"]), ";"),
+    (
+        &[("(?m)a$", 2), ("(?Rm)[a\r]$", 1)],
+        Ask::Lists(&["ab", "a\n", "a\r", "\r\n", "\r\r"]),
+        ";0 1 ;1 ;;1 ;",
+    ),
+];
+
+const LOOKS_ARE_SEEN_AT_THE_END: &[(Rules<'static>, Ask<'static>, &str)] = &[
+    (
+        &[("a$", 3), ("a", 2)],
+        Ask::ListsAtEnd(&["a", "ab"]),
+        "0 1 ;;",
+    ),
+    (
+        &[("a(?-u:\\b)", 2), ("a(?-u:\\B)", 2), ("a-(?-u:\\b)", 2)],
+        Ask::ListsAtEnd(&["a", "a-"]),
+        "0 ;;",
+    ),
+    (
+        &[("(?m)a$", 2), ("(?Rm)[a\r]$", 1)],
+        Ask::ListsAtEnd(&["a", "\r"]),
+        "0 1 ;1 ;",
+    ),
+    (&[("xa(?-u:\\b)b", 2)], Ask::ListsAtEnd(&["xab"]), ";"),
+    (&[("(?Rm)\\r^a", 2)], Ask::ListsAtEnd(&["\ra"]), "0 ;"),
+    (&[("(?Rm)\\r^\\n", 2)], Ask::ListsAtEnd(&["\r\n"]), ";"),
+    (&[("(?m)\\n^a", 2)], Ask::ListsAtEnd(&["\na"]), "0 ;"),
+    (&[("(?m)\\r^a", 2)], Ask::ListsAtEnd(&["\ra"]), ";"),
+    (&[("(?R).", 2)], Ask::ListsAtEnd(&["\r", "a"]), ";0 ;"),
+    (&[("a+?", 2)], Ask::ListsAtEnd(&["aaa"]), "0 ;"),
+];
+
+const FINDS_OF_SMALL_GRAPHS: &[(Rules<'static>, Ask<'static>, &str)] = &[
+    (&[("f(ee)?", 2)], Ask::Finds(&["fe"]), "0 1 ;"),
+    (&[("fe{0,2}", 2)], Ask::Finds(&["feee"]), "0 3 ;"),
+    (&[("a*b", 2)], Ask::Finds(&["aaa"]), ";"),
+    (
+        &[("a$", 3), ("a", 2)],
+        Ask::Finds(&["aa", "a"]),
+        "1 1 ;0 1 ;",
+    ),
+    (
+        &[("a(?-u:\\b)", 2), ("a(?-u:\\B)", 2)],
+        Ask::Finds(&["aa", "a"]),
+        "1 1 ;0 1 ;",
+    ),
+    (
+        &[("a(?-u:\\B)", 3), ("ab", 4)],
+        Ask::Finds(&["ab", "ac", "a-"]),
+        "1 2 ;0 1 ;;",
+    ),
+    (&[("(?:aa)*[x&&y]", 2)], Ask::Finds(&["aaa"]), ";"),
+    (&[("a+?", 2)], Ask::Finds(&["aaa"]), "0 3 ;"),
+];
+
+const WHAT_TELLS_STATES_APART: &[(Rules<'static>, Ask<'static>, &str)] = &[
+    (
+        &[("rope", 8)],
+        Ask::Tells(&[
+            (0, 1, "", false),
+            (0, 1, "r", false),
+            (0, 1, "e", false),
+            (0, 1, "r", true),
+            (1, 2, "o", false),
+            (1, 2, "ope", false),
+            (3, 4, "", false),
+            (4, 3, "", false),
+            (4, 5, "", false),
+        ]),
+        "01001111?",
+    ),
+    // nothing tells a state from itself
+    (
+        &[("rope", 8)],
+        Ask::Tells(&[
+            (0, 0, "rope", false),
+            (1, 1, "r", false),
+            (2, 2, "", true),
+            (3, 3, "e", true),
+            (4, 4, "", false),
+        ]),
+        "00000",
+    ),
+    (
+        &[("a$", 3), ("a", 2)],
+        Ask::Tells(&[
+            (0, 1, "", false),
+            (0, 1, "", true),
+            (0, 1, "a", true),
+            (2, 3, "", false),
+            (2, 3, "", true),
+            (1, 1, "", true),
+            (1, 1, "a", true),
+        ]),
+        "0111000",
+    ),
+];
 
 #[test]
-fn labels_of_charts(rt: HostRuntime) -> Result<(), Fail> {
-    answers(
-        &rt,
-        rt.alloc(),
-        &[
-            (&[("\"", 2)], Ask::Label, "en0n1{\"\\\\&quot\"}"),
-            (&[("\\\\", 2)], Ask::Label, "en0n1{\"\\\\\\\\\"}"),
-            (
-                &[("[\\n-\\x10]", 2)],
-                Ask::Label,
-                "en0n1{\"\\\\n..=\\\\x10\"}",
-            ),
-            (&[("[abd]", 2)], Ask::Label, "en0n1{\"a..=b<br>d\"}"),
-        ],
-    )
-}
-
-#[test]
-fn faults(rt: HostRuntime) -> Result<(), Fail> {
-    answers(
-        &rt,
-        rt.alloc(),
-        &[
-            (&[("a$", 2), ("a", 2)], Ask::Faults, "same 0 1 "),
-            (&[("a$", 3), ("a", 2)], Ask::Faults, ""),
-            (&[("z", 2), ("[a-z]", 2)], Ask::Faults, "same 0 1 "),
-            (&[("a", 2), ("a", 2)], Ask::Faults, "same 0 1 "),
-            (&[("x", 2), ("a*", 0)], Ask::Faults, "empty 1 "),
-            (&[("", 0)], Ask::Faults, "empty 0 "),
-            (&[("a+", 2), ("[a&&b]", 2)], Ask::Faults, ""),
-            (
-                &[("([a&&b])*", 2), ("a", 2), ("b*", 2)],
-                Ask::Faults,
-                "empty 0 empty 2 ",
-            ),
-            (&[("(?R).*", 0)], Ask::Faults, "empty 0 "),
-            (&[("^a", 2)], Ask::Faults, "start "),
-            // a missing start is told alone
-            (
-                &[("a*$", 0), ("b*", 0), ("a", 2), ("a", 2)],
-                Ask::Faults,
-                "start ",
-            ),
-            // three words of one text, and a fourth of two of them
-            (
-                &[("ab", 4), ("a[b]", 4), ("ac", 4), ("[a]c|ab", 4)],
-                Ask::Faults,
-                "same 0 1 3 same 2 3 ",
-            ),
-            // a common text alone is no fault
-            (
-                &[
-                    ("[ \\t\\n\\f]+", 2),
-                    ("fast", 8),
-                    ("\\.", 2),
-                    ("[a-zA-Z]+", 2),
-                ],
-                Ask::Faults,
-                "",
-            ),
-        ],
-    )
-}
-
-#[test]
-fn limits(rt: HostRuntime) -> Result<(), Fail> {
-    answers(
-        &rt,
-        rt.alloc(),
-        &[
-            (&[(".{100}", 200)], Ask::Faults, ""),
-            (&[("[x&&y]a{1048575}", 2)], Ask::Faults, ""),
-            (&[("[x&&y]a{1048576}", 2)], Ask::Faults, "size"),
-            (&[("a{1048576,}", 2)], Ask::Faults, "size"),
-            (&[("[x&&y]{4294967295}", 2)], Ask::Faults, "size"),
-            // the sizes of all leaves add up
-            (&[("[x&&y]a{1048574}", 2), ("b", 2)], Ask::Faults, ""),
-            (&[("[x&&y]a{1048574}", 2), ("bc", 4)], Ask::Faults, "size"),
-            (
-                &[("(?:(?:a{4294967295}){4294967295}){4294967295}", 1)],
-                Ask::Faults,
-                "size",
-            ),
-            (
-                &[("x|(?:(?:a{4294967295}){4294967295}){4294967295}", 2)],
-                Ask::Faults,
-                "size",
-            ),
-        ],
-    )
-}
-
-#[test]
-fn lists_of_the_automaton(rt: HostRuntime) -> Result<(), Fail> {
-    answers(
-        &rt,
-        rt.alloc(),
-        &[
-            (
-                &[("abcd", 8), ("a", 2), ("[a-c]", 1)],
-                Ask::Lists(&["", "a", "ab", "cx", "abc", "abcd", "abcdx", "abcdxx"]),
-                ";;1 2 ;2 ;;;0 ;;",
-            ),
-            (
-                &[("abcd", 8), ("a", 2), ("[a-c]", 1)],
-                Ask::ListsAtEnd(&["", "a", "abc", "abcd"]),
-                ";1 2 ;;0 ;",
-            ),
-            (
-                &[("(?:ab){2,3}", 8), ("a{3}", 6), ("b{2,}", 4)],
-                Ask::Lists(&[
-                    "abab",
-                    "ababa",
-                    "ababab",
-                    "abababa",
-                    "ababababx",
-                    "aaax",
-                    "aaaax",
-                ]),
-                ";0 ;;0 ;;1 ;;",
-            ),
-            (
-                &[("(?:ab){2,3}", 8), ("a{3}", 6), ("b{2,}", 4)],
-                Ask::ListsAtEnd(&["ab", "ababab", "b", "bb", "bbbbb"]),
-                ";0 ;;2 ;2 ;",
-            ),
-            (
-                &[("[a\u{e9}-\u{fc}\u{20ac}\u{1f600}]", 2), ("[\u{e9}b]", 1)],
-                Ask::Lists(&[
-                    "ax",
-                    "\u{e9}",
-                    "\u{e9}x",
-                    "\u{e8}x",
-                    "\u{fc}x",
-                    "\u{fd}x",
-                    "\u{20ac}x",
-                    "\u{20ad}x",
-                ]),
-                "0 ;;0 1 ;;0 ;;0 ;;",
-            ),
-            (
-                &[("[a\u{e9}-\u{fc}\u{20ac}\u{1f600}]", 2), ("[\u{e9}b]", 1)],
-                Ask::ListsAtEnd(&["\u{1f600}", "\u{1f601}"]),
-                "0 ;;",
-            ),
-            // the start, behind an a, behind one more byte, and where nothing matches any more
-            (&[("a", 2)], Ask::Children, "4 1 256 0 "),
-        ],
-    )
-}
-
-#[test]
-fn lists_of_no_leaves(rt: HostRuntime) -> Result<(), Fail> {
-    answers(
-        &rt,
-        rt.alloc(),
-        &[
-            (&[], Ask::Lists(&["", "a", "ab"]), ";;;"),
-            (&[], Ask::ListsAtEnd(&["", "a"]), ";;"),
-        ],
-    )
-}
-
-#[test]
-fn looks_are_seen_one_byte_late(rt: HostRuntime) -> Result<(), Fail> {
-    answers(
-        &rt,
-        rt.alloc(),
-        &[
-            (&[("a$", 3), ("a", 2)], Ask::Lists(&["ab", "a\n"]), "1 ;1 ;"),
-            (
-                &[
-                    ("a(?-u:\\b)", 2),
-                    ("a(?-u:\\B)", 2),
-                    ("a-(?-u:\\b)", 2),
-                    ("a(?-u:\\b)\u{e9}", 4),
-                ],
-                Ask::Lists(&["ab", "a_", "a-", "a-b", "a--", "a\u{e9}x"]),
-                "1 ;1 ;0 ;2 ;;3 ;",
-            ),
-            (&[("xa(?-u:\\b)b", 2)], Ask::Lists(&["xabc"]), ";"),
-            (
-                &[("(?m)a$", 2), ("(?Rm)[a\r]$", 1)],
-                Ask::Lists(&["ab", "a\n", "a\r", "\r\n", "\r\r"]),
-                ";0 1 ;1 ;;1 ;",
-            ),
-        ],
-    )
-}
-
-#[test]
-fn looks_are_seen_at_the_end(rt: HostRuntime) -> Result<(), Fail> {
-    answers(
-        &rt,
-        rt.alloc(),
-        &[
-            (
-                &[("a$", 3), ("a", 2)],
-                Ask::ListsAtEnd(&["a", "ab"]),
-                "0 1 ;;",
-            ),
-            (
-                &[("a(?-u:\\b)", 2), ("a(?-u:\\B)", 2), ("a-(?-u:\\b)", 2)],
-                Ask::ListsAtEnd(&["a", "a-"]),
-                "0 ;;",
-            ),
-            (
-                &[("(?m)a$", 2), ("(?Rm)[a\r]$", 1)],
-                Ask::ListsAtEnd(&["a", "\r"]),
-                "0 1 ;1 ;",
-            ),
-            (&[("xa(?-u:\\b)b", 2)], Ask::ListsAtEnd(&["xab"]), ";"),
-            (&[("(?Rm)\\r^a", 2)], Ask::ListsAtEnd(&["\ra"]), "0 ;"),
-            (&[("(?Rm)\\r^\\n", 2)], Ask::ListsAtEnd(&["\r\n"]), ";"),
-            (&[("(?m)\\n^a", 2)], Ask::ListsAtEnd(&["\na"]), "0 ;"),
-            (&[("(?m)\\r^a", 2)], Ask::ListsAtEnd(&["\ra"]), ";"),
-            (&[("(?R).", 2)], Ask::ListsAtEnd(&["\r", "a"]), ";0 ;"),
-            (&[("a+?", 2)], Ask::ListsAtEnd(&["aaa"]), "0 ;"),
-        ],
-    )
-}
-
-#[test]
-fn finds_of_small_graphs(rt: HostRuntime) -> Result<(), Fail> {
-    answers(
-        &rt,
-        rt.alloc(),
-        &[
-            (&[("f(ee)?", 2)], Ask::Finds(&["fe"]), "0 1 ;"),
-            (&[("fe{0,2}", 2)], Ask::Finds(&["feee"]), "0 3 ;"),
-            (&[("a*b", 2)], Ask::Finds(&["aaa"]), ";"),
-            (
-                &[("a$", 3), ("a", 2)],
-                Ask::Finds(&["aa", "a"]),
-                "1 1 ;0 1 ;",
-            ),
-            (
-                &[("a(?-u:\\b)", 2), ("a(?-u:\\B)", 2)],
-                Ask::Finds(&["aa", "a"]),
-                "1 1 ;0 1 ;",
-            ),
-            (
-                &[("a(?-u:\\B)", 3), ("ab", 4)],
-                Ask::Finds(&["ab", "ac", "a-"]),
-                "1 2 ;0 1 ;;",
-            ),
-            (&[("(?:aa)*[x&&y]", 2)], Ask::Finds(&["aaa"]), ";"),
-            (&[("a+?", 2)], Ask::Finds(&["aaa"]), "0 3 ;"),
-        ],
-    )
-}
-
-#[test]
-fn what_tells_states_apart(rt: HostRuntime) -> Result<(), Fail> {
-    answers(
-        &rt,
-        rt.alloc(),
-        &[
-            (
-                &[("rope", 8)],
-                Ask::Tells(&[
-                    (0, 1, "", false),
-                    (0, 1, "r", false),
-                    (0, 1, "e", false),
-                    (0, 1, "r", true),
-                    (1, 2, "o", false),
-                    (1, 2, "ope", false),
-                    (3, 4, "", false),
-                    (4, 3, "", false),
-                    (4, 5, "", false),
-                ]),
-                "01001111?",
-            ),
-            // nothing tells a state from itself
-            (
-                &[("rope", 8)],
-                Ask::Tells(&[
-                    (0, 0, "rope", false),
-                    (1, 1, "r", false),
-                    (2, 2, "", true),
-                    (3, 3, "e", true),
-                    (4, 4, "", false),
-                ]),
-                "00000",
-            ),
-            (
-                &[("a$", 3), ("a", 2)],
-                Ask::Tells(&[
-                    (0, 1, "", false),
-                    (0, 1, "", true),
-                    (0, 1, "a", true),
-                    (2, 3, "", false),
-                    (2, 3, "", true),
-                    (1, 1, "", true),
-                    (1, 1, "a", true),
-                ]),
-                "0111000",
-            ),
-        ],
-    )
+fn graphs_answer_as_the_rows_say(rt: HostRuntime) -> Result<(), Fail> {
+    let alloc = rt.alloc();
+    answers(&rt, alloc, STATES_OF_SMALL_GRAPHS)?;
+    answers(&rt, alloc, STATES_OF_SEVERAL_PATTERNS)?;
+    answers(&rt, alloc, PRINTED_STATES)?;
+    answers(&rt, alloc, CHARTS)?;
+    answers(&rt, alloc, CHARTS_OF_SEVERAL_PATTERNS)?;
+    answers(&rt, alloc, LABELS_OF_CHARTS)?;
+    answers(&rt, alloc, FAULTS)?;
+    answers(&rt, alloc, LIMITS)?;
+    answers(&rt, alloc, LISTS_OF_THE_AUTOMATON)?;
+    answers(&rt, alloc, LISTS_OF_NO_LEAVES)?;
+    answers(&rt, alloc, LOOKS_ARE_SEEN_ONE_BYTE_LATE)?;
+    answers(&rt, alloc, LOOKS_ARE_SEEN_AT_THE_END)?;
+    answers(&rt, alloc, FINDS_OF_SMALL_GRAPHS)?;
+    answers(&rt, alloc, WHAT_TELLS_STATES_APART)?;
+    Ok(())
 }

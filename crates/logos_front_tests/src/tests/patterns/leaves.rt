@@ -3,6 +3,7 @@
 use logos_pattern::leaf::{Callback, InlineCallback, Leaf, VariantKind};
 use logos_pattern::pattern::{Literal, Pattern, token_priority};
 use logos_token::token::{self, Ident, Span, TokenStream, print, tokenize};
+use logos_type::{Part, TypeExpr};
 use std::alloc::{AllocError, Global};
 use std::process::Abort;
 use std::test::Fail;
@@ -17,6 +18,8 @@ const AB: token::Literal<'static> = token::Literal {
 enum Set {
     /// The priority of a `token`, and a variant.
     Variant,
+    /// The same priority, and a variant with a field.
+    Field,
     /// The priority 7, and the callback that the tokens name.
     Label,
     /// The priority 7, and a callback at 0..17 with the tokens as its body.
@@ -35,11 +38,20 @@ fn inline(body: TokenStream<'_>) -> Option<Callback<'_>> {
 }
 
 fn with<'s>(leaf: Leaf<'s>, priority: usize, set: Set, tokens: TokenStream<'s>) -> Leaf<'s> {
+    let name = Ident {
+        text: "A",
+        span: AB.span,
+    };
     match set {
-        Set::Variant => leaf.priority(priority).variant_kind(VariantKind::Unit(Ident {
-            text: "A",
-            span: AB.span,
-        })),
+        Set::Variant => leaf
+            .priority(priority)
+            .variant_kind(VariantKind::Unit(name)),
+        Set::Field => leaf.priority(priority).variant_kind(VariantKind::Value(
+            name,
+            TypeExpr {
+                part: Part::Name("u8"),
+            },
+        )),
         Set::Label => leaf.priority(7).callback(Some(Callback::Label(tokens))),
         Set::Inline => leaf.priority(7).callback(inline(tokens)),
         Set::Unset => leaf.callback(inline(tokens)).callback(None),
@@ -85,8 +97,9 @@ fn are_shown(rt: &impl Abort, alloc: Global, cases: &[(Set, &str, &str)]) -> Res
 }
 
 /// Leaves, and how they are printed.
-const LEAVES: [(Set, &str, &str); 5] = [
+const LEAVES: [(Set, &str, &str); 6] = [
     (Set::Variant, "", "#[token(\"ab\")] ::A 4 None"),
+    (Set::Field, "", "#[token(\"ab\")] ::A(_) 4 None"),
     (
         Set::Label,
         "  a::b ",

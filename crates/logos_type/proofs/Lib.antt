@@ -1,0 +1,4 @@
+pub mod PartTrees
+pub mod PartLemmas
+pub mod DepthLemmas
+pub mod EqualityLemmas

@@ -1,0 +1,5 @@
+pub mod Parts
+pub mod TypeTrees
+pub mod Depth
+pub mod Printed
+pub mod inside

@@ -1,0 +1,73 @@
+-- What a type is made of, without where it lies in memory.
+use Rattle.std.specs.Prelude.{ℕ, List, [], ◌∷◌, Option, Some, None}
+use Rattle.logos_lexeme.specs.declared.lexeme.Delimiter.{Delimiter}
+use Rattle.logos_lexeme.specs.declared.lexeme.Spacing.{Spacing}
+use Rattle.logos_type.specs.declared.type_expr.Leaf.{Leaf}
+use Rattle.logos_type.specs.declared.type_expr.Leaf.TheVariants.{Word, Mark, Colons, Arrow, Literal, Open, Close, Reference, Lifetime, Kept, Punct, Doc}
+use Rattle.logos_type.specs.declared.type_expr.Part.{Part}
+use Rattle.logos_type.specs.declared.type_expr.Part.TheOpen.{Part-F}
+use Rattle.logos_type.specs.declared.type_expr.Part.TheFolds.{fold-Part}
+
+-- a token that is no type itself
+pub data Sign : Type 0 where
+  word : (text : List ℕ) → Sign
+  mark : (character : ℕ) → Sign
+  -- `::`
+  colons : Sign
+  -- `->`
+  arrow : Sign
+  value : (text : List ℕ) → Sign
+  opening : (delimiter : Delimiter) → Sign
+  closing : (delimiter : Delimiter) → Sign
+  -- `&` with its lifetime, if there is one
+  reference : (lifetime : Option (List ℕ)) → Sign
+  -- a lifetime among the angle arguments of a path that is a type
+  lifetime : (text : List ℕ) → Sign
+  -- any other lifetime
+  kept : (text : List ℕ) → Sign
+  -- a punctuation of an array's length or of braces
+  spaced_mark : (character : ℕ) (spacing : Spacing) → Sign
+  -- a documentation comment in one of these
+  comment : (text : List ℕ) → Sign
+
+mutual
+  -- a part of a type: a token, a type that is just a name, a type of parts, or parts that stay as they are
+  pub data Tree : Type 0 where
+    sign : Sign → Tree
+    name : (text : List ℕ) → Tree
+    whole : Trees → Tree
+    still : Trees → Tree
+
+  pub data Trees : Type 0 where
+    none : Trees
+    also : Tree → Trees → Trees
+
+-- a list of parts
+abbrev pub trees : List Tree → Trees
+trees [] = none
+trees (t ∷ rest) = also t (trees rest)
+
+abbrev pub sign_of : Leaf → Sign
+sign_of (Word text) = word text.now
+sign_of (Mark character) = mark character
+sign_of Colons = colons
+sign_of Arrow = arrow
+sign_of (Literal text) = value text.now
+sign_of (Open delimiter) = opening delimiter
+sign_of (Close delimiter) = closing delimiter
+sign_of (Reference (Some text)) = reference (Some text.now)
+sign_of (Reference None) = reference None
+sign_of (Lifetime text) = lifetime text.now
+sign_of (Kept text) = kept text.now
+sign_of (Punct character spacing) = spaced_mark character spacing
+sign_of (Doc text) = comment text.now
+
+-- one part, with each part inside in its place
+abbrev pub node_tree : Part-F Tree → Tree
+node_tree (Part-F.Leaf leaf) = sign (sign_of leaf)
+node_tree (Part-F.Name text) = name text.now
+node_tree (Part-F.Whole parts) = whole (trees parts.items)
+node_tree (Part-F.Still parts) = still (trees parts.items)
+
+abbrev pub tree_of : Part → Tree
+tree_of = fold-Part Tree node_tree

@@ -1,0 +1,6 @@
+-- What a type is made of.
+use Rattle.logos_type.specs.declared.type_expr.TypeExpr.{TypeExpr}
+use Rattle.logos_type.specs.Parts.{Tree, tree_of}
+
+abbrev pub type_tree : TypeExpr → Tree
+type_tree type = tree_of type.part

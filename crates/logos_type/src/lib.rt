@@ -1,0 +1,13 @@
+//! Rust types as they stand in an enum's fields and in attributes: what they are made of, how they are printed, copied and compared.
+
+#![tactic(auto)]
+
+mod equality;
+mod laws;
+mod print;
+mod type_expr;
+
+pub use equality::is_same_type;
+pub use laws::exceeds_is_deeper;
+pub use print::print_type;
+pub use type_expr::{Leaf, Part, TypeExpr, exceeds};

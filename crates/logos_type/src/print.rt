@@ -1,0 +1,159 @@
+//! Printing types.
+ghost use Rattle.std.specs.Prelude.{◌≡◌, ◌∷◌, [], IfOk, string_bytes, codes, if◌then◌else◌};
+ghost use Rattle.logos_token.specs.Printing.{opening_text, closing_text, gap_behind, is_line_comment};
+ghost use Rattle.logos_type.specs.Printed.{printed_type};
+ghost use Rattle.logos_type.specs.TypeTrees.{type_tree};
+
+use crate::type_expr::{Leaf, Part, TypeExpr};
+use logos_token::error::Memory;
+use logos_token::token::{Delimiter, Spacing};
+use std::alloc::Global;
+
+/// What is printed so far.
+#[derive(Drop)]
+pub(crate) struct TypePrinter {
+    text: String,
+    /// What parts it from the next lexeme.
+    gap: &'static str,
+}
+
+fn opening_text(delimiter: Delimiter) -> &'static str
+    ensures { result.now ≡ opening_text delimiter }
+{
+    match delimiter {
+        Delimiter::Parenthesis => "(",
+        Delimiter::Bracket => "[",
+        Delimiter::Brace => "{",
+    }
+}
+
+fn closing_text(delimiter: Delimiter) -> &'static str
+    ensures { result.now ≡ closing_text delimiter }
+{
+    match delimiter {
+        Delimiter::Parenthesis => ")",
+        Delimiter::Bracket => "]",
+        Delimiter::Brace => "}",
+    }
+}
+
+fn gap_behind(spacing: Spacing) -> &'static str
+    ensures { result.now ≡ gap_behind spacing }
+{
+    match spacing {
+        Spacing::Alone => " ",
+        Spacing::Joint => "",
+    }
+}
+
+fn gap_behind_doc(text: &str) -> &'static str
+    ensures { result.now ≡ (if is_line_comment text.now then 10 ∷ [] else codes " ") }
+{
+    match text.as_bytes() {
+        [_, b'/', ..] => "\n",
+        _ => " ",
+    }
+}
+
+impl TypePrinter {
+    ghost use Rattle.std.specs.Prelude.{◌≡◌, OnOk, fold, codes};
+    ghost use Rattle.std.specs.Char.{encode_utf8};
+    ghost use Rattle.logos_token.specs.Printing.{print_part};
+    ghost use Rattle.logos_type.specs.Parts.{sign_of, tree_of};
+    ghost use Rattle.logos_type.specs.Printed.{lifetime_parts, sign_parts, type_parts};
+    ghost use Rattle.logos_type.specs.inside.Printer.{printed_of};
+
+    /// Adds a lexeme.
+    fn add(&mut self, text: &str, gap: &'static str) -> Result<(), Memory>
+        ensures { OnOk result (printed_of self.new ≡
+            print_part (printed_of self.old) (record { text = text.now; gap = gap.now })) }
+    {
+        self.text.push_str(self.gap)?;
+        self.text.push_str(text)?;
+        self.gap = gap;
+        Ok(())
+    }
+
+    /// Adds a lexeme of one character.
+    fn add_character(&mut self, character: char, gap: &'static str) -> Result<(), Memory>
+        ensures { OnOk result (printed_of self.new ≡
+            print_part (printed_of self.old) (record { text = encode_utf8 character; gap = gap.now })) }
+    {
+        self.text.push_str(self.gap)?;
+        self.text.push(character)?;
+        self.gap = gap;
+        Ok(())
+    }
+
+    /// Adds a lifetime.
+    fn add_lifetime(&mut self, text: &str) -> Result<(), Memory>
+        ensures { OnOk result (printed_of self.new ≡
+            fold print_part (printed_of self.old) (lifetime_parts text.now)) }
+    {
+        self.add("'", "")?;
+        self.add(text, " ")
+    }
+
+    /// Adds `&`, and the lifetime behind it, if there is one.
+    fn add_reference(&mut self, lifetime: Option<&str>) -> Result<(), Memory>
+        ensures { OnOk result (printed_of self.new ≡
+            fold print_part (printed_of self.old) (sign_parts (sign_of (Leaf.Reference lifetime.entry)))) }
+    {
+        self.add("&", " ")?;
+        match lifetime {
+            Some(text) => self.add_lifetime(text),
+            None => Ok(()),
+        }
+    }
+
+    /// Adds a token.
+    fn add_leaf(&mut self, leaf: Leaf<'_>) -> Result<(), Memory>
+        ensures { OnOk result (printed_of self.new ≡
+            fold print_part (printed_of self.old) (sign_parts (sign_of leaf.entry))) }
+    {
+        match leaf {
+            Leaf::Word(text) => self.add(text, " "),
+            Leaf::Mark(character) => self.add_character(character, " "),
+            Leaf::Colons => self.add("::", " "),
+            Leaf::Arrow => self.add("->", " "),
+            Leaf::Literal(text) => self.add(text, " "),
+            Leaf::Open(delimiter) => self.add(opening_text(delimiter), " "),
+            Leaf::Close(delimiter) => self.add(closing_text(delimiter), " "),
+            Leaf::Reference(lifetime) => self.add_reference(lifetime),
+            Leaf::Lifetime(text) => self.add_lifetime(text),
+            Leaf::Kept(text) => self.add_lifetime(text),
+            Leaf::Punct(character, spacing) => self.add_character(character, gap_behind(spacing)),
+            Leaf::Doc(text) => self.add(text, gap_behind_doc(text)),
+        }
+    }
+
+    /// Adds a part.
+    pub(crate) fn add_part(&mut self, part: &Part<'_>) -> Result<(), Memory>
+        ensures { OnOk result (printed_of self.new ≡
+            fold print_part (printed_of self.old) (type_parts (tree_of part.now))) }
+    {
+        match part {
+            Part::Leaf(leaf) => self.add_leaf(*leaf),
+            Part::Name(text) => self.add(text, " "),
+            Part::Whole(parts) | Part::Still(parts) => {
+                for inner in parts {
+                    self.add_part(inner)?;
+                }
+                Ok(())
+            }
+        }
+    }
+}
+
+/// The text of a type: its tokens with one space in between, where `<`, `>` and `&` stand alone, and `::`, `->` and
+/// a lifetime are one. The tokens of an array's length and of braces keep their spacing.
+pub fn print_type(alloc: Global, type_expr: &TypeExpr<'_>) -> Result<String, Memory>
+    ensures { IfOk result (λ text. string_bytes text ≡ printed_type (type_tree type_expr.now)) }
+{
+    let mut printer = TypePrinter {
+        text: String::new(alloc),
+        gap: "",
+    };
+    printer.add_part(&type_expr.part)?;
+    Ok(printer.text)
+}
