@@ -331,58 +331,62 @@ fn disagreements(
     Ok((all, count))
 }
 
+/// The pieces of an enum, of variants and of fields, of which some are dropped, doubled or turned.
+const PIECES_OF_ENUM: &[&str] = &[
+    "#",
+    "[a]",
+    "#",
+    "[b(c)]",
+    "pub",
+    "(crate)",
+    "enum",
+    "E",
+    "<",
+    "#",
+    "[d]",
+    "T",
+    ":",
+    "U",
+    "+",
+    "V",
+    "=",
+    "W",
+    ",",
+    "X",
+    ",",
+    "Y",
+    "=",
+    "Z",
+    ">",
+    "where",
+    "T",
+    ":",
+    "U",
+    ",",
+    "{A,B(u8),}",
+];
+
+const PIECES_OF_VARIANTS: &[&str] = &[
+    "#", "[a]", "#", "[b=c]", "A", ",", "B", "(u8,u8)", "=", "1", "+", "(u8)", ",", "C", "{x:u8}",
+    ",", "D", "=", "f", ",", "E", "()", ",",
+];
+
+const PIECES_OF_FIELDS: &[&str] = &[
+    "#", "[a]", "pub", "(crate)", "x", ":", "u8", ",", "y", ":", "(u8,u8)", ",", "#", "[b]", "z",
+    ":", "[u8]", ",", "pub", "w", ":", "F", "(u8)", ",",
+];
+
 #[test]
 fn agrees_with_a_plain_reader(rt: HostRuntime) -> Result<(), Fail> {
     let alloc = rt.alloc();
-    let (item, items) = disagreements(
-        alloc,
-        State::Front,
-        "",
-        "",
-        &[
-            "#",
-            "[a]",
-            "#",
-            "[b(c)]",
-            "pub",
-            "(crate)",
-            "enum",
-            "E",
-            "<",
-            "#",
-            "[d]",
-            "T",
-            ":",
-            "U",
-            "+",
-            "V",
-            "=",
-            "W",
-            ",",
-            "X",
-            ",",
-            "Y",
-            "=",
-            "Z",
-            ">",
-            "where",
-            "T",
-            ":",
-            "U",
-            ",",
-            "{A,B(u8),}",
-        ],
-    )?;
+    let (item, items) = disagreements(alloc, State::Front, "", "", PIECES_OF_ENUM)?;
     assert_eq!(rt; item.as_str(), "");
     let (variants, others) = disagreements(
         alloc,
         State::Variant,
         "enum E { ",
         "}",
-        &[
-            "#", "[a]", "#", "[b=c]", "A", ",", "B", "(u8,u8)", "=", "1", "+", "(u8)", ",", "C",
-            "{x:u8}", ",", "D", "=", "f", ",", "E", "()", ",",
-        ],
+        PIECES_OF_VARIANTS,
     )?;
     assert_eq!(rt; variants.as_str(), "");
     let (fields, more) = disagreements(
@@ -390,10 +394,7 @@ fn agrees_with_a_plain_reader(rt: HostRuntime) -> Result<(), Fail> {
         State::Field,
         "enum E { A { ",
         "} }",
-        &[
-            "#", "[a]", "pub", "(crate)", "x", ":", "u8", ",", "y", ":", "(u8,u8)", ",", "#",
-            "[b]", "z", ":", "[u8]", ",", "pub", "w", ":", "F", "(u8)", ",",
-        ],
+        PIECES_OF_FIELDS,
     )?;
     assert_eq!(rt; fields.as_str(), "");
     assert!(rt; items + others + more > 4000);
