@@ -10,11 +10,11 @@ ghost use Rattle.logos_attribute.specs.Flags.{flags_told, ascii_flag, other_flag
 ghost use Rattle.logos_attribute.specs.Flags.{no_flag, no_comma};
 ghost use Rattle.logos_attribute.specs.inside.FlagSteps.{GoesOn, HasCase};
 
-use crate::listing::{list_form, list_named, push_escaped};
+use crate::listing::{list_form, list_named};
 use crate::nested::split;
 use logos_token::error::{Errors, FaultCode, Memory};
 use logos_token::token::{Ident, TokenTree, Tokens, print};
-use logos_token::util::is_punct;
+use logos_token::util::{is_punct, push_escaped};
 use std::alloc::Global;
 
 /// The printed text of the first tree of a run.

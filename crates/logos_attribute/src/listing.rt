@@ -1,6 +1,5 @@
 //! Faults with a text of the source in their message.
 ghost use Rattle.std.specs.Prelude.{◌≡◌, ◌++◌, OnOk, IfOk, string_bytes};
-ghost use Rattle.logos_token.specs.EscapedTexts.{escaped, escaped_character};
 ghost use Rattle.logos_token.specs.Tokens.{run_span};
 ghost use Rattle.logos_token.specs.Views.{tokens_of};
 ghost use Rattle.logos_attribute.specs.Slices.{ident_slice};
@@ -9,32 +8,6 @@ ghost use Rattle.logos_attribute.specs.Told.{Lists, fault, fault_about};
 use logos_token::error::{Errors, FaultCode, Memory};
 use logos_token::token::{Ident, Span, Tokens};
 use std::alloc::Global;
-
-/// Adds a character of a string literal.
-fn push_character(text: &mut String, character: char) -> Result<(), Memory>
-    ensures { OnOk result
-        (string_bytes text.new ≡ string_bytes text.old ++ escaped_character character) }
-{
-    match character {
-        '"' => text.push_str("\\\"")?,
-        '\\' => text.push_str("\\\\")?,
-        '\n' => text.push_str("\\n")?,
-        '\r' => text.push_str("\\r")?,
-        '\t' => text.push_str("\\t")?,
-        _ => text.push(character)?,
-    }
-    Ok(())
-}
-
-/// Adds the characters of a string literal.
-pub fn push_escaped(text: &mut String, message: &str) -> Result<(), Memory>
-    ensures { OnOk result (string_bytes text.new ≡ string_bytes text.old ++ escaped message.now) }
-{
-    for character in message.chars() {
-        push_character(text, character)?;
-    }
-    Ok(())
-}
 
 /// A text between two others.
 fn joined(alloc: Global, before: &str, text: &str, behind: &str) -> Result<String, Memory>
