@@ -22,6 +22,7 @@ pub(crate) fn push_leaf_names(text: &mut String, count: usize) -> Result<(), Mem
     push(text, "} ")
 }
 
+/// Adds the name of a leaf with its number.
 fn push_leaf_name(text: &mut String, leaf: usize) -> Result<(), Memory>
     ensures { OnOk result (Grows (string_bytes text.old) (string_bytes text.new)) }
 {
@@ -48,6 +49,7 @@ pub(crate) fn push_get_action(
     push(text, "} } ")
 }
 
+/// Adds the arms of all leaves.
 fn push_arms(
     alloc: Global,
     text: &mut String,
@@ -113,6 +115,7 @@ fn push_plain(text: &mut String, kind: &VariantKind<'_>, names: Names<'_>) -> Re
     }
 }
 
+/// Adds that a match gives a variant without a field.
 fn push_unit(text: &mut String, variant: &str, names: Names<'_>) -> Result<(), Memory>
     ensures { OnOk result (Grows (string_bytes text.old) (string_bytes text.new)) }
 {
@@ -121,6 +124,7 @@ fn push_unit(text: &mut String, variant: &str, names: Names<'_>) -> Result<(), M
     Ok(())
 }
 
+/// Adds that a match gives a variant whose field is the slice.
 fn push_value(text: &mut String, variant: &str, names: Names<'_>) -> Result<(), Memory>
     ensures { OnOk result (Grows (string_bytes text.old) (string_bytes text.new)) }
 {
@@ -151,6 +155,7 @@ fn push_result(
     }
 }
 
+/// Adds what a match that is left out gives by what was called.
 fn push_skip_result(text: &mut String, names: Names<'_>) -> Result<(), Memory>
     ensures { OnOk result (Grows (string_bytes text.old) (string_bytes text.new)) }
 {
@@ -162,6 +167,7 @@ fn push_skip_result(text: &mut String, names: Names<'_>) -> Result<(), Memory>
     Ok(())
 }
 
+/// Adds what a match of a variant without a field gives by what was called.
 fn push_unit_result(text: &mut String, variant: &str, names: Names<'_>) -> Result<(), Memory>
     ensures { OnOk result (Grows (string_bytes text.old) (string_bytes text.new)) }
 {
@@ -174,6 +180,7 @@ fn push_unit_result(text: &mut String, variant: &str, names: Names<'_>) -> Resul
     Ok(())
 }
 
+/// Adds what a match of a variant with a field of this type gives by what was called.
 fn push_value_result(
     text: &mut String,
     variant: &str,

@@ -17,6 +17,7 @@ pub(crate) struct TypePrinter {
     gap: &'static str,
 }
 
+/// The text of an opening delimiter.
 fn opening_text(delimiter: Delimiter) -> &'static str
     ensures { result.now ≡ opening_text delimiter }
 {
@@ -27,6 +28,7 @@ fn opening_text(delimiter: Delimiter) -> &'static str
     }
 }
 
+/// The text of a closing delimiter.
 fn closing_text(delimiter: Delimiter) -> &'static str
     ensures { result.now ≡ closing_text delimiter }
 {
@@ -37,6 +39,7 @@ fn closing_text(delimiter: Delimiter) -> &'static str
     }
 }
 
+/// What parts a punctuation from the next lexeme.
 fn gap_behind(spacing: Spacing) -> &'static str
     ensures { result.now ≡ gap_behind spacing }
 {
@@ -46,6 +49,7 @@ fn gap_behind(spacing: Spacing) -> &'static str
     }
 }
 
+/// What parts a documentation comment from the next lexeme: the line's end behind a line comment.
 fn gap_behind_doc(text: &str) -> &'static str
     ensures { result.now ≡ (if is_line_comment text.now then 10 ∷ [] else codes " ") }
 {
