@@ -7,7 +7,7 @@ mod escaping;
 
 use crate::error::Memory;
 use crate::token::{Ident, Spacing, Span, TokenStream, TokenTree, print};
-pub(crate) use escaping::push_escaped;
+pub use escaping::push_escaped;
 use std::alloc::Global;
 use std::mem;
 

@@ -1,12 +1,11 @@
 //! Printing types.
-ghost use Rattle.std.specs.Prelude.{◌≡◌, ◌∷◌, [], IfOk, string_bytes, codes, if◌then◌else◌};
-ghost use Rattle.logos_token.specs.Printing.{opening_text, closing_text, gap_behind, is_line_comment};
+ghost use Rattle.std.specs.Prelude.{◌≡◌, IfOk, string_bytes};
 ghost use Rattle.logos_type.specs.Printed.{printed_type};
 ghost use Rattle.logos_type.specs.TypeTrees.{type_tree};
 
 use crate::type_expr::{Leaf, Part, TypeExpr};
 use logos_token::error::Memory;
-use logos_token::token::{Delimiter, Spacing};
+use logos_token::token::{closing_text, gap_behind, gap_behind_doc, opening_text};
 use std::alloc::Global;
 
 /// What is printed so far.
@@ -15,48 +14,6 @@ pub(crate) struct TypePrinter {
     text: String,
     /// What parts it from the next lexeme.
     gap: &'static str,
-}
-
-/// The text of an opening delimiter.
-fn opening_text(delimiter: Delimiter) -> &'static str
-    ensures { result.now ≡ opening_text delimiter }
-{
-    match delimiter {
-        Delimiter::Parenthesis => "(",
-        Delimiter::Bracket => "[",
-        Delimiter::Brace => "{",
-    }
-}
-
-/// The text of a closing delimiter.
-fn closing_text(delimiter: Delimiter) -> &'static str
-    ensures { result.now ≡ closing_text delimiter }
-{
-    match delimiter {
-        Delimiter::Parenthesis => ")",
-        Delimiter::Bracket => "]",
-        Delimiter::Brace => "}",
-    }
-}
-
-/// What parts a punctuation from the next lexeme.
-fn gap_behind(spacing: Spacing) -> &'static str
-    ensures { result.now ≡ gap_behind spacing }
-{
-    match spacing {
-        Spacing::Alone => " ",
-        Spacing::Joint => "",
-    }
-}
-
-/// What parts a documentation comment from the next lexeme: the line's end behind a line comment.
-fn gap_behind_doc(text: &str) -> &'static str
-    ensures { result.now ≡ (if is_line_comment text.now then 10 ∷ [] else codes " ") }
-{
-    match text.as_bytes() {
-        [_, b'/', ..] => "\n",
-        _ => " ",
-    }
 }
 
 impl TypePrinter {

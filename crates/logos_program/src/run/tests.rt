@@ -88,22 +88,25 @@ fn check(rt: &impl Abort, alloc: Global, case: &Case) -> Result<(), Fail> {
     Ok(())
 }
 
+const LEXED: &[(&str, &str, &str)] = &[
+    (
+        "enum T { #[token(\"abcd\")] A, #[token(\"a\")] B }",
+        "abc",
+        "token 1 0..1\nerror 1..2\nerror 2..3\n",
+    ),
+    ("enum T { #[token(\"abcd\")] A, #[token(\"a\")] B }", "", ""),
+    ("enum T { }", "\u{e9}", "error 0..2\n"),
+    (
+        "#[derive(Logos, Debug, PartialEq)]\n#[logos(skip r\"[ \\t\\n\\f]+\")] // Ignore this regex pattern between tokens\nenum Token {\n    // Tokens can be literal strings, of any length.\n    #[token(\"fast\")]\n    Fast,\n\n    #[token(\".\")]\n    Period,\n\n    // Or regular expressions.\n    #[regex(\"[a-zA-Z]+\")]\n    Text,\n}\n",
+        "Create ridiculously fast Lexers.",
+        "token 3 0..6\ntoken 3 7..19\ntoken 1 20..24\ntoken 3 25..31\ntoken 2 31..32\n",
+    ),
+];
+
 #[test]
 fn lexes(rt: HostRuntime) -> Result<(), Fail> {
-    for (source, input, out) in [
-        (
-            "enum T { #[token(\"abcd\")] A, #[token(\"a\")] B }",
-            "abc",
-            "token 1 0..1\nerror 1..2\nerror 2..3\n",
-        ),
-        ("enum T { #[token(\"abcd\")] A, #[token(\"a\")] B }", "", ""),
-        ("enum T { }", "\u{e9}", "error 0..2\n"),
-        (
-            "#[derive(Logos, Debug, PartialEq)]\n#[logos(skip r\"[ \\t\\n\\f]+\")] // Ignore this regex pattern between tokens\nenum Token {\n    // Tokens can be literal strings, of any length.\n    #[token(\"fast\")]\n    Fast,\n\n    #[token(\".\")]\n    Period,\n\n    // Or regular expressions.\n    #[regex(\"[a-zA-Z]+\")]\n    Text,\n}\n",
-            "Create ridiculously fast Lexers.",
-            "token 3 0..6\ntoken 3 7..19\ntoken 1 20..24\ntoken 3 25..31\ntoken 2 31..32\n",
-        ),
-    ] {
+    for case in LEXED {
+        let (source, input, out) = *case;
         let case = Case {
             words: &LEX,
             source: source.as_bytes(),
@@ -117,52 +120,55 @@ fn lexes(rt: HostRuntime) -> Result<(), Fail> {
     Ok(())
 }
 
+const REFUSED: &[(&str, &[u8], &str)] = &[
+    (
+        "enum T { #[token(\"a\")] A, #[token(\"a\")] B }",
+        b"a",
+        "17..20 Disambiguation: The pattern #[token(\"a\")] ::A can match simultaneously with the following variants:\\n  #[token(\"a\")] ::B\\n\\n(all at the priority 2)\n34..37 Disambiguation: The pattern #[token(\"a\")] ::B can match simultaneously with the following variants:\\n  #[token(\"a\")] ::A\\n\\n(all at the priority 2)\n",
+    ),
+    (
+        "enum T { #[token(\"\")] A }",
+        b"a",
+        "17..19 EmptyMatch: The pattern #[token(\"\")] ::A can match the empty string, which is unsupported by logos.\n",
+    ),
+    (
+        "enum T { #[regex(\"a\\\\b\")] A }",
+        b"a",
+        "17..23 Regex: regex fault at byte 1: UnicodeWordBoundary\n",
+    ),
+    (
+        "",
+        b"a",
+        "0..0 NotAnEnum: Logos can be only be derived for enums\n",
+    ),
+    (
+        "struct A",
+        b"a",
+        "0..8 NotAnEnum: Logos can be only be derived for enums\n",
+    ),
+    (
+        "enum T",
+        b"a",
+        "0..0 Grammar: the enum is not well formed\n",
+    ),
+    (
+        "enum T { A B }",
+        b"a",
+        "11..12 Grammar: the enum is not well formed\n",
+    ),
+    (
+        "enum E {",
+        b"a",
+        "7..8 Lexical: unreadable source: Unbalanced\n",
+    ),
+    ("enum T { #[token(\"a\")] A }", b"a\xff", "NotUtf8 1\n"),
+    ("enum T { #[token(\"a\")] A }", b"\xff", "NotUtf8 0\n"),
+];
+
 #[test]
 fn refuses(rt: HostRuntime) -> Result<(), Fail> {
-    for (source, input, err) in [
-        (
-            "enum T { #[token(\"a\")] A, #[token(\"a\")] B }",
-            "a".as_bytes(),
-            "17..20 Disambiguation: The pattern #[token(\"a\")] ::A can match simultaneously with the following variants:\\n  #[token(\"a\")] ::B\\n\\n(all at the priority 2)\n34..37 Disambiguation: The pattern #[token(\"a\")] ::B can match simultaneously with the following variants:\\n  #[token(\"a\")] ::A\\n\\n(all at the priority 2)\n",
-        ),
-        (
-            "enum T { #[token(\"\")] A }",
-            "a".as_bytes(),
-            "17..19 EmptyMatch: The pattern #[token(\"\")] ::A can match the empty string, which is unsupported by logos.\n",
-        ),
-        (
-            "enum T { #[regex(\"a\\\\b\")] A }",
-            "a".as_bytes(),
-            "17..23 Regex: regex fault at byte 1: UnicodeWordBoundary\n",
-        ),
-        (
-            "",
-            "a".as_bytes(),
-            "0..0 NotAnEnum: Logos can be only be derived for enums\n",
-        ),
-        (
-            "struct A",
-            "a".as_bytes(),
-            "0..8 NotAnEnum: Logos can be only be derived for enums\n",
-        ),
-        (
-            "enum T",
-            "a".as_bytes(),
-            "0..0 Grammar: the enum is not well formed\n",
-        ),
-        (
-            "enum T { A B }",
-            "a".as_bytes(),
-            "11..12 Grammar: the enum is not well formed\n",
-        ),
-        (
-            "enum E {",
-            "a".as_bytes(),
-            "7..8 Lexical: unreadable source: Unbalanced\n",
-        ),
-        ("enum T { #[token(\"a\")] A }", b"a\xff", "NotUtf8 1\n"),
-        ("enum T { #[token(\"a\")] A }", b"\xff", "NotUtf8 0\n"),
-    ] {
+    for case in REFUSED {
+        let (source, input, err) = *case;
         let case = Case {
             words: &LEX,
             source: source.as_bytes(),
@@ -180,17 +186,20 @@ fn refuses(rt: HostRuntime) -> Result<(), Fail> {
 const ROPE: &str =
     "flowchart TB\nn0[\"State 0\"]\nstyle n0 stroke:#000000\nen0n1{\"r\"}\nstyle en0n1 stroke:#000000\nn0-->en0n1\nen0n1-->n1\nn1[\"State 1\"]\nstyle n1 stroke:#000000\nen1n2{\"o\"}\nstyle en1n2 stroke:#000000\nn1-->en1n2\nen1n2-->n2\nn2[\"State 2\"]\nstyle n2 stroke:#000000\nen2n3{\"p\"}\nstyle en2n3 stroke:#000000\nn2-->en2n3\nen2n3-->n3\nn3[\"State 3\"]\nstyle n3 stroke:#000000\nen3n4{\"e\"}\nstyle en3n4 stroke:#000000\nn3-->en3n4\nen3n4-->n4\nn4[\"State 4<br>early(0)\"]\nstyle n4 stroke:#00C853\n";
 
+const CHARTS: &[(&[u8], u8, &str, &str)] = &[
+    (b"enum T { #[token(\"rope\")] A }", 0, ROPE, ""),
+    (
+        b"enum T { #[token(\"\")] A }",
+        1,
+        "",
+        "17..19 EmptyMatch: The pattern #[token(\"\")] ::A can match the empty string, which is unsupported by logos.\n",
+    ),
+];
+
 #[test]
 fn charts(rt: HostRuntime) -> Result<(), Fail> {
-    for (source, status, out, err) in [
-        (b"enum T { #[token(\"rope\")] A }".as_slice(), 0, ROPE, ""),
-        (
-            b"enum T { #[token(\"\")] A }".as_slice(),
-            1,
-            "",
-            "17..19 EmptyMatch: The pattern #[token(\"\")] ::A can match the empty string, which is unsupported by logos.\n",
-        ),
-    ] {
+    for case in CHARTS {
+        let (source, status, out, err) = *case;
         let case = Case {
             words: &["mermaid", "t.rs"],
             source,
@@ -217,27 +226,34 @@ fn text_of(rt: &impl Abort, alloc: Global, source: &str, shape: &[&str]) -> Resu
     Ok(out)
 }
 
+const LETTERS: &str = "enum T { #[regex(\"[a-z]+\")] A }";
+
+const LETTERS_IN_BYTES: &str = "#[logos(utf8 = false)] enum T { #[regex(\"[a-z]+\")] A }";
+
+const BY_STATES: &str =
+    "if ( matches ! ( byte , b'a' ..= b'z' ) ) { offset += 1 ; state = LogosState :: State1 ; continue ; }";
+
+const BY_FUNCTIONS: &str =
+    "if ( matches ! ( byte , b'a' ..= b'z' ) ) { offset += 1 ; return state1 ( lex , offset , context ) ; }";
+
+const OVER_TEXT: &str =
+    "impl < 's > :: logos :: Logos < 's > for T { type Error = ( ) ; type Extras = ( ) ; type Source = str ; ";
+
+const OVER_BYTES: &str =
+    "impl < 's > :: logos :: Logos < 's > for T { type Error = ( ) ; type Extras = ( ) ; type Source = [ u8 ] ; ";
+
+/// A source, the words behind its file, and how its text begins and what is in it.
+const PRINTED: &[(&str, &[&str], &str, &str)] = &[
+    (LETTERS, &[], OVER_TEXT, BY_STATES),
+    (LETTERS, &["--shape", "state_machine"], OVER_TEXT, BY_STATES),
+    (LETTERS, &["--shape", "tailcall"], OVER_TEXT, BY_FUNCTIONS),
+    (LETTERS_IN_BYTES, &[], OVER_BYTES, BY_STATES),
+];
+
 #[test]
 fn prints_texts(rt: HostRuntime) -> Result<(), Fail> {
-    let (letters, bytes) = (
-        "enum T { #[regex(\"[a-z]+\")] A }",
-        "#[logos(utf8 = false)] enum T { #[regex(\"[a-z]+\")] A }",
-    );
-    let by_states =
-        "if ( matches ! ( byte , b'a' ..= b'z' ) ) { offset += 1 ; state = LogosState :: State1 ; continue ; }";
-    let by_functions =
-        "if ( matches ! ( byte , b'a' ..= b'z' ) ) { offset += 1 ; return state1 ( lex , offset , context ) ; }";
-    let head =
-        "impl < 's > :: logos :: Logos < 's > for T { type Error = ( ) ; type Extras = ( ) ; type Source = str ; ";
-    let bytes_head =
-        "impl < 's > :: logos :: Logos < 's > for T { type Error = ( ) ; type Extras = ( ) ; type Source = [ u8 ] ; ";
-    let cases: [(&str, &[&str], &str, &str); 4] = [
-        (letters, &[], head, by_states),
-        (letters, &["--shape", "state_machine"], head, by_states),
-        (letters, &["--shape", "tailcall"], head, by_functions),
-        (bytes, &[], bytes_head, by_states),
-    ];
-    for (source, shape, head, part) in cases {
+    for case in PRINTED {
+        let (source, shape, head, part) = *case;
         let text = text_of(&rt, rt.alloc(), source, shape)?;
         let Ok(text) = String::from_utf8(text) else {
             return Err(Fail::from("no text"));
@@ -249,27 +265,29 @@ fn prints_texts(rt: HostRuntime) -> Result<(), Fail> {
     Ok(())
 }
 
+/// Words that ask for no command.
+const USAGES: &[&[&str]] = &[
+    &[],
+    &["lex"],
+    &["lex", "t.rs"],
+    &["Lex", "t.rs", "input"],
+    &["lex", "t.rs", "input", "more"],
+    &["lex", "t.rs", "input", "--shape"],
+    &["lex", "t.rs", "input", "--shape", "loop"],
+    &["lex", "t.rs", "input", "shape", "tailcall"],
+    &["lex", "t.rs", "input", "--shape", "tailcall", "more"],
+    &["gen"],
+    &["gen", "t.rs", "input"],
+    &["gen", "--shape", "tailcall", "t.rs"],
+    &["mermaid"],
+    &["mermaid", "t.rs", "--shape", "tailcall"],
+];
+
 #[test]
 fn tells_usage(rt: HostRuntime) -> Result<(), Fail> {
-    let all: [&'static [&'static str]; 14] = [
-        &[],
-        &["lex"],
-        &["lex", "t.rs"],
-        &["Lex", "t.rs", "input"],
-        &["lex", "t.rs", "input", "more"],
-        &["lex", "t.rs", "input", "--shape"],
-        &["lex", "t.rs", "input", "--shape", "loop"],
-        &["lex", "t.rs", "input", "shape", "tailcall"],
-        &["lex", "t.rs", "input", "--shape", "tailcall", "more"],
-        &["gen"],
-        &["gen", "t.rs", "input"],
-        &["gen", "--shape", "tailcall", "t.rs"],
-        &["mermaid"],
-        &["mermaid", "t.rs", "--shape", "tailcall"],
-    ];
-    for words in all {
+    for words in USAGES {
         let case = Case {
-            words,
+            words: *words,
             source: b"enum T { }",
             input: b"",
             status: 2,
@@ -281,26 +299,31 @@ fn tells_usage(rt: HostRuntime) -> Result<(), Fail> {
     Ok(())
 }
 
+const SOURCE: &[u8] = b"enum T { }";
+
+const TORN: &[u8] = b"enum \xff";
+
+/// Files that cannot be read: the words, what is in `t.rs`, and what is said.
+const FILES: &[(&[&str], &[u8], &str)] = &[
+    (&["lex", "none", "input"], SOURCE, "cannot read none\n"),
+    (&["lex", "t.rs", "none"], SOURCE, "cannot read none\n"),
+    (&["lex", "t.rs", "input"], TORN, "cannot read t.rs\n"),
+    (&["lex", "none", "gone"], SOURCE, "cannot read none\n"),
+    // these are paths, where a file and an input are wanted
+    (
+        &["lex", "--shape", "tailcall"],
+        SOURCE,
+        "cannot read --shape\n",
+    ),
+    (&["gen", "--shape"], SOURCE, "cannot read --shape\n"),
+    (&["gen", "t.rs"], TORN, "cannot read t.rs\n"),
+    (&["mermaid", "none"], SOURCE, "cannot read none\n"),
+];
+
 #[test]
 fn tells_files(rt: HostRuntime) -> Result<(), Fail> {
-    let source: &'static [u8] = b"enum T { }";
-    let torn: &'static [u8] = b"enum \xff";
-    let cases: [(&'static [&'static str], &'static [u8], &str); 8] = [
-        (&["lex", "none", "input"], source, "cannot read none\n"),
-        (&["lex", "t.rs", "none"], source, "cannot read none\n"),
-        (&["lex", "t.rs", "input"], torn, "cannot read t.rs\n"),
-        (&["lex", "none", "gone"], source, "cannot read none\n"),
-        // these are paths, where a file and an input are wanted
-        (
-            &["lex", "--shape", "tailcall"],
-            source,
-            "cannot read --shape\n",
-        ),
-        (&["gen", "--shape"], source, "cannot read --shape\n"),
-        (&["gen", "t.rs"], torn, "cannot read t.rs\n"),
-        (&["mermaid", "none"], source, "cannot read none\n"),
-    ];
-    for (words, source, err) in cases {
+    for case in FILES {
+        let (words, source, err) = *case;
         let alloc = rt.alloc();
         let words = self::words(alloc, words)?;
         let mut files = make_shelf(alloc, source, b"")?;

@@ -30,7 +30,7 @@ struct Outer<'t, 's> {
 }
 
 /// The text of an opening delimiter.
-fn opening_text(delimiter: Delimiter) -> &'static str
+pub fn opening_text(delimiter: Delimiter) -> &'static str
     ensures { result.now ≡ opening_text delimiter }
 {
     match delimiter {
@@ -41,7 +41,7 @@ fn opening_text(delimiter: Delimiter) -> &'static str
 }
 
 /// The text of a closing delimiter.
-fn closing_text(delimiter: Delimiter) -> &'static str
+pub fn closing_text(delimiter: Delimiter) -> &'static str
     ensures { result.now ≡ closing_text delimiter }
 {
     match delimiter {
@@ -52,7 +52,7 @@ fn closing_text(delimiter: Delimiter) -> &'static str
 }
 
 /// What parts a punctuation from the next lexeme.
-fn gap_behind(spacing: Spacing) -> &'static str
+pub fn gap_behind(spacing: Spacing) -> &'static str
     ensures { result.now ≡ gap_behind spacing }
 {
     match spacing {
@@ -62,7 +62,7 @@ fn gap_behind(spacing: Spacing) -> &'static str
 }
 
 /// What parts a documentation comment from the next lexeme: the line's end behind a line comment.
-fn gap_behind_doc(text: &str) -> &'static str
+pub fn gap_behind_doc(text: &str) -> &'static str
     ensures { result.now ≡ (if is_line_comment text.now then 10 ∷ [] else codes " ") }
 {
     match text.as_bytes() {

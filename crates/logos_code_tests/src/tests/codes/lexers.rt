@@ -158,89 +158,93 @@ fn find(rt: &impl Abort, alloc: Global, cases: &[(Rules<'_>, &str, &str)]) -> Re
     Ok(())
 }
 
-#[test]
-fn items_of_patterns(rt: HostRuntime) -> Result<(), Fail> {
-    find(
-        &rt,
-        rt.alloc(),
+/// Rules, an input, and the items that are found there in UTF-8 mode.
+const FOUND: &[(Rules<'static>, &str, &str)] = &[
+    // an error takes all that could grow
+    (&[("a*b", 1, Fate::Token)], "aaa", "error 0..3, "),
+    (&[("a*b", 1, Fate::Token)], "aab", "0 at 0..3, "),
+    (&[("a*b", 1, Fate::Token)], "aabb", "0 at 0..3, 0 at 3..4, "),
+    // the longest match is kept
+    (
+        &[("f(ee)?", 1, Fate::Token)],
+        "fe",
+        "0 at 0..1, error 1..2, ",
+    ),
+    (
+        &[("fe{0,2}", 1, Fate::Token)],
+        "feee",
+        "0 at 0..3, error 3..4, ",
+    ),
+    // each leaf has its number
+    (
         &[
-            // an error takes all that could grow
-            (&[("a*b", 1, Fate::Token)], "aaa", "error 0..3, "),
-            (&[("a*b", 1, Fate::Token)], "aab", "0 at 0..3, "),
-            (&[("a*b", 1, Fate::Token)], "aabb", "0 at 0..3, 0 at 3..4, "),
-            // the longest match is kept
-            (
-                &[("f(ee)?", 1, Fate::Token)],
-                "fe",
-                "0 at 0..1, error 1..2, ",
-            ),
-            (
-                &[("fe{0,2}", 1, Fate::Token)],
-                "feee",
-                "0 at 0..3, error 3..4, ",
-            ),
-            // each leaf has its number
-            (
-                &[
-                    ("x0", 1, Fate::Token),
-                    ("x1", 1, Fate::Token),
-                    ("y0", 1, Fate::Token),
-                    ("y1", 1, Fate::Token),
-                ],
-                "x0y1",
-                "0 at 0..2, 3 at 2..4, ",
-            ),
-            // a boundary is known one byte late
-            (
-                &[
-                    ("a(?-u:\\b)", 1, Fate::Token),
-                    ("a(?-u:\\B)", 1, Fate::Token),
-                ],
-                "aa",
-                "1 at 0..1, 0 at 1..2, ",
-            ),
-            (
-                &[("a(?-u:\\b)", 1, Fate::Token)],
-                "aé",
-                "0 at 0..1, error 1..3, ",
-            ),
-            (
-                &[("xa(?-u:\\b)b", 1, Fate::Token)],
-                "xab",
-                "error 0..1, error 1..2, error 2..3, ",
-            ),
-            // the higher priority wins at the end
-            (
-                &[("a$", 3, Fate::Token), ("a", 1, Fate::Token)],
-                "aa",
-                "1 at 0..1, 0 at 1..2, ",
-            ),
-            // what can match nothing more is not read
-            (
-                &[("(?:aa)*[x&&y]", 1, Fate::Token)],
-                "aaa",
-                "error 0..1, error 1..2, error 2..3, ",
-            ),
-            // lines end before their ends
-            (
-                &[("(?m)a$", 1, Fate::Token)],
-                "a\nb",
-                "0 at 0..1, error 1..2, error 2..3, ",
-            ),
-            (
-                &[("(?Rm)a$", 1, Fate::Token)],
-                "a\r\na",
-                "0 at 0..1, error 1..2, error 2..3, 0 at 3..4, ",
-            ),
+            ("x0", 1, Fate::Token),
+            ("x1", 1, Fate::Token),
+            ("y0", 1, Fate::Token),
+            ("y1", 1, Fate::Token),
         ],
-    )
-}
+        "x0y1",
+        "0 at 0..2, 3 at 2..4, ",
+    ),
+    // a boundary is known one byte late
+    (
+        &[
+            ("a(?-u:\\b)", 1, Fate::Token),
+            ("a(?-u:\\B)", 1, Fate::Token),
+        ],
+        "aa",
+        "1 at 0..1, 0 at 1..2, ",
+    ),
+    (
+        &[("a(?-u:\\b)", 1, Fate::Token)],
+        "aé",
+        "0 at 0..1, error 1..3, ",
+    ),
+    (
+        &[("xa(?-u:\\b)b", 1, Fate::Token)],
+        "xab",
+        "error 0..1, error 1..2, error 2..3, ",
+    ),
+    // the higher priority wins at the end
+    (
+        &[("a$", 3, Fate::Token), ("a", 1, Fate::Token)],
+        "aa",
+        "1 at 0..1, 0 at 1..2, ",
+    ),
+    // what can match nothing more is not read
+    (
+        &[("(?:aa)*[x&&y]", 1, Fate::Token)],
+        "aaa",
+        "error 0..1, error 1..2, error 2..3, ",
+    ),
+    // lines end before their ends
+    (
+        &[("(?m)a$", 1, Fate::Token)],
+        "a\nb",
+        "0 at 0..1, error 1..2, error 2..3, ",
+    ),
+    (
+        &[("(?Rm)a$", 1, Fate::Token)],
+        "a\r\na",
+        "0 at 0..1, error 1..2, error 2..3, 0 at 3..4, ",
+    ),
+];
 
 #[test]
-fn loops_stop_where_they_should(rt: HostRuntime) -> Result<(), Fail> {
-    answers(
-        &rt,
-        rt.alloc(),
+fn items_are_found_as_the_rows_say(rt: HostRuntime) -> Result<(), Fail> {
+    find(&rt, rt.alloc(), FOUND)
+}
+
+/// Whether the mode is UTF-8, rules, and what their code answers.
+type Answers = (
+    bool,
+    Rules<'static>,
+    &'static [(Ask<'static>, &'static str)],
+);
+
+const ANSWERS: &[Answers] = &[
+    // loops stop where they should
+    (
         true,
         &[("[a-z]+", 1, Fate::Token)],
         &[
@@ -269,14 +273,9 @@ fn loops_stop_where_they_should(rt: HostRuntime) -> Result<(), Fail> {
                 "0 at 0..17, ",
             ),
         ],
-    )
-}
-
-#[test]
-fn where_a_lexer_stands(rt: HostRuntime) -> Result<(), Fail> {
-    answers(
-        &rt,
-        rt.alloc(),
+    ),
+    // where a lexer stands
+    (
         true,
         &[("[a-z]+", 1, Fate::Token)],
         &[
@@ -289,11 +288,9 @@ fn where_a_lexer_stands(rt: HostRuntime) -> Result<(), Fail> {
                 "0..0 by 0; 0..2 by 2; 2..3 by 1; 3..4 by 2; none; 4..4 by 1; none; 4..4 by 1; none; ",
             ),
         ],
-    )?;
+    ),
     // the second try takes one byte and the end
-    answers(
-        &rt,
-        rt.alloc(),
+    (
         true,
         &[
             ("a(?-u:\\b)", 1, Fate::Token),
@@ -303,14 +300,9 @@ fn where_a_lexer_stands(rt: HostRuntime) -> Result<(), Fail> {
             Ask::Walk(3, "aa"),
             "0..0 by 0; 0..1 by 3; 1..2 by 3; none; ",
         )],
-    )
-}
-
-#[test]
-fn a_callback_skips_or_refuses(rt: HostRuntime) -> Result<(), Fail> {
-    answers(
-        &rt,
-        rt.alloc(),
+    ),
+    // a callback skips or refuses
+    (
         true,
         &[("[a-z]+", 1, Fate::Called)],
         &[
@@ -328,14 +320,9 @@ fn a_callback_skips_or_refuses(rt: HostRuntime) -> Result<(), Fail> {
                 "0 at 0..1, error 1..2, error of 0 2..4, ",
             ),
         ],
-    )
-}
-
-#[test]
-fn skips_are_left_out(rt: HostRuntime) -> Result<(), Fail> {
-    answers(
-        &rt,
-        rt.alloc(),
+    ),
+    // skips are left out
+    (
         true,
         &[
             ("a", 1, Fate::CalledSkip),
@@ -349,14 +336,9 @@ fn skips_are_left_out(rt: HostRuntime) -> Result<(), Fail> {
                 "error of 0 0..1, 2 at 2..3, ",
             ),
         ],
-    )
-}
-
-#[test]
-fn errors_end_between_characters(rt: HostRuntime) -> Result<(), Fail> {
-    answers(
-        &rt,
-        rt.alloc(),
+    ),
+    // errors end between characters
+    (
         true,
         &[],
         &[
@@ -368,10 +350,8 @@ fn errors_end_between_characters(rt: HostRuntime) -> Result<(), Fail> {
             (Ask::Utf8(b"ab\xC3"), "2"),
             (Ask::Utf8(b"ab\xC3\xA9"), ""),
         ],
-    )?;
-    answers(
-        &rt,
-        rt.alloc(),
+    ),
+    (
         false,
         &[],
         &[
@@ -381,7 +361,15 @@ fn errors_end_between_characters(rt: HostRuntime) -> Result<(), Fail> {
             ),
             (Ask::Utf8(b"\xFF"), ""),
         ],
-    )
+    ),
+];
+
+#[test]
+fn codes_answer_as_the_rows_say(rt: HostRuntime) -> Result<(), Fail> {
+    for row in ANSWERS {
+        answers(&rt, rt.alloc(), row.0, row.1, row.2)?;
+    }
+    Ok(())
 }
 
 /// The first item, when lexer and code are gone.

@@ -183,66 +183,58 @@ fn have_nodes(rt: &impl Abort, alloc: Global, cases: &[(Rules<'_>, &str)]) -> Re
     Ok(())
 }
 
-#[test]
-fn nodes_of_patterns(rt: HostRuntime) -> Result<(), Fail> {
-    have_nodes(
-        &rt,
-        rt.alloc(),
+/// Rules, and the nodes of their code.
+const NODES: &[(Rules<'static>, &str)] = &[
+    // cheap classes are compared, and the edge back is the loop's alone
+    (
+        &[("[a-z]+", 1, Fate::Token)],
+        "to 1 by 2 operations ; loop 0 early 0 ; | | 0.0: 97 to 122, 26; | token ; ",
+    ),
+    // dear classes are tested by bits, and equal tests share a number
+    (
+        &[("[a-zA-Z]+", 1, Fate::Skip)],
+        "to 1 by test 0 ; loop 0 early 0 ; | | 0.0: 65 to 122, 52; | skip ; ",
+    ),
+    // the root has a loop
+    (
+        &[("a*b", 1, Fate::Called)],
+        "loop 0 to 1 by 1 operations ; early 0 ; | | 0.0: 97 to 97, 1; | token by matched; ",
+    ),
+    // three edges are a table: the edge back is counted, and left out
+    (
+        &[("a*(?:b|cd)", 1, Fate::CalledSkip)],
+        "loop 0 table 0 ; early 0 ; to 1 by 1 operations ; | 98 to 1 99 to 2 ; | 0.0: 97 to 97, 1; | skip by matched; ",
+    ),
+    // equal tables are kept once
+    (
+        &[("p", 1, Fate::Token), ("[pq](?:a|b0|c00)", 1, Fate::Token)],
+        "to 1 by 1 operations to 2 by 1 operations ; early 0 table 0 ; table 0 ; early 1 ; to 3 by 1 operations ; to 4 by 1 operations ; | 97 to 3 98 to 4 99 to 5 ; | | token ; token ; ",
+    ),
+    // the end leads to a late mark
+    (
+        &[("a$", 3, Fate::Token), ("a", 2, Fate::Token)],
+        "to 1 by 1 operations ; to 2 by 0 operations end 3 ; late 1 ; late 0 ; | | | token ; token ; ",
+    ),
+    // the ninth test stands in the second table
+    (
         &[
-            // cheap classes are compared, and the edge back is the loop's alone
-            (
-                &[("[a-z]+", 1, Fate::Token)],
-                "to 1 by 2 operations ; loop 0 early 0 ; | | 0.0: 97 to 122, 26; | token ; ",
-            ),
-            // dear classes are tested by bits, and equal tests share a number
-            (
-                &[("[a-zA-Z]+", 1, Fate::Skip)],
-                "to 1 by test 0 ; loop 0 early 0 ; | | 0.0: 65 to 122, 52; | skip ; ",
-            ),
-            // the root has a loop
-            (
-                &[("a*b", 1, Fate::Called)],
-                "loop 0 to 1 by 1 operations ; early 0 ; | | 0.0: 97 to 97, 1; | token by matched; ",
-            ),
-            // three edges are a table: the edge back is counted, and left out
-            (
-                &[("a*(?:b|cd)", 1, Fate::CalledSkip)],
-                "loop 0 table 0 ; early 0 ; to 1 by 1 operations ; | 98 to 1 99 to 2 ; | 0.0: 97 to 97, 1; | skip by matched; ",
-            ),
-            // equal tables are kept once
-            (
-                &[("p", 1, Fate::Token), ("[pq](?:a|b0|c00)", 1, Fate::Token)],
-                "to 1 by 1 operations to 2 by 1 operations ; early 0 table 0 ; table 0 ; early 1 ; to 3 by 1 operations ; to 4 by 1 operations ; | 97 to 3 98 to 4 99 to 5 ; | | token ; token ; ",
-            ),
-            // the end leads to a late mark
-            (
-                &[("a$", 3, Fate::Token), ("a", 2, Fate::Token)],
-                "to 1 by 1 operations ; to 2 by 0 operations end 3 ; late 1 ; late 0 ; | | | token ; token ; ",
-            ),
+            ("0a*", 1, Fate::Token),
+            ("1b*", 1, Fate::Token),
+            ("2c*", 1, Fate::Token),
+            ("3d*", 1, Fate::Token),
+            ("4e*", 1, Fate::Token),
+            ("5f*", 1, Fate::Token),
+            ("6g*", 1, Fate::Token),
+            ("7h*", 1, Fate::Token),
+            ("8i*", 1, Fate::Token),
         ],
-    )
-}
+        "table 0 ; loop 0 early 0 ; loop 1 early 1 ; loop 2 early 2 ; loop 3 early 3 ; loop 4 early 4 ; loop 5 early 5 ; loop 6 early 6 ; loop 7 early 7 ; loop 8 early 8 ; | 48 to 1 49 to 2 50 to 3 51 to 4 52 to 5 53 to 6 54 to 7 55 to 8 56 to 9 ; | 0.0: 97 to 97, 1; 0.1: 98 to 98, 1; 0.2: 99 to 99, 1; 0.3: 100 to 100, 1; 0.4: 101 to 101, 1; 0.5: 102 to 102, 1; 0.6: 103 to 103, 1; 0.7: 104 to 104, 1; 1.0: 105 to 105, 1; | token ; token ; token ; token ; token ; token ; token ; token ; token ; ",
+    ),
+];
 
 #[test]
-fn the_ninth_test_stands_in_the_second_table(rt: HostRuntime) -> Result<(), Fail> {
-    have_nodes(
-        &rt,
-        rt.alloc(),
-        &[(
-            &[
-                ("0a*", 1, Fate::Token),
-                ("1b*", 1, Fate::Token),
-                ("2c*", 1, Fate::Token),
-                ("3d*", 1, Fate::Token),
-                ("4e*", 1, Fate::Token),
-                ("5f*", 1, Fate::Token),
-                ("6g*", 1, Fate::Token),
-                ("7h*", 1, Fate::Token),
-                ("8i*", 1, Fate::Token),
-            ],
-            "table 0 ; loop 0 early 0 ; loop 1 early 1 ; loop 2 early 2 ; loop 3 early 3 ; loop 4 early 4 ; loop 5 early 5 ; loop 6 early 6 ; loop 7 early 7 ; loop 8 early 8 ; | 48 to 1 49 to 2 50 to 3 51 to 4 52 to 5 53 to 6 54 to 7 55 to 8 56 to 9 ; | 0.0: 97 to 97, 1; 0.1: 98 to 98, 1; 0.2: 99 to 99, 1; 0.3: 100 to 100, 1; 0.4: 101 to 101, 1; 0.5: 102 to 102, 1; 0.6: 103 to 103, 1; 0.7: 104 to 104, 1; 1.0: 105 to 105, 1; | token ; token ; token ; token ; token ; token ; token ; token ; token ; ",
-        )],
-    )
+fn codes_have_the_nodes_of_their_rows(rt: HostRuntime) -> Result<(), Fail> {
+    have_nodes(&rt, rt.alloc(), NODES)
 }
 
 /// The code of no rules keeps what its generator was given.

@@ -52,62 +52,68 @@ fn is_bad(alloc: Global, language: &Language, input: &str, wanted: Span) -> Resu
     }
 }
 
+/// Texts, and their tokens.
+const EXPRESSIONS: &[(&str, &[Wanted])] = &[
+    (
+        "let x1 = 40 + 2",
+        &[
+            (ExprKind::Let, 0, 3),
+            (ExprKind::Name, 4, 6),
+            (ExprKind::Eq, 7, 8),
+            (ExprKind::Number, 9, 11),
+            (ExprKind::Plus, 12, 13),
+            (ExprKind::Number, 14, 15),
+        ],
+    ),
+    ("letx", &[(ExprKind::Name, 0, 4)]),
+    (
+        "a===b",
+        &[
+            (ExprKind::Name, 0, 1),
+            (ExprKind::EqEq, 1, 3),
+            (ExprKind::Eq, 3, 4),
+            (ExprKind::Name, 4, 5),
+        ],
+    ),
+    ("", &[]),
+    (" \t\n", &[]),
+    (
+        "-(1*2)/_3",
+        &[
+            (ExprKind::Minus, 0, 1),
+            (ExprKind::Open, 1, 2),
+            (ExprKind::Number, 2, 3),
+            (ExprKind::Star, 3, 4),
+            (ExprKind::Number, 4, 5),
+            (ExprKind::Close, 5, 6),
+            (ExprKind::Slash, 6, 7),
+            (ExprKind::Name, 7, 9),
+        ],
+    ),
+    ("12let", &[(ExprKind::Number, 0, 2), (ExprKind::Let, 2, 5)]),
+];
+
+/// Texts, and where the first error of each stands.
+const FAULTY: &[(&str, usize, usize)] = &[
+    ("1.5", 1, 2),
+    ("let \u{e9} = 1", 4, 6),
+    ("(a] + .", 2, 3),
+    ("X", 0, 1),
+];
+
 #[test]
 fn reads_expressions(rt: HostRuntime) -> Result<(), Fail> {
     let alloc = rt.alloc();
     let language = language(alloc)?;
-    let rows: [(&str, &[Wanted]); 7] = [
-        (
-            "let x1 = 40 + 2",
-            &[
-                (ExprKind::Let, 0, 3),
-                (ExprKind::Name, 4, 6),
-                (ExprKind::Eq, 7, 8),
-                (ExprKind::Number, 9, 11),
-                (ExprKind::Plus, 12, 13),
-                (ExprKind::Number, 14, 15),
-            ],
-        ),
-        ("letx", &[(ExprKind::Name, 0, 4)]),
-        (
-            "a===b",
-            &[
-                (ExprKind::Name, 0, 1),
-                (ExprKind::EqEq, 1, 3),
-                (ExprKind::Eq, 3, 4),
-                (ExprKind::Name, 4, 5),
-            ],
-        ),
-        ("", &[]),
-        (" \t\n", &[]),
-        (
-            "-(1*2)/_3",
-            &[
-                (ExprKind::Minus, 0, 1),
-                (ExprKind::Open, 1, 2),
-                (ExprKind::Number, 2, 3),
-                (ExprKind::Star, 3, 4),
-                (ExprKind::Number, 4, 5),
-                (ExprKind::Close, 5, 6),
-                (ExprKind::Slash, 6, 7),
-                (ExprKind::Name, 7, 9),
-            ],
-        ),
-        ("12let", &[(ExprKind::Number, 0, 2), (ExprKind::Let, 2, 5)]),
-    ];
-    for (input, wanted) in rows {
+    for row in EXPRESSIONS {
+        let (input, wanted) = *row;
         assert!(rt;
             gives(alloc, &language, input, wanted)?,
             "other tokens: {input}"
         );
     }
-    let faulty: [(&str, usize, usize); 4] = [
-        ("1.5", 1, 2),
-        ("let \u{e9} = 1", 4, 6),
-        ("(a] + .", 2, 3),
-        ("X", 0, 1),
-    ];
-    for (input, from, to) in faulty {
+    for row in FAULTY {
+        let (input, from, to) = *row;
         assert!(rt;
             is_bad(alloc, &language, input, Span { from, to })?,
             "no such error: {input}"

@@ -124,25 +124,24 @@ fn nest(rt: &impl Abort, alloc: Global, cases: &[(usize, &str, &str)]) -> Result
     Ok(())
 }
 
+/// How many groups, what is in them, and what is said of it.
+const NESTED: &[(usize, &str, &str)] = &[
+    (250, "a", "0 at 0..1, "),
+    (
+        251,
+        "a",
+        "17..522 LimitPatternNesting: limit LimitPatternNesting passed; ",
+    ),
+    (
+        250,
+        "a*",
+        "17..521 LimitPatternNesting: limit LimitPatternNesting passed; ",
+    ),
+];
+
 #[test]
 fn names_what_is_nested_too_deep(rt: HostRuntime) -> Result<(), Fail> {
-    nest(
-        &rt,
-        rt.alloc(),
-        &[
-            (250, "a", "0 at 0..1, "),
-            (
-                251,
-                "a",
-                "17..522 LimitPatternNesting: limit LimitPatternNesting passed; ",
-            ),
-            (
-                250,
-                "a*",
-                "17..521 LimitPatternNesting: limit LimitPatternNesting passed; ",
-            ),
-        ],
-    )
+    nest(&rt, rt.alloc(), NESTED)
 }
 
 const REFUSES_BEFORE_IT_READS_THE_INPUT: &[(&str, &[u8], &str)] = &[

@@ -1,0 +1,5 @@
+//! What the public calls answer, by example.
+
+mod enums;
+mod plain;
+mod types;

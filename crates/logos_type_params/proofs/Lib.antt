@@ -1,0 +1,3 @@
+pub mod SubstitutionLemmas
+pub mod SubstitutionLaws
+pub mod ChainLemmas

@@ -1,0 +1,5 @@
+pub mod Substitution
+pub mod SubstitutionViews
+pub mod SelfReference
+pub mod TypeParams
+pub mod inside

@@ -1,0 +1,6 @@
+pub mod StillRuns
+pub mod Table
+pub mod Reading
+pub mod ReadingViews
+pub mod TypeExprs
+pub mod Written
