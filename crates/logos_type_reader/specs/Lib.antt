@@ -1,5 +1,6 @@
 pub mod StillRuns
 pub mod Table
+pub mod Actions
 pub mod Reading
 pub mod ReadingViews
 pub mod TypeExprs

@@ -1,15 +1,16 @@
 //! Bounds, and the lifetimes of `for<..>`.
-ghost use Rattle.std.specs.Prelude.{◌≡◌, Some, None};
+ghost use Rattle.std.specs.Prelude.{◌≡◌};
+ghost use Rattle.logos_token.specs.Tokens.{rest_of};
 ghost use Rattle.logos_token.specs.Views.{tokens_of};
 ghost use Rattle.logos_type_reader.specs.Table.{behind_bound, bound_lifetime_move, trait_move, question_move, bound_move, bound_end_move, further_move, enclosed_end_move, behind_for, for_move, for_lifetime_move, for_list_move, for_end_move, path_move};
 ghost use Rattle.logos_type_reader.specs.declared.table.place.PathKind.TheVariants.{OfBound};
-ghost use Rattle.logos_type_reader.specs.ReadingViews.{behind_of, IsStep};
+ghost use Rattle.logos_type_reader.specs.ReadingViews.{behind_of, spot_of};
+ghost use Rattle.logos_type_reader.specs.Actions.{IsAction};
 
-use crate::table::paths::{close, path_step};
-use crate::table::place::{Behind, Binder, BoundKind, Next, PathKind, Place, Step};
-use crate::table::tokens::{begins_bound, misfit, open, split, take};
-use logos_token::token::{Delimiter, TokenTree, Tokens};
-use logos_type::Leaf;
+use crate::table::paths::path_step;
+use crate::table::place::{Action, Binder, BoundKind, Lead, Look, Next, PathKind, Place, Spot};
+use crate::table::tokens::{begins_bound, begins_word, look, misfit, misfit_behind};
+use logos_token::token::Delimiter;
 
 /// The place behind a bound.
 fn behind_bound(kind: BoundKind) -> Place
@@ -21,125 +22,93 @@ fn behind_bound(kind: BoundKind) -> Place
     }
 }
 
-/// Behind `'` where a bound stands.
-fn bound_lifetime_step<'t, 's>(
-    plus: bool,
-    run: Tokens<'t, 's>,
-    behind: Behind<'t, 's>,
-) -> Next<'t, 's>
-    ensures { IsStep result (bound_lifetime_move plus (tokens_of run.entry) (behind_of behind.entry)) }
+/// At `'` where a bound stands.
+fn bound_lifetime_step(plus: bool, at: &Spot<'_, '_>) -> Next
+    ensures { IsAction result (spot_of at.now)
+        (bound_lifetime_move plus (rest_of (tokens_of at.now.run)) (behind_of at.now.behind)) }
 {
-    match split(run) {
-        Some((TokenTree::Ident(name), rest)) => {
-            take(Leaf::Kept(name.text), Place::BoundEnd(plus), rest, behind)
-        }
-        _ => misfit(run),
+    match look(at.run.rest()) {
+        Look::Word => Ok(Action::Take(Lead::Kept, Place::BoundEnd(plus))),
+        _ => misfit_behind(at),
     }
 }
 
 /// Where the path of a bound stands, perhaps behind `for<..>`.
-pub(super) fn trait_step<'t, 's>(
-    kind: BoundKind,
-    run: Tokens<'t, 's>,
-    behind: Behind<'t, 's>,
-) -> Next<'t, 's>
-    ensures { IsStep result (trait_move kind (tokens_of run.entry) (behind_of behind.entry)) }
+pub(super) fn trait_step(kind: BoundKind, at: &Spot<'_, '_>) -> Next
+    ensures { IsAction result (spot_of at.now)
+        (trait_move kind (tokens_of at.now.run) (behind_of at.now.behind)) }
 {
-    match split(run) {
-        Some((TokenTree::Ident(name), rest)) if name.text == "for" => {
-            take(
-                Leaf::Word(name.text),
-                Place::For(Binder::OfTrait(kind)),
-                rest,
-                behind,
-            )
+    match look(at.run) {
+        Look::Word if begins_word("for", at.run) => {
+            Ok(Action::Take(Lead::Word, Place::For(Binder::OfTrait(kind))))
         }
-        _ => path_step(PathKind::OfBound, behind_bound(kind), run),
+        _ => path_step(PathKind::OfBound, behind_bound(kind), at),
     }
 }
 
 /// Where the path of a bound stands, behind `for<..>`.
-pub(super) fn trait_path_step<'t, 's>(kind: BoundKind, run: Tokens<'t, 's>) -> Next<'t, 's>
-    ensures { IsStep result (path_move OfBound (behind_bound kind) (tokens_of run.entry)) }
+pub(super) fn trait_path_step(kind: BoundKind, at: &Spot<'_, '_>) -> Next
+    ensures { IsAction result (spot_of at.now)
+        (path_move OfBound (behind_bound kind) (tokens_of at.now.run)) }
 {
-    path_step(PathKind::OfBound, behind_bound(kind), run)
+    path_step(PathKind::OfBound, behind_bound(kind), at)
 }
 
 /// Where `?` may stand in front of it, too.
-pub(super) fn question_step<'t, 's>(
-    kind: BoundKind,
-    run: Tokens<'t, 's>,
-    behind: Behind<'t, 's>,
-) -> Next<'t, 's>
-    ensures { IsStep result (question_move kind (tokens_of run.entry) (behind_of behind.entry)) }
+pub(super) fn question_step(kind: BoundKind, at: &Spot<'_, '_>) -> Next
+    ensures { IsAction result (spot_of at.now)
+        (question_move kind (tokens_of at.now.run) (behind_of at.now.behind)) }
 {
-    match split(run) {
-        Some((TokenTree::Punct(punct), rest)) if punct.character == '?' => {
-            take(Leaf::Mark('?'), Place::Trait(kind), rest, behind)
-        }
-        _ => trait_step(kind, run, behind),
+    match look(at.run) {
+        Look::Mark(mark) if mark == '?' => Ok(Action::Take(Lead::Mark('?'), Place::Trait(kind))),
+        _ => trait_step(kind, at),
     }
 }
 
 /// Where a bound stands.
-pub(super) fn bound_step<'t, 's>(
-    plus: bool,
-    run: Tokens<'t, 's>,
-    behind: Behind<'t, 's>,
-) -> Next<'t, 's>
-    ensures { IsStep result (bound_move plus (tokens_of run.entry) (behind_of behind.entry)) }
+pub(super) fn bound_step(plus: bool, at: &Spot<'_, '_>) -> Next
+    ensures { IsAction result (spot_of at.now)
+        (bound_move plus (tokens_of at.now.run) (behind_of at.now.behind)) }
 {
-    match split(run) {
-        Some((TokenTree::Punct(punct), rest)) if punct.character == '\'' => {
-            bound_lifetime_step(plus, rest, behind)
-        }
-        Some((TokenTree::Group(group), rest)) if group.delimiter == Delimiter::Parenthesis => open(
-            group,
-            Place::Question(plus),
-            rest,
-            behind,
-        ),
-        _ => question_step(BoundKind::Listed(plus), run, behind),
+    match look(at.run) {
+        Look::Mark(mark) if mark == '\'' => bound_lifetime_step(plus, at),
+        Look::Group(Delimiter::Parenthesis) => Ok(Action::Open(Place::Question(plus))),
+        _ => question_step(BoundKind::Listed(plus), at),
     }
 }
 
 /// Behind a bound.
-pub(super) fn bound_end_step<'t, 's>(
-    plus: bool,
-    run: Tokens<'t, 's>,
-    behind: Behind<'t, 's>,
-) -> Next<'t, 's>
-    ensures { IsStep result (bound_end_move plus (tokens_of run.entry) (behind_of behind.entry)) }
+pub(super) fn bound_end_step(plus: bool, at: &Spot<'_, '_>) -> Next
+    ensures { IsAction result (spot_of at.now)
+        (bound_end_move plus (tokens_of at.now.run) (behind_of at.now.behind)) }
 {
-    match split(run) {
-        Some((TokenTree::Punct(punct), rest)) if plus & (punct.character == '+') => {
-            take(Leaf::Mark('+'), Place::Further, rest, behind)
+    match look(at.run) {
+        Look::Mark(mark) if plus & (mark == '+') => {
+            Ok(Action::Take(Lead::Mark('+'), Place::Further))
         }
-        _ => Ok(Step::End),
+        _ => Ok(Action::End),
     }
 }
 
 /// Behind the `+` behind a bound.
-pub(super) fn further_step<'t, 's>(run: Tokens<'t, 's>, behind: Behind<'t, 's>) -> Next<'t, 's>
-    ensures { IsStep result (further_move (tokens_of run.entry) (behind_of behind.entry)) }
+pub(super) fn further_step(at: &Spot<'_, '_>) -> Next
+    ensures { IsAction result (spot_of at.now)
+        (further_move (tokens_of at.now.run) (behind_of at.now.behind)) }
 {
-    if begins_bound(run) {
-        return bound_step(true, run, behind);
+    if begins_bound(at.run) {
+        return bound_step(true, at);
     }
-    Ok(Step::End)
+    Ok(Action::End)
 }
 
 /// Behind a path in the parentheses of a bound.
-pub(super) fn enclosed_end_step<'t, 's>(
-    plus: bool,
-    run: Tokens<'t, 's>,
-    behind: Behind<'t, 's>,
-) -> Next<'t, 's>
-    ensures { IsStep result (enclosed_end_move plus (tokens_of run.entry) (behind_of behind.entry)) }
+pub(super) fn enclosed_end_step(plus: bool, at: &Spot<'_, '_>) -> Next
+    ensures { IsAction result (spot_of at.now)
+        (enclosed_end_move plus (tokens_of at.now.run) (behind_of at.now.behind)) }
 {
-    match split(run) {
-        None => close(Delimiter::Parenthesis, Place::BoundEnd(plus), behind),
-        Some(_) => misfit(run),
+    match look(at.run) {
+        Look::Nothing => Ok(Action::Close(Delimiter::Parenthesis, Place::BoundEnd(plus))),
+        _ => misfit(at),
     }
 }
 
@@ -154,71 +123,55 @@ fn behind_for(binder: Binder) -> Place
 }
 
 /// Behind `for`.
-pub(super) fn for_step<'t, 's>(
-    binder: Binder,
-    run: Tokens<'t, 's>,
-    behind: Behind<'t, 's>,
-) -> Next<'t, 's>
-    ensures { IsStep result (for_move binder (tokens_of run.entry) (behind_of behind.entry)) }
+pub(super) fn for_step(binder: Binder, at: &Spot<'_, '_>) -> Next
+    ensures { IsAction result (spot_of at.now)
+        (for_move binder (tokens_of at.now.run) (behind_of at.now.behind)) }
 {
-    match split(run) {
-        Some((TokenTree::Punct(punct), rest)) if punct.character == '<' => {
-            take(Leaf::Mark('<'), Place::ForList(binder), rest, behind)
+    match look(at.run) {
+        Look::Mark(mark) if mark == '<' => {
+            Ok(Action::Take(Lead::Mark('<'), Place::ForList(binder)))
         }
-        _ => misfit(run),
+        _ => misfit(at),
     }
 }
 
-/// Behind `'` in `for<..>`.
-fn for_lifetime_step<'t, 's>(
-    binder: Binder,
-    run: Tokens<'t, 's>,
-    behind: Behind<'t, 's>,
-) -> Next<'t, 's>
-    ensures { IsStep result (for_lifetime_move binder (tokens_of run.entry) (behind_of behind.entry)) }
+/// At `'` in `for<..>`.
+fn for_lifetime_step(binder: Binder, at: &Spot<'_, '_>) -> Next
+    ensures { IsAction result (spot_of at.now)
+        (for_lifetime_move binder (rest_of (tokens_of at.now.run)) (behind_of at.now.behind)) }
 {
-    match split(run) {
-        Some((TokenTree::Ident(name), rest)) => {
-            take(Leaf::Kept(name.text), Place::ForEnd(binder), rest, behind)
-        }
-        _ => misfit(run),
+    match look(at.run.rest()) {
+        Look::Word => Ok(Action::Take(Lead::Kept, Place::ForEnd(binder))),
+        _ => misfit_behind(at),
     }
 }
 
 /// In `for<..>`, where a lifetime may stand.
-pub(super) fn for_list_step<'t, 's>(
-    binder: Binder,
-    run: Tokens<'t, 's>,
-    behind: Behind<'t, 's>,
-) -> Next<'t, 's>
-    ensures { IsStep result (for_list_move binder (tokens_of run.entry) (behind_of behind.entry)) }
+pub(super) fn for_list_step(binder: Binder, at: &Spot<'_, '_>) -> Next
+    ensures { IsAction result (spot_of at.now)
+        (for_list_move binder (tokens_of at.now.run) (behind_of at.now.behind)) }
 {
-    match split(run) {
-        Some((TokenTree::Punct(punct), rest)) if punct.character == '>' => {
-            take(Leaf::Mark('>'), behind_for(binder), rest, behind)
+    match look(at.run) {
+        Look::Mark(mark) if mark == '>' => {
+            Ok(Action::Take(Lead::Mark('>'), behind_for(binder)))
         }
-        Some((TokenTree::Punct(punct), rest)) if punct.character == '\'' => {
-            for_lifetime_step(binder, rest, behind)
-        }
-        _ => misfit(run),
+        Look::Mark(mark) if mark == '\'' => for_lifetime_step(binder, at),
+        _ => misfit(at),
     }
 }
 
 /// Behind a lifetime in `for<..>`.
-pub(super) fn for_end_step<'t, 's>(
-    binder: Binder,
-    run: Tokens<'t, 's>,
-    behind: Behind<'t, 's>,
-) -> Next<'t, 's>
-    ensures { IsStep result (for_end_move binder (tokens_of run.entry) (behind_of behind.entry)) }
+pub(super) fn for_end_step(binder: Binder, at: &Spot<'_, '_>) -> Next
+    ensures { IsAction result (spot_of at.now)
+        (for_end_move binder (tokens_of at.now.run) (behind_of at.now.behind)) }
 {
-    match split(run) {
-        Some((TokenTree::Punct(punct), rest)) if punct.character == ',' => {
-            take(Leaf::Mark(','), Place::ForList(binder), rest, behind)
+    match look(at.run) {
+        Look::Mark(mark) if mark == ',' => {
+            Ok(Action::Take(Lead::Mark(','), Place::ForList(binder)))
         }
-        Some((TokenTree::Punct(punct), rest)) if punct.character == '>' => {
-            take(Leaf::Mark('>'), behind_for(binder), rest, behind)
+        Look::Mark(mark) if mark == '>' => {
+            Ok(Action::Take(Lead::Mark('>'), behind_for(binder)))
         }
-        _ => misfit(run),
+        _ => misfit(at),
     }
 }

@@ -1,126 +1,113 @@
 //! References, pointers, groups, and `<T as P>`.
-ghost use Rattle.std.specs.Prelude.{◌≡◌, Some, None};
 ghost use Rattle.logos_token.specs.Views.{tokens_of};
-ghost use Rattle.logos_type_reader.specs.Table.{closes, referent_move, pointer_move, list_move, list_end_move, element_end_move, length_move, self_end_move, self_trait_end_move, self_closed_move};
-ghost use Rattle.logos_type_reader.specs.ReadingViews.{behind_of, IsStep};
+ghost use Rattle.logos_type_reader.specs.Table.{referent_move, pointer_move, list_move, list_end_move, element_end_move, length_move, self_end_move, self_trait_end_move, self_closed_move};
+ghost use Rattle.logos_type_reader.specs.ReadingViews.{behind_of, spot_of};
+ghost use Rattle.logos_type_reader.specs.Actions.{IsAction};
 
-use crate::table::paths::close;
-use crate::table::place::{Behind, Next, PathKind, Place, Step};
-use crate::table::tokens::{behind_colons, keep, misfit, split, take};
-use logos_token::token::{Delimiter, TokenTree, Tokens};
-use logos_type::Leaf;
+use crate::table::place::{Action, Lead, Look, Next, PathKind, Place, Spot};
+use crate::table::tokens::{begins_colons, begins_word, look, misfit};
+use logos_token::token::Delimiter;
 
 /// Behind `&` and its lifetime.
-pub(super) fn referent_step<'t, 's>(run: Tokens<'t, 's>, behind: Behind<'t, 's>) -> Next<'t, 's>
-    ensures { IsStep result (referent_move (tokens_of run.entry) (behind_of behind.entry)) }
+pub(super) fn referent_step(at: &Spot<'_, '_>) -> Next
+    ensures { IsAction result (spot_of at.now)
+        (referent_move (tokens_of at.now.run) (behind_of at.now.behind)) }
 {
-    match split(run) {
-        Some((TokenTree::Ident(name), rest)) if name.text == "mut" => {
-            take(Leaf::Word(name.text), Place::Target, rest, behind)
-        }
-        _ => Ok(Step::Ask(false, Place::End)),
+    match look(at.run) {
+        Look::Word if begins_word("mut", at.run) => Ok(Action::Take(Lead::Word, Place::Target)),
+        _ => Ok(Action::Ask(false, Place::End)),
     }
 }
 
 /// Behind `*`.
-pub(super) fn pointer_step<'t, 's>(run: Tokens<'t, 's>, behind: Behind<'t, 's>) -> Next<'t, 's>
-    ensures { IsStep result (pointer_move (tokens_of run.entry) (behind_of behind.entry)) }
+pub(super) fn pointer_step(at: &Spot<'_, '_>) -> Next
+    ensures { IsAction result (spot_of at.now)
+        (pointer_move (tokens_of at.now.run) (behind_of at.now.behind)) }
 {
-    match split(run) {
-        Some((TokenTree::Ident(name), rest)) if (name.text == "const") | (name.text == "mut") => {
-            take(Leaf::Word(name.text), Place::Target, rest, behind)
+    match look(at.run) {
+        Look::Word if begins_word("const", at.run) | begins_word("mut", at.run) => {
+            Ok(Action::Take(Lead::Word, Place::Target))
         }
-        _ => misfit(run),
+        _ => misfit(at),
     }
 }
 
 /// In parentheses, where a type may begin.
-pub(super) fn list_step<'t, 's>(run: Tokens<'t, 's>, behind: Behind<'t, 's>) -> Next<'t, 's>
-    ensures { IsStep result (list_move (tokens_of run.entry) (behind_of behind.entry)) }
+pub(super) fn list_step(at: &Spot<'_, '_>) -> Next
+    ensures { IsAction result (spot_of at.now)
+        (list_move (tokens_of at.now.run) (behind_of at.now.behind)) }
 {
-    match split(run) {
-        Some(_) => Ok(Step::Ask(true, Place::ListEnd)),
-        None => close(Delimiter::Parenthesis, Place::End, behind),
+    match look(at.run) {
+        Look::Nothing => Ok(Action::Close(Delimiter::Parenthesis, Place::End)),
+        _ => Ok(Action::Ask(true, Place::ListEnd)),
     }
 }
 
 /// Behind a type in parentheses.
-pub(super) fn list_end_step<'t, 's>(run: Tokens<'t, 's>, behind: Behind<'t, 's>) -> Next<'t, 's>
-    ensures { IsStep result (list_end_move (tokens_of run.entry) (behind_of behind.entry)) }
+pub(super) fn list_end_step(at: &Spot<'_, '_>) -> Next
+    ensures { IsAction result (spot_of at.now)
+        (list_end_move (tokens_of at.now.run) (behind_of at.now.behind)) }
 {
-    match split(run) {
-        None => close(Delimiter::Parenthesis, Place::End, behind),
-        Some((TokenTree::Punct(punct), rest)) if punct.character == ',' => {
-            take(Leaf::Mark(','), Place::List, rest, behind)
-        }
-        _ => misfit(run),
+    match look(at.run) {
+        Look::Nothing => Ok(Action::Close(Delimiter::Parenthesis, Place::End)),
+        Look::Mark(mark) if mark == ',' => Ok(Action::Take(Lead::Mark(','), Place::List)),
+        _ => misfit(at),
     }
 }
 
 /// Behind a type in brackets.
-pub(super) fn element_end_step<'t, 's>(run: Tokens<'t, 's>, behind: Behind<'t, 's>) -> Next<'t, 's>
-    ensures { IsStep result (element_end_move (tokens_of run.entry) (behind_of behind.entry)) }
+pub(super) fn element_end_step(at: &Spot<'_, '_>) -> Next
+    ensures { IsAction result (spot_of at.now)
+        (element_end_move (tokens_of at.now.run) (behind_of at.now.behind)) }
 {
-    match split(run) {
-        None => close(Delimiter::Bracket, Place::End, behind),
-        Some((TokenTree::Punct(punct), rest)) if punct.character == ';' => {
-            take(Leaf::Mark(';'), Place::Length, rest, behind)
-        }
-        _ => misfit(run),
+    match look(at.run) {
+        Look::Nothing => Ok(Action::Close(Delimiter::Bracket, Place::End)),
+        Look::Mark(mark) if mark == ';' => Ok(Action::Take(Lead::Mark(';'), Place::Length)),
+        _ => misfit(at),
     }
 }
 
 /// Behind the `;` of an array.
-pub(super) fn length_step<'t, 's>(run: Tokens<'t, 's>, behind: Behind<'t, 's>) -> Next<'t, 's>
-    ensures { IsStep result (length_move (tokens_of run.entry) (behind_of behind.entry)) }
+pub(super) fn length_step(at: &Spot<'_, '_>) -> Next
+    ensures { IsAction result (spot_of at.now)
+        (length_move (tokens_of at.now.run) (behind_of at.now.behind)) }
 {
-    match split(run) {
-        None => misfit(run),
-        Some(_) => keep(run, Place::LengthEnd, behind),
+    match look(at.run) {
+        Look::Nothing => misfit(at),
+        _ => Ok(Action::Keep(Place::LengthEnd)),
     }
 }
 
 /// Behind the type behind `<`.
-pub(super) fn self_end_step<'t, 's>(run: Tokens<'t, 's>, behind: Behind<'t, 's>) -> Next<'t, 's>
-    ensures { IsStep result (self_end_move (tokens_of run.entry) (behind_of behind.entry)) }
+pub(super) fn self_end_step(at: &Spot<'_, '_>) -> Next
+    ensures { IsAction result (spot_of at.now)
+        (self_end_move (tokens_of at.now.run) (behind_of at.now.behind)) }
 {
-    match split(run) {
-        Some((TokenTree::Ident(name), rest)) if name.text == "as" => {
-            take(Leaf::Word(name.text), Place::SelfTrait, rest, behind)
-        }
-        Some((TokenTree::Punct(punct), rest)) if punct.character == '>' => {
-            take(Leaf::Mark('>'), Place::SelfClosed, rest, behind)
-        }
-        _ => misfit(run),
+    match look(at.run) {
+        Look::Word if begins_word("as", at.run) => Ok(Action::Take(Lead::Word, Place::SelfTrait)),
+        Look::Mark(mark) if mark == '>' => Ok(Action::Take(Lead::Mark('>'), Place::SelfClosed)),
+        _ => misfit(at),
     }
 }
 
 /// Behind the path behind `as`.
-pub(super) fn self_trait_end_step<'t, 's>(
-    run: Tokens<'t, 's>,
-    behind: Behind<'t, 's>,
-) -> Next<'t, 's>
-    ensures { IsStep result (self_trait_end_move (tokens_of run.entry) (behind_of behind.entry)) }
+pub(super) fn self_trait_end_step(at: &Spot<'_, '_>) -> Next
+    ensures { IsAction result (spot_of at.now)
+        (self_trait_end_move (tokens_of at.now.run) (behind_of at.now.behind)) }
 {
-    match split(run) {
-        Some((TokenTree::Punct(punct), rest)) if punct.character == '>' => {
-            take(Leaf::Mark('>'), Place::SelfClosed, rest, behind)
-        }
-        _ => misfit(run),
+    match look(at.run) {
+        Look::Mark(mark) if mark == '>' => Ok(Action::Take(Lead::Mark('>'), Place::SelfClosed)),
+        _ => misfit(at),
     }
 }
 
 /// Behind the `>` of `<T as P>`.
-pub(super) fn self_closed_step<'t, 's>(run: Tokens<'t, 's>, behind: Behind<'t, 's>) -> Next<'t, 's>
-    ensures { IsStep result (self_closed_move (tokens_of run.entry) (behind_of behind.entry)) }
+pub(super) fn self_closed_step(at: &Spot<'_, '_>) -> Next
+    ensures { IsAction result (spot_of at.now)
+        (self_closed_move (tokens_of at.now.run) (behind_of at.now.behind)) }
 {
-    match behind_colons(run) {
-        Some(rest) => take(
-            Leaf::Colons,
-            Place::Colons(PathKind::OfType, false),
-            rest,
-            behind,
-        ),
-        None => misfit(run),
+    if begins_colons(at.run) {
+        return Ok(Action::Take(Lead::Colons, Place::Colons(PathKind::OfType, false)));
     }
+    misfit(at)
 }

@@ -1,6 +1,6 @@
 //! The places inside a type, and what may come next there.
 
-use logos_token::token::{Span, Tokens};
+use logos_token::token::{Delimiter, Span, Tokens};
 use logos_type::Leaf;
 
 /// What a path is.
@@ -163,6 +163,69 @@ pub(crate) enum Step<'t, 's> {
     Nest(Leaf<'s>, Spot<'t, 's>, Place),
 }
 
+/// What a run begins with.
+#[derive(Clone, Copy)]
+pub(crate) enum Look {
+    /// Nothing: it has no tokens.
+    Nothing,
+    /// A name.
+    Word,
+    /// This character of punctuation.
+    Mark(char),
+    /// A literal.
+    Literal,
+    /// A documentation comment.
+    Doc,
+    /// A group with these delimiters.
+    Group(Delimiter),
+}
+
+/// What is taken from the front of a run.
+#[derive(Clone, Copy)]
+pub(crate) enum Lead {
+    /// The name there.
+    Word,
+    /// This character of punctuation.
+    Mark(char),
+    /// The literal there.
+    Literal,
+    /// `::`
+    Colons,
+    /// `->`
+    Arrow,
+    /// `...`
+    Dots,
+    /// `'` and a name, among the angle arguments of a path that is a type.
+    Lifetime,
+    /// `'` and a name elsewhere.
+    Kept,
+    /// The delimiters of the group there.
+    Group(Delimiter),
+}
+
+/// What is to be done with the run that is left, so that what comes next is said without the run.
+#[derive(Clone, Copy)]
+pub(crate) enum Action {
+    /// Nothing: what was begun ends here.
+    End,
+    /// Take this, and go on behind it at this place.
+    Take(Lead, Place),
+    /// Take this, which only a type that is left out has, and go on behind it at this place.
+    Bar(Lead, Place),
+    /// Read a type, in which `+` may join bounds or not, and go on behind it at this place.
+    Ask(bool, Place),
+    /// Read a type that stays as it is, and go on behind it at this place.
+    KeepType(Place),
+    /// Keep all tokens as they are, and go on behind them at this place.
+    Keep(Place),
+    /// Take this, read what begins with it from the one place on, and go on behind that at the other.
+    Nest(Lead, Place, Place),
+    /// Take what opens the group there, and go on in it at this place.
+    Open(Place),
+    /// Take what closes the group that is open, and go on behind it at this place.
+    Close(Delimiter, Place),
+}
+
 /// How a type begins: with this token, which only a type that is left out has or not, and then it goes on there.
 #[derive(Clone, Copy)]
 pub(crate) struct Opening<'t, 's> {
@@ -180,6 +243,7 @@ pub(crate) enum Stop {
     Misfit(Span),
 }
 
-pub(crate) type Next<'t, 's> = Result<Step<'t, 's>, Stop>;
+/// What is to be done at a place, or why nothing fits.
+pub(crate) type Next = Result<Action, Stop>;
 
 pub(crate) type First<'t, 's> = Result<Opening<'t, 's>, Stop>;

@@ -1,13 +1,13 @@
-//! The first tokens of a run, and the steps that they make.
-ghost use Rattle.std.specs.Prelude.{◌≡◌, Some, None, Ok, Err, true, false, MatchOption};
-ghost use Rattle.logos_token.specs.Tokens.{none, also};
-ghost use Rattle.logos_token.specs.Views.{tokens_of, tree_of, inside_of};
-ghost use Rattle.logos_type_reader.specs.Table.{first_span, begins_colons, begins_mark, begins_arrow, begins_dots, begins_parenthesis, begins_bound, typing, behind_two, behind_three, goes_on, opens, keeps, to};
-ghost use Rattle.logos_type_reader.specs.ReadingViews.{behind_of, IsStep};
+//! The first tokens of a run, and what they say.
+ghost use Rattle.std.specs.Prelude.{◌≡◌, true, false, MatchOption};
+ghost use Rattle.logos_token.specs.Tokens.{none, also, rest_of};
+ghost use Rattle.logos_token.specs.Views.{tokens_of, tree_of};
+ghost use Rattle.logos_type_reader.specs.Table.{misfits, first_span, begins_colons, begins_mark, begins_arrow, begins_dots, begins_parenthesis, begins_bound, typing, behind_two, goes_on};
+ghost use Rattle.logos_type_reader.specs.ReadingViews.{spot_of};
+ghost use Rattle.logos_type_reader.specs.Actions.{Looks, begins_word, IsAction};
 
-use crate::table::place::{Behind, Next, Place, Spot, Step, Stop};
-use logos_token::token::{Delimiter, Group, Spacing, Span, TokenTree, Tokens};
-use logos_type::Leaf;
+use crate::table::place::{Look, Next, Spot, Stop};
+use logos_token::token::{Delimiter, Spacing, Span, TokenTree, Tokens};
 
 /// The first tree, and the trees behind it.
 pub(super) fn split<'t, 's>(tokens: Tokens<'t, 's>) -> Option<(TokenTree<'t, 's>, Tokens<'t, 's>)>
@@ -26,13 +26,6 @@ pub(super) fn first_span(tokens: Tokens<'_, '_>) -> Span
         Some(tree) => tree.span(),
         None => Span { from: 0, to: 0 },
     }
-}
-
-/// That the first token does not fit.
-pub(super) fn misfit<'t, 's>(tokens: Tokens<'t, 's>) -> Next<'t, 's>
-    ensures { result ≡ Err (Stop.Misfit (first_span (tokens_of tokens.entry))) }
-{
-    Err(Stop::Misfit(first_span(tokens)))
 }
 
 /// What is behind `::`, if that comes first.
@@ -54,48 +47,43 @@ pub(super) fn behind_colons<'t, 's>(tokens: Tokens<'t, 's>) -> Option<Tokens<'t,
     }
 }
 
-/// What is behind `->`, if that comes first.
-pub(super) fn behind_arrow<'t, 's>(tokens: Tokens<'t, 's>) -> Option<Tokens<'t, 's>>
-    ensures { MatchOption result (begins_arrow (tokens_of tokens.entry) ≡ false)
-        (λ rest. (begins_arrow (tokens_of tokens.entry) ≡ true)
-        × (tokens_of rest ≡ behind_two (tokens_of tokens.entry))) }
+/// Whether `::` comes first.
+pub(super) fn begins_colons(tokens: Tokens<'_, '_>) -> bool
+    ensures { result ≡ begins_colons (tokens_of tokens.entry) }
 {
-    let (TokenTree::Punct(first), after) = split(tokens)? else {
-        return None;
-    };
-    let (TokenTree::Punct(second), rest) = split(after)? else {
-        return None;
-    };
-    if first.spacing == Spacing::Joint && first.character == '-' && second.character == '>' {
-        Some(rest)
-    } else {
-        None
-    }
+    behind_colons(tokens).is_some()
 }
 
-/// What is behind `...`, if that comes first.
-pub(super) fn behind_dots<'t, 's>(tokens: Tokens<'t, 's>) -> Option<Tokens<'t, 's>>
-    ensures { MatchOption result (begins_dots (tokens_of tokens.entry) ≡ false)
-        (λ rest. (begins_dots (tokens_of tokens.entry) ≡ true)
-        × (tokens_of rest ≡ behind_three (tokens_of tokens.entry))) }
+/// Whether `->` comes first.
+pub(super) fn begins_arrow(tokens: Tokens<'_, '_>) -> bool
+    ensures { result ≡ begins_arrow (tokens_of tokens.entry) }
 {
-    let (TokenTree::Punct(first), after) = split(tokens)? else {
-        return None;
+    let Some((TokenTree::Punct(first), after)) = split(tokens) else {
+        return false;
     };
-    let (TokenTree::Punct(second), behind) = split(after)? else {
-        return None;
+    let Some((TokenTree::Punct(second), _)) = split(after) else {
+        return false;
     };
-    let (TokenTree::Punct(third), rest) = split(behind)? else {
-        return None;
+    first.spacing == Spacing::Joint && first.character == '-' && second.character == '>'
+}
+
+/// Whether `...` comes first.
+pub(super) fn begins_dots(tokens: Tokens<'_, '_>) -> bool
+    ensures { result ≡ begins_dots (tokens_of tokens.entry) }
+{
+    let Some((TokenTree::Punct(first), after)) = split(tokens) else {
+        return false;
+    };
+    let Some((TokenTree::Punct(second), behind)) = split(after) else {
+        return false;
+    };
+    let Some((TokenTree::Punct(third), _)) = split(behind) else {
+        return false;
     };
     if first.spacing == Spacing::Alone || second.spacing == Spacing::Alone {
-        return None;
+        return false;
     }
-    if first.character == '.' && second.character == '.' && third.character == '.' {
-        Some(rest)
-    } else {
-        None
-    }
+    ((first.character == '.') & (second.character == '.')) & (third.character == '.')
 }
 
 /// Whether this character comes first.
@@ -145,77 +133,40 @@ pub(super) fn begins_bound(tokens: Tokens<'_, '_>) -> bool
         | begins_parenthesis(tokens)
 }
 
-/// This token, and behind it this place.
-pub(super) fn take<'t, 's>(
-    leaf: Leaf<'s>,
-    place: Place,
-    run: Tokens<'t, 's>,
-    behind: Behind<'t, 's>,
-) -> Next<'t, 's>
-    ensures { result ≡
-        Ok (Step.Take leaf.entry (record { place = place; run = run.entry; behind = behind.entry })) }
+/// Whether this name comes first.
+pub(super) fn begins_word(word: &str, tokens: Tokens<'_, '_>) -> bool
+    ensures { result ≡ begins_word word.now (tokens_of tokens.entry) }
 {
-    Ok(Step::Take(leaf, Spot { place, run, behind }))
-}
-
-/// This token, which only a type that is left out has, and behind it this place.
-pub(super) fn bar<'t, 's>(
-    leaf: Leaf<'s>,
-    place: Place,
-    run: Tokens<'t, 's>,
-    behind: Behind<'t, 's>,
-) -> Next<'t, 's>
-    ensures { result ≡
-        Ok (Step.Bar leaf.entry (record { place = place; run = run.entry; behind = behind.entry })) }
-{
-    Ok(Step::Bar(leaf, Spot { place, run, behind }))
-}
-
-/// A group, where none is open yet.
-pub(super) fn open<'t, 's>(
-    group: Group<'t, 's>,
-    next: Place,
-    rest: Tokens<'t, 's>,
-    behind: Behind<'t, 's>,
-) -> Next<'t, 's>
-    ensures { IsStep result (opens group.entry.delimiter group.entry.span next (inside_of group.entry) (tokens_of rest.entry) (behind_of behind.entry)) }
-{
-    match behind {
-        None => take(Leaf::Open(group.delimiter), next, group.run(), Some(rest)),
-        Some(_) => Err(Stop::Misfit(group.span)),
+    match split(tokens) {
+        Some((TokenTree::Ident(name), _)) => name.text == word,
+        _ => false,
     }
 }
 
-/// All tokens of the run, which stay as they are, and behind them this place.
-pub(super) fn keep<'t, 's>(
-    run: Tokens<'t, 's>,
-    place: Place,
-    behind: Behind<'t, 's>,
-) -> Next<'t, 's>
-    ensures { IsStep result (keeps (tokens_of run.entry) (to place none (behind_of behind.entry))) }
+/// What a run begins with.
+pub(super) fn look(run: Tokens<'_, '_>) -> Look
+    ensures { Looks result (tokens_of run.entry) }
 {
-    let spot = Spot {
-        place,
-        run: run.before(run),
-        behind,
-    };
-    Ok(Step::Keep(run, spot))
+    match run.first() {
+        None => Look::Nothing,
+        Some(TokenTree::Ident(_)) => Look::Word,
+        Some(TokenTree::Punct(punct)) => Look::Mark(punct.character),
+        Some(TokenTree::Literal(_)) => Look::Literal,
+        Some(TokenTree::Doc(_)) => Look::Doc,
+        Some(TokenTree::Group(group)) => Look::Group(group.delimiter),
+    }
 }
 
-/// This token, with which something begins that goes on at a place up to its end, and the place behind it.
-pub(super) fn nest<'t, 's>(
-    leaf: Leaf<'s>,
-    place: Place,
-    run: Tokens<'t, 's>,
-    next: Place,
-) -> Next<'t, 's>
-    ensures { result ≡
-        Ok (Step.Nest leaf.entry (record { place = place; run = run.entry; behind = None }) next) }
+/// That the first token that is left does not fit.
+pub(super) fn misfit(at: &Spot<'_, '_>) -> Next
+    ensures { IsAction result (spot_of at.now) (misfits (tokens_of at.now.run)) }
 {
-    let inner = Spot {
-        place,
-        run,
-        behind: None,
-    };
-    Ok(Step::Nest(leaf, inner, next))
+    Err(Stop::Misfit(first_span(at.run)))
+}
+
+/// That the second token that is left does not fit.
+pub(super) fn misfit_behind(at: &Spot<'_, '_>) -> Next
+    ensures { IsAction result (spot_of at.now) (misfits (rest_of (tokens_of at.now.run))) }
+{
+    Err(Stop::Misfit(first_span(at.run.rest())))
 }

@@ -3,7 +3,7 @@ use Rattle.logos_token.specs.Tokens.{TokenList, none}
 use Rattle.logos_token.specs.Views.{tokens_of}
 use Rattle.logos_type_reader.specs.Table.{keeps, to}
 use Rattle.logos_type_reader.specs.ReadingViews.{behind_of}
-use Rattle.logos_type_reader.proofs.table.tokens.keep.Goals as goal
+use Rattle.logos_type_reader.proofs.table.acting.keep.Goals as goal
 
 pub before-requires : goal.before-requires
 before-requires c = record { front = none; is = refl }
