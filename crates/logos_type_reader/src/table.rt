@@ -29,9 +29,8 @@ use groups::{
 use logos_token::token::{Delimiter, Tokens};
 pub(crate) use openings::{begin, read_name};
 use paths::{
-    argument_end_step, arguments_step, braced_step, colons_step, constrained_step,
-    equals_step, input_end_step, inputs_step, macro_step, named_step, output_step, path_step,
-    segments_step,
+    argument_end_step, arguments_step, braced_step, colons_step, constrained_step, equals_step,
+    input_end_step, inputs_step, macro_step, named_step, output_step, path_step, segments_step,
 };
 pub(crate) use place::{Place, Spot, Step, Stop};
 use place::{Action, Behind, BoundKind, Next, PathKind};

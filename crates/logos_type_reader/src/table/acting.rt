@@ -1,27 +1,16 @@
 //! What comes next, by what is to be done with the run that is left.
 ghost use Rattle.std.specs.Prelude.{◌≡◌, Ok};
+ghost use Rattle.logos_token.specs.Tokens.{none};
 ghost use Rattle.logos_token.specs.Views.{tokens_of, inside_of};
 ghost use Rattle.logos_type_reader.specs.Table.{opens, closes, keeps, to};
-ghost use Rattle.logos_token.specs.Tokens.{none};
-ghost use Rattle.logos_type_reader.specs.ReadingViews.{behind_of, spot_of, IsStep};
-ghost use Rattle.logos_type_reader.specs.Actions.{first_text, lead_sign, behind_lead, opens_first, acts};
+ghost use Rattle.logos_type_reader.specs.ReadingViews.{behind_of, spot_of, IsFirst, IsStep};
+ghost use Rattle.logos_type_reader.specs.Actions.{lead_sign, behind_lead, opens_first, opens_type, acts, begun};
 ghost use Rattle.logos_type.specs.Parts.{sign_of};
 
-use crate::table::place::{Action, Behind, Lead, Place, Spot, Step, Stop};
-use crate::table::tokens::first_span;
+use crate::table::place::{Action, Behind, Lead, Opening, Place, Spot, Start, Step, Stop};
+use crate::table::tokens::{first_span, first_text};
 use logos_token::token::{Delimiter, Group, TokenTree, Tokens};
 use logos_type::Leaf;
-
-/// The text of the first token, where that is a name or a literal.
-fn first_text<'s>(run: Tokens<'_, 's>) -> &'s str
-    ensures { result.now ≡ first_text (tokens_of run.entry) }
-{
-    match run.first() {
-        Some(TokenTree::Ident(name)) => name.text,
-        Some(TokenTree::Literal(literal)) => literal.text,
-        _ => "",
-    }
-}
 
 /// What is taken from the front of a run.
 fn lead_leaf<'s>(lead: Lead, run: Tokens<'_, 's>) -> Leaf<'s>
@@ -34,6 +23,8 @@ fn lead_leaf<'s>(lead: Lead, run: Tokens<'_, 's>) -> Leaf<'s>
         Lead::Colons => Leaf::Colons,
         Lead::Arrow => Leaf::Arrow,
         Lead::Dots => Leaf::Mark('.'),
+        Lead::Reference => Leaf::Reference(None),
+        Lead::ReferenceLifetime => Leaf::Reference(Some(first_text(run.rest().rest()))),
         Lead::Lifetime => Leaf::Lifetime(first_text(run.rest())),
         Lead::Kept => Leaf::Kept(first_text(run.rest())),
         Lead::Group(delimiter) => Leaf::Open(delimiter),
@@ -46,7 +37,7 @@ fn behind_lead<'t, 's>(lead: Lead, run: Tokens<'t, 's>) -> Tokens<'t, 's>
 {
     match lead {
         Lead::Colons | Lead::Arrow | Lead::Lifetime | Lead::Kept => run.rest().rest(),
-        Lead::Dots => run.rest().rest().rest(),
+        Lead::Dots | Lead::ReferenceLifetime => run.rest().rest().rest(),
         _ => run.rest(),
     }
 }
@@ -156,5 +147,38 @@ pub(super) fn act<'t, 's>(
         }
         Action::Open(place) => open_first(place, run, behind),
         Action::Close(delimiter, place) => Ok(close(delimiter, place, behind)),
+    }
+}
+
+/// The group with which a type begins, in front of this place in it.
+fn open_type<'t, 's>(place: Place, run: Tokens<'t, 's>) -> Result<Opening<'t, 's>, Stop>
+    ensures { IsFirst result (opens_type place (tokens_of run.entry)) }
+{
+    let Some(TokenTree::Group(group)) = run.first() else {
+        return Err(Stop::Misfit(first_span(run)));
+    };
+    let inner = Spot {
+        place,
+        run: group.run(),
+        behind: Some(run.rest()),
+    };
+    Ok(Opening {
+        barred: false,
+        leaf: Leaf::Open(group.delimiter),
+        spot: inner,
+    })
+}
+
+/// The first token of a type that begins like this.
+pub(super) fn begin_by<'t, 's>(start: Start, run: Tokens<'t, 's>) -> Result<Opening<'t, 's>, Stop>
+    ensures { IsFirst result (begun start (tokens_of run.entry)) }
+{
+    match start {
+        Start::Lead(barred, lead, place) => Ok(Opening {
+            barred,
+            leaf: lead_leaf(lead, run),
+            spot: after(lead, place, run, None),
+        }),
+        Start::Open(place) => open_type(place, run),
     }
 }

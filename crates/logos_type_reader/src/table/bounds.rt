@@ -60,7 +60,7 @@ pub(super) fn question_step(kind: BoundKind, at: &Spot<'_, '_>) -> Next
         (question_move kind (tokens_of at.now.run) (behind_of at.now.behind)) }
 {
     match look(at.run) {
-        Look::Mark(mark) if mark == '?' => Ok(Action::Take(Lead::Mark('?'), Place::Trait(kind))),
+        Look::Mark('?', _) => Ok(Action::Take(Lead::Mark('?'), Place::Trait(kind))),
         _ => trait_step(kind, at),
     }
 }
@@ -71,7 +71,7 @@ pub(super) fn bound_step(plus: bool, at: &Spot<'_, '_>) -> Next
         (bound_move plus (tokens_of at.now.run) (behind_of at.now.behind)) }
 {
     match look(at.run) {
-        Look::Mark(mark) if mark == '\'' => bound_lifetime_step(plus, at),
+        Look::Mark('\'', _) => bound_lifetime_step(plus, at),
         Look::Group(Delimiter::Parenthesis) => Ok(Action::Open(Place::Question(plus))),
         _ => question_step(BoundKind::Listed(plus), at),
     }
@@ -83,9 +83,7 @@ pub(super) fn bound_end_step(plus: bool, at: &Spot<'_, '_>) -> Next
         (bound_end_move plus (tokens_of at.now.run) (behind_of at.now.behind)) }
 {
     match look(at.run) {
-        Look::Mark(mark) if plus & (mark == '+') => {
-            Ok(Action::Take(Lead::Mark('+'), Place::Further))
-        }
+        Look::Mark('+', _) if plus => { Ok(Action::Take(Lead::Mark('+'), Place::Further)) }
         _ => Ok(Action::End),
     }
 }
@@ -128,9 +126,7 @@ pub(super) fn for_step(binder: Binder, at: &Spot<'_, '_>) -> Next
         (for_move binder (tokens_of at.now.run) (behind_of at.now.behind)) }
 {
     match look(at.run) {
-        Look::Mark(mark) if mark == '<' => {
-            Ok(Action::Take(Lead::Mark('<'), Place::ForList(binder)))
-        }
+        Look::Mark('<', _) => { Ok(Action::Take(Lead::Mark('<'), Place::ForList(binder))) }
         _ => misfit(at),
     }
 }
@@ -152,10 +148,8 @@ pub(super) fn for_list_step(binder: Binder, at: &Spot<'_, '_>) -> Next
         (for_list_move binder (tokens_of at.now.run) (behind_of at.now.behind)) }
 {
     match look(at.run) {
-        Look::Mark(mark) if mark == '>' => {
-            Ok(Action::Take(Lead::Mark('>'), behind_for(binder)))
-        }
-        Look::Mark(mark) if mark == '\'' => for_lifetime_step(binder, at),
+        Look::Mark('>', _) => { Ok(Action::Take(Lead::Mark('>'), behind_for(binder))) }
+        Look::Mark('\'', _) => for_lifetime_step(binder, at),
         _ => misfit(at),
     }
 }
@@ -166,12 +160,8 @@ pub(super) fn for_end_step(binder: Binder, at: &Spot<'_, '_>) -> Next
         (for_end_move binder (tokens_of at.now.run) (behind_of at.now.behind)) }
 {
     match look(at.run) {
-        Look::Mark(mark) if mark == ',' => {
-            Ok(Action::Take(Lead::Mark(','), Place::ForList(binder)))
-        }
-        Look::Mark(mark) if mark == '>' => {
-            Ok(Action::Take(Lead::Mark('>'), behind_for(binder)))
-        }
+        Look::Mark(',', _) => { Ok(Action::Take(Lead::Mark(','), Place::ForList(binder))) }
+        Look::Mark('>', _) => { Ok(Action::Take(Lead::Mark('>'), behind_for(binder))) }
         _ => misfit(at),
     }
 }

@@ -92,7 +92,7 @@ pub(super) fn typed_step(at: &Spot<'_, '_>) -> Next
         (typed_move (tokens_of at.now.run) (behind_of at.now.behind)) }
 {
     match look(at.run) {
-        Look::Mark(mark) if mark == ':' => Ok(Action::Take(Lead::Mark(':'), Place::TypedValue)),
+        Look::Mark(':', _) => Ok(Action::Take(Lead::Mark(':'), Place::TypedValue)),
         _ => misfit(at),
     }
 }
@@ -104,7 +104,7 @@ pub(super) fn one_taken_step(at: &Spot<'_, '_>) -> Next
 {
     match look(at.run) {
         Look::Nothing => Ok(Action::Close(Delimiter::Parenthesis, Place::Output)),
-        Look::Mark(mark) if mark == ',' => Ok(Action::Take(Lead::Mark(','), Place::Taken)),
+        Look::Mark(',', _) => Ok(Action::Take(Lead::Mark(','), Place::Taken)),
         _ => misfit(at),
     }
 }
@@ -116,7 +116,7 @@ pub(super) fn variadic_step(at: &Spot<'_, '_>) -> Next
 {
     match look(at.run) {
         Look::Nothing => Ok(Action::Close(Delimiter::Parenthesis, Place::Output)),
-        Look::Mark(mark) if mark == ',' => Ok(Action::Take(Lead::Mark(','), Place::VariadicEnd)),
+        Look::Mark(',', _) => Ok(Action::Take(Lead::Mark(','), Place::VariadicEnd)),
         _ => misfit(at),
     }
 }

@@ -50,7 +50,7 @@ pub(super) fn list_end_step(at: &Spot<'_, '_>) -> Next
 {
     match look(at.run) {
         Look::Nothing => Ok(Action::Close(Delimiter::Parenthesis, Place::End)),
-        Look::Mark(mark) if mark == ',' => Ok(Action::Take(Lead::Mark(','), Place::List)),
+        Look::Mark(',', _) => Ok(Action::Take(Lead::Mark(','), Place::List)),
         _ => misfit(at),
     }
 }
@@ -62,7 +62,7 @@ pub(super) fn element_end_step(at: &Spot<'_, '_>) -> Next
 {
     match look(at.run) {
         Look::Nothing => Ok(Action::Close(Delimiter::Bracket, Place::End)),
-        Look::Mark(mark) if mark == ';' => Ok(Action::Take(Lead::Mark(';'), Place::Length)),
+        Look::Mark(';', _) => Ok(Action::Take(Lead::Mark(';'), Place::Length)),
         _ => misfit(at),
     }
 }
@@ -85,7 +85,7 @@ pub(super) fn self_end_step(at: &Spot<'_, '_>) -> Next
 {
     match look(at.run) {
         Look::Word if begins_word("as", at.run) => Ok(Action::Take(Lead::Word, Place::SelfTrait)),
-        Look::Mark(mark) if mark == '>' => Ok(Action::Take(Lead::Mark('>'), Place::SelfClosed)),
+        Look::Mark('>', _) => Ok(Action::Take(Lead::Mark('>'), Place::SelfClosed)),
         _ => misfit(at),
     }
 }
@@ -96,7 +96,7 @@ pub(super) fn self_trait_end_step(at: &Spot<'_, '_>) -> Next
         (self_trait_end_move (tokens_of at.now.run) (behind_of at.now.behind)) }
 {
     match look(at.run) {
-        Look::Mark(mark) if mark == '>' => Ok(Action::Take(Lead::Mark('>'), Place::SelfClosed)),
+        Look::Mark('>', _) => Ok(Action::Take(Lead::Mark('>'), Place::SelfClosed)),
         _ => misfit(at),
     }
 }

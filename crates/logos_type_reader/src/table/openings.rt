@@ -1,56 +1,36 @@
 //! How a type begins.
-ghost use Rattle.std.specs.Prelude.{◌≡◌, Some, None, Ok, false, MatchOption};
+ghost use Rattle.std.specs.Prelude.{◌≡◌, Some, None, MatchOption};
 ghost use Rattle.logos_token.specs.Tokens.{rest_of};
-ghost use Rattle.logos_token.specs.Views.{tokens_of, inside_of};
-ghost use Rattle.logos_type_reader.specs.Table.{reference_first, reference_lifetime_first, word_place, word_first, group_first, mark_first, begin, is_reserved, name_of};
+ghost use Rattle.logos_token.specs.Views.{tokens_of};
+ghost use Rattle.logos_type_reader.specs.Table.{first_span, reference_first, reference_lifetime_first, word_place, word_first, mark_first, begin, is_reserved, name_of};
 ghost use Rattle.logos_type_reader.specs.ReadingViews.{IsFirst};
+ghost use Rattle.logos_type_reader.specs.Actions.{first_text, IsStart};
 
-use crate::table::place::{Behind, Binder, First, Opening, PathKind, Place, Spot, Stop};
-use crate::table::tokens::{begins_mark, behind_colons, first_span, goes_on, split};
-use logos_token::token::{Delimiter, Group, Ident, Punct, TokenTree, Tokens};
-use logos_type::Leaf;
+use crate::table::acting::begin_by;
+use crate::table::place::{Binder, First, Lead, Look, Opening, PathKind, Place, Start, Stop};
+use crate::table::tokens::{begins_colons, begins_mark, first_span, first_text, goes_on, look};
+use logos_token::token::{Delimiter, Tokens};
 
-/// This token, which types that are left out do not have alone, and behind it this place.
-fn start<'t, 's>(
-    leaf: Leaf<'s>,
-    place: Place,
-    run: Tokens<'t, 's>,
-    behind: Behind<'t, 's>,
-) -> First<'t, 's>
-    ensures { result ≡
-        Ok (record { barred = false; leaf = leaf.entry; spot = record { place = place; run = run.entry; behind = behind.entry } }) }
+/// At `&`, with which a type begins.
+fn reference_first(run: Tokens<'_, '_>) -> First
+    ensures { IsStart result (tokens_of run.entry)
+        (reference_first (rest_of (tokens_of run.entry))) }
 {
-    Ok(Opening {
-        barred: false,
-        leaf,
-        spot: Spot { place, run, behind },
-    })
-}
-
-/// Behind `&`, with which a type begins.
-fn reference_first<'t, 's>(run: Tokens<'t, 's>) -> First<'t, 's>
-    ensures { IsFirst result (reference_first (tokens_of run.entry)) }
-{
-    if let Some((TokenTree::Punct(punct), after)) = split(run) {
-        if punct.character == '\'' {
-            return reference_lifetime(after);
-        }
+    match look(run.rest()) {
+        Look::Mark('\'', _) => reference_lifetime(run),
+        _ => Ok(Start::Lead(false, Lead::Reference, Place::Referent)),
     }
-    start(Leaf::Reference(None), Place::Referent, run, None)
 }
 
-/// Behind `&'`.
-fn reference_lifetime<'t, 's>(run: Tokens<'t, 's>) -> First<'t, 's>
-    ensures { IsFirst result (reference_lifetime_first (tokens_of run.entry)) }
+/// At `&'`, with which a type begins.
+fn reference_lifetime(run: Tokens<'_, '_>) -> First
+    ensures { IsStart result (tokens_of run.entry)
+        (reference_lifetime_first (rest_of (rest_of (tokens_of run.entry)))) }
 {
-    match split(run) {
-        Some((TokenTree::Ident(name), rest)) => start(
-            Leaf::Reference(Some(name.text)),
-            Place::Referent,
-            rest,
-            None,
-        ),
-        _ => Err(Stop::Misfit(first_span(run))),
+    let name = run.rest().rest();
+    match look(name) {
+        Look::Word => Ok(Start::Lead(false, Lead::ReferenceLifetime, Place::Referent)),
+        _ => Err(Stop::Misfit(first_span(name))),
     }
 }
 
@@ -76,67 +56,58 @@ fn word_place(plus: bool, text: &str) -> Place
     Place::Named(PathKind::Plain)
 }
 
-/// Behind the word with which a type begins.
-fn word_first<'t, 's>(plus: bool, word: Ident<'s>, run: Tokens<'t, 's>) -> First<'t, 's>
-    ensures { IsFirst result (word_first plus word.entry.text.now word.entry.span (tokens_of run.entry)) }
+/// At the word with which a type begins.
+fn word_first(plus: bool, run: Tokens<'_, '_>) -> First
+    ensures { IsStart result (tokens_of run.entry)
+        (word_first plus (first_text (tokens_of run.entry)) (first_span (tokens_of run.entry))
+        (rest_of (tokens_of run.entry))) }
 {
-    if word.text == "_" {
-        return Err(Stop::Unsupported(word.span));
+    let text = first_text(run);
+    if text == "_" {
+        return Err(Stop::Unsupported(first_span(run)));
     }
-    let spot = Spot {
-        place: word_place(plus, word.text),
-        run,
-        behind: None,
-    };
-    Ok(Opening {
-        barred: word.text == "impl",
-        leaf: Leaf::Word(word.text),
-        spot,
-    })
+    Ok(Start::Lead(text == "impl", Lead::Word, word_place(plus, text)))
 }
 
-/// Behind the group with which a type begins.
-fn group_first<'t, 's>(group: Group<'t, 's>, run: Tokens<'t, 's>) -> First<'t, 's>
-    ensures { IsFirst result (group_first group.entry.delimiter group.entry.span (inside_of group.entry) (tokens_of run.entry)) }
+/// At the punctuation with which a type begins.
+fn mark_first(mark: char, run: Tokens<'_, '_>) -> First
+    ensures { IsStart result (tokens_of run.entry)
+        (mark_first mark (first_span (tokens_of run.entry)) (tokens_of run.entry)
+        (rest_of (tokens_of run.entry))) }
 {
-    let place = match group.delimiter {
-        Delimiter::Parenthesis => Place::List,
-        Delimiter::Bracket => Place::Element,
-        Delimiter::Brace => return Err(Stop::Misfit(group.span)),
-    };
-    start(Leaf::Open(group.delimiter), place, group.run(), Some(run))
-}
-
-/// At the punctuation with which the run begins, and a type.
-fn mark_first<'t, 's>(punct: Punct, run: Tokens<'t, 's>, rest: Tokens<'t, 's>) -> First<'t, 's>
-    ensures { IsFirst result (mark_first punct.character punct.span (tokens_of run.entry) (tokens_of rest.entry)) }
-{
-    match punct.character {
-        '&' => return reference_first(rest),
-        '*' => return start(Leaf::Mark('*'), Place::Pointer, rest, None),
-        '<' => return start(Leaf::Mark('<'), Place::SelfType, rest, None),
-        '!' => return Err(Stop::Unsupported(punct.span)),
-        _ => {}
-    }
-    match behind_colons(run) {
-        Some(behind) => {
-            let place = Place::Colons(PathKind::Plain, false);
-            start(Leaf::Colons, place, behind, None)
+    match mark {
+        '&' => reference_first(run),
+        '*' => Ok(Start::Lead(false, Lead::Mark('*'), Place::Pointer)),
+        '<' => Ok(Start::Lead(false, Lead::Mark('<'), Place::SelfType)),
+        '!' => Err(Stop::Unsupported(first_span(run))),
+        _ if begins_colons(run) => {
+            Ok(Start::Lead(false, Lead::Colons, Place::Colons(PathKind::Plain, false)))
         }
-        None => Err(Stop::Misfit(punct.span)),
+        _ => Err(Stop::Misfit(first_span(run))),
+    }
+}
+
+/// How the type begins with which a run begins.
+#[tactic(auto, unfolding(crate::specs::Table::begin))]
+fn start_at(plus: bool, run: Tokens<'_, '_>) -> First
+    ensures { IsStart result (tokens_of run.entry) (begin plus (tokens_of run.entry)) }
+{
+    match look(run) {
+        Look::Word => word_first(plus, run),
+        Look::Group(Delimiter::Parenthesis) => Ok(Start::Open(Place::List)),
+        Look::Group(Delimiter::Bracket) => Ok(Start::Open(Place::Element)),
+        Look::Mark(mark, _) => mark_first(mark, run),
+        _ => Err(Stop::Misfit(first_span(run))),
     }
 }
 
 /// The first token of a type.
-#[tactic(auto, unfolding(crate::specs::Table::begin))]
-pub(crate) fn begin<'t, 's>(plus: bool, run: Tokens<'t, 's>) -> First<'t, 's>
+pub(crate) fn begin<'t, 's>(plus: bool, run: Tokens<'t, 's>) -> Result<Opening<'t, 's>, Stop>
     ensures { IsFirst result (begin plus (tokens_of run.entry)) }
 {
-    match split(run) {
-        Some((TokenTree::Ident(word), rest)) => word_first(plus, word, rest),
-        Some((TokenTree::Group(group), rest)) => group_first(group, rest),
-        Some((TokenTree::Punct(punct), rest)) => mark_first(punct, run, rest),
-        _ => Err(Stop::Misfit(first_span(run))),
+    match start_at(plus, run) {
+        Ok(start) => begin_by(start, run),
+        Err(stop) => Err(stop),
     }
 }
 
@@ -154,11 +125,13 @@ pub(crate) fn read_name<'t, 's>(tokens: Tokens<'t, 's>) -> Option<(&'s str, Toke
         (λ read. (name_of (tokens_of tokens.entry) ≡ Some read.0.now)
         × (tokens_of read.1 ≡ rest_of (tokens_of tokens.entry))) }
 {
-    match split(tokens) {
-        Some((TokenTree::Ident(name), rest))
-            if !is_reserved(name.text) & !(goes_on(rest) | begins_mark('!', rest)) => {
-            Some((name.text, rest))
-        }
-        _ => None,
+    let Look::Word = look(tokens) else {
+        return None;
+    };
+    let name = first_text(tokens);
+    let rest = tokens.rest();
+    if is_reserved(name) | (goes_on(rest) | begins_mark('!', rest)) {
+        return None;
     }
+    Some((name, rest))
 }

@@ -31,7 +31,7 @@ fn name_end(kind: PathKind, at: &Spot<'_, '_>) -> Next
         return Ok(Action::End);
     };
     match look(at.run) {
-        Look::Mark(mark) if mark == '!' => Ok(Action::Bar(Lead::Mark('!'), Place::Macro)),
+        Look::Mark('!', _) => Ok(Action::Bar(Lead::Mark('!'), Place::Macro)),
         _ => Ok(Action::End),
     }
 }
@@ -53,13 +53,9 @@ pub(super) fn named_step(kind: PathKind, at: &Spot<'_, '_>) -> Next
         (named_move kind (tokens_of at.now.run) (behind_of at.now.behind)) }
 {
     match look(at.run) {
-        Look::Mark(mark) if mark == '<' => {
-            Ok(Action::Take(Lead::Mark('<'), Place::Arguments(argued(kind))))
-        }
+        Look::Mark('<', _) => { Ok(Action::Take(Lead::Mark('<'), Place::Arguments(argued(kind)))) }
         Look::Group(Delimiter::Parenthesis) => Ok(Action::Open(Place::Inputs)),
-        _ if begins_colons(at.run) => {
-            Ok(Action::Take(Lead::Colons, Place::Colons(kind, true)))
-        }
+        _ if begins_colons(at.run) => { Ok(Action::Take(Lead::Colons, Place::Colons(kind, true))) }
         _ => name_end(kind, at),
     }
 }
@@ -104,7 +100,7 @@ pub(super) fn input_end_step(at: &Spot<'_, '_>) -> Next
 {
     match look(at.run) {
         Look::Nothing => Ok(Action::Close(Delimiter::Parenthesis, Place::Output)),
-        Look::Mark(mark) if mark == ',' => Ok(Action::Take(Lead::Mark(','), Place::Inputs)),
+        Look::Mark(',', _) => Ok(Action::Take(Lead::Mark(','), Place::Inputs)),
         _ => misfit(at),
     }
 }
@@ -116,7 +112,7 @@ pub(super) fn colons_step(kind: PathKind, arguments: bool, at: &Spot<'_, '_>) ->
 {
     match look(at.run) {
         Look::Word => Ok(Action::Take(Lead::Word, Place::Named(kind))),
-        Look::Mark(mark) if arguments & (mark == '<') => {
+        Look::Mark('<', _) if arguments => {
             Ok(Action::Take(Lead::Mark('<'), Place::Arguments(argued(kind))))
         }
         _ => misfit(at),
@@ -141,7 +137,7 @@ fn lifetime_step(kind: PathKind, at: &Spot<'_, '_>) -> Next
 fn argument_word(kind: PathKind, at: &Spot<'_, '_>) -> Next
     ensures { IsAction result (spot_of at.now)
         (argument_word kind (first_text (tokens_of at.now.run)) (rest_of (tokens_of at.now.run))
-            (behind_of at.now.behind)) }
+        (behind_of at.now.behind)) }
 {
     let rest = at.run.rest();
     if begins_mark('=', rest) {
@@ -159,10 +155,8 @@ pub(super) fn arguments_step(kind: PathKind, at: &Spot<'_, '_>) -> Next
         (arguments_move kind (tokens_of at.now.run) (behind_of at.now.behind)) }
 {
     match look(at.run) {
-        Look::Mark(mark) if mark == '>' => {
-            Ok(Action::Take(Lead::Mark('>'), Place::Segments(kind)))
-        }
-        Look::Mark(mark) if mark == '\'' => lifetime_step(kind, at),
+        Look::Mark('>', _) => { Ok(Action::Take(Lead::Mark('>'), Place::Segments(kind))) }
+        Look::Mark('\'', _) => lifetime_step(kind, at),
         Look::Literal => Ok(Action::Take(Lead::Literal, Place::ArgumentEnd(kind))),
         Look::Word => argument_word(kind, at),
         Look::Group(Delimiter::Brace) => Ok(Action::Open(Place::Braced(kind))),
@@ -187,7 +181,7 @@ pub(super) fn equals_step(kind: PathKind, at: &Spot<'_, '_>) -> Next
         (equals_move kind (tokens_of at.now.run) (behind_of at.now.behind)) }
 {
     match look(at.run) {
-        Look::Mark(mark) if mark == '=' => Ok(Action::Take(Lead::Mark('='), Place::Value(kind))),
+        Look::Mark('=', _) => Ok(Action::Take(Lead::Mark('='), Place::Value(kind))),
         _ => misfit(at),
     }
 }
@@ -198,7 +192,7 @@ pub(super) fn constrained_step(kind: PathKind, at: &Spot<'_, '_>) -> Next
         (constrained_move kind (tokens_of at.now.run) (behind_of at.now.behind)) }
 {
     match look(at.run) {
-        Look::Mark(mark) if mark == ':' => Ok(Action::Nest(
+        Look::Mark(':', _) => Ok(Action::Nest(
             Lead::Mark(':'),
             Place::Bound(true),
             Place::ArgumentEnd(kind),
@@ -213,12 +207,8 @@ pub(super) fn argument_end_step(kind: PathKind, at: &Spot<'_, '_>) -> Next
         (argument_end_move kind (tokens_of at.now.run) (behind_of at.now.behind)) }
 {
     match look(at.run) {
-        Look::Mark(mark) if mark == ',' => {
-            Ok(Action::Take(Lead::Mark(','), Place::Arguments(kind)))
-        }
-        Look::Mark(mark) if mark == '>' => {
-            Ok(Action::Take(Lead::Mark('>'), Place::Segments(kind)))
-        }
+        Look::Mark(',', _) => { Ok(Action::Take(Lead::Mark(','), Place::Arguments(kind))) }
+        Look::Mark('>', _) => { Ok(Action::Take(Lead::Mark('>'), Place::Segments(kind))) }
         _ => misfit(at),
     }
 }

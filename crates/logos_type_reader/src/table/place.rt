@@ -1,6 +1,6 @@
 //! The places inside a type, and what may come next there.
 
-use logos_token::token::{Delimiter, Span, Tokens};
+use logos_token::token::{Delimiter, Spacing, Span, Tokens};
 use logos_type::Leaf;
 
 /// What a path is.
@@ -170,8 +170,8 @@ pub(crate) enum Look {
     Nothing,
     /// A name.
     Word,
-    /// This character of punctuation.
-    Mark(char),
+    /// This character of punctuation, and what stands behind it.
+    Mark(char, Spacing),
     /// A literal.
     Literal,
     /// A documentation comment.
@@ -195,6 +195,10 @@ pub(crate) enum Lead {
     Arrow,
     /// `...`
     Dots,
+    /// `&`
+    Reference,
+    /// `&`, and behind it a lifetime.
+    ReferenceLifetime,
     /// `'` and a name, among the angle arguments of a path that is a type.
     Lifetime,
     /// `'` and a name elsewhere.
@@ -234,6 +238,15 @@ pub(crate) struct Opening<'t, 's> {
     pub spot: Spot<'t, 's>,
 }
 
+/// How a type begins, said without its run.
+#[derive(Clone, Copy)]
+pub(crate) enum Start {
+    /// With this, which only a type that is left out has or not, and then it goes on at this place.
+    Lead(bool, Lead, Place),
+    /// With what opens the group there, and then it goes on in it at this place.
+    Open(Place),
+}
+
 /// Why nothing fits.
 #[derive(Clone, Copy)]
 pub(crate) enum Stop {
@@ -246,4 +259,5 @@ pub(crate) enum Stop {
 /// What is to be done at a place, or why nothing fits.
 pub(crate) type Next = Result<Action, Stop>;
 
-pub(crate) type First<'t, 's> = Result<Opening<'t, 's>, Stop>;
+/// How a type begins, or why none does.
+pub(crate) type First = Result<Start, Stop>;
