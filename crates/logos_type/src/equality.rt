@@ -6,8 +6,8 @@ ghost use Rattle.logos_type.specs.TypeTrees.{type_tree};
 use crate::type_expr::{Leaf, Part, TypeExpr};
 
 /// Whether two tokens are the same.
-fn is_same_leaf(leaf: Leaf<'_>, other: Leaf<'_>) -> bool
-    ensures { IsTrue result ↔ (sign_of leaf.entry ≡ sign_of other.entry) }
+fn is_same_leaf(leaf: &Leaf<'_>, other: &Leaf<'_>) -> bool
+    ensures { IsTrue result ↔ (sign_of leaf.now ≡ sign_of other.now) }
 {
     match (leaf, other) {
         (Leaf::Word(text), Leaf::Word(second)) => text == second,
@@ -50,7 +50,7 @@ fn is_same_part(part: &Part<'_>, other: &Part<'_>) -> bool
     ensures { IsTrue result ↔ (tree_of part.now ≡ tree_of other.now) }
 {
     match (part, other) {
-        (Part::Leaf(leaf), Part::Leaf(second)) => is_same_leaf(*leaf, *second),
+        (Part::Leaf(leaf), Part::Leaf(second)) => is_same_leaf(leaf, second),
         (Part::Name(text), Part::Name(second)) => text == second,
         (Part::Whole(parts), Part::Whole(others)) => are_same_parts(parts, others),
         (Part::Still(parts), Part::Still(others)) => are_same_parts(parts, others),
