@@ -1,5 +1,0 @@
-mod CallbackLemmas
-mod LiteralLemmas
-mod NumberLemmas
-mod PieceLemmas
-pub mod ToldLemmas

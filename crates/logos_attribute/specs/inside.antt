@@ -1,4 +1,0 @@
-pub mod CallbackRuns
-pub mod Cutting
-pub mod FlagSteps
-pub mod Steps

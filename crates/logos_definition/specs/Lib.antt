@@ -1,7 +1,0 @@
-pub mod DefinitionViews
-pub mod Definitions
-pub mod ErrorTypeViews
-pub mod ErrorTypes
-pub mod OptionFaults
-pub mod Options
-pub mod ParserViews

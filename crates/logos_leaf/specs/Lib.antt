@@ -1,3 +1,0 @@
-pub mod LeafViews
-pub mod Leaves
-pub mod inside

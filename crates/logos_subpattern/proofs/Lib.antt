@@ -1,2 +1,0 @@
-mod SubpatternLemmas
-mod SubstitutionLemmas

@@ -1,5 +1,0 @@
-pub mod PatternFaults
-pub mod SubpatternViews
-pub mod Subpatterns
-pub mod Substitution
-pub mod inside

@@ -1,3 +1,0 @@
-pub mod SubstitutionLemmas
-pub mod SubstitutionLaws
-pub mod ChainLemmas
