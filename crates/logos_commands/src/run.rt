@@ -1,7 +1,7 @@
-//! The commands, over any files and any writers.
+//! From words to a status: what a command gives is written, or why it is not done.
 
 ghost use Rattle.std.specs.Prelude.{◌≡◌, ◌≤◌, ◌⊎◌, ◌↔◌, None, map, string_bytes};
-ghost use Rattle.logos_program.specs.Commands.{asked, status_of};
+ghost use Rattle.logos_commands.specs.Commands.{asked, status_of};
 
 mod command;
 mod outcome;
@@ -95,7 +95,7 @@ enum Failure<'w> {
 
 impl From<AllocError> for Failure<'_> {
     ghost use Rattle.std.specs.Prelude.{◌≡◌};
-    ghost use Rattle.logos_program.specs.declared.run.Failure.TheVariants.{Memory as OutOfMemory};
+    ghost use Rattle.logos_commands.specs.declared.run.Failure.TheVariants.{Memory as OutOfMemory};
 
     ghost from_gives = { λ _ failure. failure ≡ OutOfMemory };
 
@@ -106,7 +106,7 @@ impl From<AllocError> for Failure<'_> {
 
 impl From<Memory> for Failure<'_> {
     ghost use Rattle.std.specs.Prelude.{◌≡◌};
-    ghost use Rattle.logos_program.specs.declared.run.Failure.TheVariants.{Memory as OutOfMemory};
+    ghost use Rattle.logos_commands.specs.declared.run.Failure.TheVariants.{Memory as OutOfMemory};
 
     ghost from_gives = { λ _ failure. failure ≡ OutOfMemory };
 
@@ -117,7 +117,7 @@ impl From<Memory> for Failure<'_> {
 
 impl From<Refusal> for Failure<'_> {
     ghost use Rattle.std.specs.Prelude.{◌≡◌};
-    ghost use Rattle.logos_program.specs.Commands.{refused_by};
+    ghost use Rattle.logos_commands.specs.Commands.{refused_by};
 
     ghost from_gives = { λ refusal failure. failure ≡ refused_by refusal };
 
@@ -131,7 +131,7 @@ impl From<Refusal> for Failure<'_> {
 
 impl From<LexSourceError> for Failure<'_> {
     ghost use Rattle.std.specs.Prelude.{◌≡◌};
-    ghost use Rattle.logos_program.specs.Commands.{failure_of};
+    ghost use Rattle.logos_commands.specs.Commands.{failure_of};
 
     ghost from_gives = { λ error failure. failure ≡ failure_of error };
 
@@ -201,6 +201,3 @@ fn write_on_one_line<E: Write>(text: &str, err: &mut E) -> io::Result<()> {
     }
     Ok(())
 }
-
-#[cfg(test)]
-mod tests;
