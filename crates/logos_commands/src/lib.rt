@@ -2,6 +2,11 @@
 
 #![tactic(auto)]
 
-mod run;
+mod command;
+mod failure;
+mod files;
+mod outcome;
+mod running;
 
-pub use run::{FileError, Files, refuse_words, run};
+pub use files::{FileError, Files};
+pub use running::{refuse_words, run};
