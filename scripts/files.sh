@@ -1,6 +1,6 @@
 #!/usr/bin/env bash
-# Meets for real what the program's tests meet with files in memory: files that are missing, folders or no text, words that are no text,
-# and a standard output that is full or closed. Each time the status and all that is written must be as said here.
+# Meets for real what the tests of the commands meet with files in memory: files that are missing, folders or no text, words that are
+# no text, and a standard output that is full or closed. Each time the status and all that is written must be as said here.
 #
 # It needs the program as `rt ci` or `rt run` leaves it in crates/logos_program/out, or the first argument.
 set -euo pipefail

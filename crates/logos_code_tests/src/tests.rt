@@ -1,4 +1,5 @@
-//! What the public calls answer, by example.
+//! What the public calls and the commands of the program answer, by example.
 
 mod codes;
+mod commands;
 mod sources;

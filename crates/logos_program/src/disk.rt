@@ -1,6 +1,6 @@
 //! The files of the system.
 
-use crate::run::{FileError, Files};
+use logos_commands::{FileError, Files};
 use std::rt::Files as Runtime;
 use std::{fs, io};
 

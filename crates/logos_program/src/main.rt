@@ -3,9 +3,9 @@
 #![tactic(auto)]
 
 mod disk;
-mod run;
 
 use disk::Disk;
+use logos_commands::{refuse_words, run};
 use std::alloc::AllocError;
 use std::process::ExitCode;
 use std::rt::Env;
@@ -25,14 +25,14 @@ fn words<R: Env + AllocGlobal>(rt: &R) -> io::Result<Vec<String>> {
 fn main(rt: HostRuntime) -> io::Result<ExitCode> {
     let mut files = Disk { rt: &rt };
     let status = match words(&rt) {
-        Ok(words) => run::run(
+        Ok(words) => run(
             rt.alloc(),
             words.as_slice(),
             &mut files,
             &mut rt.stdout(),
             &mut rt.stderr(),
         ),
-        Err(error) => run::refuse_words(error.kind(), &mut rt.stderr()),
+        Err(error) => refuse_words(error.kind(), &mut rt.stderr()),
     };
     Ok(ExitCode::from(status))
 }

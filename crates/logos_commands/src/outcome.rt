@@ -1,7 +1,8 @@
 //! What the commands give.
 
-use super::command::Command;
-use super::{Failure, FileError, Files};
+use crate::command::Command;
+use crate::failure::Failure;
+use crate::files::{FileError, Files};
 use logos_codegen::generator::Config;
 use logos_codegen::graph::{Graph, State};
 use logos_codegen::machine::{Action, Item};

@@ -1,7 +1,7 @@
 //! The commands that words ask for.
 
 ghost use Rattle.std.specs.Prelude.{◌≡◌, bytes_eq, map, option_map, string_bytes};
-ghost use Rattle.logos_program.specs.Commands.{asked, chart_in, command_asked, items_in, shape_in, shape_named, text_in};
+ghost use Rattle.logos_commands.specs.Commands.{asked, chart_in, command_asked, items_in, shape_in, shape_named, text_in};
 
 use logos_codegen::generator::Config;
 

@@ -5,10 +5,10 @@ use Rattle.logos_codegen.specs.declared.lexing.LexSourceError.{LexSourceError}
 use Rattle.logos_codegen.specs.declared.lexing.LexSourceError.TheVariants as errors
 use Rattle.logos_codegen.specs.declared.refusal.Refusal.{Refusal}
 use Rattle.logos_codegen.specs.declared.refusal.Refusal.TheVariants as refusals
-use Rattle.logos_program.specs.declared.run.command.Command.{Command}
-use Rattle.logos_program.specs.declared.run.command.Command.TheVariants.{Text, Items, Chart}
-use Rattle.logos_program.specs.declared.run.Failure.{Failure}
-use Rattle.logos_program.specs.declared.run.Failure.TheVariants.{Read, Write, Refused, NotUtf8, Alike, Memory}
+use Rattle.logos_commands.specs.declared.command.Command.{Command}
+use Rattle.logos_commands.specs.declared.command.Command.TheVariants.{Text, Items, Chart}
+use Rattle.logos_commands.specs.declared.failure.Failure.{Failure}
+use Rattle.logos_commands.specs.declared.failure.Failure.TheVariants.{Read, Write, Refused, NotUtf8, Alike, Memory}
 
 -- What the words ask for: the Rust text of the lexer in a file, the items of an input by it, or the chart of its graph.
 pub data Asked : Type 0 where

@@ -1,0 +1,12 @@
+//! The commands of the program, over any files and any writers.
+
+#![tactic(auto)]
+
+mod command;
+mod failure;
+mod files;
+mod outcome;
+mod running;
+
+pub use files::{FileError, Files};
+pub use running::{refuse_words, run};

@@ -1,0 +1,66 @@
+//! From words to a status: what a command gives is written, or why it is not done.
+
+ghost use Rattle.std.specs.Prelude.{◌≡◌, ◌≤◌, ◌⊎◌, ◌↔◌, None, map, string_bytes};
+ghost use Rattle.logos_commands.specs.Commands.{asked};
+
+use crate::command::{Command, command_of};
+use crate::failure::{Failure, report};
+use crate::files::Files;
+use crate::outcome::outcome;
+use std::alloc::Global;
+use std::io;
+use std::io::Write;
+
+/// Runs the command that the words name, and gives the exit status: 0 done, 1 refused, 2 for words
+/// that are no command, 3 files or memory. What is said at a status above 0 goes to `err`.
+pub fn run<F: Files, O: Write, E: Write>(
+    alloc: Global,
+    words: &[String],
+    files: &mut F,
+    out: &mut O,
+    err: &mut E,
+) -> u8
+    ensures usage { (result ≡ 2) ↔ (asked (map string_bytes words.now) ≡ None) }
+    ensures known { result ≤ 3 }
+{
+    let Some(command) = command_of(words) else {
+        return usage(err);
+    };
+    match carry_out(alloc, command, files, out) {
+        Ok(()) => 0,
+        Err(failure) => report(&failure, err),
+    }
+}
+
+/// Writes what the command gives, whole, once it is made.
+fn carry_out<'w, F: Files, O: Write>(
+    alloc: Global,
+    command: Command<'w>,
+    files: &mut F,
+    out: &mut O,
+) -> Result<(), Failure<'w>> {
+    let text = outcome(alloc, command, files)?;
+    match out.write_all(text.as_bytes()) {
+        Ok(()) => Ok(()),
+        Err(_) => Err(Failure::Write("standard output")),
+    }
+}
+
+/// Says why there are no words, and gives the exit status: 3 where there was no memory for them, and else 2, since a word is
+/// no text.
+pub fn refuse_words<E: Write>(why: io::ErrorKind, err: &mut E) -> u8
+    ensures { (result ≡ 2) ⊎ (result ≡ 3) }
+{
+    match why {
+        io::ErrorKind::OutOfMemory => report(&Failure::Memory, err),
+        _ => usage(err),
+    }
+}
+
+/// Writes the line that says what the words may be.
+fn usage<E: Write>(err: &mut E) -> u8
+    ensures { result ≡ 2 }
+{
+    let _ = writeln!(err, "usage: logos gen|lex|strip|mermaid|export FILE ..");
+    2
+}
