@@ -397,6 +397,6 @@ fn agrees_with_a_plain_reader(rt: HostRuntime) -> Result<(), Fail> {
         PIECES_OF_FIELDS,
     )?;
     assert_eq!(rt; fields.as_str(), "");
-    assert!(rt; items + others + more > 4000);
+    assert!(rt; items.saturating_add(others).saturating_add(more) > 4000);
     Ok(())
 }
