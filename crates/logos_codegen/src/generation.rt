@@ -131,21 +131,22 @@ fn accept<'s>(alloc: Global, src: &'s str) -> Result<(Graph<'s>, Ident<'s>), Ref
     ensures err { IfErr result (Refuses (IsRefused src.now)) }
     ensures long { 16777216 < length src.now → IsErrAnd result (Refuses (λ faults. faults ≡ too_long src.now ∷ [])) }
 {
-    let (item, span) = read_source(alloc, src)?;
+    let (item, span) = match read_source(alloc, src) {
+        Ok(read) => read,
+        Err(refusal) => return Err(refusal),
+    };
     let mut errors = Errors::new(alloc);
     let leaves = leaves_of(alloc, &item.definitions, &mut errors)?;
     list_not_utf8(alloc, item.utf8_mode, &leaves, &mut errors)?;
-    let Some(graph) = graph_of(alloc, leaves, item.utf8_mode, span, &mut errors)? else {
-        return Err(Refusal::Errors(errors));
-    };
-    if !is_faultless(&errors) {
-        return Err(Refusal::Errors(errors));
+    match graph_of(alloc, leaves, item.utf8_mode, span, &mut errors) {
+        Ok(Some(graph)) if is_faultless(&errors) => Ok((graph, item.name)),
+        Ok(_) => Err(Refusal::Errors(errors)),
+        Err(_) => Err(Refusal::Memory),
     }
-    Ok((graph, item.name))
 }
 
 // The code of a graph that finds the longest matches, for the enum with this name, which is this type.
-fn code_of<'g, 's>(
+fn code_for<'g, 's>(
     alloc: Global,
     config: Config,
     name: Ident<'s>,
@@ -159,6 +160,22 @@ fn code_of<'g, 's>(
 {
     let mut generator = Generator::new(alloc, config, name, this, graph, None);
     generator.generate(alloc)
+}
+
+// The code of a graph that finds the longest matches, for the enum with this name, which has no parameters.
+fn code_of<'s>(
+    alloc: Global,
+    config: Config,
+    name: Ident<'s>,
+    graph: &Graph<'s>,
+) -> Result<Code<'s>, AllocError>
+    requires of_leaves { IsGraphOf graph.now.leaves graph.now.utf8 graph.now }
+    requires faultless { graph.now.faults ≡ [] }
+    ensures lexer { IfOk result (IsLexer (rules_of graph.now.leaves) graph.now.utf8) }
+    ensures keeps { IfOk result (KeepsSource config (ident_slice name.entry) graph.now.leaves) }
+{
+    let this = TokenStream::from_ident(alloc, name)?;
+    code_for(alloc, config, name, &this, graph)
 }
 
 /// The code of the lexer that a source says.
@@ -189,8 +206,11 @@ pub fn generate<'s>(alloc: Global, src: &'s str, config: Config) -> Result<Gener
     // What has no faults, and passes no limit, is not refused.
     ensures complete { (rules : List Rule) (utf8 : Bool) → IsAccepted src.now rules utf8 → IsWithinLimits src.now rules → IfErr result IsMemory }
 {
-    let (graph, name) = accept(alloc, src)?;
-    let this = TokenStream::from_ident(alloc, name)?;
-    let code = code_of(alloc, config, name, &this, &graph)?;
-    Ok(Generated { code, graph, name })
+    match accept(alloc, src) {
+        Ok((graph, name)) => match code_of(alloc, config, name, &graph) {
+            Ok(code) => Ok(Generated { code, graph, name }),
+            Err(_) => Err(Refusal::Memory),
+        },
+        Err(refusal) => Err(refusal),
+    }
 }
