@@ -4,13 +4,16 @@
 # Each file of scripts/borrows is code that keeps a view for too long. Its first line names the error
 # that it has to meet. A line that ends with `// fault` is of that code alone; a line that ends with
 # `// sound` stands in its place in the same code without the fault. Both are put into a copy of the
-# crate of tokens, each as a module, and `rt check` reads the copy once and without a proof, which is
-# as far as the borrow checker. The script fails where a fault is not met, where the code without a
+# crate that they call, of tokens, of enums or of attributes, each as a module, and `rt check` reads that copy once
+# and without a proof, which is as far as the borrow checker. The script fails where a fault is not met, where the code without a
 # fault or the crate itself meets any, and where a file of the list is missing or another one stands.
 set -euo pipefail
 
-wanted="group_past_move group_returned run_of_temporary run_past_move run_returned text_past_source
+of_tokens="group_past_move group_returned run_of_temporary run_past_move run_returned text_past_source
 tree_past_block trees_past_write"
+of_enums="attribute_past_move attributes_of_enum_returned"
+of_pieces="piece_past_move piece_returned"
+wanted="$of_tokens $of_enums $of_pieces"
 
 scripts=$(cd "$(dirname "${BASH_SOURCE[0]}")" && pwd)
 copy=$(mktemp -d)
@@ -25,30 +28,41 @@ fail() {
 found=$(cd "$scripts/borrows" && for edit in *; do echo "${edit%.edit}"; done | sort | xargs)
 [ "$found" = "$(echo $wanted | tr ' ' '\n' | sort | xargs)" ] || fail "other files than those of the list: $found"
 
-tar -C "$scripts/.." --exclude=out -cf - crates crates.txt HANDLES | tar -C "$copy" -xf -
-cd "$copy/crates/logos_token"
-for name in $wanted; do
-    edit="$scripts/borrows/$name.edit"
-    for version in fault sound; do
-        grep -q "// $version\$" "$edit" || fail "$name has no line of the $version"
+# Tries the files of these names in a copy of a crate.
+try_in() {
+    local crate=$1
+    shift
+    rm -rf "$copy/crates"
+    tar -C "$scripts/.." --exclude=out -cf - crates crates.txt HANDLES | tar -C "$copy" -xf -
+    cd "$copy/crates/$crate"
+    for name in "$@"; do
+        local edit="$scripts/borrows/$name.edit"
+        for version in fault sound; do
+            grep -q "// $version\$" "$edit" || fail "$name has no line of the $version"
+        done
+        sed -e '/\/\/ sound$/d' -e 's| *// fault$||' "$edit" > "src/$name.rt"
+        sed -e '/\/\/ fault$/d' -e 's| *// sound$||' "$edit" > "src/${name}_sound.rt"
+        printf 'mod %s;\nmod %s_sound;\n' "$name" "$name" >> src/lib.rt
     done
-    sed -e '/\/\/ sound$/d' -e 's| *// fault$||' "$edit" > "src/$name.rt"
-    sed -e '/\/\/ fault$/d' -e 's| *// sound$||' "$edit" > "src/${name}_sound.rt"
-    printf 'mod %s;\nmod %s_sound;\n' "$name" "$name" >> src/lib.rt
-done
 
-if rt check --only "" > "$copy/log" 2>&1; then
-    fail "all of it compiles"
-fi
-for name in $wanted; do
-    error=$(sed -n '1s|^// \([a-z0-9-]*\): .*|\1|p' "$scripts/borrows/$name.edit")
-    met=$(grep -c "^src/$name.rt:[0-9:]* error\[$error\]" "$copy/log" || true)
-    [ "$met" = 1 ] || fail "$name meets $error $met times"
-    grep -v "^src/$name.rt:[0-9:]* error\[$error\]" "$copy/log" > "$copy/rest" || true
-    mv "$copy/rest" "$copy/log"
-    echo "borrows: $name meets $error"
-done
-if grep -q 'error' "$copy/log"; then
-    fail "another error is met"
-fi
+    if rt check --only "" > "$copy/log" 2>&1; then
+        fail "all of it compiles"
+    fi
+    for name in "$@"; do
+        local error met
+        error=$(sed -n '1s|^// \([a-z0-9-]*\): .*|\1|p' "$scripts/borrows/$name.edit")
+        met=$(grep -c "^src/$name.rt:[0-9:]* error\[$error\]" "$copy/log" || true)
+        [ "$met" = 1 ] || fail "$name meets $error $met times"
+        grep -v "^src/$name.rt:[0-9:]* error\[$error\]" "$copy/log" > "$copy/rest" || true
+        mv "$copy/rest" "$copy/log"
+        echo "borrows: $name meets $error"
+    done
+    if grep -q 'error' "$copy/log"; then
+        fail "another error is met"
+    fi
+}
+
+try_in logos_token $of_tokens
+try_in logos_item $of_enums
+try_in logos_attribute $of_pieces
 echo "borrows: none of $(echo $wanted | wc -w) views that outlive their buffers compiles, and the same code without the fault does"

@@ -15,7 +15,7 @@ pub use generation::{Generated, generate};
 pub use lexing::{LexSourceError, lex_source};
 pub use logos_generator::{code, generator, machine};
 pub use logos_graph::graph;
-pub use logos_parser::parser;
+pub use logos_parser::{item, nested, parser};
 pub use logos_pattern::{leaf, pattern};
 pub use logos_token::{error, token, util};
 pub use refusal::Refusal;

@@ -1,6 +1,7 @@
-//! What the public calls answer, by example: a module for each of the crates that users know, and one for types.
+//! What the public calls answer, by example: a module for each of the crates that users know, and those for the enum and for types.
 
 mod graphs;
+mod items;
 mod parser;
 mod patterns;
 mod tokens;

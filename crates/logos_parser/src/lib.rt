@@ -2,4 +2,6 @@
 
 #![tactic(auto)]
 
+pub mod item;
+pub mod nested;
 pub mod parser;

@@ -2,7 +2,7 @@
 ghost use Rattle.std.specs.Prelude.{true, ◌≡◌, ◌≢◌, ℕ, ◌+◌, ◌-◌, ◌*◌, ◌<◌, ◌≤◌, ◌↔◌, Some, OnSome, OnOk, IfOk, IsTrue, length, vec_len, slice_index, option_map};
 ghost use Rattle.logos_reduce.specs.Merge.{target_block, IsSound};
 ghost use Rattle.logos_reduce.specs.inside.Merge.{IsFiner};
-ghost use Rattle.logos_reduce.specs.Lists.{has, has_in};
+ghost use Rattle.logos_reduce.specs.Lists.{has, has_in, ArePredecessors};
 ghost use Rattle.logos_reduce.specs.inside.Lists.{AreFiled, AreSources, AreHits};
 ghost use Rattle.logos_reduce.specs.Table.{size, to};
 ghost use Rattle.logos_reduce.specs.Rows.{target_by};
@@ -157,6 +157,42 @@ fn split_by_symbol(
     Ok(split)
 }
 
+/// Splits the blocks by the states that lead into a block by one symbol, if it is used.
+fn split_if(
+    used: bool,
+    alloc: Global,
+    table: &Table,
+    work: Work,
+    sources: &Vec<usize>,
+    b: usize,
+    k: usize,
+) -> Result<Work, AllocError>
+    requires k_in { k < 257 }
+    requires len { vec_len work.blocks ≡ size table.now }
+    requires b_in { b < vec_len work.splits }
+    requires sources { AreSources (size table.now)
+        (target_block table.now (slice_index work.blocks.items)) sources.now.items b }
+    requires sound { IsSound table.now work.splits.items (slice_index work.blocks.items) }
+    ensures len { IfOk result (λ w. vec_len w.blocks ≡ vec_len work.blocks) }
+    ensures lists_len { IfOk result (λ w. vec_len w.lists ≡ vec_len work.lists) }
+    ensures sound { IfOk result (λ w.
+        IsSound table.now w.splits.items (slice_index w.blocks.items)) }
+    ensures finer { IfOk result (λ w.
+        IsFiner (size table.now) (slice_index w.blocks.items) (slice_index work.blocks.items)) }
+    ensures falls { IfOk result (λ w.
+        2 * (vec_len w.lists - vec_len w.splits) + vec_len w.hints.todo
+        ≤ 2 * (vec_len work.lists - vec_len work.splits) + vec_len work.hints.todo) }
+    ensures b_in { IfOk result (λ w. b < vec_len w.splits) }
+    ensures sources { IfOk result
+        (λ w. AreSources (size table.now)
+        (target_block table.now (slice_index w.blocks.items)) sources.now.items b) }
+{
+    if used {
+        return split_by_symbol(alloc, table, work, sources, b, k);
+    }
+    Ok(work)
+}
+
 /// Notes the symbols by which a row leads into a block.
 fn note_symbols(used: &mut [bool; 257], row: &Row, blocks: &Vec<usize>, b: usize)
     requires { (k t : ℕ) → target_by row.now k ≡ Some t → t < vec_len blocks.now }
@@ -209,9 +245,7 @@ fn split_by_block(
     let mut split = work;
     let used = symbols_into(table, &split.blocks, sources, b);
     for k in 0..WIDTH {
-        if used[k] {
-            split = split_by_symbol(alloc, table, split, sources, b, k)?;
-        }
+        split = split_if(used[k], alloc, table, split, sources, b, k)?;
     }
     Ok(split)
 }
@@ -292,6 +326,61 @@ fn start(alloc: Global, blocks: Blocks, room: usize) -> Result<Work, AllocError>
     })
 }
 
+/// Splits the blocks by the states that lead into a block, if there is such a block, and notes that
+/// it was looked at.
+fn look_at(
+    alloc: Global,
+    table: &Table,
+    from: &Vec<Vec<usize>>,
+    work: Work,
+    b: usize,
+) -> Result<Work, AllocError>
+    requires len { vec_len work.blocks ≡ size table.now }
+    requires from_len { vec_len from.now ≡ size table.now }
+    requires from { ArePredecessors (size table.now) 257 (to table.now) from.now.items }
+    requires sound { IsSound table.now work.splits.items (slice_index work.blocks.items) }
+    ensures len { IfOk result (λ w. vec_len w.blocks ≡ size table.now) }
+    ensures sound { IfOk result (λ w.
+        IsSound table.now w.splits.items (slice_index w.blocks.items)) }
+    ensures finer { IfOk result (λ w.
+        IsFiner (size table.now) (slice_index w.blocks.items) (slice_index work.blocks.items)) }
+    ensures falls { IfOk result (λ w.
+        2 * (vec_len w.lists - vec_len w.splits) + vec_len w.hints.todo
+        ≤ 2 * (vec_len work.lists - vec_len work.splits) + vec_len work.hints.todo) }
+{
+    if work.splits.len() <= b {
+        return Ok(work);
+    }
+    let sources = sources_of(alloc, &work, from, b)?;
+    let mut split = split_by_block(alloc, table, work, &sources, b)?;
+    split.finish(b);
+    Ok(split)
+}
+
+/// Splits the blocks as far as the list of what is to do goes.
+fn look_at_all(
+    alloc: Global,
+    table: &Table,
+    from: &Vec<Vec<usize>>,
+    work: Work,
+) -> Result<Work, AllocError>
+    requires len { vec_len work.blocks ≡ size table.now }
+    requires from_len { vec_len from.now ≡ size table.now }
+    requires from { ArePredecessors (size table.now) 257 (to table.now) from.now.items }
+    requires sound { IsSound table.now work.splits.items (slice_index work.blocks.items) }
+    ensures len { IfOk result (λ w. vec_len w.blocks ≡ size table.now) }
+    ensures sound { IfOk result (λ w.
+        IsSound table.now w.splits.items (slice_index w.blocks.items)) }
+    ensures finer { IfOk result (λ w.
+        IsFiner (size table.now) (slice_index w.blocks.items) (slice_index work.blocks.items)) }
+{
+    let mut split = work;
+    while let Some(b) = split.next() {
+        split = look_at(alloc, table, from, split, b)?;
+    }
+    Ok(split)
+}
+
 /// The blocks, split as far as the list of what is to do goes.
 pub fn refine(alloc: Global, table: &Table, blocks: Blocks) -> Result<Blocks, AllocError>
     requires len { vec_len blocks.of ≡ size table.now }
@@ -306,13 +395,7 @@ pub fn refine(alloc: Global, table: &Table, blocks: Blocks) -> Result<Blocks, Al
     }
     let from = predecessors(alloc, table, WIDTH)?;
     let room = blocks.splits.len().max(table.len());
-    let mut work = start(alloc, blocks, room)?;
-    while let Some(b) = work.next() {
-        if b < work.splits.len() {
-            let sources = sources_of(alloc, &work, &from, b)?;
-            work = split_by_block(alloc, table, work, &sources, b)?;
-            work.finish(b);
-        }
-    }
-    Ok(work.into_blocks())
+    let work = start(alloc, blocks, room)?;
+    let split = look_at_all(alloc, table, &from, work)?;
+    Ok(split.into_blocks())
 }

@@ -101,6 +101,69 @@ fn choose_twins(
     Ok(())
 }
 
+/// Forgets the hits of these blocks.
+fn forget_all(hints: &mut Hints, homes: &Vec<usize>)
+    requires { (i : ℕ) → i < vec_len homes.now →
+        slice_index homes.now.items i < vec_len hints.old.sizes }
+    ensures todo { vec_len hints.new.todo ≡ vec_len hints.old.todo }
+    ensures sizes { vec_len hints.new.sizes ≡ vec_len hints.old.sizes }
+{
+    for home in homes {
+        hints.forget(*home);
+    }
+}
+
+/// New blocks for the blocks that are cut, whose hits are forgotten then.
+fn choose_once(
+    hints: &mut Hints,
+    twins: &mut Vec<usize>,
+    splits: &mut Vec<Split>,
+    homes: &Vec<usize>,
+    symbol: usize,
+) -> Result<(), AllocError>
+    requires room { vec_len twins.old ≡ vec_len hints.old.sizes }
+    requires fits { vec_len splits.old ≤ vec_len twins.old }
+    requires homes_in { (i : ℕ) → i < vec_len homes.now →
+        slice_index homes.now.items i < vec_len splits.old }
+    requires below { (c : ℕ) → slice_index twins.old.items c < vec_len splits.old }
+    ensures len { vec_len twins.new ≡ vec_len twins.old }
+    ensures sizes { vec_len hints.new.sizes ≡ vec_len hints.old.sizes }
+    ensures fits { OnOk result (vec_len splits.new ≤ vec_len twins.old) }
+    ensures todo { OnOk result (vec_len hints.new.todo + vec_len splits.old
+        ≤ vec_len hints.old.todo + vec_len splits.new) }
+    ensures below { OnOk result ((c : ℕ) → slice_index twins.new.items c < vec_len splits.new) }
+    ensures twins { OnOk result
+        (AreTwins (vec_len splits.old) symbol twins.new.items splits.new.items) }
+    ensures goes_on { OnOk result (Continues splits.old.items splits.new.items) }
+{
+    choose_twins(hints, twins, splits, homes, symbol)?;
+    forget_all(hints, homes);
+    Ok(())
+}
+
+/// Moves a state to a block.
+fn move_to(
+    blocks: &mut Vec<usize>,
+    lists: &mut Vec<Vec<usize>>,
+    s: usize,
+    block: usize,
+) -> Result<(), AllocError>
+    requires s_in { s < vec_len blocks.old }
+    requires block_in { block < vec_len lists.old }
+    requires filed { AreFiled (vec_len blocks.old) (slice_index blocks.old.items) lists.old.items }
+    ensures len { vec_len blocks.new ≡ vec_len blocks.old }
+    ensures lists_len { vec_len lists.new ≡ vec_len lists.old }
+    ensures moved { OnOk result (slice_index blocks.new.items s ≡ block) }
+    ensures others { (t : ℕ) → t ≢ s →
+        slice_index blocks.new.items t ≡ slice_index blocks.old.items t }
+    ensures filed { OnOk result (AreFiled (vec_len blocks.old)
+        (slice_index blocks.new.items) lists.new.items) }
+{
+    file(lists, block, s)?;
+    blocks[s] = block;
+    Ok(())
+}
+
 /// Moves a hit to the block that it goes to.
 fn move_hit(
     blocks: &mut Vec<usize>,
@@ -130,9 +193,7 @@ fn move_hit(
     if twin < fresh {
         return Ok(());
     }
-    file(lists, twin, s)?;
-    blocks[s] = twin;
-    Ok(())
+    move_to(blocks, lists, s, twin)
 }
 
 /// Moves the hits to the blocks that they go to.
@@ -208,10 +269,7 @@ pub fn split_on(
     } = work;
     let fresh = splits.len();
     let homes = homes_of(alloc, &mut hints, &blocks, hits)?;
-    choose_twins(&mut hints, &mut twins, &mut splits, &homes, symbol)?;
-    for home in &homes {
-        hints.forget(*home);
-    }
+    choose_once(&mut hints, &mut twins, &mut splits, &homes, symbol)?;
     move_hits(&mut blocks, &mut lists, &twins, fresh, hits)?;
     Ok(Work {
         blocks,

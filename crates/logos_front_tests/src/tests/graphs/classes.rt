@@ -59,21 +59,23 @@ fn holds_first(alloc: Global, ranges: &[(u8, u8)], cases: &[(u8, bool)]) -> Resu
     Ok(true)
 }
 
+/// Bytes in and around the ranges 5 to 10 and 12 to 16.
+const AROUND_A_HOLE: &[(u8, bool)] = &[
+    (5, true),
+    (10, true),
+    (16, true),
+    (4, false),
+    (11, false),
+    (17, false),
+];
+
 #[test]
 fn a_hole_of_one_byte_is_an_exception(rt: HostRuntime) -> Result<(), Fail> {
     let alloc = rt.alloc();
     let ranges = [(5, 10), (12, 16)];
     let wanted: [(RangeInclusive<u8>, &[u8], usize); 1] = [(5..=16, &[11], 3)];
     assert!(rt; is_compared(alloc, &ranges, &wanted)?);
-    let cases = [
-        (5, true),
-        (10, true),
-        (16, true),
-        (4, false),
-        (11, false),
-        (17, false),
-    ];
-    assert!(rt; holds_first(alloc, &ranges, &cases)?);
+    assert!(rt; holds_first(alloc, &ranges, AROUND_A_HOLE)?);
     Ok(())
 }
 
@@ -95,10 +97,18 @@ fn wrong_count(alloc: Global, cases: &[(u8, u8, usize)]) -> Option<u8> {
     None
 }
 
+/// The first and the last byte of a range, and the number of its operations.
+const OPERATIONS: &[(u8, u8, usize)] = &[
+    (0, 255, 0),
+    (7, 7, 1),
+    (0, 9, 1),
+    (9, 255, 1),
+    (9, 12, 2),
+];
+
 #[test]
 fn operations(rt: HostRuntime) {
-    let cases = [(0, 255, 0), (7, 7, 1), (0, 9, 1), (9, 255, 1), (9, 12, 2)];
-    assert_eq!(rt; wrong_count(rt.alloc(), &cases), None);
+    assert_eq!(rt; wrong_count(rt.alloc(), OPERATIONS), None);
 }
 
 /// The number of the first of the classes that is separated otherwise than is said beside it.
@@ -114,18 +124,20 @@ fn wrong_separated(
     Ok(None)
 }
 
+/// Ranges, and whether they are in order and separated.
+const SEPARATED: &[(&[(u8, u8)], bool)] = &[
+    (&[], true),
+    (&[(0, 255)], true),
+    (&[(1, 2), (4, 4)], true),
+    (&[(1, 2), (3, 4)], false),
+    (&[(4, 4), (1, 2)], false),
+    (&[(1, 5), (3, 9)], false),
+    (&[(2, 1)], false),
+];
+
 #[test]
 fn separated(rt: HostRuntime) -> Result<(), Fail> {
-    let cases: [(&[(u8, u8)], bool); 7] = [
-        (&[], true),
-        (&[(0, 255)], true),
-        (&[(1, 2), (4, 4)], true),
-        (&[(1, 2), (3, 4)], false),
-        (&[(4, 4), (1, 2)], false),
-        (&[(1, 5), (3, 9)], false),
-        (&[(2, 1)], false),
-    ];
-    assert_eq!(rt; wrong_separated(rt.alloc(), &cases)?, None);
+    assert_eq!(rt; wrong_separated(rt.alloc(), SEPARATED)?, None);
     Ok(())
 }
 
@@ -151,18 +163,20 @@ fn wrong_merge(
     Ok(None)
 }
 
+/// Ranges that are added one after another, and the class behind each.
+const MERGED: &[(&[(u8, u8)], &[(u8, u8)])] = &[
+    (
+        &[(3, 3), (255, 255), (0, 0)],
+        &[(0, 3), (10, 20), (255, 255)],
+    ),
+    (&[], &[(0, 3), (10, 20), (255, 255)]),
+    (&[(0, 255)], &[(0, 255)]),
+];
+
 #[test]
 fn merged(rt: HostRuntime) -> Result<(), Fail> {
     let ranges = [(10, 12), (1, 2), (11, 20)];
-    let steps: [(&[(u8, u8)], &[(u8, u8)]); 3] = [
-        (
-            &[(3, 3), (255, 255), (0, 0)],
-            &[(0, 3), (10, 20), (255, 255)],
-        ),
-        (&[], &[(0, 3), (10, 20), (255, 255)]),
-        (&[(0, 255)], &[(0, 255)]),
-    ];
-    assert_eq!(rt; wrong_merge(rt.alloc(), &ranges, &steps)?, None);
+    assert_eq!(rt; wrong_merge(rt.alloc(), &ranges, MERGED)?, None);
     Ok(())
 }
 

@@ -1,0 +1,9 @@
+use Rattle.logos_token.specs.Views.{tokens_of}
+use Rattle.logos_attribute.specs.Slices.{ident_slice, literal_slice}
+use Rattle.logos_token.specs.Tokens.{TokenList}
+use Rattle.logos_attribute.specs.Pieces.{named, beside}
+use Rattle.logos_attribute.proofs.PieceLemmas.{through_is}
+use Rattle.logos_attribute.proofs.nested.beside_at.Goals as goal
+
+pub returns : goal.returns
+returns c = through_is (λ (run : TokenList). named (ident_slice c.args.name) (beside (literal_slice c.args.literal))) (tokens_of c.args.tokens) _ _ _ c.run_at.ensures.run c.run_at.ensures.behind c.begin.ensures.pieces

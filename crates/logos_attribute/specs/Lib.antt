@@ -1,0 +1,4 @@
+pub mod Nested
+pub mod Pieces
+pub mod Slices
+pub mod inside

@@ -1,0 +1,85 @@
+-- The pieces of an attribute's argument: runs of tokens between lone commas, each with its form.
+use Rattle.std.specs.Prelude.{ℕ, Bool, List, [], ◌∷◌, if◌then◌else◌}
+use Rattle.logos_lexeme.specs.declared.lexeme.Span.{Span}
+use Rattle.logos_lexeme.specs.declared.lexeme.Spacing.{Spacing}
+use Rattle.logos_token.specs.Tokens.{Token, TokenList, identifier, literal, group, none, also}
+use Rattle.logos_token.specs.Punctuation.{is_alone}
+use Rattle.logos_attribute.specs.Slices.{Slice}
+
+-- `,`
+abbrev pub comma : ℕ
+comma = 44
+
+-- `=`
+abbrev pub equals : ℕ
+equals = 61
+
+-- what stands behind a name
+pub data PieceValue : Type 0 where
+  -- `= run`
+  assigned : (run : TokenList) → PieceValue
+  -- a literal
+  beside : (text : Slice) → PieceValue
+  -- a group with this run inside
+  grouped : (run : TokenList) → PieceValue
+  -- a second name, and `= run`
+  keyed : (name : Slice) (run : TokenList) → PieceValue
+
+-- a piece
+pub data Piece : Type 0 where
+  unnamed : (run : TokenList) → Piece
+  named : (name : Slice) (value : PieceValue) → Piece
+  unexpected : (run : TokenList) → Piece
+
+-- the tokens in front of the first lone comma
+abbrev pub up_to_comma : TokenList → TokenList
+up_to_comma none = none
+up_to_comma (also token rest) = if is_alone comma token then none else also token (up_to_comma rest)
+
+-- the tokens behind the first lone comma
+abbrev pub behind_comma : TokenList → TokenList
+behind_comma none = none
+behind_comma (also token rest) = if is_alone comma token then rest else behind_comma rest
+
+abbrev pub name_token : Slice → Token
+name_token name = identifier name.text name.span
+
+abbrev mutual
+  -- All pieces, where one begins. Its first token belongs to it, even a comma.
+  pub pieces : TokenList → List Piece
+  pieces none = []
+  pieces (also (identifier text span) rest) = behind_name (record { text = text; span = span }) rest
+  pieces (also token rest) = through_comma (λ run. unnamed (also token run)) rest
+
+  -- Behind a name. Tokens between a literal and the comma are left out.
+  pub behind_name : Slice → TokenList → List Piece
+  behind_name name none = unnamed (also (name_token name) none) ∷ []
+  behind_name name (also (literal text span) rest) = through_comma (λ run. named name (beside (record { text = text; span = span }))) rest
+  behind_name name (also (group delimiter span inside) rest) = named name (grouped inside) ∷ behind_group rest
+  behind_name name (also (identifier text span) rest) = behind_keyword name (record { text = text; span = span }) rest
+  behind_name name (also token rest) =
+      if is_alone equals token then through_comma (λ run. named name (assigned run)) rest
+      else (if is_alone comma token then unnamed (also (name_token name) none) ∷ pieces rest
+      else through_comma (λ run. unnamed (also (name_token name) (also token run))) rest)
+
+  -- behind a name and a group: tokens that are no comma are a piece of their own
+  pub behind_group : TokenList → List Piece
+  behind_group none = []
+  behind_group (also token rest) =
+      if is_alone comma token then pieces rest
+      else through_comma (λ run. unexpected (also token run)) rest
+
+  -- behind two names: `=`; a comma in its place, or nothing, counts as one
+  pub behind_keyword : Slice → Slice → TokenList → List Piece
+  behind_keyword keyword name none = named keyword (keyed name none) ∷ []
+  behind_keyword keyword name (also token rest) =
+      if is_alone equals token then through_comma (λ run. named keyword (keyed name run)) rest
+      else (if is_alone comma token then through_comma (λ run. named keyword (keyed name run)) rest
+      else through_comma (λ run. unexpected (also token run)) rest)
+
+  -- a piece made of the tokens up to the next lone comma, and the pieces behind that comma
+  pub through_comma : (TokenList → Piece) → TokenList → List Piece
+  through_comma piece none = piece none ∷ []
+  through_comma piece (also token rest) =
+      if is_alone comma token then piece none ∷ pieces rest
+      else through_comma (λ run. piece (also token run)) rest

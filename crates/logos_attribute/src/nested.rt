@@ -1,0 +1,334 @@
+//! The pieces of an attribute's argument: views of its tokens, which copy nothing.
+ghost use Rattle.std.specs.Prelude.{◌≡◌, MatchOption, []};
+ghost use Rattle.logos_token.specs.Tokens.{Token, TokenList, none, also, append, rest_of};
+ghost use Rattle.logos_token.specs.Views.{tokens_of, tree_of};
+ghost use Rattle.logos_attribute.specs.Slices.{ident_slice, literal_slice};
+ghost use Rattle.logos_attribute.specs.Pieces.{up_to_comma, behind_comma, pieces, behind_name};
+ghost use Rattle.logos_attribute.specs.Pieces.{behind_group, behind_keyword, through_comma};
+ghost use Rattle.logos_attribute.specs.Pieces.{name_token, named, assigned, beside, keyed};
+ghost use Rattle.logos_attribute.specs.Pieces.{unnamed, unexpected};
+ghost use Rattle.logos_attribute.specs.inside.Cutting.{first_run, behind_mark};
+ghost use Rattle.logos_attribute.specs.Nested.{Cuts, IsSplit, piece_of, pieces_left};
+
+use logos_token::token::{Ident, Literal, TokenTree, Tokens};
+use logos_token::util::is_punct;
+
+/// What stands behind the name of a piece.
+#[derive(Clone, Copy)]
+pub enum NestedValue<'t, 's> {
+    /// `name = ..`
+    Assign(Tokens<'t, 's>),
+    /// `name "literal"`
+    Literal(Literal<'s>),
+    /// `name(..)`, with what is inside.
+    Group(Tokens<'t, 's>),
+    /// `name ident = ..`
+    KeywordAssign(Ident<'s>, Tokens<'t, 's>),
+}
+
+/// A piece of an attribute's argument: a view, which copies nothing.
+#[derive(Clone, Copy)]
+pub enum Nested<'t, 's> {
+    /// What begins with no name, or with a name and nothing that belongs to it.
+    Unnamed(Tokens<'t, 's>),
+    /// A name and its value.
+    Named(Ident<'s>, NestedValue<'t, 's>),
+    /// Tokens that belong to no piece.
+    Unexpected(Tokens<'t, 's>),
+}
+
+/// Cuts an attribute's argument into pieces, at each comma that no punctuation follows directly.
+#[derive(Clone, Copy)]
+pub struct AttributeParser<'t, 's> {
+    rest: Tokens<'t, 's>,
+    /// Whether the last piece was a name with a group.
+    behind_group: bool,
+}
+
+/// The first tree, and the trees behind it.
+pub fn split<'t, 's>(tokens: Tokens<'t, 's>) -> Option<(TokenTree<'t, 's>, Tokens<'t, 's>)>
+    ensures { MatchOption result
+        (tokens_of tokens.entry ≡ none)
+        (λ read. IsSplit tokens.entry read.0 read.1) }
+{
+    let tree = tokens.first()?;
+    Some((tree, tokens.rest()))
+}
+
+/// The first lone comma and what is behind it; nothing where there is no such comma.
+fn comma_in<'t, 's>(tokens: Tokens<'t, 's>) -> Tokens<'t, 's>
+    ensures parts { tokens_of tokens.entry
+        ≡ append (up_to_comma (tokens_of tokens.entry)) (tokens_of result) }
+    ensures behind { rest_of (tokens_of result) ≡ behind_comma (tokens_of tokens.entry) }
+{
+    let mut rest = tokens;
+    while let Some((tree, behind)) = split(rest) {
+        if is_punct(&tree, ',') {
+            return rest;
+        }
+        rest = behind;
+    }
+    rest
+}
+
+/// The run up to the first lone comma, and what is behind that comma.
+fn run_at<'t, 's>(tokens: Tokens<'t, 's>) -> (Tokens<'t, 's>, Tokens<'t, 's>)
+    ensures run { tokens_of result.0 ≡ up_to_comma (tokens_of tokens.entry) }
+    ensures behind { tokens_of result.1 ≡ behind_comma (tokens_of tokens.entry) }
+{
+    let end = comma_in(tokens);
+    (tokens.before(end), end.rest())
+}
+
+/// The first tree, whatever it is, with the run up to the next lone comma; and what is behind that
+/// comma.
+fn run_from<'t, 's>(tokens: Tokens<'t, 's>) -> (Tokens<'t, 's>, Tokens<'t, 's>)
+    ensures run { tokens_of result.0 ≡ first_run (tokens_of tokens.entry) }
+    ensures behind { tokens_of result.1 ≡ behind_comma (rest_of (tokens_of tokens.entry)) }
+{
+    let end = comma_in(tokens.rest());
+    (tokens.before(end), end.rest())
+}
+
+/// The pieces that begin here.
+fn begin<'t, 's>(tokens: Tokens<'t, 's>) -> AttributeParser<'t, 's>
+    ensures pieces { pieces_left result ≡ pieces (tokens_of tokens.entry) }
+    ensures rest { result.rest ≡ tokens.entry }
+{
+    AttributeParser {
+        rest: tokens,
+        behind_group: false,
+    }
+}
+
+/// What is assigned to a name.
+fn assigned_at<'t, 's>(
+    name: Ident<'s>,
+    tokens: Tokens<'t, 's>,
+) -> (Nested<'t, 's>, AttributeParser<'t, 's>)
+    ensures { Cuts
+        (through_comma (λ run. named (ident_slice name.entry) (assigned run))
+        (tokens_of tokens.entry))
+        result.0 result.1 }
+{
+    let (run, rest) = run_at(tokens);
+    (Nested::Named(name, NestedValue::Assign(run)), begin(rest))
+}
+
+/// What is assigned to a second name.
+fn keyed_at<'t, 's>(
+    keyword: Ident<'s>,
+    name: Ident<'s>,
+    tokens: Tokens<'t, 's>,
+) -> (Nested<'t, 's>, AttributeParser<'t, 's>)
+    ensures { Cuts
+        (through_comma
+        (λ run. named (ident_slice keyword.entry) (keyed (ident_slice name.entry) run))
+        (tokens_of tokens.entry))
+        result.0 result.1 }
+{
+    let (run, rest) = run_at(tokens);
+    (
+        Nested::Named(keyword, NestedValue::KeywordAssign(name, run)),
+        begin(rest),
+    )
+}
+
+/// A name and a literal, and tokens up to the comma.
+fn beside_at<'t, 's>(
+    name: Ident<'s>,
+    literal: Literal<'s>,
+    tokens: Tokens<'t, 's>,
+) -> (Nested<'t, 's>, AttributeParser<'t, 's>)
+    ensures { Cuts
+        (through_comma
+        (λ run. named (ident_slice name.entry) (beside (literal_slice literal.entry)))
+        (tokens_of tokens.entry))
+        result.0 result.1 }
+{
+    let (_, rest) = run_at(tokens);
+    (
+        Nested::Named(name, NestedValue::Literal(literal)),
+        begin(rest),
+    )
+}
+
+/// Tokens that belong to no piece.
+fn unexpected_at<'t, 's>(tokens: Tokens<'t, 's>) -> (Nested<'t, 's>, AttributeParser<'t, 's>)
+    ensures { Cuts (through_comma (λ run. unexpected run) (tokens_of tokens.entry))
+        result.0 result.1 }
+{
+    let (run, rest) = run_at(tokens);
+    (Nested::Unexpected(run), begin(rest))
+}
+
+/// The first tree, whatever it is, and tokens up to the comma.
+fn unnamed_at<'t, 's>(tokens: Tokens<'t, 's>) -> (Nested<'t, 's>, AttributeParser<'t, 's>)
+    ensures { (first : Token) (rest : TokenList) → tokens_of tokens.entry ≡ also first rest →
+        Cuts (through_comma (λ run. unnamed (also first run)) rest) result.0 result.1 }
+{
+    let (run, rest) = run_from(tokens);
+    (Nested::Unnamed(run), begin(rest))
+}
+
+/// What stands behind two names.
+fn keyword_at<'t, 's>(
+    keyword: Ident<'s>,
+    name: Ident<'s>,
+    tokens: Tokens<'t, 's>,
+) -> (Nested<'t, 's>, AttributeParser<'t, 's>)
+    ensures { Cuts
+        (behind_keyword (ident_slice keyword.entry) (ident_slice name.entry)
+        (tokens_of tokens.entry))
+        result.0 result.1 }
+{
+    let Some((tree, rest)) = split(tokens) else {
+        return keyed_at(keyword, name, tokens);
+    };
+    if is_punct(&tree, '=') {
+        return keyed_at(keyword, name, rest);
+    }
+    if is_punct(&tree, ',') {
+        return keyed_at(keyword, name, rest);
+    }
+    unexpected_at(tokens)
+}
+
+/// What stands behind a name, with which `whole` begins, where that is no name, literal or group.
+fn mark_at<'t, 's>(
+    whole: Tokens<'t, 's>,
+    name: Ident<'s>,
+    tree: TokenTree<'t, 's>,
+    tokens: Tokens<'t, 's>,
+) -> (Nested<'t, 's>, AttributeParser<'t, 's>)
+    requires { tokens_of whole
+        ≡ also (name_token (ident_slice name)) (also (tree_of tree) (tokens_of tokens)) }
+    ensures { Cuts
+        (behind_mark (ident_slice name.entry) (tree_of tree.entry) (tokens_of tokens.entry))
+        result.0 result.1 }
+{
+    if is_punct(&tree, '=') {
+        return assigned_at(name, tokens);
+    }
+    unnamed_at(whole)
+}
+
+/// What stands behind a name, with which `whole` begins.
+fn name_at<'t, 's>(
+    whole: Tokens<'t, 's>,
+    name: Ident<'s>,
+    tokens: Tokens<'t, 's>,
+) -> (Nested<'t, 's>, AttributeParser<'t, 's>)
+    requires { tokens_of whole ≡ also (name_token (ident_slice name)) (tokens_of tokens) }
+    ensures { Cuts (behind_name (ident_slice name.entry) (tokens_of tokens.entry))
+        result.0 result.1 }
+{
+    match split(tokens) {
+        None => unnamed_at(whole),
+        Some((TokenTree::Literal(literal), rest)) => beside_at(name, literal, rest),
+        Some((TokenTree::Group(group), rest)) => (
+            Nested::Named(name, NestedValue::Group(group.run())),
+            AttributeParser {
+                rest,
+                behind_group: true,
+            },
+        ),
+        Some((TokenTree::Ident(second), rest)) => keyword_at(name, second, rest),
+        Some((TokenTree::Punct(punct), rest)) => mark_at(
+            whole,
+            name,
+            TokenTree::Punct(punct),
+            rest,
+        ),
+        Some((TokenTree::Doc(doc), rest)) => mark_at(whole, name, TokenTree::Doc(doc), rest),
+    }
+}
+
+/// The piece that begins here, and what is behind it.
+fn piece_at<'t, 's>(tokens: Tokens<'t, 's>) -> Option<(Nested<'t, 's>, AttributeParser<'t, 's>)>
+    ensures { MatchOption result
+        (pieces (tokens_of tokens.entry) ≡ [])
+        (λ read. Cuts (pieces (tokens_of tokens.entry)) read.0 read.1) }
+{
+    match split(tokens) {
+        None => None,
+        Some((TokenTree::Ident(name), rest)) => Some(name_at(tokens, name, rest)),
+        Some(_) => Some(unnamed_at(tokens)),
+    }
+}
+
+/// The piece that comes behind a name and a group, and what is behind it.
+fn piece_behind_group<'t, 's>(
+    tokens: Tokens<'t, 's>,
+) -> Option<(Nested<'t, 's>, AttributeParser<'t, 's>)>
+    ensures { MatchOption result
+        (behind_group (tokens_of tokens.entry) ≡ [])
+        (λ read. Cuts (behind_group (tokens_of tokens.entry)) read.0 read.1) }
+{
+    match split(tokens) {
+        None => None,
+        Some((tree, rest)) if is_punct(&tree, ',') => piece_at(rest),
+        Some(_) => Some(unexpected_at(tokens)),
+    }
+}
+
+impl<'t, 's> AttributeParser<'t, 's> {
+    ghost use Rattle.std.specs.Prelude.{◌≡◌, MatchOption, []};
+    ghost use Rattle.logos_token.specs.Tokens.{none};
+    ghost use Rattle.logos_token.specs.Views.{tokens_of};
+    ghost use Rattle.logos_attribute.specs.Pieces.{up_to_comma, behind_comma, pieces};
+    ghost use Rattle.logos_attribute.specs.Nested.{Cuts, pieces_left};
+
+    /// The pieces of a run.
+    pub fn new(tokens: Tokens<'t, 's>) -> AttributeParser<'t, 's>
+        ensures pieces { pieces_left result ≡ pieces (tokens_of tokens.entry) }
+        ensures rest { tokens_of result.rest ≡ tokens_of tokens.entry }
+    {
+        begin(tokens)
+    }
+
+    /// The tokens up to the next comma that cuts, which is taken with them. `None` where no token
+    /// is in front of it.
+    pub fn run(&mut self) -> Option<Tokens<'t, 's>>
+        ensures run { MatchOption result
+            (up_to_comma (tokens_of self.old.rest) ≡ none)
+            (λ run. tokens_of run ≡ up_to_comma (tokens_of self.old.rest)) }
+        ensures pieces { pieces_left self.new ≡ pieces (behind_comma (tokens_of self.old.rest)) }
+    {
+        let (run, rest) = run_at(self.rest);
+        *self = begin(rest);
+        if run.is_empty() {
+            return None;
+        }
+        Some(run)
+    }
+
+    /// The next piece, and the pieces behind it.
+    fn read(self) -> Option<(Nested<'t, 's>, AttributeParser<'t, 's>)>
+        ensures { MatchOption result
+            (pieces_left self.entry ≡ [])
+            (λ read. Cuts (pieces_left self.entry) read.0 read.1) }
+    {
+        if self.behind_group {
+            return piece_behind_group(self.rest);
+        }
+        piece_at(self.rest)
+    }
+}
+
+impl<'t, 's> Iterator for AttributeParser<'t, 's> {
+    type Item = Nested<'t, 's>;
+
+    ghost use Rattle.std.specs.Iterator.{YieldsFirstBy, item_count};
+    ghost use Rattle.logos_attribute.specs.Nested.{piece_of, pieces_left};
+
+    ghost next_gives = { YieldsFirstBy piece_of pieces_left };
+
+    ghost remaining = { item_count pieces_left };
+
+    fn next(&mut self) -> Option<Nested<'t, 's>> {
+        let (nested, rest) = self.read()?;
+        *self = rest;
+        Some(nested)
+    }
+}

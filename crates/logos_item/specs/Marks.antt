@@ -1,0 +1,56 @@
+-- The signs of an enum's grammar, and where a run begins.
+use Rattle.std.specs.Prelude.{ℕ, ◌==◌, not, Bool, true, false, List, ◌∷◌}
+use Rattle.logos_lexeme.specs.declared.lexeme.Span.{Span}
+use Rattle.logos_token.specs.Tokens.{TokenList, punctuation, none, also, span_of}
+
+-- `#`
+abbrev pub hash : ℕ
+hash = 35
+
+-- `'`
+abbrev pub quote : ℕ
+quote = 39
+
+-- `,`
+abbrev pub comma : ℕ
+comma = 44
+
+-- `-`
+abbrev pub dash : ℕ
+dash = 45
+
+-- `:`
+abbrev pub colon : ℕ
+colon = 58
+
+-- `<`
+abbrev pub less : ℕ
+less = 60
+
+-- `=`
+abbrev pub equals : ℕ
+equals = 61
+
+-- `>`
+abbrev pub greater : ℕ
+greater = 62
+
+-- where the first token is; 0..0 where there is none
+abbrev pub first_span : TokenList → Span
+first_span none = record { from = 0; to = 0 }
+first_span (also token rest) = span_of token
+
+-- whether this character comes first, of either spacing
+abbrev pub begins_with : ℕ → TokenList → Bool
+begins_with mark (also (punctuation character spacing span) rest) = character == mark
+begins_with mark run = false
+
+-- whether no token is left
+abbrev pub is_none : TokenList → Bool
+is_none none = true
+is_none (also token rest) = false
+
+-- whether a documentation comment is one of what follows it: its third byte is no `!`
+abbrev pub is_outer : List ℕ → Bool
+is_outer (first ∷ second ∷ third ∷ rest) = not (third == 33)
+is_outer text = false

@@ -1,0 +1,217 @@
+//! Attributes, and a visibility.
+ghost use Rattle.std.specs.Prelude.{◌≡◌, ◌<◌, ◌≤◌, List, Ok, Err, Some, None, MatchOption, MatchResult, IfSome, IfOk, IfErr};
+ghost use Rattle.logos_token.specs.Tokens.{none, also, punctuation, count_of, IsRestOf};
+ghost use Rattle.logos_token.specs.Views.{tokens_of, tree_of};
+ghost use Rattle.logos_item.specs.declared.error.ReadError.TheVariants.{Grammar};
+ghost use Rattle.logos_item.specs.Attributes.{is_path_mark, end_misfit, value_misfit, path_misfit, colon_misfit, segment_misfit, attribute_misfit, IsPathStep, behind_attributes, behind_hash, Attributes, behind_parenthesis, behind_visibility, behind_keyword};
+
+use crate::error::{Misfit, ReadError};
+use crate::tokens::{grammar_at, is_outer, misfit_at, split};
+use logos_token::token::{Delimiter, Punct, Spacing, Span, TokenTree, Tokens};
+
+/// Whether a punctuation is the first `:` of `::`, by its spacing.
+fn is_path_mark(punct: Punct) -> bool
+    ensures { result ≡ is_path_mark punct.character punct.spacing }
+{
+    match punct.spacing {
+        Spacing::Joint => punct.character == ':',
+        Spacing::Alone => false,
+    }
+}
+
+/// That no token is left.
+fn read_end(tokens: Tokens<'_, '_>) -> Result<(), Misfit>
+    ensures { MatchResult result (λ _. end_misfit (tokens_of tokens.entry) ≡ None)
+        (λ misfit. end_misfit (tokens_of tokens.entry) ≡ Some misfit.span) }
+{
+    match tokens.first() {
+        Some(tree) => Err(Misfit { span: tree.span() }),
+        None => Ok(()),
+    }
+}
+
+/// That a token is left.
+fn read_value(tokens: Tokens<'_, '_>) -> Result<(), Misfit>
+    ensures { MatchResult result (λ _. value_misfit (tokens_of tokens.entry) ≡ None)
+        (λ misfit. value_misfit (tokens_of tokens.entry) ≡ Some misfit.span) }
+{
+    match split(tokens) {
+        Some(_) => Ok(()),
+        None => Err(Misfit {
+            span: Span { from: 0, to: 0 },
+        }),
+    }
+}
+
+/// What is behind an identifier of a path.
+fn read_segment<'t, 's>(tokens: Tokens<'t, 's>) -> Result<Tokens<'t, 's>, Misfit>
+    ensures { MatchResult result
+        (λ rest. (segment_misfit (tokens_of tokens.entry) ≡ path_misfit (tokens_of rest))
+        × (count_of (tokens_of rest) < count_of (tokens_of tokens.entry)))
+        (λ misfit. segment_misfit (tokens_of tokens.entry) ≡ Some misfit.span) }
+{
+    match split(tokens) {
+        Some((TokenTree::Ident(_), rest)) => Ok(rest),
+        _ => Err(misfit_at(tokens)),
+    }
+}
+
+/// What is behind the second `:` of `::` and an identifier.
+fn read_colon<'t, 's>(tokens: Tokens<'t, 's>) -> Result<Tokens<'t, 's>, Misfit>
+    ensures { MatchResult result
+        (λ rest. (colon_misfit (tokens_of tokens.entry) ≡ path_misfit (tokens_of rest))
+        × (count_of (tokens_of rest) < count_of (tokens_of tokens.entry)))
+        (λ misfit. colon_misfit (tokens_of tokens.entry) ≡ Some misfit.span) }
+{
+    match split(tokens) {
+        Some((TokenTree::Punct(punct), rest)) if punct.character == ':' => read_segment(rest),
+        _ => Err(misfit_at(tokens)),
+    }
+}
+
+/// What is behind a punctuation that stands behind a path, where the path goes on; `None` where it is well formed to its end.
+fn path_step_at<'t, 's>(
+    punct: Punct,
+    tokens: Tokens<'t, 's>,
+) -> Result<Option<Tokens<'t, 's>>, Misfit>
+    ensures { IsPathStep (also (punctuation punct.character punct.spacing punct.span) (tokens_of tokens.entry)) result }
+{
+    if is_path_mark(punct) {
+        return Ok(Some(read_colon(tokens)?));
+    }
+    if punct.character == '=' {
+        read_value(tokens)?;
+        return Ok(None);
+    }
+    Err(Misfit { span: punct.span })
+}
+
+/// What is behind one more `::` and identifier of a path; `None` where what is behind the path is well formed to its end.
+fn path_step<'t, 's>(tokens: Tokens<'t, 's>) -> Result<Option<Tokens<'t, 's>>, Misfit>
+    ensures { IsPathStep (tokens_of tokens.entry) result }
+{
+    match split(tokens) {
+        None => Ok(None),
+        Some((TokenTree::Group(_), rest)) => {
+            read_end(rest)?;
+            Ok(None)
+        }
+        Some((TokenTree::Punct(punct), rest)) => path_step_at(punct, rest),
+        Some((tree, _)) => Err(Misfit { span: tree.span() }),
+    }
+}
+
+/// That what is behind the first identifier of an attribute's path is well formed.
+fn read_path(tokens: Tokens<'_, '_>) -> Result<(), Misfit>
+    ensures { MatchResult result (λ _. path_misfit (tokens_of tokens.entry) ≡ None)
+        (λ misfit. path_misfit (tokens_of tokens.entry) ≡ Some misfit.span) }
+{
+    let mut rest = tokens;
+    while let Some(next) = path_step(rest)? {
+        rest = next;
+    }
+    Ok(())
+}
+
+/// That what the brackets of an attribute hold is well formed.
+fn check_attribute(tokens: Tokens<'_, '_>) -> Result<(), Misfit>
+    ensures { MatchResult result (λ _. attribute_misfit (tokens_of tokens.entry) ≡ None)
+        (λ misfit. attribute_misfit (tokens_of tokens.entry) ≡ Some misfit.span) }
+{
+    match split(tokens) {
+        Some((TokenTree::Ident(_), rest)) => read_path(rest),
+        Some((TokenTree::Punct(punct), rest)) if is_path_mark(punct) => {
+            let rest = read_colon(rest)?;
+            read_path(rest)
+        }
+        _ => Err(misfit_at(tokens)),
+    }
+}
+
+/// What is behind the brackets of an attribute, behind whose `#` the tokens are.
+fn skip_brackets<'t, 's>(tokens: Tokens<'t, 's>) -> Result<Tokens<'t, 's>, ReadError>
+    ensures value { MatchResult result
+        (λ rest. (behind_hash (tokens_of tokens.entry) ≡ behind_attributes (tokens_of rest))
+        × (count_of (tokens_of rest) < count_of (tokens_of tokens.entry)))
+        (λ error. behind_hash (tokens_of tokens.entry) ≡ Err error) }
+    ensures front { IfOk result (λ rest. IsRestOf (tokens_of tokens.entry) (tokens_of rest)) }
+{
+    match split(tokens) {
+        Some((TokenTree::Group(group), rest)) if group.delimiter == Delimiter::Bracket => {
+            match check_attribute(group.run()) {
+                Ok(()) => Ok(rest),
+                Err(misfit) => Err(ReadError::Grammar { span: misfit.span }),
+            }
+        }
+        _ => Err(grammar_at(tokens)),
+    }
+}
+
+/// What is behind an attribute that comes first; `None` where none comes first.
+fn skip_attribute<'t, 's>(tokens: Tokens<'t, 's>) -> Result<Option<Tokens<'t, 's>>, ReadError>
+    ensures value { MatchResult result
+        (λ found. MatchOption found (behind_attributes (tokens_of tokens.entry) ≡ Ok (tokens_of tokens.entry))
+        (λ rest. (behind_attributes (tokens_of tokens.entry) ≡ behind_attributes (tokens_of rest))
+        × (count_of (tokens_of rest) < count_of (tokens_of tokens.entry))))
+        (λ error. behind_attributes (tokens_of tokens.entry) ≡ Err error) }
+    ensures front { IfOk result (λ found. IfSome found
+        (λ rest. IsRestOf (tokens_of tokens.entry) (tokens_of rest))) }
+{
+    match split(tokens) {
+        Some((TokenTree::Punct(punct), rest)) if punct.character == '#' => {
+            Ok(Some(skip_brackets(rest)?))
+        }
+        Some((TokenTree::Doc(doc), rest)) if is_outer(doc.text) => Ok(Some(rest)),
+        _ => Ok(None),
+    }
+}
+
+/// All attributes that come first, and what is behind them.
+pub(crate) fn read_attributes<'t, 's>(
+    tokens: Tokens<'t, 's>,
+) -> Result<(Tokens<'t, 's>, Tokens<'t, 's>), ReadError>
+    ensures ok { IfOk result
+        (λ read. Attributes (tokens_of tokens.entry) (Ok (tokens_of read.0, tokens_of read.1))) }
+    ensures shorter { IfOk result
+        (λ read. count_of (tokens_of read.1) ≤ count_of (tokens_of tokens.entry)) }
+    ensures err { IfErr result (λ error. Attributes (tokens_of tokens.entry) (Err error)) }
+{
+    let mut rest = tokens;
+    while let Some(next) = skip_attribute(rest)? {
+        rest = next;
+    }
+    Ok((tokens.before(rest), rest))
+}
+
+/// What is behind a parenthesis, if one comes first.
+fn skip_parenthesis<'t, 's>(tokens: Tokens<'t, 's>) -> Tokens<'t, 's>
+    ensures value { tokens_of result ≡ behind_parenthesis (tokens_of tokens.entry) }
+    ensures shorter { count_of (tokens_of result) ≤ count_of (tokens_of tokens.entry) }
+{
+    match split(tokens) {
+        Some((TokenTree::Group(group), rest)) if group.delimiter == Delimiter::Parenthesis => rest,
+        _ => tokens,
+    }
+}
+
+/// What is behind a visibility, if one comes first.
+pub(crate) fn skip_visibility<'t, 's>(tokens: Tokens<'t, 's>) -> Tokens<'t, 's>
+    ensures value { tokens_of result ≡ behind_visibility (tokens_of tokens.entry) }
+    ensures shorter { count_of (tokens_of result) ≤ count_of (tokens_of tokens.entry) }
+{
+    match split(tokens) {
+        Some((TokenTree::Ident(word), rest)) if word.text == "pub" => skip_parenthesis(rest),
+        _ => tokens,
+    }
+}
+
+/// What is behind `enum`, which comes first.
+pub(crate) fn skip_keyword<'t, 's>(tokens: Tokens<'t, 's>) -> Option<Tokens<'t, 's>>
+    ensures { MatchOption result (behind_keyword (tokens_of tokens.entry) ≡ None)
+        (λ rest. behind_keyword (tokens_of tokens.entry) ≡ Some (tokens_of rest)) }
+{
+    match split(tokens) {
+        Some((TokenTree::Ident(word), rest)) if word.text == "enum" => Some(rest),
+        _ => None,
+    }
+}

@@ -1,0 +1,129 @@
+//! How far bounds, defaults and types reach.
+ghost use Rattle.std.specs.Prelude.{◌≡◌, ◌+◌, ◌<◌, ◌≤◌, MatchOption};
+ghost use Rattle.logos_token.specs.Tokens.{TokenList, also, punctuation, count_of, append, IsRestOf};
+ghost use Rattle.logos_token.specs.Views.{tokens_of};
+ghost use Rattle.logos_item.specs.Extents.{ends, begins_arrow, depth_behind, is_end, behind_from, behind_extent, IsStep};
+
+use crate::tokens::split;
+use logos_token::token::{Punct, Spacing, TokenTree, Tokens};
+
+/// What the extent is of.
+#[derive(Clone, Copy)]
+pub(crate) enum End {
+    /// Of bounds, or of the type of a constant: up to a comma, `=` or `>`.
+    OfBounds,
+    /// Of a default, or of a whole parameter: up to a comma or `>`.
+    OfDefault,
+    /// Of a field's type: up to a comma.
+    OfField,
+}
+
+/// How many angle brackets are open, and whether a `-` stands before that can begin `->`.
+#[derive(Clone, Copy)]
+struct Angles {
+    depth: usize,
+    arrow: bool,
+}
+
+/// Whether a sign ends an extent where no angle bracket is open.
+pub(crate) fn ends(end: End, character: char) -> bool
+    ensures { result ≡ ends end character }
+{
+    match end {
+        End::OfBounds => (character == ',') | (character == '>') | (character == '='),
+        End::OfDefault => (character == ',') | (character == '>'),
+        End::OfField => character == ',',
+    }
+}
+
+/// Whether a sign can be the first of `->`.
+fn begins_arrow(punct: Punct) -> bool
+    ensures { result ≡ begins_arrow punct.character punct.spacing }
+{
+    match punct.spacing {
+        Spacing::Joint => punct.character == '-',
+        Spacing::Alone => false,
+    }
+}
+
+/// Whether a sign ends an extent.
+fn is_end(end: End, angles: Angles, character: char) -> bool
+    ensures { result ≡ is_end end angles.arrow angles.depth character }
+{
+    (angles.depth == 0) & (ends(end, character) & !(angles.arrow & (character == '>')))
+}
+
+/// What a sign makes of the open angle brackets.
+fn depth_behind(angles: Angles, character: char) -> usize
+    requires { angles.depth < 18446744073709551615 }
+    ensures value { result ≡ depth_behind angles.arrow angles.depth character }
+    ensures bound { result ≤ angles.depth + 1 }
+{
+    if character == '<' {
+        return angles.depth + 1;
+    }
+    if (character == '>') & !angles.arrow {
+        return angles.depth.saturating_sub(1);
+    }
+    angles.depth
+}
+
+/// What is behind one token of an extent, with the angle brackets that are open there; `None` where the extent ends.
+fn skip_token<'t, 's>(
+    end: End,
+    angles: Angles,
+    tokens: Tokens<'t, 's>,
+) -> Option<(Angles, Tokens<'t, 's>)>
+    requires { angles.depth + count_of (tokens_of tokens) < 18446744073709551616 }
+    ensures { MatchOption result (behind_from end angles.arrow angles.depth (tokens_of tokens.entry) ≡
+        tokens_of tokens.entry)
+        (λ read. IsStep end angles (tokens_of tokens.entry) read.0 (tokens_of read.1)) }
+{
+    match split(tokens)? {
+        (TokenTree::Punct(punct), rest) => {
+            if is_end(end, angles, punct.character) {
+                return None;
+            }
+            let depth = depth_behind(angles, punct.character);
+            let arrow = begins_arrow(punct);
+            Some((Angles { depth, arrow }, rest))
+        }
+        (_, rest) => Some((
+            Angles {
+                depth: angles.depth,
+                arrow: false,
+            },
+            rest,
+        )),
+    }
+}
+
+/// What is behind an extent.
+pub(crate) fn skip_extent<'t, 's>(end: End, tokens: Tokens<'t, 's>) -> Tokens<'t, 's>
+    ensures value { tokens_of result ≡ behind_extent end (tokens_of tokens.entry) }
+    ensures shorter { count_of (tokens_of result) ≤ count_of (tokens_of tokens.entry) }
+    ensures front { IsRestOf (tokens_of tokens.entry) (tokens_of result) }
+{
+    // So many angle brackets can be open at most, and a `usize` counts them.
+    if tokens.count() == 0 {
+        return tokens;
+    }
+    let mut angles = Angles {
+        depth: 0,
+        arrow: false,
+    };
+    let mut rest = tokens;
+    while let Some((next, behind)) = skip_token(end, angles, rest) {
+        angles = next;
+        rest = behind;
+    }
+    rest
+}
+
+/// The tokens of an extent.
+pub(crate) fn extent<'t, 's>(end: End, tokens: Tokens<'t, 's>) -> Tokens<'t, 's>
+    ensures { tokens_of tokens.entry ≡
+        append (tokens_of result) (behind_extent end (tokens_of tokens.entry)) }
+{
+    tokens.before(skip_extent(end, tokens))
+}

@@ -1,0 +1,70 @@
+//! A group that comes first.
+ghost use Rattle.std.specs.Prelude.{◌≡◌, ◌<◌, Some, None, MatchOption};
+ghost use Rattle.logos_token.specs.Tokens.{count_of};
+ghost use Rattle.logos_token.specs.Views.{tokens_of};
+ghost use Rattle.logos_item.specs.Groups.{parenthesis_in, bracket_in, brace_in, opened_value};
+
+use crate::tokens::split;
+use logos_token::token::{Delimiter, Span, TokenTree, Tokens};
+
+/// A group that comes first: its span, what is inside it, and what is behind it.
+#[derive(Clone, Copy)]
+pub(crate) struct Opened<'t, 's> {
+    pub span: Span,
+    pub inside: Tokens<'t, 's>,
+    pub rest: Tokens<'t, 's>,
+}
+
+/// The parenthesis that comes first; `None` where none does.
+pub(crate) fn open_parenthesis<'t, 's>(tokens: Tokens<'t, 's>) -> Option<Opened<'t, 's>>
+    ensures { MatchOption result (parenthesis_in (tokens_of tokens.entry) ≡ None)
+        (λ opened. (parenthesis_in (tokens_of tokens.entry) ≡ Some (opened_value opened))
+        × (count_of (tokens_of opened.rest) < count_of (tokens_of tokens.entry))) }
+{
+    match split(tokens) {
+        Some((TokenTree::Group(group), rest)) if group.delimiter == Delimiter::Parenthesis => {
+            Some(Opened {
+                span: group.span,
+                inside: group.run(),
+                rest,
+            })
+        }
+        _ => None,
+    }
+}
+
+/// The brackets that come first; `None` where none do.
+pub(crate) fn open_bracket<'t, 's>(tokens: Tokens<'t, 's>) -> Option<Opened<'t, 's>>
+    ensures { MatchOption result (bracket_in (tokens_of tokens.entry) ≡ None)
+        (λ opened. (bracket_in (tokens_of tokens.entry) ≡ Some (opened_value opened))
+        × (count_of (tokens_of opened.rest) < count_of (tokens_of tokens.entry))) }
+{
+    match split(tokens) {
+        Some((TokenTree::Group(group), rest)) if group.delimiter == Delimiter::Bracket => {
+            Some(Opened {
+                span: group.span,
+                inside: group.run(),
+                rest,
+            })
+        }
+        _ => None,
+    }
+}
+
+/// The braces that come first; `None` where none do.
+pub(crate) fn open_brace<'t, 's>(tokens: Tokens<'t, 's>) -> Option<Opened<'t, 's>>
+    ensures { MatchOption result (brace_in (tokens_of tokens.entry) ≡ None)
+        (λ opened. (brace_in (tokens_of tokens.entry) ≡ Some (opened_value opened))
+        × (count_of (tokens_of opened.rest) < count_of (tokens_of tokens.entry))) }
+{
+    match split(tokens) {
+        Some((TokenTree::Group(group), rest)) if group.delimiter == Delimiter::Brace => {
+            Some(Opened {
+                span: group.span,
+                inside: group.run(),
+                rest,
+            })
+        }
+        _ => None,
+    }
+}

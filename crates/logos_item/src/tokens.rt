@@ -1,0 +1,128 @@
+//! One token of a run, and what is behind it.
+ghost use Rattle.std.specs.Prelude.{◌≡◌, ◌<◌, ◌≤◌, true, false, List, Ok, Err, MatchOption, MatchResult};
+ghost use Rattle.logos_lexeme.specs.declared.lexeme.Span.{Span};
+ghost use Rattle.logos_lexeme.specs.declared.lexeme.Spacing.{Spacing};
+ghost use Rattle.logos_token.specs.Tokens.{none, also, punctuation, count_of, rest_of};
+ghost use Rattle.logos_token.specs.Views.{tokens_of, tree_of};
+ghost use Rattle.logos_item.specs.declared.error.ReadError.TheVariants.{Grammar};
+ghost use Rattle.logos_item.specs.Marks.{first_span, greater, begins_with, is_none, is_outer};
+ghost use Rattle.logos_item.specs.Rules.{behind_item};
+ghost use Rattle.logos_item.specs.Generics.{name_in};
+ghost use Rattle.logos_item.specs.Values.{ident_slice};
+
+use crate::error::{Misfit, ReadError};
+use logos_token::token::{Ident, Span, TokenTree, Tokens};
+
+/// Where the first token stands; `0..0` where there is none.
+pub(crate) fn first_span(tokens: Tokens<'_, '_>) -> Span
+    ensures { result ≡ first_span (tokens_of tokens.entry) }
+{
+    match tokens.first() {
+        Some(tree) => tree.span(),
+        None => Span { from: 0, to: 0 },
+    }
+}
+
+/// A misfit at the first token.
+pub(crate) fn misfit_at(tokens: Tokens<'_, '_>) -> Misfit
+    ensures { result.span ≡ first_span (tokens_of tokens.entry) }
+{
+    Misfit {
+        span: first_span(tokens),
+    }
+}
+
+/// An error at the first token.
+pub(crate) fn grammar_at(tokens: Tokens<'_, '_>) -> ReadError
+    ensures { result ≡ Grammar (first_span (tokens_of tokens.entry)) }
+{
+    ReadError::Grammar {
+        span: first_span(tokens),
+    }
+}
+
+/// The first tree, and the trees behind it.
+pub(crate) fn split<'t, 's>(tokens: Tokens<'t, 's>) -> Option<(TokenTree<'t, 's>, Tokens<'t, 's>)>
+    ensures { MatchOption result (tokens_of tokens.entry ≡ none)
+        (λ read. tokens_of tokens.entry ≡ also (tree_of read.0) (tokens_of read.1)) }
+{
+    let tree = tokens.first()?;
+    Some((tree, tokens.rest()))
+}
+
+/// Whether this character comes first.
+pub(crate) fn begins_with(mark: char, tokens: Tokens<'_, '_>) -> bool
+    ensures { result ≡ begins_with mark (tokens_of tokens.entry) }
+{
+    match tokens.first() {
+        Some(TokenTree::Punct(punct)) => punct.character == mark,
+        _ => false,
+    }
+}
+
+/// What is behind this character, if it comes first.
+pub(crate) fn behind_mark<'t, 's>(mark: char, tokens: Tokens<'t, 's>) -> Option<Tokens<'t, 's>>
+    ensures { MatchOption result (begins_with mark (tokens_of tokens.entry) ≡ false)
+        (λ rest. (begins_with mark (tokens_of tokens.entry) ≡ true)
+        × (tokens_of rest ≡ rest_of (tokens_of tokens.entry))) }
+{
+    match split(tokens) {
+        Some((TokenTree::Punct(punct), rest)) if punct.character == mark => Some(rest),
+        _ => None,
+    }
+}
+
+/// Whether a documentation comment is one of what follows it.
+pub(crate) fn is_outer(text: &str) -> bool
+    ensures { result ≡ is_outer text.now }
+{
+    match text.as_bytes() {
+        [_, _, third, ..] => !(*third == b'!'),
+        _ => false,
+    }
+}
+
+/// The name that comes first, and what is behind it.
+pub(crate) fn read_name<'t, 's>(
+    tokens: Tokens<'t, 's>,
+) -> Result<(Ident<'s>, Tokens<'t, 's>), ReadError>
+    ensures { MatchResult result
+        (λ read. (name_in (tokens_of tokens.entry) ≡ Ok (ident_slice read.0, tokens_of read.1))
+        × (count_of (tokens_of read.1) < count_of (tokens_of tokens.entry)))
+        (λ error. name_in (tokens_of tokens.entry) ≡ Err error) }
+{
+    match split(tokens) {
+        Some((TokenTree::Ident(name), rest)) => Ok((name, rest)),
+        _ => Err(grammar_at(tokens)),
+    }
+}
+
+/// What is behind an item of a list that ends with its group.
+pub(crate) fn skip_comma<'t, 's>(tokens: Tokens<'t, 's>) -> Result<Tokens<'t, 's>, ReadError>
+    ensures { MatchResult result
+        (λ rest. (behind_item is_none (tokens_of tokens.entry) ≡ Ok (tt, tokens_of rest))
+        × (count_of (tokens_of rest) ≤ count_of (tokens_of tokens.entry)))
+        (λ error. behind_item is_none (tokens_of tokens.entry) ≡ Err error) }
+{
+    match split(tokens) {
+        None => Ok(tokens),
+        Some((TokenTree::Punct(sign), rest)) if sign.character == ',' => Ok(rest),
+        _ => Err(grammar_at(tokens)),
+    }
+}
+
+/// What is behind an item of a list that ends at `>`.
+pub(crate) fn skip_comma_or_angle<'t, 's>(
+    tokens: Tokens<'t, 's>,
+) -> Result<Tokens<'t, 's>, ReadError>
+    ensures { MatchResult result
+        (λ rest. (behind_item (begins_with greater) (tokens_of tokens.entry) ≡ Ok (tt, tokens_of rest))
+        × (count_of (tokens_of rest) ≤ count_of (tokens_of tokens.entry)))
+        (λ error. behind_item (begins_with greater) (tokens_of tokens.entry) ≡ Err error) }
+{
+    match split(tokens) {
+        Some((TokenTree::Punct(punct), _)) if punct.character == '>' => Ok(tokens),
+        Some((TokenTree::Punct(punct), rest)) if punct.character == ',' => Ok(rest),
+        _ => Err(grammar_at(tokens)),
+    }
+}

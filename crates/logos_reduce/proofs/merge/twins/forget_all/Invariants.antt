@@ -1,0 +1,5 @@
+use Rattle.std.proofs.Common.{◌≡◌, vec_len}
+use Rattle.logos_reduce.proofs.merge.twins.forget_all.Given as goal
+
+abbrev pub invariant-loop-home : goal.invariant-loop-home
+invariant-loop-home l = (vec_len l.hints.todo ≡ vec_len l.initial.hints.todo) × (vec_len l.hints.sizes ≡ vec_len l.initial.hints.sizes)

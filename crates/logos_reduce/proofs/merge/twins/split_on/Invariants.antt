@@ -1,5 +1,0 @@
-use Rattle.std.proofs.Common.{◌≡◌, vec_len}
-use Rattle.logos_reduce.proofs.merge.twins.split_on.Given as goal
-
-abbrev pub invariant-loop-home : goal.invariant-loop-home
-invariant-loop-home l = (vec_len l.hints.todo ≡ vec_len l.initial.hints.todo) × (vec_len l.hints.sizes ≡ vec_len l.initial.hints.sizes)

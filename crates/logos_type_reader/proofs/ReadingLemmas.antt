@@ -1,0 +1,185 @@
+-- A type that is read part by part.
+use Rattle.std.proofs.Common.{◌≡◌, Err, ℕ, ◌-◌, ◌+◌, ◌<◌, ◌≤◌, ◌*◌, ◌||◌, List, [], ◌∷◌, ◌++◌, Bool, true, false, Option, Some, None, refl, sym, ap, ◌∙◌, subst, arith, append_assoc}
+use Rattle.std.proofs.lemmas.List.{append-nil}
+use Rattle.logos_token.specs.Tokens.{TokenList, append, also as and_token, none as no_token, IsRestOf, count_of}
+use Rattle.logos_type.specs.Parts.{Tree, Sign, sign, whole, trees}
+use Rattle.logos_type_reader.specs.declared.table.place.Place.{Place}
+use Rattle.logos_type_reader.specs.Table.{Spot, outer, Move, Fault, takes, bars, keeps, nests, asks, keeps_type, ends, starts, begin, name_of}
+use Rattle.logos_type_reader.specs.Reading.{IsType, just_name, formed, IsMove, a_token, a_bar, a_type, a_still_type, still_tokens, a_nest, AreParts, ended, further, NoType, unbegun, unended, NoMove, no_token, no_type, no_still_type, no_nest, NoParts, here, later, next_of, behind_type}
+use Rattle.logos_type_reader.specs.declared.table.place.Stop.{Stop}
+use Rattle.logos_type_reader.specs.declared.table.place.Stop.TheVariants.{Unsupported, Misfit}
+use Rattle.logos_type_reader.specs.declared.reading.TypeFault.{TypeFault}
+use Rattle.logos_type_reader.specs.declared.reading.TypeFault.TheVariants as faults
+use Rattle.logos_type_reader.specs.ReadingViews.{left, spot_left, IsStep, IsFirst, IfFault, fault_of}
+use Rattle.logos_type_reader.proofs.TableSteps.{Moves, Onward, Inward, steps, Begins, first_steps}
+
+-- what is left of what is left is left of the whole
+append_from : (front middle rest : TokenList) → append front (append middle rest) ≡ append (append front middle) rest
+append_from no_token middle rest = refl
+append_from (and_token t front) middle rest = ap (λ (x : TokenList). and_token t x) (append_from front middle rest)
+
+pub rest_from : {run middle rest : TokenList} → IsRestOf run middle → IsRestOf middle rest → IsRestOf run rest
+rest_from {run} {middle} {rest} r q = record { front = append r.front q.front; is = r.is ∙ ap (λ (x : TokenList). append r.front x) q.is ∙ append_from r.front q.front rest }
+
+pub rest_self : (run : TokenList) → IsRestOf run run
+rest_self run = record { front = no_token; is = refl }
+
+-- one spot is behind another, with less left
+pub record Behind (spot behind : Spot) : Type 0 where
+  pub rest : IsRestOf (outer spot.run spot.behind) (outer behind.run behind.behind)
+  pub less : spot_left behind < spot_left spot
+
+-- a run is behind a spot
+pub record Left (spot : Spot) (run : TokenList) : Type 0 where
+  pub rest : IsRestOf (outer spot.run spot.behind) run
+  pub less : 2 * count_of run ≤ spot_left spot
+
+-- a run is behind another one, with less left
+pub record Rest (run rest : TokenList) : Type 0 where
+  pub is : IsRestOf run rest
+  pub less : count_of rest < count_of run
+
+onward : {spot behind : Spot} → Onward spot.run spot.behind behind → Behind spot behind
+onward o = record { rest = o.rest; less = o.less }
+
+moved : (spot : Spot) {m : Move} → next_of spot ≡ m → Moves spot.run spot.behind m
+moved spot e = subst (Moves spot.run spot.behind) e (steps spot.place spot.run spot.behind)
+
+-- behind a type or a path
+after_rest : (run rest : TokenList) (behind : Option TokenList) → Rest run rest → IsRestOf (outer run behind) (outer rest behind) × (left rest behind < left run behind)
+after_rest run rest None r = (r.is, let h = r.less in omega arith)
+after_rest run rest (Some after) r = (rest_self after, let h = r.less in omega arith)
+
+behind_rest : (spot : Spot) (place : Place) (rest : TokenList) → Rest spot.run rest → Behind spot (behind_type spot place rest)
+behind_rest spot place rest r = let x = after_rest spot.run rest spot.behind r in record { rest = x.0; less = x.1 }
+
+left_self : (run : TokenList) (behind : Option TokenList) → IsRestOf (outer run behind) (outer run behind) × (2 * count_of (outer run behind) ≤ left run behind)
+left_self run None = (rest_self run, omega arith)
+left_self run (Some after) = (rest_self after, omega arith)
+
+within_rest : (run within : TokenList) (behind : Option TokenList) (rest : TokenList) → IsRestOf run within → count_of within < count_of run → behind ≡ None → IsRestOf (outer within behind) rest → 2 * count_of rest ≤ left within behind → Rest run rest
+within_rest run within None rest r h n q k = record { is = rest_from r q; less = omega (arith, h, k) }
+within_rest run within (Some after) rest r h n q k = absurd (let z = n in cc)
+
+inner_rest : (run : TokenList) (inner : Spot) (rest : TokenList) → Inward run inner → Left inner rest → Rest run rest
+inner_rest run inner rest i l = within_rest run inner.run inner.behind rest i.rest i.less i.alone l.rest l.less
+
+rest_name : (run : TokenList) (text : List ℕ) → name_of run ≡ Some text → Rest run (Rattle.logos_token.specs.Tokens.rest_of run)
+rest_name no_token text e = cc
+rest_name (and_token t rest) text e = record { is = record { front = and_token t no_token; is = refl }; less = omega (arith, Rattle.logos_type_reader.proofs.TableSteps.one_token t) }
+
+mutual
+  -- a type leaves less behind it
+  pub type_rest : {levels : ℕ} {plus : Bool} {run : TokenList} {t : Tree} {rest : TokenList} → IsType levels plus run t rest → Rest run rest
+  type_rest {run = run} (just_name {text = text} a e) = rest_name run text e
+  type_rest {plus = plus} {run = run} {rest = rest} (formed {spot = spot} a n b h) =
+      let f : Begins run spot = first_steps plus run b in
+      let l : Left spot rest = parts_rest h in
+      record { is = rest_from f.rest l.rest; less = let x = f.less in let y = l.less in omega arith }
+
+  pub move_rest : {levels : ℕ} {barred : Bool} {spot : Spot} {parts : List Tree} {behind : Spot} → IsMove levels barred spot parts behind → Behind spot behind
+  move_rest {spot = spot} (a_token e) = onward (moved spot e)
+  move_rest {spot = spot} (a_bar e) = onward (moved spot e)
+  move_rest {spot = spot} (a_type {place = place} {rest = rest} e h) = behind_rest spot place rest (type_rest h)
+  move_rest {spot = spot} (a_still_type {place = place} {rest = rest} e h) = behind_rest spot place rest (type_rest h)
+  move_rest {spot = spot} (still_tokens e) = onward (moved spot e)
+  move_rest {spot = spot} (a_nest {inner = inner} {place = place} {rest = rest} e h) = behind_rest spot place rest (inner_rest spot.run inner rest (moved spot e) (parts_rest h))
+
+  pub parts_rest : {levels : ℕ} {barred : Bool} {spot : Spot} {parts : List Tree} {rest : TokenList} → AreParts levels barred spot parts rest → Left spot rest
+  parts_rest {spot = spot} (ended e) = let l = left_self spot.run spot.behind in record { rest = l.0; less = l.1 }
+  parts_rest (further m a e) = let f = move_rest m in let l = parts_rest a in record { rest = rest_from f.rest l.rest; less = let x = f.less in let y = l.less in omega arith }
+
+or_assoc : (a b c : Bool) → (a || (b || c)) ≡ ((a || b) || c)
+or_assoc true b c = refl
+or_assoc false b c = refl
+
+or_false : (a : Bool) → (a || false) ≡ a
+or_false true = refl
+or_false false = refl
+
+-- with the parts so far, what completes the rest completes the whole, and what is wrong with the rest is wrong with the whole
+pub record Remains (levels : ℕ) (from : Spot) (old now : List Tree) (barred : Bool) (spot : Spot) : Type 0 where
+  pub front : List Tree
+  pub is : now ≡ old ++ front
+  pub completes : (later : Bool) (parts : List Tree) (rest : TokenList) → AreParts levels later spot parts rest → AreParts levels (barred || later) from (front ++ parts) rest
+  pub refuses : (fault : Fault) → NoParts levels spot fault → NoParts levels from fault
+  pub less : spot_left spot ≤ spot_left from
+
+pub begun : (levels : ℕ) (from : Spot) (old : List Tree) → Remains levels from old old false from
+begun levels from old = record { front = []; is = sym (append-nil old); completes = λ b parts rest a. a; refuses = λ fault f. f; less = omega arith }
+
+pub goes_on : (levels : ℕ) (from : Spot) (old now new front : List Tree) (barred bar : Bool) (spot behind : Spot) → Remains levels from old now barred spot → new ≡ now ++ front → IsMove levels bar spot front behind →
+    Remains levels from old new (barred || bar) behind
+goes_on levels from old now new front barred bar spot behind r e m = record {
+  front = r.front ++ front;
+  is = e ∙ ap (λ (x : List Tree). x ++ front) r.is ∙ append_assoc old r.front front;
+  completes = λ b parts rest a. rw (← or_assoc barred bar b, append_assoc r.front front parts) (r.completes (bar || b) (front ++ parts) rest (further m a refl));
+  refuses = λ fault f. r.refuses fault (later m f);
+  less = let h = (move_rest m).less in let k = r.less in omega arith;
+}
+
+-- at its end
+pub finished : (levels : ℕ) (from : Spot) (old now : List Tree) (barred : Bool) (spot : Spot) → Remains levels from old now barred spot → next_of spot ≡ ends →
+    (parts : List Tree) × (now ≡ old ++ parts) × AreParts levels barred from parts (outer spot.run spot.behind)
+finished levels from old now barred spot r e =
+    (r.front, r.is, rw (or_false barred, append-nil r.front) at (r.completes false [] (outer spot.run spot.behind) (ended e)))
+
+-- what stops the reader is the fault
+pub stop_move : (levels : ℕ) (spot : Spot) (stop : Stop) → IsStep (Err stop) (next_of spot) → IfFault (NoMove levels spot) (fault_of stop)
+stop_move levels spot (Unsupported span) h = no_token h
+stop_move levels spot (Misfit span) h = no_token h
+
+pub stop_type : (levels : ℕ) (plus : Bool) (run : TokenList) (stop : Stop) → name_of run ≡ None → IsFirst (Err stop) (begin plus run) → IfFault (NoType levels plus run) (fault_of stop)
+stop_type levels plus run (Unsupported span) unnamed h = unbegun unnamed h
+stop_type levels plus run (Misfit span) unnamed h = unbegun unnamed h
+
+pub if_fault-map : (P Q : Fault → Type 0) → ((fault : Fault) → P fault → Q fault) → (fault : TypeFault) → IfFault P fault → IfFault Q fault
+if_fault-map P Q f (faults.Unsupported span) h = f _ h
+if_fault-map P Q f (faults.Misfit span) h = f _ h
+if_fault-map P Q f faults.LimitNesting h = f _ h
+if_fault-map P Q f faults.Memory h = tt
+
+-- a fault inside a part is one of the move
+pub asked_fault : (levels : ℕ) (spot : Spot) (plus : Bool) (place : Place) (fault : TypeFault) → next_of spot ≡ asks plus place → IfFault (NoType levels plus spot.run) fault → IfFault (NoMove levels spot) fault
+asked_fault levels spot plus place fault e h = if_fault-map (NoType levels plus spot.run) (NoMove levels spot) (λ f n. no_type e n) fault h
+
+pub still_fault : (levels : ℕ) (spot : Spot) (place : Place) (fault : TypeFault) → next_of spot ≡ keeps_type place → IfFault (NoType levels true spot.run) fault → IfFault (NoMove levels spot) fault
+still_fault levels spot place fault e h = if_fault-map (NoType levels true spot.run) (NoMove levels spot) (λ f n. no_still_type e n) fault h
+
+pub nest_fault : (levels : ℕ) (spot : Spot) (s : Sign) (inner : Spot) (place : Place) (fault : TypeFault) → next_of spot ≡ nests s inner place → IfFault (NoParts levels inner) fault → IfFault (NoMove levels spot) fault
+nest_fault levels spot s inner place fault e h = if_fault-map (NoParts levels inner) (NoMove levels spot) (λ f n. no_nest e n) fault h
+
+-- less is left where a path or bounds go on inside
+inner_less : (run within : TokenList) (behind other : Option TokenList) → count_of within < count_of run → other ≡ None → 3 * left within other + 2 < 3 * left run behind + 1
+inner_less run within None None h n = omega (arith, h)
+inner_less run within (Some after) None h n = omega (arith, h)
+inner_less run within behind (Some after) h n = absurd (let z = n in cc)
+
+pub nest_falls : (spot : Spot) (s : Sign) (inner : Spot) (place : Place) → next_of spot ≡ nests s inner place → 3 * spot_left inner + 2 < 3 * spot_left spot + 1
+nest_falls spot s inner place e = let i : Inward spot.run inner = moved spot e in inner_less spot.run inner.run spot.behind inner.behind i.less i.alone
+
+pub begun_falls : (plus : Bool) (run : TokenList) (barred : Bool) (s : Sign) (spot : Spot) → begin plus run ≡ starts barred s spot → 3 * spot_left spot + 2 < 6 * count_of run
+begun_falls plus run barred s spot e = let f : Begins run spot = first_steps plus run e in let h = f.less in omega (arith, h)
+
+pub begun_rest : (plus : Bool) (run : TokenList) (barred : Bool) (s : Sign) (spot : Spot) → begin plus run ≡ starts barred s spot → {levels : ℕ} {other : Bool} {parts : List Tree} {rest : TokenList} → AreParts levels other spot parts rest → IsRestOf run rest
+begun_rest plus run barred s spot e a = let f : Begins run spot = first_steps plus run e in rest_from f.rest (parts_rest a).rest
+
+both_false : (a b : Bool) → (a || b) ≡ false → (a ≡ false) × (b ≡ false)
+both_false true b e = cc
+both_false false b e = (refl, e)
+
+pub formed_type : (levels : ℕ) (plus : Bool) (run : TokenList) (b c : Bool) (s : Sign) (spot : Spot) (ps : List Tree) (rest : TokenList) (ts : List Tree) → 0 < levels → name_of run ≡ None → begin plus run ≡ starts b s spot →
+    AreParts (levels - 1) c spot ps rest → (b || c) ≡ false → ts ≡ sign s ∷ ps → IsType levels plus run (whole (trees ts)) rest
+formed_type levels plus run b c s spot ps rest ts a e f h n is =
+    let k = both_false b c n in
+    let f' : begin plus run ≡ starts false s spot = subst (λ (x : Bool). begin plus run ≡ starts x s spot) k.0 f in
+    let h' : AreParts (levels - 1) false spot ps rest = subst (λ (x : Bool). AreParts (levels - 1) x spot ps rest) k.1 h in
+    subst (λ (x : List Tree). IsType levels plus run (whole (trees x)) rest) (sym is) (formed a e f' h')
+
+inner_less_than : (run within : TokenList) (behind other : Option TokenList) → count_of within < count_of run → other ≡ None → left within other < left run behind
+inner_less_than run within None None h n = omega (arith, h)
+inner_less_than run within (Some after) None h n = omega (arith, h)
+inner_less_than run within behind (Some after) h n = absurd (let z = n in cc)
+
+pub inner_left : (spot : Spot) (s : Sign) (inner : Spot) (place : Place) → next_of spot ≡ nests s inner place → spot_left inner < spot_left spot
+inner_left spot s inner place e = let i : Inward spot.run inner = moved spot e in inner_less_than spot.run inner.run spot.behind inner.behind i.less i.alone

@@ -1,0 +1,18 @@
+-- Tokens as they stand in an array's length or in braces.
+use Rattle.std.specs.Prelude.{List, [], ◌∷◌, ◌++◌}
+use Rattle.logos_token.specs.Tokens.{Token, identifier, punctuation, literal, doc, group, TokenList, none, also}
+use Rattle.logos_type.specs.Parts.{Tree, sign, word, value, opening, closing, spaced_mark, comment}
+
+abbrev mutual
+  -- a token as it stands in an array's length or in braces
+  pub still_token : Token → List Tree
+  still_token (identifier text span) = sign (word text) ∷ []
+  still_token (punctuation character spacing span) = sign (spaced_mark character spacing) ∷ []
+  still_token (literal text span) = sign (value text) ∷ []
+  still_token (doc text span) = sign (comment text) ∷ []
+  still_token (group delimiter span inside) = sign (opening delimiter) ∷ (still_run inside ++ sign (closing delimiter) ∷ [])
+
+  -- the tokens of such a run, those inside groups too
+  pub still_run : TokenList → List Tree
+  still_run none = []
+  still_run (also token rest) = still_token token ++ still_run rest

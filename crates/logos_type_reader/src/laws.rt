@@ -1,0 +1,68 @@
+//! What holds of each run.
+ghost use Rattle.std.specs.Prelude.{◌≡◌, ◌<◌, ◌≤◌, ◌⊎◌, ℕ, Bool, true};
+ghost use Rattle.logos_token.specs.Tokens.{TokenList, IsRestOf, count_of};
+ghost use Rattle.logos_type.specs.Parts.{Tree};
+ghost use Rattle.logos_type_reader.specs.Table.{Fault, too_deep};
+ghost use Rattle.logos_type_reader.specs.Reading.{IsType, NoType};
+ghost use Rattle.logos_type_reader.specs.Written.{Ending, Written, may_follow};
+ghost use Rattle.logos_type_reader.specs.TypeExprs.{IsTypeExpr, NoTypeExpr};
+ghost use Rattle.logos_type.specs.Depth.{depth};
+
+/// A run begins with one type at most, and behind it is one rest; it has one fault at most, and none where it begins with a type.
+pub fn one_outcome()
+    ensures one_type { (run rest other : TokenList) (tree different : Tree) →
+        IsTypeExpr run tree rest → IsTypeExpr run different other → (tree ≡ different)
+        × (rest ≡ other) }
+    ensures one_fault { (run : TokenList) (fault other : Fault) → NoTypeExpr run fault →
+        NoTypeExpr run other → fault ≡ other }
+    ensures not_both { (run rest : TokenList) (tree : Tree) (fault : Fault) →
+        IsTypeExpr run tree rest → NoTypeExpr run fault → ⊥ }
+{}
+
+/// Each run begins with a type, or has a fault.
+pub fn some_outcome()
+    ensures { (run : TokenList) → ((tree : Tree) × (rest : TokenList)
+        × IsTypeExpr run tree rest) ⊎ ((fault : Fault) × NoTypeExpr run fault) }
+{}
+
+/// What is read with fewer or more levels is the same type, and where these are too few, the type is deeper.
+pub fn levels_only_limit()
+    ensures one_type { (levels others : ℕ) (plus : Bool) (run rest other : TokenList) (tree different : Tree) →
+        IsType levels plus run tree rest → IsType others plus run different other →
+        (tree ≡ different) × (rest ≡ other) }
+    ensures deeper { (levels others : ℕ) (plus : Bool) (run rest : TokenList) (tree : Tree) (fault : Fault) →
+        NoType levels plus run fault → IsType others plus run tree rest → (fault ≡ too_deep)
+        × (levels < others) }
+{}
+
+/// The levels are passed by just the types that hold more types inside one another.
+pub fn limit_is_depth()
+    ensures within { (levels : ℕ) (plus : Bool) (run rest : TokenList) (tree : Tree) →
+        IsType levels plus run tree rest → depth tree ≤ levels }
+    ensures enough { (levels others : ℕ) (plus : Bool) (run rest : TokenList) (tree : Tree) →
+        IsType levels plus run tree rest → depth tree ≤ others → IsType others plus run tree rest }
+    ensures passed { (levels others : ℕ) (plus : Bool) (run rest : TokenList) (tree : Tree) →
+        IsType levels plus run tree rest → others < depth tree → NoType others plus run too_deep }
+{}
+
+/// What is behind a type is the rest of its run, with less left.
+pub fn type_is_front()
+    ensures rest { (run rest : TokenList) (tree : Tree) → IsTypeExpr run tree rest →
+        IsRestOf run rest }
+    ensures shorter { (run rest : TokenList) (tree : Tree) → IsTypeExpr run tree rest →
+        count_of rest < count_of run }
+{}
+
+/// A written type in front of what does not lengthen it is read as that type.
+pub fn reads_written()
+    ensures { (levels : ℕ) (plus : Bool) (run rest : TokenList) (tree : Tree) (ending : Ending) →
+        Written levels plus run tree rest ending → may_follow ending rest ≡ true →
+        IsType levels plus run tree rest }
+{}
+
+/// What is read as a type is a written one, in front of what does not lengthen it.
+pub fn read_is_written()
+    ensures { (levels : ℕ) (plus : Bool) (run rest : TokenList) (tree : Tree) →
+        IsType levels plus run tree rest → (ending : Ending)
+        × Written levels plus run tree rest ending × (may_follow ending rest ≡ true) }
+{}

@@ -1,0 +1,110 @@
+//! The written form of a type, place by place: what may come next.
+ghost use Rattle.logos_token.specs.Views.{tokens_of};
+ghost use Rattle.logos_type_reader.specs.Table.{next_at};
+ghost use Rattle.logos_type_reader.specs.ReadingViews.{behind_of, spot_of, IsStep};
+ghost use Rattle.logos_type_reader.specs.Actions.{IsAction};
+
+mod acting;
+mod bounds;
+mod functions;
+mod groups;
+mod openings;
+mod paths;
+mod place;
+mod tokens;
+
+use acting::act;
+use bounds::{
+    bound_end_step, bound_step, enclosed_end_step, for_end_step, for_list_step, for_step,
+    further_step, question_step, trait_path_step, trait_step,
+};
+use functions::{
+    extern_step, function_step, linked_step, one_taken_step, qualified_step, taken_step,
+    taken_value_step, typed_step, unsafe_step, variadic_end_step, variadic_step,
+};
+use groups::{
+    element_end_step, length_step, list_end_step, list_step, pointer_step, referent_step,
+    self_closed_step, self_end_step, self_trait_end_step,
+};
+use logos_token::token::{Delimiter, Tokens};
+pub(crate) use openings::{begin, read_name};
+use paths::{
+    argument_end_step, arguments_step, braced_step, colons_step, constrained_step, equals_step,
+    input_end_step, inputs_step, macro_step, named_step, output_step, path_step, segments_step,
+};
+pub(crate) use place::{Place, Spot, Step, Stop};
+use place::{Action, Behind, BoundKind, Next, PathKind};
+
+/// What is to be done at a place inside a type.
+#[tactic(auto, unfolding(crate::specs::Table::next_at))]
+fn action_at(at: &Spot<'_, '_>) -> Next
+    ensures { IsAction result (spot_of at.now)
+        (next_at at.now.place (tokens_of at.now.run) (behind_of at.now.behind)) }
+{
+    match at.place {
+        Place::End => Ok(Action::End),
+        Place::Named(kind) => named_step(kind, at),
+        Place::Segments(kind) => segments_step(kind, at),
+        Place::Colons(kind, arguments) => colons_step(kind, arguments, at),
+        Place::Arguments(kind) => arguments_step(kind, at),
+        Place::Equals(kind) => equals_step(kind, at),
+        Place::Value(kind) => Ok(Action::Ask(true, Place::ArgumentEnd(kind))),
+        Place::Constrained(kind) => constrained_step(kind, at),
+        Place::Braced(kind) => braced_step(kind, at),
+        Place::ArgumentEnd(kind) => argument_end_step(kind, at),
+        Place::Macro => macro_step(at),
+        Place::Inputs => inputs_step(at),
+        Place::InputEnd => input_end_step(at),
+        Place::Output => output_step(at),
+        Place::SelfType => Ok(Action::KeepType(Place::SelfEnd)),
+        Place::SelfEnd => self_end_step(at),
+        Place::SelfTrait => path_step(PathKind::OfType, Place::SelfTraitEnd, at),
+        Place::SelfTraitEnd => self_trait_end_step(at),
+        Place::SelfClosed => self_closed_step(at),
+        Place::Referent => referent_step(at),
+        Place::Pointer => pointer_step(at),
+        Place::Target => Ok(Action::Ask(false, Place::End)),
+        Place::List => list_step(at),
+        Place::ListEnd => list_end_step(at),
+        Place::Element => Ok(Action::Ask(true, Place::ElementEnd)),
+        Place::ElementEnd => element_end_step(at),
+        Place::Length => length_step(at),
+        Place::LengthEnd => Ok(Action::Close(Delimiter::Bracket, Place::End)),
+        Place::Bound(plus) => bound_step(plus, at),
+        Place::Question(plus) => question_step(BoundKind::Enclosed(plus), at),
+        Place::Trait(kind) => trait_step(kind, at),
+        Place::TraitPath(kind) => trait_path_step(kind, at),
+        Place::BoundEnd(plus) => bound_end_step(plus, at),
+        Place::Further => further_step(at),
+        Place::EnclosedEnd(plus) => enclosed_end_step(plus, at),
+        Place::For(binder) => for_step(binder, at),
+        Place::ForList(binder) => for_list_step(binder, at),
+        Place::ForEnd(binder) => for_end_step(binder, at),
+        Place::Qualified => qualified_step(at),
+        Place::Unsafe => unsafe_step(at),
+        Place::Extern => extern_step(at),
+        Place::Linked => linked_step(at),
+        Place::Function => function_step(at),
+        Place::Taken => taken_step(at),
+        Place::Typed => typed_step(at),
+        Place::TypedValue => taken_value_step(at),
+        Place::OneTaken => one_taken_step(at),
+        Place::Variadic => variadic_step(at),
+        Place::VariadicEnd => variadic_end_step(at),
+    }
+}
+
+/// What comes next at a place inside a type.
+pub(crate) fn next_at<'t, 's>(
+    place: Place,
+    run: Tokens<'t, 's>,
+    behind: Behind<'t, 's>,
+) -> Result<Step<'t, 's>, Stop>
+    ensures { IsStep result (next_at place (tokens_of run.entry) (behind_of behind.entry)) }
+{
+    let at = Spot { place, run, behind };
+    match action_at(&at) {
+        Ok(action) => act(action, run, behind),
+        Err(stop) => Err(stop),
+    }
+}

@@ -1,0 +1,184 @@
+//! What comes next, by what is to be done with the run that is left.
+ghost use Rattle.std.specs.Prelude.{◌≡◌, Ok};
+ghost use Rattle.logos_token.specs.Tokens.{none};
+ghost use Rattle.logos_token.specs.Views.{tokens_of, inside_of};
+ghost use Rattle.logos_type_reader.specs.Table.{opens, closes, keeps, to};
+ghost use Rattle.logos_type_reader.specs.ReadingViews.{behind_of, spot_of, IsFirst, IsStep};
+ghost use Rattle.logos_type_reader.specs.Actions.{lead_sign, behind_lead, opens_first, opens_type, acts, begun};
+ghost use Rattle.logos_type.specs.Parts.{sign_of};
+
+use crate::table::place::{Action, Behind, Lead, Opening, Place, Spot, Start, Step, Stop};
+use crate::table::tokens::{first_span, first_text};
+use logos_token::token::{Delimiter, Group, TokenTree, Tokens};
+use logos_type::Leaf;
+
+/// What is taken from the front of a run.
+fn lead_leaf<'s>(lead: Lead, run: Tokens<'_, 's>) -> Leaf<'s>
+    ensures { sign_of result ≡ lead_sign lead (tokens_of run.entry) }
+{
+    match lead {
+        Lead::Word => Leaf::Word(first_text(run)),
+        Lead::Mark(mark) => Leaf::Mark(mark),
+        Lead::Literal => Leaf::Literal(first_text(run)),
+        Lead::Colons => Leaf::Colons,
+        Lead::Arrow => Leaf::Arrow,
+        Lead::Dots => Leaf::Mark('.'),
+        Lead::Reference => Leaf::Reference(None),
+        Lead::ReferenceLifetime => Leaf::Reference(Some(first_text(run.rest().rest()))),
+        Lead::Lifetime => Leaf::Lifetime(first_text(run.rest())),
+        Lead::Kept => Leaf::Kept(first_text(run.rest())),
+        Lead::Group(delimiter) => Leaf::Open(delimiter),
+    }
+}
+
+/// The run behind that.
+fn behind_lead<'t, 's>(lead: Lead, run: Tokens<'t, 's>) -> Tokens<'t, 's>
+    ensures { tokens_of result ≡ behind_lead lead (tokens_of run.entry) }
+{
+    match lead {
+        Lead::Colons | Lead::Arrow | Lead::Lifetime | Lead::Kept => run.rest().rest(),
+        Lead::Dots | Lead::ReferenceLifetime => run.rest().rest().rest(),
+        _ => run.rest(),
+    }
+}
+
+/// A group, where none is open yet.
+fn open<'t, 's>(
+    group: Group<'t, 's>,
+    place: Place,
+    rest: Tokens<'t, 's>,
+    behind: Behind<'t, 's>,
+) -> Result<Step<'t, 's>, Stop>
+    ensures { IsStep result (opens group.entry.delimiter group.entry.span place
+        (inside_of group.entry) (tokens_of rest.entry) (behind_of behind.entry)) }
+{
+    let None = behind else {
+        return Err(Stop::Misfit(group.span));
+    };
+    let inner = Spot {
+        place,
+        run: group.run(),
+        behind: Some(rest),
+    };
+    Ok(Step::Take(Leaf::Open(group.delimiter), inner))
+}
+
+/// The group that comes first, where none is open yet.
+fn open_first<'t, 's>(
+    place: Place,
+    run: Tokens<'t, 's>,
+    behind: Behind<'t, 's>,
+) -> Result<Step<'t, 's>, Stop>
+    ensures { IsStep result
+        (opens_first place (tokens_of run.entry) (behind_of behind.entry)) }
+{
+    match run.first() {
+        Some(TokenTree::Group(group)) => open(group, place, run.rest(), behind),
+        _ => Err(Stop::Misfit(first_span(run))),
+    }
+}
+
+/// At the end of what a group holds, in front of the place behind it.
+fn close<'t, 's>(delimiter: Delimiter, place: Place, behind: Behind<'t, 's>) -> Step<'t, 's>
+    ensures { IsStep (Ok result) (closes delimiter place (behind_of behind.entry)) }
+{
+    let Some(run) = behind else {
+        return Step::End;
+    };
+    let after = Spot {
+        place,
+        run,
+        behind: None,
+    };
+    Step::Take(Leaf::Close(delimiter), after)
+}
+
+/// All tokens of the run, which stay as they are, and behind them this place.
+fn keep<'t, 's>(place: Place, run: Tokens<'t, 's>, behind: Behind<'t, 's>) -> Step<'t, 's>
+    ensures { IsStep (Ok result)
+        (keeps (tokens_of run.entry) (to place none (behind_of behind.entry))) }
+{
+    let after = Spot {
+        place,
+        run: run.before(run),
+        behind,
+    };
+    Step::Keep(run, after)
+}
+
+/// The run behind what is taken, and this place.
+fn after<'t, 's>(
+    lead: Lead,
+    place: Place,
+    run: Tokens<'t, 's>,
+    behind: Behind<'t, 's>,
+) -> Spot<'t, 's>
+    ensures { spot_of result ≡
+        to place (behind_lead lead (tokens_of run.entry)) (behind_of behind.entry) }
+{
+    Spot {
+        place,
+        run: behind_lead(lead, run),
+        behind,
+    }
+}
+
+/// What comes next, where this is to be done with the run that is left.
+pub(super) fn act<'t, 's>(
+    action: Action,
+    run: Tokens<'t, 's>,
+    behind: Behind<'t, 's>,
+) -> Result<Step<'t, 's>, Stop>
+    ensures { IsStep result (acts action (tokens_of run.entry) (behind_of behind.entry)) }
+{
+    match action {
+        Action::End => Ok(Step::End),
+        Action::Take(lead, place) => {
+            Ok(Step::Take(lead_leaf(lead, run), after(lead, place, run, behind)))
+        }
+        Action::Bar(lead, place) => {
+            Ok(Step::Bar(lead_leaf(lead, run), after(lead, place, run, behind)))
+        }
+        Action::Ask(plus, place) => Ok(Step::Ask(plus, place)),
+        Action::KeepType(place) => Ok(Step::KeepType(place)),
+        Action::Keep(place) => Ok(keep(place, run, behind)),
+        Action::Nest(lead, place, next) => {
+            Ok(Step::Nest(lead_leaf(lead, run), after(lead, place, run, None), next))
+        }
+        Action::Open(place) => open_first(place, run, behind),
+        Action::Close(delimiter, place) => Ok(close(delimiter, place, behind)),
+    }
+}
+
+/// The group with which a type begins, in front of this place in it.
+fn open_type<'t, 's>(place: Place, run: Tokens<'t, 's>) -> Result<Opening<'t, 's>, Stop>
+    ensures { IsFirst result (opens_type place (tokens_of run.entry)) }
+{
+    let Some(TokenTree::Group(group)) = run.first() else {
+        return Err(Stop::Misfit(first_span(run)));
+    };
+    let inner = Spot {
+        place,
+        run: group.run(),
+        behind: Some(run.rest()),
+    };
+    Ok(Opening {
+        barred: false,
+        leaf: Leaf::Open(group.delimiter),
+        spot: inner,
+    })
+}
+
+/// The first token of a type that begins like this.
+pub(super) fn begin_by<'t, 's>(start: Start, run: Tokens<'t, 's>) -> Result<Opening<'t, 's>, Stop>
+    ensures { IsFirst result (begun start (tokens_of run.entry)) }
+{
+    match start {
+        Start::Lead(barred, lead, place) => Ok(Opening {
+            barred,
+            leaf: lead_leaf(lead, run),
+            spot: after(lead, place, run, None),
+        }),
+        Start::Open(place) => open_type(place, run),
+    }
+}

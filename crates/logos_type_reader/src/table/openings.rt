@@ -1,0 +1,137 @@
+//! How a type begins.
+ghost use Rattle.std.specs.Prelude.{◌≡◌, Some, None, MatchOption};
+ghost use Rattle.logos_token.specs.Tokens.{rest_of};
+ghost use Rattle.logos_token.specs.Views.{tokens_of};
+ghost use Rattle.logos_type_reader.specs.Table.{first_span, reference_first, reference_lifetime_first, word_place, word_first, mark_first, begin, is_reserved, name_of};
+ghost use Rattle.logos_type_reader.specs.ReadingViews.{IsFirst};
+ghost use Rattle.logos_type_reader.specs.Actions.{first_text, IsStart};
+
+use crate::table::acting::begin_by;
+use crate::table::place::{Binder, First, Lead, Look, Opening, PathKind, Place, Start, Stop};
+use crate::table::tokens::{begins_colons, begins_mark, first_span, first_text, goes_on, look};
+use logos_token::token::{Delimiter, Tokens};
+
+/// At `&`, with which a type begins.
+fn reference_first(run: Tokens<'_, '_>) -> First
+    ensures { IsStart result (tokens_of run.entry)
+        (reference_first (rest_of (tokens_of run.entry))) }
+{
+    match look(run.rest()) {
+        Look::Mark('\'', _) => reference_lifetime(run),
+        _ => Ok(Start::Lead(false, Lead::Reference, Place::Referent)),
+    }
+}
+
+/// At `&'`, with which a type begins.
+fn reference_lifetime(run: Tokens<'_, '_>) -> First
+    ensures { IsStart result (tokens_of run.entry)
+        (reference_lifetime_first (rest_of (rest_of (tokens_of run.entry)))) }
+{
+    let name = run.rest().rest();
+    match look(name) {
+        Look::Word => Ok(Start::Lead(false, Lead::ReferenceLifetime, Place::Referent)),
+        _ => Err(Stop::Misfit(first_span(name))),
+    }
+}
+
+/// The place behind the word with which a type begins.
+fn word_place(plus: bool, text: &str) -> Place
+    ensures { result ≡ word_place plus text.now }
+{
+    if (text == "dyn") | (text == "impl") {
+        return Place::Bound(plus);
+    }
+    if text == "fn" {
+        return Place::Function;
+    }
+    if text == "unsafe" {
+        return Place::Unsafe;
+    }
+    if text == "extern" {
+        return Place::Extern;
+    }
+    if text == "for" {
+        return Place::For(Binder::OfFunction);
+    }
+    Place::Named(PathKind::Plain)
+}
+
+/// At the word with which a type begins.
+fn word_first(plus: bool, run: Tokens<'_, '_>) -> First
+    ensures { IsStart result (tokens_of run.entry)
+        (word_first plus (first_text (tokens_of run.entry)) (first_span (tokens_of run.entry))
+        (rest_of (tokens_of run.entry))) }
+{
+    let text = first_text(run);
+    if text == "_" {
+        return Err(Stop::Unsupported(first_span(run)));
+    }
+    Ok(Start::Lead(text == "impl", Lead::Word, word_place(plus, text)))
+}
+
+/// At the punctuation with which a type begins.
+fn mark_first(mark: char, run: Tokens<'_, '_>) -> First
+    ensures { IsStart result (tokens_of run.entry)
+        (mark_first mark (first_span (tokens_of run.entry)) (tokens_of run.entry)
+        (rest_of (tokens_of run.entry))) }
+{
+    match mark {
+        '&' => reference_first(run),
+        '*' => Ok(Start::Lead(false, Lead::Mark('*'), Place::Pointer)),
+        '<' => Ok(Start::Lead(false, Lead::Mark('<'), Place::SelfType)),
+        '!' => Err(Stop::Unsupported(first_span(run))),
+        _ if begins_colons(run) => {
+            Ok(Start::Lead(false, Lead::Colons, Place::Colons(PathKind::Plain, false)))
+        }
+        _ => Err(Stop::Misfit(first_span(run))),
+    }
+}
+
+/// How the type begins with which a run begins.
+#[tactic(auto, unfolding(crate::specs::Table::begin))]
+fn start_at(plus: bool, run: Tokens<'_, '_>) -> First
+    ensures { IsStart result (tokens_of run.entry) (begin plus (tokens_of run.entry)) }
+{
+    match look(run) {
+        Look::Word => word_first(plus, run),
+        Look::Group(Delimiter::Parenthesis) => Ok(Start::Open(Place::List)),
+        Look::Group(Delimiter::Bracket) => Ok(Start::Open(Place::Element)),
+        Look::Mark(mark, _) => mark_first(mark, run),
+        _ => Err(Stop::Misfit(first_span(run))),
+    }
+}
+
+/// The first token of a type.
+pub(crate) fn begin<'t, 's>(plus: bool, run: Tokens<'t, 's>) -> Result<Opening<'t, 's>, Stop>
+    ensures { IsFirst result (begin plus (tokens_of run.entry)) }
+{
+    match start_at(plus, run) {
+        Ok(start) => begin_by(start, run),
+        Err(stop) => Err(stop),
+    }
+}
+
+/// Whether a word is no name of a type.
+fn is_reserved(text: &str) -> bool
+    ensures { result ≡ is_reserved text.now }
+{
+    (((text == "dyn") | (text == "impl")) | ((text == "_") | (text == "for")))
+        | (((text == "fn") | (text == "unsafe")) | (text == "extern"))
+}
+
+/// The name and what is behind it, where the type is just a name.
+pub(crate) fn read_name<'t, 's>(tokens: Tokens<'t, 's>) -> Option<(&'s str, Tokens<'t, 's>)>
+    ensures { MatchOption result (name_of (tokens_of tokens.entry) ≡ None)
+        (λ read. (name_of (tokens_of tokens.entry) ≡ Some read.0.now)
+        × (tokens_of read.1 ≡ rest_of (tokens_of tokens.entry))) }
+{
+    let Look::Word = look(tokens) else {
+        return None;
+    };
+    let name = first_text(tokens);
+    let rest = tokens.rest();
+    if is_reserved(name) | (goes_on(rest) | begins_mark('!', rest)) {
+        return None;
+    }
+    Some((name, rest))
+}

@@ -1,0 +1,155 @@
+//! The first tokens of a run, and what they say.
+ghost use Rattle.std.specs.Prelude.{◌≡◌};
+ghost use Rattle.logos_token.specs.Tokens.{rest_of};
+ghost use Rattle.logos_token.specs.Views.{tokens_of};
+ghost use Rattle.logos_type_reader.specs.Table.{misfits, first_span, begins_colons, begins_mark, begins_arrow, begins_dots, begins_parenthesis, begins_bound, typing, goes_on};
+ghost use Rattle.logos_type_reader.specs.ReadingViews.{spot_of};
+ghost use Rattle.logos_type_reader.specs.Actions.{Looks, first_text, begins_word, IsAction};
+
+use crate::table::place::{Look, Next, Spot, Stop};
+use logos_token::token::{Delimiter, Spacing, Span, TokenTree, Tokens};
+
+/// What a run begins with.
+pub(super) fn look(run: Tokens<'_, '_>) -> Look
+    ensures { Looks result (tokens_of run.entry) }
+{
+    match run.first() {
+        None => Look::Nothing,
+        Some(TokenTree::Ident(_)) => Look::Word,
+        Some(TokenTree::Punct(punct)) => Look::Mark(punct.character, punct.spacing),
+        Some(TokenTree::Literal(_)) => Look::Literal,
+        Some(TokenTree::Doc(_)) => Look::Doc,
+        Some(TokenTree::Group(group)) => Look::Group(group.delimiter),
+    }
+}
+
+/// The text of the first token, where that is a name or a literal.
+pub(super) fn first_text<'s>(run: Tokens<'_, 's>) -> &'s str
+    ensures { result.now ≡ first_text (tokens_of run.entry) }
+{
+    match run.first() {
+        Some(TokenTree::Ident(name)) => name.text,
+        Some(TokenTree::Literal(literal)) => literal.text,
+        _ => "",
+    }
+}
+
+/// Where the first token stands.
+pub(super) fn first_span(run: Tokens<'_, '_>) -> Span
+    ensures { result ≡ first_span (tokens_of run.entry) }
+{
+    match run.first() {
+        Some(tree) => tree.span(),
+        None => Span { from: 0, to: 0 },
+    }
+}
+
+/// Whether this name comes first.
+pub(super) fn begins_word(word: &str, run: Tokens<'_, '_>) -> bool
+    ensures { result ≡ begins_word word.now (tokens_of run.entry) }
+{
+    match look(run) {
+        Look::Word => first_text(run) == word,
+        _ => false,
+    }
+}
+
+/// Whether this character comes first.
+pub(super) fn begins_mark(mark: char, run: Tokens<'_, '_>) -> bool
+    ensures { result ≡ begins_mark mark (tokens_of run.entry) }
+{
+    match look(run) {
+        Look::Mark(first, _) => first == mark,
+        _ => false,
+    }
+}
+
+/// Whether a parenthesis comes first.
+fn begins_parenthesis(run: Tokens<'_, '_>) -> bool
+    ensures { result ≡ begins_parenthesis (tokens_of run.entry) }
+{
+    match look(run) {
+        Look::Group(Delimiter::Parenthesis) => true,
+        _ => false,
+    }
+}
+
+/// Whether `::` comes first.
+pub(super) fn begins_colons(run: Tokens<'_, '_>) -> bool
+    ensures { result ≡ begins_colons (tokens_of run.entry) }
+{
+    let Look::Mark(first, Spacing::Joint) = look(run) else {
+        return false;
+    };
+    let Look::Mark(second, _) = look(run.rest()) else {
+        return false;
+    };
+    (first == ':') & (second == ':')
+}
+
+/// Whether `->` comes first.
+pub(super) fn begins_arrow(run: Tokens<'_, '_>) -> bool
+    ensures { result ≡ begins_arrow (tokens_of run.entry) }
+{
+    let Look::Mark(first, Spacing::Joint) = look(run) else {
+        return false;
+    };
+    let Look::Mark(second, _) = look(run.rest()) else {
+        return false;
+    };
+    (first == '-') & (second == '>')
+}
+
+/// Whether `...` comes first.
+pub(super) fn begins_dots(run: Tokens<'_, '_>) -> bool
+    ensures { result ≡ begins_dots (tokens_of run.entry) }
+{
+    let Look::Mark(first, Spacing::Joint) = look(run) else {
+        return false;
+    };
+    let Look::Mark(second, Spacing::Joint) = look(run.rest()) else {
+        return false;
+    };
+    let Look::Mark(third, _) = look(run.rest().rest()) else {
+        return false;
+    };
+    ((first == '.') & (second == '.')) & (third == '.')
+}
+
+/// Whether `:` comes first, and no `::`.
+pub(super) fn is_typing(run: Tokens<'_, '_>) -> bool
+    ensures { result ≡ typing (tokens_of run.entry) }
+{
+    begins_mark(':', run) & !begins_colons(run)
+}
+
+/// Whether a path goes on behind a name.
+pub(super) fn goes_on(run: Tokens<'_, '_>) -> bool
+    ensures { result ≡ goes_on (tokens_of run.entry) }
+{
+    begins_mark('<', run) | begins_colons(run) | begins_parenthesis(run)
+}
+
+/// Whether a bound comes first.
+pub(super) fn begins_bound(run: Tokens<'_, '_>) -> bool
+    ensures { result ≡ begins_bound (tokens_of run.entry) }
+{
+    if let Look::Word = look(run) {
+        return true;
+    }
+    begins_mark('\'', run) | begins_mark('?', run) | begins_colons(run) | begins_parenthesis(run)
+}
+
+/// That the first token that is left does not fit.
+pub(super) fn misfit(at: &Spot<'_, '_>) -> Next
+    ensures { IsAction result (spot_of at.now) (misfits (tokens_of at.now.run)) }
+{
+    Err(Stop::Misfit(first_span(at.run)))
+}
+
+/// That the second token that is left does not fit.
+pub(super) fn misfit_behind(at: &Spot<'_, '_>) -> Next
+    ensures { IsAction result (spot_of at.now) (misfits (rest_of (tokens_of at.now.run))) }
+{
+    Err(Stop::Misfit(first_span(at.run.rest())))
+}
