@@ -15,7 +15,10 @@ use Rattle.logos_automaton.specs.declared.errors.BuildError.TheVariants.{LimitSi
 use Rattle.logos_codegen.specs.Texts.{named_leaf, listed_of}
 use Rattle.logos_codegen.specs.Rules.{NamedRule, named_rule, rules_in, names_in, GiveAll, utf8_faults, GraphLists, graph_faults, size_limit, states_limit, AreListed}
 use Rattle.logos_codegen.specs.Source.{Says, IsShallow, IsAccepted, IsRefused, faulty}
-use Rattle.logos_codegen.specs.Steps.{IsLimit, ListsGraph, IsGraphMade}
+use Rattle.logos_codegen.specs.Steps.{IsLimit, ListsGraph, AreGraphFaults, IsGraphMade}
+use Rattle.logos_codegen.specs.Refusals.{Refuses as RefusesSource}
+use Rattle.logos_codegen.specs.declared.refusal.Refusal.{Refusal}
+use Rattle.logos_codegen.proofs.RefusalLemmas.{refuses_by}
 use Rattle.logos_codegen.proofs.Listing.{lists_some}
 
 pub rules_are : (leaves : List Leaf) → rules_in (map named_rule leaves) ≡ rules_of leaves
@@ -86,6 +89,11 @@ graph_small leaves item faults none (graph_faults graph small are e) = small
 graph_small leaves item faults none (size_limit more e) = absurd (cc)
 graph_small leaves item faults none (states_limit small start more e) = small
 
+-- without a graph, its part is a fault
+pub missing_listed : (leaves : List Leaf) (utf8 : Bool) (item : Span) (before after : List ListedFault) (graph : Option GraphValue) → ListsGraph leaves utf8 item before after graph → graph ≡ None →
+    AreGraphFaults leaves utf8 item before after
+missing_listed leaves utf8 item before after graph lists none = (λ e. lists.missing none (both_empty before lists.faults (sym lists.all ∙ e)).1, (graph, lists))
+
 -- where nothing is listed the source is accepted
 pub nothing_listed : (source : List ℕ) (enum : EnumValue) (item : Span) (faults : List ListedFault) (leaves : List NamedRule) → Says source enum item → AreListed enum item faults leaves → faults ≡ [] →
     IsAccepted source (rules_in leaves) enum.utf8
@@ -150,3 +158,11 @@ module _ (enum : EnumValue) (item : Span) (leaves : List Leaf) (first second thi
         };
         sizes = record { short = short; shallow = shallow; small = rw (made.leaves_are, ← rules_are leaves) small };
       }
+
+-- some faults up to those of the graph refuse the source
+pub graph_refuses : (enum : EnumValue) (item : Span) (leaves : List Leaf) (first second third : List ListedFault)
+    (begun : first ≡ []) (given : (faults : List ListedFault) × GiveAll enum.definitions faults (map named_rule leaves) × (second ≡ first ++ faults))
+    (text : third ≡ second ++ utf8_faults enum.utf8 (map named_rule leaves)) (source : List ℕ) (error : Refusal) → Says source enum item →
+    RefusesSource (AreGraphFaults leaves enum.utf8 item third) error → RefusesSource (IsRefused source) error
+graph_refuses enum item leaves first second third begun given text source error says r =
+    refuses_by (AreGraphFaults leaves enum.utf8 item third) (IsRefused source) (λ faults f. refused enum item leaves first second third faults f.1.0 begun given text f.1.1 source says f.0) error r

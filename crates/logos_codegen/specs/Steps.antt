@@ -27,6 +27,14 @@ pub record ListsGraph (leaves : List Leaf) (utf8 : Bool) (item : Span) (before a
   pub missing : graph ≡ None → faults ≢ []
   pub is : (value : GraphValue) → graph ≡ Some value → IsGraphOf leaves utf8 value × (faults ≡ [] → value.faults ≡ [])
 
+-- the graph of leaves, where neither they nor anything before them has a fault
+abbrev pub IsFaultless : List Leaf → Bool → Span → List ListedFault → GraphValue → Type 0
+IsFaultless leaves utf8 item before graph = ListsGraph leaves utf8 item before [] (Some graph)
+
+-- some faults: those before the graph of leaves, and its own
+abbrev pub AreGraphFaults : List Leaf → Bool → Span → List ListedFault → List ListedFault → Type 0
+AreGraphFaults leaves utf8 item before faults = (faults ≢ []) × ((graph : Option GraphValue) × ListsGraph leaves utf8 item before faults graph)
+
 -- the graph of a source without faults, which has these rules and is within the sizes
 pub record IsGraphMade (source : List ℕ) (graph : GraphValue) : Type 0 where
   pub accepted : IsAccepted source (rules_of graph.leaves) graph.utf8

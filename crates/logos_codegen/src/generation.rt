@@ -16,7 +16,7 @@ ghost use Rattle.logos_codegen.specs.Source.{IsNamed, IsAccepted, IsRefused, IsW
 ghost use Rattle.logos_codegen.specs.SourceGraph.{IsSourceGraph};
 ghost use Rattle.logos_codegen.specs.Kept.{KeepsSource};
 ghost use Rattle.logos_codegen.specs.Refusals.{Refuses, IsMemory};
-ghost use Rattle.logos_codegen.specs.Steps.{IsLimit, ListsGraph, IsGraphMade};
+ghost use Rattle.logos_codegen.specs.Steps.{IsLimit, ListsGraph, IsFaultless, AreGraphFaults, IsGraphMade};
 
 use crate::leaves::{leaves_of, list_not_utf8};
 use crate::refusal::Refusal;
@@ -72,7 +72,8 @@ fn list_faults(
     faults: &[GraphError],
     errors: &mut Errors,
 ) -> Result<(), Memory>
-    ensures { OnOk result (errors.new ≡ errors.old ++ flat_map (listed_of (map named_leaf leaves.now) item) (map fault_of faults.now)) }
+    ensures { OnOk result (errors.new ≡ errors.old ++ flat_map (listed_of
+        (map named_leaf leaves.now) item) (map fault_of faults.now)) }
 {
     for fault in faults {
         list_fault(alloc, leaves, item, fault, errors)?;
@@ -124,28 +125,51 @@ fn is_faultless(errors: &Errors) -> bool
     errors.list().is_empty()
 }
 
+// The graph of leaves without faults, and without others in front of them.
+fn faultless_graph<'s>(
+    alloc: Global,
+    leaves: Vec<Leaf<'s>>,
+    utf8_mode: bool,
+    item: Span,
+    mut errors: Errors,
+) -> Result<Graph<'s>, Refusal>
+    ensures ok { IfOk result (IsFaultless leaves.entry.items utf8_mode item errors) }
+    ensures err { IfErr result (Refuses (AreGraphFaults leaves.entry.items utf8_mode item errors)) }
+{
+    match graph_of(alloc, leaves, utf8_mode, item, &mut errors) {
+        Ok(Some(graph)) => if is_faultless(&errors) {
+            Ok(graph)
+        } else {
+            Err(Refusal::Errors(errors))
+        },
+        Ok(None) => Err(Refusal::Errors(errors)),
+        Err(Memory) => Err(Refusal::Memory),
+    }
+}
+
 // The graph of a source without faults, and the name of its enum.
 fn accept<'s>(alloc: Global, src: &'s str) -> Result<(Graph<'s>, Ident<'s>), Refusal>
     ensures ok { IfOk result (λ read. IsGraphMade src.now read.0) }
     ensures name { IfOk result (λ read. IsNamed src.now (ident_slice read.1)) }
     ensures err { IfErr result (Refuses (IsRefused src.now)) }
-    ensures long { 16777216 < length src.now → IsErrAnd result (Refuses (λ faults. faults ≡ too_long src.now ∷ [])) }
+    ensures long { 16777216 < length src.now → IsErrAnd result (Refuses (λ faults.
+        faults ≡ too_long src.now ∷ [])) }
 {
-    let (item, span) = read_source(alloc, src)?;
+    let (item, span) = match read_source(alloc, src) {
+        Ok(read) => read,
+        Err(refusal) => return Err(refusal),
+    };
     let mut errors = Errors::new(alloc);
     let leaves = leaves_of(alloc, &item.definitions, &mut errors)?;
     list_not_utf8(alloc, item.utf8_mode, &leaves, &mut errors)?;
-    let Some(graph) = graph_of(alloc, leaves, item.utf8_mode, span, &mut errors)? else {
-        return Err(Refusal::Errors(errors));
-    };
-    if !is_faultless(&errors) {
-        return Err(Refusal::Errors(errors));
+    match faultless_graph(alloc, leaves, item.utf8_mode, span, errors) {
+        Ok(graph) => Ok((graph, item.name)),
+        Err(refusal) => Err(refusal),
     }
-    Ok((graph, item.name))
 }
 
 // The code of a graph that finds the longest matches, for the enum with this name, which is this type.
-fn code_of<'g, 's>(
+fn code_for<'g, 's>(
     alloc: Global,
     config: Config,
     name: Ident<'s>,
@@ -155,10 +179,28 @@ fn code_of<'g, 's>(
     requires of_leaves { IsGraphOf graph.now.leaves graph.now.utf8 graph.now }
     requires faultless { graph.now.faults ≡ [] }
     ensures lexer { IfOk result (IsLexer (rules_of graph.now.leaves) graph.now.utf8) }
-    ensures keeps { IfOk result (KeepsGiven (record { shape = config; name = name.entry; this = this.now; error_callback = None }) graph.now) }
+    ensures keeps { IfOk result (KeepsGiven
+        (record { shape = config; name = name.entry; this = this.now; error_callback = None })
+        graph.now) }
 {
     let mut generator = Generator::new(alloc, config, name, this, graph, None);
     generator.generate(alloc)
+}
+
+// The code of a graph that finds the longest matches, for the enum with this name, which has no parameters.
+fn code_of<'s>(
+    alloc: Global,
+    config: Config,
+    name: Ident<'s>,
+    graph: &Graph<'s>,
+) -> Result<Code<'s>, AllocError>
+    requires of_leaves { IsGraphOf graph.now.leaves graph.now.utf8 graph.now }
+    requires faultless { graph.now.faults ≡ [] }
+    ensures lexer { IfOk result (IsLexer (rules_of graph.now.leaves) graph.now.utf8) }
+    ensures keeps { IfOk result (KeepsSource config (ident_slice name.entry) graph.now.leaves) }
+{
+    let this = TokenStream::from_ident(alloc, name)?;
+    code_for(alloc, config, name, &this, graph)
 }
 
 /// The code of the lexer that a source says.
@@ -172,25 +214,33 @@ fn code_of<'g, 's>(
 /// trees, and of the number of states. `Memory` comes wherever memory runs out.
 pub fn generate<'s>(alloc: Global, src: &'s str, config: Config) -> Result<Generated<'s>, Refusal>
     // The source has no faults, and these are its rules and its mode.
-    ensures accepted { IfOk result (λ made. IsAccepted src.now (rules_of made.graph.leaves) made.graph.utf8) }
+    ensures accepted { IfOk result (λ made. IsAccepted src.now
+        (rules_of made.graph.leaves) made.graph.utf8) }
     // The graph is that of the source's leaves, so it can be handed on to a generator.
     ensures graph { IfOk result (λ made. IsSourceGraph src.now made.graph) }
     // The length of the source, its nesting and the size of its trees are within their limits.
     ensures within { IfOk result (λ made. IsWithinSizes src.now (rules_of made.graph.leaves)) }
     // At each place of each input the code finds exactly what maximal munch finds there.
-    ensures lexer { IfOk result (λ made. IsLexer (rules_of made.graph.leaves) made.graph.utf8 made.code) }
+    ensures lexer { IfOk result (λ made. IsLexer
+        (rules_of made.graph.leaves) made.graph.utf8 made.code) }
     ensures name { IfOk result (λ made. IsNamed src.now (ident_slice made.name)) }
     // The code keeps the shape, the name, and what becomes of the matches of each leaf.
-    ensures keeps { IfOk result (λ made. KeepsSource config (ident_slice made.name) made.graph.leaves made.code) }
+    ensures keeps { IfOk result (λ made. KeepsSource config
+        (ident_slice made.name) made.graph.leaves made.code) }
     // What is refused has these faults.
     ensures refused { IfErr result (Refuses (IsRefused src.now)) }
     // A source that is longer than the limit has that one fault.
-    ensures long { 16777216 < length src.now → IsErrAnd result (Refuses (λ faults. faults ≡ too_long src.now ∷ [])) }
+    ensures long { 16777216 < length src.now → IsErrAnd result (Refuses (λ faults.
+        faults ≡ too_long src.now ∷ [])) }
     // What has no faults, and passes no limit, is not refused.
-    ensures complete { (rules : List Rule) (utf8 : Bool) → IsAccepted src.now rules utf8 → IsWithinLimits src.now rules → IfErr result IsMemory }
+    ensures complete { (rules : List Rule) (utf8 : Bool) → IsAccepted src.now rules utf8 →
+        IsWithinLimits src.now rules → IfErr result IsMemory }
 {
-    let (graph, name) = accept(alloc, src)?;
-    let this = TokenStream::from_ident(alloc, name)?;
-    let code = code_of(alloc, config, name, &this, &graph)?;
-    Ok(Generated { code, graph, name })
+    match accept(alloc, src) {
+        Ok((graph, name)) => match code_of(alloc, config, name, &graph) {
+            Ok(code) => Ok(Generated { code, graph, name }),
+            Err(_) => Err(Refusal::Memory),
+        },
+        Err(refusal) => Err(refusal),
+    }
 }

@@ -1,11 +1,11 @@
 -- A type that is read part by part.
-use Rattle.std.proofs.Common.{◌≡◌, Err, ℕ, ◌-◌, ◌+◌, ◌<◌, ◌≤◌, ◌*◌, ◌||◌, List, [], ◌∷◌, ◌++◌, Bool, true, false, Option, Some, None, refl, sym, ap, ◌∙◌, subst, arith, append_assoc}
+use Rattle.std.proofs.Common.{◌≡◌, Err, ℕ, ◌-◌, ◌<◌, ◌≤◌, ◌*◌, ◌||◌, List, [], ◌∷◌, ◌++◌, Bool, true, false, Option, Some, None, refl, sym, ap, ◌∙◌, subst, arith, append_assoc}
 use Rattle.std.proofs.lemmas.List.{append-nil}
 use Rattle.logos_token.specs.Tokens.{TokenList, append, also as and_token, none as no_token, IsRestOf, count_of}
 use Rattle.logos_type.specs.Parts.{Tree, Sign, sign, whole, trees}
 use Rattle.logos_type_reader.specs.declared.table.place.Place.{Place}
-use Rattle.logos_type_reader.specs.Table.{Spot, outer, Move, Fault, takes, bars, keeps, nests, asks, keeps_type, ends, starts, begin, name_of}
-use Rattle.logos_type_reader.specs.Reading.{IsType, just_name, formed, IsMove, a_token, a_bar, a_type, a_still_type, still_tokens, a_nest, AreParts, ended, further, NoType, unbegun, unended, NoMove, no_token, no_type, no_still_type, no_nest, NoParts, here, later, next_of, behind_type}
+use Rattle.logos_type_reader.specs.Table.{Spot, outer, Move, Fault, nests, asks, keeps_type, ends, starts, begin, name_of}
+use Rattle.logos_type_reader.specs.Reading.{IsType, just_name, formed, IsMove, a_token, a_bar, a_type, a_still_type, still_tokens, a_nest, AreParts, ended, further, NoType, unbegun, NoMove, no_token, no_type, no_still_type, no_nest, NoParts, later, next_of, behind_type}
 use Rattle.logos_type_reader.specs.declared.table.place.Stop.{Stop}
 use Rattle.logos_type_reader.specs.declared.table.place.Stop.TheVariants.{Unsupported, Misfit}
 use Rattle.logos_type_reader.specs.declared.reading.TypeFault.{TypeFault}
@@ -149,17 +149,9 @@ still_fault levels spot place fault e h = if_fault-map (NoType levels true spot.
 pub nest_fault : (levels : ℕ) (spot : Spot) (s : Sign) (inner : Spot) (place : Place) (fault : TypeFault) → next_of spot ≡ nests s inner place → IfFault (NoParts levels inner) fault → IfFault (NoMove levels spot) fault
 nest_fault levels spot s inner place fault e h = if_fault-map (NoParts levels inner) (NoMove levels spot) (λ f n. no_nest e n) fault h
 
--- less is left where a path or bounds go on inside
-inner_less : (run within : TokenList) (behind other : Option TokenList) → count_of within < count_of run → other ≡ None → 3 * left within other + 2 < 3 * left run behind + 1
-inner_less run within None None h n = omega (arith, h)
-inner_less run within (Some after) None h n = omega (arith, h)
-inner_less run within behind (Some after) h n = absurd (let z = n in cc)
-
-pub nest_falls : (spot : Spot) (s : Sign) (inner : Spot) (place : Place) → next_of spot ≡ nests s inner place → 3 * spot_left inner + 2 < 3 * spot_left spot + 1
-nest_falls spot s inner place e = let i : Inward spot.run inner = moved spot e in inner_less spot.run inner.run spot.behind inner.behind i.less i.alone
-
-pub begun_falls : (plus : Bool) (run : TokenList) (barred : Bool) (s : Sign) (spot : Spot) → begin plus run ≡ starts barred s spot → 3 * spot_left spot + 2 < 6 * count_of run
-begun_falls plus run barred s spot e = let f : Begins run spot = first_steps plus run e in let h = f.less in omega (arith, h)
+-- less is left behind the first token
+pub begun_falls : (plus : Bool) (run : TokenList) (barred : Bool) (s : Sign) (spot : Spot) → begin plus run ≡ starts barred s spot → spot_left spot < 2 * count_of run
+begun_falls plus run barred s spot e = let f : Begins run spot = first_steps plus run e in f.less
 
 pub begun_rest : (plus : Bool) (run : TokenList) (barred : Bool) (s : Sign) (spot : Spot) → begin plus run ≡ starts barred s spot → {levels : ℕ} {other : Bool} {parts : List Tree} {rest : TokenList} → AreParts levels other spot parts rest → IsRestOf run rest
 begun_rest plus run barred s spot e a = let f : Begins run spot = first_steps plus run e in rest_from f.rest (parts_rest a).rest
@@ -176,6 +168,7 @@ formed_type levels plus run b c s spot ps rest ts a e f h n is =
     let h' : AreParts (levels - 1) false spot ps rest = subst (λ (x : Bool). AreParts (levels - 1) x spot ps rest) k.1 h in
     subst (λ (x : List Tree). IsType levels plus run (whole (trees x)) rest) (sym is) (formed a e f' h')
 
+-- less is left where a path or bounds go on inside
 inner_less_than : (run within : TokenList) (behind other : Option TokenList) → count_of within < count_of run → other ≡ None → left within other < left run behind
 inner_less_than run within None None h n = omega (arith, h)
 inner_less_than run within (Some after) None h n = omega (arith, h)

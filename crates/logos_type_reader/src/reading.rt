@@ -1,17 +1,17 @@
 //! Reads types.
-ghost use Rattle.std.specs.Prelude.{◌≡◌, ◌<◌, ◌++◌, map, IfOk, IfErr, OnOk};
+ghost use Rattle.std.specs.Prelude.{◌≡◌, ◌<◌, ◌∷◌, ◌++◌, [], ℕ, map, IfOk, IfErr, OnOk, None, Ok, false};
 ghost use Rattle.logos_token.specs.Tokens.{IsRestOf, count_of, run_span};
-ghost use Rattle.logos_token.specs.Views.{tokens_of, tree_of as token_of};
-ghost use Rattle.logos_type.specs.Parts.{tree_of};
+ghost use Rattle.logos_token.specs.Views.{tokens_of, inside_of, tree_of as token_of};
+ghost use Rattle.logos_type.specs.Parts.{tree_of, sign_of, sign, opening, closing, still, trees, also, none};
 ghost use Rattle.logos_type_reader.specs.StillRuns.{still_run, still_token};
-ghost use Rattle.logos_type_reader.specs.Table.{outer};
-ghost use Rattle.logos_type_reader.specs.Reading.{IsType, NoType, behind_type};
-ghost use Rattle.logos_type_reader.specs.ReadingViews.{spot_of, behind_of, IfFault, GivesMove, GivesParts};
+ghost use Rattle.logos_type_reader.specs.Table.{Spot as SpotOfRuns, outer, name_of, asks, keeps_type, nests};
+ghost use Rattle.logos_type_reader.specs.Reading.{IsType, NoType, IsMove, behind_type, next_of};
+ghost use Rattle.logos_type_reader.specs.ReadingViews.{spot_of, behind_of, IfFault, IsStep, GivesMove, GivesParts};
 ghost use Rattle.logos_type.specs.TypeTrees.{type_tree};
 ghost use Rattle.logos_type_reader.specs.TypeExprs.{IsTypeExpr, NoTypeExpr};
 
 use crate::table::{Place, Spot, Step, Stop, begin, next_at, read_name};
-use logos_token::token::{Span, TokenTree, Tokens};
+use logos_token::token::{Group, Span, TokenTree, Tokens};
 use logos_type::{Leaf, Part, TypeExpr};
 use std::alloc::{AllocError, AllocFailed, Global};
 
@@ -64,6 +64,15 @@ impl From<Stop> for TypeFault {
 /// How many types may stand inside one another, the outermost counted.
 pub const TYPE_NESTING: u32 = 128;
 
+/// Adds a token of a type.
+fn add_leaf<'s>(leaf: Leaf<'s>, parts: &mut Vec<Part<'s>>) -> Result<(), AllocError>
+    ensures { OnOk result (map tree_of parts.new.items ≡
+        map tree_of parts.old.items ++ sign (sign_of leaf.entry) ∷ []) }
+{
+    parts.push(Part::Leaf(leaf))?;
+    Ok(())
+}
+
 /// Adds the tokens of a run as they are, those inside groups too.
 #[cycle(keeping)]
 fn keep_tokens<'s>(run: Tokens<'_, 's>, parts: &mut Vec<Part<'s>>) -> Result<(), AllocError>
@@ -85,20 +94,27 @@ fn keep_token<'s>(tree: TokenTree<'_, 's>, parts: &mut Vec<Part<'s>>) -> Result<
         map tree_of parts.old.items ++ still_token (token_of tree.entry)) }
 {
     match tree {
-        TokenTree::Ident(ident) => parts.push(Part::Leaf(Leaf::Word(ident.text)))?,
+        TokenTree::Ident(ident) => add_leaf(Leaf::Word(ident.text), parts),
         TokenTree::Punct(punct) => {
             let character = punct.character;
-            parts.push(Part::Leaf(Leaf::Punct(character, punct.spacing)))?
+            add_leaf(Leaf::Punct(character, punct.spacing), parts)
         }
-        TokenTree::Literal(literal) => parts.push(Part::Leaf(Leaf::Literal(literal.text)))?,
-        TokenTree::Doc(doc) => parts.push(Part::Leaf(Leaf::Doc(doc.text)))?,
-        TokenTree::Group(group) => {
-            parts.push(Part::Leaf(Leaf::Open(group.delimiter)))?;
-            keep_tokens(group.run(), parts)?;
-            parts.push(Part::Leaf(Leaf::Close(group.delimiter)))?;
-        }
+        TokenTree::Literal(literal) => add_leaf(Leaf::Literal(literal.text), parts),
+        TokenTree::Doc(doc) => add_leaf(Leaf::Doc(doc.text), parts),
+        TokenTree::Group(group) => keep_group(group, parts),
     }
-    Ok(())
+}
+
+/// Adds a group as it is: its delimiters, and between them the tokens inside it.
+#[cycle(keeping)]
+fn keep_group<'s>(group: Group<'_, 's>, parts: &mut Vec<Part<'s>>) -> Result<(), AllocError>
+    ensures { OnOk result (map tree_of parts.new.items ≡ map tree_of parts.old.items ++
+        (sign (opening group.entry.delimiter) ∷ (still_run (inside_of group.entry) ++
+        sign (closing group.entry.delimiter) ∷ []))) }
+{
+    add_leaf(Leaf::Open(group.delimiter), parts)?;
+    keep_tokens(group.run(), parts)?;
+    add_leaf(Leaf::Close(group.delimiter), parts)
 }
 
 /// What is behind all that is open there.
@@ -122,6 +138,153 @@ fn behind_type<'t, 's>(spot: Spot<'t, 's>, place: Place, run: Tokens<'t, 's>) ->
     }
 }
 
+/// Parts of which there is one so far.
+fn begun_parts<'s>(alloc: Global, part: Part<'s>) -> Result<Vec<Part<'s>>, AllocError>
+    ensures { IfOk result (λ parts. map tree_of parts.items ≡ tree_of part.entry ∷ []) }
+{
+    let mut parts = Vec::new(alloc);
+    parts.push(part)?;
+    Ok(parts)
+}
+
+/// Adds one part, and goes on at the spot behind it: the move, wherever this part is all of it.
+fn move_past<'t, 's>(
+    bars: bool,
+    part: Part<'s>,
+    next: Spot<'t, 's>,
+    parts: &mut Vec<Part<'s>>,
+) -> Result<Option<(bool, Spot<'t, 's>)>, TypeFault>
+    ensures { (levels : ℕ) (spot : SpotOfRuns) →
+        IsMove levels bars spot (tree_of part.entry ∷ []) (spot_of next.entry) →
+        GivesMove levels spot (map tree_of parts.old.items) (map tree_of parts.new.items) result }
+{
+    parts.push(part)?;
+    Ok(Some((bars, next)))
+}
+
+/// Adds the tokens of a run as they are, and goes on at the spot behind them.
+fn move_past_run<'t, 's>(
+    alloc: Global,
+    run: Tokens<'t, 's>,
+    next: Spot<'t, 's>,
+    parts: &mut Vec<Part<'s>>,
+) -> Result<Option<(bool, Spot<'t, 's>)>, TypeFault>
+    ensures { (levels : ℕ) (spot : SpotOfRuns) →
+        IsMove levels false spot (still (trees (still_run (tokens_of run.entry))) ∷ [])
+        (spot_of next.entry) →
+        GivesMove levels spot (map tree_of parts.old.items) (map tree_of parts.new.items) result }
+{
+    let mut kept = Vec::new(alloc);
+    match keep_tokens(run, &mut kept) {
+        Ok(()) => move_past(false, Part::Still(kept), next, parts),
+        Err(_) => Err(TypeFault::Memory),
+    }
+}
+
+/// Adds a part that stays as it is, with one part inside it, and goes on at the spot behind it.
+fn move_past_kept<'t, 's>(
+    alloc: Global,
+    part: Part<'s>,
+    next: Spot<'t, 's>,
+    parts: &mut Vec<Part<'s>>,
+) -> Result<Option<(bool, Spot<'t, 's>)>, TypeFault>
+    ensures { (levels : ℕ) (spot : SpotOfRuns) →
+        IsMove levels false spot (still (also (tree_of part.entry) none) ∷ []) (spot_of next.entry) →
+        GivesMove levels spot (map tree_of parts.old.items) (map tree_of parts.new.items) result }
+{
+    match begun_parts(alloc, part) {
+        Ok(kept) => move_past(false, Part::Still(kept), next, parts),
+        Err(_) => Err(TypeFault::Memory),
+    }
+}
+
+/// Adds the type that comes next, and goes on at a place behind it.
+#[cycle(types)]
+fn move_past_type<'t, 's>(
+    alloc: Global,
+    levels: u32,
+    plus: bool,
+    place: Place,
+    spot: Spot<'t, 's>,
+    parts: &mut Vec<Part<'s>>,
+) -> Result<Option<(bool, Spot<'t, 's>)>, TypeFault>
+    requires { next_of (spot_of spot) ≡ asks plus place }
+    ensures { GivesMove levels (spot_of spot.entry) (map tree_of parts.old.items)
+        (map tree_of parts.new.items) result }
+{
+    match type_at(alloc, levels, plus, spot.run) {
+        Ok((part, rest)) => move_past(false, part, behind_type(spot, place, rest), parts),
+        Err(fault) => Err(fault),
+    }
+}
+
+/// Adds the type that comes next, which stays as it is, and goes on at a place behind it.
+#[cycle(types)]
+fn move_past_still_type<'t, 's>(
+    alloc: Global,
+    levels: u32,
+    place: Place,
+    spot: Spot<'t, 's>,
+    parts: &mut Vec<Part<'s>>,
+) -> Result<Option<(bool, Spot<'t, 's>)>, TypeFault>
+    requires { next_of (spot_of spot) ≡ keeps_type place }
+    ensures { GivesMove levels (spot_of spot.entry) (map tree_of parts.old.items)
+        (map tree_of parts.new.items) result }
+{
+    match type_at(alloc, levels, true, spot.run) {
+        Ok((part, rest)) => move_past_kept(alloc, part, behind_type(spot, place, rest), parts),
+        Err(fault) => Err(fault),
+    }
+}
+
+/// Adds the token with which a path or bounds begin and their parts, and goes on at a place behind.
+#[cycle(types)]
+fn move_past_nest<'t, 's>(
+    alloc: Global,
+    levels: u32,
+    opening: (Leaf<'s>, Spot<'t, 's>),
+    place: Place,
+    spot: Spot<'t, 's>,
+    parts: &mut Vec<Part<'s>>,
+) -> Result<Option<(bool, Spot<'t, 's>)>, TypeFault>
+    requires { next_of (spot_of spot) ≡ nests (sign_of opening.0) (spot_of opening.1) place }
+    ensures { GivesMove levels (spot_of spot.entry) (map tree_of parts.old.items)
+        (map tree_of parts.new.items) result }
+{
+    let (leaf, inner) = opening;
+    add_leaf(leaf, parts)?;
+    match parts_at(alloc, levels, inner, parts) {
+        Ok((barred, rest)) => Ok(Some((barred, behind_type(spot, place, rest)))),
+        Err(fault) => Err(fault),
+    }
+}
+
+/// Adds the parts of what comes next at a spot.
+#[cycle(types)]
+fn make_step<'t, 's>(
+    alloc: Global,
+    levels: u32,
+    step: Step<'t, 's>,
+    spot: Spot<'t, 's>,
+    parts: &mut Vec<Part<'s>>,
+) -> Result<Option<(bool, Spot<'t, 's>)>, TypeFault>
+    requires { IsStep (Ok step) (next_of (spot_of spot)) }
+    ensures { GivesMove levels (spot_of spot.entry) (map tree_of parts.old.items)
+        (map tree_of parts.new.items) result }
+{
+    match step {
+        Step::End => Ok(None),
+        Step::Take(leaf, next) => move_past(false, Part::Leaf(leaf), next, parts),
+        Step::Bar(leaf, next) => move_past(true, Part::Leaf(leaf), next, parts),
+        Step::Ask(plus, place) => move_past_type(alloc, levels, plus, place, spot, parts),
+        Step::KeepType(place) => move_past_still_type(alloc, levels, place, spot, parts),
+        Step::Keep(run, next) => move_past_run(alloc, run, next, parts),
+        Step::Nest(leaf, inner, place) => {
+            move_past_nest(alloc, levels, (leaf, inner), place, spot, parts)
+        }
+    }
+}
+
 /// Adds the next parts at a place inside a type: whether one of them bars the type, and the place behind them; `None` where nothing comes next.
 #[cycle(types)]
 fn move_on<'t, 's>(
@@ -130,41 +293,12 @@ fn move_on<'t, 's>(
     spot: Spot<'t, 's>,
     parts: &mut Vec<Part<'s>>,
 ) -> Result<Option<(bool, Spot<'t, 's>)>, TypeFault>
-    ensures { GivesMove levels (spot_of spot.entry) (map tree_of parts.old.items) (map tree_of parts.new.items) result }
+    ensures { GivesMove levels (spot_of spot.entry) (map tree_of parts.old.items)
+        (map tree_of parts.new.items) result }
 {
-    match next_at(spot.place, spot.run, spot.behind)? {
-        Step::End => Ok(None),
-        Step::Take(leaf, next) => {
-            parts.push(Part::Leaf(leaf))?;
-            Ok(Some((false, next)))
-        }
-        Step::Bar(leaf, next) => {
-            parts.push(Part::Leaf(leaf))?;
-            Ok(Some((true, next)))
-        }
-        Step::Ask(plus, place) => {
-            let (part, rest) = type_at(alloc, levels, plus, spot.run)?;
-            parts.push(part)?;
-            Ok(Some((false, behind_type(spot, place, rest))))
-        }
-        Step::KeepType(place) => {
-            let (part, rest) = type_at(alloc, levels, true, spot.run)?;
-            let mut kept = Vec::new(alloc);
-            kept.push(part)?;
-            parts.push(Part::Still(kept))?;
-            Ok(Some((false, behind_type(spot, place, rest))))
-        }
-        Step::Keep(run, next) => {
-            let mut kept = Vec::new(alloc);
-            keep_tokens(run, &mut kept)?;
-            parts.push(Part::Still(kept))?;
-            Ok(Some((false, next)))
-        }
-        Step::Nest(leaf, inner, place) => {
-            parts.push(Part::Leaf(leaf))?;
-            let (barred, rest) = parts_at(alloc, levels, inner, parts)?;
-            Ok(Some((barred, behind_type(spot, place, rest))))
-        }
+    match next_at(spot.place, spot.run, spot.behind) {
+        Ok(step) => make_step(alloc, levels, step, spot, parts),
+        Err(stop) => Err(TypeFault::from(stop)),
     }
 }
 
@@ -176,7 +310,8 @@ fn parts_at<'t, 's>(
     from: Spot<'t, 's>,
     parts: &mut Vec<Part<'s>>,
 ) -> Result<(bool, Tokens<'t, 's>), TypeFault>
-    ensures { GivesParts levels (spot_of from.entry) (map tree_of parts.old.items) (map tree_of parts.new.items) result }
+    ensures { GivesParts levels (spot_of from.entry) (map tree_of parts.old.items)
+        (map tree_of parts.new.items) result }
 {
     let mut barred = false;
     let mut spot = from;
@@ -197,6 +332,40 @@ fn span_before<'t, 's>(tokens: Tokens<'t, 's>, rest: Tokens<'t, 's>) -> Span
     front.span()
 }
 
+/// The type with which the tokens begin, where they begin with no name, and what is behind it.
+#[cycle(types)]
+fn formed_at<'t, 's>(
+    alloc: Global,
+    levels: u32,
+    plus: bool,
+    tokens: Tokens<'t, 's>,
+) -> Result<(Part<'s>, Tokens<'t, 's>), TypeFault>
+    requires { name_of (tokens_of tokens) ≡ None }
+    ensures ok { IfOk result
+        (λ read. IsType levels plus (tokens_of tokens.entry) (tree_of read.0) (tokens_of read.1)) }
+    ensures err { IfErr result (IfFault (NoType levels plus (tokens_of tokens.entry))) }
+{
+    let opening = match begin(plus, tokens) {
+        Ok(opening) => opening,
+        Err(stop) => return Err(TypeFault::from(stop)),
+    };
+    if levels == 0 {
+        return Err(TypeFault::LimitNesting);
+    }
+    let mut parts = Vec::new(alloc);
+    add_leaf(opening.leaf, &mut parts)?;
+    let (barred, rest) = match parts_at(alloc, levels - 1, opening.spot, &mut parts) {
+        Ok(read) => read,
+        Err(fault) => return Err(fault),
+    };
+    if opening.barred | barred {
+        return Err(TypeFault::Unsupported {
+            span: span_before(tokens, rest),
+        });
+    }
+    Ok((Part::Whole(parts), rest))
+}
+
 /// The type with which the tokens begin, and what is behind it. At most `levels` types stand inside one another, the outermost counted.
 /// Where `plus` does not hold, `+` joins no bounds.
 #[cycle(types)]
@@ -210,25 +379,13 @@ pub(crate) fn type_at<'t, 's>(
         (λ read. IsType levels plus (tokens_of tokens.entry) (tree_of read.0) (tokens_of read.1)) }
     ensures err { IfErr result (IfFault (NoType levels plus (tokens_of tokens.entry))) }
 {
-    if let Some((name, rest)) = read_name(tokens) {
-        if levels == 0 {
-            return Err(TypeFault::LimitNesting);
-        }
-        return Ok((Part::Name(name), rest));
-    }
-    let opening = begin(plus, tokens)?;
+    let Some((name, rest)) = read_name(tokens) else {
+        return formed_at(alloc, levels, plus, tokens);
+    };
     if levels == 0 {
         return Err(TypeFault::LimitNesting);
     }
-    let mut parts = Vec::new(alloc);
-    parts.push(Part::Leaf(opening.leaf))?;
-    let (barred, rest) = parts_at(alloc, levels - 1, opening.spot, &mut parts)?;
-    if opening.barred | barred {
-        return Err(TypeFault::Unsupported {
-            span: span_before(tokens, rest),
-        });
-    }
-    Ok((Part::Whole(parts), rest))
+    Ok((Part::Name(name), rest))
 }
 
 /// The type with which the tokens begin, and what is behind it. At most 128 types stand inside one another.

@@ -12,6 +12,23 @@ fn error_of(alloc: Global, source: &str) -> Result<Option<ReadError>, Fail> {
     Ok(read_enum(alloc, stream.run()).err())
 }
 
+/// The mode of the enum that a source is, and how many definitions it has.
+fn mode_and_count(alloc: Global, source: &str) -> Result<(bool, usize), Fail> {
+    let stream = tokenize(alloc, source)?;
+    let item = read_enum(alloc, stream.run())?;
+    Ok((item.utf8_mode, item.definitions.len()))
+}
+
+/// Whether the enum that a source is has one definition, with this literal.
+fn is_only_literal(alloc: Global, source: &str, literal: &str) -> Result<bool, Fail> {
+    let stream = tokenize(alloc, source)?;
+    let item = read_enum(alloc, stream.run())?;
+    let [definition] = item.definitions.as_slice() else {
+        return Ok(false);
+    };
+    Ok(definition.literal.text == literal)
+}
+
 /// Each source has its first misfit at this span.
 fn have_misfits(
     rt: &impl Abort,
@@ -253,10 +270,7 @@ fn reads_text_literals(rt: HostRuntime) -> Result<(), Fail> {
         source.push_str("enum E { #[regex(")?;
         source.push_str(literal)?;
         source.push_str(")] A }")?;
-        let stream = tokenize(alloc, &source)?;
-        let item = read_enum(alloc, stream.run())?;
-        assert_eq!(rt; item.definitions.len(), 1);
-        assert_eq!(rt; item.definitions[0].literal.text, literal);
+        assert!(rt; is_only_literal(alloc, &source, literal)?, "{source}");
     }
     Ok(())
 }
@@ -280,10 +294,8 @@ fn leaves_other_attributes_out(rt: HostRuntime) -> Result<(), Fail> {
     let alloc = rt.alloc();
     for case in WITHOUT_DEFINITIONS {
         let source = *case;
-        let stream = tokenize(alloc, source)?;
-        let item = read_enum(alloc, stream.run())?;
-        assert_eq!(rt; item.definitions.len(), 0, "{source}");
-        assert!(rt; item.utf8_mode, "{source}");
+        let read = mode_and_count(alloc, source)?;
+        assert_eq!(rt; read, (true, 0), "{source}");
     }
     Ok(())
 }
@@ -314,10 +326,8 @@ fn reads_the_mode(rt: HostRuntime) -> Result<(), Fail> {
     let alloc = rt.alloc();
     for case in MODES {
         let (source, utf8_mode, skips) = *case;
-        let stream = tokenize(alloc, source)?;
-        let item = read_enum(alloc, stream.run())?;
-        assert_eq!(rt; item.utf8_mode, utf8_mode, "{source}");
-        assert_eq!(rt; item.definitions.len(), skips, "{source}");
+        let read = mode_and_count(alloc, source)?;
+        assert_eq!(rt; read, (utf8_mode, skips), "{source}");
     }
     Ok(())
 }

@@ -7,10 +7,14 @@ use std::test::Fail;
 /// `V<'x, T>`, where `T` is a type of these parts.
 fn around<'s>(alloc: Global, inner: Part<'s>) -> Result<Part<'s>, Fail> {
     let mut parts = Vec::new(alloc);
-    parts.push(Part::Leaf(Leaf::Word("V")))?;
-    parts.push(Part::Leaf(Leaf::Mark('<')))?;
-    parts.push(Part::Leaf(Leaf::Lifetime("x")))?;
-    parts.push(Part::Leaf(Leaf::Mark(',')))?;
+    for leaf in [
+        Leaf::Word("V"),
+        Leaf::Mark('<'),
+        Leaf::Lifetime("x"),
+        Leaf::Mark(','),
+    ] {
+        parts.push(Part::Leaf(leaf))?;
+    }
     parts.push(inner)?;
     parts.push(Part::Leaf(Leaf::Mark('>')))?;
     Ok(Part::Whole(parts))

@@ -41,34 +41,34 @@ fn action_of(reply: Reply, slice: &[u8]) -> Action {
 }
 
 /// Adds the leaf of an item and its span.
-fn push_item(alloc: Global, text: &mut String, item: &Item<'_>) -> Result<(), Fail> {
-    let line = match item {
-        Item::Token { leaf, span, .. } => format!(in alloc;
-            "{} at {}..{}, ",
-            leaf.0, span.from, span.to
-        )?,
+fn push_item(text: &mut String, item: &Item<'_>) -> Result<(), Fail> {
+    let span = match item {
+        Item::Token { leaf, span, .. } => {
+            write!(text, "{} at ", leaf.0)?;
+            span
+        }
         Item::Error {
             leaf: Some(leaf),
             span,
             ..
-        } => format!(in alloc; "error of {} {}..{}, ", leaf.0, span.from, span.to)?,
+        } => {
+            write!(text, "error of {} ", leaf.0)?;
+            span
+        }
         Item::Error {
             leaf: None,
             span,
             ..
-        } => format!(in alloc; "error {}..{}, ", span.from, span.to)?,
+        } => {
+            text.push_str("error ")?;
+            span
+        }
     };
-    text.push_str(line.as_str())?;
+    write!(text, "{}..{}, ", span.from, span.to)?;
     Ok(())
 }
 
-fn push_items(
-    alloc: Global,
-    text: &mut String,
-    code: &Code<'_>,
-    answer: Reply,
-    input: &[u8],
-) -> Result<(), Fail> {
+fn push_items(text: &mut String, code: &Code<'_>, answer: Reply, input: &[u8]) -> Result<(), Fail> {
     let lexer = Lexer::new_bytes(code, input, |_, slice| action_of(answer, slice));
     let Ok(mut lexer) = lexer else {
         return Err(Fail::from("the input is not UTF-8"));
@@ -77,7 +77,7 @@ fn push_items(
         let Some(item) = lexer.next() else {
             return Ok(());
         };
-        push_item(alloc, text, &item)?;
+        push_item(text, &item)?;
     }
     Err(Fail::from("items without end"))
 }
@@ -92,20 +92,14 @@ fn is_in_step(input: &str, span: Span, slice: &[u8], remainder: &[u8]) -> bool {
         && input.as_bytes().get(span.to..) == Some(remainder)
 }
 
-fn push_walk(
-    alloc: Global,
-    text: &mut String,
-    code: &Code<'_>,
-    calls: usize,
-    input: &str,
-) -> Result<(), Fail> {
+fn push_walk(text: &mut String, code: &Code<'_>, calls: usize, input: &str) -> Result<(), Fail> {
     let mut lexer = Lexer::new_str(code, input, emit);
     for _ in 0..calls {
         let (span, steps) = (lexer.span(), lexer.steps());
         if !is_in_step(input, span, lexer.slice(), lexer.remainder()) {
             return Err(Fail::from("another slice"));
         }
-        text.push_str(format!(in alloc; "{}..{} by {steps}; ", span.from, span.to)?.as_str())?;
+        write!(text, "{}..{} by {steps}; ", span.from, span.to)?;
         if lexer.next().is_none() {
             text.push_str("none; ")?;
         }
@@ -113,9 +107,9 @@ fn push_walk(
     Ok(())
 }
 
-fn push_utf8(alloc: Global, text: &mut String, code: &Code<'_>, input: &[u8]) -> Result<(), Fail> {
+fn push_utf8(text: &mut String, code: &Code<'_>, input: &[u8]) -> Result<(), Fail> {
     if let Err(refused) = Lexer::new_bytes(code, input, emit) {
-        text.push_str(format!(in alloc; "{}", refused.valid_up_to)?.as_str())?;
+        write!(text, "{}", refused.valid_up_to)?;
     }
     Ok(())
 }
@@ -123,9 +117,9 @@ fn push_utf8(alloc: Global, text: &mut String, code: &Code<'_>, input: &[u8]) ->
 fn answer(alloc: Global, code: &Code<'_>, ask: Ask<'_>) -> Result<String, Fail> {
     let mut text = String::new(alloc);
     match ask {
-        Ask::Items(answer, input) => push_items(alloc, &mut text, code, answer, input)?,
-        Ask::Walk(calls, input) => push_walk(alloc, &mut text, code, calls, input)?,
-        Ask::Utf8(input) => push_utf8(alloc, &mut text, code, input)?,
+        Ask::Items(answer, input) => push_items(&mut text, code, answer, input)?,
+        Ask::Walk(calls, input) => push_walk(&mut text, code, calls, input)?,
+        Ask::Utf8(input) => push_utf8(&mut text, code, input)?,
     }
     Ok(text)
 }

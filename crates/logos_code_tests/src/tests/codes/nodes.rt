@@ -9,17 +9,12 @@ use std::alloc::Global;
 use std::process::Abort;
 use std::test::Fail;
 
-fn push_mark(alloc: Global, text: &mut String, mark: Option<Mark>) -> Result<(), Fail> {
+fn push_mark(text: &mut String, mark: Option<Mark>) -> Result<(), Fail> {
     let Some(mark) = mark else {
         return Ok(());
     };
-    let leaf = mark.leaf.0;
-    let line = if mark.late {
-        format!(in alloc; "late {leaf} ")?
-    } else {
-        format!(in alloc; "early {leaf} ")?
-    };
-    text.push_str(line.as_str())?;
+    let word = if mark.late { "late" } else { "early" };
+    write!(text, "{word} {} ", mark.leaf.0)?;
     Ok(())
 }
 
@@ -32,49 +27,47 @@ fn cost(comparisons: &[Comparisons]) -> usize {
     operations
 }
 
-fn push_branches(
-    alloc: Global,
-    text: &mut String,
-    branches: &[(Condition, usize)],
-) -> Result<(), Fail> {
-    for (condition, target) in branches {
-        let line = match condition {
-            Condition::Comparisons(all) => format!(in alloc;
-                "to {target} by {} operations ",
-                cost(all)
-            )?,
-            Condition::Test(k) => format!(in alloc; "to {target} by test {k} ")?,
-        };
-        text.push_str(line.as_str())?;
+fn push_condition(text: &mut String, condition: &Condition) -> Result<(), Fail> {
+    match condition {
+        Condition::Comparisons(all) => write!(text, "{} operations ", cost(all))?,
+        Condition::Test(k) => write!(text, "test {k} ")?,
     }
     Ok(())
 }
 
-fn push_fork(alloc: Global, text: &mut String, fork: &Fork) -> Result<(), Fail> {
+fn push_branches(text: &mut String, branches: &[(Condition, usize)]) -> Result<(), Fail> {
+    for (condition, target) in branches {
+        write!(text, "to {target} by ")?;
+        push_condition(text, condition)?;
+    }
+    Ok(())
+}
+
+fn push_fork(text: &mut String, fork: &Fork) -> Result<(), Fail> {
     match fork {
-        Fork::Table(k) => Ok(text.push_str(format!(in alloc; "table {k} ")?.as_str())?),
-        Fork::Conditions(branches) => push_branches(alloc, text, branches),
+        Fork::Table(k) => Ok(write!(text, "table {k} ")?),
+        Fork::Conditions(branches) => push_branches(text, branches),
     }
 }
 
-fn push_state(alloc: Global, text: &mut String, state: &CodeState) -> Result<(), Fail> {
+fn push_state(text: &mut String, state: &CodeState) -> Result<(), Fail> {
     if let Some(k) = state.fast_loop {
-        text.push_str(format!(in alloc; "loop {k} ")?.as_str())?;
+        write!(text, "loop {k} ")?;
     }
-    push_mark(alloc, text, state.mark)?;
-    push_fork(alloc, text, &state.fork)?;
+    push_mark(text, state.mark)?;
+    push_fork(text, &state.fork)?;
     if let Some(target) = state.at_end {
-        text.push_str(format!(in alloc; "end {target} ")?.as_str())?;
+        write!(text, "end {target} ")?;
     }
     text.push_str("; ")?;
     Ok(())
 }
 
 /// Adds the bytes that lead somewhere, and where.
-fn push_jumps(alloc: Global, text: &mut String, table: &[u32; 256]) -> Result<(), Fail> {
+fn push_jumps(text: &mut String, table: &[u32; 256]) -> Result<(), Fail> {
     for (byte, target) in table.iter().enumerate() {
         if *target != NOWHERE {
-            text.push_str(format!(in alloc; "{byte} to {target} ")?.as_str())?;
+            write!(text, "{byte} to {target} ")?;
         }
     }
     text.push_str("; ")?;
@@ -82,13 +75,7 @@ fn push_jumps(alloc: Global, text: &mut String, table: &[u32; 256]) -> Result<()
 }
 
 /// Adds the least and the last of the bytes whose entries have the bit, and their count, if there are any.
-fn push_test(
-    alloc: Global,
-    text: &mut String,
-    table: &[u8; 256],
-    number: usize,
-    bit: u8,
-) -> Result<(), Fail> {
+fn push_test(text: &mut String, table: &[u8; 256], number: usize, bit: u8) -> Result<(), Fail> {
     let (mut first, mut last, mut count) = (255usize, 0usize, 0usize);
     for (byte, entry) in table.iter().enumerate() {
         if entry.checked_shr(u32::from(bit)).unwrap_or(0) % 2 == 1 {
@@ -98,17 +85,16 @@ fn push_test(
         }
     }
     if count > 0 {
-        let line = format!(in alloc; "{number}.{bit}: {first} to {last}, {count}; ")?;
-        text.push_str(line.as_str())?;
+        write!(text, "{number}.{bit}: {first} to {last}, {count}; ")?;
     }
     Ok(())
 }
 
 /// Adds each test that some byte passes.
-fn push_tests(alloc: Global, text: &mut String, tables: &[[u8; 256]]) -> Result<(), Fail> {
+fn push_tests(text: &mut String, tables: &[[u8; 256]]) -> Result<(), Fail> {
     for (number, table) in tables.iter().enumerate() {
         for bit in 0..8u8 {
-            push_test(alloc, text, table, number, bit)?;
+            push_test(text, table, number, bit)?;
         }
     }
     Ok(())
@@ -161,14 +147,14 @@ fn kept(alloc: Global, code: &Code<'_>) -> Result<String, Fail> {
 fn nodes(alloc: Global, code: &Code<'_>) -> Result<String, Fail> {
     let mut text = String::new(alloc);
     for state in &code.parts().states {
-        push_state(alloc, &mut text, state)?;
+        push_state(&mut text, state)?;
     }
     text.push_str("| ")?;
     for table in &code.parts().jump_tables {
-        push_jumps(alloc, &mut text, table)?;
+        push_jumps(&mut text, table)?;
     }
     text.push_str("| ")?;
-    push_tests(alloc, &mut text, &code.parts().bit_tables)?;
+    push_tests(&mut text, &code.parts().bit_tables)?;
     text.push_str("| ")?;
     push_leaves(alloc, &mut text, code.leaves())?;
     Ok(text)

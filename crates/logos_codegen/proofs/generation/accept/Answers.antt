@@ -1,34 +1,22 @@
-use Rattle.std.proofs.lemmas.Result.{err_from_is_err_and}
+use Rattle.std.proofs.Common.{[], Some, refl}
 use Rattle.logos_parser.specs.Values.{enum_value}
 use Rattle.logos_codegen.proofs.RefusalLemmas.{ends_refuses}
-use Rattle.logos_codegen.proofs.GraphLemmas.{some_listed, refused, accepted}
+use Rattle.logos_codegen.proofs.GraphLemmas.{graph_refuses, accepted}
 use Rattle.logos_codegen.proofs.generation.accept.Goals as goal
 
-pub returns-in_err-item-clause-err : goal.returns-in_err-item-clause-err
-returns-in_err-item-clause-err c =
-    let p = err_from_is_err_and c.from_residual.result c.from_residual.ensures.1 in
-    rw (p.1, p.2) (ends_refuses c.args.src.now _ c.in_err-item.ensures.err)
+pub returns-in-Err-clause-err : goal.returns-in-Err-clause-err
+returns-in-Err-clause-err c = ends_refuses c.args.src.now _ c.in-Err.ensures.err
 
-pub returns-in_default-clause-err : goal.returns-in_default-clause-err
-returns-in_default-clause-err c =
+pub returns-in-Ok-faultless_graph-clause-ok : goal.returns-in-Ok-faultless_graph-clause-ok
+returns-in-Ok-faultless_graph-clause-ok c =
     let given = rw c.deref.ensures.value at c.in_ok-leaves.ensures in
     let text = rw c.deref-2.ensures.value at c.in_ok-list_not_utf8.ensures in
-    refused (enum_value c.in_ok-item.item) c.in_ok-item.span c.in_ok-leaves.leaves.items c.new-errors.result c.leaves_of.new.errors c.list_not_utf8.new.errors c.graph_of.new.errors c.in_ok-graph.field-0
-    c.new-errors.ensures given text c.in_ok-graph.ensures c.args.src.now c.in_ok-item.ensures.ok
-    (some_listed (enum_value c.in_ok-item.item) c.in_ok-item.span c.in_ok-leaves.leaves.items c.new-errors.result c.leaves_of.new.errors c.list_not_utf8.new.errors c.graph_of.new.errors c.in_ok-graph.field-0
-    c.new-errors.ensures given text c.in_ok-graph.ensures c.in_default.is)
+    accepted (enum_value c.in-Ok.read.0) c.in-Ok.read.1 c.in_ok-leaves.leaves.items c.new-errors.result c.leaves_of.new.errors c.list_not_utf8.new.errors [] (Some c.in-Ok-faultless_graph.graph)
+    c.new-errors.ensures given text c.in-Ok-faultless_graph.ensures.ok c.args.src.now c.in-Ok.ensures.short c.in-Ok.ensures.shallow c.in-Ok.ensures.ok refl c.in-Ok-faultless_graph.graph refl
 
-pub returns-then-not-is_faultless-clause-err : goal.returns-then-not-is_faultless-clause-err
-returns-then-not-is_faultless-clause-err c =
+pub returns-clause-err : goal.returns-clause-err
+returns-clause-err c =
     let given = rw c.deref.ensures.value at c.in_ok-leaves.ensures in
     let text = rw c.deref-2.ensures.value at c.in_ok-list_not_utf8.ensures in
-    refused (enum_value c.in_ok-item.item) c.in_ok-item.span c.in_ok-leaves.leaves.items c.new-errors.result c.leaves_of.new.errors c.list_not_utf8.new.errors c.graph_of.new.errors c.in_ok-graph.field-0
-    c.new-errors.ensures given text c.in_ok-graph.ensures c.args.src.now c.in_ok-item.ensures.ok
-    (λ e. let t = c.is_faultless.ensures.1 e in let f = c.if-not-is_faultless.true in absurd (cc))
-
-pub returns-clause-ok : goal.returns-clause-ok
-returns-clause-ok c =
-    let given = rw c.deref.ensures.value at c.in_ok-leaves.ensures in
-    let text = rw c.deref-2.ensures.value at c.in_ok-list_not_utf8.ensures in
-    accepted (enum_value c.in_ok-item.item) c.in_ok-item.span c.in_ok-leaves.leaves.items c.new-errors.result c.leaves_of.new.errors c.list_not_utf8.new.errors c.graph_of.new.errors c.in_ok-graph.field-0
-    c.new-errors.ensures given text c.in_ok-graph.ensures c.args.src.now c.in_ok-item.ensures.short c.in_ok-item.ensures.shallow c.in_ok-item.ensures.ok (c.is_faultless.ensures.0 c.if-not-is_faultless.false) c.in-Some.graph c.in-Some.is
+    graph_refuses (enum_value c.in-Ok.read.0) c.in-Ok.read.1 c.in_ok-leaves.leaves.items c.new-errors.result c.leaves_of.new.errors c.list_not_utf8.new.errors
+    c.new-errors.ensures given text c.args.src.now c.in-Err-faultless_graph.refusal c.in-Ok.ensures.ok c.in-Err-faultless_graph.ensures.err

@@ -52,31 +52,31 @@ fn leaves<'s>(alloc: Global, rules: &[(&'s str, usize)]) -> Result<Vec<Leaf<'s>>
 }
 
 /// Adds a number and a space.
-fn push_number(alloc: Global, text: &mut String, number: usize) -> Result<(), Fail> {
-    text.push_str(format!(in alloc; "{number} ")?.as_str())?;
+fn push_number(text: &mut String, number: usize) -> Result<(), Fail> {
+    write!(text, "{number} ")?;
     Ok(())
 }
 
-fn push_error(alloc: Global, text: &mut String, error: &GraphError) -> Result<(), Fail> {
+fn push_error(text: &mut String, error: &GraphError) -> Result<(), Fail> {
     match error {
         GraphError::NoUniversalStart => text.push_str("start ")?,
         GraphError::EmptyMatch(leaf) => {
             text.push_str("empty ")?;
-            push_number(alloc, text, leaf.0)?;
+            push_number(text, leaf.0)?;
         }
         GraphError::Disambiguation(set) => {
             text.push_str("same ")?;
             for leaf in set {
-                push_number(alloc, text, leaf.0)?;
+                push_number(text, leaf.0)?;
             }
         }
     }
     Ok(())
 }
 
-fn push_errors(alloc: Global, text: &mut String, errors: &[GraphError]) -> Result<(), Fail> {
+fn push_errors(text: &mut String, errors: &[GraphError]) -> Result<(), Fail> {
     for error in errors {
-        push_error(alloc, text, error)?;
+        push_error(text, error)?;
     }
     Ok(())
 }
@@ -101,27 +101,21 @@ fn behind(dfa: &Dfa, text: &str, at_end: bool) -> Option<StateId> {
 }
 
 /// Adds the leaves that a state lists.
-fn push_listed(alloc: Global, text: &mut String, dfa: &Dfa, state: StateId) -> Result<(), Fail> {
+fn push_listed(text: &mut String, dfa: &Dfa, state: StateId) -> Result<(), Fail> {
     if !dfa.contains(state) {
         return Err(Fail::from("no state of the automaton"));
     }
     for leaf in dfa.iter_matches(state) {
-        push_number(alloc, text, leaf.0)?;
+        push_number(text, leaf.0)?;
     }
     text.push_str(";")?;
     Ok(())
 }
 
-fn push_lists(
-    alloc: Global,
-    text: &mut String,
-    dfa: &Dfa,
-    fronts: &[&str],
-    at_end: bool,
-) -> Result<(), Fail> {
+fn push_lists(text: &mut String, dfa: &Dfa, fronts: &[&str], at_end: bool) -> Result<(), Fail> {
     for front in fronts {
         let state = behind(dfa, front, at_end).ok_or("no state of the automaton")?;
-        push_listed(alloc, text, dfa, state)?;
+        push_listed(text, dfa, state)?;
     }
     Ok(())
 }
@@ -145,28 +139,23 @@ fn count_states(dfa: &Dfa) -> usize {
     count
 }
 
-fn push_children(alloc: Global, text: &mut String, dfa: &Dfa) -> Result<(), Fail> {
-    push_number(alloc, text, count_states(dfa))?;
+fn push_children(text: &mut String, dfa: &Dfa) -> Result<(), Fail> {
+    push_number(text, count_states(dfa))?;
     for child in [
         behind(dfa, "a", false),
         behind(dfa, "b", false),
         Some(dfa.start()),
     ] {
-        push_number(alloc, text, count_child(dfa, child))?;
+        push_number(text, count_child(dfa, child))?;
     }
     Ok(())
 }
 
-fn push_finds(
-    alloc: Global,
-    text: &mut String,
-    graph: &Graph<'_>,
-    fronts: &[&str],
-) -> Result<(), Fail> {
+fn push_finds(text: &mut String, graph: &Graph<'_>, fronts: &[&str]) -> Result<(), Fail> {
     for front in fronts {
         if let Some((leaf, to)) = found(graph, front.as_bytes()) {
-            push_number(alloc, text, leaf.0)?;
-            push_number(alloc, text, to)?;
+            push_number(text, leaf.0)?;
+            push_number(text, to)?;
         }
         text.push_str(";")?;
     }
@@ -210,22 +199,22 @@ fn push_told(
 }
 
 /// Adds each state in the plain form, and in the alternate one.
-fn push_states(alloc: Global, text: &mut String, graph: &Graph<'_>) -> Result<(), Fail> {
+fn push_states(text: &mut String, graph: &Graph<'_>) -> Result<(), Fail> {
     for number in graph.iter_states() {
         if graph.contains(number) {
             let state = graph.get_state(number);
-            text.push_str(format!(in alloc; "{state}; {state:#};")?.as_str())?;
+            write!(text, "{state}; {state:#};")?;
         }
     }
     Ok(())
 }
 
 /// Adds the states that lead to each state.
-fn push_backward(alloc: Global, text: &mut String, graph: &Graph<'_>) -> Result<(), Fail> {
+fn push_backward(text: &mut String, graph: &Graph<'_>) -> Result<(), Fail> {
     for number in graph.iter_states() {
         if graph.contains(number) {
             for from in &graph.get_state(number).backward {
-                push_number(alloc, text, from.index())?;
+                push_number(text, from.index())?;
             }
         }
         text.push_str(";")?;
@@ -246,17 +235,17 @@ fn push_answer(
     ask: Ask<'_>,
 ) -> Result<(), Fail> {
     match ask {
-        Ask::Faults => push_errors(alloc, text, graph.errors()),
+        Ask::Faults => push_errors(text, graph.errors()),
         Ask::Listing => Ok(text.push_str(graph.to_string(alloc)?.as_str())?),
         Ask::Chart => Ok(text.push_str(graph.get_mermaid(alloc)?.as_str())?),
         Ask::Label => push_label(alloc, text, graph),
-        Ask::States => push_states(alloc, text, graph),
-        Ask::Backward => push_backward(alloc, text, graph),
-        Ask::Len => push_number(alloc, text, state_count(graph)),
-        Ask::Lists(fronts) => push_lists(alloc, text, graph.dfa(), fronts, false),
-        Ask::ListsAtEnd(fronts) => push_lists(alloc, text, graph.dfa(), fronts, true),
-        Ask::Children => push_children(alloc, text, graph.dfa()),
-        Ask::Finds(fronts) => push_finds(alloc, text, graph, fronts),
+        Ask::States => push_states(text, graph),
+        Ask::Backward => push_backward(text, graph),
+        Ask::Len => push_number(text, state_count(graph)),
+        Ask::Lists(fronts) => push_lists(text, graph.dfa(), fronts, false),
+        Ask::ListsAtEnd(fronts) => push_lists(text, graph.dfa(), fronts, true),
+        Ask::Children => push_children(text, graph.dfa()),
+        Ask::Finds(fronts) => push_finds(text, graph, fronts),
         Ask::Tells(cases) => push_told(text, graph, cases),
     }
 }
@@ -276,13 +265,12 @@ fn answer(alloc: Global, rules: Rules<'_>, ask: Ask<'_>) -> Result<String, Fail>
 
 /// Adds a line for a row that is answered otherwise than it says: its number, its first pattern, and the answer.
 fn push_wrong(
-    alloc: Global,
     text: &mut String,
     number: usize,
     rules: Rules<'_>,
     answer: &str,
 ) -> Result<(), Fail> {
-    push_number(alloc, text, number)?;
+    push_number(text, number)?;
     if let Some(rule) = rules.first() {
         text.push_str(rule.0)?;
     }
@@ -302,7 +290,7 @@ pub(super) fn answers(
     for (number, case) in cases.iter().enumerate() {
         let text = answer(alloc, case.0, case.1)?;
         if text.as_str() != case.2 {
-            push_wrong(alloc, &mut wrong, number, case.0, text.as_str())?;
+            push_wrong(&mut wrong, number, case.0, text.as_str())?;
         }
     }
     assert_eq!(rt; wrong.as_str(), "");

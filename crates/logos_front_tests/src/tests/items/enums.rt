@@ -14,7 +14,7 @@ fn push_run(alloc: Global, text: &mut String, run: Tokens<'_, '_>) -> Result<(),
     }
     let printed = print(alloc, run)?;
     let Span { from, to } = run.span();
-    text.push_str(format!(in alloc; "[{printed}]{from}..{to} ")?.as_str())?;
+    write!(text, "[{printed}]{from}..{to} ")?;
     Ok(())
 }
 
@@ -31,7 +31,7 @@ fn push_fields(
     list: &[Field<'_, '_>],
 ) -> Result<(), Fail> {
     let Span { from, to } = span;
-    text.push_str(format!(in alloc; "{word} {from}..{to} ")?.as_str())?;
+    write!(text, "{word} {from}..{to} ")?;
     for field in list {
         push_field(alloc, text, field)?;
     }
@@ -65,7 +65,7 @@ fn push_item(alloc: Global, text: &mut String, item: &ItemEnum<'_, '_>) -> Resul
         let word = word_of(parameter.kind);
         let name = parameter.name.text;
         let Span { from, to } = parameter.run.span();
-        text.push_str(format!(in alloc; "{word} {name} {from}..{to}, ")?.as_str())?;
+        write!(text, "{word} {name} {from}..{to}, ")?;
     }
     for variant in &item.variants {
         push_variant(alloc, text, variant)?;
@@ -74,7 +74,7 @@ fn push_item(alloc: Global, text: &mut String, item: &ItemEnum<'_, '_>) -> Resul
     Ok(())
 }
 
-fn push_error(alloc: Global, text: &mut String, error: ReadError) -> Result<(), Fail> {
+fn push_error(text: &mut String, error: ReadError) -> Result<(), Fail> {
     let (word, span) = match error {
         ReadError::NotAnEnum { span } => ("NotAnEnum", span),
         ReadError::Grammar { span } => ("Grammar", span),
@@ -83,7 +83,7 @@ fn push_error(alloc: Global, text: &mut String, error: ReadError) -> Result<(), 
         ReadError::Memory => ("Memory", Span { from: 0, to: 0 }),
     };
     let Span { from, to } = span;
-    text.push_str(format!(in alloc; "{word} {from}..{to}")?.as_str())?;
+    write!(text, "{word} {from}..{to}")?;
     Ok(())
 }
 
@@ -93,7 +93,7 @@ fn told(alloc: Global, source: &str) -> Result<String, Fail> {
     let mut text = String::new(alloc);
     match read_enum(alloc, stream.run()) {
         Ok(item) => push_item(alloc, &mut text, &item)?,
-        Err(error) => push_error(alloc, &mut text, error)?,
+        Err(error) => push_error(&mut text, error)?,
     }
     Ok(text)
 }
@@ -214,14 +214,19 @@ fn names_the_first_fault(rt: HostRuntime) -> Result<(), Fail> {
     tell(&rt, rt.alloc(), FAULTS)
 }
 
+/// Why a source is not read.
+fn error_of(alloc: Global, source: &str) -> Result<Option<ReadError>, Fail> {
+    let stream = tokenize(alloc, source)?;
+    Ok(read_enum(alloc, stream.run()).err())
+}
+
 /// Whether a source is read, or why not; without the span where it is no enum.
 fn verdict(alloc: Global, source: &str) -> Result<String, Fail> {
-    let stream = tokenize(alloc, source)?;
     let mut text = String::new(alloc);
-    match read_enum(alloc, stream.run()) {
-        Ok(_) => text.push_str("read")?,
-        Err(ReadError::NotAnEnum { .. }) => text.push_str("NotAnEnum")?,
-        Err(error) => push_error(alloc, &mut text, error)?,
+    match error_of(alloc, source)? {
+        None => text.push_str("read")?,
+        Some(ReadError::NotAnEnum { .. }) => text.push_str("NotAnEnum")?,
+        Some(error) => push_error(&mut text, error)?,
     }
     Ok(text)
 }
@@ -236,6 +241,20 @@ fn push_nested(text: &mut String, nest: (&str, &str, &str), count: usize) -> Res
         text.push_str(nest.2)?;
     }
     Ok(())
+}
+
+/// What is said of an enum with this in front and behind of what is nested.
+fn nested_verdict(
+    alloc: Global,
+    front: &str,
+    nest: (&str, &str, &str),
+    count: usize,
+    back: &str,
+) -> Result<String, Fail> {
+    let mut source = String::from_str(alloc, front)?;
+    push_nested(&mut source, nest, count)?;
+    source.push_str(back)?;
+    verdict(alloc, source.as_str())
 }
 
 const LIMITS: &[(&str, (&str, &str, &str), usize, &str, &str)] = &[
@@ -270,11 +289,8 @@ fn reads_up_to_the_limits(rt: HostRuntime) -> Result<(), Fail> {
     let alloc = rt.alloc();
     for case in LIMITS {
         let (front, nest, count, back, wanted) = *case;
-        let mut source = String::from_str(alloc, front)?;
-        push_nested(&mut source, nest, count)?;
-        source.push_str(back)?;
-        let text = verdict(alloc, source.as_str())?;
-        assert_eq!(rt; text.as_str(), wanted, "{source}");
+        let text = nested_verdict(alloc, front, nest, count, back)?;
+        assert_eq!(rt; text.as_str(), wanted, "{front}");
     }
     Ok(())
 }
@@ -294,7 +310,8 @@ fn disagreement(
     if text.as_str() == wanted.as_str() {
         return Ok(None);
     }
-    Ok(Some(format!(in alloc; "{source}: {text}, wanted {wanted}\n")?))
+    write!(source, ": {text}, wanted {wanted}\n")?;
+    Ok(Some(source))
 }
 
 const CHANGES: &[Change] = &[Change::Drop, Change::Double, Change::Turn];
@@ -381,21 +398,9 @@ fn agrees_with_a_plain_reader(rt: HostRuntime) -> Result<(), Fail> {
     let alloc = rt.alloc();
     let (item, items) = disagreements(alloc, "front", "", "", PIECES_OF_ENUM)?;
     assert_eq!(rt; item.as_str(), "");
-    let (variants, others) = disagreements(
-        alloc,
-        "variant",
-        "enum E { ",
-        "}",
-        PIECES_OF_VARIANTS,
-    )?;
+    let (variants, others) = disagreements(alloc, "variant", "enum E { ", "}", PIECES_OF_VARIANTS)?;
     assert_eq!(rt; variants.as_str(), "");
-    let (fields, more) = disagreements(
-        alloc,
-        "field",
-        "enum E { A { ",
-        "} }",
-        PIECES_OF_FIELDS,
-    )?;
+    let (fields, more) = disagreements(alloc, "field", "enum E { A { ", "} }", PIECES_OF_FIELDS)?;
     assert_eq!(rt; fields.as_str(), "");
     assert!(rt; items.saturating_add(others).saturating_add(more) > 4000);
     Ok(())

@@ -19,11 +19,7 @@ fn push_run(
     Ok(())
 }
 
-fn push_value(
-    alloc: Global,
-    text: &mut String,
-    value: NestedValue<'_, '_>,
-) -> Result<(), Fail> {
+fn push_value(alloc: Global, text: &mut String, value: NestedValue<'_, '_>) -> Result<(), Fail> {
     match value {
         NestedValue::Assign(run) => push_run(alloc, text, " = ", run),
         NestedValue::Literal(literal) => {
@@ -81,7 +77,10 @@ const ARGUMENTS: &[(&str, &str)] = &[
         "ignore(case) x = y, z",
         "ignore in [case]; unexpected [x = y]; [z]; ",
     ),
-    ("ignore(case),, z", "ignore in [case]; unexpected [,]; [z]; "),
+    (
+        "ignore(case),, z",
+        "ignore in [case]; unexpected [,]; [z]; ",
+    ),
     ("type T = u8", "type T = [u8]; "),
     ("type T = Map<u8, u16>", "type T = [Map < u8]; [u16 >]; "),
     ("type T", "type T = []; "),

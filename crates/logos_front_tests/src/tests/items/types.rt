@@ -1,7 +1,7 @@
 //! Types, as they are read, printed and copied, and why a source is none.
 
 use logos_token::token::{Span, tokenize};
-use logos_type::{exceeds, print_type};
+use logos_type::{TypeExpr, exceeds, print_type};
 use logos_type_reader::{TypeFault, read_type};
 use std::alloc::Global;
 use std::test::Fail;
@@ -117,19 +117,23 @@ const NO_TYPES: &[(&str, bool, usize, usize)] = &[
     ("(_, ;)", true, 1, 2),
 ];
 
+/// Whether the type that a source should be is left out, or what does not fit, and where.
+fn fault_of(alloc: Global, source: &str) -> Result<Option<(bool, Span)>, Fail> {
+    let stream = tokenize(alloc, source)?;
+    Ok(match read_type(alloc, stream.run()).err() {
+        Some(TypeFault::Unsupported { span }) => Some((true, span)),
+        Some(TypeFault::Misfit { span }) => Some((false, span)),
+        _ => None,
+    })
+}
+
 #[test]
 fn names_what_is_no_type(rt: HostRuntime) -> Result<(), Fail> {
     let alloc = rt.alloc();
     for case in NO_TYPES {
         let (source, left_out, from, to) = *case;
-        let stream = tokenize(alloc, source)?;
-        let (is_left_out, span) = match read_type(alloc, stream.run()) {
-            Err(TypeFault::Unsupported { span }) => (true, span),
-            Err(TypeFault::Misfit { span }) => (false, span),
-            _ => return Err(Fail::from(source)),
-        };
-        assert!(rt; is_left_out == left_out, "{source}");
-        assert_eq!(rt; span, Span { from, to }, "{source}");
+        let fault = fault_of(alloc, source)?;
+        assert!(rt; fault == Some((left_out, Span { from, to })), "{source}");
     }
     Ok(())
 }
@@ -144,19 +148,13 @@ fn repeated(alloc: Global, text: &str, count: usize, behind: &str) -> Result<Str
     Ok(all)
 }
 
-/// Whether the limit is passed where this stands so many times in front of a type; where it is not, 128 levels are counted.
+/// Whether the limit is passed where this stands so many times in front of a type, or it has another depth than 128 levels.
 fn passes(alloc: Global, opening: &str, count: usize, inner: &str) -> Result<bool, Fail> {
     let source = repeated(alloc, opening, count, inner)?;
     let stream = tokenize(alloc, &source)?;
     match read_type(alloc, stream.run()) {
-        Ok((read, _)) => {
-            if exceeds(&read.part, 128) | !exceeds(&read.part, 127) {
-                return Err("another depth".into());
-            }
-            Ok(false)
-        }
-        Err(TypeFault::LimitNesting) => Ok(true),
-        Err(_) => Err("no type".into()),
+        Ok((read, _)) => Ok(exceeds(&read.part, 128) | !exceeds(&read.part, 127)),
+        Err(fault) => Ok(matches!(fault, TypeFault::LimitNesting)),
     }
 }
 
@@ -185,20 +183,27 @@ fn counts_levels(rt: HostRuntime) -> Result<(), Fail> {
 
 const COPIED: &[&str] = &["u8", "Vec<[&'a T; 5+=1]>", "<T as P>::X"];
 
+/// Whether a copy of a type prints as the type does.
+fn prints_alike(alloc: Global, one: &TypeExpr<'_>) -> Result<bool, Fail> {
+    let copy = one.clone()?;
+    Ok(print_type(alloc, &copy)?.as_str() == print_type(alloc, one)?.as_str())
+}
+
+/// Whether a source is a type that a copy of it prints as.
+fn copy_prints(alloc: Global, source: &str) -> Result<bool, Fail> {
+    let stream = tokenize(alloc, source)?;
+    match read_type(alloc, stream.run()) {
+        Ok((type_expr, _)) => prints_alike(alloc, &type_expr),
+        Err(_) => Ok(false),
+    }
+}
+
 #[test]
 fn copies(rt: HostRuntime) -> Result<(), Fail> {
     let alloc = rt.alloc();
     for case in COPIED {
         let source = *case;
-        let stream = tokenize(alloc, source)?;
-        if let Ok((type_expr, _)) = read_type(alloc, stream.run()) {
-            let copy = type_expr.clone()?;
-            let text = print_type(alloc, &copy)?;
-            let original = print_type(alloc, &type_expr)?;
-            assert_eq!(rt; text.as_str(), original.as_str(), "{source}");
-        } else {
-            assert!(rt; false, "{source}");
-        }
+        assert!(rt; copy_prints(alloc, source)?, "{source}");
     }
     Ok(())
 }

@@ -132,12 +132,17 @@ fn copies(alloc: Global, callback: &Callback<'_>, text: &str) -> Result<bool, Fa
     Ok((copy.span() == callback.span()) & (print(alloc, tokens.run())?.as_str() == text))
 }
 
-fn leaf_copies(alloc: Global, set: Set, tokens: &str, text: &str) -> Result<bool, Fail> {
-    let leaf = leaf(alloc, set, tokens)?;
+/// Whether the callback of a leaf has such a copy.
+fn callback_copies(alloc: Global, leaf: &Leaf<'_>, text: &str) -> Result<bool, Fail> {
     match &leaf.callback {
         Some(callback) => copies(alloc, callback, text),
         None => Ok(false),
     }
+}
+
+fn leaf_copies(alloc: Global, set: Set, tokens: &str, text: &str) -> Result<bool, Fail> {
+    let leaf = leaf(alloc, set, tokens)?;
+    callback_copies(alloc, &leaf, text)
 }
 
 #[test]

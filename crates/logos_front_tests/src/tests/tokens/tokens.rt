@@ -53,13 +53,12 @@ fn inner<'t, 's>(run: Tokens<'t, 's>, groups: &[usize]) -> Option<Tokens<'t, 's>
     Some(run)
 }
 
-fn push_span(alloc: Global, text: &mut String, from: usize, to: usize) -> Result<(), Fail> {
-    text.push_str(format!(in alloc; "{from}..{to} ")?.as_str())?;
+fn push_span(text: &mut String, from: usize, to: usize) -> Result<(), Fail> {
+    write!(text, "{from}..{to} ")?;
     Ok(())
 }
 
 fn push_spans(
-    alloc: Global,
     text: &mut String,
     run: Tokens<'_, '_>,
     places: &[(&[usize], usize)],
@@ -67,7 +66,7 @@ fn push_spans(
     for place in places {
         let inner = inner(run, place.0).ok_or("no group")?;
         let span = past(inner, place.1).first().ok_or("no tree")?.span();
-        push_span(alloc, text, span.from, span.to)?;
+        push_span(text, span.from, span.to)?;
     }
     Ok(())
 }
@@ -117,20 +116,20 @@ fn push_answer(
     match ask {
         Ask::Refusal => Ok(()),
         Ask::Extent if run.is_empty() => Ok(text.push_str("none")?),
-        Ask::Extent => push_span(alloc, text, run.span().from, run.span().to),
-        Ask::Spans(places) => push_spans(alloc, text, run, places),
+        Ask::Extent => push_span(text, run.span().from, run.span().to),
+        Ask::Spans(places) => push_spans(text, run, places),
         Ask::Texts => push_texts(text, run),
         Ask::Fronts => {
             let (one, two, is_none) = fronts(run);
-            push_span(alloc, text, one.from, one.to)?;
-            push_span(alloc, text, two.from, two.to)?;
+            push_span(text, one.from, one.to)?;
+            push_span(text, two.from, two.to)?;
             Ok(text.push_str(if is_none { "none" } else { "some" })?)
         }
         Ask::Print => Ok(text.push_str(print(alloc, run)?.as_str())?),
     }
 }
 
-fn push_refusal(alloc: Global, text: &mut String, fault: TokenError) -> Result<(), Fail> {
+fn push_refusal(text: &mut String, fault: TokenError) -> Result<(), Fail> {
     let (name, span) = match fault {
         TokenError::Memory => return Err(Fail::from("out of memory")),
         TokenError::LimitSource => return Ok(text.push_str("source")?),
@@ -146,7 +145,7 @@ fn push_refusal(alloc: Global, text: &mut String, fault: TokenError) -> Result<(
         ),
     };
     text.push_str(name)?;
-    push_span(alloc, text, span.from, span.to)
+    push_span(text, span.from, span.to)
 }
 
 /// What a source answers.
@@ -154,7 +153,7 @@ fn answer(alloc: Global, source: &str, ask: Ask<'_>) -> Result<String, Fail> {
     let mut text = String::new(alloc);
     match tokenize(alloc, source) {
         Ok(stream) => push_answer(alloc, &mut text, stream.run(), ask)?,
-        Err(fault) => push_refusal(alloc, &mut text, fault)?,
+        Err(fault) => push_refusal(&mut text, fault)?,
     }
     Ok(text)
 }
