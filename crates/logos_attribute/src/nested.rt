@@ -1,4 +1,4 @@
-//! The pieces of an attribute's argument: views of its tokens, which copy nothing.
+//! The pieces of an attribute's argument.
 ghost use Rattle.std.specs.Prelude.{◌≡◌, MatchOption, []};
 ghost use Rattle.logos_token.specs.Tokens.{Token, TokenList, none, also, append, rest_of};
 ghost use Rattle.logos_token.specs.Views.{tokens_of, tree_of};

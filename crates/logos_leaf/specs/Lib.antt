@@ -1,0 +1,3 @@
+pub mod LeafViews
+pub mod Leaves
+pub mod inside
