@@ -1,3 +1,4 @@
+pub mod Arguments
 pub mod DefinitionViews
 pub mod Definitions
 pub mod ErrorTypeViews

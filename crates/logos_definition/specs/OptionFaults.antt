@@ -2,7 +2,7 @@
 use Rattle.std.specs.Prelude.{ℕ, List, [], ◌∷◌, ◌++◌, codes, Option, Some, None}
 use Rattle.logos_lexeme.specs.declared.lexeme.Span.{Span}
 use Rattle.logos_token.specs.declared.error.fault_code.FaultCode.{FaultCode}
-use Rattle.logos_token.specs.declared.error.fault_code.FaultCode.TheVariants.{InvalidNested, UnknownLogos, CrateForm, ErrorTwice, ErrorForm, ErrorEmpty, ExtrasTwice, ExtrasForm, ExportTwice, ExportBytes, ExportForm, SkipForm, SkipGroup, SourceOld, SubpatternForm, Utf8Twice, Utf8Value, Utf8Form, Previous}
+use Rattle.logos_token.specs.declared.error.fault_code.FaultCode.TheVariants.{InvalidNested, UnknownLogos, CrateForm, ErrorTwice, ErrorForm, ErrorEmpty, ExtrasTwice, ExtrasForm, ExportTwice, ExportBytes, ExportForm, SkipForm, SkipGroup, SourceOld, SubpatternForm, Utf8Twice, Utf8Value, Utf8Form, TypeForm, Previous}
 use Rattle.logos_token.specs.Faults.{Fault}
 use Rattle.logos_token.specs.Tokens.{TokenList, run_span}
 use Rattle.logos_attribute.specs.Slices.{Slice}
@@ -70,3 +70,6 @@ unknown_logos name = fault_about UnknownLogos (codes "Unknown nested attribute #
 
 abbrev pub invalid_nested : TokenList → Fault
 invalid_nested run = fault InvalidNested (codes "Invalid nested attribute") (run_span run)
+
+abbrev pub type_form : Slice → Fault
+type_form name = fault TypeForm (codes "Expected: #[logos(type T = SomeType)]") name.span

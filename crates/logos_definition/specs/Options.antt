@@ -9,6 +9,7 @@ use Rattle.logos_attribute.specs.Pieces.{PieceValue, assigned, beside, grouped, 
 use Rattle.logos_attribute.specs.Told.{Told, telling, quiet, and_then, told_as, only}
 use Rattle.logos_attribute.specs.Values.{boolean_in}
 use Rattle.logos_attribute.specs.Literals.{LiteralView, NamedLiteral, literal_syntax, text_told, string_in}
+use Rattle.logos_type_params.specs.TypeParams.{Value}
 use Rattle.logos_definition.specs.Definitions.{DefinitionView, plain, definition_told}
 use Rattle.logos_definition.specs.ErrorTypes.{ErrorView, error_span, error_alone}
 use Rattle.logos_definition.specs.OptionFaults.{mode_again, extras_again, error_again, export_again, skip_form, skip_group, utf8_value, utf8_form, extras_form, crate_form, export_bytes, export_form, subpattern_form, error_form, source_old, unknown_logos, invalid_nested}
@@ -32,10 +33,11 @@ pub record OptionsView : Type 0 where
   pub error_type : Option ErrorView
   pub logos_path : Option TokenList
   pub export_path : Option ExportView
+  pub types : Value
 
 -- where nothing was said
 abbrev pub nothing_said : OptionsView
-nothing_said = record { utf8 = None; skips = []; extras = None; subpatterns = []; error_type = None; logos_path = None; export_path = None }
+nothing_said = record { utf8 = None; skips = []; extras = None; subpatterns = []; error_type = None; logos_path = None; export_path = None; types = record { names = []; types = []; lifetime = false } }
 
 abbrev pub more_skips : OptionsView → DefinitionView → OptionsView
 more_skips o definition = record o { skips = o.skips ++ definition ∷ [] }
@@ -121,21 +123,10 @@ setting_told name value o =
     else (if bytes_eq name.text (codes "source") then telling o (only (source_old name))
     else telling o (only (unknown_logos name)))))
 
--- a named argument
+-- an argument with a name that says no type
 abbrev pub option_told : Slice → PieceValue → OptionsView → Told OptionsView
 option_told name value o =
     if bytes_eq name.text (codes "skip") then skip_told name value o
     else (if bytes_eq name.text (codes "subpattern") then subpattern_told name value o
     else (if bytes_eq name.text (codes "export_dir") then export_told name value o
-    else (if bytes_eq name.text (codes "error") then error_told name value o
-    else setting_told name value o)))
-
-abbrev pub piece_told : Piece → OptionsView → Told OptionsView
-piece_told (named name value) o = option_told name value o
-piece_told (unnamed run) o = telling o (only (invalid_nested run))
-piece_told (unexpected run) o = telling o (only (invalid_nested run))
-
--- all arguments
-abbrev pub pieces_told : List Piece → OptionsView → Told OptionsView
-pieces_told [] o = quiet o
-pieces_told (piece ∷ rest) o = and_then (piece_told piece o) (pieces_told rest)
+    else setting_told name value o))

@@ -5,6 +5,7 @@ use Rattle.logos_attribute.specs.LiteralViews.{named_literal_view}
 use Rattle.logos_definition.specs.declared.parser.Parser.{Parser}
 use Rattle.logos_definition.specs.declared.parser.Utf8Mode.{Utf8Mode}
 use Rattle.logos_definition.specs.declared.parser.ExportPath.{ExportPath}
+use Rattle.logos_type_params.specs.TypeParams.{value_of}
 use Rattle.logos_definition.specs.Options.{ModeView, ExportView, OptionsView}
 use Rattle.logos_definition.specs.DefinitionViews.{definition_view}
 use Rattle.logos_definition.specs.ErrorTypeViews.{run_in, error_view}
@@ -24,6 +25,7 @@ parser_view p = record {
   error_type = option_map error_view p.error_type;
   logos_path = option_map stream_tokens p.logos_path;
   export_path = option_map export_view p.export_path;
+  types = value_of p.types;
 }
 
 -- a call found a parser that had not failed, and left it so

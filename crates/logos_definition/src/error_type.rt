@@ -1,17 +1,23 @@
 //! The type of errors, and what makes one.
-ghost use Rattle.std.specs.Prelude.{OnOk};
+ghost use Rattle.std.specs.Prelude.{OnOk, IfOk, option_map, true};
+ghost use Rattle.logos_token.specs.Views.{tokens_of};
 ghost use Rattle.logos_attribute.specs.Slices.{ident_slice};
-ghost use Rattle.logos_attribute.specs.Told.{Lists};
-ghost use Rattle.logos_definition.specs.ErrorTypes.{unknown_error_argument};
+ghost use Rattle.logos_attribute.specs.Nested.{pieces_left};
+ghost use Rattle.logos_attribute.specs.Told.{Lists, Tells};
+ghost use Rattle.logos_definition.specs.ErrorTypes.{unknown_error_argument, error_alone, error_arguments_told};
+ghost use Rattle.logos_definition.specs.ErrorTypeViews.{error_view};
+ghost use Rattle.logos_definition.specs.OptionFaults.{error_empty};
+ghost use Rattle.logos_definition.specs.Arguments.{ErrorGroup};
 
 use crate::definition::faults::{list_callback_form, list_named_expected, list_unexpected};
 use logos_attribute::callback::{read_callback, set_callback};
-use logos_attribute::listing::list_named;
+use logos_attribute::listing::{list_named, list_run};
 use logos_attribute::nested::{AttributeParser, Nested, NestedValue};
 use logos_pattern::leaf::Callback;
 use logos_token::error::{Errors, FaultCode, Memory};
-use logos_token::token::{Ident, Span, TokenStream};
+use logos_token::token::{Ident, Span, TokenStream, Tokens};
 use logos_token::util::MaybeVoid;
+use logos_type_params::read_value;
 use std::alloc::Global;
 
 /// The type of errors, and what makes one.
@@ -166,4 +172,53 @@ impl<'s> ErrorType<'s> {
         }
         Ok(())
     }
+}
+
+/// Lists that no type stands in `error(..)`.
+fn list_empty(group: Tokens<'_, '_>, errors: &mut Errors) -> Result<(), Memory>
+    ensures { OnOk result (Lists (error_empty (tokens_of group.entry)) errors.old errors.new) }
+{
+    list_run(
+        errors,
+        FaultCode::ErrorEmpty,
+        "Expected #[logos(error(SomeType))]",
+        group,
+    )
+}
+
+/// The type of errors with the arguments behind it, of which the first may be a callback without a name.
+fn with_arguments<'s>(
+    alloc: Global,
+    run: Tokens<'_, 's>,
+    pieces: AttributeParser<'_, 's>,
+    errors: &mut Errors,
+) -> Result<ErrorType<'s>, Memory>
+    ensures { IfOk result (λ error. Tells
+        (error_arguments_told true (pieces_left pieces.entry) (error_alone (tokens_of run.entry)))
+        (error_view error) errors.old errors.new) }
+{
+    let mut error = ErrorType::new(run.to_stream(alloc)?);
+    error.add_arguments(alloc, pieces, errors)?;
+    Ok(error)
+}
+
+/// What `error(..)` says; nothing where it has no type, which is listed at the whole group.
+pub(crate) fn error_in<'s>(
+    alloc: Global,
+    group: Tokens<'_, 's>,
+    errors: &mut Errors,
+) -> Result<Option<ErrorType<'s>>, Memory>
+    ensures { IfOk result (λ error. ErrorGroup
+        (tokens_of group.entry) errors.old errors.new (option_map error_view error)) }
+{
+    let mut pieces = AttributeParser::new(group);
+    let Some(run) = pieces.run() else {
+        list_empty(group, errors)?;
+        return Ok(None);
+    };
+    if read_value(alloc, run, group.span(), errors)?.is_none() {
+        return Ok(None);
+    }
+    let error = with_arguments(alloc, run, pieces, errors)?;
+    Ok(Some(error))
 }

@@ -14,6 +14,7 @@ use logos_token::error::{Errors, FaultCode, Memory};
 use logos_token::token;
 use logos_token::token::{Ident, Span, TokenStream, Tokens};
 use logos_token::util::MaybeVoid;
+use logos_type_params::TypeParams;
 use std::alloc::Global;
 
 /// Whether inputs are UTF-8, and where that is said.
@@ -47,6 +48,8 @@ pub struct Parser<'s> {
     /// The path of the crate that the printed text uses.
     pub logos_path: Option<TokenStream<'s>>,
     pub export_path: Option<ExportPath>,
+    /// The declared type parameters, and the types that are given to them.
+    pub types: TypeParams<'s>,
     alloc: Global,
     failed: bool,
 }
@@ -61,7 +64,8 @@ impl<'s> Parser<'s> {
     ghost use Rattle.logos_attribute.specs.LiteralViews.{literal_view};
     ghost use Rattle.logos_definition.specs.Definitions.{definition_told};
     ghost use Rattle.logos_definition.specs.DefinitionViews.{definition_view};
-    ghost use Rattle.logos_definition.specs.Options.{nothing_said, pieces_told};
+    ghost use Rattle.logos_definition.specs.Options.{nothing_said};
+    ghost use Rattle.logos_definition.specs.Arguments.{PiecesSay};
     ghost use Rattle.logos_definition.specs.ParserViews.{parser_view, HasNotFailed};
 
     /// A parser to which nothing was said. What is read later takes memory from `alloc`.
@@ -79,6 +83,7 @@ impl<'s> Parser<'s> {
             error_type: None,
             logos_path: None,
             export_path: None,
+            types: TypeParams::new(alloc),
             alloc,
             failed: false,
         }
@@ -87,9 +92,9 @@ impl<'s> Parser<'s> {
     /// Adds the arguments in the parenthesis of a `logos` attribute, and lists their faults. After
     /// `Memory` the parser has failed.
     pub fn read_logos(&mut self, tokens: Tokens<'_, 's>) -> Result<(), Memory>
-        ensures ok { OnOk result (Tells
-            (pieces_told (pieces (tokens_of tokens.entry)) (parser_view self.old))
-            (parser_view self.new) self.old.errors self.new.errors) }
+        ensures ok { OnOk result (PiecesSay
+            (parser_view self.old) (parser_view self.new) self.old.errors self.new.errors
+            (pieces (tokens_of tokens.entry))) }
         ensures going { OnOk result (HasNotFailed self.old self.new) }
         ensures err { OnErr result (self.new.failed ≡ true) }
     {

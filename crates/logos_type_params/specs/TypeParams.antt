@@ -72,17 +72,17 @@ abbrev pub previous : Span → Fault
 previous span = fault Previous (codes "Previously assigned here") span
 
 -- why a value is no type
-abbrev pub value_fault : Misfit → TokenList → Fault
-value_fault (unsupported span) run = fault TypeSyntax (codes "not a type") (run_span run)
-value_fault (misfit span) run = fault TypeSyntax (codes "not a type") (run_span run)
-value_fault too_deep run = fault LimitTypeNesting (codes "limit LimitTypeNesting passed") (run_span run)
+abbrev pub value_fault : Misfit → Span → Fault
+value_fault (unsupported span) at = fault TypeSyntax (codes "not a type") at
+value_fault (misfit span) at = fault TypeSyntax (codes "not a type") at
+value_fault too_deep at = fault LimitTypeNesting (codes "limit LimitTypeNesting passed") at
 
--- the whole run is a type, or it is none and that is listed
-pub data ReadsValue (run : TokenList) (old new : List Fault) : Option Tree → Type 0 where
-  is_type : {tree : Tree} → IsTypeExpr run tree none → new ≡ old → ReadsValue run old new (Some tree)
+-- the whole run is a type, or it is none and that is listed at this place
+pub data ReadsValue (run : TokenList) (at : Span) (old new : List Fault) : Option Tree → Type 0 where
+  is_type : {tree : Tree} → IsTypeExpr run tree none → new ≡ old → ReadsValue run at old new (Some tree)
   goes_on : {tree : Tree} {token : Token} {rest : TokenList} → IsTypeExpr run tree (also token rest) →
-      new ≡ old ++ (fault TypeSyntax (codes "not a type") (run_span run)) ∷ [] → ReadsValue run old new None
-  no_type : {why : Misfit} → NoTypeExpr run why → new ≡ old ++ (value_fault why run) ∷ [] → ReadsValue run old new None
+      new ≡ old ++ (fault TypeSyntax (codes "not a type") at) ∷ [] → ReadsValue run at old new None
+  no_type : {why : Misfit} → NoTypeExpr run why → new ≡ old ++ (value_fault why at) ∷ [] → ReadsValue run at old new None
 
 -- the name is declared
 abbrev pub is_declared : List Named → List ℕ → Bool
@@ -105,8 +105,8 @@ given_faults (Some span) named = type_twice named ∷ previous span ∷ []
 
 -- a value is given to a name: it is no type, the name is not declared, or it has this type from now on
 pub data IsSet (old : Value) (named : Named) (run : TokenList) (before : List Fault) (new : Value) (after : List Fault) : Type 0 where
-  no_value : ReadsValue run before after None → new ≡ old → IsSet old named run before new after
-  undeclared : {tree : Tree} → ReadsValue run before before (Some tree) → is_declared old.names named.text ≡ false → new ≡ old → after ≡ before ++ not_a_parameter named ∷ [] → IsSet old named run before new after
-  is_given : {tree : Tree} → ReadsValue run before before (Some tree) → is_declared old.names named.text ≡ true → new.names ≡ old.names → new.lifetime ≡ old.lifetime →
+  no_value : ReadsValue run (run_span run) before after None → new ≡ old → IsSet old named run before new after
+  undeclared : {tree : Tree} → ReadsValue run (run_span run) before before (Some tree) → is_declared old.names named.text ≡ false → new ≡ old → after ≡ before ++ not_a_parameter named ∷ [] → IsSet old named run before new after
+  is_given : {tree : Tree} → ReadsValue run (run_span run) before before (Some tree) → is_declared old.names named.text ≡ true → new.names ≡ old.names → new.lifetime ≡ old.lifetime →
       new.types ≡ given_more (former old.types named.text) (record { name = named; type = with_lifetimes tree; at = run_span run }) old.types →
       after ≡ before ++ given_faults (former old.types named.text) named → IsSet old named run before new after

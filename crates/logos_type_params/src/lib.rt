@@ -10,4 +10,4 @@ mod type_params;
 
 pub use self_reference::holds_itself;
 pub use substitution::{Replacing, TypeParam, at_most_one_after, type_after};
-pub use type_params::TypeParams;
+pub use type_params::{TypeParams, read_value};

@@ -54,68 +54,78 @@ fn list_about(
     Ok(())
 }
 
-/// Lists that a value is no type.
-fn list_syntax(errors: &mut Errors, value: Tokens<'_, '_>) -> Result<(), Memory>
-    ensures { OnOk result (errors.new ≡ errors.old ++ (fault TypeSyntax (codes "not a type") (run_span (tokens_of value.entry))) ∷ []) }
+/// Lists that the value at this span is no type.
+fn list_syntax(errors: &mut Errors, at: Span) -> Result<(), Memory>
+    ensures { OnOk result
+        (errors.new ≡ errors.old ++ (fault TypeSyntax (codes "not a type") at) ∷ []) }
 {
-    errors.err(FaultCode::TypeSyntax, "not a type", value.span())
+    errors.err(FaultCode::TypeSyntax, "not a type", at)
 }
 
-/// Lists that more types stand inside one another in a value than may.
-fn list_depth(errors: &mut Errors, value: Tokens<'_, '_>) -> Result<(), Memory>
-    ensures { OnOk result (errors.new ≡ errors.old ++ (fault LimitTypeNesting (codes "limit LimitTypeNesting passed") (run_span (tokens_of value.entry))) ∷ []) }
+/// Lists that more types stand inside one another in the value at this span than may.
+fn list_depth(errors: &mut Errors, at: Span) -> Result<(), Memory>
+    ensures { OnOk result (errors.new ≡ errors.old ++
+        (fault LimitTypeNesting (codes "limit LimitTypeNesting passed") at) ∷ []) }
 {
     errors.err(
         FaultCode::LimitTypeNesting,
         "limit LimitTypeNesting passed",
-        value.span(),
+        at,
     )
 }
 
-/// Lists why a value is no type.
-fn list_no_type(fault: TypeFault, value: Tokens<'_, '_>, errors: &mut Errors) -> Result<(), Memory>
-    requires { IfFault (NoTypeExpr (tokens_of value)) fault }
-    ensures { OnOk result (ReadsValue (tokens_of value.entry) errors.old errors.new None) }
+/// Lists at this span why a run is no type.
+fn list_no_type(
+    fault: TypeFault,
+    run: Tokens<'_, '_>,
+    at: Span,
+    errors: &mut Errors,
+) -> Result<(), Memory>
+    requires { IfFault (NoTypeExpr (tokens_of run)) fault }
+    ensures { OnOk result (ReadsValue (tokens_of run.entry) at errors.old errors.new None) }
 {
     match fault {
-        TypeFault::Unsupported { .. } => list_syntax(errors, value),
-        TypeFault::Misfit { .. } => list_syntax(errors, value),
-        TypeFault::LimitNesting => list_depth(errors, value),
+        TypeFault::Unsupported { .. } => list_syntax(errors, at),
+        TypeFault::Misfit { .. } => list_syntax(errors, at),
+        TypeFault::LimitNesting => list_depth(errors, at),
         TypeFault::Memory => Err(Memory),
     }
 }
 
-/// The type with which a value begins, if nothing is left behind it; else that is listed.
+/// The type with which a run begins, if nothing is left behind it; else that is listed at this span.
 fn whole_type<'s>(
     type_expr: TypeExpr<'s>,
     rest: Tokens<'_, 's>,
-    value: Tokens<'_, 's>,
+    run: Tokens<'_, 's>,
+    at: Span,
     errors: &mut Errors,
 ) -> Result<Option<TypeExpr<'s>>, Memory>
-    requires { IsTypeExpr (tokens_of value) (type_tree type_expr) (tokens_of rest) }
+    requires { IsTypeExpr (tokens_of run) (type_tree type_expr) (tokens_of rest) }
     ensures { IfOk result (λ read. ReadsValue
-        (tokens_of value.entry) errors.old errors.new (option_map type_tree read)) }
+        (tokens_of run.entry) at errors.old errors.new (option_map type_tree read)) }
 {
     if rest.is_empty() {
         return Ok(Some(type_expr));
     }
-    list_syntax(errors, value)?;
+    list_syntax(errors, at)?;
     Ok(None)
 }
 
-/// The type that the whole value is; where it is none, that is listed.
-fn read_value<'s>(
+/// The type that the whole run is; where it is none, that is listed at this span, as `TypeSyntax`, or `LimitTypeNesting` where it nests deeper
+/// than types may.
+pub fn read_value<'s>(
     alloc: Global,
-    value: Tokens<'_, 's>,
+    run: Tokens<'_, 's>,
+    at: Span,
     errors: &mut Errors,
 ) -> Result<Option<TypeExpr<'s>>, Memory>
     ensures { IfOk result (λ read. ReadsValue
-        (tokens_of value.entry) errors.old errors.new (option_map type_tree read)) }
+        (tokens_of run.entry) at errors.old errors.new (option_map type_tree read)) }
 {
-    match read_type(alloc, value) {
-        Ok((type_expr, rest)) => whole_type(type_expr, rest, value, errors),
+    match read_type(alloc, run) {
+        Ok((type_expr, rest)) => whole_type(type_expr, rest, run, at, errors),
         Err(fault) => {
-            list_no_type(fault, value, errors)?;
+            list_no_type(fault, run, at, errors)?;
             Ok(None)
         }
     }
@@ -293,7 +303,8 @@ impl<'s> TypeParams<'s> {
     ) -> Result<(), Memory>
         ensures { OnOk result (IsSet (value_of self.old) (named_of name.entry) (tokens_of value.entry) errors.old (value_of self.new) errors.new) }
     {
-        let Some(written) = read_value(self.alloc, value, errors)? else {
+        let span = value.span();
+        let Some(written) = read_value(self.alloc, value, span, errors)? else {
             return Ok(());
         };
         if !is_declared(self.names.as_slice(), name.text) {
@@ -307,7 +318,6 @@ impl<'s> TypeParams<'s> {
             );
         }
         let part = set_lifetimes(self.alloc, &written.part)?;
-        let span = value.span();
         give(
             self.alloc,
             &mut self.types,

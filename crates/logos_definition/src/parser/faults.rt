@@ -9,6 +9,7 @@ ghost use Rattle.logos_definition.specs.OptionFaults.{skip_group, utf8_value, ut
 ghost use Rattle.logos_definition.specs.OptionFaults.{extras_form, crate_form, export_bytes};
 ghost use Rattle.logos_definition.specs.OptionFaults.{export_form, subpattern_form, error_form};
 ghost use Rattle.logos_definition.specs.OptionFaults.{source_old, unknown_logos, invalid_nested};
+ghost use Rattle.logos_definition.specs.OptionFaults.{type_form};
 
 use logos_attribute::listing::{list_form, list_named, list_run};
 use logos_token::error::{Errors, FaultCode, Memory};
@@ -236,5 +237,17 @@ pub(super) fn list_unknown_logos(
         "Unknown nested attribute #[logos(",
         name,
         ")]",
+    )
+}
+
+/// Lists another form of `type`.
+pub(super) fn list_type_form(name: Ident<'_>, errors: &mut Errors) -> Result<(), Memory>
+    ensures { OnOk result (Lists (type_form (ident_slice name.entry)) errors.old errors.new) }
+{
+    list_form(
+        errors,
+        FaultCode::TypeForm,
+        "Expected: #[logos(type T = SomeType)]",
+        name,
     )
 }

@@ -1,12 +1,12 @@
 //! The arguments of `logos(..)`, one after another.
 
 use crate::definition::{Definition, read_definition};
-use crate::error_type::ErrorType;
+use crate::error_type::{ErrorType, error_in};
 use crate::parser::faults::{
     list_crate_form, list_error_form, list_error_twice, list_export_bytes, list_export_form,
     list_export_twice, list_extras_form, list_extras_twice, list_invalid_nested, list_mode_twice,
-    list_skip_form, list_skip_group, list_source_old, list_subpattern_form, list_unknown_logos,
-    list_utf8_form, list_utf8_value,
+    list_skip_form, list_skip_group, list_source_old, list_subpattern_form, list_type_form,
+    list_unknown_logos, list_utf8_form, list_utf8_value,
 };
 use crate::parser::{ExportPath, Parser, Utf8Mode};
 use logos_attribute::literal::{list_syntax, read_text, string_in};
@@ -19,7 +19,8 @@ use logos_token::token::{Ident, Tokens};
 use logos_token::util::MaybeVoid;
 
 impl<'s> Parser<'s> {
-    ghost use Rattle.std.specs.Prelude.{OnOk, string_bytes};
+    ghost use Rattle.std.specs.Prelude.{OnOk, IfOk, string_bytes};
+    ghost use Rattle.logos_attribute.specs.Pieces.{grouped, named};
     ghost use Rattle.logos_token.specs.Views.{tokens_of};
     ghost use Rattle.logos_attribute.specs.Slices.{ident_slice, literal_slice};
     ghost use Rattle.logos_attribute.specs.Told.{Tells, told_as, and_then};
@@ -33,8 +34,8 @@ impl<'s> Parser<'s> {
     ghost use Rattle.logos_definition.specs.Options.{extras_told, crate_told, path_set};
     ghost use Rattle.logos_definition.specs.Options.{held_path, export_told, subpattern_set};
     ghost use Rattle.logos_definition.specs.Options.{subpattern_told, error_set, error_told};
-    ghost use Rattle.logos_definition.specs.Options.{setting_told, option_told, piece_told};
-    ghost use Rattle.logos_definition.specs.Options.{pieces_told};
+    ghost use Rattle.logos_definition.specs.Options.{setting_told, option_told};
+    ghost use Rattle.logos_definition.specs.Arguments.{ErrorSays, TypeSays, PieceSays, PiecesSay};
     ghost use Rattle.logos_definition.specs.ParserViews.{parser_view};
 
     /// Sets the mode that is assigned, in place of the former one.
@@ -191,8 +192,8 @@ impl<'s> Parser<'s> {
         Ok(())
     }
 
-    /// Adds what `error` says.
-    fn add_error(&mut self, name: Ident<'s>, value: NestedValue<'_, 's>) -> Result<(), Memory>
+    /// Adds what `error` says of a type alone.
+    fn add_error_alone(&mut self, name: Ident<'s>, value: NestedValue<'_, 's>) -> Result<(), Memory>
         ensures { OnOk result (Tells
             (error_told (ident_slice name.entry) (value_of value.entry) (parser_view self.old))
             (parser_view self.new) self.old.errors self.new.errors) }
@@ -203,6 +204,47 @@ impl<'s> Parser<'s> {
                 self.set_error(tokens, error)?;
             }
             _ => list_error_form(name, &mut self.errors)?,
+        }
+        Ok(())
+    }
+
+    /// Adds what `error(..)` says, and whether the arguments behind it are read.
+    fn add_error_group(&mut self, name: Ident<'s>, group: Tokens<'_, 's>) -> Result<bool, Memory>
+        ensures { IfOk result (λ goes_on. ErrorSays (ident_slice name.entry)
+            (parser_view self.old) (parser_view self.new) self.old.errors self.new.errors
+            (grouped (tokens_of group.entry)) goes_on) }
+    {
+        let Some(error) = error_in(self.alloc, group, &mut self.errors)? else {
+            return Ok(false);
+        };
+        self.set_error(group, error)?;
+        Ok(true)
+    }
+
+    /// Adds what `error` says, and whether the arguments behind it are read.
+    fn add_error(&mut self, name: Ident<'s>, value: NestedValue<'_, 's>) -> Result<bool, Memory>
+        ensures { IfOk result (λ goes_on. ErrorSays (ident_slice name.entry)
+            (parser_view self.old) (parser_view self.new) self.old.errors self.new.errors
+            (value_of value.entry) goes_on) }
+    {
+        if let NestedValue::Group(group) = value {
+            return self.add_error_group(name, group);
+        }
+        self.add_error_alone(name, value)?;
+        Ok(true)
+    }
+
+    /// Adds what `type` says.
+    fn add_type(&mut self, name: Ident<'s>, value: NestedValue<'_, 's>) -> Result<(), Memory>
+        ensures { OnOk result (TypeSays (ident_slice name.entry)
+            (parser_view self.old) (parser_view self.new) self.old.errors self.new.errors
+            (value_of value.entry)) }
+    {
+        match value {
+            NestedValue::KeywordAssign(second, tokens) => {
+                self.types.set(second, tokens, &mut self.errors)?
+            }
+            _ => list_type_form(name, &mut self.errors)?,
         }
         Ok(())
     }
@@ -268,8 +310,8 @@ impl<'s> Parser<'s> {
         list_unknown_logos(self.alloc, name, &mut self.errors)
     }
 
-    /// Adds an argument with a name.
-    fn add_named(&mut self, name: Ident<'s>, value: NestedValue<'_, 's>) -> Result<(), Memory>
+    /// Adds an argument with a name that says no type.
+    fn add_plain(&mut self, name: Ident<'s>, value: NestedValue<'_, 's>) -> Result<(), Memory>
         ensures { OnOk result (Tells
             (option_told (ident_slice name.entry) (value_of value.entry) (parser_view self.old))
             (parser_view self.new) self.old.errors self.new.errors) }
@@ -283,35 +325,51 @@ impl<'s> Parser<'s> {
         if name.text == "export_dir" {
             return self.add_export(name, value);
         }
-        if name.text == "error" {
-            return self.add_error(name, value);
-        }
         self.add_setting(name, value)
     }
 
-    /// Adds an argument.
-    fn add_piece(&mut self, piece: Nested<'_, 's>) -> Result<(), Memory>
-        ensures { OnOk result (Tells
-            (piece_told (piece_of piece.entry) (parser_view self.old))
-            (parser_view self.new) self.old.errors self.new.errors) }
+    /// Adds an argument with a name, and whether those behind it are read.
+    fn add_named(&mut self, name: Ident<'s>, value: NestedValue<'_, 's>) -> Result<bool, Memory>
+        ensures { IfOk result (PieceSays
+            (parser_view self.old) (parser_view self.new) self.old.errors self.new.errors
+            (named (ident_slice name.entry) (value_of value.entry))) }
+    {
+        if name.text == "error" {
+            return self.add_error(name, value);
+        }
+        if name.text == "type" {
+            self.add_type(name, value)?;
+            return Ok(true);
+        }
+        self.add_plain(name, value)?;
+        Ok(true)
+    }
+
+    /// Adds an argument, and whether those behind it are read.
+    fn add_piece(&mut self, piece: Nested<'_, 's>) -> Result<bool, Memory>
+        ensures { IfOk result (PieceSays
+            (parser_view self.old) (parser_view self.new) self.old.errors self.new.errors
+            (piece_of piece.entry)) }
     {
         match piece {
-            Nested::Named(name, value) => self.add_named(name, value)?,
+            Nested::Named(name, value) => return self.add_named(name, value),
             Nested::Unnamed(tokens) => list_invalid_nested(tokens, &mut self.errors)?,
             Nested::Unexpected(tokens) => list_invalid_nested(tokens, &mut self.errors)?,
         }
-        Ok(())
+        Ok(true)
     }
 
-    /// Adds all arguments.
+    /// Adds all arguments, or those up to one behind which none is read.
     pub(super) fn add_pieces(&mut self, pieces: AttributeParser<'_, 's>) -> Result<(), Memory>
-        ensures { OnOk result (Tells
-            (pieces_told (pieces_left pieces.entry) (parser_view self.old))
-            (parser_view self.new) self.old.errors self.new.errors) }
+        ensures { OnOk result (PiecesSay
+            (parser_view self.old) (parser_view self.new) self.old.errors self.new.errors
+            (pieces_left pieces.entry)) }
     {
         let mut pieces = pieces;
         while let Some(piece) = pieces.next() {
-            self.add_piece(piece)?;
+            if !self.add_piece(piece)? {
+                return Ok(());
+            }
         }
         Ok(())
     }
