@@ -11,5 +11,5 @@ loop-piece-preserved c = λ options faults h. c.loop-piece.invariant options fau
 
 pub returns : goal.returns
 returns c =
-    let none : pieces_left c.loop-piece.pieces ≡ [] = c.in_default.ensures.steps in
+    let none : pieces_left c.loop-piece.pieces ≡ [] = c.in_default.ensures.steps.0 in
     c.loop-piece.invariant _ _ (rw none no_piece)
