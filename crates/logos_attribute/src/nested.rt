@@ -273,7 +273,7 @@ fn piece_behind_group<'t, 's>(
 }
 
 impl<'t, 's> AttributeParser<'t, 's> {
-    ghost use Rattle.std.specs.Prelude.{◌≡◌, MatchOption, []};
+    ghost use Rattle.std.specs.Prelude.{◌≡◌, ◌≢◌, MatchOption, []};
     ghost use Rattle.logos_token.specs.Tokens.{none};
     ghost use Rattle.logos_token.specs.Views.{tokens_of};
     ghost use Rattle.logos_attribute.specs.Pieces.{up_to_comma, behind_comma, pieces};
@@ -292,7 +292,8 @@ impl<'t, 's> AttributeParser<'t, 's> {
     pub fn run(&mut self) -> Option<Tokens<'t, 's>>
         ensures run { MatchOption result
             (up_to_comma (tokens_of self.old.rest) ≡ none)
-            (λ run. tokens_of run ≡ up_to_comma (tokens_of self.old.rest)) }
+            (λ run. (tokens_of run ≡ up_to_comma (tokens_of self.old.rest))
+            × (up_to_comma (tokens_of self.old.rest) ≢ none)) }
         ensures pieces { pieces_left self.new ≡ pieces (behind_comma (tokens_of self.old.rest)) }
     {
         let (run, rest) = run_at(self.rest);
