@@ -4,5 +4,6 @@ mod graphs;
 mod items;
 mod parser;
 mod patterns;
+mod rows;
 mod tokens;
 mod types;
