@@ -1,0 +1,5 @@
+pub mod SubstitutionLemmas
+pub mod SubstitutionLaws
+pub mod ChainLemmas
+mod ValueLemmas
+mod SelfFaultLemmas
