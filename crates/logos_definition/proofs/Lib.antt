@@ -1,0 +1,2 @@
+mod ErrorLemmas
+mod ArgumentLemmas
