@@ -105,7 +105,7 @@ module _ (params : List ParamValue) (goal : Text) where
     }
 
   -- names that hold something are declared
-  declares : (ps : List ParamValue) (from to : Text) → holds ps from to ≡ true → Has (map (λ p. p.name) ps) from
+  pub declares : (ps : List ParamValue) (from to : Text) → holds ps from to ≡ true → Has (map (λ p. p.name) ps) from
   declares [] from to h = absurd cc
   declares (p ∷ ps) from to h = go (bytes_eq p.name from) refl (λ k. declares ps from to k)
     where

@@ -3,3 +3,4 @@ pub mod SubstitutionLaws
 pub mod ChainLemmas
 mod ValueLemmas
 mod SelfFaultLemmas
+mod HeldLemmas

@@ -4,3 +4,5 @@ pub mod SelfFaults
 pub mod SelfReference
 pub mod TypeParams
 pub mod inside
+pub mod Generics
+pub mod WrittenTypes

@@ -9,4 +9,4 @@ mod type_params;
 
 pub use self_reference::holds_itself;
 pub use substitution::{Replacing, TypeParam, at_most_one_after, type_after};
-pub use type_params::{TypeParams, read_value};
+pub use type_params::{Generics, TypeParams, read_value};

@@ -15,8 +15,12 @@ ghost use Rattle.logos_type_params.specs.TypeParams.{named_of, given_of, with_li
 ghost use Rattle.logos_type_params.specs.TypeParams.{about, many_lifetimes, is_declared, former};
 ghost use Rattle.logos_type_params.specs.TypeParams.{given_more, given_faults, ReadsValue};
 
+mod concrete;
+mod written;
+
 use crate::self_reference::holds_itself;
 use crate::substitution::{TypeParam, set_lifetime};
+pub use concrete::Generics;
 use logos_token::error::{Errors, FaultCode, Memory};
 use logos_token::token::{Ident, Span, Tokens};
 use logos_type::{Part, TypeExpr};
