@@ -1,2 +1,3 @@
 mod ErrorLemmas
 mod ArgumentLemmas
+mod AttributeLemmas

@@ -5,4 +5,5 @@
 pub mod definition;
 pub mod error_type;
 pub mod ignore_flags;
+pub mod meta;
 pub mod parser;

@@ -1,7 +1,9 @@
 //! What the attributes of an enum say.
 
+mod attributes;
 mod faults;
 mod options;
+mod types;
 
 use crate::definition::{Definition, read_definition};
 use crate::error_type::ErrorType;
