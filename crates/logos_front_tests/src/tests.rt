@@ -5,5 +5,6 @@ mod graphs;
 mod items;
 mod parser;
 mod patterns;
+mod rows;
 mod tokens;
 mod types;

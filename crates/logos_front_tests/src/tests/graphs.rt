@@ -2,6 +2,7 @@
 
 mod asking;
 mod classes;
+mod generating;
 mod graphs;
 mod matching;
 mod partition;

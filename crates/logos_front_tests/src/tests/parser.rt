@@ -1,47 +1,102 @@
 //! Enums that are read, and the first misfits of others.
 
-use logos_parser::parser::{DefinitionKind, ReadError, read_enum};
+use super::rows::{judge, push, push_span};
+use logos_parser::parser::{Definition, DefinitionKind, ItemEnum, ReadError, read_enum};
 use logos_token::token::{Span, tokenize};
 use std::alloc::Global;
 use std::process::Abort;
-use std::test::Fail;
 
-/// Why the source is not read.
-fn error_of(alloc: Global, source: &str) -> Result<Option<ReadError>, Fail> {
-    let stream = tokenize(alloc, source)?;
-    Ok(read_enum(alloc, stream.run()).err())
+/// What is told of an enum that is read.
+#[derive(Clone, Copy)]
+enum Told {
+    /// Its mode, and how many definitions it has.
+    Counts,
+    /// Its name, its mode and its definitions: their literals, and the words with which they are written.
+    Definitions,
+    /// Its name, its mode, and the names of the variants of its definitions.
+    Names,
 }
 
-/// The mode of the enum that a source is, and how many definitions it has.
-fn mode_and_count(alloc: Global, source: &str) -> Result<(bool, usize), Fail> {
-    let stream = tokenize(alloc, source)?;
-    let item = read_enum(alloc, stream.run())?;
-    Ok((item.utf8_mode, item.definitions.len()))
+/// Adds the literal of a definition, and the word with which it is written.
+fn push_written(rt: &impl Abort, text: &mut String, definition: &Definition<'_>) {
+    push(rt, text, definition.literal.text);
+    push_span(rt, text, " ", definition.literal.span);
+    push(
+        rt,
+        text,
+        match definition.kind {
+            DefinitionKind::Token(_) => " token, ",
+            DefinitionKind::Regex(_) => " regex, ",
+            DefinitionKind::Skip => " skip, ",
+        },
+    );
 }
 
-/// Whether the enum that a source is has one definition, with this literal.
-fn is_only_literal(alloc: Global, source: &str, literal: &str) -> Result<bool, Fail> {
-    let stream = tokenize(alloc, source)?;
-    let item = read_enum(alloc, stream.run())?;
-    let [definition] = item.definitions.as_slice() else {
-        return Ok(false);
-    };
-    Ok(definition.literal.text == literal)
-}
-
-/// Each source has its first misfit at this span.
-fn have_misfits(
-    rt: &impl Abort,
-    alloc: Global,
-    cases: &[(&str, usize, usize)],
-) -> Result<(), Fail> {
-    for case in cases {
-        let (source, from, to) = *case;
-        let error = error_of(alloc, source)?;
-        let span = Span { from, to };
-        assert!(rt; error == Some(ReadError::Grammar { span }), "{source}");
+/// Adds the name of the variant that a definition is for.
+fn push_name(rt: &impl Abort, text: &mut String, kind: DefinitionKind<'_>) {
+    if let DefinitionKind::Token(variant) | DefinitionKind::Regex(variant) = kind {
+        push(rt, text, variant.text);
+        push_span(rt, text, " ", variant.span);
     }
-    Ok(())
+    push(rt, text, ", ");
+}
+
+fn push_definitions(rt: &impl Abort, text: &mut String, item: &ItemEnum<'_>, told: Told) {
+    push(rt, text, item.name.text);
+    push_span(rt, text, " ", item.name.span);
+    push(
+        rt,
+        text,
+        if item.utf8_mode {
+            " true: "
+        } else {
+            " false: "
+        },
+    );
+    for definition in &item.definitions {
+        match told {
+            Told::Names => push_name(rt, text, definition.kind),
+            _ => push_written(rt, text, definition),
+        }
+    }
+}
+
+fn push_item(rt: &impl Abort, text: &mut String, item: &ItemEnum<'_>, told: Told) {
+    match told {
+        Told::Counts => {
+            write!(text, "{} {}", item.utf8_mode, item.definitions.len()).expect(rt, "memory");
+        }
+        _ => push_definitions(rt, text, item, told),
+    }
+}
+
+/// Adds what is told of the enum that a source is, or why it is none.
+fn push_read(rt: &impl Abort, alloc: Global, text: &mut String, source: &str, told: Told) {
+    let stream = tokenize(alloc, source).expect(rt, "tokens");
+    match read_enum(alloc, stream.run()) {
+        Ok(item) => push_item(rt, text, &item, told),
+        Err(ReadError::NotAnEnum { span }) => push_span(rt, text, "no enum ", span),
+        Err(ReadError::Grammar { span }) => push_span(rt, text, "misfit ", span),
+        Err(ReadError::Memory) => push(rt, text, "memory"),
+    }
+}
+
+/// Each source is none, for this reason at this span.
+fn are_refused(rt: &impl Abort, alloc: Global, word: &str, cases: &[(&str, usize, usize)]) {
+    for (source, from, to) in cases {
+        let (mut text, mut wanted) = (String::new(alloc), String::new(alloc));
+        push_read(rt, alloc, &mut text, source, Told::Counts);
+        push_span(
+            rt,
+            &mut wanted,
+            word,
+            Span {
+                from: *from,
+                to: *to,
+            },
+        );
+        judge(rt, source, &text, &wanted);
+    }
 }
 
 const NO_ENUMS: &[(&str, usize, usize)] = &[
@@ -72,18 +127,6 @@ const NO_ENUMS: &[(&str, usize, usize)] = &[
     ("/*! inner */ enum E {}", 0, 22),
 ];
 
-#[test]
-fn names_what_is_no_enum(rt: HostRuntime) -> Result<(), Fail> {
-    let alloc = rt.alloc();
-    for case in NO_ENUMS {
-        let (source, from, to) = *case;
-        let error = error_of(alloc, source)?;
-        let span = Span { from, to };
-        assert!(rt; error == Some(ReadError::NotAnEnum { span }), "{source}");
-    }
-    Ok(())
-}
-
 const MISFITS_OF_ITEMS: &[(&str, usize, usize)] = &[
     ("enum", 0, 0),
     ("enum \"E\"", 5, 8),
@@ -101,11 +144,6 @@ const MISFITS_OF_ITEMS: &[(&str, usize, usize)] = &[
     ("enum E { A(B) }", 10, 13),
     ("enum E { pub A }", 13, 14),
 ];
-
-#[test]
-fn names_the_first_misfit_of_the_item(rt: HostRuntime) -> Result<(), Fail> {
-    have_misfits(&rt, rt.alloc(), MISFITS_OF_ITEMS)
-}
 
 const MISFITS_OF_VARIANTS: &[(&str, usize, usize)] = &[
     ("enum E { # }", 0, 0),
@@ -146,11 +184,6 @@ const MISFITS_OF_VARIANTS: &[(&str, usize, usize)] = &[
     ("enum E { //! a\n A }", 9, 14),
 ];
 
-#[test]
-fn names_the_first_misfit_of_a_variants_attribute(rt: HostRuntime) -> Result<(), Fail> {
-    have_misfits(&rt, rt.alloc(), MISFITS_OF_VARIANTS)
-}
-
 const MISFITS_OF_OPTIONS: &[(&str, usize, usize)] = &[
     ("#[logos] enum E {}", 0, 0),
     ("#[logos = 5] enum E {}", 8, 9),
@@ -181,69 +214,99 @@ const MISFITS_OF_OPTIONS: &[(&str, usize, usize)] = &[
 ];
 
 #[test]
-fn names_the_first_misfit_of_the_options(rt: HostRuntime) -> Result<(), Fail> {
-    have_misfits(&rt, rt.alloc(), MISFITS_OF_OPTIONS)
+fn names_what_is_no_enum_and_the_first_misfit(rt: HostRuntime) {
+    are_refused(&rt, rt.alloc(), "no enum ", NO_ENUMS);
+    are_refused(&rt, rt.alloc(), "misfit ", MISFITS_OF_ITEMS);
+    are_refused(&rt, rt.alloc(), "misfit ", MISFITS_OF_VARIANTS);
+    are_refused(&rt, rt.alloc(), "misfit ", MISFITS_OF_OPTIONS);
 }
 
-/// The word with which a definition is written.
-fn word_of(kind: DefinitionKind<'_>) -> &'static str {
-    match kind {
-        DefinitionKind::Token(_) => "token",
-        DefinitionKind::Regex(_) => "regex",
-        DefinitionKind::Skip => "skip",
-    }
-}
-
-/// Whether a definition is for a variant of this name at this place.
-fn is_for(kind: DefinitionKind<'_>, name: &str, span: Span) -> bool {
-    match kind {
-        DefinitionKind::Token(variant) | DefinitionKind::Regex(variant) => {
-            variant.text == name && variant.span == span
-        }
-        DefinitionKind::Skip => false,
-    }
-}
+/// Sources, what is told of them, and the answer.
+const READ: &[(&str, Told, &str)] = &[
+    (
+        "#[logos(skip b\" \",)] enum T { #[token(\"ab\")] #[regex(r#\"c\"#)] A, B, #[token(\"a\"u8)] C, }",
+        Told::Definitions,
+        "T 26..27 true: b\" \" 13..17 skip, \"ab\" 38..42 token, r#\"c\"# 53..59 regex, \"a\"u8 76..81 token, ",
+    ),
+    (
+        "enum T { #[token(\"ab\")] #[regex(\"c\")] A, B, #[token(\"a\")] C, }",
+        Told::Names,
+        "T 5..6 true: A 38..39, A 38..39, C 58..59, ",
+    ),
+    ("enum E {}", Told::Counts, "true 0"),
+    ("pub enum E { A }", Told::Counts, "true 0"),
+    ("pub() enum E { A }", Told::Counts, "true 0"),
+    (
+        "pub(in a::b) enum r#E { r#enum, _ }",
+        Told::Counts,
+        "true 0",
+    ),
+    (
+        "#[a] #[a::b] #[::a] #[::a::b(c)] #[a[b]] #[a{b}] #[a = b c] #[a == b] enum E { A }",
+        Told::Counts,
+        "true 0",
+    ),
+    (
+        "#[derive(Debug, Logos)] /// outer\n/** outer */ pub enum E { A }",
+        Told::Counts,
+        "true 0",
+    ),
+    (
+        "#[tokens(\"a\")] #[token] #[token = 5] #[regex(x)] enum E { A }",
+        Told::Counts,
+        "true 0",
+    ),
+    (
+        "#[logos::a] #[::logos] #[logos::a = 5] #[logo] #[r#logos] #[logos()] enum E { A }",
+        Told::Counts,
+        "true 0",
+    ),
+    (
+        "enum E { #[a] A, /// outer\n B, #[a::b] #[::a] #[a = b] /** outer */ C }",
+        Told::Counts,
+        "true 0",
+    ),
+    (
+        "enum E { #[tokens(\"a\")] #[tok(\"a\")] #[r#token(\"a\")] #[token::a(\"a\")] #[::token(\"a\")] A }",
+        Told::Counts,
+        "true 0",
+    ),
+    (
+        "enum E { #[logos(skip 5)] #[logos] #[regexes] A, }",
+        Told::Counts,
+        "true 0",
+    ),
+    ("#[logos(utf8 = true)] enum E {}", Told::Counts, "true 0"),
+    ("#[logos(utf8 = false)] enum E {}", Told::Counts, "false 0"),
+    (
+        "#[logos(utf8 = false,)] pub enum E {}",
+        Told::Counts,
+        "false 0",
+    ),
+    (
+        "#[logos(skip \"a\", utf8 = false, skip \"b\")] enum E {}",
+        Told::Counts,
+        "false 2",
+    ),
+    (
+        "#[logos(skip \"a\")] #[a] #[logos(utf8 = false)] #[logos(skip r\"b\")] enum E {}",
+        Told::Counts,
+        "false 2",
+    ),
+    (
+        "#[logos(skip \"a\")] #[logos(skip \"b\", skip \"c\")] enum E {}",
+        Told::Counts,
+        "true 3",
+    ),
+];
 
 #[test]
-fn reads_definitions_in_order(rt: HostRuntime) -> Result<(), Fail> {
-    let alloc = rt.alloc();
-    let source =
-        "#[logos(skip b\" \",)] enum T { #[token(\"ab\")] #[regex(r#\"c\"#)] A, B, #[token(\"a\"u8)] C, }";
-    let stream = tokenize(alloc, source)?;
-    let item = read_enum(alloc, stream.run())?;
-    assert_eq!(rt; item.name.text, "T");
-    assert_eq!(rt; item.name.span, Span { from: 26, to: 27 });
-    assert!(rt; item.utf8_mode);
-    let wanted = [
-        ("b\" \"", 13, 17, "skip"),
-        ("\"ab\"", 38, 42, "token"),
-        ("r#\"c\"#", 53, 59, "regex"),
-        ("\"a\"u8", 76, 81, "token"),
-    ];
-    assert_eq!(rt; item.definitions.len(), wanted.len());
-    for (definition, want) in item.definitions.iter().zip(&wanted) {
-        let (text, from, to, word) = *want;
-        assert_eq!(rt; definition.literal.text, text);
-        assert_eq!(rt; definition.literal.span, Span { from, to });
-        assert_eq!(rt; word_of(definition.kind), word);
+fn reads_definitions_names_and_modes(rt: HostRuntime) {
+    for (source, told, wanted) in READ {
+        let mut text = String::new(rt.alloc());
+        push_read(&rt, rt.alloc(), &mut text, source, *told);
+        judge(&rt, source, &text, wanted);
     }
-    Ok(())
-}
-
-#[test]
-fn reads_the_names_of_variants(rt: HostRuntime) -> Result<(), Fail> {
-    let alloc = rt.alloc();
-    let source = "enum T { #[token(\"ab\")] #[regex(\"c\")] A, B, #[token(\"a\")] C, }";
-    let stream = tokenize(alloc, source)?;
-    let item = read_enum(alloc, stream.run())?;
-    let wanted = [("A", 38, 39), ("A", 38, 39), ("C", 58, 59)];
-    assert_eq!(rt; item.definitions.len(), wanted.len());
-    for (definition, want) in item.definitions.iter().zip(&wanted) {
-        let (text, from, to) = *want;
-        let is_for = is_for(definition.kind, text, Span { from, to });
-        assert_eq!(rt; is_for, true, "{text}");
-    }
-    Ok(())
 }
 
 const TEXT_LITERALS: &[&str] = &[
@@ -262,72 +325,14 @@ const TEXT_LITERALS: &[&str] = &[
 ];
 
 #[test]
-fn reads_text_literals(rt: HostRuntime) -> Result<(), Fail> {
-    let alloc = rt.alloc();
-    for case in TEXT_LITERALS {
-        let literal = *case;
-        let mut source = String::new(alloc);
-        source.push_str("enum E { #[regex(")?;
-        source.push_str(literal)?;
-        source.push_str(")] A }")?;
-        assert!(rt; is_only_literal(alloc, &source, literal)?, "{source}");
+fn reads_text_literals(rt: HostRuntime) {
+    for literal in TEXT_LITERALS {
+        let mut source = String::new(rt.alloc());
+        write!(source, "enum E {{ #[regex({literal})] A }}").expect(&rt, "memory");
+        let (mut text, mut wanted) = (String::new(rt.alloc()), String::new(rt.alloc()));
+        push_read(&rt, rt.alloc(), &mut text, &source, Told::Definitions);
+        let to = literal.len().saturating_add(17);
+        write!(wanted, "E 5..6 true: {literal} 17..{to} regex, ").expect(&rt, "memory");
+        judge(&rt, literal, &text, &wanted);
     }
-    Ok(())
-}
-
-const WITHOUT_DEFINITIONS: &[&str] = &[
-    "enum E {}",
-    "pub enum E { A }",
-    "pub() enum E { A }",
-    "pub(in a::b) enum r#E { r#enum, _ }",
-    "#[a] #[a::b] #[::a] #[::a::b(c)] #[a[b]] #[a{b}] #[a = b c] #[a == b] enum E { A }",
-    "#[derive(Debug, Logos)] /// outer\n/** outer */ pub enum E { A }",
-    "#[tokens(\"a\")] #[token] #[token = 5] #[regex(x)] enum E { A }",
-    "#[logos::a] #[::logos] #[logos::a = 5] #[logo] #[r#logos] #[logos()] enum E { A }",
-    "enum E { #[a] A, /// outer\n B, #[a::b] #[::a] #[a = b] /** outer */ C }",
-    "enum E { #[tokens(\"a\")] #[tok(\"a\")] #[r#token(\"a\")] #[token::a(\"a\")] #[::token(\"a\")] A }",
-    "enum E { #[logos(skip 5)] #[logos] #[regexes] A, }",
-];
-
-#[test]
-fn leaves_other_attributes_out(rt: HostRuntime) -> Result<(), Fail> {
-    let alloc = rt.alloc();
-    for case in WITHOUT_DEFINITIONS {
-        let source = *case;
-        let read = mode_and_count(alloc, source)?;
-        assert_eq!(rt; read, (true, 0), "{source}");
-    }
-    Ok(())
-}
-
-const MODES: &[(&str, bool, usize)] = &[
-    ("#[logos(utf8 = true)] enum E {}", true, 0),
-    ("#[logos(utf8 = false)] enum E {}", false, 0),
-    ("#[logos(utf8 = false,)] pub enum E {}", false, 0),
-    (
-        "#[logos(skip \"a\", utf8 = false, skip \"b\")] enum E {}",
-        false,
-        2,
-    ),
-    (
-        "#[logos(skip \"a\")] #[a] #[logos(utf8 = false)] #[logos(skip r\"b\")] enum E {}",
-        false,
-        2,
-    ),
-    (
-        "#[logos(skip \"a\")] #[logos(skip \"b\", skip \"c\")] enum E {}",
-        true,
-        3,
-    ),
-];
-
-#[test]
-fn reads_the_mode(rt: HostRuntime) -> Result<(), Fail> {
-    let alloc = rt.alloc();
-    for case in MODES {
-        let (source, utf8_mode, skips) = *case;
-        let read = mode_and_count(alloc, source)?;
-        assert_eq!(rt; read, (utf8_mode, skips), "{source}");
-    }
-    Ok(())
 }

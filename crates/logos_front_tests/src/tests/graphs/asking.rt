@@ -1,5 +1,6 @@
 // What is asked of the graph of some patterns, and its answer as a text.
 
+use super::super::rows::{judge_row, push, push_number};
 use super::matching::{found, state_count};
 use logos_graph::graph::{BuildError, Config, Dfa, Graph, GraphError, State, StateId};
 use logos_pattern::leaf::Leaf;
@@ -7,7 +8,6 @@ use logos_pattern::pattern::Pattern;
 use logos_token::token::Span;
 use std::alloc::Global;
 use std::process::Abort;
-use std::test::Fail;
 
 /// Patterns with their priorities, numbered in this order.
 pub(super) type Rules<'a> = &'a [(&'a str, usize)];
@@ -42,96 +42,81 @@ pub(super) enum Ask<'a> {
 }
 
 /// The leaves of patterns.
-fn leaves<'s>(alloc: Global, rules: &[(&'s str, usize)]) -> Result<Vec<Leaf<'s>>, Fail> {
+fn leaves<'s>(rt: &impl Abort, alloc: Global, rules: &[(&'s str, usize)]) -> Vec<Leaf<'s>> {
     let mut leaves = Vec::new(alloc);
     for rule in rules {
-        let pattern = Pattern::compile(alloc, false, rule.0, rule.0, true, false)?;
-        leaves.push(Leaf::new(Span { from: 0, to: 0 }, pattern).priority(rule.1))?;
+        let read = Pattern::compile(alloc, false, rule.0, rule.0, true, false);
+        let leaf = Leaf::new(Span { from: 0, to: 0 }, read.expect(rt, "a pattern"));
+        leaves.push(leaf.priority(rule.1)).expect(rt, "memory");
     }
-    Ok(leaves)
+    leaves
 }
 
-/// Adds a number and a space.
-fn push_number(text: &mut String, number: usize) -> Result<(), Fail> {
-    write!(text, "{number} ")?;
-    Ok(())
-}
-
-fn push_error(text: &mut String, error: &GraphError) -> Result<(), Fail> {
+/// Adds an error.
+fn push_error(rt: &impl Abort, text: &mut String, error: &GraphError) {
     match error {
-        GraphError::NoUniversalStart => text.push_str("start ")?,
+        GraphError::NoUniversalStart => push(rt, text, "start "),
         GraphError::EmptyMatch(leaf) => {
-            text.push_str("empty ")?;
-            push_number(text, leaf.0)?;
+            push(rt, text, "empty ");
+            push_number(rt, text, leaf.0);
         }
         GraphError::Disambiguation(set) => {
-            text.push_str("same ")?;
+            push(rt, text, "same ");
             for leaf in set {
-                push_number(text, leaf.0)?;
+                push_number(rt, text, leaf.0);
             }
         }
     }
-    Ok(())
 }
 
-fn push_errors(text: &mut String, errors: &[GraphError]) -> Result<(), Fail> {
+/// Adds errors.
+pub(super) fn push_errors(rt: &impl Abort, text: &mut String, errors: &[GraphError]) {
     for error in errors {
-        push_error(text, error)?;
+        push_error(rt, text, error);
     }
-    Ok(())
 }
 
-/// The state of the automaton behind the text, and behind the end if it is asked for.
-fn behind(dfa: &Dfa, text: &str, at_end: bool) -> Option<StateId> {
+/// The state of the automaton behind the text.
+pub(super) fn behind(rt: &impl Abort, dfa: &Dfa, text: &[u8]) -> StateId {
     let mut state = dfa.start();
-    for byte in text.as_bytes() {
-        if !dfa.contains(state) {
-            return None;
-        }
+    for byte in text {
+        assert!(rt; dfa.contains(state));
         state = dfa.next_state(state, *byte);
     }
-    if !at_end {
-        return Some(state);
-    }
-    if dfa.contains(state) {
-        Some(dfa.next_eoi_state(state))
+    state
+}
+
+/// Adds the leaves that a state lists, or the one behind it and the end if that is asked for.
+fn push_listed(rt: &impl Abort, text: &mut String, dfa: &Dfa, front: StateId, at_end: bool) {
+    assert!(rt; dfa.contains(front));
+    let state = if at_end {
+        dfa.next_eoi_state(front)
     } else {
-        None
-    }
-}
-
-/// Adds the leaves that a state lists.
-fn push_listed(text: &mut String, dfa: &Dfa, state: StateId) -> Result<(), Fail> {
-    if !dfa.contains(state) {
-        return Err(Fail::from("no state of the automaton"));
-    }
+        front
+    };
+    assert!(rt; dfa.contains(state));
     for leaf in dfa.iter_matches(state) {
-        push_number(text, leaf.0)?;
+        push_number(rt, text, leaf.0);
     }
-    text.push_str(";")?;
-    Ok(())
+    push(rt, text, ";");
 }
 
-fn push_lists(text: &mut String, dfa: &Dfa, fronts: &[&str], at_end: bool) -> Result<(), Fail> {
+fn push_lists(rt: &impl Abort, text: &mut String, dfa: &Dfa, fronts: &[&str], at_end: bool) {
     for front in fronts {
-        let state = behind(dfa, front, at_end).ok_or("no state of the automaton")?;
-        push_listed(text, dfa, state)?;
+        push_listed(rt, text, dfa, behind(rt, dfa, front.as_bytes()), at_end);
     }
-    Ok(())
 }
 
-/// How many of the children of the start are this state.
-fn count_child(dfa: &Dfa, child: Option<StateId>) -> usize {
+/// Adds how many of the children of the start are this state.
+fn push_child_count(rt: &impl Abort, text: &mut String, dfa: &Dfa, child: StateId) {
     let mut count = 0usize;
     for other in dfa.iter_children(dfa.start()) {
-        if Some(other) == child {
-            count = count.saturating_add(1);
-        }
+        count = count.saturating_add(usize::from(other == child));
     }
-    count
+    push_number(rt, text, count);
 }
 
-fn count_states(dfa: &Dfa) -> usize {
+pub(super) fn count_states(dfa: &Dfa) -> usize {
     let mut count = 0usize;
     for _ in dfa.get_states() {
         count = count.saturating_add(1);
@@ -139,160 +124,127 @@ fn count_states(dfa: &Dfa) -> usize {
     count
 }
 
-fn push_children(text: &mut String, dfa: &Dfa) -> Result<(), Fail> {
-    push_number(text, count_states(dfa))?;
-    for child in [
-        behind(dfa, "a", false),
-        behind(dfa, "b", false),
-        Some(dfa.start()),
-    ] {
-        push_number(text, count_child(dfa, child))?;
-    }
-    Ok(())
+fn push_children(rt: &impl Abort, text: &mut String, dfa: &Dfa) {
+    push_number(rt, text, count_states(dfa));
+    push_child_count(rt, text, dfa, behind(rt, dfa, b"a"));
+    push_child_count(rt, text, dfa, behind(rt, dfa, b"b"));
+    push_child_count(rt, text, dfa, dfa.start());
 }
 
-fn push_finds(text: &mut String, graph: &Graph<'_>, fronts: &[&str]) -> Result<(), Fail> {
+fn push_finds(rt: &impl Abort, text: &mut String, graph: &Graph<'_>, fronts: &[&str]) {
     for front in fronts {
         if let Some((leaf, to)) = found(graph, front.as_bytes()) {
-            push_number(text, leaf.0)?;
-            push_number(text, to)?;
+            push_number(rt, text, leaf.0);
+            push_number(rt, text, to);
         }
-        text.push_str(";")?;
+        push(rt, text, ";");
     }
-    Ok(())
-}
-
-/// The state of the graph with a number.
-pub(super) fn state_at(graph: &Graph<'_>, number: usize) -> Option<State> {
-    for state in graph.iter_states() {
-        if state.index() == number {
-            return Some(state);
-        }
-    }
-    None
 }
 
 /// Whether the text, with the end after it or without, tells two states apart; `?` where one is not there.
 fn told(graph: &Graph<'_>, case: &(usize, usize, &str, bool)) -> &'static str {
-    let (Some(one), Some(other)) = (state_at(graph, case.0), state_at(graph, case.1)) else {
+    let mut states = graph.iter_states();
+    let (Some(one), Some(other)) = (states.nth(case.0), graph.iter_states().nth(case.1)) else {
         return "?";
     };
-    if !graph.contains(one) || !graph.contains(other) {
+    if !graph.contains(one) | !graph.contains(other) {
         return "?";
     }
     if graph.checks(one, other, case.2.as_bytes(), case.3) {
-        "1"
-    } else {
-        "0"
+        return "1";
     }
+    "0"
 }
 
 fn push_told(
+    rt: &impl Abort,
     text: &mut String,
     graph: &Graph<'_>,
     cases: &[(usize, usize, &str, bool)],
-) -> Result<(), Fail> {
+) {
     for case in cases {
-        text.push_str(told(graph, case))?;
+        push(rt, text, told(graph, case));
     }
-    Ok(())
 }
 
 /// Adds each state in the plain form, and in the alternate one.
-fn push_states(text: &mut String, graph: &Graph<'_>) -> Result<(), Fail> {
+fn push_states(rt: &impl Abort, text: &mut String, graph: &Graph<'_>) {
     for number in graph.iter_states() {
-        if graph.contains(number) {
-            let state = graph.get_state(number);
-            write!(text, "{state}; {state:#};")?;
-        }
+        assert!(rt; graph.contains(number));
+        let state = graph.get_state(number);
+        write!(text, "{state}; {state:#};").expect(rt, "memory");
     }
-    Ok(())
+}
+
+/// Adds the states of a list.
+fn push_numbers(rt: &impl Abort, text: &mut String, states: &[State]) {
+    for state in states {
+        push_number(rt, text, state.index());
+    }
+    push(rt, text, ";");
 }
 
 /// Adds the states that lead to each state.
-fn push_backward(text: &mut String, graph: &Graph<'_>) -> Result<(), Fail> {
+fn push_backward(rt: &impl Abort, text: &mut String, graph: &Graph<'_>) {
     for number in graph.iter_states() {
-        if graph.contains(number) {
-            for from in &graph.get_state(number).backward {
-                push_number(text, from.index())?;
-            }
-        }
-        text.push_str(";")?;
+        assert!(rt; graph.contains(number));
+        push_numbers(rt, text, &graph.get_state(number).backward);
     }
-    Ok(())
 }
 
-fn push_label(alloc: Global, text: &mut String, graph: &Graph<'_>) -> Result<(), Fail> {
-    let chart = graph.get_mermaid(alloc)?;
-    text.push_str(chart.as_str().lines().nth(3).ok_or("no line")?)?;
-    Ok(())
+/// Adds a text, or its fourth line alone.
+fn push_chart(rt: &impl Abort, text: &mut String, chart: &str, is_label: bool) {
+    if is_label {
+        push(rt, text, chart.lines().nth(3).unwrap_or("no line"));
+    } else {
+        push(rt, text, chart);
+    }
 }
 
-fn push_answer(
-    alloc: Global,
-    text: &mut String,
-    graph: &Graph<'_>,
-    ask: Ask<'_>,
-) -> Result<(), Fail> {
+fn push_answer(rt: &impl Abort, alloc: Global, text: &mut String, graph: &Graph<'_>, ask: Ask<'_>) {
     match ask {
-        Ask::Faults => push_errors(text, graph.errors()),
-        Ask::Listing => Ok(text.push_str(graph.to_string(alloc)?.as_str())?),
-        Ask::Chart => Ok(text.push_str(graph.get_mermaid(alloc)?.as_str())?),
-        Ask::Label => push_label(alloc, text, graph),
-        Ask::States => push_states(text, graph),
-        Ask::Backward => push_backward(text, graph),
-        Ask::Len => push_number(text, state_count(graph)),
-        Ask::Lists(fronts) => push_lists(text, graph.dfa(), fronts, false),
-        Ask::ListsAtEnd(fronts) => push_lists(text, graph.dfa(), fronts, true),
-        Ask::Children => push_children(text, graph.dfa()),
-        Ask::Finds(fronts) => push_finds(text, graph, fronts),
-        Ask::Tells(cases) => push_told(text, graph, cases),
+        Ask::Faults => push_errors(rt, text, graph.errors()),
+        Ask::Listing => write!(text, "{graph}").expect(rt, "memory"),
+        Ask::Chart => push_chart(
+            rt,
+            text,
+            &graph.get_mermaid(alloc).expect(rt, "memory"),
+            false,
+        ),
+        Ask::Label => push_chart(
+            rt,
+            text,
+            &graph.get_mermaid(alloc).expect(rt, "memory"),
+            true,
+        ),
+        Ask::States => push_states(rt, text, graph),
+        Ask::Backward => push_backward(rt, text, graph),
+        Ask::Len => push_number(rt, text, state_count(graph)),
+        Ask::Lists(fronts) => push_lists(rt, text, graph.dfa(), fronts, false),
+        Ask::ListsAtEnd(fronts) => push_lists(rt, text, graph.dfa(), fronts, true),
+        Ask::Children => push_children(rt, text, graph.dfa()),
+        Ask::Finds(fronts) => push_finds(rt, text, graph, fronts),
+        Ask::Tells(cases) => push_told(rt, text, graph, cases),
     }
 }
 
-/// What the graph of the patterns answers.
-fn answer(alloc: Global, rules: Rules<'_>, ask: Ask<'_>) -> Result<String, Fail> {
-    let leaves = leaves(alloc, rules)?;
-    let mut text = String::new(alloc);
+/// Adds what the graph of the patterns answers.
+fn push_graph(rt: &impl Abort, alloc: Global, text: &mut String, rules: Rules<'_>, ask: Ask<'_>) {
+    let leaves = leaves(rt, alloc, rules);
     match Graph::new(alloc, leaves, Config { utf8_mode: true }) {
-        Err(BuildError::LimitSize) => text.push_str("size")?,
-        Err(BuildError::LimitStates) => text.push_str("states")?,
-        Err(BuildError::Memory) => return Err(Fail::from("out of memory")),
-        Ok(graph) => push_answer(alloc, &mut text, &graph, ask)?,
+        Err(BuildError::LimitSize) => push(rt, text, "size"),
+        Err(BuildError::LimitStates) => push(rt, text, "states"),
+        Err(BuildError::Memory) => push(rt, text, "out of memory"),
+        Ok(graph) => push_answer(rt, alloc, text, &graph, ask),
     }
-    Ok(text)
 }
 
-/// Adds a line for a row that is answered otherwise than it says: its number, its first pattern, and the answer.
-fn push_wrong(
-    text: &mut String,
-    number: usize,
-    rules: Rules<'_>,
-    answer: &str,
-) -> Result<(), Fail> {
-    push_number(text, number)?;
-    if let Some(rule) = rules.first() {
-        text.push_str(rule.0)?;
-    }
-    text.push_str(": ")?;
-    text.push_str(answer)?;
-    text.push_str("\n")?;
-    Ok(())
-}
-
-/// Each graph answers as is said behind its patterns and what is asked. The rows that do not are named.
-pub(super) fn answers(
-    rt: &impl Abort,
-    alloc: Global,
-    cases: &[(Rules<'_>, Ask<'_>, &str)],
-) -> Result<(), Fail> {
-    let mut wrong = String::new(alloc);
+/// Each graph answers as is said behind its patterns and what is asked. A row that does not is named by its number and its first pattern.
+pub(super) fn answers(rt: &impl Abort, alloc: Global, cases: &[(Rules<'_>, Ask<'_>, &str)]) {
     for (number, case) in cases.iter().enumerate() {
-        let text = answer(alloc, case.0, case.1)?;
-        if text.as_str() != case.2 {
-            push_wrong(&mut wrong, number, case.0, text.as_str())?;
-        }
+        let mut text = String::new(alloc);
+        push_graph(rt, alloc, &mut text, case.0, case.1);
+        let pattern = case.0.first().unwrap_or(&("no pattern", 0)).0;
+        judge_row(rt, pattern, number, &text, case.2);
     }
-    assert_eq!(rt; wrong.as_str(), "");
-    Ok(())
 }

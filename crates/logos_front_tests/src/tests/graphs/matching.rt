@@ -1,88 +1,15 @@
 // Automata and graphs of generated leaves, compared with matching as it is defined.
 
-ghost use Rattle.std.specs.Prelude.{◌<◌};
-
-use logos_graph::graph::{Config, Dfa, Graph, GraphError, Matches, State, StateData};
+use super::super::rows::{hold, hold_row, judge, push};
+use super::asking::{behind, push_errors};
+use super::generating::{Random, leaves_of};
+use logos_graph::graph::{Config, Dfa, Graph, State, StateData, StateId};
 use logos_hir::hir::{Class, Hir, Look, Range};
 use logos_hir::leaf::LeafId;
 use logos_pattern::leaf::Leaf;
-use logos_pattern::pattern::Pattern;
-use logos_token::token::Span;
 use std::alloc::Global;
-use std::test::Fail;
-
-const NOWHERE: Span = Span { from: 0, to: 0 };
-
-/// Numbers that look random, from a fixed seed.
-#[derive(Drop)]
-pub(super) struct Random {
-    state: u64,
-}
-
-impl Random {
-    pub(super) fn new(seed: u64) -> Random {
-        Random { state: seed }
-    }
-
-    fn below(&mut self, limit: usize) -> usize
-        requires { 0 < limit }
-        ensures { result < limit }
-    {
-        self.state = self
-            .state
-            .wrapping_mul(6364136223846793005)
-            .wrapping_add(1442695040888963407);
-        (self.state >> 33) as usize % limit
-    }
-}
-
-const FIRST_ATOMS: [&str; 8] = ["a", "\\n", "é", "[ab]", ".", "[a&&b]", "(?-u:\\xC3)", "a"];
-
-const ATOMS: [&str; 16] = [
-    "a",
-    "b",
-    "\\n",
-    "é",
-    "[ab]",
-    "[^a]",
-    ".",
-    "[a&&b]",
-    "(?-u:\\b)",
-    "(?-u:\\B)",
-    "$",
-    "(?m:$)",
-    "(?m:^)",
-    "(?Rm:$)",
-    "(?-u:[^a])",
-    "a",
-];
-
-const OPERATORS: [&str; 8] = ["", "", "*", "+", "?", "{2}", "{1,2}", "{0,2}?"];
-
-/// Adds up to three atoms with their operators.
-fn push_branch(random: &mut Random, text: &mut String) -> Result<(), Fail> {
-    for _ in 0..random.below(3) {
-        text.push_str(ATOMS[random.below(16)])?;
-        text.push_str(OPERATORS[random.below(8)])?;
-    }
-    Ok(())
-}
-
-/// A pattern, which mostly begins with what takes a byte.
-fn pattern_text(alloc: Global, random: &mut Random) -> Result<String, Fail> {
-    let mut text = String::new(alloc);
-    text.push_str(FIRST_ATOMS[random.below(8)])?;
-    push_branch(random, &mut text)?;
-    if random.below(2) == 0 {
-        text.push_str("(?:")?;
-        push_branch(random, &mut text)?;
-        text.push_str("|")?;
-        push_branch(random, &mut text)?;
-        text.push_str(")")?;
-        text.push_str(OPERATORS[random.below(8)])?;
-    }
-    Ok(text)
-}
+use std::ops::RangeInclusive;
+use std::process::Abort;
 
 /// The bit of a place, for places up to 31.
 fn bit(place: usize) -> u32 {
@@ -91,65 +18,60 @@ fn bit(place: usize) -> u32 {
 
 /// Whether one of the ranges has the value.
 fn has(ranges: &[Range], value: u32) -> bool {
-    ranges
-        .iter()
-        .any(|range| range.first <= value && value <= range.last)
+    for range in ranges {
+        if (range.first <= value) & (value <= range.last) {
+            return true;
+        }
+    }
+    false
 }
 
-fn is_word(byte: Option<&u8>) -> bool {
-    match byte {
-        Some(byte) => byte.is_ascii_alphanumeric() || *byte == b'_',
-        None => false,
+/// What stands where nothing stands: no byte and no character.
+const NOTHING: u32 = 0x11_0000;
+
+/// The byte at a place.
+fn byte_at(bytes: &[u8], at: usize) -> u32 {
+    match bytes.get(at) {
+        Some(byte) => u32::from(*byte),
+        None => NOTHING,
     }
 }
 
-/// Whether a look holds at a place.
+/// The character that stands between two places, if just one does.
+fn character_at(bytes: &[u8], from: usize, to: usize) -> u32 {
+    let text = str::from_utf8(bytes.get(from..to).unwrap_or(&[])).unwrap_or("");
+    let mut characters = text.chars();
+    match (characters.next(), characters.next()) {
+        (Some(found), None) => found as u32,
+        _ => NOTHING,
+    }
+}
+
+fn is_word(byte: u32) -> bool {
+    matches!(byte, 48..=57 | 65..=90 | 95 | 97..=122)
+}
+
+/// Whether a look holds at a place. The bytes 10 and 13 end lines.
 fn holds(look: Look, bytes: &[u8], at: usize) -> bool {
-    let before = if at == 0 { None } else { bytes.get(at - 1) };
-    let after = bytes.get(at);
+    let before = byte_at(bytes, at.wrapping_sub(1));
+    let after = byte_at(bytes, at);
     match look {
-        Look::Start => before.is_none(),
-        Look::End => after.is_none(),
-        Look::StartLF => matches!(before, None | Some(b'\n')),
-        Look::EndLF => matches!(after, None | Some(b'\n')),
-        Look::StartCRLF => {
-            matches!(before, None | Some(b'\n'))
-                || (matches!(before, Some(b'\r')) && !matches!(after, Some(b'\n')))
-        }
-        Look::EndCRLF => {
-            matches!(after, None | Some(b'\r'))
-                || (matches!(after, Some(b'\n')) && !matches!(before, Some(b'\r')))
-        }
+        Look::Start => before == NOTHING,
+        Look::End => after == NOTHING,
+        Look::StartLF => (before == NOTHING) | (before == 10),
+        Look::EndLF => (after == NOTHING) | (after == 10),
+        Look::StartCRLF => (before == NOTHING) | (before == 10) | ((before == 13) & (after != 10)),
+        Look::EndCRLF => (after == NOTHING) | (after == 13) | ((after == 10) & (before != 13)),
         Look::WordAscii => is_word(before) != is_word(after),
         Look::WordAsciiNegate => is_word(before) == is_word(after),
     }
 }
 
-/// The character that stands between two places, if just one does.
-fn character(bytes: &[u8], from: usize, to: usize) -> Option<char> {
-    let text = str::from_utf8(bytes.get(from..to)?).ok()?;
-    let mut chars = text.chars();
-    let first = chars.next()?;
-    if chars.next().is_some() {
-        return None;
-    }
-    Some(first)
-}
-
 /// Whether a member of the class stands between two places.
 fn is_member(class: &Class, bytes: &[u8], from: usize, to: usize) -> bool {
     match class {
-        Class::Bytes(ranges) => {
-            from.checked_add(1) == Some(to)
-                && match bytes.get(from) {
-                    Some(byte) => has(ranges, u32::from(*byte)),
-                    None => false,
-                }
-        }
-        Class::Characters(ranges) => match character(bytes, from, to) {
-            Some(found) => has(ranges, found as u32),
-            None => false,
-        },
+        Class::Bytes(ranges) => (to.wrapping_sub(from) == 1) & has(ranges, byte_at(bytes, from)),
+        Class::Characters(ranges) => has(ranges, character_at(bytes, from, to)),
     }
 }
 
@@ -225,15 +147,11 @@ fn repeated(sub: &Hir, min: u32, max: Option<u32>, bytes: &[u8], from: u32) -> u
     all
 }
 
-/// Whether the leaf matches all bytes up to a place.
-fn matches_to(leaf: &Leaf<'_>, bytes: &[u8], to: usize) -> bool {
-    ends(leaf.pattern.hir(), bytes, 1) & bit(to) != 0
-}
-
-/// The bits of the leaves that are listed.
-fn listed(found: Matches<'_>) -> u32 {
+/// The bits of the leaves that a state of the automaton lists.
+fn listed(rt: &impl Abort, dfa: &Dfa, state: StateId) -> u32 {
+    assert!(rt; dfa.contains(state));
     let mut bits = 0;
-    for leaf in found {
+    for leaf in dfa.iter_matches(state) {
         bits |= bit(leaf.0);
     }
     bits
@@ -243,38 +161,21 @@ fn listed(found: Matches<'_>) -> u32 {
 fn matching(leaves: &[Leaf<'_>], bytes: &[u8], to: usize) -> u32 {
     let mut bits = 0;
     for (number, leaf) in leaves.iter().enumerate() {
-        if matches_to(leaf, bytes, to) {
+        if ends(leaf.pattern.hir(), bytes, 1) & bit(to) != 0 {
             bits |= bit(number);
         }
     }
     bits
 }
 
-/// Whether the leaves are just those that match all bytes up to a place.
-fn lists(found: Matches<'_>, leaves: &[Leaf<'_>], bytes: &[u8], to: usize) -> bool {
-    listed(found) == matching(leaves, bytes, to)
-}
-
 /// Whether the automaton lists the right leaves after the text, and after the text and the end.
-fn is_listed(dfa: &Dfa, leaves: &[Leaf<'_>], text: &[u8]) -> bool {
-    let mut state = dfa.start();
-    for byte in text {
-        if !dfa.contains(state) {
-            return false;
-        }
-        state = dfa.next_state(state, *byte);
-    }
-    if !dfa.contains(state) {
-        return false;
-    }
-    let end = dfa.next_eoi_state(state);
-    if !dfa.contains(end) || !lists(dfa.iter_matches(end), leaves, text, text.len()) {
-        return false;
-    }
-    match text.len().checked_sub(1) {
-        Some(front) => lists(dfa.iter_matches(state), leaves, text, front),
-        None => true,
-    }
+fn is_listed(rt: &impl Abort, dfa: &Dfa, leaves: &[Leaf<'_>], text: &[u8]) -> bool {
+    let state = behind(rt, dfa, text);
+    assert!(rt; dfa.contains(state));
+    let found = listed(rt, dfa, state) == matching(leaves, text, text.len().wrapping_sub(1));
+    let found_at_end = listed(rt, dfa, dfa.next_eoi_state(state))
+        == matching(leaves, text, text.len());
+    (text.is_empty() | found) & found_at_end
 }
 
 /// The end of the longest nonempty match at the front, from the bits of the ends.
@@ -296,14 +197,20 @@ fn longest(leaves: &[Leaf<'_>], bytes: &[u8]) -> Option<(LeafId, usize)> {
     found
 }
 
+/// Whether one of the ranges has the byte.
+fn has_byte(ranges: &[RangeInclusive<u8>], byte: u8) -> bool {
+    for range in ranges {
+        if (*range.start() <= byte) & (byte <= *range.end()) {
+            return true;
+        }
+    }
+    false
+}
+
 /// Where a byte leads.
 fn next_by(data: &StateData, byte: u8) -> Option<State> {
     for (class, target) in &data.normal {
-        if class
-            .ranges
-            .iter()
-            .any(|range| *range.start() <= byte && byte <= *range.end())
-        {
+        if has_byte(&class.ranges, byte) {
             return Some(*target);
         }
     }
@@ -364,33 +271,25 @@ fn fill(text: &mut [u8; 5], number: usize) {
     }
 }
 
-/// Whether automaton and graph are right on all texts of a length up to 5.
-fn is_right(graph: &Graph<'_>, length: usize, count: usize) -> bool {
+/// Whether automaton and graph are right on a text.
+fn is_right(rt: &impl Abort, graph: &Graph<'_>, text: &[u8]) -> bool {
+    let is_found = found(graph, text) == longest(graph.leaves(), text);
+    is_listed(rt, graph.dfa(), graph.leaves(), text) & (is_found | !graph.errors().is_empty())
+}
+
+/// Automaton and graph are right on all texts of a length up to 5.
+fn are_right(rt: &impl Abort, graph: &Graph<'_>, length: usize, count: usize) {
     let mut text = [0; 5];
     for number in 0..count {
         fill(&mut text, number);
-        let Some(front) = text.get(..length) else {
-            return false;
-        };
-        if !is_listed(graph.dfa(), graph.leaves(), front) {
-            return false;
-        }
-        if graph.errors().is_empty() && found(graph, front) != longest(graph.leaves(), front) {
-            return false;
-        }
+        let front = text.get(..length).unwrap_or(&[]);
+        hold_row(
+            rt,
+            is_right(rt, graph, front),
+            "another match of text",
+            number,
+        );
     }
-    true
-}
-
-/// The same for all lengths below a number up to 6.
-fn is_right_up_to(graph: &Graph<'_>, lengths: usize) -> bool {
-    let counts = [1, 6, 36, 216, 1296, 7776];
-    for (length, count) in counts.iter().enumerate().take(lengths) {
-        if !is_right(graph, length, *count) {
-            return false;
-        }
-    }
-    true
 }
 
 pub(super) fn state_count(graph: &Graph<'_>) -> usize {
@@ -401,171 +300,121 @@ pub(super) fn state_count(graph: &Graph<'_>) -> usize {
     count
 }
 
-/// Whether two states are told apart by what the graph tells of them, and only if they differ.
-fn is_told(alloc: Global, graph: &Graph<'_>, one: State, other: State) -> Result<bool, Fail> {
-    if !graph.contains(one) || !graph.contains(other) || one == other {
-        return Ok(graph.contains(one));
-    }
-    let telling = graph.telling(alloc, one, other)?;
-    Ok(
-        telling.bytes.len() < state_count(graph)
-            && graph.checks(one, other, &telling.bytes, telling.at_end)
-            && !graph.checks(one, one, &telling.bytes, telling.at_end),
-    )
+/// Two states are told apart by what the graph tells of them, and only if they differ.
+fn tell(rt: &impl Abort, alloc: Global, graph: &Graph<'_>, one: State, other: State) {
+    assert!(rt; graph.contains(one) & graph.contains(other) & (one != other));
+    let telling = graph.telling(alloc, one, other).expect(rt, "memory");
+    let is_short = telling.bytes.len() < state_count(graph);
+    let tells = graph.checks(one, other, &telling.bytes, telling.at_end);
+    let tells_itself = graph.checks(one, one, &telling.bytes, telling.at_end);
+    hold_row(
+        rt,
+        is_short & tells & !tells_itself,
+        "not told apart: state",
+        one.index(),
+    );
 }
 
 /// The same for a state and all others.
-fn is_told_from_all(alloc: Global, graph: &Graph<'_>, one: State) -> Result<bool, Fail> {
+fn tell_from_all(rt: &impl Abort, alloc: Global, graph: &Graph<'_>, one: State) {
     for other in graph.iter_states() {
-        if !is_told(alloc, graph, one, other)? {
-            return Ok(false);
+        if one != other {
+            tell(rt, alloc, graph, one, other);
         }
     }
-    Ok(true)
 }
 
-/// Whether any two states are told apart.
-fn are_told(alloc: Global, graph: &Graph<'_>) -> Result<bool, Fail> {
-    for one in graph.iter_states() {
-        if !is_told_from_all(alloc, graph, one)? {
-            return Ok(false);
-        }
-    }
-    Ok(true)
-}
-
-/// The leaves of a few patterns, of which each has a priority of its own.
-pub(super) fn leaves_of<'s>(
-    alloc: Global,
-    random: &mut Random,
-    unicode: bool,
-) -> Result<Vec<Leaf<'s>>, Fail> {
-    let mut leaves = Vec::new(alloc);
-    for number in 0..1 + random.below(3) {
-        let text = pattern_text(alloc, random)?;
-        if let Ok(pattern) = Pattern::compile(alloc, false, text.as_str(), "", unicode, false) {
-            leaves.push(Leaf::new(NOWHERE, pattern).priority(number))?;
-        }
-    }
-    Ok(leaves)
-}
-
-/// Whether a tree can be passed without a byte.
-fn passable(hir: &Hir) -> bool {
+/// Whether a tree can be passed without a byte, and whether it can meet a look before its first byte.
+#[cycle(front)]
+fn front(hir: &Hir) -> (bool, bool) {
     match hir {
-        Hir::Empty | Hir::Look(_) => true,
-        Hir::Literal(_) | Hir::Class(_) => false,
-        Hir::Capture(sub) => passable(sub),
-        Hir::Repetition { min, sub, .. } => *min == 0 || passable(sub),
-        Hir::Concat(parts) => {
-            for part in parts {
-                if !passable(part) {
-                    return false;
-                }
-            }
-            true
+        Hir::Empty => (true, false),
+        Hir::Literal(_) | Hir::Class(_) => (false, false),
+        Hir::Look(_) => (true, true),
+        Hir::Capture(sub) => front(sub),
+        Hir::Repetition { min, sub, .. } => {
+            let (passes, meets) = front(sub);
+            ((*min == 0) | passes, meets)
         }
+        Hir::Concat(parts) => front_of_row(parts),
         Hir::Alternation(branches) => {
+            let mut all = (false, false);
             for branch in branches {
-                if passable(branch) {
-                    return true;
-                }
+                let (passes, meets) = front(branch);
+                all = (all.0 | passes, all.1 | meets);
             }
-            false
+            all
         }
     }
 }
 
-/// Whether a tree can meet a look before its first byte.
-fn leads(hir: &Hir) -> bool {
-    match hir {
-        Hir::Empty | Hir::Literal(_) | Hir::Class(_) => false,
-        Hir::Look(_) => true,
-        Hir::Capture(sub) => leads(sub),
-        Hir::Repetition { sub, .. } => leads(sub),
-        Hir::Concat(parts) => {
-            for part in parts {
-                if leads(part) {
-                    return true;
-                }
-                if !passable(part) {
-                    return false;
-                }
-            }
-            false
-        }
-        Hir::Alternation(branches) => {
-            for branch in branches {
-                if leads(branch) {
-                    return true;
-                }
-            }
-            false
-        }
+/// The same for trees one behind another.
+#[cycle(front)]
+fn front_of_row(parts: &[Hir]) -> (bool, bool) {
+    let mut all = (true, false);
+    for part in parts {
+        let (passes, meets) = front(part);
+        all = (all.0 & passes, all.1 | (all.0 & meets));
     }
+    all
 }
 
-/// The bits of the leaves that can be passed without a byte.
-fn passable_leaves(leaves: &[Leaf<'_>]) -> u32 {
-    let mut bits = 0;
+/// Adds the errors that come before the automaton: a missing start alone, else each leaf that can be passed without a byte.
+fn push_first_errors(rt: &impl Abort, text: &mut String, leaves: &[Leaf<'_>]) {
+    let mut meets_look = false;
     for (number, leaf) in leaves.iter().enumerate() {
-        if passable(leaf.pattern.hir()) {
-            bits |= bit(number);
+        let (passes, meets) = front(leaf.pattern.hir());
+        meets_look = meets_look | meets;
+        if passes {
+            write!(text, "empty {number} ").expect(rt, "memory");
         }
     }
-    bits
-}
-
-/// The bits of the leaves that errors name as matching nothing; `None` where another error stands among them.
-fn empty_leaves(errors: &[GraphError]) -> Option<u32> {
-    let mut bits = 0;
-    for error in errors {
-        match error {
-            GraphError::EmptyMatch(leaf) => bits |= bit(leaf.0),
-            _ => return None,
-        }
+    if meets_look {
+        text.clear();
+        push(rt, text, "start ");
     }
-    Some(bits)
 }
 
-/// Whether the errors are those that come before the automaton, where one of them stands: a missing start alone, else each
-/// leaf that matches nothing.
-fn are_first_errors(leaves: &[Leaf<'_>], errors: &[GraphError]) -> bool {
-    if leaves.iter().any(|leaf| leads(leaf.pattern.hir())) {
-        return errors.len() == 1 && matches!(errors.first(), Some(GraphError::NoUniversalStart));
+/// The errors that come before the automaton stand alone, and there are no states.
+fn are_refused(rt: &impl Abort, alloc: Global, graph: &Graph<'_>, first: &str) {
+    let mut text = String::new(alloc);
+    push_errors(rt, &mut text, graph.errors());
+    judge(rt, "first errors", &text, first);
+    hold(rt, state_count(graph) == 0, "no states");
+}
+
+/// Any two states are told apart.
+fn are_told(rt: &impl Abort, alloc: Global, graph: &Graph<'_>) {
+    for one in graph.iter_states() {
+        tell_from_all(rt, alloc, graph, one);
     }
-    empty_leaves(errors) == Some(passable_leaves(leaves))
 }
 
-/// Whether there is an error that comes before the automaton.
-fn has_first_errors(leaves: &[Leaf<'_>]) -> bool {
-    leaves.iter().any(|leaf| leads(leaf.pattern.hir()) || passable(leaf.pattern.hir()))
-}
-
-/// Whether graph and automaton of some leaves are as matching by its definition says.
-fn is_as_defined(alloc: Global, graph: &Graph<'_>, lengths: usize) -> Result<bool, Fail> {
-    if has_first_errors(graph.leaves()) {
-        return Ok(are_first_errors(graph.leaves(), graph.errors()) && state_count(graph) == 0);
+/// Graph and automaton of some leaves are as matching by its definition says, on texts below a length up to 6.
+fn are_as_defined(rt: &impl Abort, alloc: Global, graph: &Graph<'_>, lengths: usize) {
+    let counts = [1, 6, 36, 216, 1296, 7776];
+    for (length, count) in counts.iter().enumerate().take(lengths) {
+        are_right(rt, graph, length, *count);
     }
-    Ok(is_right_up_to(graph, lengths) && are_told(alloc, graph)?)
+    are_told(rt, alloc, graph);
 }
 
 #[test]
-fn generated_leaves_match_as_defined(rt: HostRuntime) -> Result<(), Fail> {
+fn generated_leaves_match_as_defined(rt: HostRuntime) {
     let alloc = rt.alloc();
     let mut random = Random::new(7);
     let mut tried = 0usize;
     for set in 0..300usize {
-        let leaves = leaves_of(alloc, &mut random, set % 10 == 0)?;
-        let graph = Graph::new(alloc, leaves, Config { utf8_mode: false })?;
-        if !has_first_errors(graph.leaves()) {
+        let leaves = leaves_of(&rt, alloc, &mut random, set % 10 == 0);
+        let graph = Graph::new(alloc, leaves, Config { utf8_mode: false }).expect(&rt, "a graph");
+        let mut first = String::new(alloc);
+        push_first_errors(&rt, &mut first, graph.leaves());
+        if first.is_empty() {
+            are_as_defined(&rt, alloc, &graph, if set % 30 == 1 { 5 } else { 4 });
             tried = tried.saturating_add(1);
+        } else {
+            are_refused(&rt, alloc, &graph, &first);
         }
-        assert!(rt;
-            is_as_defined(alloc, &graph, if set % 30 == 1 { 5 } else { 4 })?,
-            "another graph or another error"
-        );
     }
-    assert!(rt; tried > 100);
-    Ok(())
+    hold(&rt, tried > 100, "sets without first errors");
 }

@@ -1,110 +1,109 @@
 //! Whole enums, as they are read, and why a source is none.
 
-use super::plain::{Change, changed, wanted};
-use logos_item::{Field, Fields, ItemEnum, ParameterKind, ReadError, Variant, read_enum};
+use super::super::rows::{judge, push, push_span};
+use super::plain::{Change, changed, push_wanted};
+use logos_item::{
+    Field, Fields, ItemEnum, Parameter, ParameterKind, ReadError, Variant, read_enum,
+};
 use logos_token::token::{Span, Tokens, print, tokenize};
 use std::alloc::Global;
 use std::process::Abort;
-use std::test::Fail;
 
-/// A run as it is printed, in brackets; nothing where it is empty.
-fn push_run(alloc: Global, text: &mut String, run: Tokens<'_, '_>) -> Result<(), Fail> {
-    if run.is_empty() {
-        return Ok(());
+/// Adds a run as it is printed, in brackets; nothing where it is empty.
+fn push_run(rt: &impl Abort, alloc: Global, text: &mut String, run: Tokens<'_, '_>) {
+    if !run.is_empty() {
+        let Span { from, to } = run.span();
+        let printed = print(alloc, run).expect(rt, "memory");
+        write!(text, "[{printed}]{from}..{to} ").expect(rt, "memory");
     }
-    let printed = print(alloc, run)?;
-    let Span { from, to } = run.span();
-    write!(text, "[{printed}]{from}..{to} ")?;
-    Ok(())
-}
-
-fn push_field(alloc: Global, text: &mut String, field: &Field<'_, '_>) -> Result<(), Fail> {
-    push_run(alloc, text, field.attributes)?;
-    push_run(alloc, text, field.run)
 }
 
 fn push_fields(
+    rt: &impl Abort,
     alloc: Global,
     text: &mut String,
-    word: &str,
     span: Span,
     list: &[Field<'_, '_>],
-) -> Result<(), Fail> {
-    let Span { from, to } = span;
-    write!(text, "{word} {from}..{to} ")?;
+) {
+    push_span(rt, text, "", span);
+    push(rt, text, " ");
     for field in list {
-        push_field(alloc, text, field)?;
+        push_run(rt, alloc, text, field.attributes);
+        push_run(rt, alloc, text, field.run);
     }
-    Ok(())
 }
 
-fn push_variant(alloc: Global, text: &mut String, variant: &Variant<'_, '_>) -> Result<(), Fail> {
-    push_run(alloc, text, variant.attributes)?;
-    text.push_str(variant.name.text)?;
-    text.push_str(" ")?;
+fn push_variant(rt: &impl Abort, alloc: Global, text: &mut String, variant: &Variant<'_, '_>) {
+    push_run(rt, alloc, text, variant.attributes);
+    push(rt, text, variant.name.text);
     match &variant.fields {
-        Fields::Unit => Ok(()),
-        Fields::Tuple(span, list) => push_fields(alloc, text, "tuple", *span, list),
-        Fields::Named(span, list) => push_fields(alloc, text, "named", *span, list),
+        Fields::Unit => push(rt, text, " "),
+        Fields::Tuple(span, list) => {
+            push(rt, text, " tuple ");
+            push_fields(rt, alloc, text, *span, list);
+        }
+        Fields::Named(span, list) => {
+            push(rt, text, " named ");
+            push_fields(rt, alloc, text, *span, list);
+        }
     }
+    push(rt, text, "; ");
 }
 
-fn word_of(kind: ParameterKind) -> &'static str {
-    match kind {
-        ParameterKind::Lifetime => "lifetime",
-        ParameterKind::Type => "type",
-        ParameterKind::Const => "const",
-    }
+fn push_parameter(rt: &impl Abort, text: &mut String, parameter: &Parameter<'_, '_>) {
+    push(
+        rt,
+        text,
+        match parameter.kind {
+            ParameterKind::Lifetime => "lifetime ",
+            ParameterKind::Type => "type ",
+            ParameterKind::Const => "const ",
+        },
+    );
+    push(rt, text, parameter.name.text);
+    push_span(rt, text, " ", parameter.run.span());
+    push(rt, text, ", ");
 }
 
-fn push_item(alloc: Global, text: &mut String, item: &ItemEnum<'_, '_>) -> Result<(), Fail> {
-    push_run(alloc, text, item.attributes)?;
-    text.push_str(item.name.text)?;
-    text.push_str(": ")?;
+fn push_item(rt: &impl Abort, alloc: Global, text: &mut String, item: &ItemEnum<'_, '_>) {
+    push_run(rt, alloc, text, item.attributes);
+    push(rt, text, item.name.text);
+    push(rt, text, ": ");
     for parameter in &item.parameters {
-        let word = word_of(parameter.kind);
-        let name = parameter.name.text;
-        let Span { from, to } = parameter.run.span();
-        write!(text, "{word} {name} {from}..{to}, ")?;
+        push_parameter(rt, text, parameter);
     }
     for variant in &item.variants {
-        push_variant(alloc, text, variant)?;
-        text.push_str("; ")?;
+        push_variant(rt, alloc, text, variant);
     }
-    Ok(())
 }
 
-fn push_error(text: &mut String, error: ReadError) -> Result<(), Fail> {
-    let (word, span) = match error {
-        ReadError::NotAnEnum { span } => ("NotAnEnum", span),
-        ReadError::Grammar { span } => ("Grammar", span),
-        ReadError::TypeUnsupported { span } => ("TypeUnsupported", span),
-        ReadError::LimitTypeNesting { span } => ("LimitTypeNesting", span),
-        ReadError::Memory => ("Memory", Span { from: 0, to: 0 }),
-    };
-    let Span { from, to } = span;
-    write!(text, "{word} {from}..{to}")?;
-    Ok(())
+fn push_error(rt: &impl Abort, text: &mut String, error: ReadError) {
+    match error {
+        ReadError::NotAnEnum { span } => push_span(rt, text, "NotAnEnum ", span),
+        ReadError::Grammar { span } => push_span(rt, text, "Grammar ", span),
+        ReadError::TypeUnsupported { span } => push_span(rt, text, "TypeUnsupported ", span),
+        ReadError::LimitTypeNesting { span } => push_span(rt, text, "LimitTypeNesting ", span),
+        ReadError::Memory => push(rt, text, "Memory"),
+    }
 }
 
-/// What is read, or why not.
-fn told(alloc: Global, source: &str) -> Result<String, Fail> {
-    let stream = tokenize(alloc, source)?;
-    let mut text = String::new(alloc);
+/// Adds what is read, or that something is where no more is asked, or why nothing is.
+fn push_read(rt: &impl Abort, alloc: Global, text: &mut String, source: &str, is_shown: bool) {
+    let stream = tokenize(alloc, source).expect(rt, "tokens");
     match read_enum(alloc, stream.run()) {
-        Ok(item) => push_item(alloc, &mut text, &item)?,
-        Err(error) => push_error(&mut text, error)?,
+        Ok(item) if is_shown => push_item(rt, alloc, text, &item),
+        Ok(_) => push(rt, text, "read"),
+        Err(error) => push_error(rt, text, error),
     }
-    Ok(text)
 }
 
 /// Of each source that is said which stands beside it.
-fn tell(rt: &impl Abort, alloc: Global, cases: &[(&str, &str)]) -> Result<(), Fail> {
+fn tell(rt: &impl Abort, alloc: Global, cases: &[(&str, &str)]) {
     for case in cases {
-        let (source, wanted) = *case;
-        assert!(rt; told(alloc, source)?.as_str() == wanted, "{source}");
+        let mut text = String::new(alloc);
+        push_read(rt, alloc, &mut text, case.0, true);
+        judge(rt, case.0, &text, case.1);
     }
-    Ok(())
 }
 
 const ENUMS: &[(&str, &str)] = &[
@@ -145,11 +144,6 @@ const ENUMS: &[(&str, &str)] = &[
     ("enum E { A(pub (u8) B) }", "E: A tuple 10..22 [B]20..21 ; "),
     ("enum E { A = a::<u8>(), B }", "E: A ; B ; "),
 ];
-
-#[test]
-fn reads_enums(rt: HostRuntime) -> Result<(), Fail> {
-    tell(&rt, rt.alloc(), ENUMS)
-}
 
 const FAULTS: &[(&str, &str)] = &[
     ("", "NotAnEnum 0..0"),
@@ -210,51 +204,9 @@ const FAULTS: &[(&str, &str)] = &[
 ];
 
 #[test]
-fn names_the_first_fault(rt: HostRuntime) -> Result<(), Fail> {
-    tell(&rt, rt.alloc(), FAULTS)
-}
-
-/// Why a source is not read.
-fn error_of(alloc: Global, source: &str) -> Result<Option<ReadError>, Fail> {
-    let stream = tokenize(alloc, source)?;
-    Ok(read_enum(alloc, stream.run()).err())
-}
-
-/// Whether a source is read, or why not; without the span where it is no enum.
-fn verdict(alloc: Global, source: &str) -> Result<String, Fail> {
-    let mut text = String::new(alloc);
-    match error_of(alloc, source)? {
-        None => text.push_str("read")?,
-        Some(ReadError::NotAnEnum { .. }) => text.push_str("NotAnEnum")?,
-        Some(error) => push_error(&mut text, error)?,
-    }
-    Ok(text)
-}
-
-/// Some text so many times in front of another one, and a third behind it as many times.
-fn push_nested(text: &mut String, nest: (&str, &str, &str), count: usize) -> Result<(), Fail> {
-    for _ in 0..count {
-        text.push_str(nest.0)?;
-    }
-    text.push_str(nest.1)?;
-    for _ in 0..count {
-        text.push_str(nest.2)?;
-    }
-    Ok(())
-}
-
-/// What is said of an enum with this in front and behind of what is nested.
-fn nested_verdict(
-    alloc: Global,
-    front: &str,
-    nest: (&str, &str, &str),
-    count: usize,
-    back: &str,
-) -> Result<String, Fail> {
-    let mut source = String::from_str(alloc, front)?;
-    push_nested(&mut source, nest, count)?;
-    source.push_str(back)?;
-    verdict(alloc, source.as_str())
+fn reads_enums_and_names_the_first_fault(rt: HostRuntime) {
+    tell(&rt, rt.alloc(), ENUMS);
+    tell(&rt, rt.alloc(), FAULTS);
 }
 
 const LIMITS: &[(&str, (&str, &str, &str), usize, &str, &str)] = &[
@@ -285,67 +237,72 @@ const LIMITS: &[(&str, (&str, &str, &str), usize, &str, &str)] = &[
 ];
 
 #[test]
-fn reads_up_to_the_limits(rt: HostRuntime) -> Result<(), Fail> {
+fn reads_up_to_the_limits(rt: HostRuntime) {
     let alloc = rt.alloc();
-    for case in LIMITS {
-        let (front, nest, count, back, wanted) = *case;
-        let text = nested_verdict(alloc, front, nest, count, back)?;
-        assert_eq!(rt; text.as_str(), wanted, "{front}");
+    for (front, nest, count, back, wanted) in LIMITS {
+        let opening = nest.0.repeat(alloc, *count).expect(&rt, "memory");
+        let closing = nest.2.repeat(alloc, *count).expect(&rt, "memory");
+        let mut source = String::new(alloc);
+        write!(source, "{front}{opening}{}{closing}{back}", nest.1).expect(&rt, "memory");
+        let mut text = String::new(alloc);
+        push_read(&rt, alloc, &mut text, &source, false);
+        judge(&rt, front, &text, wanted);
     }
-    Ok(())
 }
 
-/// What is said of these pieces, where the plain reader says something else.
-fn disagreement(
-    alloc: Global,
-    begin: &'static str,
-    front: &str,
-    back: &str,
-    pieces: &[&str],
-) -> Result<Option<String>, Fail> {
-    let mut source = String::from_str(alloc, front)?;
-    let wanted = wanted(alloc, begin, pieces, &mut source)?;
-    source.push_str(back)?;
-    let text = verdict(alloc, source.as_str())?;
-    if text.as_str() == wanted.as_str() {
-        return Ok(None);
+/// Where pieces stand: the place at which they begin, and what stands in front of them and behind them.
+type Frame = (&'static str, &'static str, &'static str);
+
+/// What is said of these pieces is what the plain reader says.
+fn agree(rt: &impl Abort, alloc: Global, frame: Frame, pieces: &[&str]) {
+    let mut source = String::from_str(alloc, frame.1).expect(rt, "memory");
+    for piece in pieces {
+        push(rt, &mut source, *piece);
+        push(rt, &mut source, " ");
     }
-    write!(source, ": {text}, wanted {wanted}\n")?;
-    Ok(Some(source))
+    push(rt, &mut source, frame.2);
+    let (mut text, mut wanted) = (String::new(alloc), String::new(alloc));
+    push_read(rt, alloc, &mut text, &source, false);
+    push_wanted(
+        rt,
+        &mut wanted,
+        frame.0,
+        pieces,
+        frame.1.len(),
+        source.trim_end().len(),
+    );
+    judge(rt, &source, &text, &wanted);
 }
 
-const CHANGES: &[Change] = &[Change::Drop, Change::Double, Change::Turn];
+const CHANGES: [Change; 3] = [Change::Drop, Change::Double, Change::Turn];
 
-/// What is said of the base with one change, or with two of which the second is at most six pieces behind the first, where the plain
-/// reader says something else; and how many such there are.
-fn disagreements(
+/// What is said of pieces with one change up to six pieces behind this one; counts such changes.
+fn agree_changed(
+    rt: &impl Abort,
     alloc: Global,
-    begin: &'static str,
-    front: &str,
-    back: &str,
+    frame: Frame,
     base: &[&str],
-) -> Result<(String, usize), Fail> {
-    let mut all = String::new(alloc);
-    let mut count = 0_usize;
-    for at in 0..base.len() {
-        for change in CHANGES {
-            let once = changed(alloc, base, *change, at)?;
-            for next in at..once.len().min(at + 7) {
-                for other in CHANGES {
-                    let twice = changed(alloc, &once, *other, next)?;
-                    if let Some(line) = disagreement(alloc, begin, front, back, &twice)? {
-                        all.push_str(line.as_str())?;
-                    }
-                    count = count.saturating_add(1);
-                }
-            }
-            if let Some(line) = disagreement(alloc, begin, front, back, &once)? {
-                all.push_str(line.as_str())?;
-            }
-            count = count.saturating_add(1);
+    at: usize,
+    count: &mut usize,
+) {
+    for index in 0..21usize {
+        let place = at.saturating_add(index / 3);
+        if place < base.len() {
+            let pieces = changed(rt, alloc, base, CHANGES[index % 3], place);
+            agree(rt, alloc, frame, &pieces);
+            *count = count.saturating_add(1);
         }
     }
-    Ok((all, count))
+}
+
+/// What is said of the base with one change, or with two of which the second is at most six pieces behind the first, is what the plain
+/// reader says; counts those with two.
+fn agree_on(rt: &impl Abort, alloc: Global, frame: Frame, base: &[&str], count: &mut usize) {
+    for index in 0..base.len().saturating_mul(3) {
+        let pieces = changed(rt, alloc, base, CHANGES[index % 3], index / 3);
+        agree(rt, alloc, frame, &pieces);
+        agree_changed(rt, alloc, frame, &pieces, index / 3, count);
+    }
 }
 
 /// The pieces of an enum, of variants and of fields, of which some are dropped, doubled or turned.
@@ -394,14 +351,23 @@ const PIECES_OF_FIELDS: &[&str] = &[
 ];
 
 #[test]
-fn agrees_with_a_plain_reader(rt: HostRuntime) -> Result<(), Fail> {
+fn agrees_with_a_plain_reader(rt: HostRuntime) {
     let alloc = rt.alloc();
-    let (item, items) = disagreements(alloc, "front", "", "", PIECES_OF_ENUM)?;
-    assert_eq!(rt; item.as_str(), "");
-    let (variants, others) = disagreements(alloc, "variant", "enum E { ", "}", PIECES_OF_VARIANTS)?;
-    assert_eq!(rt; variants.as_str(), "");
-    let (fields, more) = disagreements(alloc, "field", "enum E { A { ", "} }", PIECES_OF_FIELDS)?;
-    assert_eq!(rt; fields.as_str(), "");
-    assert!(rt; items.saturating_add(others).saturating_add(more) > 4000);
-    Ok(())
+    let mut count = 0usize;
+    agree_on(&rt, alloc, ("front", "", ""), PIECES_OF_ENUM, &mut count);
+    agree_on(
+        &rt,
+        alloc,
+        ("variant", "enum E { ", "}"),
+        PIECES_OF_VARIANTS,
+        &mut count,
+    );
+    agree_on(
+        &rt,
+        alloc,
+        ("field", "enum E { A { ", "} }"),
+        PIECES_OF_FIELDS,
+        &mut count,
+    );
+    assert!(rt; count > 4000);
 }

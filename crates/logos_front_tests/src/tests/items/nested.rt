@@ -1,61 +1,45 @@
 //! The pieces of an attribute's argument.
 
+use super::super::rows::{judge, push, push_run};
 use logos_attribute::nested::{AttributeParser, Nested, NestedValue};
-use logos_token::token::{Tokens, print, tokenize};
+use logos_token::token::{Tokens, tokenize};
 use std::alloc::Global;
-use std::test::Fail;
+use std::process::Abort;
 
-/// A run as it is printed, in brackets, behind a text.
-fn push_run(
-    alloc: Global,
-    text: &mut String,
-    before: &str,
-    run: Tokens<'_, '_>,
-) -> Result<(), Fail> {
-    text.push_str(before)?;
-    text.push_str("[")?;
-    text.push_str(print(alloc, run)?.as_str())?;
-    text.push_str("]")?;
-    Ok(())
-}
-
-fn push_value(alloc: Global, text: &mut String, value: NestedValue<'_, '_>) -> Result<(), Fail> {
+fn push_value(rt: &impl Abort, alloc: Global, text: &mut String, value: NestedValue<'_, '_>) {
     match value {
-        NestedValue::Assign(run) => push_run(alloc, text, " = ", run),
+        NestedValue::Assign(run) => push_run(rt, alloc, text, " = ", run),
         NestedValue::Literal(literal) => {
-            text.push_str(" ")?;
-            text.push_str(literal.text)?;
-            Ok(())
+            push(rt, text, " ");
+            push(rt, text, literal.text);
         }
-        NestedValue::Group(run) => push_run(alloc, text, " in ", run),
+        NestedValue::Group(run) => push_run(rt, alloc, text, " in ", run),
         NestedValue::KeywordAssign(name, run) => {
-            text.push_str(" ")?;
-            text.push_str(name.text)?;
-            push_run(alloc, text, " = ", run)
+            push(rt, text, " ");
+            push(rt, text, name.text);
+            push_run(rt, alloc, text, " = ", run);
         }
     }
 }
 
-fn push_piece(alloc: Global, text: &mut String, piece: Nested<'_, '_>) -> Result<(), Fail> {
+fn push_piece(rt: &impl Abort, alloc: Global, text: &mut String, piece: Nested<'_, '_>) {
     match piece {
-        Nested::Unnamed(run) => push_run(alloc, text, "", run),
-        Nested::Unexpected(run) => push_run(alloc, text, "unexpected ", run),
+        Nested::Unnamed(run) => push_run(rt, alloc, text, "", run),
+        Nested::Unexpected(run) => push_run(rt, alloc, text, "unexpected ", run),
         Nested::Named(name, value) => {
-            text.push_str(name.text)?;
-            push_value(alloc, text, value)
+            push(rt, text, name.text);
+            push_value(rt, alloc, text, value);
         }
     }
+    push(rt, text, "; ");
 }
 
-/// All pieces of an argument.
-fn told(alloc: Global, argument: &str) -> Result<String, Fail> {
-    let stream = tokenize(alloc, argument)?;
-    let mut text = String::new(alloc);
+/// Adds all pieces of an argument.
+fn push_pieces(rt: &impl Abort, alloc: Global, text: &mut String, argument: &str) {
+    let stream = tokenize(alloc, argument).expect(rt, "tokens");
     for piece in AttributeParser::new(stream.run()) {
-        push_piece(alloc, &mut text, piece)?;
-        text.push_str("; ")?;
+        push_piece(rt, alloc, text, piece);
     }
-    Ok(text)
 }
 
 const ARGUMENTS: &[(&str, &str)] = &[
@@ -95,27 +79,23 @@ const ARGUMENTS: &[(&str, &str)] = &[
 ];
 
 #[test]
-fn cuts_arguments(rt: HostRuntime) -> Result<(), Fail> {
-    let alloc = rt.alloc();
-    for case in ARGUMENTS {
-        let (argument, wanted) = *case;
-        let text = told(alloc, argument)?;
-        assert_eq!(rt; text.as_str(), wanted, "{argument}");
+fn cuts_arguments(rt: HostRuntime) {
+    for (argument, wanted) in ARGUMENTS {
+        let mut text = String::new(rt.alloc());
+        push_pieces(&rt, rt.alloc(), &mut text, argument);
+        judge(&rt, argument, &text, wanted);
     }
-    Ok(())
 }
 
-/// Each run up to a comma that cuts, in brackets.
-fn runs_of(alloc: Global, argument: &str) -> Result<String, Fail> {
-    let stream = tokenize(alloc, argument)?;
+/// Adds each run up to a comma that cuts, in brackets.
+fn push_runs(rt: &impl Abort, alloc: Global, text: &mut String, argument: &str) {
+    let stream = tokenize(alloc, argument).expect(rt, "tokens");
     let mut parser = AttributeParser::new(stream.run());
-    let mut text = String::new(alloc);
     for _ in 0..argument.len() {
         if let Some(run) = parser.run() {
-            push_run(alloc, &mut text, "", run)?;
+            push_run(rt, alloc, text, "", run);
         }
     }
-    Ok(text)
 }
 
 const RUNS: &[(&str, &str)] = &[
@@ -126,12 +106,10 @@ const RUNS: &[(&str, &str)] = &[
 ];
 
 #[test]
-fn takes_runs(rt: HostRuntime) -> Result<(), Fail> {
-    let alloc = rt.alloc();
-    for case in RUNS {
-        let (argument, wanted) = *case;
-        let text = runs_of(alloc, argument)?;
-        assert_eq!(rt; text.as_str(), wanted, "{argument}");
+fn takes_runs(rt: HostRuntime) {
+    for (argument, wanted) in RUNS {
+        let mut text = String::new(rt.alloc());
+        push_runs(&rt, rt.alloc(), &mut text, argument);
+        judge(&rt, argument, &text, wanted);
     }
-    Ok(())
 }

@@ -1,8 +1,9 @@
 //! A plain reader of pieces, which says where their first misfit is, by a table of places.
 
+use super::super::rows::{push, push_span};
 use logos_token::token::Span;
 use std::alloc::Global;
-use std::test::Fail;
+use std::process::Abort;
 
 /// A row for each place and each kind of piece that may stand there: the place, the letters of the kinds, and the place behind it. The
 /// first row that fits counts; a piece without a row is a misfit, and so is one whose row leads to no place.
@@ -140,64 +141,58 @@ fn before(change: Change, at: usize, index: usize) -> usize {
 
 /// The pieces, of which the one at this place is dropped, doubled, or put behind the next.
 pub(super) fn changed<'p>(
+    rt: &impl Abort,
     alloc: Global,
     base: &[&'p str],
     change: Change,
     at: usize,
-) -> Result<Vec<&'p str>, Fail> {
+) -> Vec<&'p str> {
     let mut pieces = Vec::new(alloc);
     for index in 0..base.len().saturating_add(1) {
         if let Some(piece) = base.get(before(change, at, index)) {
-            pieces.push(*piece)?;
+            pieces.push(*piece).expect(rt, "memory");
         }
     }
-    Ok(pieces)
+    pieces
 }
 
-/// Adds the pieces to a source: the place behind them, or behind the last one in front of a misfit, and the misfit.
-fn walk(
-    begin: &'static str,
-    pieces: &[&str],
-    source: &mut String,
-) -> Result<(&'static str, Option<Span>), Fail> {
+/// The place behind the pieces, or behind the last one in front of a misfit, and the misfit, where they stand from an offset with a
+/// blank behind each.
+fn walk(begin: &'static str, pieces: &[&str], offset: usize) -> (&'static str, Option<Span>) {
     let mut place = begin;
-    let mut misfit = None;
+    let mut from = offset;
     for piece in pieces {
-        let from = source.len();
-        source.push_str(*piece)?;
         let next = behind(place, *piece);
-        if misfit.is_none() & next.is_empty() {
-            misfit = Some(Span {
-                from,
-                to: source.len(),
-            });
+        let to = from.saturating_add(piece.len());
+        if next.is_empty() {
+            return (place, Some(Span { from, to }));
         }
-        if misfit.is_none() {
-            place = next;
-        }
-        source.push_str(" ")?;
+        place = next;
+        from = to.saturating_add(1);
     }
-    Ok((place, misfit))
+    (place, None)
 }
 
-/// Adds the pieces to a source, and says what should be said of it.
-pub(super) fn wanted(
-    alloc: Global,
+/// Says what should be said of pieces from an offset, where the whole run ends at another.
+pub(super) fn push_wanted(
+    rt: &impl Abort,
+    text: &mut String,
     begin: &'static str,
     pieces: &[&str],
-    source: &mut String,
-) -> Result<String, Fail> {
-    let (place, misfit) = walk(begin, pieces, source)?;
-    let mut text = String::new(alloc);
+    offset: usize,
+    whole: usize,
+) {
+    let (place, misfit) = walk(begin, pieces, offset);
+    let end = if ENDS.contains(&place) {
+        "read"
+    } else {
+        "Grammar 0..0"
+    };
     if place.starts_with("front") {
-        text.push_str("NotAnEnum")?;
-        return Ok(text);
+        push_span(rt, text, "NotAnEnum ", Span { from: 0, to: whole });
+    } else if let Some(span) = misfit {
+        push_span(rt, text, "Grammar ", span);
+    } else {
+        push(rt, text, end);
     }
-    let runs_out = misfit.is_none() & !ENDS.contains(&place);
-    let end = runs_out.then_some(Span { from: 0, to: 0 });
-    match misfit.or(end) {
-        Some(Span { from, to }) => write!(text, "Grammar {from}..{to}")?,
-        None => text.push_str("read")?,
-    }
-    Ok(text)
 }

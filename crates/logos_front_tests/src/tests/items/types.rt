@@ -1,20 +1,39 @@
 //! Types, as they are read, printed and copied, and why a source is none.
 
+use super::super::rows::{hold, judge, push, push_span};
 use logos_token::token::{Span, tokenize};
 use logos_type::{TypeExpr, exceeds, print_type};
 use logos_type_reader::{TypeFault, read_type};
 use std::alloc::Global;
-use std::test::Fail;
+use std::process::Abort;
 
-/// The text of the type that the whole source is; `none` where it is no type.
-fn shown(alloc: Global, source: &str) -> Result<String, Fail> {
-    let stream = tokenize(alloc, source)?;
-    if let Ok((type_expr, rest)) = read_type(alloc, stream.run()) {
-        if rest.is_empty() {
-            return Ok(print_type(alloc, &type_expr)?);
-        }
+/// Adds a type as a copy of it is printed, which is as the type itself is.
+fn push_type(rt: &impl Abort, alloc: Global, text: &mut String, type_expr: &TypeExpr<'_>) {
+    let copy = type_expr.clone().expect(rt, "memory");
+    let printed = print_type(alloc, &copy).expect(rt, "memory");
+    let itself = print_type(alloc, type_expr).expect(rt, "memory");
+    judge(rt, "a copy", &printed, &itself);
+    push(rt, text, &printed);
+}
+
+/// Adds why a source is no type: what stands there is left out, or does not fit.
+fn push_fault(rt: &impl Abort, text: &mut String, fault: TypeFault) {
+    match fault {
+        TypeFault::Unsupported { span } => push_span(rt, text, "left out ", span),
+        TypeFault::Misfit { span } => push_span(rt, text, "misfit ", span),
+        TypeFault::LimitNesting => push(rt, text, "limit"),
+        TypeFault::Memory => push(rt, text, "memory"),
     }
-    Ok(String::from_str(alloc, "none")?)
+}
+
+/// Adds the text of the type that the whole source is, or why it is none; `none` where more stands behind a type.
+fn push_read(rt: &impl Abort, alloc: Global, text: &mut String, source: &str) {
+    let stream = tokenize(alloc, source).expect(rt, "tokens");
+    match read_type(alloc, stream.run()) {
+        Ok((type_expr, rest)) if rest.is_empty() => push_type(rt, alloc, text, &type_expr),
+        Ok(_) => push(rt, text, "none"),
+        Err(fault) => push_fault(rt, text, fault),
+    }
 }
 
 const TYPES: &[(&str, &str)] = &[
@@ -60,6 +79,8 @@ const TYPES: &[(&str, &str)] = &[
         "extern fn(A<B>) -> fn() -> C",
         "extern fn ( A < B > ) -> fn ( ) -> C",
     ),
+    ("Vec<[&'a T; 5+=1]>", "Vec < [ & 'a T ; 5 += 1 ] >"),
+    ("<T as P>::X", "< T as P > :: X"),
     ("mut", "mut"),
     ("r#fn", "r#fn"),
     ("dyn for<'a> for<'b> A", "none"),
@@ -70,14 +91,12 @@ const TYPES: &[(&str, &str)] = &[
 ];
 
 #[test]
-fn reads_and_prints(rt: HostRuntime) -> Result<(), Fail> {
-    let alloc = rt.alloc();
-    for case in TYPES {
-        let (source, text) = *case;
-        let read = shown(alloc, source)?;
-        assert_eq!(rt; read.as_str(), text, "{source}");
+fn reads_and_prints(rt: HostRuntime) {
+    for (source, wanted) in TYPES {
+        let mut text = String::new(rt.alloc());
+        push_read(&rt, rt.alloc(), &mut text, source);
+        judge(&rt, source, &text, wanted);
     }
-    Ok(())
 }
 
 const NO_TYPES: &[(&str, bool, usize, usize)] = &[
@@ -117,44 +136,33 @@ const NO_TYPES: &[(&str, bool, usize, usize)] = &[
     ("(_, ;)", true, 1, 2),
 ];
 
-/// Whether the type that a source should be is left out, or what does not fit, and where.
-fn fault_of(alloc: Global, source: &str) -> Result<Option<(bool, Span)>, Fail> {
-    let stream = tokenize(alloc, source)?;
-    Ok(match read_type(alloc, stream.run()).err() {
-        Some(TypeFault::Unsupported { span }) => Some((true, span)),
-        Some(TypeFault::Misfit { span }) => Some((false, span)),
-        _ => None,
-    })
-}
-
 #[test]
-fn names_what_is_no_type(rt: HostRuntime) -> Result<(), Fail> {
-    let alloc = rt.alloc();
-    for case in NO_TYPES {
-        let (source, left_out, from, to) = *case;
-        let fault = fault_of(alloc, source)?;
-        assert!(rt; fault == Some((left_out, Span { from, to })), "{source}");
+fn names_what_is_no_type(rt: HostRuntime) {
+    for (source, is_left_out, from, to) in NO_TYPES {
+        let (mut text, mut wanted) = (String::new(rt.alloc()), String::new(rt.alloc()));
+        push_read(&rt, rt.alloc(), &mut text, source);
+        let word = if *is_left_out { "left out " } else { "misfit " };
+        push_span(
+            &rt,
+            &mut wanted,
+            word,
+            Span {
+                from: *from,
+                to: *to,
+            },
+        );
+        judge(&rt, source, &text, &wanted);
     }
-    Ok(())
-}
-
-/// This text so many times, in front of another one.
-fn repeated(alloc: Global, text: &str, count: usize, behind: &str) -> Result<String, Fail> {
-    let mut all = String::new(alloc);
-    for _ in 0..count {
-        all.push_str(text)?;
-    }
-    all.push_str(behind)?;
-    Ok(all)
 }
 
 /// Whether the limit is passed where this stands so many times in front of a type, or it has another depth than 128 levels.
-fn passes(alloc: Global, opening: &str, count: usize, inner: &str) -> Result<bool, Fail> {
-    let source = repeated(alloc, opening, count, inner)?;
-    let stream = tokenize(alloc, &source)?;
+fn passes(rt: &impl Abort, alloc: Global, opening: &str, count: usize, inner: &str) -> bool {
+    let mut source = opening.repeat(alloc, count).expect(rt, "memory");
+    push(rt, &mut source, inner);
+    let stream = tokenize(alloc, &source).expect(rt, "tokens");
     match read_type(alloc, stream.run()) {
-        Ok((read, _)) => Ok(exceeds(&read.part, 128) | !exceeds(&read.part, 127)),
-        Err(fault) => Ok(matches!(fault, TypeFault::LimitNesting)),
+        Ok((read, _)) => exceeds(&read.part, 128) | !exceeds(&read.part, 127),
+        Err(fault) => matches!(fault, TypeFault::LimitNesting),
     }
 }
 
@@ -168,42 +176,10 @@ const NESTS: &[(&str, &str, usize)] = &[
 ];
 
 #[test]
-fn counts_levels(rt: HostRuntime) -> Result<(), Fail> {
-    let alloc = rt.alloc();
-    for case in NESTS {
-        let (opening, inner, most) = *case;
-        assert!(rt; !passes(alloc, opening, most, inner)?, "{opening}");
-        assert!(rt;
-            passes(alloc, opening, most.saturating_add(1), inner)?,
-            "{opening}"
-        );
+fn counts_levels(rt: HostRuntime) {
+    for (opening, inner, most) in NESTS {
+        let most_passes = passes(&rt, rt.alloc(), opening, *most, inner);
+        let next_passes = passes(&rt, rt.alloc(), opening, most.saturating_add(1), inner);
+        hold(&rt, next_passes & !most_passes, opening);
     }
-    Ok(())
-}
-
-const COPIED: &[&str] = &["u8", "Vec<[&'a T; 5+=1]>", "<T as P>::X"];
-
-/// Whether a copy of a type prints as the type does.
-fn prints_alike(alloc: Global, one: &TypeExpr<'_>) -> Result<bool, Fail> {
-    let copy = one.clone()?;
-    Ok(print_type(alloc, &copy)?.as_str() == print_type(alloc, one)?.as_str())
-}
-
-/// Whether a source is a type that a copy of it prints as.
-fn copy_prints(alloc: Global, source: &str) -> Result<bool, Fail> {
-    let stream = tokenize(alloc, source)?;
-    match read_type(alloc, stream.run()) {
-        Ok((type_expr, _)) => prints_alike(alloc, &type_expr),
-        Err(_) => Ok(false),
-    }
-}
-
-#[test]
-fn copies(rt: HostRuntime) -> Result<(), Fail> {
-    let alloc = rt.alloc();
-    for case in COPIED {
-        let source = *case;
-        assert!(rt; copy_prints(alloc, source)?, "{source}");
-    }
-    Ok(())
 }

@@ -1,11 +1,10 @@
 //! Texts, and what is answered when they are asked of.
 
+use super::super::rows::{judge, push};
 use logos_pattern::pattern::{Class, Hir, Literal, Pattern, PatternError, Range, token_priority};
-use logos_token::error::Memory;
 use logos_token::token::{self, Span};
-use std::alloc::{AllocError, Global};
+use std::alloc::Global;
 use std::process::Abort;
-use std::test::Fail;
 
 /// What is told of a pattern.
 #[derive(Clone, Copy)]
@@ -55,266 +54,205 @@ pub(super) const TREE_OF_BYTES: Ask = Ask::Regex {
 };
 
 /// Adds bytes as a string literal writes them.
-fn push_bytes(out: &mut String, bytes: &[u8]) -> Result<(), AllocError> {
-    out.push_str("'")?;
-    for b in bytes {
-        if (0x20..0x7F).contains(b) {
-            out.push(*b as char)?;
+fn push_bytes(rt: &impl Abort, out: &mut String, bytes: &[u8]) {
+    push(rt, out, "'");
+    for byte in bytes {
+        if (0x20..0x7F).contains(byte) {
+            out.push(*byte as char).expect(rt, "memory");
         } else {
-            write!(out, "\\x{b:02X}")?;
+            write!(out, "\\x{byte:02X}").expect(rt, "memory");
         }
     }
-    out.push_str("'")
-}
-
-fn push_range(out: &mut String, range: Range) -> Result<(), AllocError> {
-    if range.first == range.last {
-        return write!(out, "{:X}", range.first);
-    }
-    write!(out, "{:X}-{:X}", range.first, range.last)
+    push(rt, out, "'");
 }
 
 /// Adds ranges between two brackets.
 pub(super) fn push_ranges(
+    rt: &impl Abort,
     out: &mut String,
     open: &str,
     ranges: &[Range],
     close: &str,
-) -> Result<(), AllocError> {
-    out.push_str(open)?;
+) {
+    push(rt, out, open);
     let mut before = "";
     for range in ranges {
-        out.push_str(before)?;
-        push_range(out, *range)?;
+        write!(out, "{before}{:X}", range.first).expect(rt, "memory");
+        if range.first != range.last {
+            write!(out, "-{:X}", range.last).expect(rt, "memory");
+        }
         before = ",";
     }
-    out.push_str(close)
+    push(rt, out, close);
 }
 
-fn push_counts(
-    out: &mut String,
-    min: u32,
-    max: Option<u32>,
-    greedy: bool,
-) -> Result<(), AllocError> {
-    write!(out, "){{{min},")?;
+fn push_counts(rt: &impl Abort, out: &mut String, min: u32, max: Option<u32>, greedy: bool) {
+    write!(out, "){{{min},").expect(rt, "memory");
     if let Some(max) = max {
-        write!(out, "{max}")?;
+        write!(out, "{max}").expect(rt, "memory");
     }
-    out.push_str(if greedy { "}" } else { "}?" })
+    push(rt, out, if greedy { "}" } else { "}?" });
 }
 
 /// Adds a tree.
 #[cycle(shown)]
-pub(super) fn push_tree(out: &mut String, hir: &Hir) -> Result<(), AllocError> {
+pub(super) fn push_tree(rt: &impl Abort, out: &mut String, hir: &Hir) {
     match hir {
-        Hir::Empty => out.push_str("E"),
-        Hir::Literal(bytes) => push_bytes(out, bytes),
-        Hir::Class(Class::Characters(ranges)) => push_ranges(out, "[", ranges, "]"),
-        Hir::Class(Class::Bytes(ranges)) => push_ranges(out, "<", ranges, ">"),
-        Hir::Look(look) => write!(out, "{look:?}"),
+        Hir::Empty => push(rt, out, "E"),
+        Hir::Literal(bytes) => push_bytes(rt, out, bytes),
+        Hir::Class(Class::Characters(ranges)) => push_ranges(rt, out, "[", ranges, "]"),
+        Hir::Class(Class::Bytes(ranges)) => push_ranges(rt, out, "<", ranges, ">"),
+        Hir::Look(look) => write!(out, "{look:?}").expect(rt, "memory"),
         Hir::Repetition {
             min,
             max,
             greedy,
             sub,
         } => {
-            out.push_str("(")?;
-            push_tree(out, sub)?;
-            push_counts(out, *min, *max, *greedy)
+            push(rt, out, "(");
+            push_tree(rt, out, sub);
+            push_counts(rt, out, *min, *max, *greedy);
         }
         Hir::Capture(sub) => {
-            out.push_str("cap(")?;
-            push_tree(out, sub)?;
-            out.push_str(")")
+            push(rt, out, "cap(");
+            push_tree(rt, out, sub);
+            push(rt, out, ")");
         }
-        Hir::Concat(parts) => push_row(out, "cat(", parts),
-        Hir::Alternation(branches) => push_row(out, "alt(", branches),
+        Hir::Concat(parts) => push_row(rt, out, "cat(", parts),
+        Hir::Alternation(branches) => push_row(rt, out, "alt(", branches),
     }
 }
 
 #[cycle(shown)]
-fn push_row(out: &mut String, open: &str, row: &[Hir]) -> Result<(), AllocError> {
-    out.push_str(open)?;
-    for (i, hir) in row.iter().enumerate() {
-        if i > 0 {
-            out.push_str(" ")?;
+fn push_row(rt: &impl Abort, out: &mut String, open: &str, row: &[Hir]) {
+    push(rt, out, open);
+    for (number, hir) in row.iter().enumerate() {
+        if number > 0 {
+            push(rt, out, " ");
         }
-        push_tree(out, hir)?;
+        push_tree(rt, out, hir);
     }
-    out.push_str(")")
+    push(rt, out, ")");
 }
 
-fn push_told(out: &mut String, pattern: &Pattern<'_>, told: Told) -> Result<(), AllocError> {
+fn push_told(rt: &impl Abort, out: &mut String, pattern: &Pattern<'_>, told: Told) {
     match told {
-        Told::Tree => push_tree(out, pattern.hir()),
-        Told::Measures => write!(
-            out,
-            "{:?} {} {}",
-            pattern.priority(),
-            pattern.is_utf8(),
-            pattern.check_for_greedy_all()
-        ),
-        Told::Printed => write!(
-            out,
-            "{pattern} {} {}",
-            pattern.source(),
-            pattern.is_literal()
-        ),
+        Told::Tree => push_tree(rt, out, pattern.hir()),
+        Told::Measures => {
+            let (priority, is_utf8) = (pattern.priority(), pattern.is_utf8());
+            let is_greedy = pattern.check_for_greedy_all();
+            write!(out, "{priority:?} {is_utf8} {is_greedy}").expect(rt, "memory");
+        }
+        Told::Printed => {
+            let (source, is_literal) = (pattern.source(), pattern.is_literal());
+            write!(out, "{pattern} {source} {is_literal}").expect(rt, "memory");
+        }
     }
 }
 
 /// Adds what is told of a pattern that was read, or why there is none.
 fn push_read(
+    rt: &impl Abort,
     out: &mut String,
     read: Result<Pattern<'_>, PatternError>,
     told: Told,
-) -> Result<(), AllocError> {
+) {
     match read {
-        Ok(pattern) => push_told(out, &pattern, told),
-        Err(PatternError::Syntax { kind, at }) => write!(out, "{kind:?} at {at}"),
-        Err(PatternError::LimitPatternNesting) => out.push_str("too deep"),
-        Err(PatternError::Memory) => out.push_str("no memory"),
+        Ok(pattern) => push_told(rt, out, &pattern, told),
+        Err(PatternError::Syntax { kind, at }) => write!(out, "{kind:?} at {at}").expect(
+            rt, "memory",
+        ),
+        Err(PatternError::LimitPatternNesting) => push(rt, out, "too deep"),
+        Err(PatternError::Memory) => push(rt, out, "no memory"),
     }
-}
-
-/// The literal of a text, which begins at the fourth byte of its source.
-fn literal<'s>(alloc: Global, text: &'s str) -> Result<Option<Literal<'s>>, Memory> {
-    let span = Span {
-        from: 3,
-        to: 3 + text.len(),
-    };
-    Literal::read(alloc, &token::Literal { text, span })
-}
-
-fn push_literal(out: &mut String, literal: &Literal<'_>) -> Result<(), Memory> {
-    Ok(write!(
-        out,
-        "{} {:?} {} {:?} {}",
-        literal.token().text,
-        literal.span(),
-        literal.unicode(),
-        literal.value(),
-        token_priority(literal)
-    )?)
-}
-
-/// Adds the value of a literal as the text of a pattern.
-fn push_escaped(
-    alloc: Global,
-    out: &mut String,
-    literal: &Literal<'_>,
-    escaped: bool,
-) -> Result<(), Memory> {
-    let text = literal.escape(alloc, escaped)?;
-    Ok(write!(out, "{:?}", text.as_str())?)
 }
 
 /// Adds what is told of the pattern in a literal: whether it is escaped, and whether case is ignored.
 fn push_value(
+    rt: &impl Abort,
     alloc: Global,
     out: &mut String,
     literal: &Literal<'_>,
     flags: (bool, bool),
     told: Told,
-) -> Result<(), Memory> {
-    let regex = literal.escape(alloc, flags.0)?;
-    let source = literal.token().text;
-    let unicode = literal.unicode();
+) {
+    let regex = literal.escape(alloc, flags.0).expect(rt, "memory");
+    let (source, unicode) = (literal.token().text, literal.unicode());
     let read = Pattern::compile(alloc, flags.0, &regex, source, unicode, flags.1);
-    Ok(push_read(out, read, told)?)
+    push_read(rt, out, read, told);
+}
+
+/// Adds the token of a literal, its span, whether it is of characters, its bytes, and its priority.
+fn push_literal(rt: &impl Abort, out: &mut String, literal: &Literal<'_>) {
+    let (text, span, unicode) = (literal.token().text, literal.span(), literal.unicode());
+    let (value, priority) = (literal.value(), token_priority(literal));
+    write!(out, "{text} {span:?} {unicode} {value:?} {priority}").expect(rt, "memory");
 }
 
 /// Adds the answer of a literal.
 fn push_of_literal(
+    rt: &impl Abort,
     alloc: Global,
     out: &mut String,
     literal: &Literal<'_>,
     ask: Ask,
-) -> Result<(), Memory> {
+) {
     match ask {
         Ask::Value {
             escaped,
             ignore_case,
             told,
-        } => push_value(alloc, out, literal, (escaped, ignore_case), told),
+        } => push_value(rt, alloc, out, literal, (escaped, ignore_case), told),
         Ask::Token(told) => {
-            let pattern = Pattern::compile_lit(alloc, literal)?;
-            Ok(push_told(out, &pattern, told)?)
+            let pattern = Pattern::compile_lit(alloc, literal).expect(rt, "memory");
+            push_told(rt, out, &pattern, told);
         }
-        Ask::Escape { escaped } => push_escaped(alloc, out, literal, escaped),
-        _ => push_literal(out, literal),
+        Ask::Escape { escaped } => {
+            let text = literal.escape(alloc, escaped).expect(rt, "memory");
+            write!(out, "{:?}", text.as_str()).expect(rt, "memory");
+        }
+        _ => push_literal(rt, out, literal),
     }
 }
 
-/// Adds the answer of a text.
-fn push_answer(alloc: Global, out: &mut String, ask: Ask, text: &str) -> Result<(), Memory> {
+/// Adds the answer of a text. A literal begins at the fourth byte of its source.
+fn push_answer(rt: &impl Abort, alloc: Global, out: &mut String, ask: Ask, text: &str) {
     if let Ask::Regex { unicode, told } = ask {
         let read = Pattern::compile(alloc, false, text, text, unicode, false);
-        return Ok(push_read(out, read, told)?);
+        return push_read(rt, out, read, told);
     }
-    match literal(alloc, text)? {
-        Some(literal) => push_of_literal(alloc, out, &literal, ask),
-        None => Ok(out.push_str("none")?),
+    let to = text.len().saturating_add(3);
+    let span = Span { from: 3, to };
+    match Literal::read(alloc, &token::Literal { text, span }).expect(rt, "memory") {
+        Some(literal) => push_of_literal(rt, alloc, out, &literal, ask),
+        None => push(rt, out, "none"),
     }
-}
-
-/// Whether the text in front of ` => ` has the answer behind it.
-fn is_answered(alloc: Global, ask: Ask, row: &str) -> Result<bool, Fail> {
-    let (text, expected) = row.split_once(" => ").ok_or("no row")?;
-    let mut out = String::new(alloc);
-    push_answer(alloc, &mut out, ask, text)?;
-    Ok(out.as_str() == expected)
-}
-
-fn are_answered(rt: &impl Abort, alloc: Global, ask: Ask, rows: &str) -> Result<(), Fail> {
-    for row in rows.lines() {
-        assert!(rt; is_answered(alloc, ask, row)?, "another answer: {row}");
-    }
-    Ok(())
 }
 
 /// On each line stands a text, and behind ` => ` its answer.
-pub(super) fn answers(rt: &impl Abort, alloc: Global, cases: &[(Ask, &str)]) -> Result<(), Fail> {
-    for case in cases {
-        are_answered(rt, alloc, case.0, case.1)?;
+pub(super) fn answers(rt: &impl Abort, alloc: Global, ask: Ask, rows: &str) {
+    for row in rows.lines() {
+        let (text, wanted) = row.split_once(" => ").expect(rt, row);
+        let mut out = String::new(alloc);
+        push_answer(rt, alloc, &mut out, ask, text);
+        judge(rt, row, &out, wanted);
     }
-    Ok(())
 }
 
 /// So many times what opens, what is inside, as many times what closes, what is behind it, and the
 /// answer.
 pub(super) type Nested<'t> = (usize, &'t str, &'t str, &'t str, &'t str, &'t str);
 
-fn nested(alloc: Global, case: &Nested<'_>) -> Result<String, AllocError> {
-    let (times, open, inside, close, after, _) = *case;
-    let opening = open.repeat(alloc, times)?;
-    let closing = close.repeat(alloc, times)?;
-    format!(in alloc; "{opening}{inside}{closing}{after}")
-}
-
-fn is_nested_answered(alloc: Global, told: Told, case: &Nested<'_>) -> Result<bool, AllocError> {
-    let text = nested(alloc, case)?;
-    let read = Pattern::compile(alloc, false, &text, "", true, false);
-    let mut out = String::new(alloc);
-    push_read(&mut out, read, told)?;
-    Ok(out.as_str() == case.5)
-}
-
 /// Each nested text, as a regular expression, answers as is said behind it.
-pub(super) fn nested_answers(
-    rt: &impl Abort,
-    alloc: Global,
-    told: Told,
-    cases: &[Nested<'_>],
-) -> Result<(), Fail> {
-    for case in cases {
-        assert!(rt;
-            is_nested_answered(alloc, told, case)?,
-            "another answer: {} {}",
-            case.1,
-            case.5
-        );
+pub(super) fn nested_answers(rt: &impl Abort, alloc: Global, told: Told, cases: &[Nested<'_>]) {
+    for (times, open, inside, close, after, wanted) in cases {
+        let opening = open.repeat(alloc, *times).expect(rt, "memory");
+        let closing = close.repeat(alloc, *times).expect(rt, "memory");
+        let mut text = String::new(alloc);
+        write!(text, "{opening}{inside}{closing}{after}").expect(rt, "memory");
+        let mut out = String::new(alloc);
+        let unicode = true;
+        push_answer(rt, alloc, &mut out, Ask::Regex { unicode, told }, &text);
+        judge(rt, open, &out, wanted);
     }
-    Ok(())
 }

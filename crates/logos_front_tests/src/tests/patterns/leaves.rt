@@ -1,12 +1,12 @@
 //! How leaves are built and printed, and how their callbacks are copied.
 
+use super::super::rows::judge;
 use logos_pattern::leaf::{Callback, InlineCallback, Leaf, VariantKind};
 use logos_pattern::pattern::{Literal, Pattern, token_priority};
 use logos_token::token::{self, Ident, Span, TokenStream, print, tokenize};
 use logos_type::{Part, TypeExpr};
-use std::alloc::{AllocError, Global};
+use std::alloc::Global;
 use std::process::Abort;
-use std::test::Fail;
 
 const AB: token::Literal<'static> = token::Literal {
     text: "\"ab\"",
@@ -58,46 +58,31 @@ fn with<'s>(leaf: Leaf<'s>, priority: usize, set: Set, tokens: TokenStream<'s>) 
     }
 }
 
-/// The leaf of a literal, for which tokens are set.
-fn leaf_of<'s>(
-    alloc: Global,
-    literal: &Literal<'s>,
-    set: Set,
-    tokens: TokenStream<'s>,
-) -> Result<Leaf<'s>, Fail> {
-    let leaf = Leaf::new(literal.span(), Pattern::compile_lit(alloc, literal)?);
-    Ok(with(leaf, token_priority(literal), set, tokens))
+/// The leaf of `"ab"`, for which tokens are set.
+fn leaf<'s>(rt: &impl Abort, alloc: Global, set: Set, tokens: &'s str) -> Leaf<'s> {
+    let tokens = tokenize(alloc, tokens).expect(rt, "tokens");
+    let read = Literal::read(alloc, &AB).expect(rt, "memory");
+    let literal = read.expect(rt, "a literal");
+    let pattern = Pattern::compile_lit(alloc, &literal).expect(rt, "memory");
+    with(
+        Leaf::new(literal.span(), pattern),
+        token_priority(&literal),
+        set,
+        tokens,
+    )
 }
 
-fn leaf(alloc: Global, set: Set, tokens: &str) -> Result<Leaf<'_>, Fail> {
-    let tokens = tokenize(alloc, tokens)?;
-    let literal = Literal::read(alloc, &AB)?.ok_or("no literal")?;
-    leaf_of(alloc, &literal, set, tokens)
-}
-
-/// The leaf, its priority, and where its callback stands.
-fn shown(alloc: Global, leaf: Leaf<'_>) -> Result<String, AllocError> {
-    let priority = leaf.priority;
+/// Adds a leaf, its priority, and where its callback stands.
+fn push_leaf(rt: &impl Abort, text: &mut String, leaf: &Leaf<'_>) {
     let span = match &leaf.callback {
         Some(callback) => Some(callback.span()),
         None => None,
     };
-    format!(in alloc; "{leaf} {priority} {span:?}")
-}
-
-fn is_shown(alloc: Global, case: (Set, &str, &str)) -> Result<bool, Fail> {
-    Ok(shown(alloc, leaf(alloc, case.0, case.1)?)?.as_str() == case.2)
-}
-
-fn are_shown(rt: &impl Abort, alloc: Global, cases: &[(Set, &str, &str)]) -> Result<(), Fail> {
-    for case in cases {
-        assert!(rt; is_shown(alloc, *case)?, "another leaf: {}", case.2);
-    }
-    Ok(())
+    write!(text, "{leaf} {} {span:?}", leaf.priority).expect(rt, "memory");
 }
 
 /// Leaves, and how they are printed.
-const LEAVES: [(Set, &str, &str); 6] = [
+const LEAVES: &[(Set, &str, &str)] = &[
     (Set::Variant, "", "#[token(\"ab\")] ::A 4 None"),
     (Set::Field, "", "#[token(\"ab\")] ::A(_) 4 None"),
     (
@@ -122,35 +107,36 @@ const LEAVES: [(Set, &str, &str); 6] = [
     ),
 ];
 
-/// Whether a copy stands at the same place, with tokens that are printed as this text.
-fn copies(alloc: Global, callback: &Callback<'_>, text: &str) -> Result<bool, Fail> {
-    let copy = callback.clone()?;
-    let tokens = match &copy {
-        Callback::Label(tokens) => tokens,
-        Callback::Inline(inline) => &inline.body,
-    };
-    Ok((copy.span() == callback.span()) & (print(alloc, tokens.run())?.as_str() == text))
-}
-
-/// Whether the callback of a leaf has such a copy.
-fn callback_copies(alloc: Global, leaf: &Leaf<'_>, text: &str) -> Result<bool, Fail> {
-    match &leaf.callback {
-        Some(callback) => copies(alloc, callback, text),
-        None => Ok(false),
+#[test]
+fn leaves(rt: HostRuntime) {
+    for (set, tokens, wanted) in LEAVES {
+        let mut text = String::new(rt.alloc());
+        push_leaf(&rt, &mut text, &leaf(&rt, rt.alloc(), *set, tokens));
+        judge(&rt, tokens, &text, wanted);
     }
 }
 
-fn leaf_copies(alloc: Global, set: Set, tokens: &str, text: &str) -> Result<bool, Fail> {
-    let leaf = leaf(alloc, set, tokens)?;
-    callback_copies(alloc, &leaf, text)
+/// A copy of the callback of a leaf stands at the same place, with tokens that are printed as this text.
+fn copies(rt: &impl Abort, alloc: Global, set: Set, tokens: &str, wanted: &str) {
+    let leaf = leaf(rt, alloc, set, tokens);
+    let callback = leaf.callback.as_ref().expect(rt, "a callback");
+    let copy = callback.clone().expect(rt, "memory");
+    let run = match &copy {
+        Callback::Label(tokens) => tokens.run(),
+        Callback::Inline(inline) => inline.body.run(),
+    };
+    assert!(rt; copy.span() == callback.span());
+    judge(rt, tokens, &print(alloc, run).expect(rt, "memory"), wanted);
 }
 
 #[test]
-fn leaves(rt: HostRuntime) -> Result<(), Fail> {
-    let alloc = rt.alloc();
-    are_shown(&rt, alloc, &LEAVES)?;
-    let label = leaf_copies(alloc, Set::Label, "  a::b ", "a :: b")?;
-    let inline = leaf_copies(alloc, Set::Inline, "lex.bump(1)", "lex . bump ( 1 )")?;
-    assert!(rt; label & inline);
-    Ok(())
+fn callbacks(rt: HostRuntime) {
+    copies(&rt, rt.alloc(), Set::Label, "  a::b ", "a :: b");
+    copies(
+        &rt,
+        rt.alloc(),
+        Set::Inline,
+        "lex.bump(1)",
+        "lex . bump ( 1 )",
+    );
 }

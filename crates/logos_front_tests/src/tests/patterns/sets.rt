@@ -2,7 +2,6 @@
 //! `unicode` has.
 
 use super::asking::{Nested, TREE, Told, answers, nested_answers};
-use std::test::Fail;
 
 /// Operations of brackets.
 const OPERATIONS: &str = r#"[\x07-\x09\x01-\x02\x03-\x04\x08-\x0C\x05] => [1-5,7-C]
@@ -132,11 +131,9 @@ const OPERANDS_IN_TURN: [Nested<'static>; 1] = [(
 )];
 
 #[test]
-fn sets(rt: HostRuntime) -> Result<(), Fail> {
-    answers(
-        &rt,
-        rt.alloc(),
-        &[(TREE, OPERATIONS), (TREE, PROPERTIES), (TREE, FOLDINGS)],
-    )?;
-    nested_answers(&rt, rt.alloc(), Told::Tree, &OPERANDS_IN_TURN)
+fn sets(rt: HostRuntime) {
+    for (ask, rows) in [(TREE, OPERATIONS), (TREE, PROPERTIES), (TREE, FOLDINGS)] {
+        answers(&rt, rt.alloc(), ask, rows);
+    }
+    nested_answers(&rt, rt.alloc(), Told::Tree, &OPERANDS_IN_TURN);
 }

@@ -1,7 +1,6 @@
 //! What patterns read as.
 
 use super::asking::{TREE, TREE_OF_BYTES, answers};
-use std::test::Fail;
 
 /// Branches, groups, and what stands side by side.
 const BRANCHES_AND_GROUPS: &str = r#" => E
@@ -216,16 +215,14 @@ const BRACKETS: &str = r#"[a-z] => [61-7A]
 [a-z]|(?-u:[0-9]) => alt([61-7A] <30-39>)"#;
 
 #[test]
-fn trees(rt: HostRuntime) -> Result<(), Fail> {
-    answers(
-        &rt,
-        rt.alloc(),
-        &[
-            (TREE, BRANCHES_AND_GROUPS),
-            (TREE, OPERATORS),
-            (TREE, ESCAPES_AND_ASCII_CLASSES),
-            (TREE, BRACKETS),
-            (TREE_OF_BYTES, BYTES),
-        ],
-    )
+fn trees(rt: HostRuntime) {
+    for (ask, rows) in [
+        (TREE, BRANCHES_AND_GROUPS),
+        (TREE, OPERATORS),
+        (TREE, ESCAPES_AND_ASCII_CLASSES),
+        (TREE, BRACKETS),
+        (TREE_OF_BYTES, BYTES),
+    ] {
+        answers(&rt, rt.alloc(), ask, rows);
+    }
 }

@@ -1,60 +1,69 @@
 //! What the parts of the reader make of what no pattern gives them.
 
+use super::super::rows::judge;
 use super::asking::{push_ranges, push_tree};
 use logos_hir::build::{alternation, concat, literal, look, repetition};
 use logos_hir::hir::{Hir, Look, Range};
 use logos_hir::sets::RangeSet;
 use logos_hir::sets::operands::operands_set;
-use std::alloc::{AllocError, Global};
-use std::test::Fail;
+use std::alloc::Global;
+use std::process::Abort;
 
-fn literals(alloc: Global, texts: &[&[u8]]) -> Result<Vec<Hir>, AllocError> {
-    let mut trees = Vec::new(alloc);
-    for text in texts {
-        trees.push(literal(Vec::from_slice(alloc, text)?))?;
-    }
-    Ok(trees)
+fn add(rt: &impl Abort, trees: &mut Vec<Hir>, tree: Hir) {
+    trees.push(tree).expect(rt, "memory");
+}
+
+fn add_literal(rt: &impl Abort, alloc: Global, trees: &mut Vec<Hir>, text: &[u8]) {
+    add(
+        rt,
+        trees,
+        literal(Vec::from_slice(alloc, text).expect(rt, "memory")),
+    );
 }
 
 /// Neighbouring literals that stand in a concatenation, and a literal behind it.
-fn joined(alloc: Global) -> Result<Hir, AllocError> {
-    let mut inner = literals(alloc, &[b"a", b"b"])?;
-    inner.push(look(Look::Start))?;
-    let mut parts = Vec::new(alloc);
-    parts.push(Hir::Concat(inner))?;
-    parts.append(&mut literals(alloc, &[b"c"])?)?;
-    concat(parts)
+fn joined(rt: &impl Abort, alloc: Global) -> Hir {
+    let (mut inner, mut parts) = (Vec::new(alloc), Vec::new(alloc));
+    add_literal(rt, alloc, &mut inner, b"a");
+    add_literal(rt, alloc, &mut inner, b"b");
+    add(rt, &mut inner, look(Look::Start));
+    add(rt, &mut parts, Hir::Concat(inner));
+    add_literal(rt, alloc, &mut parts, b"c");
+    concat(parts).expect(rt, "memory")
 }
 
 /// A literal without bytes, counts of which the greatest is below the least, and what is joined.
-fn branches(alloc: Global) -> Result<Hir, AllocError> {
-    let mut branches = literals(alloc, &[b""])?;
-    branches.push(repetition(alloc, 5, Some(0), true, look(Look::Start))?)?;
-    branches.push(joined(alloc)?)?;
-    alternation(branches)
-}
-
-/// The set of the characters in these ranges.
-fn set_of(alloc: Global, ends: &[(u32, u32)]) -> Result<RangeSet, AllocError> {
-    let mut ranges = Vec::new(alloc);
-    for (first, last) in ends {
-        ranges.push(Range::new(*first, *last))?;
-    }
-    RangeSet::from_ranges(alloc, &ranges)
+#[test]
+fn branches(rt: HostRuntime) {
+    let alloc = rt.alloc();
+    let mut branches = Vec::new(alloc);
+    add_literal(&rt, alloc, &mut branches, b"");
+    let repeated = repetition(alloc, 5, Some(0), true, look(Look::Start));
+    add(&rt, &mut branches, repeated.expect(&rt, "memory"));
+    add(&rt, &mut branches, joined(&rt, alloc));
+    let mut out = String::new(alloc);
+    push_tree(&rt, &mut out, &alternation(branches).expect(&rt, "memory"));
+    judge(&rt, "branches", &out, "alt(E E cat('ab' Start 'c'))");
 }
 
 /// Adds a set, and the bytes in it.
-fn push_set(out: &mut String, made: Result<RangeSet, AllocError>) -> Result<(), AllocError> {
-    let set = made?;
-    push_ranges(out, "[", set.ranges(), "]")?;
-    push_ranges(out, "<", set.bytes()?.ranges(), ">")
+fn push_set(rt: &impl Abort, out: &mut String, set: &RangeSet) {
+    push_ranges(rt, out, "[", set.ranges(), "]");
+    let bytes = set.bytes().expect(rt, "memory");
+    push_ranges(rt, out, "<", bytes.ranges(), ">");
 }
 
-fn push_sets(alloc: Global, out: &mut String, sets: &[&[(u32, u32)]]) -> Result<(), AllocError> {
-    for ends in sets {
-        push_set(out, set_of(alloc, ends))?;
+/// Adds the set of the characters in these ranges.
+fn push_set_of(rt: &impl Abort, alloc: Global, out: &mut String, ends: &[(u32, u32)]) {
+    let mut ranges = Vec::new(alloc);
+    for (first, last) in ends {
+        ranges.push(Range::new(*first, *last)).expect(rt, "memory");
     }
-    Ok(())
+    push_set(
+        rt,
+        out,
+        &RangeSet::from_ranges(alloc, &ranges).expect(rt, "memory"),
+    );
 }
 
 /// Ranges out of order, ranges that are empty, and numbers that are no characters.
@@ -66,20 +75,22 @@ const SETS: [&[(u32, u32)]; 5] = [
     &[(1, 0)],
 ];
 
-/// Adds the branches, the set of no operand, and other sets.
-fn push_all(alloc: Global, out: &mut String) -> Result<(), AllocError> {
-    push_tree(out, &branches(alloc)?)?;
-    push_set(out, operands_set(alloc, &[]))?;
-    push_sets(alloc, out, &SETS)
-}
-
+/// The set of no operand, and other sets.
 #[test]
-fn trees_and_sets(rt: HostRuntime) -> Result<(), Fail> {
+fn sets(rt: HostRuntime) {
     let mut out = String::new(rt.alloc());
-    push_all(rt.alloc(), &mut out)?;
-    assert!(rt;
-        out.as_str()
-            == "alt(E E cat('ab' Start 'c'))[]<>[1-5,7-C]<1-5,7-C>[D7F0-E010,10FFFF]<>[]<>[61-63,100-1FF]<61-63>[]<>"
+    push_set(
+        &rt,
+        &mut out,
+        &operands_set(rt.alloc(), &[]).expect(&rt, "memory"),
     );
-    Ok(())
+    for ends in &SETS {
+        push_set_of(&rt, rt.alloc(), &mut out, *ends);
+    }
+    judge(
+        &rt,
+        "sets",
+        &out,
+        "[]<>[1-5,7-C]<1-5,7-C>[D7F0-E010,10FFFF]<>[]<>[61-63,100-1FF]<61-63>[]<>",
+    );
 }

@@ -1,60 +1,57 @@
 //! The list of faults by example: its order, its names, and its text.
 
-use logos_token::error::{Errors, FaultCode, Memory, SpannedError};
+use super::super::rows::{hold, judge};
+use logos_token::error::{Errors, FaultCode, Memory};
 use logos_token::token::Span;
-use std::alloc::Global;
 use std::process::Abort;
-use std::test::Fail;
 
 const FIRST: Span = Span { from: 0, to: 1 };
 
 const SECOND: Span = Span { from: 4, to: 9 };
 
 /// A fault at one place, and one of another place that speaks of the first one.
-fn two_faults(alloc: Global) -> Result<Errors, Memory> {
-    let mut errors = Errors::new(alloc);
-    errors.err(FaultCode::EmptyMatch, "empty", FIRST)?;
-    errors.err_also(FaultCode::TypeTwice, "twice", SECOND, FIRST)?;
-    Ok(errors)
-}
-
-/// Whether these are the two faults.
-fn are_two_faults(list: &[SpannedError]) -> bool {
-    let [first, second] = list else {
-        return false;
-    };
-    first.code == FaultCode::EmptyMatch
-        && first.message.as_str() == "empty"
-        && first.span == FIRST
-        && first.also == None
-        && second.code == FaultCode::TypeTwice
-        && second.span == SECOND
-        && second.also == Some(FIRST)
+#[test]
+fn two_faults(rt: HostRuntime) {
+    let mut errors = Errors::new(rt.alloc());
+    errors
+        .err(FaultCode::EmptyMatch, "empty", FIRST)
+        .expect(&rt, "memory");
+    errors
+        .err_also(FaultCode::TypeTwice, "twice", SECOND, FIRST)
+        .expect(&rt, "memory");
+    let list = errors.list();
+    assert!(rt; list.len() == 2);
+    let (first, second) = (&list[0], &list[1]);
+    hold(&rt, first.code == FaultCode::EmptyMatch, "the first code");
+    hold(&rt, second.code == FaultCode::TypeTwice, "the second code");
+    hold(
+        &rt,
+        (first.span == FIRST) & (second.span == SECOND),
+        "the spans",
+    );
+    hold(
+        &rt,
+        (first.also == None) & (second.also == Some(FIRST)),
+        "the other spans",
+    );
+    judge(&rt, "the message", &first.message, "empty");
 }
 
 /// The name of a fault, another that is printed, and the text of want of memory.
-fn names(alloc: Global) -> Result<String, Fail> {
+#[test]
+fn names(rt: HostRuntime) {
+    let mut text = String::new(rt.alloc());
     let name = FaultCode::NotAnEnum.name();
-    Ok(format!(in alloc; "{name} {}: {}", FaultCode::LimitSource, Memory)?)
+    write!(text, "{name} {}: {}", FaultCode::LimitSource, Memory).expect(&rt, "memory");
+    judge(&rt, "names", &text, "NotAnEnum LimitSource: out of memory");
 }
 
-/// Whether the faults are rendered as this text, or not at all where it is empty.
-fn is_rendered_as(errors: &Errors, text: &str) -> Result<bool, Memory> {
-    match errors.render()? {
-        Some(rendered) => Ok(rendered.as_str() == text),
-        None => Ok(text == ""),
+/// The faults are rendered as this text, or not at all where it is empty.
+fn are_rendered(rt: &impl Abort, errors: &Errors, wanted: &str) {
+    match errors.render().expect(rt, "memory") {
+        Some(text) => judge(rt, "rendered", &text, wanted),
+        None => judge(rt, "rendered", "", wanted),
     }
-}
-
-/// Faults, collected one after another, are rendered with each as is said beside it.
-fn render(rt: &impl Abort, alloc: Global, cases: &[(FaultCode, &str, &str)]) -> Result<(), Fail> {
-    let mut errors = Errors::new(alloc);
-    assert!(rt; is_rendered_as(&errors, "")?, "a text of no fault");
-    for case in cases {
-        errors.err(case.0, case.1, FIRST)?;
-        assert!(rt; is_rendered_as(&errors, case.2)?, "another text");
-    }
-    Ok(())
 }
 
 /// Faults with texts that are escaped and texts that are not.
@@ -71,10 +68,13 @@ const RENDERED: [(FaultCode, &str, &str); 2] = [
     ),
 ];
 
+/// Faults, collected one after another, are rendered with each as is said beside it.
 #[test]
-fn faults(rt: HostRuntime) -> Result<(), Fail> {
-    let errors = two_faults(rt.alloc())?;
-    assert!(rt; are_two_faults(errors.list()));
-    assert!(rt; names(rt.alloc())?.as_str() == "NotAnEnum LimitSource: out of memory");
-    render(&rt, rt.alloc(), &RENDERED)
+fn rendered(rt: HostRuntime) {
+    let mut errors = Errors::new(rt.alloc());
+    are_rendered(&rt, &errors, "");
+    for (code, message, wanted) in RENDERED {
+        errors.err(code, message, FIRST).expect(&rt, "memory");
+        are_rendered(&rt, &errors, wanted);
+    }
 }

@@ -1,9 +1,8 @@
 //! Lexemes by example; the expected values are read off the rules of the language.
 
+use super::super::rows::hold_row;
 use logos_lexeme::lexeme::{Delimiter, Kind, LexicalKind, Spacing, Span, lexeme_at};
-use std::alloc::{AllocError, Global};
 use std::process::Abort;
-use std::test::Fail;
 
 /// What stands at a place.
 #[derive(Clone, Copy)]
@@ -20,33 +19,29 @@ type Case = (Want, &'static [(&'static str, usize, usize)]);
 /// The end of a source, whatever its length.
 const WHOLE: usize = usize::MAX;
 
-/// Whether what stands between the places is as wanted.
-fn stands(source: &str, from: usize, to: usize, want: Want) -> bool {
-    if from >= source.len() || !source.is_char_boundary(from) {
-        return false;
-    }
-    match (lexeme_at(source, from), want) {
-        (Ok((found, end)), Want::Read(kind)) => found == kind && end == to.min(source.len()),
-        (Err((found, span)), Want::Refused(kind)) => found == kind && span == Span { from, to },
+/// Between the places of a source stands what is wanted.
+fn stands(rt: &impl Abort, source: &str, from: usize, to: usize, want: Want) {
+    assert!(rt; from < source.len());
+    assert!(rt; source.is_char_boundary(from));
+    let is_wanted = match (lexeme_at(source, from), want) {
+        (Ok((found, end)), Want::Read(kind)) => (found == kind) & (end == to.min(source.len())),
+        (Err((found, span)), Want::Refused(kind)) => (found == kind) & (span == Span { from, to }),
         _ => false,
-    }
+    };
+    hold_row(rt, is_wanted, source, from);
 }
 
 /// In each source, between the places beside it, stands what is wanted.
 fn stand(rt: &impl Abort, cases: &[Case]) {
     for case in cases {
         for row in case.1 {
-            assert!(rt;
-                stands(row.0, row.1, row.2, case.0),
-                "another lexeme: {}",
-                row.0
-            );
+            stands(rt, row.0, row.1, row.2, case.0);
         }
     }
 }
 
 /// White space and comments.
-const GAPS_AND_DOCUMENTATION: [Case; 12] = [
+const GAPS_AND_DOCUMENTATION: &[Case] = &[
     (
         Want::Read(Kind::Gap),
         &[
@@ -130,7 +125,7 @@ const GAPS_AND_DOCUMENTATION: [Case; 12] = [
 ];
 
 /// Identifiers, and the names of lifetimes.
-const IDENTIFIERS_AND_LIFETIMES: [Case; 4] = [
+const IDENTIFIERS_AND_LIFETIMES: &[Case] = &[
     (
         Want::Read(Kind::Identifier),
         &[
@@ -181,7 +176,7 @@ const IDENTIFIERS_AND_LIFETIMES: [Case; 4] = [
 ];
 
 /// Literals of one character, and of one byte.
-const CHARACTERS: [Case; 7] = [
+const CHARACTERS: &[Case] = &[
     (
         Want::Read(Kind::Literal),
         &[
@@ -244,7 +239,7 @@ const CHARACTERS: [Case; 7] = [
 ];
 
 /// Strings, raw or with escapes.
-const STRINGS: [Case; 8] = [
+const STRINGS: &[Case] = &[
     (
         Want::Read(Kind::Literal),
         &[
@@ -325,7 +320,7 @@ const STRINGS: [Case; 8] = [
 ];
 
 /// Strings of bytes and C strings.
-const OTHER_STRINGS: [Case; 10] = [
+const OTHER_STRINGS: &[Case] = &[
     (
         Want::Read(Kind::Literal),
         &[
@@ -384,7 +379,7 @@ const OTHER_STRINGS: [Case; 10] = [
 ];
 
 /// Numbers, and what stands behind literals.
-const NUMBERS_AND_SUFFIXES: [Case; 5] = [
+const NUMBERS_AND_SUFFIXES: &[Case] = &[
     (
         Want::Read(Kind::Literal),
         &[
@@ -442,7 +437,7 @@ const NUMBERS_AND_SUFFIXES: [Case; 5] = [
 ];
 
 /// Punctuation, delimiters, and what begins no lexeme.
-const PUNCTUATION_AND_DELIMITERS: [Case; 9] = [
+const PUNCTUATION_AND_DELIMITERS: &[Case] = &[
     (
         Want::Read(Kind::Punctuation(Spacing::Joint)),
         &[("::a", 0, 1), ("&'a", 0, 1), ("+'a'", 0, 1), ("+/=", 0, 1)],
@@ -492,48 +487,8 @@ const PUNCTUATION_AND_DELIMITERS: [Case; 9] = [
     ),
 ];
 
-/// Of the marks, side by side, each is read as punctuation: joint but for the last.
-fn read_marks(rt: &impl Abort) {
-    for mark in "~!@#$%^&*-=+|;:,<.>/?".char_indices() {
-        let spacing = if mark.1 == '?' {
-            Spacing::Alone
-        } else {
-            Spacing::Joint
-        };
-        let kind = Kind::Punctuation(spacing);
-        let is_mark = stands(
-            "~!@#$%^&*-=+|;:,<.>/? ",
-            mark.0,
-            mark.0 + 1,
-            Want::Read(kind),
-        );
-        assert!(rt; is_mark, "another lexeme: {}", mark.1);
-    }
-}
-
-/// A raw string with so many hashes before it and behind it.
-fn raw(alloc: Global, prefix: &str, before: usize, behind: usize) -> Result<String, AllocError> {
-    let opening = "#".repeat(alloc, before)?;
-    let closing = "#".repeat(alloc, behind)?;
-    format!(in alloc; "{prefix}{opening}\"a\"{closing}")
-}
-
-/// In each raw string, of a prefix and so many hashes before and behind it, what is wanted stands
-/// from the front to the place beside it.
-fn raw_stand(
-    rt: &impl Abort,
-    alloc: Global,
-    cases: &[(&str, usize, usize, Want, usize)],
-) -> Result<(), Fail> {
-    for case in cases {
-        let source = raw(alloc, case.0, case.1, case.2)?;
-        assert!(rt;
-            stands(source.as_str(), 0, case.4, case.3),
-            "another lexeme"
-        );
-    }
-    Ok(())
-}
+/// Marks side by side, each of which is read as punctuation: joint but for the last.
+const MARKS: &str = "~!@#$%^&*-=+|;:,<.>/? ";
 
 /// Raw strings with as many hashes as there may be, and with more.
 const MANY_HASHES: [(&str, usize, usize, Want, usize); 4] = [
@@ -544,14 +499,41 @@ const MANY_HASHES: [(&str, usize, usize, Want, usize); 4] = [
 ];
 
 #[test]
-fn lexemes(rt: HostRuntime) -> Result<(), Fail> {
-    stand(&rt, &GAPS_AND_DOCUMENTATION);
-    stand(&rt, &IDENTIFIERS_AND_LIFETIMES);
-    stand(&rt, &CHARACTERS);
-    stand(&rt, &STRINGS);
-    stand(&rt, &OTHER_STRINGS);
-    stand(&rt, &NUMBERS_AND_SUFFIXES);
-    stand(&rt, &PUNCTUATION_AND_DELIMITERS);
-    read_marks(&rt);
-    raw_stand(&rt, rt.alloc(), &MANY_HASHES)
+fn lexemes(rt: HostRuntime) {
+    stand(&rt, GAPS_AND_DOCUMENTATION);
+    stand(&rt, IDENTIFIERS_AND_LIFETIMES);
+    stand(&rt, CHARACTERS);
+    stand(&rt, STRINGS);
+    stand(&rt, OTHER_STRINGS);
+    stand(&rt, NUMBERS_AND_SUFFIXES);
+    stand(&rt, PUNCTUATION_AND_DELIMITERS);
+}
+
+#[test]
+fn marks(rt: HostRuntime) {
+    let joint = Want::Read(Kind::Punctuation(Spacing::Joint));
+    for at in 0..20usize {
+        stands(&rt, MARKS, at, at + 1, joint);
+    }
+    stands(
+        &rt,
+        MARKS,
+        20,
+        21,
+        Want::Read(Kind::Punctuation(Spacing::Alone)),
+    );
+}
+
+/// In each raw string, of a prefix and so many hashes before and behind it, what is wanted stands
+/// from the front to the place beside it.
+#[test]
+fn hashes(rt: HostRuntime) {
+    let alloc = rt.alloc();
+    for (prefix, before, behind, want, to) in &MANY_HASHES {
+        let opening = "#".repeat(alloc, *before).expect(&rt, "memory");
+        let closing = "#".repeat(alloc, *behind).expect(&rt, "memory");
+        let mut source = String::new(alloc);
+        write!(source, "{prefix}{opening}\"a\"{closing}").expect(&rt, "memory");
+        stands(&rt, &source, 0, *to, *want);
+    }
 }

@@ -1,11 +1,11 @@
 //! Tokens by example: where they stand, what refuses a source, and what is printed of them.
 
+use super::super::rows::{hold_row, judge, push, push_span};
 use logos_token::token::{
     LexicalKind, Spacing, Span, TokenError, TokenTree, Tokens, print, tokenize,
 };
-use std::alloc::{AllocError, Global};
+use std::alloc::Global;
 use std::process::Abort;
-use std::test::Fail;
 
 /// What is asked of a source.
 #[derive(Clone, Copy)]
@@ -36,67 +36,49 @@ fn past<'t, 's>(run: Tokens<'t, 's>, count: usize) -> Tokens<'t, 's> {
     rest
 }
 
-/// The tokens inside a group.
-fn inside<'t, 's>(tree: Option<TokenTree<'t, 's>>) -> Option<Tokens<'t, 's>> {
-    match tree? {
-        TokenTree::Group(group) => Some(group.run()),
-        _ => None,
-    }
-}
-
 /// The run in the groups that stand behind so many trees each.
-fn inner<'t, 's>(run: Tokens<'t, 's>, groups: &[usize]) -> Option<Tokens<'t, 's>> {
+fn inner<'t, 's>(rt: &impl Abort, run: Tokens<'t, 's>, groups: &[usize]) -> Tokens<'t, 's> {
     let mut run = run;
     for index in groups {
-        run = inside(past(run, *index).first())?;
+        run = match past(run, *index).first() {
+            Some(TokenTree::Group(group)) => group.run(),
+            _ => panic!(rt; "no group"),
+        };
     }
-    Some(run)
-}
-
-fn push_span(text: &mut String, from: usize, to: usize) -> Result<(), Fail> {
-    write!(text, "{from}..{to} ")?;
-    Ok(())
+    run
 }
 
 fn push_spans(
+    rt: &impl Abort,
     text: &mut String,
     run: Tokens<'_, '_>,
     places: &[(&[usize], usize)],
-) -> Result<(), Fail> {
-    for place in places {
-        let inner = inner(run, place.0).ok_or("no group")?;
-        let span = past(inner, place.1).first().ok_or("no tree")?.span();
-        push_span(text, span.from, span.to)?;
+) {
+    for (groups, count) in places {
+        let tree = past(inner(rt, run, groups), *count).first();
+        push_span(rt, text, "", tree.expect(rt, "a tree").span());
+        push(rt, text, " ");
     }
-    Ok(())
 }
 
-/// The text between two quotes.
-fn between_quotes(text: &str) -> Option<&str> {
-    text.strip_prefix('"')?.strip_suffix('"')
-}
-
-fn push_text(text: &mut String, tree: TokenTree<'_, '_>) -> Result<(), Fail> {
+/// The text of a tree; the one between the quotes of a literal.
+fn text_of<'s>(tree: TokenTree<'_, 's>) -> &'s str {
     match tree {
-        TokenTree::Ident(ident) => text.push_str(ident.text)?,
-        TokenTree::Literal(literal) => text.push_str(between_quotes(literal.text).unwrap_or(""))?,
-        TokenTree::Punct(punct) => {
-            text.push(punct.character)?;
-            if punct.spacing == Spacing::Joint {
-                text.push_str("-")?;
-            }
-        }
-        _ => text.push_str("?")?,
+        TokenTree::Ident(ident) => ident.text,
+        TokenTree::Literal(literal) => literal.text.trim_matches('"'),
+        TokenTree::Punct(punct) if punct.spacing == Spacing::Joint => "-",
+        _ => "",
     }
-    text.push_str(" ")?;
-    Ok(())
 }
 
-fn push_texts(text: &mut String, run: Tokens<'_, '_>) -> Result<(), Fail> {
+fn push_texts(rt: &impl Abort, text: &mut String, run: Tokens<'_, '_>) {
     for tree in run.iter() {
-        push_text(text, tree)?;
+        if let TokenTree::Punct(punct) = tree {
+            text.push(punct.character).expect(rt, "memory");
+        }
+        push(rt, text, text_of(tree));
+        push(rt, text, " ");
     }
-    Ok(())
 }
 
 /// The spans of the trees in front of all but the first and of all but the first two, and whether
@@ -107,68 +89,65 @@ fn fronts(run: Tokens<'_, '_>) -> (Span, Span, bool) {
     (first, second, run.before(run).is_empty())
 }
 
+fn push_fronts(rt: &impl Abort, text: &mut String, run: Tokens<'_, '_>) {
+    let (first, second, is_none) = fronts(run);
+    push_span(rt, text, "", first);
+    push_span(rt, text, " ", second);
+    push(rt, text, if is_none { " none" } else { " some" });
+}
+
+fn push_extent(rt: &impl Abort, text: &mut String, run: Tokens<'_, '_>) {
+    if run.is_empty() {
+        return push(rt, text, "none");
+    }
+    push_span(rt, text, "", run.span());
+    push(rt, text, " ");
+}
+
 fn push_answer(
+    rt: &impl Abort,
     alloc: Global,
     text: &mut String,
     run: Tokens<'_, '_>,
     ask: Ask<'_>,
-) -> Result<(), Fail> {
+) {
     match ask {
-        Ask::Refusal => Ok(()),
-        Ask::Extent if run.is_empty() => Ok(text.push_str("none")?),
-        Ask::Extent => push_span(text, run.span().from, run.span().to),
-        Ask::Spans(places) => push_spans(text, run, places),
-        Ask::Texts => push_texts(text, run),
-        Ask::Fronts => {
-            let (one, two, is_none) = fronts(run);
-            push_span(text, one.from, one.to)?;
-            push_span(text, two.from, two.to)?;
-            Ok(text.push_str(if is_none { "none" } else { "some" })?)
-        }
-        Ask::Print => Ok(text.push_str(print(alloc, run)?.as_str())?),
+        Ask::Refusal => push(rt, text, ""),
+        Ask::Extent => push_extent(rt, text, run),
+        Ask::Spans(places) => push_spans(rt, text, run, places),
+        Ask::Texts => push_texts(rt, text, run),
+        Ask::Fronts => push_fronts(rt, text, run),
+        Ask::Print => push(rt, text, &print(alloc, run).expect(rt, "memory")),
     }
 }
 
-fn push_refusal(text: &mut String, fault: TokenError) -> Result<(), Fail> {
-    let (name, span) = match fault {
-        TokenError::Memory => return Err(Fail::from("out of memory")),
-        TokenError::LimitSource => return Ok(text.push_str("source")?),
-        TokenError::LimitTokenNesting { span } => ("nesting ", span),
-        TokenError::Lexical { kind, span } => (
-            match kind {
-                LexicalKind::BadCharacter => "character ",
-                LexicalKind::BadLiteral => "literal ",
-                LexicalKind::Unterminated => "unterminated ",
-                LexicalKind::Unbalanced => "unbalanced ",
-            },
-            span,
-        ),
+fn push_refusal(rt: &impl Abort, text: &mut String, kind: LexicalKind, span: Span) {
+    let name = match kind {
+        LexicalKind::BadCharacter => "character ",
+        LexicalKind::BadLiteral => "literal ",
+        LexicalKind::Unterminated => "unterminated ",
+        LexicalKind::Unbalanced => "unbalanced ",
     };
-    text.push_str(name)?;
-    push_span(text, span.from, span.to)
+    push_span(rt, text, name, span);
+    push(rt, text, " ");
 }
 
-/// What a source answers.
-fn answer(alloc: Global, source: &str, ask: Ask<'_>) -> Result<String, Fail> {
-    let mut text = String::new(alloc);
+/// Adds what a source answers.
+fn push_read(rt: &impl Abort, alloc: Global, text: &mut String, source: &str, ask: Ask<'_>) {
     match tokenize(alloc, source) {
-        Ok(stream) => push_answer(alloc, &mut text, stream.run(), ask)?,
-        Err(fault) => push_refusal(&mut text, fault)?,
+        Ok(stream) => push_answer(rt, alloc, text, stream.run(), ask),
+        Err(TokenError::Memory) => push(rt, text, "memory"),
+        Err(TokenError::LimitSource) => push(rt, text, "source"),
+        Err(TokenError::Lexical { kind, span }) => push_refusal(rt, text, kind, span),
+        Err(TokenError::LimitTokenNesting { span }) => {
+            push_span(rt, text, "nesting ", span);
+            push(rt, text, " ");
+        }
     }
-    Ok(text)
-}
-
-/// Each source answers as is said behind it and what is asked.
-fn answers(rt: &impl Abort, alloc: Global, cases: &[(&str, Ask<'_>, &str)]) -> Result<(), Fail> {
-    for case in cases {
-        let text = answer(alloc, case.0, case.1)?;
-        assert!(rt; text.as_str() == case.2, "another answer: {}", case.0);
-    }
-    Ok(())
 }
 
 /// Sources that are read.
-const READABLE: [(&str, Ask<'static>, &str); 10] = [
+const READABLE: &[(&str, Ask<'static>, &str)] = &[
     ("enum T { #[token(\"a\")] A }", Ask::Extent, "0..26 "),
     (
         "enum T { #[token(\"a\")] A }",
@@ -199,7 +178,7 @@ const READABLE: [(&str, Ask<'static>, &str); 10] = [
 ];
 
 /// Sources that are refused.
-const UNREADABLE: [(&str, Ask<'static>, &str); 8] = [
+const UNREADABLE: &[(&str, Ask<'static>, &str)] = &[
     ("enum E {", Ask::Refusal, "unbalanced 7..8 "),
     (")", Ask::Refusal, "unbalanced 0..1 "),
     ("( ]", Ask::Refusal, "unbalanced 2..3 "),
@@ -210,12 +189,15 @@ const UNREADABLE: [(&str, Ask<'static>, &str); 8] = [
     ("\"a\\b\" c", Ask::Refusal, "literal 0..5 "),
 ];
 
-/// The text of the first tree, if it is an identifier. It outlives the buffer, which ends here.
-fn first_name<'s>(alloc: Global, source: &'s str) -> Result<&'s str, TokenError> {
-    let stream = tokenize(alloc, source)?;
-    match stream.run().first() {
-        Some(TokenTree::Ident(name)) => Ok(name.text),
-        _ => Ok(""),
+/// Each source answers as is said behind it and what is asked.
+#[test]
+fn answers(rt: HostRuntime) {
+    for table in [READABLE, UNREADABLE] {
+        for (source, ask, wanted) in table {
+            let mut text = String::new(rt.alloc());
+            push_read(&rt, rt.alloc(), &mut text, source, *ask);
+            judge(&rt, source, &text, wanted);
+        }
     }
 }
 
@@ -230,32 +212,9 @@ type Nested = (
     &'static str,
 );
 
-/// The source that is nested.
-fn nested(alloc: Global, case: &Nested) -> Result<String, AllocError> {
-    let (front, open, times, close, rest, _) = *case;
-    let opening = open.repeat(alloc, times)?;
-    let closing = close.repeat(alloc, times)?;
-    format!(in alloc; "{front}{opening}{closing}{rest}")
-}
-
-/// Nested sources are refused as is said behind them, or read.
-fn nest(rt: &impl Abort, alloc: Global, cases: &[Nested]) -> Result<(), Fail> {
-    for case in cases {
-        let source = nested(alloc, case)?;
-        let text = answer(alloc, source.as_str(), Ask::Refusal)?;
-        assert!(rt;
-            text.as_str() == case.5,
-            "another answer: {} {}",
-            case.2,
-            case.5
-        );
-    }
-    Ok(())
-}
-
 /// Delimiters inside one another, of which 128 may be open, the brace of the enum among them; and
 /// sources as long as can be.
-const NESTED: [Nested; 6] = [
+const NESTED: &[Nested] = &[
     ("", "(", 128, ")", "", ""),
     ("", "(", 129, ")", "", "nesting 128..129 "),
     ("enum E { #[token(\"a\")] A = ", "(", 127, ")", " }", ""),
@@ -271,60 +230,69 @@ const NESTED: [Nested; 6] = [
     ("", " ", 16_777_217, "", "", "source"),
 ];
 
-/// Whether two trees are the same, their spans aside. Groups are compared by what is printed of
-/// their insides.
-fn is_same_tree(
+/// Nested sources are refused as is said behind them, or read.
+#[test]
+fn nested(rt: HostRuntime) {
+    let alloc = rt.alloc();
+    for (front, open, times, close, rest, wanted) in NESTED {
+        let opening = open.repeat(alloc, *times).expect(&rt, "memory");
+        let closing = close.repeat(alloc, *times).expect(&rt, "memory");
+        let mut source = String::new(alloc);
+        write!(source, "{front}{opening}{closing}{rest}").expect(&rt, "memory");
+        let mut text = String::new(alloc);
+        push_read(&rt, alloc, &mut text, &source, Ask::Refusal);
+        hold_row(&rt, text.as_str() == *wanted, open, *times);
+    }
+}
+
+/// What two trees must have alike, their spans aside: of a group its delimiters and what is printed of its inside, of a mark whether it
+/// stands alone.
+fn push_tree(rt: &impl Abort, alloc: Global, text: &mut String, tree: TokenTree<'_, '_>) {
+    match tree {
+        TokenTree::Ident(ident) => write!(text, "ident {}", ident.text),
+        TokenTree::Literal(literal) => write!(text, "literal {}", literal.text),
+        TokenTree::Doc(doc) => write!(text, "doc {}", doc.text),
+        TokenTree::Punct(punct) => write!(text, "{} {:?}", punct.character, punct.spacing),
+        TokenTree::Group(group) => {
+            let printed = print(alloc, group.run()).expect(rt, "memory");
+            write!(text, "{:?} {printed}", group.delimiter)
+        }
+    }
+    .expect(rt, "memory");
+    push(rt, text, "; ");
+}
+
+/// Adds what the trees of a source must have alike, and how it is printed.
+fn push_trees(
+    rt: &impl Abort,
     alloc: Global,
-    tree: TokenTree<'_, '_>,
-    other: TokenTree<'_, '_>,
-) -> Result<bool, Fail> {
-    Ok(match (tree, other) {
-        (TokenTree::Ident(a), TokenTree::Ident(b)) => a.text == b.text,
-        (TokenTree::Literal(a), TokenTree::Literal(b)) => a.text == b.text,
-        (TokenTree::Doc(a), TokenTree::Doc(b)) => a.text == b.text,
-        (TokenTree::Punct(a), TokenTree::Punct(b)) => {
-            a.character == b.character && a.spacing == b.spacing
-        }
-        (TokenTree::Group(a), TokenTree::Group(b)) => {
-            a.delimiter == b.delimiter && print(alloc, a.run())? == print(alloc, b.run())?
-        }
-        _ => false,
-    })
-}
-
-/// Whether two runs have the same trees, their spans aside.
-fn is_same_run(alloc: Global, run: Tokens<'_, '_>, other: Tokens<'_, '_>) -> Result<bool, Fail> {
-    let mut rest = other;
-    for tree in run.iter() {
-        let Some(next) = rest.first() else {
-            return Ok(false);
-        };
-        if !is_same_tree(alloc, tree, next)? {
-            return Ok(false);
-        }
-        rest = rest.rest();
+    text: &mut String,
+    printed: &mut String,
+    source: &str,
+) {
+    let stream = tokenize(alloc, source).expect(rt, source);
+    for tree in stream.run().iter() {
+        push_tree(rt, alloc, text, tree);
     }
-    Ok(rest.is_empty())
+    push(
+        rt,
+        printed,
+        &print(alloc, stream.run()).expect(rt, "memory"),
+    );
 }
 
-/// Whether the printed text of a source has the source's tokens, and is printed as it is.
-fn prints_back(alloc: Global, source: &str) -> Result<bool, Fail> {
-    let stream = tokenize(alloc, source)?;
-    let text = print(alloc, stream.run())?;
-    let again = tokenize(alloc, text.as_str())?;
-    Ok(is_same_run(alloc, stream.run(), again.run())? && print(alloc, again.run())? == text)
-}
-
-/// The printed text of each source has the source's tokens, and is printed as it is.
-fn print_back(rt: &impl Abort, alloc: Global, sources: &[&str]) -> Result<(), Fail> {
-    for source in sources {
-        assert!(rt; prints_back(alloc, source)?, "other tokens: {source}");
-    }
-    Ok(())
+/// The printed text of a source has the source's tokens, and is printed as it is.
+fn prints_back(rt: &impl Abort, alloc: Global, source: &str) {
+    let (mut text, mut printed) = (String::new(alloc), String::new(alloc));
+    push_trees(rt, alloc, &mut text, &mut printed, source);
+    let (mut other, mut again) = (String::new(alloc), String::new(alloc));
+    push_trees(rt, alloc, &mut other, &mut again, &printed);
+    judge(rt, source, &other, &text);
+    judge(rt, source, &again, &printed);
 }
 
 /// Literals alone.
-const LITERALS: [&str; 30] = [
+const LITERALS: &[&str] = &[
     "1",
     "0x1F",
     "1_000u32",
@@ -358,7 +326,7 @@ const LITERALS: [&str; 30] = [
 ];
 
 /// Other lexemes, and some side by side.
-const LEXEMES: [&str; 40] = [
+const LEXEMES: &[&str] = &[
     "a",
     "r#fn",
     "r",
@@ -402,12 +370,29 @@ const LEXEMES: [&str; 40] = [
 ];
 
 #[test]
-fn tokens(rt: HostRuntime) -> Result<(), Fail> {
-    answers(&rt, rt.alloc(), &READABLE)?;
-    answers(&rt, rt.alloc(), &UNREADABLE)?;
-    nest(&rt, rt.alloc(), &NESTED)?;
-    print_back(&rt, rt.alloc(), &LITERALS)?;
-    print_back(&rt, rt.alloc(), &LEXEMES)?;
-    assert!(rt; first_name(rt.alloc(), "enum T {}")? == "enum");
-    Ok(())
+fn print_back(rt: HostRuntime) {
+    for table in [LITERALS, LEXEMES] {
+        for source in table {
+            prints_back(&rt, rt.alloc(), source);
+        }
+    }
+}
+
+/// The text of the first tree, if it is an identifier. It outlives the buffer, which ends here.
+fn first_name<'s>(rt: &impl Abort, alloc: Global, source: &'s str) -> &'s str {
+    let stream = tokenize(alloc, source).expect(rt, "tokens");
+    match stream.run().first() {
+        Some(TokenTree::Ident(name)) => name.text,
+        _ => "",
+    }
+}
+
+#[test]
+fn names_outlive_the_buffer(rt: HostRuntime) {
+    judge(
+        &rt,
+        "a name",
+        first_name(&rt, rt.alloc(), "enum T {}"),
+        "enum",
+    );
 }

@@ -1,10 +1,9 @@
 //! Values by example; they are read off the rules of the language.
 
-use logos_token::error::Memory;
+use super::super::rows::hold;
 use logos_token::token::{Literal, LiteralValue, Span};
 use std::alloc::Global;
 use std::process::Abort;
-use std::test::Fail;
 
 /// What a literal is.
 #[derive(Clone, Copy)]
@@ -17,39 +16,25 @@ enum Want {
     Other,
 }
 
-/// Whether the literal is what is wanted.
-fn is_value(alloc: Global, literal: &str, want: Want) -> Result<bool, Memory> {
-    let span = Span {
-        from: 0,
-        to: literal.len(),
+/// The literal is what is wanted.
+fn is_value(rt: &impl Abort, alloc: Global, text: &str, want: Want) {
+    let to = text.len();
+    let literal = Literal {
+        text,
+        span: Span { from: 0, to },
     };
-    let value = Literal {
-        text: literal,
-        span,
-    }
-    .value(alloc)?;
-    Ok(match (&value, want) {
+    let value = literal.value(alloc).expect(rt, "memory");
+    let is_wanted = match (&value, want) {
         (Some(LiteralValue::Text(found)), Want::Text(text)) => found.as_str() == text,
         (Some(LiteralValue::Bytes(found)), Want::Bytes(bytes)) => found.as_slice() == bytes,
         (None, Want::Other) => true,
         _ => false,
-    })
-}
-
-/// Each literal is what stands beside it.
-fn are_values(rt: &impl Abort, alloc: Global, cases: &[(&str, Want)]) -> Result<(), Fail> {
-    for case in cases {
-        assert!(rt;
-            is_value(alloc, case.0, case.1)?,
-            "another value: {}",
-            case.0
-        );
-    }
-    Ok(())
+    };
+    hold(rt, is_wanted, text);
 }
 
 /// Strings.
-const TEXTS: [(&str, Want); 12] = [
+const TEXTS: &[(&str, Want)] = &[
     ("\"\"", Want::Text("")),
     ("\"a \u{E9} \u{1F600}\"", Want::Text("a \u{E9} \u{1F600}")),
     (r#""\n\r\t\\\0\'\"""#, Want::Text("\n\r\t\\\0'\"")),
@@ -65,7 +50,7 @@ const TEXTS: [(&str, Want); 12] = [
 ];
 
 /// Byte strings.
-const BYTES: [(&str, Want); 5] = [
+const BYTES: &[(&str, Want)] = &[
     ("b\"\"", Want::Bytes(&[])),
     (r#"b"a\xFF\0\\""#, Want::Bytes(&[97, 255, 0, 92])),
     ("b\"a\r\nb\\\n c\"", Want::Bytes(&[97, 10, 98, 99])),
@@ -74,7 +59,7 @@ const BYTES: [(&str, Want); 5] = [
 ];
 
 /// What is no string and no byte string.
-const OTHERS: [(&str, Want); 11] = [
+const OTHERS: &[(&str, Want)] = &[
     ("", Want::Other),
     ("5", Want::Other),
     ("'a'", Want::Other),
@@ -89,8 +74,10 @@ const OTHERS: [(&str, Want); 11] = [
 ];
 
 #[test]
-fn values(rt: HostRuntime) -> Result<(), Fail> {
-    are_values(&rt, rt.alloc(), &TEXTS)?;
-    are_values(&rt, rt.alloc(), &BYTES)?;
-    are_values(&rt, rt.alloc(), &OTHERS)
+fn values(rt: HostRuntime) {
+    for table in [TEXTS, BYTES, OTHERS] {
+        for (literal, want) in table {
+            is_value(&rt, rt.alloc(), literal, *want);
+        }
+    }
 }
