@@ -56,49 +56,43 @@ type Row = (
     &'static str,
 );
 
-/// Whether the run of a row ends with the status, and writes this on standard output and on standard error.
-fn ends(
-    alloc: Global,
-    row: &Row,
-    status: u8,
-    on_out: &str,
-    on_err: &str,
-) -> Result<bool, AllocError> {
-    let (all, source, input, _) = *row;
-    let words = words(alloc, all)?;
+/// How runs end: their status, with which they write on standard output where it is 0, and else on standard error; and a part of
+/// the texts of lexers that they write, of which the rows say how they begin, or nothing where the rows say what is written.
+type End = (u8, &'static str);
+
+/// Whether the text is the wanted one; or, with a part, whether it begins so, has the part and ends as a lexer.
+fn is_wanted(text: &[u8], wanted: &str, part: &str) -> bool {
+    if part.is_empty() {
+        return text == wanted.as_bytes();
+    }
+    let text = str::from_utf8(text).unwrap_or("");
+    text.starts_with(wanted) & text.contains(part) & text.ends_with(" } }\n")
+}
+
+/// Whether a run that wrote this ends as the row says.
+fn ends_so(row: &Row, end: End, status: u8, out: &[u8], err: &[u8]) -> bool {
+    let (told, untold) = if end.0 == 0 { (out, err) } else { (err, out) };
+    (status == end.0) & untold.is_empty() & is_wanted(told, row.3, end.1)
+}
+
+/// Whether the run of a row ends so.
+fn ends(alloc: Global, row: &Row, end: End) -> Result<bool, AllocError> {
+    let words = words(alloc, row.0)?;
     let mut files = Shelf {
         alloc,
-        source,
-        input,
+        source: row.1,
+        input: row.2,
     };
     let (mut out, mut err) = (Vec::new(alloc), Vec::new(alloc));
-    let given = run(alloc, words.as_slice(), &mut files, &mut out, &mut err);
-    let is_written = (out.as_slice() == on_out.as_bytes()) & (err.as_slice() == on_err.as_bytes());
-    Ok((given == status) & is_written)
+    let status = run(alloc, words.as_slice(), &mut files, &mut out, &mut err);
+    Ok(ends_so(row, end, status, out.as_slice(), err.as_slice()))
 }
 
-/// The run of each row is done, and writes its text on standard output alone.
-fn are_done(rt: &impl Abort, alloc: Global, rows: &[Row]) -> Result<(), Fail> {
+/// The run of each row ends so.
+fn end_so(rt: &impl Abort, alloc: Global, end: End, rows: &[Row]) -> Result<(), Fail> {
     for row in rows {
-        assert!(rt;
-            ends(alloc, row, 0, row.3, "")?,
-            "{:?}: something else in place of {}",
-            row.0,
-            row.3
-        );
-    }
-    Ok(())
-}
-
-/// The run of each row ends with the status, and writes its text on standard error alone.
-fn are_not_done(rt: &impl Abort, alloc: Global, rows: &[Row], status: u8) -> Result<(), Fail> {
-    for row in rows {
-        assert!(rt;
-            ends(alloc, row, status, "", row.3)?,
-            "{:?}: something else in place of {}",
-            row.0,
-            row.3
-        );
+        let ends = ends(alloc, row, end)?;
+        assert!(rt; ends, "{:?}: something else in place of {}", row.0, row.3);
     }
     Ok(())
 }
@@ -220,45 +214,49 @@ const NOT_READ: &[Row] = &[
     (&["mermaid", "none"], SOURCE, b"", "cannot read none\n"),
 ];
 
-#[test]
-fn runs_end_as_the_rows_say(rt: HostRuntime) -> Result<(), Fail> {
-    let alloc = rt.alloc();
-    are_done(&rt, alloc, DONE)?;
-    are_not_done(&rt, alloc, REFUSED, 1)?;
-    are_not_done(&rt, alloc, NOT_READ, 3)?;
-    Ok(())
-}
+const USAGE: &str = "usage: logos gen|lex|strip|mermaid|export FILE ..\n";
 
 /// Words that ask for no command.
-const USAGES: &[&[&str]] = &[
-    &[],
-    &["lex"],
-    &["lex", "t.rs"],
-    &["Lex", "t.rs", "input"],
-    &["lex", "t.rs", "input", "more"],
-    &["lex", "t.rs", "input", "--shape"],
-    &["lex", "t.rs", "input", "--shape", "loop"],
-    &["lex", "t.rs", "input", "shape", "tailcall"],
-    &["lex", "t.rs", "input", "--shape", "tailcall", "more"],
-    &["gen"],
-    &["gen", "t.rs", "input"],
-    &["gen", "--shape", "tailcall", "t.rs"],
-    &["mermaid"],
-    &["mermaid", "t.rs", "--shape", "tailcall"],
+const USAGES: &[Row] = &[
+    (&[], SOURCE, b"", USAGE),
+    (&["lex"], SOURCE, b"", USAGE),
+    (&["lex", "t.rs"], SOURCE, b"", USAGE),
+    (&["Lex", "t.rs", "input"], SOURCE, b"", USAGE),
+    (&["lex", "t.rs", "input", "more"], SOURCE, b"", USAGE),
+    (&["lex", "t.rs", "input", "--shape"], SOURCE, b"", USAGE),
+    (
+        &["lex", "t.rs", "input", "--shape", "loop"],
+        SOURCE,
+        b"",
+        USAGE,
+    ),
+    (
+        &["lex", "t.rs", "input", "shape", "tailcall"],
+        SOURCE,
+        b"",
+        USAGE,
+    ),
+    (
+        &["lex", "t.rs", "input", "--shape", "tailcall", "more"],
+        SOURCE,
+        b"",
+        USAGE,
+    ),
+    (&["gen"], SOURCE, b"", USAGE),
+    (&["gen", "t.rs", "input"], SOURCE, b"", USAGE),
+    (&["gen", "--shape", "tailcall", "t.rs"], SOURCE, b"", USAGE),
+    (&["mermaid"], SOURCE, b"", USAGE),
+    (
+        &["mermaid", "t.rs", "--shape", "tailcall"],
+        SOURCE,
+        b"",
+        USAGE,
+    ),
 ];
 
-#[test]
-fn usage_is_told(rt: HostRuntime) -> Result<(), Fail> {
-    for words in USAGES {
-        let usage = "usage: logos gen|lex|strip|mermaid|export FILE ..\n";
-        are_not_done(&rt, rt.alloc(), &[(*words, SOURCE, b"", usage)], 2)?;
-    }
-    Ok(())
-}
+const LETTERS: &[u8] = b"enum T { #[regex(\"[a-z]+\")] A }";
 
-const LETTERS: &str = "enum T { #[regex(\"[a-z]+\")] A }";
-
-const LETTERS_IN_BYTES: &str = "#[logos(utf8 = false)] enum T { #[regex(\"[a-z]+\")] A }";
+const LETTERS_IN_BYTES: &[u8] = b"#[logos(utf8 = false)] enum T { #[regex(\"[a-z]+\")] A }";
 
 const BY_STATES: &str =
     "if ( matches ! ( byte , b'a' ..= b'z' ) ) { offset += 1 ; state = LogosState :: State1 ; continue ; }";
@@ -272,76 +270,63 @@ const OVER_TEXT: &str =
 const OVER_BYTES: &str =
     "impl < 's > :: logos :: Logos < 's > for T { type Error = ( ) ; type Extras = ( ) ; type Source = [ u8 ] ; ";
 
-/// A source, the words that print its text, and how the text begins and what is in it.
-const PRINTED: &[(&str, &[&str], &str, &str)] = &[
-    (LETTERS, &["gen", "t.rs"], OVER_TEXT, BY_STATES),
+/// Texts of lexers by states.
+const BY_STATES_ROWS: &[Row] = &[
+    (&["gen", "t.rs"], LETTERS, b"", OVER_TEXT),
     (
-        LETTERS,
         &["gen", "t.rs", "--shape", "state_machine"],
-        OVER_TEXT,
-        BY_STATES,
-    ),
-    (
         LETTERS,
-        &["gen", "t.rs", "--shape", "tailcall"],
+        b"",
         OVER_TEXT,
-        BY_FUNCTIONS,
     ),
-    (LETTERS_IN_BYTES, &["gen", "t.rs"], OVER_BYTES, BY_STATES),
+    (&["gen", "t.rs"], LETTERS_IN_BYTES, b"", OVER_BYTES),
 ];
 
-/// Whether the run is done, and writes a text with this beginning, this in it and the end of a lexer.
-fn prints(
-    alloc: Global,
-    all: &[&str],
-    source: &'static str,
-    head: &str,
-    part: &str,
-) -> Result<bool, AllocError> {
-    let words = words(alloc, all)?;
-    let mut files = Shelf {
-        alloc,
-        source: source.as_bytes(),
-        input: b"",
-    };
-    let (mut out, mut err): (Vec<u8>, Vec<u8>) = (Vec::new(alloc), Vec::new(alloc));
-    let status = run(alloc, words.as_slice(), &mut files, &mut out, &mut err);
-    let Ok(text) = String::from_utf8(out) else {
-        return Ok(false);
-    };
-    let is_lexer = text.starts_with(head) & text.contains(part) & text.ends_with(" } }\n");
-    Ok((status == 0) & is_lexer)
-}
+/// Texts of lexers by functions.
+const BY_FUNCTIONS_ROWS: &[Row] = &[(
+    &["gen", "t.rs", "--shape", "tailcall"],
+    LETTERS,
+    b"",
+    OVER_TEXT,
+)];
 
 #[test]
-fn texts_are_printed(rt: HostRuntime) -> Result<(), Fail> {
-    for row in PRINTED {
-        let (source, words, head, part) = *row;
-        assert!(rt;
-            prints(rt.alloc(), words, source, head, part)?,
-            "something else for {words:?}"
-        );
-    }
-    Ok(())
+fn runs_end_as_the_rows_say(rt: HostRuntime) -> Result<(), Fail> {
+    let alloc = rt.alloc();
+    end_so(&rt, alloc, (0, ""), DONE)?;
+    end_so(&rt, alloc, (1, ""), REFUSED)?;
+    end_so(&rt, alloc, (3, ""), NOT_READ)?;
+    end_so(&rt, alloc, (2, ""), USAGES)?;
+    end_so(&rt, alloc, (0, BY_STATES), BY_STATES_ROWS)?;
+    end_so(&rt, alloc, (0, BY_FUNCTIONS), BY_FUNCTIONS_ROWS)
 }
 
-/// Whether a run that finds standard output shut says so, and one that finds standard error shut still ends with its status.
-fn shut_is_told(alloc: Global) -> Result<bool, AllocError> {
+/// What a run says that finds standard output shut.
+fn not_written(alloc: Global) -> Result<bool, AllocError> {
     let words = words(alloc, LEX)?;
+    let mut err: Vec<u8> = Vec::new(alloc);
     let mut files = Shelf {
         alloc,
         source: SOURCE,
         input: b"a",
     };
-    let (mut out, mut err): (Vec<u8>, Vec<u8>) = (Vec::new(alloc), Vec::new(alloc));
-    let not_written = run(alloc, words.as_slice(), &mut files, &mut Shut, &mut err);
-    let not_told = run(alloc, &[], &mut files, &mut out, &mut Shut);
-    let is_told = err.as_slice() == b"cannot write standard output\n".as_slice();
-    Ok((not_written == 3) & is_told & (not_told == 2))
+    let status = run(alloc, words.as_slice(), &mut files, &mut Shut, &mut err);
+    Ok((status == 3) & (err.as_slice() == b"cannot write standard output\n".as_slice()))
+}
+
+/// The status of a run that finds standard error shut.
+fn not_told(alloc: Global) -> u8 {
+    let mut out: Vec<u8> = Vec::new(alloc);
+    let mut files = Shelf {
+        alloc,
+        source: SOURCE,
+        input: b"a",
+    };
+    run(alloc, &[], &mut files, &mut out, &mut Shut)
 }
 
 #[test]
 fn writers_may_be_shut(rt: HostRuntime) -> Result<(), Fail> {
-    assert!(rt; shut_is_told(rt.alloc())?);
+    assert!(rt; not_written(rt.alloc())? & (not_told(rt.alloc()) == 2));
     Ok(())
 }

@@ -4,8 +4,12 @@ mod expr;
 mod faults;
 mod generated;
 
+use super::{check, push_item};
+use generated::{Rule, push_differences};
+use logos_codegen::code::{Code, CodeLeaf};
 use logos_codegen::error::Errors;
 use logos_codegen::generator::Config;
+use logos_codegen::graph::Graph;
 use logos_codegen::leaf::VariantKind;
 use logos_codegen::machine::{Action, Item};
 use logos_codegen::{Generated, LexSourceError, Refusal, generate, lex_source};
@@ -13,103 +17,162 @@ use std::alloc::{AllocError, Global};
 use std::process::Abort;
 use std::test::Fail;
 
-/// The items as text: what each is, and its span.
-pub(super) fn shown(alloc: Global, items: &[Item<'_>]) -> Result<String, AllocError> {
-    let mut text = String::new(alloc);
+fn push_items(text: &mut String, items: &[Item<'_>]) -> Result<(), AllocError> {
     for item in items {
-        match item {
-            Item::Token { leaf, span, .. } => {
-                let (leaf, from, to) = (leaf.0, span.from, span.to);
-                write!(text, "{leaf} at {from}..{to}, ")?;
-            }
-            Item::Error { span, .. } => {
-                let (from, to) = (span.from, span.to);
-                write!(text, "error {from}..{to}, ")?;
-            }
-        }
+        push_item(text, item)?;
     }
-    Ok(text)
+    Ok(())
 }
 
-/// The faults as text: place, code and message of each.
-fn listed(alloc: Global, errors: &Errors) -> Result<String, AllocError> {
-    let mut text = String::new(alloc);
+/// Adds the faults: place, code and message of each.
+fn push_faults(text: &mut String, errors: &Errors) -> Result<(), AllocError> {
     for fault in errors.list() {
         let (from, to, code) = (fault.span.from, fault.span.to, fault.code);
-        let message = fault.message.as_str();
-        write!(text, "{from}..{to} {code}: {message}; ")?;
+        write!(text, "{from}..{to} {code}: {}; ", fault.message.as_str())?;
     }
-    Ok(text)
+    Ok(())
 }
 
-/// What a source gives on an input, as text.
-fn given(alloc: Global, source: &str, input: &[u8], machine: bool) -> Result<String, Fail> {
-    let config = Config {
-        use_state_machine_codegen: machine,
-    };
-    match lex_source(alloc, source, config, input, |_, _| Action::Emit) {
-        Ok(items) => Ok(shown(alloc, items.as_slice())?),
-        Err(LexSourceError::Refused(errors)) => Ok(listed(alloc, &errors)?),
-        Err(LexSourceError::NotUtf8 { valid_up_to }) => {
-            Ok(format!(in alloc; "not UTF-8 from {valid_up_to} on")?)
-        }
-        Err(LexSourceError::Memory) => Err("memory ran out".into()),
-    }
-}
-
-/// What a source makes, in a box, so that a function that keeps it is cheap to prove.
-pub(super) fn made(
+/// Adds what a source gives on an input.
+fn push_given(
+    text: &mut String,
     alloc: Global,
     source: &str,
-    machine: bool,
-) -> Result<Box<Generated<'_>>, Refusal> {
-    let config = Config {
-        use_state_machine_codegen: machine,
-    };
-    match Box::new(alloc, generate(alloc, source, config)?) {
-        Ok(made) => Ok(made),
-        Err(_) => Err(Refusal::Memory),
+    input: &[u8],
+    config: Config,
+) -> Result<(), AllocError> {
+    match lex_source(alloc, source, config, input, |_, _| Action::Emit) {
+        Ok(items) => push_items(text, items.as_slice()),
+        Err(LexSourceError::Refused(errors)) => push_faults(text, &errors),
+        Err(LexSourceError::NotUtf8 { valid_up_to }) => {
+            write!(text, "not UTF-8 from {valid_up_to} on")
+        }
+        Err(LexSourceError::Memory) => text.push_str("memory ran out"),
     }
 }
 
-/// What the code of a source keeps, as text: its shape, its name, and what becomes of the matches of each leaf.
-fn kept(alloc: Global, source: &str, machine: bool) -> Result<String, Fail> {
-    let Ok(made) = made(alloc, source, machine) else {
-        return Err("refused".into());
+/// What in this shape the source gives on the input.
+fn given(
+    alloc: Global,
+    source: &str,
+    input: &[u8],
+    use_state_machine_codegen: bool,
+) -> Result<String, AllocError> {
+    let config = Config {
+        use_state_machine_codegen,
     };
     let mut text = String::new(alloc);
-    let is_machine = made.code.shape().use_state_machine_codegen;
-    write!(text, "{is_machine} {}:", made.code.name().text)?;
-    for leaf in made.code.leaves() {
-        match &leaf.kind {
-            VariantKind::Unit(name) => write!(text, " {}", name.text)?,
-            VariantKind::Value(name, _) => write!(text, " {}(_)", name.text)?,
-            VariantKind::Skip => write!(text, " skipped")?,
-        }
-    }
+    push_given(&mut text, alloc, source, input, config)?;
     Ok(text)
 }
 
-/// Whether in both shapes the source gives this on the input.
-fn gives(alloc: Global, source: &str, input: &[u8], wanted: &str) -> Result<bool, Fail> {
-    Ok(
-        given(alloc, source, input, true)?.as_str() == wanted
-            && given(alloc, source, input, false)?.as_str() == wanted,
-    )
+/// In both shapes the source gives this on the input.
+fn give_so(
+    rt: &impl Abort,
+    alloc: Global,
+    source: &str,
+    input: &[u8],
+    wanted: &str,
+) -> Result<(), Fail> {
+    for shape in [true, false] {
+        check(
+            rt,
+            source,
+            given(alloc, source, input, shape)?.as_str(),
+            wanted,
+        );
+    }
+    Ok(())
 }
 
 /// In both shapes each source gives on the input what is said behind it.
-pub(super) fn give(
+fn give(rt: &impl Abort, alloc: Global, cases: &[(&str, &[u8], &str)]) -> Result<(), Fail> {
+    for case in cases {
+        give_so(rt, alloc, case.0, case.1, case.2)?;
+    }
+    Ok(())
+}
+
+/// What is asked of what a source makes.
+#[derive(Clone, Copy)]
+enum Ask<'a> {
+    /// What its code keeps: its shape, its name, and what becomes of the matches of each leaf.
+    Kept,
+    /// The priority of the first leaf.
+    Priority,
+    /// What its code gives on short inputs and these rules do not, the first of which may be left out.
+    Differences(&'a [Rule], bool),
+}
+
+fn push_leaf(text: &mut String, leaf: &CodeLeaf<'_>) -> Result<(), AllocError> {
+    match &leaf.kind {
+        VariantKind::Unit(name) => write!(text, " {}", name.text),
+        VariantKind::Value(name, _) => write!(text, " {}(_)", name.text),
+        VariantKind::Skip => text.push_str(" skipped"),
+    }
+}
+
+fn push_kept(text: &mut String, code: &Code<'_>) -> Result<(), AllocError> {
+    let is_machine = code.shape().use_state_machine_codegen;
+    write!(text, "{is_machine} {}:", code.name().text)?;
+    for leaf in code.leaves() {
+        push_leaf(text, leaf)?;
+    }
+    Ok(())
+}
+
+fn push_priority(text: &mut String, graph: &Graph<'_>) -> Result<(), AllocError> {
+    match graph.leaves() {
+        [leaf, ..] => write!(text, "{}", leaf.priority),
+        [] => Ok(()),
+    }
+}
+
+fn push_answer(
+    text: &mut String,
+    alloc: Global,
+    made: &Generated<'_>,
+    ask: Ask<'_>,
+) -> Result<(), AllocError> {
+    match ask {
+        Ask::Kept => push_kept(text, &made.code),
+        Ask::Priority => push_priority(text, &made.graph),
+        Ask::Differences(rules, skips) => {
+            push_differences(text, alloc, &made.code, rules, skips)
+        }
+    }
+}
+
+/// What is answered of what a source makes in this shape.
+fn answer(
+    alloc: Global,
+    source: &str,
+    use_state_machine_codegen: bool,
+    ask: Ask<'_>,
+) -> Result<String, AllocError> {
+    let config = Config {
+        use_state_machine_codegen,
+    };
+    let mut text = String::new(alloc);
+    match generate(alloc, source, config) {
+        Ok(made) => push_answer(&mut text, alloc, &made, ask)?,
+        Err(Refusal::Errors(_)) => text.push_str("refused")?,
+        Err(Refusal::Memory) => text.push_str("memory ran out")?,
+    }
+    Ok(text)
+}
+
+/// What is answered of each source in this shape is as is said beside it.
+fn answer_so(
     rt: &impl Abort,
     alloc: Global,
-    cases: &[(&str, &[u8], &str)],
+    shape: bool,
+    ask: Ask<'_>,
+    cases: &[(&str, &str)],
 ) -> Result<(), Fail> {
     for case in cases {
-        assert!(rt;
-            gives(alloc, case.0, case.1, case.2)?,
-            "something else: {}",
-            case.0
-        );
+        let answer = answer(alloc, case.0, shape, ask)?;
+        check(rt, case.0, answer.as_str(), case.1);
     }
     Ok(())
 }
@@ -131,14 +194,13 @@ enum Token {
 "#;
 
 #[test]
-fn shape_and_names_are_kept(rt: HostRuntime) -> Result<(), Fail> {
-    let by_states = kept(rt.alloc(), README, true)?;
-    let by_functions = kept(rt.alloc(), README, false)?;
-    assert!(rt;
-        by_states.as_str() == "true Token: skipped Fast Period Text"
-            && by_functions.as_str() == "false Token: skipped Fast Period Text"
-    );
-    Ok(())
+fn shape_names_and_priorities_are_kept(rt: HostRuntime) -> Result<(), Fail> {
+    let (rt, alloc) = (&rt, rt.alloc());
+    let by_states = "true Token: skipped Fast Period Text";
+    let by_functions = "false Token: skipped Fast Period Text";
+    answer_so(rt, alloc, true, Ask::Kept, &[(README, by_states)])?;
+    answer_so(rt, alloc, false, Ask::Kept, &[(README, by_functions)])?;
+    answer_so(rt, alloc, true, Ask::Priority, faults::PRIORITIES)
 }
 
 const LEXES_A_SENTENCE: &[(&str, &[u8], &str)] = &[
@@ -330,11 +392,14 @@ const READS_TEXT_AND_BYTES: &[(&str, &[u8], &str)] = &[
 
 #[test]
 fn sources_give_what_the_rows_say(rt: HostRuntime) -> Result<(), Fail> {
-    let alloc = rt.alloc();
-    give(&rt, alloc, LEXES_A_SENTENCE)?;
-    give(&rt, alloc, TAKES_THE_LONGEST_MATCH)?;
-    give(&rt, alloc, READS_CLASSES)?;
-    give(&rt, alloc, LOOKS_AROUND)?;
-    give(&rt, alloc, READS_TEXT_AND_BYTES)?;
+    for rows in [
+        LEXES_A_SENTENCE,
+        TAKES_THE_LONGEST_MATCH,
+        READS_CLASSES,
+        LOOKS_AROUND,
+        READS_TEXT_AND_BYTES,
+    ] {
+        give(&rt, rt.alloc(), rows)?;
+    }
     Ok(())
 }

@@ -1,22 +1,26 @@
 //! Codes of patterns, for tests.
 
+ghost use Rattle.std.specs.Prelude.{◌≡◌, []};
+
 use logos_generator::code::Code;
 use logos_generator::generator::{Config, Generator};
 use logos_graph::graph::Graph;
-use logos_pattern::leaf::{Callback, Leaf, VariantKind};
+use logos_pattern::leaf::{Callback, InlineCallback, Leaf, VariantKind};
 use logos_pattern::pattern::Pattern;
-use logos_token::token::{Ident, Span, tokenize};
+use logos_token::token::{Ident, Span, TokenError, TokenStream, tokenize};
 use logos_type::{Part, TypeExpr};
-use std::alloc::Global;
+use std::alloc::{AllocError, Global};
 use std::test::Fail;
 
-pub(super) const NAME: Ident<'static> = Ident {
+const NOWHERE: Span = Span { from: 0, to: 0 };
+
+const NAME: Ident<'static> = Ident {
     text: "A",
-    span: Span { from: 0, to: 0 },
+    span: NOWHERE,
 };
 
 /// What becomes of the matches of a pattern.
-#[derive(Clone, Copy, PartialEq, Eq)]
+#[derive(Clone, Copy)]
 pub(super) enum Fate {
     Token,
     /// A token with a field of the type `u8`.
@@ -28,65 +32,96 @@ pub(super) enum Fate {
     CalledValue,
     /// They are left out, after a function was called.
     CalledSkip,
+    /// They are left out, after a body was run that is written out.
+    Inline,
 }
 
 /// Patterns with their priorities and the fates of their matches, numbered in this order.
 pub(super) type Rules<'a> = &'a [(&'a str, usize, Fate)];
 
-fn leaf(alloc: Global, rule: &(&str, usize, Fate)) -> Result<Leaf<'static>, Fail> {
-    let pattern = Pattern::compile(alloc, false, rule.0, "", true, false)?;
-    let mut leaf = Leaf::new(Span { from: 0, to: 0 }, pattern).priority(rule.1);
-    if matches!(rule.2, Fate::Token | Fate::Called) {
-        leaf.kind = VariantKind::Unit(NAME);
+fn kind_of(fate: Fate) -> VariantKind<'static> {
+    match fate {
+        Fate::Token | Fate::Called => VariantKind::Unit(NAME),
+        Fate::Value | Fate::CalledValue => {
+            let part = Part::Name("u8");
+            VariantKind::Value(NAME, TypeExpr { part })
+        }
+        Fate::Skip | Fate::CalledSkip | Fate::Inline => VariantKind::Skip,
     }
-    if matches!(rule.2, Fate::Value | Fate::CalledValue) {
-        let part = Part::Name("u8");
-        leaf.kind = VariantKind::Value(NAME, TypeExpr { part });
-    }
-    if matches!(rule.2, Fate::Called | Fate::CalledValue | Fate::CalledSkip) {
-        leaf.callback = Some(Callback::Label(tokenize(alloc, "matched")?));
-    }
-    Ok(leaf)
 }
 
-/// The code of leaves, in a box so that a function that keeps it is cheap to prove: for the enum `A<u8>`, on whose errors `failed` is called: as one loop over a state variable or not.
-pub(super) fn code_of(
+/// The callback that is the function with this name, if there is one.
+pub(super) fn label(
     alloc: Global,
-    use_state_machine_codegen: bool,
-    utf8_mode: bool,
-    rules: Rules<'_>,
-) -> Result<Box<Code<'static>>, Fail> {
+    name: &'static str,
+) -> Result<Option<Callback<'static>>, TokenError> {
+    if name.is_empty() {
+        return Ok(None);
+    }
+    Ok(Some(Callback::Label(tokenize(alloc, name)?)))
+}
+
+/// The callback `|l| f(l) /// b`.
+fn inline(alloc: Global) -> Result<Option<Callback<'static>>, TokenError> {
+    Ok(Some(Callback::Inline(InlineCallback {
+        arg: Ident {
+            text: "l",
+            span: NOWHERE,
+        },
+        body: tokenize(alloc, "f(l) /// b")?,
+        span: NOWHERE,
+    })))
+}
+
+fn callback_of(alloc: Global, fate: Fate) -> Result<Option<Callback<'static>>, TokenError> {
+    match fate {
+        Fate::Token | Fate::Value | Fate::Skip => label(alloc, ""),
+        Fate::Called | Fate::CalledValue | Fate::CalledSkip => label(alloc, "matched"),
+        Fate::Inline => inline(alloc),
+    }
+}
+
+/// A leaf of this pattern.
+fn leaf(
+    pattern: Pattern<'static>,
+    priority: usize,
+    fate: Fate,
+    callback: Option<Callback<'static>>,
+) -> Leaf<'static> {
+    let leaf = Leaf::new(NOWHERE, pattern)
+        .priority(priority)
+        .callback(callback);
+    leaf.variant_kind(kind_of(fate))
+}
+
+fn leaf_of(alloc: Global, rule: &(&str, usize, Fate)) -> Result<Leaf<'static>, Fail> {
+    let callback = callback_of(alloc, rule.2)?;
+    let pattern = Pattern::compile(alloc, false, rule.0, "", true, false)?;
+    Ok(leaf(pattern, rule.1, rule.2, callback))
+}
+
+pub(super) fn leaves_of(alloc: Global, rules: Rules<'_>) -> Result<Vec<Leaf<'static>>, Fail> {
     let mut leaves = Vec::new(alloc);
     for rule in rules {
-        leaves.push(leaf(alloc, rule)?)?;
+        leaves.push(leaf_of(alloc, rule)?)?;
     }
-    code_by(
-        alloc,
-        use_state_machine_codegen,
-        utf8_mode,
-        leaves,
-        "A<u8>",
-        Some(&Callback::Label(tokenize(alloc, "failed")?)),
-    )
+    Ok(leaves)
 }
 
-/// The code of these leaves for the enum that is this type, with this callback of errors.
-pub(super) fn code_by(
+/// The code of a graph without faults, for the enum that is this type, with this callback of errors: as one loop over a state
+/// variable or not.
+pub(super) fn generated(
     alloc: Global,
     use_state_machine_codegen: bool,
-    utf8_mode: bool,
-    leaves: Vec<Leaf<'static>>,
-    this: &'static str,
+    graph: &Graph<'static>,
+    this: &TokenStream<'static>,
     failed: Option<&Callback<'static>>,
-) -> Result<Box<Code<'static>>, Fail> {
-    let graph = Graph::new(alloc, leaves, logos_graph::graph::Config { utf8_mode })?;
-    if !graph.errors().is_empty() {
-        return Err(Fail::from("the leaves have faults"));
-    }
-    let this = tokenize(alloc, this)?;
+) -> Result<Code<'static>, AllocError>
+    requires { graph.now.faults ≡ [] }
+{
     let config = Config {
         use_state_machine_codegen,
     };
-    let mut generator = Generator::new(alloc, config, NAME, &this, &graph, failed);
-    Ok(Box::new(alloc, generator.generate(alloc)?)?)
+    let mut generator = Generator::new(alloc, config, NAME, this, graph, failed);
+    generator.generate(alloc)
 }

@@ -1,158 +1,86 @@
 //! The tokenizer of expressions, by rows and beside a plain one.
 
-use logos_codegen::expr::{ExprError, ExprKind, ExprToken, Language};
-use logos_codegen::token::Span;
+use super::super::check;
+use logos_codegen::expr::{ExprError, ExprToken, Language};
 use std::alloc::{AllocError, Global};
 use std::process::Abort;
 use std::test::Fail;
 
-/// A token that is wanted: its kind, and the start and the end of its span.
-type Wanted = (ExprKind, usize, usize);
-
-fn language(alloc: Global) -> Result<Language, Fail> {
-    match Language::new(alloc) {
-        Ok(language) => Ok(language),
-        Err(ExprError::Memory) => Err("memory ran out".into()),
-        Err(_) => Err("the enum is refused".into()),
-    }
+/// The tokenizer, in a box so that a function that keeps it is cheap to prove.
+fn language(alloc: Global) -> Result<Box<Language>, ExprError> {
+    Ok(Box::new(alloc, Language::new(alloc)?)?)
 }
 
-/// Whether the token is that one, with the input at its span.
-fn is_token(token: &ExprToken<'_>, wanted: &Wanted, input: &str) -> bool {
-    let (kind, from, to) = *wanted;
-    (token.kind == kind)
-        & (token.span == Span { from, to })
-        & (input.as_bytes().get(from..to) == Some(token.slice))
-}
-
-fn are_tokens(tokens: &[ExprToken<'_>], wanted: &[Wanted], input: &str) -> bool {
-    for (token, wanted) in tokens.iter().zip(wanted) {
-        if !is_token(token, wanted, input) {
-            return false;
+/// Adds the tokens of an input, each with its kind and its span.
+fn push_tokens(text: &mut String, tokens: &[ExprToken<'_>], input: &str) -> Result<(), AllocError> {
+    for token in tokens {
+        let (from, to) = (token.span.from, token.span.to);
+        if input.as_bytes().get(from..to) != Some(token.slice) {
+            text.push_str("another slice: ")?;
         }
-    }
-    tokens.len() == wanted.len()
-}
-
-/// Whether the text gives these tokens.
-fn gives(alloc: Global, language: &Language, input: &str, wanted: &[Wanted]) -> Result<bool, Fail> {
-    match language.tokens(alloc, input) {
-        Ok(tokens) => Ok(are_tokens(tokens.as_slice(), wanted, input)),
-        Err(ExprError::Memory) => Err("memory ran out".into()),
-        Err(_) => Ok(false),
-    }
-}
-
-/// Whether the text is refused at this span.
-fn is_bad(alloc: Global, language: &Language, input: &str, wanted: Span) -> Result<bool, Fail> {
-    match language.tokens(alloc, input) {
-        Err(ExprError::Bad { span }) => Ok(span == wanted),
-        Err(ExprError::Memory) => Err("memory ran out".into()),
-        _ => Ok(false),
-    }
-}
-
-/// Texts, and their tokens.
-const EXPRESSIONS: &[(&str, &[Wanted])] = &[
-    (
-        "let x1 = 40 + 2",
-        &[
-            (ExprKind::Let, 0, 3),
-            (ExprKind::Name, 4, 6),
-            (ExprKind::Eq, 7, 8),
-            (ExprKind::Number, 9, 11),
-            (ExprKind::Plus, 12, 13),
-            (ExprKind::Number, 14, 15),
-        ],
-    ),
-    ("letx", &[(ExprKind::Name, 0, 4)]),
-    (
-        "a===b",
-        &[
-            (ExprKind::Name, 0, 1),
-            (ExprKind::EqEq, 1, 3),
-            (ExprKind::Eq, 3, 4),
-            (ExprKind::Name, 4, 5),
-        ],
-    ),
-    ("", &[]),
-    (" \t\n", &[]),
-    (
-        "-(1*2)/_3",
-        &[
-            (ExprKind::Minus, 0, 1),
-            (ExprKind::Open, 1, 2),
-            (ExprKind::Number, 2, 3),
-            (ExprKind::Star, 3, 4),
-            (ExprKind::Number, 4, 5),
-            (ExprKind::Close, 5, 6),
-            (ExprKind::Slash, 6, 7),
-            (ExprKind::Name, 7, 9),
-        ],
-    ),
-    ("12let", &[(ExprKind::Number, 0, 2), (ExprKind::Let, 2, 5)]),
-];
-
-/// Texts, and where the first error of each stands.
-const FAULTY: &[(&str, usize, usize)] = &[
-    ("1.5", 1, 2),
-    ("let \u{e9} = 1", 4, 6),
-    ("(a] + .", 2, 3),
-    ("X", 0, 1),
-];
-
-#[test]
-fn reads_expressions(rt: HostRuntime) -> Result<(), Fail> {
-    let alloc = rt.alloc();
-    let language = language(alloc)?;
-    for row in EXPRESSIONS {
-        let (input, wanted) = *row;
-        assert!(rt;
-            gives(alloc, &language, input, wanted)?,
-            "other tokens: {input}"
-        );
-    }
-    for row in FAULTY {
-        let (input, from, to) = *row;
-        assert!(rt;
-            is_bad(alloc, &language, input, Span { from, to })?,
-            "no such error: {input}"
-        );
+        write!(text, "{:?} {from}..{to}, ", token.kind)?;
     }
     Ok(())
 }
 
-/// Whether the text gives these tokens by a tokenizer made for it, or memory ran out on the way.
-fn gives_or_lacks_memory(alloc: Global, input: &str, wanted: &[Wanted]) -> bool {
-    let language = match Language::new(alloc) {
-        Ok(language) => language,
-        Err(error) => return error == ExprError::Memory,
-    };
+/// What the tokenizer says of an input: its tokens, or its first error.
+fn said(alloc: Global, language: &Language, input: &str) -> Result<String, AllocError> {
+    let mut text = String::new(alloc);
     match language.tokens(alloc, input) {
-        Ok(tokens) => are_tokens(tokens.as_slice(), wanted, input),
-        Err(error) => error == ExprError::Memory,
+        Ok(tokens) => push_tokens(&mut text, tokens.as_slice(), input)?,
+        Err(ExprError::Bad { span }) => write!(text, "bad {}..{}", span.from, span.to)?,
+        Err(ExprError::Memory) => return Err(AllocError),
+        Err(ExprError::Refused) => text.push_str("refused")?,
     }
+    Ok(text)
+}
+
+/// Texts, and their tokens, or where their first error stands.
+const EXPRESSIONS: &[(&str, &str)] = &[
+    (
+        "let x1 = 40 + 2",
+        "Let 0..3, Name 4..6, Eq 7..8, Number 9..11, Plus 12..13, Number 14..15, ",
+    ),
+    ("letx", "Name 0..4, "),
+    ("a===b", "Name 0..1, EqEq 1..3, Eq 3..4, Name 4..5, "),
+    ("", ""),
+    (" \t\n", ""),
+    (
+        "-(1*2)/_3",
+        "Minus 0..1, Open 1..2, Number 2..3, Star 3..4, Number 4..5, Close 5..6, Slash 6..7, Name 7..9, ",
+    ),
+    ("12let", "Number 0..2, Let 2..5, "),
+    ("1.5", "bad 1..2"),
+    ("let \u{e9} = 1", "bad 4..6"),
+    ("(a] + .", "bad 2..3"),
+    ("X", "bad 0..1"),
+];
+
+#[test]
+fn reads_expressions(rt: HostRuntime) -> Result<(), Fail> {
+    let language = language(rt.alloc())?;
+    for row in EXPRESSIONS {
+        let said = said(rt.alloc(), &language, row.0)?;
+        check(&rt, row.0, said.as_str(), row.1);
+    }
+    Ok(())
+}
+
+/// What a tokenizer that is made for the input says of it.
+fn said_once(alloc: Global, input: &str) -> Result<String, ExprError> {
+    let language = language(alloc)?;
+    Ok(said(alloc, &language, input)?)
 }
 
 /// `scripts/refused_memory.sh` runs this test once for each of its requests for memory, with just that one refused.
 #[test]
 fn gives_tokens_or_lacks_memory(rt: HostRuntime) {
-    let wanted = [
-        (ExprKind::Let, 0, 3),
-        (ExprKind::Name, 4, 5),
-        (ExprKind::Eq, 5, 6),
-        (ExprKind::Open, 6, 7),
-        (ExprKind::Number, 7, 8),
-        (ExprKind::Close, 8, 9),
-    ];
-    assert!(rt; gives_or_lacks_memory(rt.alloc(), "let a=(1)", &wanted));
-}
-
-/// What stands at the front of a text.
-enum Front {
-    Token(ExprKind),
-    Blank,
-    Other,
+    let wanted = "Let 0..3, Name 4..5, Eq 5..6, Open 6..7, Number 7..8, Close 8..9, ";
+    let is_right = match said_once(rt.alloc(), "let a=(1)") {
+        Ok(said) => said.as_str() == wanted,
+        Err(error) => error == ExprError::Memory,
+    };
+    assert!(rt; is_right);
 }
 
 /// How many digits the text begins with.
@@ -180,52 +108,60 @@ fn letters(text: &[u8]) -> usize {
 }
 
 /// A name or `let`, and its length.
-fn word(text: &[u8]) -> (Front, usize) {
+fn word(text: &[u8]) -> (&'static str, usize) {
     let len = letters(text);
     match text {
-        [b'l', b'e', b't', ..] if len == 3 => (Front::Token(ExprKind::Let), len),
-        _ => (Front::Token(ExprKind::Name), len),
+        [b'l', b'e', b't', ..] if len == 3 => ("Let", len),
+        _ => ("Name", len),
     }
 }
 
-/// What stands at the front of the text, and its length.
-fn front_of(text: &[u8]) -> (Front, usize) {
+/// The kind of a token that is a sign; nothing for a blank.
+fn sign(byte: u8) -> &'static str {
+    match byte {
+        b' ' | b'\t' | b'\n' => "",
+        b'=' => "Eq",
+        b'+' => "Plus",
+        b'-' => "Minus",
+        b'*' => "Star",
+        b'/' => "Slash",
+        b'(' => "Open",
+        b')' => "Close",
+        _ => "bad",
+    }
+}
+
+/// The kind of what stands at the front of the text, and its length.
+fn front_of(text: &[u8]) -> (&'static str, usize) {
     match text {
-        [b' ' | b'\t' | b'\n', ..] => (Front::Blank, 1),
-        [b'0'..=b'9', ..] => (Front::Token(ExprKind::Number), digits(text)),
+        [b'0'..=b'9', ..] => ("Number", digits(text)),
         [b'a'..=b'z' | b'_', ..] => word(text),
-        [b'=', b'=', ..] => (Front::Token(ExprKind::EqEq), 2),
-        [b'=', ..] => (Front::Token(ExprKind::Eq), 1),
-        [b'+', ..] => (Front::Token(ExprKind::Plus), 1),
-        [b'-', ..] => (Front::Token(ExprKind::Minus), 1),
-        [b'*', ..] => (Front::Token(ExprKind::Star), 1),
-        [b'/', ..] => (Front::Token(ExprKind::Slash), 1),
-        [b'(', ..] => (Front::Token(ExprKind::Open), 1),
-        [b')', ..] => (Front::Token(ExprKind::Close), 1),
-        [0xC0..=0xDF, ..] => (Front::Other, 2),
-        _ => (Front::Other, 1),
+        [b'=', b'=', ..] => ("EqEq", 2),
+        [0xC0..=0xDF, ..] => ("bad", 2),
+        [byte, ..] => (sign(*byte), 1),
+        [] => ("", 0),
     }
 }
 
 /// The tokens of a text without characters of more than two bytes, or the span of the first other character.
-fn plain(alloc: Global, input: &str) -> Result<(Vec<Wanted>, Option<Span>), AllocError> {
-    let mut tokens = Vec::new(alloc);
+fn plain(alloc: Global, input: &str) -> Result<String, AllocError> {
+    let mut text = String::new(alloc);
     let mut from: usize = 0;
     for _ in 0..input.len() {
-        let text = input.as_bytes().get(from..).unwrap_or(&[]);
-        if text.is_empty() {
-            break;
-        }
-        let (front, len) = front_of(text);
+        let (kind, len) = front_of(input.as_bytes().get(from..).unwrap_or(&[]));
         let to = from.saturating_add(len);
-        match front {
-            Front::Token(kind) => tokens.push((kind, from, to))?,
-            Front::Blank => {}
-            Front::Other => return Ok((tokens, Some(Span { from, to }))),
+        match kind {
+            "" => {}
+            "bad" => {
+                text.clear();
+                write!(text, "bad {from}..{to}")?;
+                return Ok(text);
+            }
+            kind => write!(text, "{kind} {from}..{to}, ")?,
         }
         from = to;
     }
-    Ok((tokens, None))
+    Ok(text)
 }
 
 const PIECES: [&str; 16] = [
@@ -257,38 +193,31 @@ fn text_of(alloc: Global, state: u64) -> Result<String, AllocError> {
     Ok(text)
 }
 
-/// Whether the tokenizer says of the text what the plain one does, and whether that is a fault.
-fn compare(alloc: Global, language: &Language, input: &str) -> Result<(bool, bool), Fail> {
-    let (wanted, fault) = plain(alloc, input)?;
-    if let Some(span) = fault {
-        return Ok((is_bad(alloc, language, input, span)?, true));
-    }
-    Ok((gives(alloc, language, input, wanted.as_slice())?, false))
-}
-
-/// One more, where there is one.
-fn counted(count: usize, is_one: bool) -> usize {
-    if is_one {
-        count.saturating_add(1)
-    } else {
-        count
-    }
+/// Whether the tokenizer says of the text what the plain one does, and counts where that is a fault.
+fn compare(
+    rt: &impl Abort,
+    alloc: Global,
+    language: &Language,
+    input: &str,
+) -> Result<usize, Fail> {
+    let wanted = plain(alloc, input)?;
+    let said = said(alloc, language, input)?;
+    check(rt, input, said.as_str(), wanted.as_str());
+    Ok(usize::from(said.starts_with("bad")))
 }
 
 #[test]
 fn reads_as_a_plain_tokenizer_does(rt: HostRuntime) -> Result<(), Fail> {
-    let alloc = rt.alloc();
-    let language = language(alloc)?;
+    let language = language(rt.alloc())?;
     let mut state: u64 = 1;
     let mut refused = 0_usize;
     for _ in 0..400 {
         state = state
             .wrapping_mul(6_364_136_223_846_793_005)
             .wrapping_add(1_442_695_040_888_963_407);
-        let text = text_of(alloc, state >> 4)?;
-        let (agrees, is_refused) = compare(alloc, &language, text.as_str())?;
-        assert!(rt; agrees, "something else: {}", text.as_str());
-        refused = counted(refused, is_refused);
+        let text = text_of(rt.alloc(), state >> 4)?;
+        let count = compare(&rt, rt.alloc(), &language, text.as_str())?;
+        refused = refused.saturating_add(count);
     }
     assert!(rt; (refused > 50) & (refused < 350));
     Ok(())

@@ -1,9 +1,7 @@
 //! Sources that are refused.
 
-use super::{give, made};
-use logos_codegen::Refusal;
-use std::alloc::Global;
-use std::process::Abort;
+use super::{give, give_so};
+use std::alloc::{AllocError, Global};
 use std::test::Fail;
 
 const NAMES_FAULTS_OF_LEAVES: &[(&str, &[u8], &str)] = &[
@@ -101,27 +99,21 @@ const NAMES_PASSED_LIMITS: &[(&str, &[u8], &str)] = &[
     ),
 ];
 
-/// The source of a regex in so many groups.
-fn in_groups(alloc: Global, depth: usize, regex: &str) -> Result<String, Fail> {
-    let mut source = String::from_str(alloc, "enum E { #[regex(\"")?;
-    for _ in 0..depth {
-        source.push_str("(")?;
-    }
-    source.push_str(regex)?;
-    for _ in 0..depth {
-        source.push_str(")")?;
-    }
-    source.push_str("\")] A }")?;
-    Ok(source)
-}
-
-/// A regex in so many groups gives what is said behind it.
-fn nest(rt: &impl Abort, alloc: Global, cases: &[(usize, &str, &str)]) -> Result<(), Fail> {
-    for case in cases {
-        let source = in_groups(alloc, case.0, case.1)?;
-        give(rt, alloc, &[(source.as_str(), b"a", case.2)])?;
+fn push_many(text: &mut String, part: &str, count: usize) -> Result<(), AllocError> {
+    for _ in 0..count {
+        text.push_str(part)?;
     }
     Ok(())
+}
+
+/// The source of a regex in so many groups.
+fn in_groups(alloc: Global, depth: usize, regex: &str) -> Result<String, AllocError> {
+    let mut source = String::from_str(alloc, "enum E { #[regex(\"")?;
+    push_many(&mut source, "(", depth)?;
+    source.push_str(regex)?;
+    push_many(&mut source, ")", depth)?;
+    source.push_str("\")] A }")?;
+    Ok(source)
 }
 
 /// How many groups, what is in them, and what is said of it.
@@ -141,7 +133,11 @@ const NESTED: &[(usize, &str, &str)] = &[
 
 #[test]
 fn names_what_is_nested_too_deep(rt: HostRuntime) -> Result<(), Fail> {
-    nest(&rt, rt.alloc(), NESTED)
+    for row in NESTED {
+        let source = in_groups(rt.alloc(), row.0, row.1)?;
+        give_so(&rt, rt.alloc(), source.as_str(), b"a", row.2)?;
+    }
+    Ok(())
 }
 
 const REFUSES_BEFORE_IT_READS_THE_INPUT: &[(&str, &[u8], &str)] = &[
@@ -169,46 +165,20 @@ const REFUSES_BEFORE_IT_READS_THE_INPUT: &[(&str, &[u8], &str)] = &[
 
 #[test]
 fn faulty_sources_give_what_the_rows_say(rt: HostRuntime) -> Result<(), Fail> {
-    let alloc = rt.alloc();
-    give(&rt, alloc, NAMES_FAULTS_OF_LEAVES)?;
-    give(&rt, alloc, NAMES_FAULTY_PATTERNS)?;
-    give(&rt, alloc, NAMES_PASSED_LIMITS)?;
-    give(&rt, alloc, REFUSES_BEFORE_IT_READS_THE_INPUT)?;
+    for rows in [
+        NAMES_FAULTS_OF_LEAVES,
+        NAMES_FAULTY_PATTERNS,
+        NAMES_PASSED_LIMITS,
+        REFUSES_BEFORE_IT_READS_THE_INPUT,
+    ] {
+        give(&rt, rt.alloc(), rows)?;
+    }
     Ok(())
 }
 
-/// The priority of the first leaf of a source; 0 where it has none or is refused.
-fn first_priority(alloc: Global, source: &str) -> usize {
-    match made(alloc, source, true) {
-        Ok(generated) => match generated.graph.leaves() {
-            [leaf, ..] => leaf.priority,
-            [] => 0,
-        },
-        Err(Refusal::Errors(_)) => 0,
-        Err(Refusal::Memory) => 0,
-    }
-}
-
-/// The first leaf of each source has the priority beside it.
-fn have_priorities(rt: &impl Abort, alloc: Global, cases: &[(&str, usize)]) {
-    for case in cases {
-        assert!(rt;
-            first_priority(alloc, case.0) == case.1,
-            "another priority: {}",
-            case.0
-        );
-    }
-}
-
-#[test]
-fn gives_default_priorities(rt: HostRuntime) {
-    have_priorities(
-        &rt,
-        rt.alloc(),
-        &[
-            (r#"enum T { #[regex("rope")] A }"#, 8),
-            (r#"enum T { #[token("é")] A }"#, 4),
-            (r#"enum T { #[regex("é")] A }"#, 2),
-        ],
-    );
-}
+/// Sources, and the default priorities of their first leaves.
+pub(super) const PRIORITIES: &[(&str, &str)] = &[
+    (r#"enum T { #[regex("rope")] A }"#, "8"),
+    (r#"enum T { #[token("é")] A }"#, "4"),
+    (r#"enum T { #[regex("é")] A }"#, "2"),
+];

@@ -1,12 +1,10 @@
 //! Small sets of rules, words and repeated words, made by a fixed rule of chance, on all short inputs: what the machine gives
 //! is compared with a plain lexer, which looks at every rule at each place.
 
-use super::{made, shown};
-use logos_codegen::Refusal;
+use super::super::{check, push_item};
+use super::{Ask, answer};
 use logos_codegen::code::Code;
-use logos_codegen::leaf::LeafId;
-use logos_codegen::machine::{Action, Item, Lexer};
-use logos_codegen::token::Span;
+use logos_codegen::machine::{Action, Lexer};
 use std::alloc::{AllocError, Global};
 use std::process::Abort;
 use std::test::Fail;
@@ -33,7 +31,7 @@ fn word(alloc: Global, number: usize) -> Result<String, AllocError> {
 
 /// A rule: a word, or a word once or more.
 #[derive(Drop)]
-struct Rule {
+pub(super) struct Rule {
     text: String,
     repeats: bool,
     /// Its default priority. A token has twice its bytes, a regex twice the characters that it has at least.
@@ -68,12 +66,16 @@ fn is_power(one: &Rule, other: &Rule) -> bool {
     other.repeats & (matched(other, one.text.as_bytes()) == one.text.len())
 }
 
+fn joined(alloc: Global, first: &str, second: &str) -> Result<String, AllocError> {
+    let mut text = String::from_str(alloc, first)?;
+    text.push_str(second)?;
+    Ok(text)
+}
+
 /// Whether both words, put one behind the other in either order, are the same, so that repeating them meets.
 fn commute(alloc: Global, one: &Rule, other: &Rule) -> Result<bool, AllocError> {
     let (first, second) = (one.text.as_str(), other.text.as_str());
-    let here = format!(in alloc; "{first}{second}")?;
-    let there = format!(in alloc; "{second}{first}")?;
-    Ok(here == there)
+    Ok(joined(alloc, first, second)? == joined(alloc, second, first)?)
 }
 
 /// Whether two different rules match some text with the same priority.
@@ -140,37 +142,37 @@ fn reach(rules: &[Rule], rest: &[u8]) -> usize {
     reach
 }
 
+/// Adds the item at this place of the input, by the rules, the first of which may be left out, and gives its end.
+fn push_plain_item(
+    text: &mut String,
+    rules: &[Rule],
+    skips: bool,
+    rest: &[u8],
+    from: usize,
+) -> Result<usize, AllocError> {
+    let Some((number, len)) = longest(rules, rest) else {
+        let to = from.saturating_add(reach(rules, rest));
+        write!(text, "error {from}..{to}, ")?;
+        return Ok(to);
+    };
+    let to = from.saturating_add(len);
+    if (number > 0) | !skips {
+        write!(text, "{number} at {from}..{to}, ")?;
+    }
+    Ok(to)
+}
+
 /// The items of the input as a text, by the rules, the first of which may be left out; then the end.
 fn plain(alloc: Global, rules: &[Rule], skips: bool, input: &[u8]) -> Result<String, AllocError> {
-    let mut items = Vec::new(alloc);
+    let mut text = String::new(alloc);
     let mut from: usize = 0;
     for _ in 0..input.len() {
         let rest = input.get(from..).unwrap_or(&[]);
         if rest.is_empty() {
             break;
         }
-        let (number, len) = match longest(rules, rest) {
-            Some((number, len)) => (Some(number), len),
-            None => (None, reach(rules, rest)),
-        };
-        let to = from.saturating_add(len);
-        let span = Span { from, to };
-        match number {
-            Some(0) if skips => {}
-            Some(number) => items.push(Item::Token {
-                leaf: LeafId(number),
-                span,
-                slice: &[],
-            })?,
-            None => items.push(Item::Error {
-                leaf: None,
-                span,
-                slice: &[],
-            })?,
-        }
-        from = to;
+        from = push_plain_item(&mut text, rules, skips, rest, from)?;
     }
-    let mut text = shown(alloc, items.as_slice())?;
     text.push_str("end")?;
     Ok(text)
 }
@@ -178,20 +180,48 @@ fn plain(alloc: Global, rules: &[Rule], skips: bool, input: &[u8]) -> Result<Str
 /// What the machine gives, up to the end that it tells.
 fn machine(alloc: Global, code: &Code<'_>, input: &str) -> Result<String, AllocError> {
     let mut lexer = Lexer::new_str(code, input, |_, _: &[u8]| Action::Emit);
-    let mut items = Vec::new(alloc);
-    let mut end = "no end";
+    let mut text = String::new(alloc);
     for _ in 0..input.len().saturating_add(1) {
-        match lexer.next() {
-            Some(item) => items.push(item)?,
-            None => {
-                end = "end";
-                break;
-            }
-        }
+        let Some(item) = lexer.next() else {
+            text.push_str("end")?;
+            return Ok(text);
+        };
+        push_item(&mut text, &item)?;
     }
-    let mut text = shown(alloc, items.as_slice())?;
-    text.push_str(end)?;
+    text.push_str("no end")?;
     Ok(text)
+}
+
+/// Adds what the machine and the plain lexer give on an input, if it is not the same.
+fn push_difference(
+    text: &mut String,
+    alloc: Global,
+    code: &Code<'_>,
+    rules: &[Rule],
+    skips: bool,
+    input: &str,
+) -> Result<(), AllocError> {
+    let wanted = plain(alloc, rules, skips, input.as_bytes())?;
+    let found = machine(alloc, code, input)?;
+    if found == wanted {
+        return Ok(());
+    }
+    write!(text, "{input}: {found} in place of {wanted}; ")
+}
+
+/// Adds where the machine and the plain lexer differ on short inputs.
+pub(super) fn push_differences(
+    text: &mut String,
+    alloc: Global,
+    code: &Code<'_>,
+    rules: &[Rule],
+    skips: bool,
+) -> Result<(), AllocError> {
+    for number in 0..121_usize {
+        let input = word(alloc, number)?;
+        push_difference(text, alloc, code, rules, skips, input.as_str())?;
+    }
+    Ok(())
 }
 
 /// Writes the definition of a variant.
@@ -204,20 +234,25 @@ fn write_variant(variants: &mut String, number: usize, rule: &Rule) -> Result<()
     }
 }
 
+/// Writes what is left out.
+fn write_skip(skip: &mut String, rule: &Rule) -> Result<(), AllocError> {
+    let more = if rule.repeats { "+" } else { "" };
+    write!(skip, "#[logos(skip \"(?:{}){more}\")]", rule.text.as_str())
+}
+
 /// The source whose leaves are these rules; the first of them may be left out.
 fn source_of(alloc: Global, rules: &[Rule], skips: bool) -> Result<String, AllocError> {
-    let mut skip = String::new(alloc);
+    let mut source = String::new(alloc);
     let mut variants = String::new(alloc);
     for (number, rule) in rules.iter().enumerate() {
         if skips & (number == 0) {
-            let text = rule.text.as_str();
-            let more = if rule.repeats { "+" } else { "" };
-            write!(skip, "#[logos(skip \"(?:{text}){more}\")]")?;
+            write_skip(&mut source, rule)?;
         } else {
             write_variant(&mut variants, number, rule)?;
         }
     }
-    format!(in alloc; "{skip} enum T {{ {variants} }}")
+    write!(source, " enum T {{ {} }}", variants.as_str())?;
+    Ok(source)
 }
 
 /// The rule of a word.
@@ -252,7 +287,8 @@ fn choose(alloc: Global, state: u64, skips: bool) -> Result<Vec<Rule>, AllocErro
     Ok(rules)
 }
 
-/// The machine and the plain lexer agree on all short inputs; sources with rules that conflict are refused.
+/// The machine and the plain lexer agree on all short inputs; sources with rules that conflict are refused. Gives whether it is
+/// not refused.
 fn agree(
     rt: &impl Abort,
     alloc: Global,
@@ -262,20 +298,15 @@ fn agree(
 ) -> Result<bool, Fail> {
     let source = source_of(alloc, rules, skips)?;
     let is_refused = some_conflict(alloc, rules)?;
-    let generated = match made(alloc, source.as_str(), shape) {
-        Ok(generated) => generated,
-        Err(Refusal::Errors(_)) if is_refused => return Ok(false),
-        Err(Refusal::Errors(_)) => return Err("the source is refused".into()),
-        Err(Refusal::Memory) => return Err("memory ran out".into()),
-    };
-    assert!(rt; !is_refused, "rules that conflict are accepted");
-    for number in 0..121_usize {
-        let input = word(alloc, number)?;
-        let wanted = plain(alloc, rules, skips, input.as_bytes())?;
-        let found = machine(alloc, &generated.code, input.as_str())?;
-        assert_eq!(rt; found.as_str(), wanted.as_str());
-    }
-    Ok(true)
+    let wanted = if is_refused { "refused" } else { "" };
+    let found = answer(
+        alloc,
+        source.as_str(),
+        shape,
+        Ask::Differences(rules, skips),
+    )?;
+    check(rt, source.as_str(), found.as_str(), wanted);
+    Ok(!is_refused)
 }
 
 #[test]
@@ -289,9 +320,13 @@ fn the_machine_gives_what_a_plain_lexer_gives(rt: HostRuntime) -> Result<(), Fai
             .wrapping_add(1_442_695_040_888_963_407);
         let skips = (state >> 60) & 1 == 1;
         let rules = choose(alloc, state, skips)?;
-        if agree(&rt, alloc, rules.as_slice(), skips, true)? {
-            tried = tried.saturating_add(1);
-        }
+        tried = tried.saturating_add(usize::from(agree(
+            &rt,
+            alloc,
+            rules.as_slice(),
+            skips,
+            true,
+        )?));
         agree(&rt, alloc, rules.as_slice(), skips, false)?;
     }
     assert!(rt; tried > 150);
