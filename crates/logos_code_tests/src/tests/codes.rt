@@ -8,7 +8,7 @@ mod nodes;
 mod texts;
 
 use super::check;
-use codes::{Fate, Rules, generated, label, leaves_of};
+use codes::{Fate, Rules, generated, label, push_leaves};
 use lexers::{push_first, push_items, push_utf8, push_walk};
 use logos_generator::code::Code;
 use logos_graph::graph::{Config, Graph};
@@ -78,8 +78,14 @@ fn push_answer(
     }
 }
 
+fn answer_by(alloc: Global, row: &Row, code: &Code<'_>) -> Result<String, Memory> {
+    let mut text = String::new(alloc);
+    push_answer(alloc, &mut text, code, row.3, row.4)?;
+    Ok(text)
+}
+
 /// What the code of a graph without faults answers.
-fn answer_by(
+fn answer_for(
     alloc: Global,
     row: &Row,
     graph: &Graph<'static>,
@@ -88,10 +94,10 @@ fn answer_by(
 ) -> Result<String, Memory>
     requires { graph.now.faults ≡ [] }
 {
-    let code = generated(alloc, row.0, graph, this, failed)?;
-    let mut text = String::new(alloc);
-    push_answer(alloc, &mut text, &code, row.3, row.4)?;
-    Ok(text)
+    match generated(alloc, row.0, graph, this, failed) {
+        Ok(code) => answer_by(alloc, row, &code),
+        Err(_) => Err(Memory),
+    }
 }
 
 /// The type of the enum, and what is called on its errors: nothing beside a callback that is written out.
@@ -110,14 +116,17 @@ fn answer_of(alloc: Global, row: &Row, graph: &Graph<'static>) -> Result<String,
     let (this, failed) = type_and_failed(row.2);
     let this = tokenize(alloc, this)?;
     let failed = label(alloc, failed)?;
-    Ok(answer_by(alloc, row, graph, &this, failed.as_ref())?)
+    Ok(answer_for(alloc, row, graph, &this, failed.as_ref())?)
 }
 
 /// What the code of the rules of a row answers.
 fn answer(alloc: Global, row: &Row) -> Result<String, Fail> {
-    let leaves = leaves_of(alloc, row.2)?;
-    let graph = Graph::new(alloc, leaves, Config { utf8_mode: row.1 })?;
-    answer_of(alloc, row, &graph)
+    let mut leaves = Vec::new(alloc);
+    push_leaves(alloc, &mut leaves, row.2)?;
+    match Graph::new(alloc, leaves, Config { utf8_mode: row.1 }) {
+        Ok(graph) => answer_of(alloc, row, &graph),
+        Err(error) => Err(error.into()),
+    }
 }
 
 /// The first pattern of some rules.

@@ -71,8 +71,13 @@ fn is_wanted(text: &[u8], wanted: &str, part: &str) -> bool {
 
 /// Whether a run that wrote this ends as the row says.
 fn ends_so(row: &Row, end: End, status: u8, out: &[u8], err: &[u8]) -> bool {
-    let (told, untold) = if end.0 == 0 { (out, err) } else { (err, out) };
-    (status == end.0) & untold.is_empty() & is_wanted(told, row.3, end.1)
+    if status != end.0 {
+        return false;
+    }
+    if status == 0 {
+        return err.is_empty() & is_wanted(out, row.3, end.1);
+    }
+    out.is_empty() & is_wanted(err, row.3, end.1)
 }
 
 /// Whether the run of a row ends so.

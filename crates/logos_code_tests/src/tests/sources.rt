@@ -143,6 +143,21 @@ fn push_answer(
     }
 }
 
+/// Adds what is answered of what a source makes.
+fn push_made(
+    text: &mut String,
+    alloc: Global,
+    source: &str,
+    config: Config,
+    ask: Ask<'_>,
+) -> Result<(), AllocError> {
+    match generate(alloc, source, config) {
+        Ok(made) => push_answer(text, alloc, &made, ask),
+        Err(Refusal::Errors(_errors)) => text.push_str("refused"),
+        Err(Refusal::Memory) => text.push_str("memory ran out"),
+    }
+}
+
 /// What is answered of what a source makes in this shape.
 fn answer(
     alloc: Global,
@@ -154,11 +169,7 @@ fn answer(
         use_state_machine_codegen,
     };
     let mut text = String::new(alloc);
-    match generate(alloc, source, config) {
-        Ok(made) => push_answer(&mut text, alloc, &made, ask)?,
-        Err(Refusal::Errors(_)) => text.push_str("refused")?,
-        Err(Refusal::Memory) => text.push_str("memory ran out")?,
-    }
+    push_made(&mut text, alloc, source, config, ask)?;
     Ok(text)
 }
 

@@ -6,7 +6,7 @@ use logos_generator::code::Code;
 use logos_generator::generator::{Config, Generator};
 use logos_graph::graph::Graph;
 use logos_pattern::leaf::{Callback, InlineCallback, Leaf, VariantKind};
-use logos_pattern::pattern::Pattern;
+use logos_pattern::pattern::{Pattern, PatternError};
 use logos_token::token::{Ident, Span, TokenError, TokenStream, tokenize};
 use logos_type::{Part, TypeExpr};
 use std::alloc::{AllocError, Global};
@@ -94,18 +94,44 @@ fn leaf(
     leaf.variant_kind(kind_of(fate))
 }
 
-fn leaf_of(alloc: Global, rule: &(&str, usize, Fate)) -> Result<Leaf<'static>, Fail> {
-    let callback = callback_of(alloc, rule.2)?;
-    let pattern = Pattern::compile(alloc, false, rule.0, "", true, false)?;
-    Ok(leaf(pattern, rule.1, rule.2, callback))
+/// The leaf of a rule. A value as large as this is matched, which is cheaper to prove than `?`.
+fn leaf_of(
+    alloc: Global,
+    rule: &(&str, usize, Fate),
+    callback: Option<Callback<'static>>,
+) -> Result<Leaf<'static>, PatternError> {
+    match Pattern::compile(alloc, false, rule.0, "", true, false) {
+        Ok(pattern) => Ok(leaf(pattern, rule.1, rule.2, callback)),
+        Err(error) => Err(error),
+    }
 }
 
-pub(super) fn leaves_of(alloc: Global, rules: Rules<'_>) -> Result<Vec<Leaf<'static>>, Fail> {
-    let mut leaves = Vec::new(alloc);
-    for rule in rules {
-        leaves.push(leaf_of(alloc, rule)?)?;
+/// Adds a value, whatever it is.
+fn push<T: Drop>(all: &mut Vec<T>, value: T) -> Result<(), AllocError> {
+    Ok(all.push(value)?)
+}
+
+fn push_leaf(
+    alloc: Global,
+    leaves: &mut Vec<Leaf<'static>>,
+    rule: &(&str, usize, Fate),
+) -> Result<(), Fail> {
+    let callback = callback_of(alloc, rule.2)?;
+    match leaf_of(alloc, rule, callback) {
+        Ok(leaf) => Ok(push(leaves, leaf)?),
+        Err(error) => Err(error.into()),
     }
-    Ok(leaves)
+}
+
+pub(super) fn push_leaves(
+    alloc: Global,
+    leaves: &mut Vec<Leaf<'static>>,
+    rules: Rules<'_>,
+) -> Result<(), Fail> {
+    for rule in rules {
+        push_leaf(alloc, leaves, rule)?;
+    }
+    Ok(())
 }
 
 /// The code of a graph without faults, for the enum that is this type, with this callback of errors: as one loop over a state
