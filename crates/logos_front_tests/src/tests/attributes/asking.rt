@@ -1,12 +1,13 @@
 //! Argument lists, and what is told of what they say.
 
-use super::types::{given_faults, replaced};
+use super::types::{push_given, push_replaced};
 use logos_attribute::nested::{AttributeParser, Nested, NestedValue};
 use logos_definition::definition::Definition;
 use logos_definition::error_type::ErrorType;
 use logos_definition::ignore_flags::IgnoreFlags;
 use logos_definition::parser::Parser;
 use logos_pattern::leaf::Callback;
+use logos_pattern::pattern::Literal;
 use logos_token::error::{Errors, Memory, SpannedError};
 use logos_token::token::{Ident, TokenTree, Tokens, print, tokenize};
 use std::alloc::{AllocError, Global};
@@ -166,13 +167,18 @@ fn push_lent(alloc: Global, out: &mut String, lent: &Lent<'_>) -> Result<(), Mem
     Ok(push_faults(out, &lent.parser.errors)?)
 }
 
+/// The string with which a run begins.
+fn first_literal<'s>(parser: &mut Parser<'s>, run: Tokens<'_, 's>) -> Result<Literal<'s>, Fail> {
+    match run.first() {
+        Some(TokenTree::Literal(token)) => Ok(parser.parse_literal(token)?.ok_or("no text")?),
+        _ => Err("no literal")?,
+    }
+}
+
 /// What is lent: a definition of the literal with which a run begins, without arguments.
 fn begin_lent<'s>(alloc: Global, run: Tokens<'_, 's>) -> Result<Lent<'s>, Fail> {
-    let Some(TokenTree::Literal(token)) = run.first() else {
-        return Err("no literal")?;
-    };
     let mut parser = Parser::new(alloc);
-    let literal = parser.parse_literal(token)?.ok_or("no text")?;
+    let literal = first_literal(&mut parser, run)?;
     Ok(Lent {
         definition: Definition::new(literal),
         error: ErrorType::default(alloc),
@@ -181,31 +187,43 @@ fn begin_lent<'s>(alloc: Global, run: Tokens<'_, 's>) -> Result<Lent<'s>, Fail> 
     })
 }
 
-/// What the names behind a literal do to what is lent.
-fn lend_all(alloc: Global, text: &str) -> Result<String, Fail> {
-    let stream = tokenize(alloc, text)?;
-    let run = stream.run();
-    let mut lent = begin_lent(alloc, run)?;
-    for nested in AttributeParser::new(run.rest()) {
+/// Gives the named arguments of a run to all that is lent.
+fn lend_each<'s>(alloc: Global, lent: &mut Lent<'s>, run: Tokens<'_, 's>) -> Result<(), Memory> {
+    for nested in AttributeParser::new(run) {
         if let Nested::Named(name, value) = nested {
-            lend(alloc, &mut lent, name, value)?;
+            lend(alloc, lent, name, value)?;
         }
     }
-    let mut out = String::new(alloc);
-    push_lent(alloc, &mut out, &lent)?;
-    Ok(out)
+    Ok(())
 }
 
-/// The definition that a text is, and the faults of it.
-fn defined(alloc: Global, text: &str) -> Result<String, Fail> {
+/// Adds what the names behind a literal do to what is lent.
+fn push_lending(alloc: Global, out: &mut String, text: &str) -> Result<(), Fail> {
+    let stream = tokenize(alloc, text)?;
+    let mut lent = begin_lent(alloc, stream.run())?;
+    lend_each(alloc, &mut lent, stream.run().rest())?;
+    Ok(push_lent(alloc, out, &lent)?)
+}
+
+/// Adds the definition that a run is, if it is one.
+fn push_parsed<'s>(
+    alloc: Global,
+    out: &mut String,
+    parser: &mut Parser<'s>,
+    run: Tokens<'_, 's>,
+) -> Result<(), Memory> {
+    match parser.parse_definition(run)? {
+        Some(definition) => push_definition(alloc, out, &definition),
+        None => Ok(()),
+    }
+}
+
+/// Adds the definition that a text is, and the faults of it.
+fn push_defined(alloc: Global, out: &mut String, text: &str) -> Result<(), Fail> {
     let stream = tokenize(alloc, text)?;
     let mut parser = Parser::new(alloc);
-    let mut out = String::new(alloc);
-    if let Some(definition) = parser.parse_definition(stream.run())? {
-        push_definition(alloc, &mut out, &definition)?;
-    }
-    push_faults(&mut out, &parser.errors)?;
-    Ok(out)
+    push_parsed(alloc, out, &mut parser, stream.run())?;
+    Ok(push_faults(out, &parser.errors)?)
 }
 
 fn push_told(
@@ -221,25 +239,30 @@ fn push_told(
     }
 }
 
-/// What is told of the arguments in a text.
-fn read(alloc: Global, told: Told, text: &str) -> Result<String, Fail> {
+/// Adds what is told of the arguments in a text.
+fn push_read(alloc: Global, out: &mut String, told: Told, text: &str) -> Result<(), Fail> {
     let stream = tokenize(alloc, text)?;
     let mut parser = Parser::new(alloc);
     parser.read_logos(stream.run())?;
-    let mut out = String::new(alloc);
-    push_told(alloc, &mut out, &parser, told)?;
-    Ok(out)
+    Ok(push_told(alloc, out, &parser, told)?)
+}
+
+/// Adds what is told of a text.
+fn push_answer(alloc: Global, out: &mut String, told: Told, text: &str) -> Result<(), Fail> {
+    match told {
+        Told::Lent => push_lending(alloc, out, text),
+        Told::Defined => push_defined(alloc, out, text),
+        Told::Given => push_given(alloc, out, text),
+        Told::Replaced => push_replaced(alloc, out, text),
+        _ => push_read(alloc, out, told, text),
+    }
 }
 
 /// What is told of a text.
 fn answer(alloc: Global, told: Told, text: &str) -> Result<String, Fail> {
-    match told {
-        Told::Lent => lend_all(alloc, text),
-        Told::Defined => defined(alloc, text),
-        Told::Given => given_faults(alloc, text),
-        Told::Replaced => replaced(alloc, text),
-        _ => read(alloc, told, text),
-    }
+    let mut out = String::new(alloc);
+    push_answer(alloc, &mut out, told, text)?;
+    Ok(out)
 }
 
 fn are_told(rt: &impl Abort, alloc: Global, told: Told, rows: &str) -> Result<(), Fail> {

@@ -8,7 +8,7 @@ use logos_token::token::{TokenTree, Tokens, tokenize};
 use logos_type::{Part, TypeExpr, print_type};
 use logos_type_params::{Replacing, TypeParam, holds_itself, type_after};
 use logos_type_reader::{TypeFault, read_type};
-use std::alloc::Global;
+use std::alloc::{AllocError, Global};
 use std::test::Fail;
 
 /// What the first group of a run holds.
@@ -32,22 +32,20 @@ fn declare<'s>(parser: &mut Parser<'s>, names: Tokens<'_, 's>) -> Result<(), Mem
     Ok(())
 }
 
-/// Lists the names that hold themselves.
-fn check(parser: &mut Parser<'_>) -> Result<(), Memory> {
-    parser.types.check(&mut parser.errors)
+/// Declares the names in the group in front, reads the arguments behind it, and lists the names that
+/// hold themselves.
+fn read_given<'s>(parser: &mut Parser<'s>, run: Tokens<'_, 's>) -> Result<(), Fail> {
+    declare(parser, group_of(run)?)?;
+    parser.read_logos(run.rest())?;
+    Ok(parser.types.check(&mut parser.errors)?)
 }
 
-/// The faults of arguments, where the names in the group in front of them are declared.
-pub(super) fn given_faults(alloc: Global, text: &str) -> Result<String, Fail> {
+/// Adds the faults of arguments, where the names in the group in front of them are declared.
+pub(super) fn push_given(alloc: Global, out: &mut String, text: &str) -> Result<(), Fail> {
     let stream = tokenize(alloc, text)?;
-    let run = stream.run();
     let mut parser = Parser::new(alloc);
-    declare(&mut parser, group_of(run)?)?;
-    parser.read_logos(run.rest())?;
-    check(&mut parser)?;
-    let mut out = String::new(alloc);
-    push_faults(&mut out, &parser.errors)?;
-    Ok(out)
+    read_given(&mut parser, stream.run())?;
+    Ok(push_faults(out, &parser.errors)?)
 }
 
 /// The type that is assigned to a name.
@@ -99,25 +97,45 @@ fn least<'s>(
     Err("too deep")?
 }
 
-/// The names that hold themselves, how many levels it takes, and what becomes of the type, which
-/// stands behind the types of names.
-pub(super) fn replaced(alloc: Global, text: &str) -> Result<String, Fail> {
-    let stream = tokenize(alloc, text)?;
-    let run = stream.run();
-    let types = given(alloc, group_of(run)?)?;
-    let held = held_in(alloc, &types)?;
-    let (type_expr, _) = read_type(alloc, run.rest()).ok().ok_or("no type")?;
-    let replacing = Replacing {
-        types: &types,
-        held: &held,
-    };
-    let (levels, part) = least(alloc, replacing, &type_expr.part)?;
-    let mut out = String::new(alloc);
-    for name in &held {
+fn push_names(out: &mut String, names: &[&str]) -> Result<(), AllocError> {
+    for name in names {
         write!(out, "{name} ")?;
     }
-    write!(out, "{levels}: {}", print_type(alloc, &TypeExpr { part })?)?;
-    Ok(out)
+    Ok(())
+}
+
+/// Adds how many levels it takes, and what becomes of the type that a run is.
+fn push_least<'s>(
+    alloc: Global,
+    out: &mut String,
+    replacing: Replacing<'_, 's>,
+    run: Tokens<'_, 's>,
+) -> Result<(), Fail> {
+    let (type_expr, _) = read_type(alloc, run).ok().ok_or("no type")?;
+    let (levels, part) = least(alloc, replacing, &type_expr.part)?;
+    let text = print_type(alloc, &TypeExpr { part })?;
+    Ok(write!(out, "{levels}: {text}")?)
+}
+
+/// Adds the names that hold themselves, and what becomes of the type that a run is.
+fn push_after<'s>(
+    alloc: Global,
+    out: &mut String,
+    types: &[TypeParam<'s>],
+    run: Tokens<'_, 's>,
+) -> Result<(), Fail> {
+    let held = held_in(alloc, types)?;
+    push_names(out, &held)?;
+    let replacing = Replacing { types, held: &held };
+    push_least(alloc, out, replacing, run)
+}
+
+/// Adds the names that hold themselves, how many levels it takes, and what becomes of the type, which
+/// stands behind the types of names.
+pub(super) fn push_replaced(alloc: Global, out: &mut String, text: &str) -> Result<(), Fail> {
+    let stream = tokenize(alloc, text)?;
+    let types = given(alloc, group_of(stream.run())?)?;
+    push_after(alloc, out, &types, stream.run().rest())
 }
 
 /// Names that are declared, arguments, and the faults of both.
