@@ -57,6 +57,7 @@ const LETTERS: Rules<'static> = &[("[a-z]+", 1, Fate::Token)];
 
 const ALL_LETTERS: Rules<'static> = &[("[a-zA-Z]+", 1, Fate::Skip)];
 
+/// Adds the answer to what is told.
 fn push_answer(
     alloc: Global,
     text: &mut String,
@@ -78,6 +79,7 @@ fn push_answer(
     }
 }
 
+/// What a row asks of a code.
 fn answer_by(alloc: Global, row: &Row, code: &Code<'_>) -> Result<String, Memory> {
     let mut text = String::new(alloc);
     push_answer(alloc, &mut text, code, row.3, row.4)?;

@@ -40,6 +40,7 @@ impl Write for Shut {
     }
 }
 
+/// The words as a program gets them.
 fn words(alloc: Global, all: &[&str]) -> Result<Vec<String>, AllocError> {
     let mut words = Vec::new(alloc);
     for word in all {

@@ -17,6 +17,7 @@ use std::alloc::{AllocError, Global};
 use std::process::Abort;
 use std::test::Fail;
 
+/// Adds the items to what is told.
 fn push_items(text: &mut String, items: &[Item<'_>]) -> Result<(), AllocError> {
     for item in items {
         push_item(text, item)?;
@@ -104,6 +105,7 @@ enum Ask<'a> {
     Differences(&'a [Rule], bool),
 }
 
+/// Adds the leaf to what is told.
 fn push_leaf(text: &mut String, leaf: &CodeLeaf<'_>) -> Result<(), AllocError> {
     match &leaf.kind {
         VariantKind::Unit(name) => write!(text, " {}", name.text),
@@ -112,6 +114,7 @@ fn push_leaf(text: &mut String, leaf: &CodeLeaf<'_>) -> Result<(), AllocError> {
     }
 }
 
+/// Adds what a code keeps of its source.
 fn push_kept(text: &mut String, code: &Code<'_>) -> Result<(), AllocError> {
     let is_machine = code.shape().use_state_machine_codegen;
     write!(text, "{is_machine} {}:", code.name().text)?;
@@ -121,6 +124,7 @@ fn push_kept(text: &mut String, code: &Code<'_>) -> Result<(), AllocError> {
     Ok(())
 }
 
+/// Adds the priority to what is told.
 fn push_priority(text: &mut String, graph: &Graph<'_>) -> Result<(), AllocError> {
     match graph.leaves() {
         [leaf, ..] => write!(text, "{}", leaf.priority),
@@ -128,6 +132,7 @@ fn push_priority(text: &mut String, graph: &Graph<'_>) -> Result<(), AllocError>
     }
 }
 
+/// Adds the answer to what is told.
 fn push_answer(
     text: &mut String,
     alloc: Global,

@@ -41,6 +41,7 @@ fn push_name(rt: &impl Abort, text: &mut String, kind: DefinitionKind<'_>) {
     push(rt, text, ", ");
 }
 
+/// Adds the definitions to what is told.
 fn push_definitions(rt: &impl Abort, text: &mut String, item: &ItemEnum<'_>, told: Told) {
     push(rt, text, item.name.text);
     push_span(rt, text, " ", item.name.span);
@@ -61,6 +62,7 @@ fn push_definitions(rt: &impl Abort, text: &mut String, item: &ItemEnum<'_>, tol
     }
 }
 
+/// Adds the item to what is told.
 fn push_item(rt: &impl Abort, text: &mut String, item: &ItemEnum<'_>, told: Told) {
     match told {
         Told::Counts => {

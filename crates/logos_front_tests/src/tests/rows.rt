@@ -9,7 +9,7 @@ pub(super) fn judge(rt: &impl Abort, row: &str, told: &str, wanted: &str) {
     assert!(rt; told == wanted, "{row}: {told}, wanted {wanted}");
 }
 
-/// The same for a row with a number.
+/// Ends the test unless a row of this name and number is told as is wanted; it names both.
 pub(super) fn judge_row(rt: &impl Abort, row: &str, number: usize, told: &str, wanted: &str) {
     assert!(rt; told == wanted, "{row} {number}: {told}, wanted {wanted}");
 }
@@ -19,7 +19,7 @@ pub(super) fn hold(rt: &impl Abort, condition: bool, row: &str) {
     assert!(rt; condition, "{row}");
 }
 
-/// The same for a row with a number.
+/// Ends the test unless a condition holds; it names a row and its number.
 pub(super) fn hold_row(rt: &impl Abort, condition: bool, row: &str, number: usize) {
     assert!(rt; condition, "{row} {number}");
 }

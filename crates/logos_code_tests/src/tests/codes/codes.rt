@@ -39,6 +39,7 @@ pub(super) enum Fate {
 /// Patterns with their priorities and the fates of their matches, numbered in this order.
 pub(super) type Rules<'a> = &'a [(&'a str, usize, Fate)];
 
+/// What a match gives by its fate.
 fn kind_of(fate: Fate) -> VariantKind<'static> {
     match fate {
         Fate::Token | Fate::Called => VariantKind::Unit(NAME),
@@ -73,6 +74,7 @@ fn inline(alloc: Global) -> Result<Option<Callback<'static>>, TokenError> {
     })))
 }
 
+/// The callback of a leaf with this fate, if it has one.
 fn callback_of(alloc: Global, fate: Fate) -> Result<Option<Callback<'static>>, TokenError> {
     match fate {
         Fate::Token | Fate::Value | Fate::Skip => label(alloc, ""),
@@ -111,6 +113,7 @@ fn push<T: Drop>(all: &mut Vec<T>, value: T) -> Result<(), AllocError> {
     Ok(all.push(value)?)
 }
 
+/// Adds the leaf to what is told.
 fn push_leaf(
     alloc: Global,
     leaves: &mut Vec<Leaf<'static>>,
@@ -123,6 +126,7 @@ fn push_leaf(
     }
 }
 
+/// Adds the leaves to what is told.
 pub(super) fn push_leaves(
     alloc: Global,
     leaves: &mut Vec<Leaf<'static>>,

@@ -19,6 +19,7 @@ fn action_of(ask: Ask, slice: &[u8]) -> Action {
     }
 }
 
+/// Adds the items to what is told.
 pub(super) fn push_items(
     text: &mut String,
     code: &Code<'_>,
@@ -38,6 +39,7 @@ pub(super) fn push_items(
     text.push_str("items without end")
 }
 
+/// A callback that lets each match stand.
 fn emit(_leaf: LeafId, _slice: &[u8]) -> Action {
     Action::Emit
 }
@@ -58,6 +60,7 @@ fn push_place(
     write!(text, "{}..{} by {steps}; ", span.from, span.to)
 }
 
+/// Adds the walk to what is told.
 pub(super) fn push_walk(
     text: &mut String,
     code: &Code<'_>,
@@ -74,6 +77,7 @@ pub(super) fn push_walk(
     Ok(())
 }
 
+/// Adds whether bytes are taken as UTF-8, and how far they are.
 pub(super) fn push_utf8(
     text: &mut String,
     code: &Code<'_>,

@@ -17,6 +17,7 @@ fn push_number(text: &mut String, word: &str, number: Option<usize>) -> Result<(
     }
 }
 
+/// Adds the mark to what is told.
 fn push_mark(text: &mut String, mark: Option<Mark>) -> Result<(), AllocError> {
     match mark {
         Some(Mark { late: true, leaf }) => push_number(text, "late", Some(leaf.0)),
@@ -34,6 +35,7 @@ fn cost(comparisons: &[Comparisons]) -> usize {
     operations
 }
 
+/// Adds the condition to what is told.
 fn push_condition(text: &mut String, condition: &Condition) -> Result<(), AllocError> {
     match condition {
         Condition::Comparisons(all) => write!(text, "{} operations ", cost(all)),
@@ -41,6 +43,7 @@ fn push_condition(text: &mut String, condition: &Condition) -> Result<(), AllocE
     }
 }
 
+/// Adds the branches to what is told.
 fn push_branches(text: &mut String, branches: &[(Condition, usize)]) -> Result<(), AllocError> {
     for (condition, target) in branches {
         write!(text, "to {target} by ")?;
@@ -49,6 +52,7 @@ fn push_branches(text: &mut String, branches: &[(Condition, usize)]) -> Result<(
     Ok(())
 }
 
+/// Adds the fork to what is told.
 fn push_fork(text: &mut String, fork: &Fork) -> Result<(), AllocError> {
     match fork {
         Fork::Table(k) => push_number(text, "table", Some(*k)),
@@ -56,6 +60,7 @@ fn push_fork(text: &mut String, fork: &Fork) -> Result<(), AllocError> {
     }
 }
 
+/// Adds the state to what is told.
 fn push_state(text: &mut String, state: &CodeState) -> Result<(), AllocError> {
     push_number(text, "loop", state.fast_loop)?;
     push_mark(text, state.mark)?;
@@ -64,6 +69,7 @@ fn push_state(text: &mut String, state: &CodeState) -> Result<(), AllocError> {
     text.push_str("; ")
 }
 
+/// Adds the states to what is told.
 fn push_states(text: &mut String, states: &[CodeState]) -> Result<(), AllocError> {
     for state in states {
         push_state(text, state)?;
@@ -81,6 +87,7 @@ fn push_jumps(text: &mut String, table: &[u32; 256]) -> Result<(), AllocError> {
     text.push_str("; ")
 }
 
+/// Adds the tables to what is told.
 fn push_tables(text: &mut String, tables: &[[u32; 256]]) -> Result<(), AllocError> {
     for table in tables {
         push_jumps(text, table)?;
@@ -119,6 +126,7 @@ fn push_tests(text: &mut String, tables: &[[u8; 256]]) -> Result<(), AllocError>
     text.push_str("| ")
 }
 
+/// Adds the label to what is told.
 fn push_label(alloc: Global, text: &mut String, label: &TokenStream<'_>) -> Result<(), Memory> {
     let label = print(alloc, label.run())?;
     Ok(write!(text, "by {}; ", label.as_str())?)
@@ -136,6 +144,7 @@ fn push_callback(
     }
 }
 
+/// What a match of a leaf gives, in a word.
 fn kind(leaf: &CodeLeaf<'_>) -> &'static str {
     match &leaf.kind {
         VariantKind::Unit(_) => "token ",

@@ -8,6 +8,7 @@ use logos_token::error::Memory;
 use logos_token::token::{print, tokenize};
 use std::alloc::Global;
 
+/// Adds the text to what is told.
 pub(super) fn push_text(alloc: Global, found: &mut String, code: &Code<'_>) -> Result<(), Memory> {
     Ok(found.push_str(text(alloc, code)?.as_str())?)
 }

@@ -99,6 +99,7 @@ const NAMES_PASSED_LIMITS: &[(&str, &[u8], &str)] = &[
     ),
 ];
 
+/// Adds a part so many times.
 fn push_many(text: &mut String, part: &str, count: usize) -> Result<(), AllocError> {
     for _ in 0..count {
         text.push_str(part)?;

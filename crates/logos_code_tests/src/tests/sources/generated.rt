@@ -66,6 +66,7 @@ fn is_power(one: &Rule, other: &Rule) -> bool {
     other.repeats & (matched(other, one.text.as_bytes()) == one.text.len())
 }
 
+/// One text behind another.
 fn joined(alloc: Global, first: &str, second: &str) -> Result<String, AllocError> {
     let mut text = String::from_str(alloc, first)?;
     text.push_str(second)?;

@@ -101,6 +101,7 @@ fn push_listed(rt: &impl Abort, text: &mut String, dfa: &Dfa, front: StateId, at
     push(rt, text, ";");
 }
 
+/// Adds the lists to what is told.
 fn push_lists(rt: &impl Abort, text: &mut String, dfa: &Dfa, fronts: &[&str], at_end: bool) {
     for front in fronts {
         push_listed(rt, text, dfa, behind(rt, dfa, front.as_bytes()), at_end);
@@ -116,6 +117,7 @@ fn push_child_count(rt: &impl Abort, text: &mut String, dfa: &Dfa, child: StateI
     push_number(rt, text, count);
 }
 
+/// How many states there are.
 pub(super) fn count_states(dfa: &Dfa) -> usize {
     let mut count = 0usize;
     for _ in dfa.get_states() {
@@ -124,6 +126,7 @@ pub(super) fn count_states(dfa: &Dfa) -> usize {
     count
 }
 
+/// Adds the children to what is told.
 fn push_children(rt: &impl Abort, text: &mut String, dfa: &Dfa) {
     push_number(rt, text, count_states(dfa));
     push_child_count(rt, text, dfa, behind(rt, dfa, b"a"));
@@ -131,6 +134,7 @@ fn push_children(rt: &impl Abort, text: &mut String, dfa: &Dfa) {
     push_child_count(rt, text, dfa, dfa.start());
 }
 
+/// Adds what the graph finds behind each text.
 fn push_finds(rt: &impl Abort, text: &mut String, graph: &Graph<'_>, fronts: &[&str]) {
     for front in fronts {
         if let Some((leaf, to)) = found(graph, front.as_bytes()) {
@@ -156,6 +160,7 @@ fn told(graph: &Graph<'_>, case: &(usize, usize, &str, bool)) -> &'static str {
     "0"
 }
 
+/// Adds what a row asks for.
 fn push_told(
     rt: &impl Abort,
     text: &mut String,
@@ -201,6 +206,7 @@ fn push_chart(rt: &impl Abort, text: &mut String, chart: &str, is_label: bool) {
     }
 }
 
+/// Adds the answer to what is told.
 fn push_answer(rt: &impl Abort, alloc: Global, text: &mut String, graph: &Graph<'_>, ask: Ask<'_>) {
     match ask {
         Ask::Faults => push_errors(rt, text, graph.errors()),

@@ -31,6 +31,7 @@ pub(super) fn class(rt: &impl Abort, alloc: Global, ranges: &[(u8, u8)]) -> Byte
     ByteClass { ranges: made }
 }
 
+/// Adds the comparisons to what is told.
 fn push_compared(rt: &impl Abort, text: &mut String, made: &[Comparisons]) {
     for one in made {
         write!(
@@ -59,6 +60,7 @@ fn push_table(rt: &impl Abort, text: &mut String, table: [bool; 256], bytes: &[u
     }
 }
 
+/// Adds the answer to what is told.
 fn push_answer(
     rt: &impl Abort,
     alloc: Global,

@@ -47,6 +47,7 @@ fn character_at(bytes: &[u8], from: usize, to: usize) -> u32 {
     }
 }
 
+/// Whether a byte is of a word.
 fn is_word(byte: u32) -> bool {
     matches!(byte, 48..=57 | 65..=90 | 95 | 97..=122)
 }
@@ -96,6 +97,7 @@ fn leaf_ends(hir: &Hir, bytes: &[u8], from: u32) -> u32 {
     ends
 }
 
+/// The places at which matches from a start end, a bit for each.
 fn ends_from(hir: &Hir, bytes: &[u8], start: usize) -> u32 {
     let mut ends = 0;
     for end in start..bytes.len() + 1 {
@@ -130,7 +132,7 @@ fn ends(hir: &Hir, bytes: &[u8], from: u32) -> u32 {
     }
 }
 
-/// The same for a repetition. Counts are at most 2 here, and 5 more turns of an open one reach every place.
+/// The places at which so many turns of a tree end. Counts are at most 2 here, and 5 more turns of an open one reach every place.
 #[cycle(ends)]
 fn repeated(sub: &Hir, min: u32, max: Option<u32>, bytes: &[u8], from: u32) -> u32 {
     let mut at = from;
@@ -292,6 +294,7 @@ fn are_right(rt: &impl Abort, graph: &Graph<'_>, length: usize, count: usize) {
     }
 }
 
+/// How many states a graph has.
 pub(super) fn state_count(graph: &Graph<'_>) -> usize {
     let mut count = 0usize;
     for _ in graph.iter_states() {
@@ -315,7 +318,7 @@ fn tell(rt: &impl Abort, alloc: Global, graph: &Graph<'_>, one: State, other: St
     );
 }
 
-/// The same for a state and all others.
+/// Tells a state from all others of its graph.
 fn tell_from_all(rt: &impl Abort, alloc: Global, graph: &Graph<'_>, one: State) {
     for other in graph.iter_states() {
         if one != other {
@@ -348,7 +351,7 @@ fn front(hir: &Hir) -> (bool, bool) {
     }
 }
 
-/// The same for trees one behind another.
+/// Whether trees, one behind another, can be passed without a byte, and whether they can meet a look before their first byte.
 #[cycle(front)]
 fn front_of_row(parts: &[Hir]) -> (bool, bool) {
     let mut all = (true, false);

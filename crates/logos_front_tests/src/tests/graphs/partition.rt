@@ -19,6 +19,7 @@ fn at(list: &[usize], place: usize) -> usize {
     }
 }
 
+/// Adds one more.
 fn add(rt: &impl Abort, list: &mut Vec<usize>, number: usize) {
     list.push(number).expect(rt, "memory");
 }
@@ -34,6 +35,7 @@ fn top(rt: &impl Abort, graph: &Graph<'_>, state: StateId) -> usize {
     best
 }
 
+/// The states to which a state leads, each once.
 fn children_of(rt: &impl Abort, alloc: Global, graph: &Graph<'_>, state: StateId) -> Vec<usize> {
     assert!(rt; graph.dfa().contains(state));
     let mut children = Vec::new(alloc);

@@ -18,6 +18,7 @@ fn push_run(rt: &impl Abort, alloc: Global, text: &mut String, run: Tokens<'_, '
     }
 }
 
+/// Adds the fields to what is told.
 fn push_fields(
     rt: &impl Abort,
     alloc: Global,
@@ -33,6 +34,7 @@ fn push_fields(
     }
 }
 
+/// Adds the variant to what is told.
 fn push_variant(rt: &impl Abort, alloc: Global, text: &mut String, variant: &Variant<'_, '_>) {
     push_run(rt, alloc, text, variant.attributes);
     push(rt, text, variant.name.text);
@@ -50,6 +52,7 @@ fn push_variant(rt: &impl Abort, alloc: Global, text: &mut String, variant: &Var
     push(rt, text, "; ");
 }
 
+/// Adds the parameter to what is told.
 fn push_parameter(rt: &impl Abort, text: &mut String, parameter: &Parameter<'_, '_>) {
     push(
         rt,
@@ -65,6 +68,7 @@ fn push_parameter(rt: &impl Abort, text: &mut String, parameter: &Parameter<'_, 
     push(rt, text, ", ");
 }
 
+/// Adds the item to what is told.
 fn push_item(rt: &impl Abort, alloc: Global, text: &mut String, item: &ItemEnum<'_, '_>) {
     push_run(rt, alloc, text, item.attributes);
     push(rt, text, item.name.text);
@@ -77,6 +81,7 @@ fn push_item(rt: &impl Abort, alloc: Global, text: &mut String, item: &ItemEnum<
     }
 }
 
+/// Adds the error to what is told.
 fn push_error(rt: &impl Abort, text: &mut String, error: ReadError) {
     match error {
         ReadError::NotAnEnum { span } => push_span(rt, text, "NotAnEnum ", span),

@@ -6,6 +6,7 @@ use logos_token::token::{Tokens, tokenize};
 use std::alloc::Global;
 use std::process::Abort;
 
+/// Adds the value to what is told.
 fn push_value(rt: &impl Abort, alloc: Global, text: &mut String, value: NestedValue<'_, '_>) {
     match value {
         NestedValue::Assign(run) => push_run(rt, alloc, text, " = ", run),
@@ -22,6 +23,7 @@ fn push_value(rt: &impl Abort, alloc: Global, text: &mut String, value: NestedVa
     }
 }
 
+/// Adds the piece to what is told.
 fn push_piece(rt: &impl Abort, alloc: Global, text: &mut String, piece: Nested<'_, '_>) {
     match piece {
         Nested::Unnamed(run) => push_run(rt, alloc, text, "", run),

@@ -86,6 +86,7 @@ pub(super) fn push_ranges(
     push(rt, out, close);
 }
 
+/// Adds the counts to what is told.
 fn push_counts(rt: &impl Abort, out: &mut String, min: u32, max: Option<u32>, greedy: bool) {
     write!(out, "){{{min},").expect(rt, "memory");
     if let Some(max) = max {
@@ -123,6 +124,7 @@ pub(super) fn push_tree(rt: &impl Abort, out: &mut String, hir: &Hir) {
     }
 }
 
+/// Adds the row to what is told.
 #[cycle(shown)]
 fn push_row(rt: &impl Abort, out: &mut String, open: &str, row: &[Hir]) {
     push(rt, out, open);
@@ -135,6 +137,7 @@ fn push_row(rt: &impl Abort, out: &mut String, open: &str, row: &[Hir]) {
     push(rt, out, ")");
 }
 
+/// Adds what a row asks for.
 fn push_told(rt: &impl Abort, out: &mut String, pattern: &Pattern<'_>, told: Told) {
     match told {
         Told::Tree => push_tree(rt, out, pattern.hir()),

@@ -28,6 +28,7 @@ enum Set {
     Unset,
 }
 
+/// A callback with this body.
 fn inline(body: TokenStream<'_>) -> Option<Callback<'_>> {
     let arg = Ident {
         text: "lex",
@@ -37,6 +38,7 @@ fn inline(body: TokenStream<'_>) -> Option<Callback<'_>> {
     Some(Callback::from(InlineCallback { arg, body, span }))
 }
 
+/// The leaf with one of its fields set.
 fn with<'s>(leaf: Leaf<'s>, priority: usize, set: Set, tokens: TokenStream<'s>) -> Leaf<'s> {
     let name = Ident {
         text: "A",

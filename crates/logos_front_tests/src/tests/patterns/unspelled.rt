@@ -9,10 +9,12 @@ use logos_hir::sets::operands::operands_set;
 use std::alloc::Global;
 use std::process::Abort;
 
+/// Adds one more.
 fn add(rt: &impl Abort, trees: &mut Vec<Hir>, tree: Hir) {
     trees.push(tree).expect(rt, "memory");
 }
 
+/// Adds the literal of a text.
 fn add_literal(rt: &impl Abort, alloc: Global, trees: &mut Vec<Hir>, text: &[u8]) {
     add(
         rt,

@@ -48,6 +48,7 @@ fn inner<'t, 's>(rt: &impl Abort, run: Tokens<'t, 's>, groups: &[usize]) -> Toke
     run
 }
 
+/// Adds the spans to what is told.
 fn push_spans(
     rt: &impl Abort,
     text: &mut String,
@@ -71,6 +72,7 @@ fn text_of<'s>(tree: TokenTree<'_, 's>) -> &'s str {
     }
 }
 
+/// Adds the texts to what is told.
 fn push_texts(rt: &impl Abort, text: &mut String, run: Tokens<'_, '_>) {
     for tree in run.iter() {
         if let TokenTree::Punct(punct) = tree {
@@ -89,6 +91,7 @@ fn fronts(run: Tokens<'_, '_>) -> (Span, Span, bool) {
     (first, second, run.before(run).is_empty())
 }
 
+/// Adds the fronts to what is told.
 fn push_fronts(rt: &impl Abort, text: &mut String, run: Tokens<'_, '_>) {
     let (first, second, is_none) = fronts(run);
     push_span(rt, text, "", first);
@@ -96,6 +99,7 @@ fn push_fronts(rt: &impl Abort, text: &mut String, run: Tokens<'_, '_>) {
     push(rt, text, if is_none { " none" } else { " some" });
 }
 
+/// Adds the extent to what is told.
 fn push_extent(rt: &impl Abort, text: &mut String, run: Tokens<'_, '_>) {
     if run.is_empty() {
         return push(rt, text, "none");
@@ -104,6 +108,7 @@ fn push_extent(rt: &impl Abort, text: &mut String, run: Tokens<'_, '_>) {
     push(rt, text, " ");
 }
 
+/// Adds the answer to what is told.
 fn push_answer(
     rt: &impl Abort,
     alloc: Global,
@@ -121,6 +126,7 @@ fn push_answer(
     }
 }
 
+/// Adds the refusal to what is told.
 fn push_refusal(rt: &impl Abort, text: &mut String, kind: LexicalKind, span: Span) {
     let name = match kind {
         LexicalKind::BadCharacter => "character ",
