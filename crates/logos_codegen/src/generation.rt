@@ -7,7 +7,7 @@ ghost use Rattle.logos_automaton.specs.Errors.{fault_of};
 ghost use Rattle.logos_graph.specs.GraphOf.{IsGraphOf};
 ghost use Rattle.logos_graph.specs.View.{rules_of};
 ghost use Rattle.logos_generator.specs.GeneratorValue.{KeepsGiven};
-ghost use Rattle.logos_generator.specs.Headline.{IsLexer};
+ghost use Rattle.logos_code.specs.Headline.{IsLexer};
 ghost use Rattle.logos_text.specs.Standing.{StandInOrder};
 ghost use Rattle.logos_text.specs.Texts.{texts_of};
 ghost use Rattle.logos_codegen.specs.Texts.{named_leaf, listed_of};
@@ -28,7 +28,8 @@ use logos_graph::graph::{BuildError, Config as GraphConfig, Graph, GraphError};
 use logos_pattern::leaf::Leaf;
 use logos_text::{Around, text_in};
 use logos_token::error::{Errors, FaultCode, Memory};
-use logos_token::token::{Ident, Span, TokenStream};
+use logos_token::token::{Ident, Span};
+use logos_type::{Part, TypeExpr};
 use std::alloc::{AllocError, Global};
 
 /// What a source gives.
@@ -173,7 +174,7 @@ fn code_for<'g, 's>(
     alloc: Global,
     config: Config,
     name: Ident<'s>,
-    this: &'g TokenStream<'s>,
+    this: &'g TypeExpr<'s>,
     graph: &'g Graph<'s>,
 ) -> Result<Code<'s>, AllocError>
     requires of_leaves { IsGraphOf graph.now.leaves graph.now.utf8 graph.now }
@@ -199,7 +200,9 @@ fn code_of<'s>(
     ensures lexer { IfOk result (IsLexer (rules_of graph.now.leaves) graph.now.utf8) }
     ensures keeps { IfOk result (KeepsSource config (ident_slice name.entry) graph.now.leaves) }
 {
-    let this = TokenStream::from_ident(alloc, name)?;
+    let this = TypeExpr {
+        part: Part::Name(name.text),
+    };
     code_for(alloc, config, name, &this, graph)
 }
 

@@ -2,7 +2,7 @@
 
 ghost use Rattle.std.specs.Prelude.{◌≡◌, [], IfOk, OnOk, OnErr, map, option_copied};
 ghost use Rattle.logos_graph.specs.View.{rule_of};
-ghost use Rattle.logos_generator.specs.Headline.{RunsAs};
+ghost use Rattle.logos_code.specs.Headline.{RunsAs};
 ghost use Rattle.logos_generator.specs.GeneratorValue.{IsCopy, KeepsGiven};
 ghost use Rattle.logos_generator.specs.Numbering.{HasNodesOf, tests_of};
 
@@ -12,29 +12,24 @@ mod nodes;
 mod states;
 mod tests_by_bits;
 
-use crate::code::{Code, Kept};
 use indexmap::IndexSet;
+pub use logos_code::code::Config;
+use logos_code::code::{Code, Kept};
 use logos_graph::graph::Graph;
 use logos_pattern::leaf::Callback;
-use logos_token::token::{Ident, TokenStream};
+use logos_token::token::Ident;
+use logos_type::TypeExpr;
 pub use nodes::{FastLoop, FastLoopMacro, TakeAction, fast_loop_macro};
 use states::code_of;
 use std::alloc::{AllocError, Global};
 use std::marker::Model;
-
-/// The options of a generator.
-#[derive(Clone, Copy, Debug, PartialEq, Eq)]
-pub struct Config {
-    /// One loop over a state variable, in place of a function for each state. Both shapes give the same items.
-    pub use_state_machine_codegen: bool,
-}
 
 /// Makes the code of a graph without errors.
 #[derive(Drop)]
 pub struct Generator<'g, 's> {
     config: Config,
     name: Ident<'s>,
-    this: &'g TokenStream<'s>,
+    this: &'g TypeExpr<'s>,
     graph: &'g Graph<'s>,
     error_callback: Option<&'g Callback<'s>>,
     /// The byte sets that nodes test by bits, by the numbers of their tests.
@@ -67,7 +62,7 @@ impl<'g, 's> Generator<'g, 's> {
         alloc: Global,
         config: Config,
         name: Ident<'s>,
-        this: &'g TokenStream<'s>,
+        this: &'g TypeExpr<'s>,
         graph: &'g Graph<'s>,
         error_callback: Option<&'g Callback<'s>>,
     ) -> Generator<'g, 's>
