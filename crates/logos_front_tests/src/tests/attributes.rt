@@ -1,0 +1,6 @@
+//! What attributes say, by example.
+
+mod asking;
+mod definitions;
+mod options;
+mod types;

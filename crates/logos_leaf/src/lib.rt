@@ -1,0 +1,10 @@
+//! Leaves of a lexer, as definitions make them.
+
+#![tactic(auto)]
+
+mod fault;
+pub mod leaf;
+mod source;
+#[cfg(test)]
+mod tests;
+pub mod variant;
