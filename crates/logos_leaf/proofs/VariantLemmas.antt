@@ -14,6 +14,7 @@ use Rattle.logos_pattern.specs.Leaf.{KindValue}
 use Rattle.logos_definition.specs.Options.{OptionsView}
 use Rattle.logos_definition.specs.ParserViews.{parser_view}
 use Rattle.logos_definition.specs.declared.parser.Parser.{Parser}
+use Rattle.logos_leaf.specs.Sources.{param_of}
 use Rattle.logos_leaf.specs.VariantFaults.{count_faults}
 use Rattle.logos_leaf.specs.Variants.{HoldsType, KindIs, with_first}
 
@@ -24,10 +25,6 @@ pub kind_of_first : (params : Params) (name : Ident) (span : Span) (old mid new 
 kind_of_first params name span old mid new fields first others kind e m h =
     let counted : length fields ≡ length (map field_value (first ∷ others)) = sym (length-map fields field_value) ∙ ap (λ fs. length (map field_value fs)) e in
     rw e (with_first (m ∙ ap (λ k. old ++ count_faults k span) counted) h)
-
--- a type that is given, without its place
-abbrev pub param_of : Given → ParamValue
-param_of given = record { name = given.name.text; type = given.type }
 
 pub param_values : (items : List TypeParam) → map param_of (map given_of items) ≡ map param_value items
 param_values [] = refl

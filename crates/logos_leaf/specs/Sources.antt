@@ -1,5 +1,5 @@
 -- All leaves of an enum, and all faults that its parameters and attributes list, in order.
-use Rattle.std.specs.Prelude.{◌≡◌, ℕ, Bool, true, List, [], ◌∷◌, ◌++◌, Option, Some, None, unwrap_or, option_map}
+use Rattle.std.specs.Prelude.{◌≡◌, ℕ, Bool, true, List, [], ◌∷◌, ◌++◌, map, Option, Some, None, unwrap_or, option_map}
 use Rattle.logos_token.specs.Faults.{Fault}
 use Rattle.logos_token.specs.Tokens.{TokenList, run_span}
 use Rattle.logos_type_params.specs.SelfFaults.{AreChecked}
@@ -7,7 +7,7 @@ use Rattle.logos_type_params.specs.Substitution.{Params, ParamValue}
 use Rattle.logos_type_params.specs.TypeParams.{Given}
 use Rattle.logos_type_params.specs.WrittenTypes.{AreHeld}
 use Rattle.logos_item.specs.AttributeValues.{SplitAttribute, attribute_in}
-use Rattle.logos_item.specs.EnumValues.{EnumValue}
+use Rattle.logos_item.specs.EnumValues.{EnumValue, VariantValue}
 use Rattle.logos_item.specs.Values.{ParameterValue}
 use Rattle.logos_attribute.specs.Told.{Tells}
 use Rattle.logos_definition.specs.Attributes.{AttributeSays, parameter_told}
@@ -36,22 +36,41 @@ pub data AttributesSay : (o : OptionsView) (o' : OptionsView) (old new : List Fa
 abbrev pub utf8_mode : OptionsView → Bool
 utf8_mode o = unwrap_or (option_map (λ m. m.value) o.utf8) true
 
--- What an enum says: its parameters, its attributes, which parameters hold themselves, its subpatterns, the definitions of `skip`, its variants; each step
--- lists its faults behind those of the steps in front of it. The leaves of `skip` come first.
-pub record SourceSays (item : EnumValue) (o : OptionsView) (leaves : List LeafView) (new : List Fault) : Type 0 where
-  pub declared : OptionsView
+-- a type that is given, without its place
+abbrev pub param_of : Given → ParamValue
+param_of given = record { name = given.name.text; type = given.type }
+
+-- The leaves that the skips and variants of an enum make where this was said: first it is asked which parameters hold themselves, then the subpatterns are
+-- read; the leaves of `skip` come first. Each step lists its faults behind those of the steps in front of it.
+pub record LeavesSay (o : OptionsView) (variants : List VariantValue) (leaves : List LeafView) (old new : List Fault) : Type 0 where
   pub params : Params
   pub names : List Stored
   pub skips : List LeafView
-  pub of_parameters : List Fault
-  pub of_attributes : List Fault
   pub of_held : List Fault
   pub of_subpatterns : List Fault
-  pub of_skipped : List Fault
-  pub parameters : ParametersSay nothing_said declared [] of_parameters item.parameters
-  pub attributes : AttributesSay declared o of_parameters of_attributes item.attributes
-  pub checked : AreChecked params.types [] o.types.names of_attributes of_held
+  pub of_skips : List Fault
+  pub given : params.types ≡ map param_of o.types.types
+  pub checked : AreChecked params.types [] o.types.names old of_held
   pub held : AreHeld params.types params.held
   pub subpatterns : AreAdded (utf8_mode o) o.subpatterns [] names of_held of_subpatterns
-  pub skips_add : SkipsAdd names o.skips [] skips of_subpatterns of_skipped
-  pub variants_add : VariantsAdd params names item.variants skips leaves of_skipped new
+  pub skips_add : SkipsAdd names o.skips [] skips of_subpatterns of_skips
+  pub variants_add : VariantsAdd params names variants skips leaves of_skips new
+
+-- What an enum says, in order: its parameters, its attributes, and the leaves that these and its variants make.
+pub record SourceSays (item : EnumValue) (o : OptionsView) (leaves : List LeafView) (new : List Fault) : Type 0 where
+  pub declared : OptionsView
+  pub of_parameters : List Fault
+  pub of_attributes : List Fault
+  pub parameters : ParametersSay nothing_said declared [] of_parameters item.parameters
+  pub attributes : AttributesSay declared o of_parameters of_attributes item.attributes
+  pub leaves_say : LeavesSay o item.variants leaves of_attributes new
+
+-- what was said, without the skips
+abbrev pub IsWithoutSkips : OptionsView → OptionsView → Type 0
+IsWithoutSkips options rest = rest ≡ record options { skips = [] }
+
+-- An enum was read: these are its leaves, and the rest is what it says, but for the skips, which are leaves now.
+pub record IsSourceRead (item : EnumValue) (leaves : List LeafView) (rest : OptionsView) (faults : List Fault) : Type 0 where
+  pub options : OptionsView
+  pub says : SourceSays item options leaves faults
+  pub same : IsWithoutSkips options rest

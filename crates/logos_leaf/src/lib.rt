@@ -4,7 +4,7 @@
 
 mod fault;
 pub mod leaf;
-mod source;
+pub mod source;
 #[cfg(test)]
 mod tests;
 pub mod variant;
