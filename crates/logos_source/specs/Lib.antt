@@ -1,0 +1,4 @@
+pub mod Endings
+pub mod Refusals
+pub mod Saying
+pub mod Utf8Faults

@@ -1,0 +1,8 @@
+//! What a source says: its leaves, its options, and the faults of all but its graph.
+
+#![tactic(auto)]
+
+mod mode;
+pub mod reading;
+pub mod refusal;
+pub mod said;
