@@ -1,6 +1,4 @@
-pub mod GiveLemmas
 pub mod RefusalLemmas
-pub mod HeldLemmas
 pub mod Listing
 pub mod AcceptLemmas
 pub mod GraphLemmas

@@ -1,0 +1,2 @@
+mod ModeLemmas
+mod RefusalLemmas

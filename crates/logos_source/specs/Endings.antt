@@ -27,12 +27,12 @@ lexical_text Unterminated = codes "unreadable source: Unterminated"
 lexical_text Unbalanced = codes "unreadable source: Unbalanced"
 
 -- the fault of tokens that are no enum, by why they are none; want of memory is no fault
-abbrev pub misread_faults : ReadError → List Fault
-misread_faults (NotAnEnum span) = only (fault codes_of.NotAnEnum (codes "Logos can be only be derived for enums") span)
-misread_faults (Grammar span) = only (fault codes_of.Grammar (codes "the enum is not well formed") span)
-misread_faults (TypeUnsupported span) = only (fault codes_of.TypeUnsupported (codes "type not supported") span)
-misread_faults (LimitTypeNesting span) = only (fault codes_of.LimitTypeNesting (codes "limit LimitTypeNesting passed") span)
-misread_faults Memory = []
+abbrev pub IsMisread : ReadError → List Fault → Type 0
+IsMisread (NotAnEnum span) faults = faults ≡ only (fault codes_of.NotAnEnum (codes "Logos can be only be derived for enums") span)
+IsMisread (Grammar span) faults = faults ≡ only (fault codes_of.Grammar (codes "the enum is not well formed") span)
+IsMisread (TypeUnsupported span) faults = faults ≡ only (fault codes_of.TypeUnsupported (codes "type not supported") span)
+IsMisread (LimitTypeNesting span) faults = faults ≡ only (fault codes_of.LimitTypeNesting (codes "limit LimitTypeNesting passed") span)
+IsMisread Memory faults = ⊥
 
 -- the one fault of a source that is longer than the limit
 abbrev pub too_long : List ℕ → Fault
@@ -42,7 +42,7 @@ too_long source = fault codes_of.LimitSource (codes "limit LimitSource passed") 
 pub record EndsTokens (tokens : TokenList) (faults : List Fault) : Type 0 where
   pub error : ReadError
   pub reads : Reads tokens (Err error)
-  pub are : faults ≡ misread_faults error
+  pub are : IsMisread error faults
 
 -- The fault stands in the source and ends its reading: a limit is passed, there are no tokens, or they are no enum.
 pub data EndsReading (source : List ℕ) (ending : Fault) : Type 0 where

@@ -2,6 +2,7 @@
 
 #![tactic(auto)]
 
+pub mod enum_type;
 mod mode;
 pub mod reading;
 pub mod refusal;

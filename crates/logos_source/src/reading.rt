@@ -4,7 +4,7 @@ ghost use Rattle.std.specs.Prelude.{◌≡◌, ◌∷◌, []};
 ghost use Rattle.logos_token.specs.Faults.{Fault};
 ghost use Rattle.logos_token.specs.Refusals.{IsRefusal};
 ghost use Rattle.logos_attribute.specs.Told.{fault, only};
-ghost use Rattle.logos_source.specs.Endings.{EndsReading, lexical_text, misread_faults, too_long};
+ghost use Rattle.logos_source.specs.Endings.{EndsReading, lexical_text, IsMisread, too_long};
 ghost use Rattle.logos_source.specs.Refusals.{Refuses};
 
 use crate::refusal::Refusal;
@@ -38,7 +38,7 @@ fn lexical_text(kind: LexicalKind) -> &'static str
 
 /// Why tokens are no enum.
 pub(crate) fn misread(alloc: Global, error: ReadError) -> Refusal
-    ensures { Refuses (λ faults. faults ≡ misread_faults error) result }
+    ensures { Refuses (IsMisread error) result }
 {
     match error {
         ReadError::NotAnEnum { span } => refused(

@@ -1,5 +1,5 @@
-use Rattle.logos_codegen.proofs.RefusalLemmas.{lexical_ends, nesting_ends}
-use Rattle.logos_codegen.proofs.source.unreadable.Goals as goal
+use Rattle.logos_source.proofs.RefusalLemmas.{lexical_ends, nesting_ends}
+use Rattle.logos_source.proofs.reading.unreadable.Goals as goal
 
 pub returns-in-Lexical-clause-ends : goal.returns-in-Lexical-clause-ends
 returns-in-Lexical-clause-ends c =
