@@ -28,7 +28,8 @@ use logos_graph::graph::{BuildError, Config as GraphConfig, Graph, GraphError};
 use logos_pattern::leaf::Leaf;
 use logos_text::{Around, text_in};
 use logos_token::error::{Errors, FaultCode, Memory};
-use logos_token::token::{Ident, Span, TokenStream};
+use logos_token::token::{Ident, Span};
+use logos_type::{Part, TypeExpr};
 use std::alloc::{AllocError, Global};
 
 /// What a source gives.
@@ -173,7 +174,7 @@ fn code_for<'g, 's>(
     alloc: Global,
     config: Config,
     name: Ident<'s>,
-    this: &'g TokenStream<'s>,
+    this: &'g TypeExpr<'s>,
     graph: &'g Graph<'s>,
 ) -> Result<Code<'s>, AllocError>
     requires of_leaves { IsGraphOf graph.now.leaves graph.now.utf8 graph.now }
@@ -199,7 +200,9 @@ fn code_of<'s>(
     ensures lexer { IfOk result (IsLexer (rules_of graph.now.leaves) graph.now.utf8) }
     ensures keeps { IfOk result (KeepsSource config (ident_slice name.entry) graph.now.leaves) }
 {
-    let this = TokenStream::from_ident(alloc, name)?;
+    let this = TypeExpr {
+        part: Part::Name(name.text),
+    };
     code_for(alloc, config, name, &this, graph)
 }
 
