@@ -1,6 +1,6 @@
 -- What contracts see of a generator, and what a code value keeps of it.
 use Rattle.std.specs.Prelude.{◌≡◌, ℕ, Bool, List, map, Option, option_map}
-use Rattle.logos_token.specs.Views.{stream_tokens}
+use Rattle.logos_type.specs.TypeTrees.{type_tree}
 use Rattle.logos_pattern.specs.Leaf.{CallbackValue, callback_value, KindValue, kind_value}
 use Rattle.logos_pattern.specs.declared.leaf.Leaf.{Leaf}
 use Rattle.logos_graph.specs.View.{GraphValue}
@@ -26,11 +26,11 @@ leaf_value leaf = record { kind = kind_value leaf.kind; callback = option_map ca
 abbrev pub code_leaf_value : CodeLeaf → LeafValue
 code_leaf_value leaf = record { kind = kind_value leaf.kind; callback = option_map callback_value leaf.callback }
 
--- the same shape and name, and the same tokens
+-- the same shape and name, a type of the same parts, and the same tokens of what is called
 pub record IsCopy (given kept : Kept) : Type 0 where
   pub shape : kept.shape ≡ given.shape
   pub name : kept.name ≡ given.name
-  pub this : stream_tokens kept.this ≡ stream_tokens given.this
+  pub this : type_tree kept.this ≡ type_tree given.this
   pub error_callback : option_map callback_value kept.error_callback ≡ option_map callback_value given.error_callback
 
 -- the code keeps what its generator was given, and for each leaf of the graph what becomes of its matches

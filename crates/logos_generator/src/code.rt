@@ -1,6 +1,5 @@
 //! Code values: what a lexer does in each state.
 ghost use Rattle.std.specs.Prelude.{◌≡◌, ◌<◌, length, option_map, option_copied, IfOk};
-ghost use Rattle.logos_token.specs.Views.{stream_tokens, tokens_of};
 ghost use Rattle.logos_generator.specs.Headline.{IsSound};
 ghost use Rattle.logos_generator.specs.CodeView.{entry_of, state_at, asks_for, skips_over, code_of, IsKept};
 ghost use Rattle.logos_generator.specs.Runs.{target};
@@ -15,7 +14,8 @@ use crate::generator::Config;
 use logos_graph::byte_class::Comparisons;
 use logos_hir::leaf::LeafId;
 use logos_pattern::leaf::{Callback, VariantKind};
-use logos_token::token::{Ident, TokenStream, Tokens};
+use logos_token::token::Ident;
+use logos_type::TypeExpr;
 use rows::{Step, rows_of};
 use signs::{Sign, signs_of};
 use std::alloc::{AllocError, Global};
@@ -77,8 +77,8 @@ pub struct Kept<'s> {
     pub shape: Config,
     /// The name of the enum.
     pub name: Ident<'s>,
-    /// The type that the enum is.
-    pub this: TokenStream<'s>,
+    /// The type that the enum is: its name, and what it is given.
+    pub this: TypeExpr<'s>,
     /// What is called on an error, if anything is.
     pub error_callback: Option<Callback<'s>>,
 }
@@ -168,10 +168,10 @@ impl<'s> Code<'s> {
     }
 
     /// The type that the enum is: its name, and what it is given.
-    pub fn this(&self) -> Tokens<'_, 's>
-        ensures { tokens_of result ≡ stream_tokens self.now.kept.this }
+    pub fn this(&self) -> &TypeExpr<'s>
+        ensures { result.now ≡ self.now.kept.this }
     {
-        self.parts.kept.this.run()
+        &self.parts.kept.this
     }
 
     /// What the code is made of. Each state, table, test and leaf that is named there is there, and no two jump tables are equal.

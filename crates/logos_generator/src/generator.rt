@@ -16,7 +16,8 @@ use crate::code::{Code, Kept};
 use indexmap::IndexSet;
 use logos_graph::graph::Graph;
 use logos_pattern::leaf::Callback;
-use logos_token::token::{Ident, TokenStream};
+use logos_token::token::Ident;
+use logos_type::TypeExpr;
 pub use nodes::{FastLoop, FastLoopMacro, TakeAction, fast_loop_macro};
 use states::code_of;
 use std::alloc::{AllocError, Global};
@@ -34,7 +35,7 @@ pub struct Config {
 pub struct Generator<'g, 's> {
     config: Config,
     name: Ident<'s>,
-    this: &'g TokenStream<'s>,
+    this: &'g TypeExpr<'s>,
     graph: &'g Graph<'s>,
     error_callback: Option<&'g Callback<'s>>,
     /// The byte sets that nodes test by bits, by the numbers of their tests.
@@ -67,7 +68,7 @@ impl<'g, 's> Generator<'g, 's> {
         alloc: Global,
         config: Config,
         name: Ident<'s>,
-        this: &'g TokenStream<'s>,
+        this: &'g TypeExpr<'s>,
         graph: &'g Graph<'s>,
         error_callback: Option<&'g Callback<'s>>,
     ) -> Generator<'g, 's>

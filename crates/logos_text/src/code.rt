@@ -14,7 +14,7 @@ use crate::states::{push_closing, push_opening, push_states};
 use crate::tables::push_tables;
 use logos_generator::code::{Code, CodeParts};
 use logos_token::error::Memory;
-use logos_token::token::print;
+use logos_type::print_type;
 use std::alloc::Global;
 
 /// The Rust text of a code, as the body of a function: its tokens, parted as `print` parts them. The texts of all bit tables by
@@ -24,7 +24,7 @@ pub fn text(alloc: Global, code: &Code<'_>) -> Result<String, Memory>
     ensures { IfOk result (λ text. StandInOrder (texts_of code.now) (string_bytes text)) }
 {
     let parts = code.parts();
-    let this = print(alloc, parts.kept.this.run())?;
+    let this = print_type(alloc, &parts.kept.this)?;
     let mut text = String::new(alloc);
     push_code(alloc, &mut text, parts, Names::new(parts, &this))?;
     Ok(text)
@@ -36,7 +36,7 @@ pub fn text_in(alloc: Global, code: &Code<'_>, around: Around<'_>) -> Result<Str
     ensures { IfOk result (λ text. StandInOrder (texts_of code.now) (string_bytes text)) }
 {
     let parts = code.parts();
-    let this = print(alloc, parts.kept.this.run())?;
+    let this = print_type(alloc, &parts.kept.this)?;
     let mut text = String::new(alloc);
     push_front(&mut text, around, &this)?;
     push_code(alloc, &mut text, parts, Names::new(parts, &this))?;
