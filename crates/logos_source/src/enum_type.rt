@@ -1,6 +1,6 @@
 //! The type that an enum is.
 
-ghost use Rattle.std.specs.Prelude.{◌≡◌, ◌++◌, IfOk, OnOk, map, option_map};
+ghost use Rattle.std.specs.Prelude.{◌≡◌, ◌∷◌, ◌++◌, [], IfOk, OnOk, map, option_map};
 ghost use Rattle.logos_type.specs.Parts.{tree_of};
 ghost use Rattle.logos_type.specs.TypeTrees.{type_tree};
 ghost use Rattle.logos_type_params.specs.Generics.{generics_of};
@@ -10,6 +10,15 @@ ghost use Rattle.logos_source.specs.EnumTypes.{bracketed, enum_type};
 use logos_type::{Leaf, Part, TypeExpr};
 use logos_type_params::Generics;
 use std::alloc::{AllocError, Global};
+
+/// Adds a part.
+fn push_part<'s>(parts: &mut Vec<Part<'s>>, part: Part<'s>) -> Result<(), AllocError>
+    ensures { OnOk result (map tree_of parts.new.items
+        ≡ map tree_of parts.old.items ++ tree_of part.entry ∷ []) }
+{
+    parts.push(part)?;
+    Ok(())
+}
 
 /// Adds an argument of a type, behind a comma unless it is the first one.
 fn push_argument<'s>(
@@ -45,7 +54,7 @@ fn push_arguments<'s>(
 }
 
 /// Adds the lifetime, if there is one.
-fn push_lifetime(parts: &mut Vec<Part<'_>>, lifetime: bool) -> Result<(), AllocError>
+fn push_lifetime<'s>(parts: &mut Vec<Part<'s>>, lifetime: bool) -> Result<(), AllocError>
     ensures { OnOk result (map tree_of parts.new.items
         ≡ map tree_of parts.old.items ++ lifetime_argument lifetime) }
 {
@@ -55,23 +64,24 @@ fn push_lifetime(parts: &mut Vec<Part<'_>>, lifetime: bool) -> Result<(), AllocE
     Ok(())
 }
 
-/// The type of this name with this between angle brackets behind it.
+/// The type of this name with these between angle brackets behind it.
 fn bracketed<'s>(
     alloc: Global,
     name: &'s str,
-    generics: Generics<'s>,
+    lifetime: bool,
+    types: Vec<TypeExpr<'s>>,
 ) -> Result<TypeExpr<'s>, AllocError>
-    ensures { IfOk result (λ made. type_tree made ≡ bracketed name.now (generics_of generics.entry)) }
+    ensures { IfOk result (λ made. type_tree made ≡ bracketed name.now
+        (record { lifetime = lifetime; types = map type_tree types.entry.items })) }
 {
     let mut parts = Vec::new(alloc);
-    parts.push(Part::Leaf(Leaf::Word(name)))?;
-    parts.push(Part::Leaf(Leaf::Mark('<')))?;
-    push_lifetime(&mut parts, generics.lifetime)?;
-    push_arguments(&mut parts, !generics.lifetime, generics.types)?;
-    parts.push(Part::Leaf(Leaf::Mark('>')))?;
-    Ok(TypeExpr {
-        part: Part::Whole(parts),
-    })
+    push_part(&mut parts, Part::Leaf(Leaf::Word(name)))?;
+    push_part(&mut parts, Part::Leaf(Leaf::Mark('<')))?;
+    push_lifetime(&mut parts, lifetime)?;
+    push_arguments(&mut parts, !lifetime, types)?;
+    push_part(&mut parts, Part::Leaf(Leaf::Mark('>')))?;
+    let part = Part::Whole(parts);
+    Ok(TypeExpr { part })
 }
 
 /// The type that an enum of this name is, where this stands between angle brackets behind its name.
@@ -85,7 +95,7 @@ pub fn enum_type<'s>(
         ≡ enum_type name.now (option_map generics_of generics.entry)) }
 {
     match generics {
-        Some(generics) => bracketed(alloc, name, generics),
+        Some(Generics { lifetime, types }) => bracketed(alloc, name, lifetime, types),
         None => Ok(TypeExpr {
             part: Part::Name(name),
         }),

@@ -1,18 +1,20 @@
 //! What a source says.
 
-ghost use Rattle.std.specs.Prelude.{◌≡◌, ◌<◌, ◌≤◌, ◌∷◌, [], length, map, option_map};
+ghost use Rattle.std.specs.Prelude.{◌≡◌, ◌<◌, ◌≤◌, ◌∷◌, ◌++◌, [], length, map, option_map};
 ghost use Rattle.std.specs.Prelude.{IfOk, IfErr, IsErrAnd, OnOk};
 ghost use Rattle.logos_token.specs.Faults.{Fault};
 ghost use Rattle.logos_token.specs.Tokens.{run_span};
 ghost use Rattle.logos_token.specs.Views.{stream_tokens, tokens_of};
 ghost use Rattle.logos_item.specs.EnumValues.{enum_value};
 ghost use Rattle.logos_item.specs.Values.{ident_slice};
-ghost use Rattle.logos_type_params.specs.Generics.{generics_of};
+ghost use Rattle.logos_type_params.specs.Generics.{generics_of, generics};
 ghost use Rattle.logos_definition.specs.ParserViews.{parser_view};
 ghost use Rattle.logos_leaf.specs.LeafViews.{leaf_view};
 ghost use Rattle.logos_source.specs.Endings.{IsShallow, too_long, EndsReading, EndsTokens};
 ghost use Rattle.logos_source.specs.Refusals.{Refuses};
-ghost use Rattle.logos_source.specs.Saying.{IsItemSaid, AreTokensSaid, IsSaid};
+ghost use Rattle.logos_leaf.specs.Sources.{utf8_mode};
+ghost use Rattle.logos_source.specs.Saying.{type_faults, IsItemSaid, AreTokensSaid, IsSaid};
+ghost use Rattle.logos_source.specs.Utf8Faults.{utf8_faults};
 
 use crate::mode::list_not_utf8;
 use crate::reading::{misread, unreadable};
@@ -41,6 +43,25 @@ pub struct Said<'s> {
     pub parser: Parser<'s>,
 }
 
+/// Lists leaves that match what is no UTF-8, where inputs are, and parameters without a type; and
+/// tells what stands between angle brackets behind the name.
+fn generics_said<'s>(
+    alloc: Global,
+    leaves: &[Leaf<'s>],
+    parser: &mut Parser<'s>,
+) -> Result<Option<Generics<'s>>, Memory>
+    ensures faults { OnOk result (parser.new.errors ≡ (parser.old.errors
+        ++ utf8_faults (utf8_mode (parser_view parser.old)) (map leaf_view leaves.now))
+        ++ type_faults (parser_view parser.old)) }
+    ensures given { IfOk result (λ made. option_map generics_of made
+        ≡ generics (parser_view parser.old).types) }
+    ensures kept { OnOk result (parser_view parser.new ≡ parser_view parser.old) }
+{
+    let mode = utf8_mode(parser);
+    list_not_utf8(alloc, mode, leaves, &mut parser.errors)?;
+    parser.types.generics(&mut parser.errors)
+}
+
 /// What an enum says, whose tokens stand at this span.
 fn item_said<'s>(alloc: Global, item: &ItemEnum<'_, 's>, span: Span) -> Result<Said<'s>, Memory>
     ensures { IfOk result (λ said. IsItemSaid (enum_value item.now) span (ident_slice said.name)
@@ -48,9 +69,7 @@ fn item_said<'s>(alloc: Global, item: &ItemEnum<'_, 's>, span: Span) -> Result<S
         (option_map generics_of said.generics) said.parser.errors) }
 {
     let Source { leaves, mut parser } = read_source(alloc, item)?;
-    let mode = utf8_mode(&parser);
-    list_not_utf8(alloc, mode, leaves.as_slice(), &mut parser.errors)?;
-    let generics = parser.types.generics(&mut parser.errors)?;
+    let generics = generics_said(alloc, leaves.as_slice(), &mut parser)?;
     Ok(Said {
         name: item.name,
         span,
