@@ -8,13 +8,13 @@ mod nodes;
 mod texts;
 
 use super::check;
-use codes::{Fate, Rules, generated, label, push_leaves};
+use codes::{Fate, Rules, generated, label, push_leaves, type_of};
 use lexers::{push_first, push_items, push_utf8, push_walk};
 use logos_generator::code::Code;
 use logos_graph::graph::{Config, Graph};
 use logos_pattern::leaf::Callback;
 use logos_token::error::Memory;
-use logos_token::token::{TokenStream, tokenize};
+use logos_type::TypeExpr;
 use nodes::{push_kept, push_nodes};
 use std::alloc::Global;
 use std::process::Abort;
@@ -91,7 +91,7 @@ fn answer_for(
     alloc: Global,
     row: &Row,
     graph: &Graph<'static>,
-    this: &TokenStream<'static>,
+    this: &TypeExpr<'static>,
     failed: Option<&Callback<'static>>,
 ) -> Result<String, Memory>
     requires { graph.now.faults ≡ [] }
@@ -102,11 +102,11 @@ fn answer_for(
     }
 }
 
-/// The type of the enum, and what is called on its errors: nothing beside a callback that is written out.
-fn type_and_failed(rules: Rules<'static>) -> (&'static str, &'static str) {
+/// What the enum is given, and what is called on its errors: nothing beside a callback that is written out.
+fn given_and_failed(rules: Rules<'static>) -> (&'static str, &'static str) {
     match rules {
-        [(_, _, Fate::Inline)] => ("A", ""),
-        _ => ("A<u8>", "failed"),
+        [(_, _, Fate::Inline)] => ("", ""),
+        _ => ("u8", "failed"),
     }
 }
 
@@ -115,8 +115,8 @@ fn answer_of(alloc: Global, row: &Row, graph: &Graph<'static>) -> Result<String,
     if !graph.errors().is_empty() {
         return Err("the leaves have faults".into());
     }
-    let (this, failed) = type_and_failed(row.2);
-    let this = tokenize(alloc, this)?;
+    let (given, failed) = given_and_failed(row.2);
+    let this = type_of(alloc, given)?;
     let failed = label(alloc, failed)?;
     Ok(answer_for(alloc, row, graph, &this, failed.as_ref())?)
 }

@@ -7,8 +7,8 @@ use logos_generator::generator::{Config, Generator};
 use logos_graph::graph::Graph;
 use logos_pattern::leaf::{Callback, InlineCallback, Leaf, VariantKind};
 use logos_pattern::pattern::{Pattern, PatternError};
-use logos_token::token::{Ident, Span, TokenError, TokenStream, tokenize};
-use logos_type::{Part, TypeExpr};
+use logos_token::token::{Ident, Span, TokenError, tokenize};
+use logos_type::{Leaf as TypeLeaf, Part, TypeExpr};
 use std::alloc::{AllocError, Global};
 use std::test::Fail;
 
@@ -138,13 +138,37 @@ pub(super) fn push_leaves(
     Ok(())
 }
 
+/// The parts of the type `A` that is given the type with this name.
+fn parts_of(alloc: Global, given: &'static str) -> Result<Vec<Part<'static>>, AllocError> {
+    let mut parts = Vec::new(alloc);
+    push(&mut parts, Part::Leaf(TypeLeaf::Word("A")))?;
+    push(&mut parts, Part::Leaf(TypeLeaf::Mark('<')))?;
+    push(&mut parts, Part::Name(given))?;
+    push(&mut parts, Part::Leaf(TypeLeaf::Mark('>')))?;
+    Ok(parts)
+}
+
+/// The type `A`, which is given the type with this name, if there is one.
+pub(super) fn type_of(
+    alloc: Global,
+    given: &'static str,
+) -> Result<TypeExpr<'static>, AllocError> {
+    if given.is_empty() {
+        return Ok(TypeExpr {
+            part: Part::Name("A"),
+        });
+    }
+    let part = Part::Whole(parts_of(alloc, given)?);
+    Ok(TypeExpr { part })
+}
+
 /// The code of a graph without faults, for the enum that is this type, with this callback of errors: as one loop over a state
 /// variable or not.
 pub(super) fn generated(
     alloc: Global,
     use_state_machine_codegen: bool,
     graph: &Graph<'static>,
-    this: &TokenStream<'static>,
+    this: &TypeExpr<'static>,
     failed: Option<&Callback<'static>>,
 ) -> Result<Code<'static>, AllocError>
     requires { graph.now.faults ≡ [] }

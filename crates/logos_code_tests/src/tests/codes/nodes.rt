@@ -7,6 +7,7 @@ use logos_graph::byte_class::Comparisons;
 use logos_pattern::leaf::{Callback, VariantKind};
 use logos_token::error::Memory;
 use logos_token::token::{TokenStream, print};
+use logos_type::print_type;
 use std::alloc::{AllocError, Global};
 
 /// Adds a number with a word before it, if there is one.
@@ -172,7 +173,7 @@ fn push_shape(text: &mut String, code: &Code<'_>) -> Result<(), AllocError> {
 /// Adds what the code keeps of what its generator was given: shape, name, type, error callback.
 pub(super) fn push_kept(alloc: Global, text: &mut String, code: &Code<'_>) -> Result<(), Memory> {
     push_shape(text, code)?;
-    text.push_str(print(alloc, code.this())?.as_str())?;
+    text.push_str(print_type(alloc, code.this())?.as_str())?;
     text.push_str("; ")?;
     push_callback(alloc, text, code.error_callback())
 }
