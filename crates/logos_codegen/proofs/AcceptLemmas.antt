@@ -55,9 +55,12 @@ enum_once enum leaves others rest other faults a b =
     let once = one_source enum a.read.options b.read.options leaves others b.of_parts says b.read.says in
     let same : rest ≡ other = a.read.same ∙ ap without_skips once.1.0 ∙ sym b.read.same in
     let text : utf8_faults (utf8_mode other) others ≡ [] = rw (same, once.1.1) at none.text in
-    let types : type_faults other ≡ [] = rw same at none.types in
-    (b.all ∙ ap (λ (xs : List ListedFault). (xs ++ utf8_faults (utf8_mode other) others) ++ type_faults other) once.0
-      ∙ ap (λ (xs : List ListedFault). xs ++ type_faults other) text ∙ types, once.1.1, same)
+    let types : type_faults other ≡ [] = rw same at none.types in (
+      b.all ∙ ap (λ (xs : List ListedFault). (xs ++ utf8_faults (utf8_mode other) others) ++ type_faults other) once.0
+          ∙ ap (λ (xs : List ListedFault). xs ++ type_faults other) text ∙ types,
+      once.1.1,
+      same,
+    )
 
 -- ---- a source is one enum at most
 

@@ -313,7 +313,7 @@ fn path_of(export: Option<ExportPath>) -> Option<String>
 }
 
 // All that a source gives, of its parts.
-fn generated<'s>(
+fn put_together<'s>(
     code: Code<'s>,
     graph: Graph<'s>,
     name: Ident<'s>,
@@ -380,7 +380,7 @@ pub fn generate<'s>(alloc: Global, src: &'s str, config: Config) -> Result<Gener
         parser,
     } = rest;
     match code_said(alloc, config, name, generics, &parser, &graph) {
-        Ok(code) => Ok(generated(code, graph, name, parser)),
+        Ok(code) => Ok(put_together(code, graph, name, parser)),
         Err(_) => Err(Refusal::Memory),
     }
 }
