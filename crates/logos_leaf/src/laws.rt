@@ -22,9 +22,13 @@ pub fn one_source()
     ensures one_list { (item : EnumValue) (o p : OptionsView) (leaves others : List LeafView)
         (faults : List Fault) → SourceSays item o leaves [] → SourceSays item p others faults →
         let shown : LeafView → LeafView × Option (Slice × Option Tree)
-            = λ l. (record l { kind = skipped }, elim l.kind [
-                | plain name ↦ Some (ident_slice name, None)
-                | holding name type ↦ Some (ident_slice name, Some type)
-                | skipped ↦ None ]) in
+        = λ l. (
+          record l { kind = skipped },
+          elim l.kind [
+            | plain name ↦ Some (ident_slice name, None)
+            | holding name type ↦ Some (ident_slice name, Some type)
+            | skipped ↦ None
+          ],
+        ) in
         map shown leaves ≡ map shown others }
 {}

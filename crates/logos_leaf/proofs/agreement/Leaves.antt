@@ -1,5 +1,5 @@
 -- Leaves that are made without a fault.
-use Rattle.std.proofs.Common.{◌≡◌, ℕ, List, [], ◌∷◌, ◌++◌, Bool, true, false, Option, Some, None, ◌∙◌, ap, sym, refl, chars, if◌then◌else◌}
+use Rattle.std.proofs.Common.{◌≡◌, ℕ, List, [], ◌++◌, Bool, true, false, Option, Some, None, ◌∙◌, ap, refl, chars, if◌then◌else◌}
 use Rattle.std.specs.Prelude.{option_map}
 use Rattle.logos_token.specs.Faults.{Fault}
 use Rattle.logos_type.specs.Parts.{Tree as TypeTree}
@@ -11,7 +11,7 @@ use Rattle.logos_attribute.specs.Told.{Told, telling, quiet, told_as}
 use Rattle.logos_definition.specs.Definitions.{DefinitionView}
 use Rattle.logos_subpattern.specs.PatternFaults.{Reading, spelled, broken, too_deep, Reads}
 use Rattle.logos_subpattern.specs.Substitution.{Stored}
-use Rattle.logos_leaf.specs.Leaves.{LeafView, bytes_of, speaks_of_text, escaped_of, leaf_with, token_priority, token_leaf, folded_told, token_told, IsTokenLeaf, greedy_faults, fitted_told, regex_priority, tree_told, reading_told, text_told, whole_told, regex_told, IsRegexLeaf}
+use Rattle.logos_leaf.specs.Leaves.{LeafView, bytes_of, speaks_of_text, escaped_of, leaf_with, token_priority, token_leaf, folded_told, IsTokenLeaf, greedy_faults, fitted_told, regex_priority, tree_told, reading_told, text_told, whole_told, regex_told, IsRegexLeaf}
 use Rattle.logos_leaf.proofs.agreement.Told.{Agree, none_added, told_once, no_front, no_behind}
 use Rattle.logos_leaf.proofs.agreement.Subpatterns.{reading_once}
 

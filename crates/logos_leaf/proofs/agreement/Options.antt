@@ -1,28 +1,19 @@
 -- Arguments and attributes that say options without a fault.
-use Rattle.std.proofs.Common.{◌≡◌, List, [], ◌∷◌, Bool, true, false, Option, Some, None, ◌∙◌, ap, sym, refl, subst}
+use Rattle.std.proofs.Common.{◌≡◌, List, [], Bool, true, false, Option, Some, None, ◌∙◌, ap, sym, refl, subst}
 use Rattle.logos_lexeme.specs.declared.lexeme.Span.{Span}
 use Rattle.logos_token.specs.Faults.{Fault}
 use Rattle.logos_token.specs.Tokens.{TokenList}
 use Rattle.logos_type_params.specs.TypeParams.{Value}
 use Rattle.logos_item.specs.AttributeValues.{AttributeValue}
 use Rattle.logos_attribute.specs.Slices.{Slice}
-use Rattle.logos_attribute.specs.Pieces.{PieceValue, grouped, keyed, Piece, pieces}
+use Rattle.logos_attribute.specs.Pieces.{PieceValue, Piece, pieces}
 use Rattle.logos_definition.specs.ErrorTypes.{ErrorView}
 use Rattle.logos_definition.specs.Options.{OptionsView, error_set}
-use Rattle.logos_definition.specs.Metas.{Meta, meta_of}
+use Rattle.logos_definition.specs.Metas.{Meta}
 use Rattle.logos_definition.specs.Arguments.{ErrorGroup, nothing, no_type, a_type, ErrorSays, alone, with_arguments, without_type, with_types, TypeSays, is_given, other_form, PieceSays, on_error, on_type, on_other, without_name, no_argument, PiecesSay, no_piece, one_more, ends}
 use Rattle.logos_definition.specs.Attributes.{MetaSays, no_arguments, with_arguments as a_group, AttributeSays, other_name, a_logos, is_logos}
-use Rattle.logos_leaf.proofs.agreement.Told.{Grows, Agree, grows_by, grows_same, grows_then, told_grows, none_before, never, told_once}
+use Rattle.logos_leaf.proofs.agreement.Told.{Grows, Agree, grows_by, grows_same, grows_then, told_grows, none_before, never, told_once, no_some, the_same, not_both}
 use Rattle.logos_leaf.proofs.agreement.Types.{read_grows, none_read, read_once, set_grows, set_once}
-
-no_some : {A : Type 0} {x : A} → Some x ≡ None → ⊥
-no_some e = cc
-
-the_same : {A : Type 0} {x y : A} → Some x ≡ Some y → x ≡ y
-the_same e = cc
-
-not_both : {b : Bool} → b ≡ true → b ≡ false → ⊥
-not_both e f = let k = sym e ∙ f in cc
 
 -- ---- the type of errors
 

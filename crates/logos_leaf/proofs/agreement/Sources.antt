@@ -1,5 +1,5 @@
 -- An enum without a fault says one thing.
-use Rattle.std.proofs.Common.{◌≡◌, ℕ, List, [], ◌∷◌, map, Option, Some, None, ◌∙◌, ap, sym, refl, subst}
+use Rattle.std.proofs.Common.{◌≡◌, List, [], map, ◌∙◌, ap, sym, refl, subst}
 use Rattle.logos_token.specs.Faults.{Fault}
 use Rattle.logos_token.specs.Tokens.{TokenList, run_span}
 use Rattle.logos_type_params.specs.SelfFaults.{AreChecked}
@@ -13,18 +13,12 @@ use Rattle.logos_subpattern.specs.Substitution.{Stored}
 use Rattle.logos_leaf.specs.Leaves.{LeafView}
 use Rattle.logos_leaf.specs.Variants.{VariantsAdd, SkipsAdd}
 use Rattle.logos_leaf.specs.Sources.{ParametersSay, no_parameter, one_parameter, AttributesSay, no_attribute, one_attribute, LeavesSay, SourceSays}
-use Rattle.logos_leaf.proofs.agreement.Told.{Grows, Agree, grows_by, grows_same, grows_then, told_grows, none_before, told_once}
+use Rattle.logos_leaf.proofs.agreement.Told.{Grows, Agree, grows_same, grows_then, told_grows, none_before, told_once, no_some, the_same}
 use Rattle.logos_leaf.proofs.agreement.Types.{are_checked_grow, are_checked_once, given_same}
 use Rattle.logos_leaf.proofs.agreement.Options.{attribute_grows, attribute_once}
 use Rattle.logos_leaf.proofs.agreement.Subpatterns.{are_added_grow, are_added_once}
 use Rattle.logos_leaf.proofs.agreement.Leaves.{shown}
 use Rattle.logos_leaf.proofs.agreement.Variants.{variants_grow, variants_once, skips_grow, skips_once}
-
-no_some : {A : Type 0} {x : A} → Some x ≡ None → ⊥
-no_some e = cc
-
-the_same : {A : Type 0} {x y : A} → Some x ≡ Some y → x ≡ y
-the_same e = cc
 
 parameters_grow : {o : OptionsView} {o' : OptionsView} {old new : List Fault} {list : List ParameterValue} → ParametersSay o o' old new list → Grows old new
 parameters_grow no_parameter = grows_same refl

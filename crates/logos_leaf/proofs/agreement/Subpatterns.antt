@@ -1,5 +1,5 @@
 -- Texts that are read as patterns, and subpatterns that are read without a fault.
-use Rattle.std.proofs.Common.{◌≡◌, ℕ, ◌<◌, ◌≤◌, List, [], ◌∷◌, ◌++◌, Bool, true, false, Option, Some, None, ◌∙◌, ap, sym, refl, arith, subst, chars, if◌then◌else◌}
+use Rattle.std.proofs.Common.{◌≡◌, ℕ, List, [], ◌++◌, Bool, true, false, Option, Some, None, ◌∙◌, ap, sym, refl, arith, subst, chars, if◌then◌else◌}
 use Rattle.logos_token.specs.Faults.{Fault}
 use Rattle.logos_hir.specs.Tree.{Tree}
 use Rattle.logos_syntax.specs.Grammar.{first_flags}
@@ -8,8 +8,8 @@ use Rattle.logos_attribute.specs.Literals.{NamedLiteral}
 use Rattle.logos_attribute.specs.Told.{Told, telling, and_then, only}
 use Rattle.logos_subpattern.specs.PatternFaults.{Reading, spelled, broken, too_deep, Reads}
 use Rattle.logos_subpattern.specs.Substitution.{Stored}
-use Rattle.logos_subpattern.specs.Subpatterns.{is_name, subpattern_name, test_told, text_told, reading_told, test_text, subpattern_told, IsAdded, AreAdded, ended, further}
-use Rattle.logos_leaf.proofs.agreement.Told.{Grows, Agree, grows_by, grows_same, grows_then, told_grows, none_before, none_added, told_once, no_front, no_behind}
+use Rattle.logos_subpattern.specs.Subpatterns.{is_name, subpattern_name, test_told, text_told, reading_told, IsAdded, AreAdded, ended, further}
+use Rattle.logos_leaf.proofs.agreement.Told.{Grows, Agree, grows_same, grows_then, told_grows, none_before, none_added, told_once, no_front, no_behind}
 
 -- a text that spells a tree is read so alone
 pub reading_once : (unicode ignore_case : Bool) (text : List ℕ) (tree : Tree) (other : Reading) → Reads unicode ignore_case text (spelled tree) → Reads unicode ignore_case text other → spelled tree ≡ other

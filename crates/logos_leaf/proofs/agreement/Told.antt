@@ -1,8 +1,21 @@
 -- Lists of faults that grow, and steps that list none.
-use Rattle.std.proofs.Common.{◌≡◌, List, [], ◌∷◌, ◌++◌, ◌∙◌, ap, sym, refl, append_assoc}
+use Rattle.std.proofs.Common.{◌≡◌, Bool, true, false, Some, None, List, [], ◌∷◌, ◌++◌, ◌∙◌, ap, sym, refl, append_assoc}
 use Rattle.std.proofs.lemmas.List.{append-nil}
 use Rattle.logos_token.specs.Faults.{Fault}
 use Rattle.logos_attribute.specs.Told.{Told, Tells}
+
+-- ---- what is not equal
+
+pub no_some : {A : Type 0} {x : A} → Some x ≡ None → ⊥
+no_some e = cc
+
+pub the_same : {A : Type 0} {x y : A} → Some x ≡ Some y → x ≡ y
+the_same e = cc
+
+pub not_both : {b : Bool} → b ≡ true → b ≡ false → ⊥
+not_both e f = let k = sym e ∙ f in cc
+
+-- ---- lists of faults
 
 -- faults were added behind a list
 pub record Grows (old new : List Fault) : Type 0 where

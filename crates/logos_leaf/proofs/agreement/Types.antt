@@ -1,20 +1,19 @@
 -- Types that are given and replaced without a fault.
-use Rattle.std.proofs.Common.{◌≡◌, ℕ, ◌<◌, List, [], ◌∷◌, ◌++◌, Bool, true, false, Option, Some, None, ◌∙◌, ap, sym, refl, arith, inl, inr, subst, if◌then◌else◌}
+use Rattle.std.proofs.Common.{◌≡◌, ℕ, List, [], ◌∷◌, ◌++◌, Bool, true, false, Option, Some, None, ◌∙◌, ap, sym, refl, arith, inl, inr, subst, if◌then◌else◌}
 use Rattle.std.specs.Str.{bytes_eq}
 use Rattle.std.proofs.lemmas.Slice.Eq.{bytes_eq-Decides}
 use Rattle.logos_lexeme.specs.declared.lexeme.Span.{Span}
 use Rattle.logos_token.specs.Faults.{Fault}
-use Rattle.logos_token.specs.Tokens.{TokenList, none, also, run_span}
+use Rattle.logos_token.specs.Tokens.{TokenList, run_span}
 use Rattle.logos_type.specs.Parts.{Tree, Trees}
-use Rattle.logos_type_reader.specs.TypeExprs.{IsTypeExpr, NoTypeExpr}
 use Rattle.logos_type_reader.proofs.ReadingLaws.{one_type, refused_type, not_less}
-use Rattle.logos_type_params.specs.Substitution.{ParamValue, Params, nothing, given, given_first, is_among, After, token, stays, named, put, inside, stays_still, AllAfter, none_after, also_after, Passes, name_here, type_here, put_inside, type_inside, still_here, SomePasses, first_passes, later_passes}
-use Rattle.logos_type_params.specs.SelfReference.{Leads, Has}
+use Rattle.logos_type_params.specs.Substitution.{ParamValue, Params, nothing, given, given_first, is_among, After, token, stays, named, put, inside, stays_still, AllAfter, none_after, also_after}
+use Rattle.logos_type_params.specs.SelfReference.{Has}
 use Rattle.logos_type_params.specs.SelfFaults.{IsChecked, declared_again, leads_on, leads_back, AreChecked, no_name, one_more}
-use Rattle.logos_type_params.specs.TypeParams.{Named, Given, Value, ReadsValue, is_type, goes_on, no_type, with_lifetimes, is_declared, former, given_more, given_faults, IsSet, no_value, undeclared, is_given}
+use Rattle.logos_type_params.specs.TypeParams.{Named, Value, ReadsValue, is_type, goes_on, no_type, with_lifetimes, is_declared, former, given_more, given_faults, IsSet, no_value, undeclared, is_given}
 use Rattle.logos_type_params.specs.WrittenTypes.{AreHeld, GetsType, replaced, as_written}
 use Rattle.logos_type_params.proofs.SubstitutionLaws.{one_after, deeper}
-use Rattle.logos_leaf.proofs.agreement.Told.{Grows, Agree, grows_by, grows_same, grows_then, none_before, never, none_added, added_none}
+use Rattle.logos_leaf.proofs.agreement.Told.{Grows, Agree, grows_by, grows_same, grows_then, none_before, never, none_added, added_none, no_some, the_same, not_both}
 
 -- ---- values that are types
 
@@ -43,15 +42,6 @@ set_grows (is_given r d n l t f) = grows_by _ f
 value_same : (v w : Value) → v.names ≡ w.names → v.types ≡ w.types → v.lifetime ≡ w.lifetime → v ≡ w
 value_same v w n t l = λ i. record { names = n i; types = t i; lifetime = l i }
 
-no_some : {A : Type 0} {x : A} → Some x ≡ None → ⊥
-no_some e = cc
-
-the_same : {A : Type 0} {x y : A} → Some x ≡ Some y → x ≡ y
-the_same e = cc
-
-not_both : {b : Bool} → b ≡ true → b ≡ false → ⊥
-not_both e f = let k = sym e ∙ f in cc
-
 module _ {v w w' : Value} {name : Named} {run : TokenList} {old new old' new' : List Fault} where
   given_once : {tree : Tree} → new ≡ [] → ReadsValue run (run_span run) old old (Some tree) → is_declared v.names name.text ≡ true → w.names ≡ v.names → w.lifetime ≡ v.lifetime →
       w.types ≡ given_more (former v.types name.text) (record { name = name; type = with_lifetimes tree; at = run_span run }) v.types → new ≡ old ++ given_faults (former v.types name.text) name →
@@ -59,9 +49,11 @@ module _ {v w w' : Value} {name : Named} {run : TokenList} {old new old' new' : 
   given_once e r d n l t f (no_value s g) = absurd (no_some (read_once r s).1)
   given_once e r d n l t f (undeclared s c g h) = absurd (not_both d c)
   given_once e r d n l t f (is_given s c m k u h) =
-      let same = the_same (read_once r s).1 in
-      (added_none h (none_added _ f e), value_same w w' (n ∙ sym m)
-      (t ∙ (ap (λ (x : Tree). given_more (former v.types name.text) (record { name = name; type = with_lifetimes x; at = run_span run }) v.types) same ∙ sym u)) (l ∙ sym k))
+      let same = the_same (read_once r s).1 in (
+        added_none h (none_added _ f e),
+        value_same w w' (n ∙ sym m)
+            (t ∙ (ap (λ (x : Tree). given_more (former v.types name.text) (record { name = name; type = with_lifetimes x; at = run_span run }) v.types) same ∙ sym u)) (l ∙ sym k),
+      )
 
   pub set_once : new ≡ [] → IsSet v name run old w new → IsSet v name run old' w' new' → Agree w w' old' new'
   set_once e (no_value r g) s = absurd (none_read r e)

@@ -1,18 +1,18 @@
 -- Leaves of variants and skips, without a fault.
-use Rattle.std.proofs.Common.{◌≡◌, ℕ, List, [], ◌∷◌, ◌++◌, map, length, codes, Bool, true, false, Option, Some, None, ◌∙◌, ap, sym, refl, subst}
+use Rattle.std.proofs.Common.{◌≡◌, ℕ, List, [], ◌∷◌, ◌++◌, map, codes, true, false, Option, Some, None, ◌∙◌, ap, sym, refl, subst}
 use Rattle.std.specs.Prelude.{option_map}
 use Rattle.std.specs.Option.{option_to_list}
 use Rattle.std.specs.Str.{bytes_eq}
 use Rattle.std.proofs.lemmas.List.{map-append}
 use Rattle.std.proofs.lemmas.Slice.Eq.{bytes_eq-Decides}
 use Rattle.logos_token.specs.Faults.{Fault}
-use Rattle.logos_token.specs.Tokens.{TokenList, run_span}
+use Rattle.logos_token.specs.Tokens.{TokenList}
 use Rattle.logos_token.specs.declared.token.Ident.{Ident}
 use Rattle.logos_type.specs.Parts.{Tree as TypeTree}
 use Rattle.logos_type_params.specs.Substitution.{Params, given}
 use Rattle.logos_item.specs.AttributeValues.{AttributeValue, SplitAttribute, attribute_in}
-use Rattle.logos_item.specs.EnumValues.{FieldValue, FieldsValue, VariantValue}
-use Rattle.logos_item.specs.Values.{Slice, ident_slice}
+use Rattle.logos_item.specs.EnumValues.{FieldsValue, VariantValue}
+use Rattle.logos_item.specs.Values.{ident_slice}
 use Rattle.logos_pattern.specs.Leaf.{KindValue, skipped}
 use Rattle.logos_attribute.specs.Told.{Tells}
 use Rattle.logos_definition.specs.Attributes.{meta_told}
@@ -20,19 +20,10 @@ use Rattle.logos_definition.specs.Definitions.{DefinitionView}
 use Rattle.logos_definition.specs.Metas.{Meta, meta_of}
 use Rattle.logos_subpattern.specs.Substitution.{Stored}
 use Rattle.logos_leaf.specs.Leaves.{LeafView, IsTokenLeaf, IsRegexLeaf}
-use Rattle.logos_leaf.specs.Variants.{HoldsType, holds, KindIs, no_field, empty, with_first, with_names, is_named, TokenGives, no_token, a_token, RegexGives, no_regex, a_regex, AttributeGives, on_error, on_token, on_regex, on_other, AttributesAdd, no_attribute, one_attribute, VariantAdds, VariantsAdd, no_variant, one_variant, SkipsAdd, no_skip, one_skip}
-use Rattle.logos_leaf.proofs.agreement.Told.{Grows, Agree, grows_by, grows_same, grows_then, told_grows, none_before, never, none_added, added_none, told_once}
+use Rattle.logos_leaf.specs.Variants.{holds, KindIs, no_field, empty, with_first, with_names, is_named, TokenGives, no_token, a_token, RegexGives, no_regex, a_regex, AttributeGives, on_error, on_token, on_regex, on_other, AttributesAdd, no_attribute, one_attribute, VariantAdds, VariantsAdd, no_variant, one_variant, SkipsAdd, no_skip, one_skip}
+use Rattle.logos_leaf.proofs.agreement.Told.{Grows, Agree, grows_by, grows_same, grows_then, told_grows, none_before, never, none_added, added_none, told_once, no_some, the_same, not_both}
 use Rattle.logos_leaf.proofs.agreement.Types.{gets_grows, gets_once}
 use Rattle.logos_leaf.proofs.agreement.Leaves.{ShownKind, shown_kind, Shown, shown, token_once, regex_once}
-
-no_some : {A : Type 0} {x : A} → Some x ≡ None → ⊥
-no_some e = cc
-
-the_same : {A : Type 0} {x y : A} → Some x ≡ Some y → x ≡ y
-the_same e = cc
-
-not_both : {b : Bool} → b ≡ true → b ≡ false → ⊥
-not_both e f = let k = sym e ∙ f in cc
 
 -- ---- kinds
 
