@@ -53,7 +53,7 @@ module _ {o : OptionsView} {variants : List VariantValue} {leaves others : List 
   types = a.given ∙ sym b.given
 
   after_skips : a.of_skips ≡ []
-  after_skips = none_before (variants_grow a.params a.params (λ text. refl) a.variants_add) n
+  after_skips = none_before (variants_grow a.variants_add) n
 
   after_subpatterns : a.of_subpatterns ≡ []
   after_subpatterns = none_before (skips_grow a.skips_add) after_skips
@@ -80,7 +80,7 @@ module _ {o : OptionsView} {variants : List VariantValue} {leaves others : List 
 
 leaves_grow : {o : OptionsView} {variants : List VariantValue} {leaves : List LeafView} {old new : List Fault} → LeavesSay o variants leaves old new → Grows old new
 leaves_grow a =
-    grows_then (are_checked_grow a.checked) (grows_then (are_added_grow a.subpatterns) (grows_then (skips_grow a.skips_add) (variants_grow a.params a.params (λ text. refl) a.variants_add)))
+    grows_then (are_checked_grow a.checked) (grows_then (are_added_grow a.subpatterns) (grows_then (skips_grow a.skips_add) (variants_grow a.variants_add)))
 
 pub source_once : {item : EnumValue} {o : OptionsView} {p : OptionsView} {leaves others : List LeafView} {faults : List Fault} → SourceSays item o leaves [] → SourceSays item p others faults →
     (faults ≡ []) × (o ≡ p) × (map shown leaves ≡ map shown others)

@@ -27,13 +27,13 @@ use Rattle.logos_leaf.proofs.agreement.Leaves.{ShownKind, shown_kind, Shown, sho
 
 -- ---- kinds
 
-module _ (p q : Params) (same : (text : List ℕ) → given p text ≡ given q text) where
-  kind_grows : {name : Ident} {old new : List Fault} {fields : FieldsValue} {kind : KindValue} → KindIs p name old new fields kind → Grows old new
-  kind_grows (no_field e) = grows_same e
-  kind_grows (empty l) = grows_by _ l
-  kind_grows (with_first m (holds g)) = grows_then (grows_by _ m) (gets_grows g)
-  kind_grows (with_names l) = grows_by _ l
+kind_grows : {p : Params} {name : Ident} {old new : List Fault} {fields : FieldsValue} {kind : KindValue} → KindIs p name old new fields kind → Grows old new
+kind_grows (no_field e) = grows_same e
+kind_grows (empty l) = grows_by _ l
+kind_grows (with_first m (holds g)) = grows_then (grows_by _ m) (gets_grows g)
+kind_grows (with_names l) = grows_by _ l
 
+module _ (p q : Params) (same : (text : List ℕ) → given p text ≡ given q text) where
   holding_same : (a b : Ident) {t u : TypeTree} → ident_slice a ≡ ident_slice b → t ≡ u → ◌≡◌ {A = ShownKind} (Some (ident_slice a, Some t)) (Some (ident_slice b, Some u))
   holding_same a b e f = λ i. Some (e i, Some (f i))
 
@@ -136,14 +136,14 @@ module _ {kind other : KindValue} (alike : shown_kind kind ≡ shown_kind other)
 
 -- ---- variants
 
+variant_grows : {p : Params} {names : List Stored} {variant : VariantValue} {before behind : List LeafView} {old new : List Fault} → VariantAdds p names variant before behind old new → Grows old new
+variant_grows a = grows_then (kind_grows a.is_kind) (attributes_grow a.add)
+
+pub variants_grow : {p : Params} {names : List Stored} {list : List VariantValue} {before behind : List LeafView} {old new : List Fault} → VariantsAdd p names list before behind old new → Grows old new
+variants_grow no_variant = grows_same refl
+variants_grow (one_variant a rest) = grows_then (variant_grows a) (variants_grow rest)
+
 module _ (p q : Params) (same : (text : List ℕ) → given p text ≡ given q text) where
-  variant_grows : {names : List Stored} {variant : VariantValue} {before behind : List LeafView} {old new : List Fault} → VariantAdds p names variant before behind old new → Grows old new
-  variant_grows a = grows_then (kind_grows p q same a.is_kind) (attributes_grow a.add)
-
-  pub variants_grow : {names : List Stored} {list : List VariantValue} {before behind : List LeafView} {old new : List Fault} → VariantsAdd p names list before behind old new → Grows old new
-  variants_grow no_variant = grows_same refl
-  variants_grow (one_variant a rest) = grows_then (variant_grows a) (variants_grow rest)
-
   variant_once : {names : List Stored} {variant : VariantValue} {before behind before' behind' : List LeafView} {old new old' new' : List Fault} → map shown before ≡ map shown before' → new ≡ [] →
       VariantAdds p names variant before behind old new → VariantAdds q names variant before' behind' old' new' → Agree (map shown behind) (map shown behind') old' new'
   variant_once e n a b =
