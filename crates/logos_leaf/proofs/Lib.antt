@@ -1,1 +1,2 @@
 mod VariantLemmas
+mod agreement
