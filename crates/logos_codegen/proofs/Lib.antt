@@ -1,5 +1,6 @@
 pub mod RefusalLemmas
 pub mod Listing
+pub mod ShownLemmas
 pub mod AcceptLemmas
 pub mod GraphLemmas
 pub mod LexLemmas

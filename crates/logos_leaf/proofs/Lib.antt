@@ -1,2 +1,2 @@
 mod VariantLemmas
-mod agreement
+pub mod agreement

@@ -1,2 +1,2 @@
-mod ModeLemmas
-mod RefusalLemmas
+pub mod ModeLemmas
+pub mod RefusalLemmas
