@@ -4,9 +4,9 @@ use Rattle.logos_type.specs.Parts.{name as just_name}
 use Rattle.logos_type.specs.TypeTrees.{type_tree}
 use Rattle.logos_parser.specs.Values.{Slice, ident_slice}
 use Rattle.logos_pattern.specs.declared.leaf.Leaf.{Leaf}
-use Rattle.logos_generator.specs.Code.{CodeValue}
+use Rattle.logos_code.specs.Code.{CodeValue}
 use Rattle.logos_generator.specs.GeneratorValue.{leaf_value, code_leaf_value}
-use Rattle.logos_generator.specs.declared.generator.Config.{Config}
+use Rattle.logos_code.specs.declared.code.Config.{Config}
 
 -- The code keeps the shape, the name of the enum, which is its type too, and what becomes of the matches of each leaf. Nothing is called on an error.
 pub record KeepsSource (config : Config) (enum : Slice) (given : List Leaf) (code : CodeValue) : Type 0 where

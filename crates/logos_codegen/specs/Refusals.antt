@@ -6,7 +6,7 @@ use Rattle.logos_lexeme.specs.declared.lexeme.Span.{Span}
 use Rattle.logos_parser.specs.declared.parser.ReadError.{ReadError}
 use Rattle.logos_parser.specs.declared.parser.ReadError.TheVariants.{NotAnEnum, Grammar, Memory as NoMemoryToRead}
 use Rattle.logos_automaton.specs.Munch.{Rule}
-use Rattle.logos_generator.specs.Code.{CodeValue}
+use Rattle.logos_code.specs.Code.{CodeValue}
 use Rattle.logos_codegen.specs.Source.{IsAccepted, IsRefused}
 use Rattle.logos_codegen.specs.declared.refusal.Refusal.{Refusal}
 use Rattle.logos_codegen.specs.declared.refusal.Refusal.TheVariants as refusals

@@ -7,7 +7,7 @@ ghost use Rattle.logos_automaton.specs.Errors.{fault_of};
 ghost use Rattle.logos_graph.specs.GraphOf.{IsGraphOf};
 ghost use Rattle.logos_graph.specs.View.{rules_of};
 ghost use Rattle.logos_generator.specs.GeneratorValue.{KeepsGiven};
-ghost use Rattle.logos_generator.specs.Headline.{IsLexer};
+ghost use Rattle.logos_code.specs.Headline.{IsLexer};
 ghost use Rattle.logos_text.specs.Standing.{StandInOrder};
 ghost use Rattle.logos_text.specs.Texts.{texts_of};
 ghost use Rattle.logos_codegen.specs.Texts.{named_leaf, listed_of};
