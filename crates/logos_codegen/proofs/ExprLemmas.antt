@@ -4,13 +4,13 @@ use Rattle.logos_automaton.specs.Munch.{Use, Rule, ended, matched, failed, Finds
 use Rattle.logos_automaton.proofs.munch.Unique.{finds_one}
 use Rattle.logos_graph.specs.Found.{IsInput}
 use Rattle.logos_hir.specs.Text.{IsBytes}
-use Rattle.logos_generator.specs.Code.{CodeValue}
-use Rattle.logos_generator.specs.Headline.{IsLexer}
-use Rattle.logos_generator.specs.LexerValue.{LexerValue, Gives, Ends}
-use Rattle.logos_generator.specs.Runs.{Runs, RunsOn}
-use Rattle.logos_generator.specs.declared.machine.Action.{Action}
-use Rattle.logos_generator.specs.declared.machine.Action.TheVariants.{Emit, Skip, Error}
-use Rattle.logos_generator.specs.Items.{Callback, Search, Item, token, error, asks, MayAnswer, items_of, over, match, fault, NextItem, passes, gives as gives_item, fails, Items, IsNext}
+use Rattle.logos_code.specs.Code.{CodeValue}
+use Rattle.logos_code.specs.Headline.{IsLexer}
+use Rattle.logos_machine.specs.LexerValue.{LexerValue, Gives, Ends}
+use Rattle.logos_code.specs.Runs.{Runs, RunsOn}
+use Rattle.logos_code.specs.declared.action.Action.{Action}
+use Rattle.logos_code.specs.declared.action.Action.TheVariants.{Emit, Skip, Error}
+use Rattle.logos_code.specs.Items.{Callback, Search, Item, token, error, asks, MayAnswer, items_of, over, match, fault, NextItem, passes, gives as gives_item, fails, Items, IsNext}
 use Rattle.logos_generator.proofs.Compose.{runs_iff, next_iff}
 use Rattle.logos_generator.proofs.InOrder.{best_within, stop_within}
 use Rattle.logos_codegen.specs.Source.{IsRefused}

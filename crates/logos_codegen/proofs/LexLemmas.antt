@@ -8,18 +8,18 @@ use Rattle.std.specs.List.{All}
 use Rattle.logos_hir.specs.Text.{IsBytes}
 use Rattle.logos_automaton.specs.Munch.{Use, Rule}
 use Rattle.logos_graph.specs.Found.{IsInput}
-use Rattle.logos_generator.specs.Code.{CodeValue}
-use Rattle.logos_generator.specs.Headline.{IsLexer, IsCut}
-use Rattle.logos_generator.specs.Items.{Callback, Search, Item, asks, MayAnswer, Lexes, over, match, fault, Items}
-use Rattle.logos_generator.specs.LexerValue.{LexerValue, Gives, Ends, item_of}
-use Rattle.logos_generator.specs.declared.machine.Item.{Item as TheItem}
-use Rattle.logos_generator.specs.declared.machine.Action.{Action}
-use Rattle.logos_generator.specs.declared.machine.Action.TheVariants.{Emit, Skip, Error}
+use Rattle.logos_code.specs.Code.{CodeValue}
+use Rattle.logos_code.specs.Headline.{IsLexer, IsCut}
+use Rattle.logos_code.specs.Items.{Callback, Search, Item, asks, MayAnswer, Lexes, over, match, fault, Items}
+use Rattle.logos_machine.specs.LexerValue.{LexerValue, Gives, Ends, item_of}
+use Rattle.logos_machine.specs.declared.machine.Item.{Item as TheItem}
+use Rattle.logos_code.specs.declared.action.Action.{Action}
+use Rattle.logos_code.specs.declared.action.Action.TheVariants.{Emit, Skip, Error}
 use Rattle.logos_hir.specs.Measure.{is_text}
 use Rattle.logos_attribute.specs.Told.{only}
 use Rattle.logos_leaf.specs.Leaves.{LeafView}
-use Rattle.logos_generator.specs.Order.{AreInOrder, Parts, IsMatch}
-use Rattle.logos_generator.specs.Runs.{CodeFinds, Runs}
+use Rattle.logos_code.specs.Order.{AreInOrder, Parts, IsMatch}
+use Rattle.logos_code.specs.Runs.{CodeFinds, Runs}
 use Rattle.logos_generator.proofs.Compose.{runs_iff}
 use Rattle.logos_generator.proofs.InOrder.{in_order, parted}
 use Rattle.logos_source.specs.Refusals.{IsMemory}

@@ -18,9 +18,9 @@ use Rattle.logos_source.specs.EnumTypes.{enum_type}
 use Rattle.logos_source.specs.Saying.{EnumSays}
 use Rattle.logos_graph.specs.GraphOf.{IsGraphOf}
 use Rattle.logos_graph.specs.View.{GraphValue}
-use Rattle.logos_generator.specs.Code.{CodeValue}
+use Rattle.logos_code.specs.Code.{CodeValue}
 use Rattle.logos_generator.specs.GeneratorValue.{leaf_value, code_leaf_value}
-use Rattle.logos_generator.specs.declared.generator.Config.{Config}
+use Rattle.logos_code.specs.declared.code.Config.{Config}
 
 -- The source says this enum without a fault, and the leaves of the graph are its leaves, in order; the mode of the graph is the source's; and it is the graph
 -- of these leaves, without a fault.

@@ -1,8 +1,8 @@
 -- The tokenizer of expressions, as its type keeps it.
 use Rattle.std.specs.Prelude.{Bool, List}
 use Rattle.logos_automaton.specs.Munch.{Rule}
-use Rattle.logos_generator.specs.Code.{CodeValue}
-use Rattle.logos_generator.specs.Headline.{IsLexer}
+use Rattle.logos_code.specs.Code.{CodeValue}
+use Rattle.logos_code.specs.Headline.{IsLexer}
 use Rattle.logos_codegen.specs.Source.{IsAccepted}
 use Rattle.logos_codegen.specs.declared.expr.TheConstants.{SOURCE}
 

@@ -2,8 +2,8 @@
 use Rattle.std.specs.Prelude.{◌≡◌, ℕ, ◌==◌, Bool, List, [], ◌∷◌, ◌++◌, map, Option, if◌then◌else◌, Result, Ok, Err, Vec}
 use Rattle.std.specs.Global.{Global}
 use Rattle.logos_automaton.specs.Munch.{Rule}
-use Rattle.logos_generator.specs.Items.{Callback, Item, token, error, Items, IsNext}
-use Rattle.logos_generator.specs.declared.machine.Action.TheVariants.{Emit}
+use Rattle.logos_code.specs.Items.{Callback, Item, token, error, Items, IsNext}
+use Rattle.logos_code.specs.declared.action.Action.TheVariants.{Emit}
 use Rattle.logos_codegen.specs.Source.{IsAccepted, IsRefused}
 use Rattle.logos_lexeme.specs.declared.lexeme.Span.{Span}
 use Rattle.logos_token.specs.Faults.{Fault as ListedFault}

@@ -2,7 +2,7 @@
 //! `Lexer`, by their contracts alone.
 
 ghost use Rattle.std.specs.Prelude.{◌≡◌, IfOk, IfErr};
-ghost use Rattle.logos_generator.specs.LexerValue.{item_of};
+ghost use Rattle.logos_machine.specs.LexerValue.{item_of};
 ghost use Rattle.logos_codegen.specs.Language.{IsLanguage};
 ghost use Rattle.logos_codegen.specs.Tokenizing.{kind_of, IsToken, IsErrorAt, Tokenizes, IsOutcome, Answers, IsRefusalOf};
 
@@ -125,7 +125,7 @@ impl Model for Language {
     ghost use Rattle.logos_type.specs.contracts.type_expr.Part as p;
     ghost use mir.Syntax.{named};
     ghost use Rattle.std.specs.Prelude.{[]};
-    ghost use Rattle.logos_generator.specs.Code.{CodeValue};
+    ghost use Rattle.logos_code.specs.Code.{CodeValue};
     ghost use Rattle.logos_codegen.specs.Language.{IsLanguage};
 
     ghost Value = { CodeValue };

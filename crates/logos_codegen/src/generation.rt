@@ -13,7 +13,7 @@ ghost use Rattle.logos_leaf.specs.Sources.{utf8_mode};
 ghost use Rattle.logos_graph.specs.GraphOf.{IsGraphOf};
 ghost use Rattle.logos_graph.specs.View.{rules_of};
 ghost use Rattle.logos_generator.specs.GeneratorValue.{KeepsGiven};
-ghost use Rattle.logos_generator.specs.Headline.{IsLexer};
+ghost use Rattle.logos_code.specs.Headline.{IsLexer};
 ghost use Rattle.logos_source.specs.Endings.{too_long};
 ghost use Rattle.logos_source.specs.Refusals.{Refuses, IsMemory};
 ghost use Rattle.logos_text.specs.Standing.{StandInOrder};

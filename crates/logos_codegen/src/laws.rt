@@ -4,11 +4,11 @@ ghost use Rattle.std.specs.Prelude.{◌≡◌, ℕ, ◌↔◌, Bool, true, List}
 ghost use Rattle.std.specs.List.{All};
 ghost use Rattle.logos_graph.specs.Found.{IsInput};
 ghost use Rattle.logos_automaton.specs.Munch.{Rule};
-ghost use Rattle.logos_generator.specs.Code.{CodeValue};
-ghost use Rattle.logos_generator.specs.Headline.{IsCut, IsLexer};
-ghost use Rattle.logos_generator.specs.Items.{Item};
-ghost use Rattle.logos_generator.specs.LexerValue.{answers_of};
-ghost use Rattle.logos_generator.specs.Runs.{Runs};
+ghost use Rattle.logos_code.specs.Code.{CodeValue};
+ghost use Rattle.logos_code.specs.Headline.{IsCut, IsLexer};
+ghost use Rattle.logos_code.specs.Items.{Item};
+ghost use Rattle.logos_machine.specs.LexerValue.{answers_of};
+ghost use Rattle.logos_code.specs.Runs.{Runs};
 ghost use Rattle.logos_codegen.specs.Source.{IsAccepted};
 
 use logos_generator::machine::Action;

@@ -4,11 +4,11 @@ ghost use Rattle.std.specs.Prelude.{◌≡◌, ℕ, List, Bool, map, length, tru
 ghost use Rattle.std.specs.List.{All};
 ghost use Rattle.std.specs.Str.{IsUtf8, IsValidUpTo};
 ghost use Rattle.logos_automaton.specs.Munch.{Rule};
-ghost use Rattle.logos_generator.specs.Headline.{IsCut};
-ghost use Rattle.logos_generator.specs.Items.{Items};
-ghost use Rattle.logos_generator.specs.LexerValue.{answers_of, item_of};
-ghost use Rattle.logos_generator.specs.Order.{AreInOrder, Parts, IsMatch};
-ghost use Rattle.logos_generator.specs.Runs.{Runs};
+ghost use Rattle.logos_code.specs.Headline.{IsCut};
+ghost use Rattle.logos_code.specs.Items.{Items};
+ghost use Rattle.logos_machine.specs.LexerValue.{answers_of, item_of};
+ghost use Rattle.logos_code.specs.Order.{AreInOrder, Parts, IsMatch};
+ghost use Rattle.logos_code.specs.Runs.{Runs};
 ghost use Rattle.logos_codegen.specs.Source.{IsAccepted, IsWithinLimits};
 ghost use Rattle.logos_codegen.specs.Refusals.{IsUnlexed, IsJust, IsNoRefusal};
 

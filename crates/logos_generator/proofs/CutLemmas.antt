@@ -11,10 +11,10 @@ use Rattle.logos_hir.specs.Tree.{Tree, empty, literal, byte_class, char_class, l
 use Rattle.logos_hir.specs.Matches.{Matches, Pieces, MatchesInOrder, SomeMatches}
 use Rattle.logos_hir.specs.Measure.{is_text, all_text}
 use Rattle.logos_automaton.specs.Munch.{Use, Rule, RuleMatches}
-use Rattle.logos_generator.specs.declared.machine.Action.{Action}
-use Rattle.logos_generator.specs.declared.machine.Action.TheVariants.{Emit, Skip, Error}
-use Rattle.logos_generator.specs.Headline.{IsCut}
-use Rattle.logos_generator.specs.Items.{Callback, Item, Items, token, items_of, over, match, fault}
+use Rattle.logos_code.specs.declared.action.Action.{Action}
+use Rattle.logos_code.specs.declared.action.Action.TheVariants.{Emit, Skip, Error}
+use Rattle.logos_code.specs.Headline.{IsCut}
+use Rattle.logos_code.specs.Items.{Callback, Item, Items, token, items_of, over, match, fault}
 
 both : (a b : Bool) → (a && b) ≡ true → (a ≡ true) × (b ≡ true)
 both true b e = (refl, e)
@@ -101,7 +101,7 @@ module _ (bytes : List ℕ) (valid : IsUtf8 bytes) where
 
     match_cut : (uses : List Use) (callback : Callback) (answer : Action) (leaf from to : ℕ) (rest : List Item) → IsCharBoundary bytes from → IsCharBoundary bytes to →
         Are rest → Are (items_of uses callback bytes answer leaf from to ++ rest)
-    match_cut uses callback Emit leaf from to rest cut end are = go (Rattle.logos_generator.specs.Items.skips uses callback bytes leaf)
+    match_cut uses callback Emit leaf from to rest cut end are = go (Rattle.logos_code.specs.Items.skips uses callback bytes leaf)
       where
         go : (b : Bool) → Are ((if b then [] else token leaf from to (slice_range bytes from to) ∷ []) ++ rest)
         go true = are

@@ -7,9 +7,9 @@ use Rattle.logos_places.specs.ByteRanges.{is_in}
 use Rattle.logos_graph.specs.Bytes.{bounds}
 use Rattle.logos_graph.specs.declared.byte_class.ByteClass.{ByteClass}
 use Rattle.logos_graph.specs.declared.graph.State.{State}
-use Rattle.logos_generator.specs.Code.{Condition, by_comparisons, by_test}
-use Rattle.logos_generator.specs.declared.code.Condition.{Condition as TheCondition}
-use Rattle.logos_generator.specs.CodeView.{branch_of}
+use Rattle.logos_code.specs.Code.{Condition, by_comparisons, by_test}
+use Rattle.logos_code.specs.declared.code.Condition.{Condition as TheCondition}
+use Rattle.logos_code.specs.CodeView.{branch_of}
 use Rattle.logos_graph.specs.FinishedGraph.{Edge}
 use Rattle.logos_graph.specs.GraphView.{edge_of, state_number}
 use Rattle.logos_generator.specs.Nodes.{hit, is_other, leads_beside, Extends, IsSetOf, IsTest, IsConditionOf, IsBranchOf, AreBranchesOf}

@@ -1,8 +1,8 @@
 -- What a graph finds, by the one walk of ScanLemmas.
 use Rattle.std.proofs.Common.{◌≡◌, ℕ, zero, suc, ◌+◌, ◌-◌, ◌<◌, ◌≤◌, ◌↔◌, ◌⊎◌, ⊎_elim, max, Bool, false, List, length, take, drop, Option, Some, None, IsTrue, IsCharBoundary, option_map, option_and_then, slice_get, nat_lt, refl, sym, ap, ◌∙◌, subst, arith, rules}
 use Rattle.logos_automaton.specs.Munch.{Found, ended, matched, failed}
-use Rattle.logos_generator.specs.Code.{CodeValue}
-use Rattle.logos_generator.specs.Runs.{marked, Acts}
+use Rattle.logos_code.specs.Code.{CodeValue}
+use Rattle.logos_code.specs.Runs.{marked, Acts}
 use Rattle.logos_reduce.specs.Edges.{StateType}
 use Rattle.logos_graph.specs.Graph.{GraphState, type_after}
 use Rattle.logos_graph.specs.Found.{mark_of, mark_after, GraphFinds, IsLastMark, CoversWalk}

@@ -4,10 +4,10 @@ use Rattle.std.proofs.lemmas.List.{length-drop}
 use Rattle.std.proofs.lemmas.Str.{IsCharBoundary-end}
 use Rattle.logos_automaton.specs.Munch.{Use, Rule, IsBest, IsStop}
 use Rattle.logos_automaton.proofs.munch.Unique.{rule_within}
-use Rattle.logos_generator.specs.declared.machine.Action.{Action}
-use Rattle.logos_generator.specs.declared.machine.Action.TheVariants.{Emit, Skip, Error}
-use Rattle.logos_generator.specs.Items.{Callback, Item, token, error, items_of, over, match, fault, Items}
-use Rattle.logos_generator.specs.Order.{AreInOrder, Parts, all_parted, token_part, error_part, part_left_out, IsMatch}
+use Rattle.logos_code.specs.declared.action.Action.{Action}
+use Rattle.logos_code.specs.declared.action.Action.TheVariants.{Emit, Skip, Error}
+use Rattle.logos_code.specs.Items.{Callback, Item, token, error, items_of, over, match, fault, Items}
+use Rattle.logos_code.specs.Order.{AreInOrder, Parts, all_parted, token_part, error_part, part_left_out, IsMatch}
 
 -- what is in order from a place on is so from an earlier one on
 pub in_order_earlier : (end at before : ℕ) (items : List Item) → before ≤ at → AreInOrder end at items → AreInOrder end before items

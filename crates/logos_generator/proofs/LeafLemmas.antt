@@ -7,10 +7,10 @@ use Rattle.logos_pattern.specs.declared.leaf.Leaf.{Leaf}
 use Rattle.logos_pattern.specs.declared.leaf.VariantKind.{VariantKind}
 use Rattle.logos_pattern.specs.declared.leaf.VariantKind.TheVariants.{Unit as UnitVariant, Value, Skip}
 use Rattle.logos_automaton.specs.Munch.{Use}
-use Rattle.logos_generator.specs.CodeView.{use_of}
+use Rattle.logos_code.specs.CodeView.{use_of}
 use Rattle.logos_generator.specs.GeneratorValue.{LeafValue, leaf_value, code_leaf_value}
 use Rattle.logos_generator.specs.StateView.{leaf_use}
-use Rattle.logos_generator.specs.declared.code.CodeLeaf.{CodeLeaf}
+use Rattle.logos_code.specs.declared.code.CodeLeaf.{CodeLeaf}
 
 -- one leaf more
 pub leaves_turn : (leaves : List Leaf) (i : ℕ) (d : Leaf) (old new : List CodeLeaf) (x : CodeLeaf) → i < length leaves → new ≡ old ++ x ∷ [] →

@@ -1,15 +1,7 @@
 pub mod Compose
-pub mod Examples
 pub mod InOrder
-pub mod CodeLemmas
-pub mod RowLemmas
-pub mod SignLemmas
-pub mod UseLemmas
-pub mod StandLemmas
-pub mod LexerLemmas
 pub mod SoundLemmas
 pub mod ScanLemmas
-pub mod StopLemmas
 pub mod FoundLemmas
 pub mod TurnLemmas
 pub mod RunLemmas
@@ -19,5 +11,4 @@ pub mod NodeLemmas
 pub mod MadeLemmas
 pub mod LeafLemmas
 pub mod CutLemmas
-pub mod LookLemmas
 pub mod NumberLemmas

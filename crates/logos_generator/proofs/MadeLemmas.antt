@@ -6,23 +6,23 @@ use Rattle.std.proofs.lemmas.Slice.Eq.{bytes_eq-Decides}
 use Rattle.std.proofs.lemmas.Map.Made.{AllPairs-from_IsDistinct}
 use Rattle.std.proofs.lemmas.List.{length-map}
 use Rattle.std.proofs.lemmas.Option.{slice_get-get_or, get_or_from_slice_get, slice_get_within, slice_get_cases, slice_get-map}
-use Rattle.logos_generator.proofs.StandLemmas.{All-slice_get}
+use Rattle.logos_code.proofs.TargetLemmas.{All-slice_get}
 use Rattle.std.proofs.lemmas.Bool.Decides.{eqb_tells}
 use Rattle.logos_reduce.specs.Edges.{StateType}
 use Rattle.logos_graph.specs.Graph.{GraphState}
 use Rattle.logos_places.specs.ByteRanges.{is_in}
-use Rattle.logos_generator.specs.Bytes.{passes_test}
-use Rattle.logos_generator.specs.Code.{CodeValue, CodeState}
-use Rattle.logos_generator.specs.Runs.{target}
-use Rattle.logos_generator.specs.Headline.{IsSound, IsRoot, IsEnd, IsLate, NamesWhatIsThere, NamesState}
-use Rattle.logos_generator.specs.Makes.{mark_by, mark_made, stays, Makes, IsLast, IsMade}
+use Rattle.logos_code.specs.Bytes.{passes_test}
+use Rattle.logos_code.specs.Code.{CodeValue, CodeState}
+use Rattle.logos_code.specs.Runs.{target, stays}
+use Rattle.logos_code.specs.Headline.{IsSound, IsRoot, IsEnd, IsLate, NamesWhatIsThere, NamesState}
+use Rattle.logos_generator.specs.Makes.{mark_by, mark_made, Makes, IsLast, IsMade}
 use Rattle.logos_graph.specs.FinishedGraph.{Edge, edge_leads, NamesLeaves, IsUnmarked, IsFinishedState, IsFirstState, IsFinished, IsLate as IsLateType}
 use Rattle.logos_generator.specs.Numbering.{HasNodesOf, bit_tables_of, tests_of}
 use Rattle.logos_generator.specs.Nodes.{leads_beside, tests_byte, IsTest, IsLoopOf, IsStateOf}
-use Rattle.logos_generator.specs.CodeView.{code_of, state_of, use_of, AreDifferent}
+use Rattle.logos_code.specs.CodeView.{code_of, state_of, use_of, AreDifferent}
 use Rattle.logos_generator.specs.StateView.{AreStatesOf}
-use Rattle.logos_generator.specs.declared.code.CodeState.{CodeState as TheState}
-use Rattle.logos_generator.specs.declared.code.CodeParts.{CodeParts}
+use Rattle.logos_code.specs.declared.code.CodeState.{CodeState as TheState}
+use Rattle.logos_code.specs.declared.code.CodeParts.{CodeParts}
 use Rattle.logos_generator.proofs.SoundLemmas.{pairs_differ}
 use Rattle.logos_generator.proofs.NodeLemmas.{fork_whole, found_edge, lead_among, test_at, fork_at, fork_among, fork_named, loop_named}
 

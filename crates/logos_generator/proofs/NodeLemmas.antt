@@ -6,14 +6,14 @@ use Rattle.std.proofs.Math.ListN.{get_or-eq_default}
 use Rattle.std.proofs.lemmas.Bool.Decides.{eqb_tells}
 use Rattle.logos_graph.specs.Graph.{GraphState}
 use Rattle.logos_places.specs.ByteRanges.{is_in}
-use Rattle.logos_generator.specs.Bytes.{passes_test}
-use Rattle.logos_generator.specs.Code.{CodeValue, Condition, by_comparisons, by_test, Fork, by_conditions, by_table}
-use Rattle.logos_generator.specs.Runs.{passes, target}
-use Rattle.logos_generator.specs.Headline.{NamesTest, NamesCondition, NamesState, NamesFork}
-use Rattle.logos_generator.specs.CodeView.{fork_of, state_of, jumps_of}
-use Rattle.logos_generator.specs.declared.code.Fork.{Fork as TheFork}
-use Rattle.logos_generator.specs.declared.code.Fork.TheVariants.{Conditions, Table}
-use Rattle.logos_generator.specs.declared.code.CodeState.{CodeState as TheState}
+use Rattle.logos_code.specs.Bytes.{passes_test}
+use Rattle.logos_code.specs.Code.{CodeValue, Condition, by_comparisons, by_test, Fork, by_conditions, by_table}
+use Rattle.logos_code.specs.Runs.{passes, target}
+use Rattle.logos_code.specs.Headline.{NamesTest, NamesCondition, NamesState, NamesFork}
+use Rattle.logos_code.specs.CodeView.{fork_of, state_of, jumps_of}
+use Rattle.logos_code.specs.declared.code.Fork.{Fork as TheFork}
+use Rattle.logos_code.specs.declared.code.Fork.TheVariants.{Conditions, Table}
+use Rattle.logos_code.specs.declared.code.CodeState.{CodeState as TheState}
 use Rattle.logos_graph.specs.FinishedGraph.{Edge, edge_leads}
 use Rattle.logos_generator.specs.Nodes.{is_other, leads_beside, Extends, IsSetOf, tests_byte, IsTest, IsConditionOf, IsBranchOf, AreBranchesOf, IsForkOf, IsLoopOf, IsStateOf}
 use Rattle.logos_generator.proofs.ForkLemmas.{IsTest-later, IsConditionOf-later, slice_get-Extends}

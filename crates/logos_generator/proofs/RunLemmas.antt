@@ -5,11 +5,11 @@ use Rattle.std.proofs.lemmas.Option.{slice_get_past}
 use Rattle.std.proofs.lemmas.Bool.Decides.{eqb_tells}
 use Rattle.logos_hir.specs.Text.{IsBytes}
 use Rattle.logos_automaton.specs.Munch.{Found, ended, matched, failed}
-use Rattle.logos_generator.specs.Code.{CodeValue, CodeState}
-use Rattle.logos_generator.specs.Runs.{Stand, Turn, enters, acts, returns, looped, turn, Does, Acts, Goes, goes_on, is_over, acts_on, Tries, CodeFinds}
+use Rattle.logos_code.specs.Code.{CodeValue, CodeState}
+use Rattle.logos_code.specs.Runs.{Stand, Turn, enters, acts, returns, looped, turn, Does, Acts, Goes, goes_on, is_over, acts_on, Tries, CodeFinds}
 use Rattle.logos_graph.specs.Graph.{GraphState}
 use Rattle.logos_graph.specs.Found.{GraphFinds}
-use Rattle.logos_generator.specs.Headline.{RunsAs}
+use Rattle.logos_code.specs.Headline.{RunsAs}
 use Rattle.logos_generator.specs.Makes.{Makes, IsMade}
 use Rattle.logos_generator.proofs.ScanLemmas.{mark_at, last_of, reach}
 use Rattle.logos_generator.proofs.FoundLemmas.{found_iff}

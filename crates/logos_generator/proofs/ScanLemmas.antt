@@ -1,8 +1,8 @@
 -- The last mark on the way through a graph, and how far it can be followed, by one walk over the rest of the input.
 use Rattle.std.proofs.Common.{◌≡◌, ℕ, zero, suc, ◌+◌, ◌<◌, ◌≤◌, ◌↔◌, ◌⊎◌, inl, inr, ⊎_elim, true, false, List, [], ◌∷◌, length, take, Option, Some, None, IsSome, option_map, option_and_then, slice_get, nat_lt, refl, ◌∙◌, arith, rules}
 use Rattle.std.specs.Option.{option_map_or}
-use Rattle.logos_generator.specs.Code.{Mark}
-use Rattle.logos_generator.specs.Runs.{marked}
+use Rattle.logos_code.specs.Code.{Mark}
+use Rattle.logos_code.specs.Runs.{marked}
 use Rattle.logos_graph.specs.Graph.{GraphState, next_by, next_at_end, walk, type_after}
 use Rattle.logos_generator.specs.Makes.{mark_made}
 

@@ -7,11 +7,11 @@ use Rattle.std.proofs.lemmas.List.Elements.{All-drop}
 use Rattle.std.proofs.lemmas.List.Sums.{take_while-cons}
 use Rattle.std.specs.List.{take_while}
 use Rattle.logos_hir.specs.Text.{IsBytes}
-use Rattle.logos_generator.specs.Bytes.{passes_test}
-use Rattle.logos_generator.specs.Code.{CodeValue, CodeState}
-use Rattle.logos_generator.specs.Runs.{Stand, Turn, enters, acts, marked, looped, target, forked, turn}
+use Rattle.logos_code.specs.Bytes.{passes_test}
+use Rattle.logos_code.specs.Code.{CodeValue, CodeState}
+use Rattle.logos_code.specs.Runs.{Stand, Turn, enters, acts, marked, looped, target, forked, turn, stays}
 use Rattle.logos_graph.specs.Graph.{GraphState, next_by, next_at_end}
-use Rattle.logos_generator.specs.Makes.{mark_made, led_by, stays, Makes, IsClosed}
+use Rattle.logos_generator.specs.Makes.{mark_made, led_by, Makes, IsClosed}
 use Rattle.logos_generator.proofs.ScanLemmas.{mark_at, passed, last_of, reach, last_of-remark, last_of-step, last_of-stuck, reach-step, reach-stuck}
 
 some_none : {A : Type 0} {a : A} → Some a ≡ None → ⊥

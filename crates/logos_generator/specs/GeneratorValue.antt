@@ -4,9 +4,9 @@ use Rattle.logos_type.specs.TypeTrees.{type_tree}
 use Rattle.logos_pattern.specs.Leaf.{CallbackValue, callback_value, KindValue, kind_value}
 use Rattle.logos_pattern.specs.declared.leaf.Leaf.{Leaf}
 use Rattle.logos_graph.specs.View.{GraphValue}
-use Rattle.logos_generator.specs.Code.{CodeValue}
-use Rattle.logos_generator.specs.declared.code.CodeLeaf.{CodeLeaf}
-use Rattle.logos_generator.specs.declared.code.Kept.{Kept}
+use Rattle.logos_code.specs.Code.{CodeValue}
+use Rattle.logos_code.specs.declared.code.CodeLeaf.{CodeLeaf}
+use Rattle.logos_code.specs.declared.code.Kept.{Kept}
 
 pub record GeneratorValue : Type 0 where
   pub given : Kept

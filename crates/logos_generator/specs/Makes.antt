@@ -1,8 +1,7 @@
 -- What a code value has for each state of a graph.
 use Rattle.std.specs.Prelude.{◌≡◌, ℕ, ◌<◌, Bool, true, false, List, Option, Some, None, option_map, if◌then◌else◌, slice_get, find}
-use Rattle.logos_generator.specs.Bytes.{passes_test}
-use Rattle.logos_generator.specs.Code.{CodeValue, CodeState, Mark}
-use Rattle.logos_generator.specs.Runs.{target}
+use Rattle.logos_code.specs.Code.{CodeValue, CodeState, Mark}
+use Rattle.logos_code.specs.Runs.{stays, target}
 use Rattle.logos_reduce.specs.Edges.{StateType}
 use Rattle.logos_graph.specs.Graph.{GraphState}
 use Rattle.logos_places.specs.ByteRanges.{is_in}
@@ -19,11 +18,6 @@ mark_made type = mark_by type.early type.accept
 -- where a byte leads in the graph
 abbrev pub led_by : GraphState → ℕ → Option ℕ
 led_by state b = option_map (λ edge. edge.1) (find (λ edge. is_in edge.0 b) state.normal)
-
--- the fast loop takes the byte
-abbrev pub stays : CodeValue → Option ℕ → ℕ → Bool
-stays code None b = false
-stays code (Some k) b = passes_test code.bit_tables k b
 
 -- where a byte leads in the code, the fast loop of state s counted
 abbrev pub leads : CodeValue → ℕ → CodeState → ℕ → Option ℕ

@@ -4,11 +4,11 @@ use Rattle.logos_graph.specs.Graph.{GraphState}
 use Rattle.logos_graph.specs.GraphView.{graph_state_of, state_number}
 use Rattle.logos_graph.specs.declared.graph.State.{State}
 use Rattle.logos_graph.specs.declared.graph.StateData.{StateData}
-use Rattle.logos_generator.specs.CodeView.{fork_of}
+use Rattle.logos_code.specs.CodeView.{fork_of}
 use Rattle.logos_generator.specs.GeneratorValue.{GeneratorValue}
 use Rattle.logos_generator.specs.Nodes.{Extends, IsForkOf, IsLoopOf, IsTest, left_out}
 use Rattle.logos_generator.specs.Numbering.{numbered, loop_uses, fork_uses}
-use Rattle.logos_generator.specs.declared.code.Fork.{Fork}
+use Rattle.logos_code.specs.declared.code.Fork.{Fork}
 use Rattle.logos_generator.specs.declared.generator.nodes.FastLoop.{FastLoop}
 
 -- The generator has what it was given, and each test and jump table that it had keeps its number.

@@ -5,7 +5,7 @@ use Rattle.logos_graph.specs.Graph.{GraphState}
 use Rattle.logos_places.specs.ByteRanges.{is_in}
 use Rattle.logos_graph.specs.FinishedGraph.{Edge}
 use Rattle.logos_graph.specs.Bytes.{Comparison, operations, joined, some_compares}
-use Rattle.logos_generator.specs.Code.{CodeState, Condition, by_comparisons, by_test, Fork, by_conditions, by_table}
+use Rattle.logos_code.specs.Code.{CodeState, Condition, by_comparisons, by_test, Fork, by_conditions, by_table}
 use Rattle.logos_generator.specs.Makes.{mark_made}
 
 -- the edge leads elsewhere than to s, by this byte

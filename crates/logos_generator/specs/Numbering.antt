@@ -10,7 +10,7 @@ use Rattle.logos_graph.specs.Graph.{GraphState}
 use Rattle.logos_places.specs.ByteRanges.{is_in}
 use Rattle.logos_graph.specs.FinishedGraph.{Edge}
 use Rattle.logos_graph.specs.Bytes.{joined}
-use Rattle.logos_generator.specs.Code.{CodeValue}
+use Rattle.logos_code.specs.Code.{CodeValue}
 use Rattle.logos_generator.specs.Nodes.{cost, tests_byte, IsStateOf}
 
 -- for each byte, whether it is in the ranges

@@ -6,9 +6,9 @@ use Rattle.logos_graph.specs.Graph.{GraphState}
 use Rattle.logos_automaton.specs.Munch.{Use}
 use Rattle.logos_graph.specs.View.{rule_of}
 use Rattle.logos_graph.specs.Bytes.{AreSeparated}
-use Rattle.logos_generator.specs.declared.code.CodeState.{CodeState as TheState}
-use Rattle.logos_generator.specs.CodeView.{state_of, AreDifferent}
-use Rattle.logos_generator.specs.Bytes.{passes_test}
+use Rattle.logos_code.specs.declared.code.CodeState.{CodeState as TheState}
+use Rattle.logos_code.specs.CodeView.{state_of, AreDifferent}
+use Rattle.logos_code.specs.Bytes.{passes_test}
 use Rattle.logos_generator.specs.Numbering.{tests_of, bit_tables_of}
 use Rattle.logos_generator.specs.Nodes.{tests_byte, IsStateOf}
 

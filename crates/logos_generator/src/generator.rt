@@ -2,7 +2,7 @@
 
 ghost use Rattle.std.specs.Prelude.{◌≡◌, [], IfOk, OnOk, OnErr, map, option_copied};
 ghost use Rattle.logos_graph.specs.View.{rule_of};
-ghost use Rattle.logos_generator.specs.Headline.{RunsAs};
+ghost use Rattle.logos_code.specs.Headline.{RunsAs};
 ghost use Rattle.logos_generator.specs.GeneratorValue.{IsCopy, KeepsGiven};
 ghost use Rattle.logos_generator.specs.Numbering.{HasNodesOf, tests_of};
 
@@ -12,8 +12,9 @@ mod nodes;
 mod states;
 mod tests_by_bits;
 
-use crate::code::{Code, Kept};
 use indexmap::IndexSet;
+pub use logos_code::code::Config;
+use logos_code::code::{Code, Kept};
 use logos_graph::graph::Graph;
 use logos_pattern::leaf::Callback;
 use logos_token::token::Ident;
@@ -22,13 +23,6 @@ pub use nodes::{FastLoop, FastLoopMacro, TakeAction, fast_loop_macro};
 use states::code_of;
 use std::alloc::{AllocError, Global};
 use std::marker::Model;
-
-/// The options of a generator.
-#[derive(Clone, Copy, Debug, PartialEq, Eq)]
-pub struct Config {
-    /// One loop over a state variable, in place of a function for each state. Both shapes give the same items.
-    pub use_state_machine_codegen: bool,
-}
 
 /// Makes the code of a graph without errors.
 #[derive(Drop)]

@@ -6,14 +6,14 @@ ghost use Rattle.logos_hir.specs.Measure.{is_text};
 ghost use Rattle.logos_graph.specs.Found.{FindsTheLongest, IsInput};
 ghost use Rattle.logos_automaton.specs.Munch.{Rule};
 ghost use Rattle.logos_graph.specs.View.{GraphValue, rule_of, rules_of};
-ghost use Rattle.logos_generator.specs.Code.{CodeValue};
-ghost use Rattle.logos_generator.specs.Headline.{IsCut, IsLexer, RunsAs};
-ghost use Rattle.logos_generator.specs.Items.{Item, Items, IsNext};
-ghost use Rattle.logos_generator.specs.LexerValue.{answers_of};
-ghost use Rattle.logos_generator.specs.Order.{AreInOrder, Parts, IsMatch};
-ghost use Rattle.logos_generator.specs.Runs.{Runs, RunsOn};
+ghost use Rattle.logos_code.specs.Code.{CodeValue};
+ghost use Rattle.logos_code.specs.Headline.{IsCut, IsLexer, RunsAs};
+ghost use Rattle.logos_code.specs.Items.{Item, Items, IsNext};
+ghost use Rattle.logos_machine.specs.LexerValue.{answers_of};
+ghost use Rattle.logos_code.specs.Order.{AreInOrder, Parts, IsMatch};
+ghost use Rattle.logos_code.specs.Runs.{Runs, RunsOn};
 
-use crate::machine::Action;
+use logos_code::action::Action;
 use logos_hir::leaf::LeafId;
 
 /// The items of maximal munch are not empty, they follow one another, and they lie within the

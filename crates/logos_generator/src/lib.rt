@@ -1,8 +1,9 @@
-//! Code values, and the machine that runs them.
+//! From graphs to code values. Code values and the machine that runs them are handed on.
 
 #![tactic(auto)]
 
-pub mod code;
 pub mod generator;
 pub mod laws;
-pub mod machine;
+
+pub use logos_code::code;
+pub use logos_machine::machine;

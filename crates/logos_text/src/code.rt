@@ -1,6 +1,6 @@
 //! The text of a whole code.
 ghost use Rattle.std.specs.Prelude.{IfOk, OnOk, string_bytes};
-ghost use Rattle.logos_generator.specs.CodeView.{code_of};
+ghost use Rattle.logos_code.specs.CodeView.{code_of};
 ghost use Rattle.logos_text.specs.Standing.{Adds, Grows, StandInOrder};
 ghost use Rattle.logos_text.specs.Texts.{texts_in, texts_of};
 
@@ -12,7 +12,7 @@ use crate::names::Names;
 use crate::pieces::push;
 use crate::states::{push_closing, push_opening, push_states};
 use crate::tables::push_tables;
-use logos_generator::code::{Code, CodeParts};
+use logos_code::code::{Code, CodeParts};
 use logos_token::error::Memory;
 use logos_type::print_type;
 use std::alloc::Global;

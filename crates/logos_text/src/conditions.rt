@@ -2,12 +2,11 @@
 ghost use Rattle.std.specs.Prelude.{◌≡◌, ◌++◌, ◌∷◌, [], ◌==◌, ◌<◌, OnOk, map, codes, string_bytes};
 ghost use Rattle.std.specs.List.{flat_map, join_by};
 ghost use Rattle.logos_graph.specs.Bytes.{comparison_of};
-ghost use Rattle.logos_generator.specs.CodeView.{condition_of};
+ghost use Rattle.logos_code.specs.CodeView.{condition_of};
 ghost use Rattle.logos_text.specs.Texts.{is_quoted, end_text, exception_text, single_text, between_text, comparison_text, bit_text, test_text, transition_text, condition_text};
 
 use crate::pieces::push_str;
-use logos_generator::code::Condition;
-use logos_generator::generator::Config;
+use logos_code::code::{Condition, Config};
 use logos_graph::byte_class::Comparisons;
 use logos_token::error::Memory;
 

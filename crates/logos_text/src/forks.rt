@@ -1,13 +1,12 @@
 //! The text of forks.
 ghost use Rattle.std.specs.Prelude.{◌∷◌, [], OnOk, map, string_bytes};
-ghost use Rattle.logos_generator.specs.CodeView.{branch_of, fork_of};
+ghost use Rattle.logos_code.specs.CodeView.{branch_of, fork_of};
 ghost use Rattle.logos_text.specs.Standing.{Adds, Grows};
 ghost use Rattle.logos_text.specs.Texts.{branch_text, fork_texts};
 
 use crate::conditions::{push_condition, push_transition};
 use crate::pieces::{comma_before, push};
-use logos_generator::code::{CodeParts, Condition, Fork, NOWHERE};
-use logos_generator::generator::Config;
+use logos_code::code::{CodeParts, Condition, Config, Fork, NOWHERE};
 use logos_token::error::Memory;
 use std::alloc::Global;
 

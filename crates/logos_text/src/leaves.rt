@@ -5,7 +5,7 @@ ghost use Rattle.logos_text.specs.Standing.{Grows};
 use crate::callbacks::push_call;
 use crate::names::Names;
 use crate::pieces::{comma_before, push};
-use logos_generator::code::CodeLeaf;
+use logos_code::code::CodeLeaf;
 use logos_pattern::leaf::VariantKind;
 use logos_token::error::Memory;
 use logos_type::print_type;

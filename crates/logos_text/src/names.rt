@@ -1,8 +1,7 @@
 //! The names that a text speaks of.
 ghost use Rattle.std.specs.Prelude.{◌≡◌};
 
-use logos_generator::code::CodeParts;
-use logos_generator::generator::Config;
+use logos_code::code::{CodeParts, Config};
 
 /// What all parts of a text print: its shape, the name of the enum, and the type that the enum is.
 #[derive(Clone, Copy)]

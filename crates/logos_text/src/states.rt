@@ -1,7 +1,7 @@
 //! The text of states.
 ghost use Rattle.std.specs.Prelude.{OnOk, map, string_bytes};
 ghost use Rattle.std.specs.List.{flat_map};
-ghost use Rattle.logos_generator.specs.CodeView.{state_of};
+ghost use Rattle.logos_code.specs.CodeView.{state_of};
 ghost use Rattle.logos_text.specs.Standing.{Adds, Grows};
 ghost use Rattle.logos_text.specs.Texts.{state_texts};
 
@@ -9,8 +9,7 @@ use crate::conditions::{push_bit, push_transition};
 use crate::forks::push_ways;
 use crate::names::Names;
 use crate::pieces::{comma_before, push};
-use logos_generator::code::{CodeParts, CodeState, Mark};
-use logos_generator::generator::Config;
+use logos_code::code::{CodeParts, CodeState, Config, Mark};
 use logos_token::error::Memory;
 use std::alloc::Global;
 

@@ -3,14 +3,14 @@ ghost use Rattle.std.specs.Prelude.{◌≡◌, ◌<◌, ◌≤◌, ◌↔◌, �
 ghost use Rattle.std.specs.List.{All, flat_map};
 ghost use Rattle.std.specs.Option.{option_or};
 ghost use Rattle.logos_graph.specs.Bytes.{ranges_of, has_byte, AreSeparated, comparison_of};
-ghost use Rattle.logos_generator.specs.CodeView.{condition_of, branch_of, entry_of, fork_of};
+ghost use Rattle.logos_code.specs.CodeView.{condition_of, branch_of, entry_of, fork_of};
 ghost use Rattle.logos_graph.specs.GraphView.{edge_of, state_number};
 ghost use Rattle.logos_generator.specs.Nodes.{hit, leads_beside, Extends, IsConditionOf, IsBranchOf, AreBranchesOf, IsForkOf, IsLoopOf, cost};
 ghost use Rattle.logos_generator.specs.Numbering.{numbered, loop_uses, condition_uses, branch_uses, fork_uses};
 
 use super::tests_by_bits::add_test;
-use crate::code::{Condition, Fork, NOWHERE};
 use indexmap::IndexSet;
+use logos_code::code::{Condition, Fork, NOWHERE};
 use logos_graph::byte_class::{ByteClass, Comparisons};
 use logos_graph::graph::State;
 use std::alloc::{AllocError, Global};

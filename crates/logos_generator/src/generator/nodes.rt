@@ -12,7 +12,7 @@ use super::Generator;
 use super::fork::{impl_fork, maybe_impl_fast_loop};
 use super::leaves::leaf_made;
 use super::tests_by_bits::{add_test, tables_of};
-use crate::code::{CodeLeaf, Fork, NOWHERE};
+use logos_code::code::{CodeLeaf, Fork, NOWHERE};
 use logos_graph::byte_class::ByteClass;
 use logos_graph::graph::{State, StateData};
 use logos_pattern::leaf::Leaf;

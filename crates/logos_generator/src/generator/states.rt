@@ -1,9 +1,9 @@
 //! The states of a code, made of a graph's states.
 ghost use Rattle.std.specs.Prelude.{◌≡◌, ◌<◌, [], IfOk, OnOk, length, map, option_map};
 ghost use Rattle.std.specs.List.{All, range_with_len};
-ghost use Rattle.logos_generator.specs.Headline.{RunsAs};
+ghost use Rattle.logos_code.specs.Headline.{RunsAs};
 ghost use Rattle.logos_generator.specs.Makes.{mark_made};
-ghost use Rattle.logos_generator.specs.CodeView.{mark_of, state_of};
+ghost use Rattle.logos_code.specs.CodeView.{mark_of, state_of};
 ghost use Rattle.logos_generator.specs.GeneratorValue.{code_leaf_value, leaf_value};
 ghost use Rattle.logos_graph.specs.FinishedGraph.{IsFinished};
 ghost use Rattle.logos_generator.specs.Nodes.{Extends, IsStateOf};
@@ -15,8 +15,8 @@ ghost use Rattle.logos_generator.specs.StateView.{leaf_use, AreStatesOf, AreTabl
 use super::fork::{impl_fork, maybe_impl_fast_loop};
 use super::leaves::leaves_of;
 use super::tests_by_bits::tables_of;
-use crate::code::{Code, CodeParts, CodeState, Kept, Mark};
 use indexmap::IndexSet;
+use logos_code::code::{Code, CodeParts, CodeState, Kept, Mark};
 use logos_graph::graph::{Graph, State, StateData, StateType, States};
 use std::alloc::{AllocError, Global};
 

@@ -4,7 +4,7 @@ ghost use Rattle.std.specs.Bool.{beq};
 ghost use Rattle.std.specs.Cmp.Lexicographic.{pointwise};
 ghost use Rattle.indexmap.specs.IndexSet.{insert_key};
 ghost use Rattle.logos_graph.specs.Bytes.{ranges_of};
-ghost use Rattle.logos_generator.specs.Bytes.{passes_test};
+ghost use Rattle.logos_code.specs.Bytes.{passes_test};
 ghost use Rattle.logos_generator.specs.Nodes.{Extends, IsTest, tests_byte};
 ghost use Rattle.logos_generator.specs.Numbering.{numbered, bits_from, bit_table, bit_tables_of};
 

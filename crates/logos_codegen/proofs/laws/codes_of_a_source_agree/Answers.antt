@@ -1,5 +1,5 @@
-use Rattle.logos_generator.specs.Headline.{IsLexer}
-use Rattle.logos_generator.specs.LexerValue.{answers_of}
+use Rattle.logos_code.specs.Headline.{IsLexer}
+use Rattle.logos_machine.specs.LexerValue.{answers_of}
 use Rattle.logos_generator.proofs.Compose.{runs_iff}
 use Rattle.logos_codegen.proofs.AcceptLemmas.{accepted_once}
 use Rattle.logos_codegen.proofs.laws.codes_of_a_source_agree.Goals as goal

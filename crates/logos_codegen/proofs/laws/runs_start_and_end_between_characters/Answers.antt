@@ -1,6 +1,6 @@
 use Rattle.std.proofs.Common.{true, refl}
 use Rattle.std.proofs.lemmas.Str.{IsCharBoundary-start}
-use Rattle.logos_generator.specs.LexerValue.{answers_of}
+use Rattle.logos_machine.specs.LexerValue.{answers_of}
 use Rattle.logos_generator.proofs.Compose.{runs_iff}
 use Rattle.logos_generator.proofs.CutLemmas.{items_cut}
 use Rattle.logos_codegen.proofs.LexLemmas.{accepted_texts}

@@ -1,6 +1,6 @@
 use Rattle.std.proofs.Common.{◌∙◌, map}
 use Rattle.std.proofs.lemmas.List.{map-append}
-use Rattle.logos_generator.specs.LexerValue.{answers_of, item_of}
+use Rattle.logos_machine.specs.LexerValue.{answers_of, item_of}
 use Rattle.logos_codegen.proofs.LexLemmas.{more_items, no_items}
 use Rattle.logos_codegen.proofs.lexing.lex_input.Goals as goal
 

@@ -1,7 +1,7 @@
 use Rattle.std.proofs.Common.{◌≡◌, ◌≤◌, ◌-◌, ◌++◌, List, map, length}
-use Rattle.logos_generator.specs.Items.{Item}
-use Rattle.logos_generator.specs.Runs.{Runs}
-use Rattle.logos_generator.specs.LexerValue.{answers_of, item_of}
+use Rattle.logos_code.specs.Items.{Item}
+use Rattle.logos_code.specs.Runs.{Runs}
+use Rattle.logos_machine.specs.LexerValue.{answers_of, item_of}
 use Rattle.logos_codegen.proofs.lexing.lex_input.Given as goal
 
 -- what goes on behind the items goes on from the start

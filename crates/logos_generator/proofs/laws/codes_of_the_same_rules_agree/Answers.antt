@@ -1,5 +1,5 @@
 use Rattle.logos_generator.proofs.Compose.{runs_iff}
-use Rattle.logos_generator.specs.LexerValue.{answers_of}
+use Rattle.logos_machine.specs.LexerValue.{answers_of}
 use Rattle.logos_generator.proofs.laws.codes_of_the_same_rules_agree.Goals as goal
 
 pub returns : goal.returns

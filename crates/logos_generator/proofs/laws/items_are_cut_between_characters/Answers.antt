@@ -1,7 +1,7 @@
 use Rattle.std.proofs.Common.{true, refl}
 use Rattle.logos_generator.proofs.Compose.{runs_iff}
 use Rattle.logos_generator.proofs.CutLemmas.{items_cut}
-use Rattle.logos_generator.specs.LexerValue.{answers_of}
+use Rattle.logos_machine.specs.LexerValue.{answers_of}
 use Rattle.logos_generator.proofs.laws.items_are_cut_between_characters.Goals as goal
 
 pub returns : goal.returns

@@ -1,5 +1,5 @@
 use Rattle.logos_generator.proofs.InOrder.{in_order}
-use Rattle.logos_generator.specs.LexerValue.{answers_of}
+use Rattle.logos_machine.specs.LexerValue.{answers_of}
 use Rattle.logos_generator.proofs.laws.items_are_in_order.Goals as goal
 
 pub returns : goal.returns

@@ -1,5 +1,5 @@
 use Rattle.logos_generator.proofs.Compose.{next_iff}
-use Rattle.logos_generator.specs.LexerValue.{answers_of}
+use Rattle.logos_machine.specs.LexerValue.{answers_of}
 use Rattle.logos_generator.proofs.laws.next_items_are_the_next.Goals as goal
 
 pub returns : goal.returns

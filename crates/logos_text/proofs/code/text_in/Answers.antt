@@ -1,5 +1,5 @@
 use Rattle.std.proofs.Common.{string_bytes, subst}
-use Rattle.logos_generator.specs.Code.{CodeValue}
+use Rattle.logos_code.specs.Code.{CodeValue}
 use Rattle.logos_text.specs.Standing.{StandInOrder}
 use Rattle.logos_text.specs.Texts.{texts_of}
 use Rattle.logos_text.proofs.TextLemmas.{adds_both, grows_behind, stand_whole}

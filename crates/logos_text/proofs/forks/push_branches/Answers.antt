@@ -1,5 +1,5 @@
 use Rattle.std.proofs.Common.{string_bytes, arith}
-use Rattle.logos_generator.specs.CodeView.{branch_of}
+use Rattle.logos_code.specs.CodeView.{branch_of}
 use Rattle.logos_text.specs.Texts.{branch_text}
 use Rattle.logos_text.proofs.TextLemmas.{texts_all, texts_more}
 use Rattle.logos_text.proofs.forks.push_branches.Goals as goal

@@ -1,5 +1,5 @@
 use Rattle.std.proofs.Common.{string_bytes, arith}
-use Rattle.logos_generator.specs.CodeView.{state_of}
+use Rattle.logos_code.specs.CodeView.{state_of}
 use Rattle.logos_text.specs.Texts.{state_texts}
 use Rattle.logos_text.proofs.TextLemmas.{lists_all, lists_more}
 use Rattle.logos_text.proofs.states.push_states.Goals as goal

@@ -1,6 +1,6 @@
 use Rattle.std.proofs.Common.{◌∙◌, ap, arith, map, subst, rules}
 use Rattle.std.proofs.lemmas.List.{map-append}
-use Rattle.logos_generator.specs.LexerValue.{item_of}
+use Rattle.logos_machine.specs.LexerValue.{item_of}
 use Rattle.logos_codegen.specs.Language.{IsLanguage}
 use Rattle.logos_codegen.specs.Tokenizing.{token_value}
 use Rattle.logos_codegen.proofs.LexLemmas.{are_bytes}

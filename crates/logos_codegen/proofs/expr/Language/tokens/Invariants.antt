@@ -1,6 +1,6 @@
 use Rattle.std.proofs.Common.{◌≡◌, ◌≤◌, ◌-◌, Bool, List, map, length}
 use Rattle.logos_automaton.specs.Munch.{Rule}
-use Rattle.logos_generator.specs.Headline.{IsLexer}
+use Rattle.logos_code.specs.Headline.{IsLexer}
 use Rattle.logos_codegen.specs.Tokenizing.{token_value}
 use Rattle.logos_codegen.proofs.ExprLemmas.{GoesOn}
 use Rattle.logos_codegen.proofs.expr.Language.tokens.Given as goal

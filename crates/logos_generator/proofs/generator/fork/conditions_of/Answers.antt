@@ -1,6 +1,6 @@
 use Rattle.std.proofs.Common.{◌≡◌, [], drop, map, append-nil, refl, arith}
 use Rattle.std.proofs.lemmas.List.{drop_all}
-use Rattle.logos_generator.specs.CodeView.{branch_of}
+use Rattle.logos_code.specs.CodeView.{branch_of}
 use Rattle.logos_graph.specs.GraphView.{edge_of}
 use Rattle.logos_generator.specs.Nodes.{AreBranchesOf}
 use Rattle.logos_generator.specs.Numbering.{branch_uses}

@@ -1,7 +1,7 @@
 use Rattle.std.proofs.Common.{◌≡◌, ℕ, Bool, List, ◌++◌, drop, map}
 use Rattle.std.specs.List.{flat_map}
-use Rattle.logos_generator.specs.Code.{Condition}
-use Rattle.logos_generator.specs.CodeView.{branch_of}
+use Rattle.logos_code.specs.Code.{Condition}
+use Rattle.logos_code.specs.CodeView.{branch_of}
 use Rattle.logos_graph.specs.GraphView.{edge_of}
 use Rattle.logos_generator.specs.Nodes.{Extends, AreBranchesOf}
 use Rattle.logos_generator.specs.Numbering.{numbered, branch_uses}

@@ -1,6 +1,6 @@
 use Rattle.std.proofs.Common.{◌∙◌, ◌≡◌, [], drop, slice_index, sym, arith}
 use Rattle.std.proofs.lemmas.List.{drop_all}
-use Rattle.logos_generator.specs.CodeView.{entry_of}
+use Rattle.logos_code.specs.CodeView.{entry_of}
 use Rattle.logos_generator.proofs.ForkLemmas.{hit_nothing, ranges_turn}
 use Rattle.logos_generator.proofs.generator.fork.fill_class.Goals as goal
 

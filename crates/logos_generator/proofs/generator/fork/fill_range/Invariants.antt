@@ -1,5 +1,5 @@
 use Rattle.std.proofs.Common.{◌≡◌, ℕ, ◌<◌, nat_le, nat_lt, ◌&&◌, slice_index, length, max, ◌+◌, ◌≤◌}
-use Rattle.logos_generator.specs.CodeView.{entry_of}
+use Rattle.logos_code.specs.CodeView.{entry_of}
 use Rattle.logos_generator.specs.Nodes.{hit}
 use Rattle.logos_generator.proofs.generator.fork.fill_range.Given as goal
 

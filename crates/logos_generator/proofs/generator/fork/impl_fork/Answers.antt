@@ -3,7 +3,7 @@ use Rattle.std.specs.Cmp.{unsigned_Decides}
 use Rattle.std.proofs.lemmas.List.{length-map, get_or-map}
 use Rattle.std.proofs.lemmas.Option.{get_or_from_slice_get}
 use Rattle.std.proofs.lemmas.Slice.Eq.{slice_eq-Decides}
-use Rattle.logos_generator.specs.CodeView.{entry_of}
+use Rattle.logos_code.specs.CodeView.{entry_of}
 use Rattle.logos_graph.specs.GraphView.{edge_of}
 use Rattle.logos_generator.proofs.generator.fork.impl_fork.Goals as goal
 

@@ -1,7 +1,7 @@
 use Rattle.std.proofs.Common.{ℕ, ap, map}
 use Rattle.std.specs.Option.{option_or}
 use Rattle.std.proofs.lemmas.List.{get_or-replicate, length-replicate}
-use Rattle.logos_generator.specs.CodeView.{entry_of}
+use Rattle.logos_code.specs.CodeView.{entry_of}
 use Rattle.logos_graph.specs.GraphView.{edge_of}
 use Rattle.logos_generator.specs.Nodes.{leads_beside}
 use Rattle.logos_generator.proofs.generator.fork.table_of.Goals as goal

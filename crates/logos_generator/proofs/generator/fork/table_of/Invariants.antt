@@ -1,6 +1,6 @@
 use Rattle.std.proofs.Common.{◌≡◌, ℕ, ◌<◌, slice_index, length, drop, map}
 use Rattle.std.specs.Option.{option_or}
-use Rattle.logos_generator.specs.CodeView.{entry_of}
+use Rattle.logos_code.specs.CodeView.{entry_of}
 use Rattle.logos_graph.specs.GraphView.{edge_of}
 use Rattle.logos_generator.specs.Nodes.{leads_beside}
 use Rattle.logos_generator.proofs.generator.fork.table_of.Given as goal

@@ -3,12 +3,12 @@ use Rattle.std.proofs.lemmas.List.{length-map}
 use Rattle.std.proofs.lemmas.Result.{IfOk-weaker}
 use Rattle.logos_pattern.specs.declared.leaf.Leaf.{Leaf}
 use Rattle.logos_graph.specs.FinishedGraph.{IsFinished}
-use Rattle.logos_generator.specs.CodeView.{code_of, use_of}
-use Rattle.logos_generator.specs.Headline.{RunsAs}
+use Rattle.logos_code.specs.CodeView.{code_of, use_of}
+use Rattle.logos_code.specs.Headline.{RunsAs}
 use Rattle.logos_generator.specs.Numbering.{HasNodesOf, tests_of}
 use Rattle.logos_generator.specs.StateView.{leaf_use}
-use Rattle.logos_generator.specs.declared.code.CodeLeaf.{CodeLeaf}
-use Rattle.logos_generator.specs.declared.code.CodeParts.{CodeParts}
+use Rattle.logos_code.specs.declared.code.CodeLeaf.{CodeLeaf}
+use Rattle.logos_code.specs.declared.code.CodeParts.{CodeParts}
 use Rattle.logos_generator.proofs.MadeLemmas.{parts_made, parts_nodes, parts_sound}
 use Rattle.logos_generator.proofs.RunLemmas.{runs_as}
 use Rattle.logos_generator.proofs.generator.states.code_of.Goals as goal

@@ -9,7 +9,7 @@ use Rattle.logos_graph.specs.Graph.{GraphState}
 use Rattle.logos_graph.specs.GraphView.{graph_state_of, state_number}
 use Rattle.logos_graph.specs.declared.graph.value.States.{States}
 use Rattle.logos_graph.specs.StatesView.{states_left}
-use Rattle.logos_generator.specs.CodeView.{state_of}
+use Rattle.logos_code.specs.CodeView.{state_of}
 use Rattle.logos_generator.specs.Nodes.{IsStateOf}
 use Rattle.logos_generator.specs.StateView.{IsCodable}
 use Rattle.logos_generator.specs.Numbering.{numbered, state_uses}

@@ -1,6 +1,6 @@
 use Rattle.std.proofs.Common.{◌≡◌, ℕ, ◌<◌, Some, length, drop, slice_get, IsSomeAnd}
 use Rattle.logos_graph.specs.Graph.{GraphState}
-use Rattle.logos_generator.specs.CodeView.{state_of}
+use Rattle.logos_code.specs.CodeView.{state_of}
 use Rattle.logos_generator.specs.Nodes.{IsStateOf}
 use Rattle.logos_generator.specs.Numbering.{numbered, uses_from}
 use Rattle.logos_generator.proofs.generator.states.states_of.Given as goal

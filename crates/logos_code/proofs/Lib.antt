@@ -1,0 +1,6 @@
+pub mod TargetLemmas
+pub mod CodeLemmas
+pub mod RowLemmas
+pub mod SignLemmas
+pub mod UseLemmas
+pub mod Examples

@@ -1,0 +1,43 @@
+-- A code value: what a lexer does in each state.
+use Rattle.std.specs.Prelude.{ℕ, Bool, List, Option}
+use Rattle.logos_automaton.specs.Munch.{Use}
+use Rattle.logos_graph.specs.Bytes.{Comparison}
+use Rattle.logos_code.specs.declared.code.CodeLeaf.{CodeLeaf}
+use Rattle.logos_code.specs.declared.code.Kept.{Kept}
+
+-- a match of this leaf ends here, or one byte before where it is late
+pub record Mark : Type 0 where
+  pub leaf : ℕ
+  pub late : Bool
+
+-- what a byte is tested by
+pub data Condition : Type 0 where
+  -- one of these holds
+  by_comparisons : List Comparison → Condition
+  -- the test with this number
+  by_test : ℕ → Condition
+
+-- where a byte leads
+pub data Fork : Type 0 where
+  -- to the state of the first condition that holds
+  by_conditions : List (Condition × ℕ) → Fork
+  -- to its entry in a table
+  by_table : List (Option ℕ) → Fork
+
+pub record CodeState : Type 0 where
+  -- the test of the bytes that stay in the state
+  pub fast_loop : Option ℕ
+  pub mark : Option Mark
+  pub fork : Fork
+  -- where the end leads
+  pub at_end : Option ℕ
+
+pub record CodeValue : Type 0 where
+  pub states : List CodeState
+  pub bit_tables : List (List ℕ)
+  pub leaves : List Use
+  pub root : ℕ
+  pub utf8 : Bool
+  -- no run reads these
+  pub kept : Kept
+  pub kept_leaves : List CodeLeaf

@@ -1,0 +1,89 @@
+-- What contracts see of a code value.
+use Rattle.std.specs.Prelude.{◌≡◌, ℕ, ◌<◌, Bool, not, List, [], map, length, false, Option, Some, None, option_map, if◌then◌else◌, ◌==◌, is_some, slice_index, slice_index_or, slice_get}
+use Rattle.std.specs.Int.Bits.{bit_and}
+use Rattle.std.specs.Option.{option_map_or}
+use Rattle.logos_pattern.specs.Leaf.{is_skip}
+use Rattle.logos_automaton.specs.Munch.{Use}
+use Rattle.logos_graph.specs.Bytes.{comparison_of}
+use Rattle.logos_code.specs.Code.{CodeValue, CodeState, Mark, Condition, by_comparisons, by_test, Fork, by_conditions, by_table}
+use Rattle.logos_code.specs.Headline.{IsSound}
+use Rattle.logos_code.specs.declared.code.Mark.{Mark as TheMark}
+use Rattle.logos_code.specs.declared.code.Condition.{Condition as TheCondition}
+use Rattle.logos_code.specs.declared.code.Condition.TheVariants.{Comparisons, Test}
+use Rattle.logos_code.specs.declared.code.Fork.{Fork as TheFork}
+use Rattle.logos_code.specs.declared.code.Fork.TheVariants.{Conditions, Table}
+use Rattle.logos_code.specs.declared.code.CodeState.{CodeState as TheState}
+use Rattle.logos_code.specs.declared.code.CodeLeaf.{CodeLeaf}
+use Rattle.logos_code.specs.declared.code.CodeParts.{CodeParts}
+
+abbrev pub mark_of : TheMark → Mark
+mark_of mark = record { leaf = mark.leaf.0; late = mark.late }
+
+abbrev pub condition_of : TheCondition → Condition
+condition_of (Comparisons all) = by_comparisons (map comparison_of all.items)
+condition_of (Test k) = by_test k
+
+abbrev pub branch_of : TheCondition × ℕ → Condition × ℕ
+branch_of branch = (condition_of branch.0, branch.1)
+
+-- an entry of a jump table is a state, or the number that stands for none
+abbrev pub entry_of : ℕ → Option ℕ
+entry_of entry = if entry == 4294967295 then None else Some entry
+
+abbrev pub jumps_of : List ℕ → List (Option ℕ)
+jumps_of table = map entry_of table
+
+-- a fork by the number of its jump table
+abbrev pub fork_of : List (List ℕ) → TheFork → Fork
+fork_of tables (Conditions all) = by_conditions (map branch_of all.items)
+fork_of tables (Table k) = by_table (jumps_of (slice_index_or tables k []))
+
+abbrev pub state_of : List (List ℕ) → TheState → CodeState
+state_of tables state = record {
+  fast_loop = state.fast_loop;
+  mark = option_map mark_of state.mark;
+  fork = fork_of tables state.fork;
+  at_end = state.at_end;
+}
+
+abbrev pub use_of : CodeLeaf → Use
+use_of leaf = record { skips = is_skip leaf.kind; asks = is_some leaf.callback }
+
+abbrev pub code_of : CodeParts → CodeValue
+code_of code = record {
+  states = map (state_of code.jump_tables.items) code.states.items;
+  bit_tables = code.bit_tables.items;
+  leaves = map use_of code.leaves.items;
+  root = code.root;
+  utf8 = code.utf8;
+  kept = code.kept;
+  kept_leaves = code.leaves.items;
+}
+
+-- a state without anything, for the states that are not there
+abbrev pub no_state : CodeState
+no_state = record { fast_loop = None; mark = None; fork = by_conditions []; at_end = None }
+
+abbrev pub state_at : CodeValue → ℕ → CodeState
+state_at code s = slice_index_or code.states s no_state
+
+-- a callback is asked for the matches of the leaf
+abbrev pub asks_for : CodeValue → ℕ → Bool
+asks_for code leaf = option_map_or (λ use_of. use_of.asks) (slice_get code.leaves leaf) false
+
+-- the matches of the leaf are left out
+abbrev pub skips_over : CodeValue → ℕ → Bool
+skips_over code leaf = option_map_or (λ use_of. use_of.skips) (slice_get code.leaves leaf) false
+
+-- one of the mask's bits stands in the table's entry for the byte
+abbrev pub has_mask : List ℕ → ℕ → ℕ → Bool
+has_mask table mask b = not (bit_and (slice_index table b) mask == 0)
+
+-- no two of the tables are equal
+abbrev pub AreDifferent : List (List ℕ) → Type 0
+AreDifferent tables = (i j : ℕ) → i < length tables → j < length tables → slice_get tables i ≡ slice_get tables j → i ≡ j
+
+-- what the type of a code value keeps
+pub record IsKept (code : CodeParts) : Type 0 where
+  pub sound : IsSound (code_of code)
+  pub once : AreDifferent code.jump_tables.items

@@ -1,0 +1,10 @@
+pub mod Bytes
+pub mod Code
+pub mod CodeView
+pub mod Runs
+pub mod Items
+pub mod Headline
+pub mod Order
+pub mod Signs
+pub mod Uses
+pub mod Rows

@@ -1,0 +1,303 @@
+//! Code values: what a lexer does in each state.
+ghost use Rattle.std.specs.Prelude.{◌≡◌, ◌<◌, length, option_map, option_copied, IfOk};
+ghost use Rattle.logos_code.specs.Headline.{IsSound};
+ghost use Rattle.logos_code.specs.CodeView.{entry_of, state_at, asks_for, skips_over, code_of, IsKept};
+ghost use Rattle.logos_code.specs.Runs.{target};
+ghost use Rattle.logos_code.specs.Rows.{IsRow, SaysAtEnd};
+ghost use Rattle.logos_code.specs.Signs.{mark_by};
+
+pub mod rows;
+pub mod signs;
+pub(crate) mod uses;
+
+use logos_graph::byte_class::Comparisons;
+use logos_hir::leaf::LeafId;
+use logos_pattern::leaf::{Callback, VariantKind};
+use logos_token::token::Ident;
+use logos_type::TypeExpr;
+use rows::{Step, rows_of};
+use signs::{Sign, signs_of};
+use std::alloc::{AllocError, Global};
+use std::marker::Model;
+use uses::{LeafUse, uses_of};
+
+/// A match of this leaf ends where the state is, or one byte before where it is late.
+#[derive(Clone, Copy, Debug, PartialEq, Eq)]
+pub struct Mark {
+    pub leaf: LeafId,
+    pub late: bool,
+}
+
+/// What a byte is tested by.
+#[derive(Drop)]
+pub enum Condition {
+    /// One of these holds.
+    Comparisons(Vec<Comparisons>),
+    /// The test with this number.
+    Test(usize),
+}
+
+/// Where a byte leads.
+#[derive(Drop)]
+pub enum Fork {
+    /// To the state of the first condition that holds.
+    Conditions(Vec<(Condition, usize)>),
+    /// To its entry in the jump table with this number.
+    Table(usize),
+}
+
+/// The entry of a jump table for a byte that leads nowhere.
+pub const NOWHERE: u32 = u32::MAX;
+
+/// What is done in a state: first its fast loop, then its mark, then its fork or, at the end of the input, its end branch.
+/// States are named by their numbers.
+#[derive(Drop)]
+pub struct CodeState {
+    /// The number of the test of the bytes that stay in the state.
+    pub fast_loop: Option<usize>,
+    pub mark: Option<Mark>,
+    pub fork: Fork,
+    /// Where the end of the input leads.
+    pub at_end: Option<usize>,
+}
+
+/// What becomes of the matches of a leaf.
+#[derive(Drop)]
+pub struct CodeLeaf<'s> {
+    pub kind: VariantKind<'s>,
+    /// What is called on a match, if anything is.
+    pub callback: Option<Callback<'s>>,
+}
+
+/// The options of a generator.
+#[derive(Clone, Copy, Debug, PartialEq, Eq)]
+pub struct Config {
+    /// One loop over a state variable, in place of a function for each state. Both shapes give the same items.
+    pub use_state_machine_codegen: bool,
+}
+
+/// What a code value keeps as its generator was given it.
+#[derive(Drop)]
+pub struct Kept<'s> {
+    /// The shape of its text.
+    pub shape: Config,
+    /// The name of the enum.
+    pub name: Ident<'s>,
+    /// The type that the enum is: its name, and what it is given.
+    pub this: TypeExpr<'s>,
+    /// What is called on an error, if anything is.
+    pub error_callback: Option<Callback<'s>>,
+}
+
+/// What a code value is made of: its nodes, and the tables that they name by number.
+#[derive(Drop)]
+pub struct CodeParts<'s> {
+    pub kept: Kept<'s>,
+    pub states: Vec<CodeState>,
+    /// Test number k is bit k mod 8 of the entries of table k / 8.
+    pub bit_tables: Vec<[u8; 256]>,
+    /// An entry for each byte: the state that it leads to, or `NOWHERE`.
+    pub jump_tables: Vec<[u32; 256]>,
+    /// What becomes of the matches of each leaf, in the order of their numbers.
+    pub leaves: Vec<CodeLeaf<'s>>,
+    /// The state in which each try begins.
+    pub root: usize,
+    /// Errors end between characters, and the input has to be UTF-8.
+    pub utf8: bool,
+}
+
+/// The code of a lexer. Each state, table, test and leaf that it names is there, and each jump table is there once.
+#[derive(Drop)]
+pub struct Code<'s> {
+    parts: CodeParts<'s>,
+    /// What each byte does in each state, so that running the code takes one look a byte.
+    rows: Vec<[u32; 256]>,
+    /// What the mark of each state says.
+    signs: Vec<Sign>,
+    /// What becomes of the matches of each leaf.
+    uses: Vec<LeafUse>,
+}
+
+impl<'s> Model for Code<'s> {
+    ghost use Rattle.std.specs.Coded.{codes};
+    ghost use Rattle.logos_type.specs.contracts.type_expr.Part as p;
+    ghost use mir.Syntax.{named};
+    ghost use Rattle.std.specs.Prelude.{[]};
+    ghost use Rattle.logos_code.specs.Code.{CodeValue};
+
+    ghost Value = { CodeValue };
+
+    ghost coded = { Prim.hlevel (codes, (p.the_row (record { mir = named 1; lft = [] })).coded) };
+
+    ghost use Rattle.logos_code.specs.CodeView.{code_of, IsKept};
+    ghost use Rattle.logos_code.specs.Rows.{AreRows};
+    ghost use Rattle.logos_code.specs.Signs.{mark_by, AreSigns};
+    ghost use Rattle.logos_code.specs.Uses.{use_by};
+    ghost use Rattle.std.specs.Prelude.{◌≡◌, map};
+
+    ghost view = { λ code. code_of code.parts };
+
+    ghost invariant = { λ code. IsKept code.parts × AreRows (code_of code.parts) code.rows.items × AreSigns (code_of code.parts) (map mark_by code.signs.items) × (map use_by code.uses.items ≡ (code_of code.parts).leaves) };
+}
+
+impl<'s> Code<'s> {
+    /// The code of these parts. All that they name has to be there, and no two of their jump tables equal. Only want of memory is an
+    /// error.
+    pub fn new(alloc: Global, parts: CodeParts<'s>) -> Result<Code<'s>, AllocError>
+        requires { IsKept parts }
+        ensures { IfOk result (λ code. code ≡ code_of parts.entry) }
+    {
+        let rows = rows_of(alloc, &parts)?;
+        let signs = signs_of(alloc, &parts)?;
+        let uses = uses_of(alloc, &parts)?;
+        Ok(Code {
+            parts,
+            rows,
+            signs,
+            uses,
+        })
+    }
+}
+
+impl<'s> Code<'s> {
+    /// The shape of its text.
+    pub fn shape(&self) -> Config
+        ensures { result ≡ self.now.kept.shape }
+    {
+        self.parts.kept.shape
+    }
+
+    /// The name of the enum.
+    pub fn name(&self) -> Ident<'s>
+        ensures { result ≡ self.now.kept.name }
+    {
+        self.parts.kept.name
+    }
+
+    /// The type that the enum is: its name, and what it is given.
+    pub fn this(&self) -> &TypeExpr<'s>
+        ensures { result.now ≡ self.now.kept.this }
+    {
+        &self.parts.kept.this
+    }
+
+    /// What the code is made of. Each state, table, test and leaf that is named there is there, and no two jump tables are equal.
+    pub fn parts(&self) -> &CodeParts<'s>
+        ensures is { code_of result.now ≡ self.now }
+        ensures keeps { IsKept result.now }
+    {
+        &self.parts
+    }
+
+    /// What is called on an error, if anything is.
+    pub fn error_callback(&self) -> Option<&Callback<'s>>
+        ensures { option_copied result ≡ self.now.kept.error_callback }
+    {
+        self.parts.kept.error_callback.as_ref()
+    }
+
+    /// What becomes of the matches of each leaf, in the order of their numbers.
+    pub fn leaves(&self) -> &[CodeLeaf<'s>]
+        ensures { result.now ≡ self.now.kept_leaves }
+    {
+        self.parts.leaves.as_slice()
+    }
+}
+
+impl Code<'_> {
+    /// The state in which each try begins.
+    pub fn root(&self) -> usize
+        ensures root { result ≡ self.now.root }
+        ensures sound { IsSound self.now }
+    {
+        self.parts.root
+    }
+
+    /// Whether errors end between characters, and the input has to be UTF-8.
+    pub fn is_utf8(&self) -> bool
+        ensures { result ≡ self.now.utf8 }
+    {
+        self.parts.utf8
+    }
+
+    /// The row of the state.
+    #[inline(always)]
+    pub fn row(&self, state: usize) -> &[u32; 256]
+        requires { state < length self.now.states }
+        ensures { IsRow self.now (state_at self.now state) result.now }
+    {
+        &self.rows[state]
+    }
+
+    /// Where the byte leads from the state.
+    pub fn target(&self, state: usize, byte: u8) -> Option<usize>
+        requires { state < length self.now.states }
+        ensures { result ≡ target self.now (state_at self.now state).fork byte }
+    {
+        self.parts.target(&self.parts.states[state].fork, byte)
+    }
+
+    /// What the end of the input does in the state.
+    #[inline(always)]
+    pub fn last_step(&self, state: usize) -> Step
+        requires { state < length self.now.states }
+        ensures says { SaysAtEnd (state_at self.now state) result }
+        ensures sound { IsSound self.now }
+    {
+        let _ = &self.parts;
+        if self.at_end(state).is_some() {
+            return Step::Unsaid;
+        }
+        match self.sign(state) {
+            Sign::Here(leaf) => Step::Halts(leaf),
+            _ => Step::Unsaid,
+        }
+    }
+
+    /// What the mark of the state says.
+    #[inline(always)]
+    pub fn sign(&self, state: usize) -> Sign
+        requires { state < length self.now.states }
+        ensures { mark_by result ≡ (state_at self.now state).mark }
+    {
+        self.signs[state]
+    }
+
+    /// Where the end of the input leads from the state.
+    #[inline(always)]
+    pub fn at_end(&self, state: usize) -> Option<usize>
+        requires { state < length self.now.states }
+        ensures { result ≡ (state_at self.now state).at_end }
+    {
+        self.parts.states[state].at_end
+    }
+
+    /// Whether a callback is asked for the matches of the leaf.
+    #[inline(always)]
+    pub fn asks(&self, leaf: LeafId) -> bool
+        requires { leaf.0 < length self.now.leaves }
+        ensures { result ≡ asks_for self.now leaf.0 }
+    {
+        self.uses[leaf.0].asks
+    }
+
+    /// Whether the matches of the leaf are left out.
+    #[inline(always)]
+    pub fn skips(&self, leaf: LeafId) -> bool
+        requires { leaf.0 < length self.now.leaves }
+        ensures { result ≡ skips_over self.now leaf.0 }
+    {
+        self.uses[leaf.0].skips
+    }
+}
+
+/// The state that an entry of a jump table stands for.
+fn target_of(entry: u32) -> Option<usize>
+    ensures { result ≡ entry_of entry }
+{
+    if entry == NOWHERE {
+        None
+    } else {
+        Some(entry as usize)
+    }
+}

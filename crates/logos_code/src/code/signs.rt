@@ -1,0 +1,41 @@
+//! Signs: what the mark of a state says, found by one look.
+ghost use Rattle.std.specs.Prelude.{◌≡◌, IfOk, map, option_map};
+ghost use Rattle.logos_code.specs.CodeView.{mark_of, code_of};
+ghost use Rattle.logos_code.specs.Signs.{mark_by, AreSigns};
+
+use super::{CodeParts, Mark};
+use logos_hir::leaf::LeafId;
+use std::alloc::{AllocError, Global};
+
+/// What the mark of a state says. Which of the three it is, a lexer finds by a branch, so it need not wait for the leaf.
+#[derive(Clone, Copy)]
+pub enum Sign {
+    /// There is none.
+    Nothing,
+    /// A match of this leaf ends where the state is.
+    Here(LeafId),
+    /// A match of this leaf ends one byte before.
+    Before(LeafId),
+}
+
+/// The signs of all states.
+pub(super) fn signs_of(alloc: Global, parts: &CodeParts) -> Result<Vec<Sign>, AllocError>
+    ensures { IfOk result (λ signs. AreSigns (code_of parts.now) (map mark_by signs.items)) }
+{
+    let mut signs = Vec::new(alloc);
+    for state in &parts.states {
+        signs.push(sign_of(state.mark))?;
+    }
+    Ok(signs)
+}
+
+/// What the mark says.
+fn sign_of(mark: Option<Mark>) -> Sign
+    ensures { mark_by result ≡ option_map mark_of mark }
+{
+    match mark {
+        Some(mark) if mark.late => Sign::Before(mark.leaf),
+        Some(mark) => Sign::Here(mark.leaf),
+        None => Sign::Nothing,
+    }
+}

@@ -1,0 +1,6 @@
+//! Code values: what a lexer does in each state, and what its runs are.
+
+#![tactic(auto)]
+
+pub mod action;
+pub mod code;

@@ -1,0 +1,4 @@
+pub mod StandLemmas
+pub mod StopLemmas
+pub mod LookLemmas
+pub mod LexerLemmas

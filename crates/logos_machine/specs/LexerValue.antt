@@ -1,0 +1,72 @@
+-- What contracts see of a lexer.
+use Rattle.std.specs.Prelude.{◌≡◌, ℕ, ◌+◌, ◌-◌, ◌<◌, ◌≤◌, List, [], ◌∷◌, length, slice_range, Option, option_map}
+use Rattle.std.specs.Option.{option_to_list}
+use Rattle.std.specs.Fn.{FnReturns}
+use denote.Param.Members.{Shared}
+use denote.Ref.{Bor}
+use Rattle.logos_code.specs.Code.{CodeValue}
+use Rattle.logos_automaton.specs.Munch.{Found}
+use Rattle.logos_code.specs.Items.{Callback, Item, token, error, MayAnswer, items_of}
+use Rattle.logos_code.specs.Runs.{Runs, RunsOn, Tries}
+use Rattle.logos_code.specs.declared.action.Action.{Action}
+use Rattle.logos_hir.specs.declared.leaf.LeafId.{LeafId}
+use Rattle.logos_machine.specs.declared.machine.Item.{Item as TheItem}
+use Rattle.logos_machine.specs.declared.machine.Item.TheVariants.{Token, Error}
+
+pub record LexerValue (C : Type 0) : Type 0 where
+  pub code : CodeValue
+  pub input : List ℕ
+  pub callback : C
+  pub from : ℕ
+  pub to : ℕ
+  pub steps : ℕ
+
+-- a lexer before its first item
+abbrev pub begun : {C : Type 0} → CodeValue → List ℕ → C → LexerValue C
+begun code input callback = record { code = code; input = input; callback = callback; from = 0; to = 0; steps = 0 }
+
+-- what the closure may answer to a leaf and a slice
+abbrev pub answers_of : {C : Type 0} → Shared C (LeafId × (Bor (List ℕ) × Unit {0})) Action → C → Callback
+answers_of g f leaf slice answer = (shown : Bor (List ℕ)) × (shown.now ≡ slice) × FnReturns g f (record { 0 = leaf }, (shown, tt)) answer
+
+-- A span of the input.
+abbrev pub HasSpan : {C : Type 0} → LexerValue C → Item → Type 0
+HasSpan lexer (token leaf from to slice) = (lexer.from ≡ from) × (lexer.to ≡ to)
+HasSpan lexer (error leaf from to slice) = (lexer.from ≡ from) × (lexer.to ≡ to)
+
+-- An item as definitions see it.
+abbrev pub item_of : TheItem → Item
+item_of (Token leaf span slice) = token leaf.0 span.from span.to slice.now
+item_of (Error leaf span slice) = error (option_map (λ l. l.0) leaf) span.from span.to slice.now
+
+-- What a call of `next` does: it gives the next item of the run, and stands behind it.
+pub record Gives {C : Type 0} (callback : Callback) (old new : LexerValue C) (item : Item) : Type 0 where
+  pub span : HasSpan new item
+  -- the item lies behind the last one, is nonempty, and ends in the input
+  pub behind : old.to ≤ new.from
+  pub nonempty : new.from < new.to
+  pub within : new.to ≤ length new.input
+  -- it is the next one from the old place on, whatever comes behind it
+  pub is : RunsOn old.code callback old.input old.to item new.to
+  pub next : (rest : List Item) → Runs new.code callback new.input new.to rest → Runs old.code callback old.input old.to (item ∷ rest)
+
+-- or it is over, and stands at the end of the input
+pub record Ends {C : Type 0} (callback : Callback) (old new : LexerValue C) : Type 0 where
+  pub from : new.from ≡ length new.input
+  pub to : new.to ≡ length new.input
+  pub over : Runs old.code callback old.input old.to []
+
+-- Code, input and callback stay. The last try entered as many states as are counted, at most two more than there are bytes
+-- from the span's start on.
+pub record Keeps {C : Type 0} (old new : LexerValue C) : Type 0 where
+  pub code : new.code ≡ old.code
+  pub input : new.input ≡ old.input
+  pub callback : new.callback ≡ old.callback
+  pub steps : (found : Found) × Tries new.code new.input new.from found new.steps
+  pub few : new.steps ≤ (length new.input - new.from) + 2
+
+-- what a match gives: the item, if the answer gives one
+pub record MatchGives (code : CodeValue) (callback : Callback) (bytes : List ℕ) (leaf from to : ℕ) (item : Option Item) : Type 0 where
+  pub answer : Action
+  pub may : MayAnswer code.leaves callback bytes leaf (slice_range bytes from to) answer
+  pub is : items_of code.leaves callback bytes answer leaf from to ≡ option_to_list item

@@ -1,0 +1,4 @@
+pub mod Stands
+pub mod Looks
+pub mod Attempts
+pub mod LexerValue

@@ -1,0 +1,5 @@
+//! The machine that runs code values.
+
+#![tactic(auto)]
+
+pub mod machine;

@@ -1,0 +1,234 @@
+//! What a run of a lexer gives.
+
+ghost use Rattle.std.specs.Prelude.{◌≡◌, ◌<◌, ◌≤◌, length, option_map, slice_range, MatchBool, MatchOption, IfOk, IfErr, IsTrue, IsUtf8, drop};
+ghost use Rattle.std.specs.Str.{IsValidUpTo};
+ghost use Rattle.logos_code.specs.CodeView.{asks_for};
+ghost use Rattle.logos_machine.specs.LexerValue.{answers_of, begun, item_of, Gives, Ends, Keeps, MatchGives};
+
+mod attempt;
+mod fast_loop;
+
+use attempt::{Found, attempt};
+pub use logos_code::action::Action;
+use logos_code::code::Code;
+use logos_hir::leaf::LeafId;
+use logos_token::token::Span;
+use std::marker::Model;
+
+/// A part of the input. Spans are byte offsets, and the slice is the input at the span.
+#[derive(Clone, Copy, Debug)]
+pub enum Item<'i> {
+    /// A match.
+    Token {
+        leaf: LeafId,
+        span: Span,
+        slice: &'i [u8],
+    },
+    /// Bytes that no leaf matches, without a leaf, or a match that the callback of its leaf refused.
+    Error {
+        leaf: Option<LeafId>,
+        span: Span,
+        slice: &'i [u8],
+    },
+}
+
+/// The input of a lexer in UTF-8 mode is not UTF-8.
+#[derive(Clone, Copy, Debug, PartialEq, Eq)]
+pub struct NotUtf8 {
+    /// The length in bytes of the longest beginning that is UTF-8.
+    pub valid_up_to: usize,
+}
+
+/// A run of a code value on an input. Items borrow the input alone, so they outlive the lexer.
+#[derive(Drop)]
+pub struct Lexer<'c, 's, 'i, C> {
+    code: &'c Code<'s>,
+    input: &'i [u8],
+    callback: C,
+    from: usize,
+    to: usize,
+    steps: usize,
+}
+
+impl<'c, 's, 'i, C> Model for Lexer<'c, 's, 'i, C> {
+    ghost use Rattle.std.specs.Coded.{codes};
+    ghost use Rattle.logos_type.specs.contracts.type_expr.Part as p;
+    ghost use mir.Syntax.{named};
+    ghost use Rattle.std.specs.Prelude.{◌≤◌, [], length};
+    ghost use Rattle.logos_machine.specs.LexerValue.{LexerValue};
+
+    ghost Value = { LexerValue C };
+
+    ghost coded = { Prim.hlevel (codes, (p.the_row (record { mir = named 1; lft = [] })).coded) };
+
+    ghost view = { λ l. record { code = l.code.now; input = l.input.now; callback = l.callback; from = l.from; to = l.to; steps = l.steps } };
+
+    ghost invariant = { λ l. (l.from ≤ l.to) × (l.to ≤ length l.input.now) };
+}
+
+impl<'c, 's, 'i, C: Fn(LeafId, &[u8]) -> Action> Lexer<'c, 's, 'i, C> {
+    /// A lexer at the start of a text. The callback is asked for the matches of the leaves that have one.
+    pub fn new_str(code: &'c Code<'s>, input: &'i str, callback: C) -> Lexer<'c, 's, 'i, C>
+        requires { C.IsAlwaysCallable callback }
+        ensures { result ≡ begun code.now input.now callback }
+    {
+        Lexer::start(code, input.as_bytes(), callback)
+    }
+
+    /// A lexer at the start of some bytes. In UTF-8 mode, and only there, they are refused if they are not UTF-8.
+    pub fn new_bytes(
+        code: &'c Code<'s>,
+        input: &'i [u8],
+        callback: C,
+    ) -> Result<Lexer<'c, 's, 'i, C>, NotUtf8>
+        requires { C.IsAlwaysCallable callback }
+        ensures accepted { IfOk result (λ lexer. (lexer ≡ begun code.now input.now callback) × (IsTrue code.now.utf8 → IsUtf8 input.now)) }
+        ensures refused { IfErr result (λ refusal. IsTrue code.now.utf8 × ¬ IsUtf8 input.now × IsValidUpTo input.now refusal.valid_up_to) }
+    {
+        if code.is_utf8() {
+            check_utf8(input)?;
+        }
+        Ok(Lexer::start(code, input, callback))
+    }
+
+    fn start(code: &'c Code<'s>, input: &'i [u8], callback: C) -> Lexer<'c, 's, 'i, C>
+        ensures { result ≡ begun code.now input.now callback }
+    {
+        Lexer {
+            code,
+            input,
+            callback,
+            from: 0,
+            to: 0,
+            steps: 0,
+        }
+    }
+
+    /// The next item, or `None` at the end of the input, and ever after.
+    #[inline(always)]
+    pub fn next(&mut self) -> Option<Item<'i>>
+        requires { C.IsAlwaysCallable self.old.callback }
+        ensures keeps { Keeps self.old self.new }
+        ensures item { MatchOption result (Ends (answers_of C.Fn self.old.callback) self.old self.new) (λ i. Gives (answers_of C.Fn self.old.callback) self.old self.new (item_of i)) }
+    {
+        loop {
+            let from = self.to;
+            let (found, steps) = attempt(self.code, self.input, from);
+            self.from = from;
+            self.steps = steps;
+            match found {
+                Found::Ended => return None,
+                Found::Failed(to) => {
+                    self.to = to;
+                    return Some(Item::Error {
+                        leaf: None,
+                        span: Span { from, to },
+                        slice: &self.input[from..to],
+                    });
+                }
+                Found::Matched(leaf, to) => {
+                    self.to = to;
+                    if let Some(item) = matched_item(
+                        self.code,
+                        self.input,
+                        &self.callback,
+                        leaf,
+                        Span { from, to },
+                    ) {
+                        return Some(item);
+                    }
+                }
+            }
+        }
+    }
+
+    /// The span of the last item: 0..0 before the first, and the empty span at the input's end after `None`.
+    pub fn span(&self) -> Span
+        ensures { result ≡ record { from = self.now.from; to = self.now.to } }
+    {
+        Span {
+            from: self.from,
+            to: self.to,
+        }
+    }
+
+    /// The input at the span of the last item.
+    pub fn slice(&self) -> &'i [u8]
+        ensures { result.now ≡ slice_range self.now.input self.now.from self.now.to }
+    {
+        &self.input[self.from..self.to]
+    }
+
+    /// The input behind the span of the last item.
+    pub fn remainder(&self) -> &'i [u8]
+        ensures { result.now ≡ drop self.now.to self.now.input }
+    {
+        &self.input[self.to..]
+    }
+
+    /// How many states the last try entered, 0 before the first.
+    pub fn steps(&self) -> usize
+        ensures { result ≡ self.now.steps }
+    {
+        self.steps
+    }
+}
+
+/// Whether the bytes are UTF-8, and else how long their longest beginning is that is.
+fn check_utf8(input: &[u8]) -> Result<(), NotUtf8>
+    ensures accepted { IfOk result (λ _. IsUtf8 input.now) }
+    ensures refused { IfErr result (λ refusal. ¬ IsUtf8 input.now × IsValidUpTo input.now refusal.valid_up_to) }
+{
+    match str::from_utf8(input) {
+        Ok(_) => Ok(()),
+        Err(error) => Err(NotUtf8 {
+            valid_up_to: error.valid_up_to(),
+        }),
+    }
+}
+
+/// The item that a match gives, if it is not skipped.
+#[inline(always)]
+fn matched_item<'i, C: Fn(LeafId, &[u8]) -> Action>(
+    code: &Code,
+    input: &'i [u8],
+    callback: &C,
+    leaf: LeafId,
+    span: Span,
+) -> Option<Item<'i>>
+    requires callable { C.IsAlwaysCallable callback.now }
+    requires leaf { leaf.0 < length code.now.leaves }
+    requires order { span.from ≤ span.to }
+    requires within { span.to ≤ length input.now }
+    ensures { MatchGives code.now (answers_of C.Fn callback.now) input.now leaf.0 span.from span.to (option_map item_of result) }
+{
+    let slice = &input[span.from..span.to];
+    match answer(code, callback, leaf, slice) {
+        Action::Emit if !code.skips(leaf) => Some(Item::Token { leaf, span, slice }),
+        Action::Error => Some(Item::Error {
+            leaf: Some(leaf),
+            span,
+            slice,
+        }),
+        _ => None,
+    }
+}
+
+/// What is answered to a match.
+#[inline(always)]
+fn answer<C: Fn(LeafId, &[u8]) -> Action>(
+    code: &Code,
+    callback: &C,
+    leaf: LeafId,
+    slice: &[u8],
+) -> Action
+    requires callable { C.IsAlwaysCallable callback.now }
+    requires leaf { leaf.0 < length code.now.leaves }
+    ensures { MatchBool (asks_for code.now leaf.0) (answers_of C.Fn callback.now leaf.0 slice.now result) (result ≡ Action.Emit) }
+{
+    if code.asks(leaf) {
+        callback(leaf, slice)
+    } else {
+        Action::Emit
+    }
+}

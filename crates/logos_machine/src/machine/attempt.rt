@@ -1,0 +1,246 @@
+//! One try: from a place of the input to a match, an error or the end.
+ghost use Rattle.std.specs.Prelude.{◌≡◌, ◌+◌, ◌-◌, ◌<◌, ◌≤◌, ℕ, max, length, slice_get, drop, option_map, IfSome, IsTrue, IsCharBoundary, ◌^◌, ◌↔◌};
+ghost use Rattle.logos_code.specs.CodeView.{state_at};
+ghost use Rattle.logos_code.specs.Signs.{mark_by};
+ghost use Rattle.logos_code.specs.Runs.{Does, Tries, EndsError, target, looped, marked};
+ghost use Rattle.logos_machine.specs.Stands.{IsStand, StaysWithin};
+ghost use Rattle.logos_machine.specs.Looks.{SeesBy, FindsSoon};
+ghost use Rattle.logos_machine.specs.Attempts.{context_of, stand_of, turn_of, found_of};
+
+use super::fast_loop::{first_stop, stop_in};
+use logos_code::code::Code;
+use logos_code::code::rows::{Step, step_of};
+use logos_code::code::signs::Sign;
+use logos_hir::leaf::LeafId;
+
+/// Where a try stands as it enters a state.
+#[derive(Clone, Copy)]
+pub(super) struct Stand {
+    pub state: usize,
+    pub offset: usize,
+    /// The last mark passed: its leaf, and where the match ends.
+    pub context: Option<(LeafId, usize)>,
+}
+
+/// What a state does.
+#[derive(Clone, Copy)]
+pub(super) enum Turn {
+    Enters(Stand),
+    /// The try is over at this offset.
+    Acts(Option<(LeafId, usize)>, usize),
+    /// The input is over, and nothing was read in this try.
+    Returns,
+}
+
+/// What a try finds.
+#[derive(Clone, Copy)]
+pub(super) enum Found {
+    Ended,
+    /// A match of this leaf up to this offset.
+    Matched(LeafId, usize),
+    /// No match; the error ends at this offset.
+    Failed(usize),
+}
+
+/// Where a state's fast loop ends.
+#[derive(Clone, Copy)]
+struct Stop {
+    offset: usize,
+    /// Where the byte there leads, if a byte is there.
+    target: Option<Option<usize>>,
+}
+
+/// What the state does that is entered there.
+#[inline]
+fn run_state(code: &Code, input: &[u8], start: usize, at: Stand) -> Turn
+    requires { IsStand code.now input.now start (stand_of at) }
+    ensures { Does code.now input.now start (stand_of at) (turn_of result) }
+{
+    let stop = stop_of(code, input, at.state, at.offset);
+    let target = match stop.target {
+        Some(target) => target,
+        None if at.state == code.root() && stop.offset == start => return Turn::Returns,
+        None => code.at_end(at.state),
+    };
+    let context = marked(code.sign(at.state), stop.offset, at.context);
+    match target {
+        Some(state) => Turn::Enters(Stand {
+            state,
+            offset: stop.offset + 1,
+            context,
+        }),
+        None => Turn::Acts(context, stop.offset),
+    }
+}
+
+/// Where the state's fast loop ends.
+#[inline]
+fn stop_of(code: &Code, input: &[u8], state: usize, offset: usize) -> Stop
+    requires { state < length code.now.states }
+    ensures offset { result.offset ≡ offset + looped code.now (state_at code.now state).fast_loop (drop offset input.now) }
+    ensures target { result.target ≡ option_map (target code.now (state_at code.now state).fork) (slice_get input.now result.offset) }
+    ensures within { result.offset ≤ max offset (length input.now) }
+{
+    if offset >= input.len() {
+        return Stop {
+            offset,
+            target: None,
+        };
+    }
+    match stop_in(code.row(state), &input[offset..]) {
+        Some((len, _)) => Stop {
+            offset: offset + len,
+            target: Some(code.target(state, input[offset + len])),
+        },
+        None => Stop {
+            offset: input.len(),
+            target: None,
+        },
+    }
+}
+
+/// The context behind a mark.
+#[inline]
+fn marked(sign: Sign, offset: usize, context: Option<(LeafId, usize)>) -> Option<(LeafId, usize)>
+    requires { IfSome (mark_by sign) (λ m. IsTrue m.late → 0 < offset) }
+    ensures { context_of result ≡ marked (mark_by sign) offset (context_of context) }
+{
+    match sign {
+        Sign::Here(leaf) => Some((leaf, offset)),
+        Sign::Before(leaf) => Some((leaf, offset - 1)),
+        Sign::Nothing => context,
+    }
+}
+
+/// Where an error ends that has come to the offset: behind a byte at least, and in UTF-8 mode behind a character.
+fn error_end(code: &Code, input: &[u8], start: usize, offset: usize) -> usize
+    requires start { start < length input.now }
+    requires offset { offset ≤ length input.now }
+    ensures ends { EndsError code.now input.now start offset result }
+    ensures within { result ≤ length input.now }
+{
+    let least = offset.max(start + 1);
+    if code.is_utf8() {
+        boundary_from(input, least)
+    } else {
+        least
+    }
+}
+
+/// The first boundary of characters from the offset on.
+fn boundary_from(input: &[u8], from: usize) -> usize
+    requires { from ≤ length input.now }
+    ensures past { from ≤ result }
+    ensures boundary { IsCharBoundary input.now result }
+    ensures least { (other : ℕ) → from ≤ other → IsCharBoundary input.now other → result ≤ other }
+{
+    let mut to = from;
+    while to < input.len() && is_continuation(input[to]) {
+        to += 1;
+    }
+    to
+}
+
+/// Whether the byte goes on with a character.
+fn is_continuation(byte: u8) -> bool
+    ensures { IsTrue result ↔ (128 ≤ byte) × (byte < 192) }
+{
+    matches!(byte, 0x80..=0xBF)
+}
+
+/// What is found from a place of the input on, and the number of states entered.
+#[inline(always)]
+pub(super) fn attempt(code: &Code, input: &[u8], start: usize) -> (Found, usize)
+    requires { start ≤ length input.now }
+    ensures tries { Tries code.now input.now start (found_of result.0) result.1 }
+    ensures within { StaysWithin code.now input.now start (found_of result.0) }
+    ensures few { result.1 ≤ (length input.now - start) + 2 }
+{
+    match match_soon(code, input, start) {
+        Some((leaf, to, steps)) => (Found::Matched(leaf, to), steps),
+        None => attempt_again(code, input, start),
+    }
+}
+
+/// A match that ends in the state in which the try does: no mark has to be kept for it. Its leaf, its end, and the
+/// number of states entered.
+#[inline(always)]
+fn match_soon(code: &Code, input: &[u8], start: usize) -> Option<(LeafId, usize, usize)>
+    requires { start ≤ length input.now }
+    ensures { IfSome result (λ r. FindsSoon code.now input.now start r.0.0 r.1 r.2) }
+{
+    let mut seen = look(code, input, code.root(), start)?;
+    let mut before = 0;
+    loop {
+        let (stop, entry) = seen;
+        match step_of(entry) {
+            Step::Leads(next) => match look(code, input, next, stop + 1) {
+                Some(later) => seen = later,
+                None => {
+                    return match code.last_step(next) {
+                        Step::Halts(leaf) => Some((leaf, input.len(), before + 2)),
+                        _ => None,
+                    };
+                }
+            },
+            Step::Closes(leaf) => return Some((leaf, stop + 1, before + 2)),
+            Step::Halts(leaf) => return Some((leaf, stop, before + 1)),
+            Step::Unsaid => return None,
+        }
+        before += 1;
+    }
+}
+
+/// Where the state's fast loop ends, and the entry of the byte there, if one is there.
+#[inline(always)]
+fn look(code: &Code, input: &[u8], state: usize, offset: usize) -> Option<(usize, u32)>
+    requires state { state < length code.now.states }
+    requires within { offset ≤ length input.now }
+    ensures { SeesBy code.now input.now state offset result }
+{
+    match first_stop(code.row(state), &input[offset..]) {
+        Some((len, entry)) => Some((offset + len, entry)),
+        None => None,
+    }
+}
+
+/// A try that keeps the marks passed, called apart. The room for what it gives is made here, so a try that needs no marks makes none.
+#[inline(always)]
+fn attempt_again(code: &Code, input: &[u8], start: usize) -> (Found, usize)
+    requires { start ≤ length input.now }
+    ensures tries { Tries code.now input.now start (found_of result.0) result.1 }
+    ensures within { StaysWithin code.now input.now start (found_of result.0) }
+    ensures few { result.1 ≤ (length input.now - start) + 2 }
+{
+    attempt_with_marks(code, input, start)
+}
+
+/// What is found from a place on, and the number of states entered, by a try that keeps the marks passed.
+#[inline(never)]
+fn attempt_with_marks(code: &Code, input: &[u8], start: usize) -> (Found, usize)
+    requires { start ≤ length input.now }
+    ensures tries { Tries code.now input.now start (found_of result.0) result.1 }
+    ensures within { StaysWithin code.now input.now start (found_of result.0) }
+    ensures few { result.1 ≤ (length input.now - start) + 2 }
+{
+    let mut at = Stand {
+        state: code.root(),
+        offset: start,
+        context: None,
+    };
+    let mut before = 0;
+    loop {
+        match run_state(code, input, start, at) {
+            Turn::Enters(next) => at = next,
+            Turn::Acts(Some((leaf, to)), _) => return (Found::Matched(leaf, to), before + 1),
+            Turn::Acts(None, offset) => {
+                return (
+                    Found::Failed(error_end(code, input, start, offset)),
+                    before + 1,
+                );
+            }
+            Turn::Returns => return (Found::Ended, before + 1),
+        }
+        before += 1;
+    }
+}
