@@ -54,12 +54,12 @@ enum_once enum leaves others rest other faults a b =
     let none = silent enum leaves rest a in
     let says : SourceSays enum a.read.options leaves [] = rw none.parts at a.read.says in
     let once = source_once says b.read.says in
-    let same : rest ≡ other = a.read.same ∙ ap without_skips once.1.0 ∙ sym b.read.same in
-    let text : utf8_faults (utf8_mode other) others ≡ [] = sym (same_faults (utf8_mode other) leaves others once.1.1) ∙ rw same at none.text in
+    let same : rest ≡ other = a.read.same ∙ ap without_skips once.1 ∙ sym b.read.same in
+    let text : utf8_faults (utf8_mode other) others ≡ [] = sym (same_faults (utf8_mode other) leaves others once.2) ∙ rw same at none.text in
     let types : type_faults other ≡ [] = rw same at none.types in (
       b.all ∙ ap (λ (xs : List ListedFault). (xs ++ utf8_faults (utf8_mode other) others) ++ type_faults other) once.0
           ∙ ap (λ (xs : List ListedFault). xs ++ type_faults other) text ∙ types,
-      same_rules leaves others once.1.1,
+      same_rules leaves others once.2,
       same,
     )
 
@@ -104,7 +104,7 @@ accepted_once source rules rules' utf8 utf8' a b =
     let same = one_value source a.enum b.enum a.item b.item a.says b.says in
     let says : EnumSays b.enum a.leaves a.rest [] = rw same.0 at a.enum_says in
     let once = enum_once b.enum a.leaves b.leaves a.rest b.rest [] says b.enum_says in
-    (a.same_rules ∙ once.1.0 ∙ sym b.same_rules, a.same_mode ∙ ap utf8_mode once.1.1 ∙ sym b.same_mode)
+    (a.same_rules ∙ once.1 ∙ sym b.same_rules, a.same_mode ∙ ap utf8_mode once.2 ∙ sym b.same_mode)
 
 -- a source without faults within the limits is not refused
 accepted_or_refused : (source : List ℕ) (rules : List Rule) (utf8 : Bool) (faults : List ListedFault) → IsAccepted source rules utf8 → IsWithinLimits source rules → IsRefused source faults → ⊥
@@ -113,7 +113,7 @@ accepted_or_refused source rules utf8 faults a limits (faulty {enum} {item} {lea
     let same = one_value source a.enum enum a.item item a.says says in
     let own : EnumSays enum a.leaves a.rest [] = rw same.0 at a.enum_says in
     let once = enum_once enum a.leaves leaves a.rest listed.rest listed.enum_faults own listed.says in
-    let rules_are : rules_in (map named_said leaves) ≡ rules_said a.leaves = said_rules leaves ∙ sym once.1.0 in
+    let rules_are : rules_in (map named_said leaves) ≡ rules_said a.leaves = said_rules leaves ∙ sym once.1 in
     let faultless : AreFaults (rules_in (map named_said leaves)) [] = rw rules_are a.faultless in
     let limits' : IsWithinLimits source (rules_in (map named_said leaves)) = rw (rules_are, sym a.same_rules) limits in
     let graph = graph_lists_none source (map named_said leaves) item listed.graph_faults faultless limits' listed.graph in

@@ -258,7 +258,7 @@ fn code_said<'s>(
 ) -> Result<Code<'s>, AllocError>
     requires of_leaves { IsGraphOf graph.now.leaves graph.now.utf8 graph.now }
     requires faultless { graph.now.faults ≡ [] }
-    requires given { option_map generics_of generics.entry
+    requires given { option_map generics_of generics
         ≡ between_brackets (parser_view parser.now).types }
     ensures lexer { IfOk result (IsLexer (rules_of graph.now.leaves) graph.now.utf8) }
     ensures keeps { IfOk result (KeepsSaid config (ident_slice name.entry)
@@ -304,7 +304,7 @@ fn accept<'s>(alloc: Global, src: &'s str) -> Result<(Graph<'s>, Rest<'s>), Refu
 // The path of a chart.
 fn path_of(export: Option<ExportPath>) -> Option<String>
     ensures { option_map string_bytes result
-        ≡ option_map (λ e. string_bytes e.path) export.entry }
+        ≡ option_map (λ e. string_bytes e.path) export }
 {
     match export {
         Some(export) => Some(export.path),

@@ -12,7 +12,7 @@ returns-in-Ok-graph_said-clause-ok c =
     let said = c.in-Ok.ensures.ok in
     rw c.in-Ok-graph_said.ensures.kept
     (graph_made c.args.src.now said.enum c.in-Ok.said.span c.in-Ok.said.leaves.items (parser_view c.in-Ok.said.parser) c.in-Ok.said.parser.errors said.says said.enum_says
-      (ident_slice c.in-Ok.said.name) c.in-Ok-graph_said.graph c.in-Ok.ensures.short c.in-Ok.ensures.shallow said.is_name c.in-Ok-graph_said.ensures.ok)
+    (ident_slice c.in-Ok.said.name) c.in-Ok-graph_said.graph c.in-Ok.ensures.short c.in-Ok.ensures.shallow said.is_name c.in-Ok-graph_said.ensures.ok)
 
 pub returns-clause-err : goal.returns-clause-err
 returns-clause-err c =
