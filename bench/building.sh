@@ -17,7 +17,7 @@ for crate in "$bench"/../crates/*/out; do
     name=$(basename "$(dirname "$crate")")
     cp -R "$crate" "$copy/crates/$name/out"
 done
-echo "building_bench: logos_codegen logos_generator logos_token" >> "$copy/crates.txt"
+echo "building_bench: logos_code logos_codegen logos_generator logos_token" >> "$copy/crates.txt"
 crate="$copy/crates/building_bench"
 mkdir -p "$crate/src" "$crate/specs" "$crate/proofs"
 touch "$crate/specs/Lib.antt" "$crate/proofs/Lib.antt"

@@ -49,7 +49,7 @@ build() {
         exit 1
     fi
 }
-echo "lexer_bench: logos_codegen logos_generator logos_pattern" >> "$copy/crates.txt"
+echo "lexer_bench: logos_code logos_codegen logos_generator logos_machine logos_pattern" >> "$copy/crates.txt"
 crate="$copy/crates/lexer_bench"
 mkdir -p "$crate/src" "$crate/specs" "$crate/proofs"
 touch "$crate/specs/Lib.antt" "$crate/proofs/Lib.antt"

@@ -149,10 +149,7 @@ fn parts_of(alloc: Global, given: &'static str) -> Result<Vec<Part<'static>>, Al
 }
 
 /// The type `A`, which is given the type with this name, if there is one.
-pub(super) fn type_of(
-    alloc: Global,
-    given: &'static str,
-) -> Result<TypeExpr<'static>, AllocError> {
+pub(super) fn type_of(alloc: Global, given: &'static str) -> Result<TypeExpr<'static>, AllocError> {
     if given.is_empty() {
         return Ok(TypeExpr {
             part: Part::Name("A"),

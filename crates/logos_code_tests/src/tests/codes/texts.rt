@@ -23,11 +23,12 @@ pub(super) fn push_again(alloc: Global, found: &mut String, code: &Code<'_>) -> 
     Ok(found.push_str(if printed == again { "" } else { "other spaces" })?)
 }
 
+/// A path and types that are none of those taken where a source names none.
 const AROUND: Around<'static> = Around {
-    logos: ":: logos",
-    error: "( )",
-    extras: "( )",
-    source: "str",
+    logos: "my :: path",
+    error: "Failure < 's , Vec < u8 > >",
+    extras: "( usize , bool )",
+    source: "[ u8 ]",
 };
 
 /// What of an implementation does not stand around the body.
@@ -57,7 +58,7 @@ pub(super) fn push_around(
 }
 
 const HEAD: &str =
-    "impl < 's > :: logos :: Logos < 's > for A < u8 > { type Error = ( ) ; type Extras = ( ) ; type Source = str ; fn lex ( lex : & mut :: logos :: Lexer < 's , Self > ) -> core :: option :: Option < core :: result :: Result < Self , < Self as :: logos :: Logos < 's >> :: Error >> { use :: logos :: internal :: { LexerInternal , CallbackRetVal , CallbackResult , SkipRetVal , SkipResult , } ; use core :: result :: Result as _Result ; use core :: option :: Option as _Option ; use :: logos :: Logos ; type _Lexer < 's > = :: logos :: Lexer < 's , A < u8 > > ; macro_rules ! ";
+    "impl < 's > my :: path :: Logos < 's > for A < u8 > { type Error = Failure < 's , Vec < u8 > > ; type Extras = ( usize , bool ) ; type Source = [ u8 ] ; fn lex ( lex : & mut my :: path :: Lexer < 's , Self > ) -> core :: option :: Option < core :: result :: Result < Self , < Self as my :: path :: Logos < 's >> :: Error >> { use my :: path :: internal :: { LexerInternal , CallbackRetVal , CallbackResult , SkipRetVal , SkipResult , } ; use core :: result :: Result as _Result ; use core :: option :: Option as _Option ; use my :: path :: Logos ; type _Lexer < 's > = my :: path :: Lexer < 's , A < u8 > > ; macro_rules ! ";
 
 const TAIL: &str = "state0 ( lex , lex . offset ( ) , None ) } }";
 
