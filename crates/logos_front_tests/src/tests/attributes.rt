@@ -5,14 +5,16 @@ mod definitions;
 mod options;
 mod types;
 
-pub(super) use asking::{Told, push_attribute};
-
 use super::rows::{Ask, lines_are_told};
+pub(super) use asking::{Told, push_attribute};
 
 /// What is told of argument lists, each of which stands on a line with what is told of it.
 const LINES: &[(Ask, &str)] = &[
     (Ask::Attribute(Told::Faults), definitions::LITERALS),
-    (Ask::Attribute(Told::Faults), definitions::NUMBERS_AND_BOOLEANS),
+    (
+        Ask::Attribute(Told::Faults),
+        definitions::NUMBERS_AND_BOOLEANS,
+    ),
     (Ask::Attribute(Told::Faults), definitions::CALLBACKS),
     (Ask::Attribute(Told::Faults), definitions::OTHER_ARGUMENTS),
     (Ask::Attribute(Told::Skips), definitions::READ),

@@ -5,11 +5,10 @@ mod nested;
 mod plain;
 mod types;
 
+use super::rows::{Ask, are_told};
 pub(super) use enums::{push_enum, push_no_enum};
 pub(super) use nested::{push_pieces, push_runs};
 pub(super) use types::{push_levels, push_type};
-
-use super::rows::{Ask, are_told};
 
 /// What is asked of texts, and their answers.
 const TABLES: &[(Ask, &[(&str, &str)])] = &[

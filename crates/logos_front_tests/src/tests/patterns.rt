@@ -8,35 +8,55 @@ mod trees;
 mod unspelled;
 mod values;
 
+use super::rows::{Ask, are_told, lines_are_told};
 pub(super) use asking::{Told, Use, push_literal, push_pattern};
 pub(super) use leaves::{Set, push_leaf};
-
-use super::rows::{Ask, are_told, lines_are_told};
 
 /// What is asked of texts, each of which stands on a line with its answer.
 const LINES: &[(Ask, &str)] = &[
     (Ask::Pattern(true, Told::Tree), trees::BRANCHES_AND_GROUPS),
     (Ask::Pattern(true, Told::Tree), trees::OPERATORS),
-    (Ask::Pattern(true, Told::Tree), trees::ESCAPES_AND_ASCII_CLASSES),
+    (
+        Ask::Pattern(true, Told::Tree),
+        trees::ESCAPES_AND_ASCII_CLASSES,
+    ),
     (Ask::Pattern(true, Told::Tree), trees::BRACKETS),
     (Ask::Pattern(false, Told::Tree), trees::BYTES),
     (Ask::Pattern(true, Told::Tree), sets::OPERATIONS),
     (Ask::Pattern(true, Told::Tree), sets::PROPERTIES),
     (Ask::Pattern(true, Told::Tree), sets::FOLDINGS),
-    (Ask::Pattern(true, Told::Tree), faults::UNCLOSED_AND_UNOPENED),
-    (Ask::Pattern(true, Told::Tree), faults::FAULTS_OF_OPERATORS_AND_RANGES),
+    (
+        Ask::Pattern(true, Told::Tree),
+        faults::UNCLOSED_AND_UNOPENED,
+    ),
+    (
+        Ask::Pattern(true, Told::Tree),
+        faults::FAULTS_OF_OPERATORS_AND_RANGES,
+    ),
     (Ask::Pattern(true, Told::Tree), faults::FAULTS_OF_GROUPS),
     (Ask::Pattern(true, Told::Tree), faults::FAULTS_OF_ESCAPES),
-    (Ask::Pattern(true, Told::Tree), faults::FAULTS_OF_NAMES_AND_BYTES),
+    (
+        Ask::Pattern(true, Told::Tree),
+        faults::FAULTS_OF_NAMES_AND_BYTES,
+    ),
 ];
 
 /// What is asked of texts, and their answers.
 const TABLES: &[(Ask, &[(&str, &str)])] = &[
     (Ask::Pattern(true, Told::Tree), sets::OPERANDS_IN_TURN),
     (Ask::Pattern(true, Told::Measures), faults::NESTED),
-    (Ask::Leaf(Set::Variant), &[("", "#[token(\"ab\")] ::A 4 None")]),
-    (Ask::Leaf(Set::Field), &[("", "#[token(\"ab\")] ::A(_) 4 None")]),
-    (Ask::Leaf(Set::Unset), &[("lex.bump(1)", "#[token(\"ab\")] ::<skip> 0 None")]),
+    (
+        Ask::Leaf(Set::Variant),
+        &[("", "#[token(\"ab\")] ::A 4 None")],
+    ),
+    (
+        Ask::Leaf(Set::Field),
+        &[("", "#[token(\"ab\")] ::A(_) 4 None")],
+    ),
+    (
+        Ask::Leaf(Set::Unset),
+        &[("lex.bump(1)", "#[token(\"ab\")] ::<skip> 0 None")],
+    ),
     (
         Ask::Leaf(Set::Label),
         &[

@@ -76,7 +76,11 @@ fn spelled(rt: &impl Abort, alloc: Global, row: &str) -> String {
     for part in row.split('¦') {
         let (unit, count) = part.split_once('×').unwrap_or((part, "1"));
         let times = count.parse::<usize>().unwrap_or(0);
-        push(rt, &mut text, &unit.repeat(alloc, times).expect(rt, "memory"));
+        push(
+            rt,
+            &mut text,
+            &unit.repeat(alloc, times).expect(rt, "memory"),
+        );
     }
     text
 }
@@ -124,14 +128,4 @@ pub(super) fn lines_are_told(rt: &impl Abort, alloc: Global, ask: &Ask, lines: &
         push_told(rt, alloc, &mut out, ask, text);
         judge(rt, line, &out, wanted);
     }
-}
-
-pub(super) fn judge_row(rt: &impl Abort, row: &str, number: usize, told: &str, wanted: &str) {
-    assert!(rt; told == wanted, "{row} {number}: {told}, wanted {wanted}");
-}
-pub(super) fn hold_row(rt: &impl Abort, condition: bool, row: &str, number: usize) {
-    assert!(rt; condition, "{row} {number}");
-}
-pub(super) fn push_number(rt: &impl Abort, text: &mut String, number: usize) {
-    write!(text, "{number} ").expect(rt, "memory");
 }

@@ -5,12 +5,11 @@ mod helpers;
 mod lexemes;
 mod tokens;
 
+use super::rows::{Ask, are_told};
 pub(super) use faults::push_faults;
 pub(super) use helpers::{push_marks, push_name, push_replaced, push_value};
 pub(super) use lexemes::push_lexeme;
 pub(super) use tokens::{first_name, push_printed, push_refusal, push_stream};
-
-use super::rows::{Ask, are_told};
 
 /// What is asked of texts, and their answers.
 const TABLES: &[(Ask, &[(&str, &str)])] = &[

@@ -36,7 +36,12 @@ pub(in crate::tests) enum Told {
 }
 
 /// Adds a callback: what it names, or its parameter, body and place.
-fn push_callback(rt: &impl Abort, alloc: Global, out: &mut String, callback: &Option<Callback<'_>>) {
+fn push_callback(
+    rt: &impl Abort,
+    alloc: Global,
+    out: &mut String,
+    callback: &Option<Callback<'_>>,
+) {
     match callback {
         None => push(rt, out, "-"),
         Some(Callback::Label(tokens)) => {

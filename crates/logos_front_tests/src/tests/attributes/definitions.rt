@@ -55,7 +55,8 @@ skip("a", callback = |x| y, callback = |z|) => 39..42 CallbackBody "Callback mis
 skip("a", callback(f)) => 10..18 CallbackForm "Expected: callback = ...";"##;
 
 /// Faults of flags, of unknown names, and of what has no name.
-pub(super) const OTHER_ARGUMENTS: &str = r##"skip("a", ignore(case, case)), skip("a", ignore(case,)) => none
+pub(super) const OTHER_ARGUMENTS: &str =
+    r##"skip("a", ignore(case, case)), skip("a", ignore(case,)) => none
 skip("a", ignore()) => 10..16 IgnoreEmpty "Invalid ignore flag\n\nExpected one of: case";
 skip("a", ignore(,)) => 10..16 IgnoreEmpty "Invalid ignore flag\n\nExpected one of: case";
 skip("a", ignore(case, 1)) => 10..16 IgnoreEmpty "Invalid ignore flag\n\nExpected one of: case";
@@ -73,7 +74,8 @@ skip("a", shape = 1, r#priority = 1) => 10..15 UnknownNested "Unknown nested att
 skip("a", f, ,) => 13..14 NamedExpected "Expected a named argument at this position\n\nhint: If you are trying to define a callback here use: callback = ...";"##;
 
 /// What is read, with faults beside it or without.
-pub(super) const READ: &str = r##"skip "a" dropped, skip(b"b") => "a" None None false -;b"b" None None false -;
+pub(super) const READ: &str =
+    r##"skip "a" dropped, skip(b"b") => "a" None None false -;b"b" None None false -;
 skip 5, skip(5), skip() => none
 skip("a", priority = 007) => "a" Some(7) None false -;
 skip("a", priority = 18446744073709551615) => "a" Some(18446744073709551615) None false -;

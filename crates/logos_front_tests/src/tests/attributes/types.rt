@@ -52,7 +52,9 @@ fn given<'s>(rt: &impl Abort, alloc: Global, run: Tokens<'_, 's>) -> Vec<TypePar
         if let Nested::Named(name, NestedValue::Assign(run)) = nested {
             let part = part_of(rt, alloc, run);
             let span = run.span();
-            types.push(TypeParam { name, part, span }).expect(rt, "memory");
+            types
+                .push(TypeParam { name, part, span })
+                .expect(rt, "memory");
         }
     }
     types

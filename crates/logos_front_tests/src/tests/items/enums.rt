@@ -68,7 +68,12 @@ pub(in crate::tests) fn push_enum(rt: &impl Abort, alloc: Global, out: &mut Stri
 }
 
 /// Adds why a source is no enum, or `None`.
-pub(in crate::tests) fn push_no_enum(rt: &impl Abort, alloc: Global, out: &mut String, source: &str) {
+pub(in crate::tests) fn push_no_enum(
+    rt: &impl Abort,
+    alloc: Global,
+    out: &mut String,
+    source: &str,
+) {
     let stream = tokenize(alloc, source).expect(rt, "tokens");
     write!(out, "{:?}", read_enum(alloc, stream.run()).err()).expect(rt, "memory");
 }
@@ -108,7 +113,10 @@ pub(in crate::tests) const ENUMS: &[(&str, &str)] = &[
         "enum E<T> where T: Is<[u8; { 1 }]>, [(); { 2 }]: Sized { A }",
         "E: Type T 7..8, A ; ",
     ),
-    ("enum E { A(pub (u8), B) }", "Grammar { span: Span { from: 19, to: 20 } }"),
+    (
+        "enum E { A(pub (u8), B) }",
+        "Grammar { span: Span { from: 19, to: 20 } }",
+    ),
     ("enum E { A(pub (u8) B) }", "E: A tuple 10..22 [B]20..21 ; "),
     ("enum E { A = a::<u8>(), B }", "E: A ; B ; "),
 ];
@@ -116,60 +124,180 @@ pub(in crate::tests) const ENUMS: &[(&str, &str)] = &[
 /// Faults.
 pub(in crate::tests) const FAULTS: &[(&str, &str)] = &[
     ("", "NotAnEnum { span: Span { from: 0, to: 0 } }"),
-    (" struct E {} ", "NotAnEnum { span: Span { from: 1, to: 12 } }"),
-    ("pub(a) (b) enum E {}", "NotAnEnum { span: Span { from: 0, to: 20 } }"),
-    ("#[a] #[b c] enum E {}", "NotAnEnum { span: Span { from: 0, to: 21 } }"),
-    ("#[] enum E {}", "NotAnEnum { span: Span { from: 0, to: 13 } }"),
-    ("#[a =] enum E {}", "NotAnEnum { span: Span { from: 0, to: 16 } }"),
-    ("# enum E {}", "NotAnEnum { span: Span { from: 0, to: 11 } }"),
-    ("//! a\nenum E {}", "NotAnEnum { span: Span { from: 0, to: 15 } }"),
-    ("r#enum E {}", "NotAnEnum { span: Span { from: 0, to: 11 } }"),
+    (
+        " struct E {} ",
+        "NotAnEnum { span: Span { from: 1, to: 12 } }",
+    ),
+    (
+        "pub(a) (b) enum E {}",
+        "NotAnEnum { span: Span { from: 0, to: 20 } }",
+    ),
+    (
+        "#[a] #[b c] enum E {}",
+        "NotAnEnum { span: Span { from: 0, to: 21 } }",
+    ),
+    (
+        "#[] enum E {}",
+        "NotAnEnum { span: Span { from: 0, to: 13 } }",
+    ),
+    (
+        "#[a =] enum E {}",
+        "NotAnEnum { span: Span { from: 0, to: 16 } }",
+    ),
+    (
+        "# enum E {}",
+        "NotAnEnum { span: Span { from: 0, to: 11 } }",
+    ),
+    (
+        "//! a\nenum E {}",
+        "NotAnEnum { span: Span { from: 0, to: 15 } }",
+    ),
+    (
+        "r#enum E {}",
+        "NotAnEnum { span: Span { from: 0, to: 11 } }",
+    ),
     ("enum", "Grammar { span: Span { from: 0, to: 0 } }"),
     ("enum {}", "Grammar { span: Span { from: 5, to: 7 } }"),
     ("enum E", "Grammar { span: Span { from: 0, to: 0 } }"),
     ("enum E ;", "Grammar { span: Span { from: 7, to: 8 } }"),
-    ("enum E where T: U", "Grammar { span: Span { from: 0, to: 0 } }"),
+    (
+        "enum E where T: U",
+        "Grammar { span: Span { from: 0, to: 0 } }",
+    ),
     ("enum E {} x", "Grammar { span: Span { from: 10, to: 11 } }"),
     ("enum E<T {}", "Grammar { span: Span { from: 9, to: 11 } }"),
     ("enum E<T", "Grammar { span: Span { from: 0, to: 0 } }"),
     ("enum E<,> {}", "Grammar { span: Span { from: 7, to: 8 } }"),
-    ("enum E<T U> {}", "Grammar { span: Span { from: 9, to: 10 } }"),
+    (
+        "enum E<T U> {}",
+        "Grammar { span: Span { from: 9, to: 10 } }",
+    ),
     ("enum E<5> {}", "Grammar { span: Span { from: 7, to: 8 } }"),
-    ("enum E<'a = 'b> {}", "Grammar { span: Span { from: 10, to: 11 } }"),
-    ("enum E<T = > {}", "Grammar { span: Span { from: 11, to: 12 } }"),
-    ("enum E<T = , U> {}", "Grammar { span: Span { from: 11, to: 12 } }"),
-    ("enum E<const N> {}", "Grammar { span: Span { from: 14, to: 15 } }"),
-    ("enum E<const N: = 3> {}", "Grammar { span: Span { from: 16, to: 17 } }"),
-    ("enum E<const, T> {}", "Grammar { span: Span { from: 12, to: 13 } }"),
-    ("enum E<#[5] T> {}", "Grammar { span: Span { from: 9, to: 10 } }"),
-    ("enum E<T: Fn() -> u8 {}", "Grammar { span: Span { from: 0, to: 0 } }"),
-    ("enum E { A,, B }", "Grammar { span: Span { from: 11, to: 12 } }"),
+    (
+        "enum E<'a = 'b> {}",
+        "Grammar { span: Span { from: 10, to: 11 } }",
+    ),
+    (
+        "enum E<T = > {}",
+        "Grammar { span: Span { from: 11, to: 12 } }",
+    ),
+    (
+        "enum E<T = , U> {}",
+        "Grammar { span: Span { from: 11, to: 12 } }",
+    ),
+    (
+        "enum E<const N> {}",
+        "Grammar { span: Span { from: 14, to: 15 } }",
+    ),
+    (
+        "enum E<const N: = 3> {}",
+        "Grammar { span: Span { from: 16, to: 17 } }",
+    ),
+    (
+        "enum E<const, T> {}",
+        "Grammar { span: Span { from: 12, to: 13 } }",
+    ),
+    (
+        "enum E<#[5] T> {}",
+        "Grammar { span: Span { from: 9, to: 10 } }",
+    ),
+    (
+        "enum E<T: Fn() -> u8 {}",
+        "Grammar { span: Span { from: 0, to: 0 } }",
+    ),
+    (
+        "enum E { A,, B }",
+        "Grammar { span: Span { from: 11, to: 12 } }",
+    ),
     ("enum E { , }", "Grammar { span: Span { from: 9, to: 10 } }"),
-    ("enum E { A B }", "Grammar { span: Span { from: 11, to: 12 } }"),
-    ("enum E { pub A }", "Grammar { span: Span { from: 13, to: 14 } }"),
-    ("enum E { A [u8] }", "Grammar { span: Span { from: 11, to: 15 } }"),
-    ("enum E { A(u8)(u8) }", "Grammar { span: Span { from: 14, to: 18 } }"),
-    ("enum E { A = }", "Grammar { span: Span { from: 0, to: 0 } }"),
-    ("enum E { A = , B }", "Grammar { span: Span { from: 13, to: 14 } }"),
-    ("enum E { #[a] }", "Grammar { span: Span { from: 0, to: 0 } }"),
-    ("enum E { #(a) A }", "Grammar { span: Span { from: 10, to: 13 } }"),
-    ("enum E { #[a b] A, B C }", "Grammar { span: Span { from: 13, to: 14 } }"),
-    ("enum E { A(u8 u8) }", "Grammar { span: Span { from: 14, to: 16 } }"),
-    ("enum E { A(,) }", "Grammar { span: Span { from: 11, to: 12 } }"),
-    ("enum E { A(a: u8) }", "Grammar { span: Span { from: 12, to: 13 } }"),
-    ("enum E { A { u8 } }", "Grammar { span: Span { from: 0, to: 0 } }"),
-    ("enum E { A { a: u8 b: u8 } }", "Grammar { span: Span { from: 19, to: 20 } }"),
-    ("enum E { A { a: } }", "Grammar { span: Span { from: 0, to: 0 } }"),
-    ("enum E { A(pub) }", "Grammar { span: Span { from: 0, to: 0 } }"),
-    ("enum E { A(#[a] ) B }", "Grammar { span: Span { from: 0, to: 0 } }"),
+    (
+        "enum E { A B }",
+        "Grammar { span: Span { from: 11, to: 12 } }",
+    ),
+    (
+        "enum E { pub A }",
+        "Grammar { span: Span { from: 13, to: 14 } }",
+    ),
+    (
+        "enum E { A [u8] }",
+        "Grammar { span: Span { from: 11, to: 15 } }",
+    ),
+    (
+        "enum E { A(u8)(u8) }",
+        "Grammar { span: Span { from: 14, to: 18 } }",
+    ),
+    (
+        "enum E { A = }",
+        "Grammar { span: Span { from: 0, to: 0 } }",
+    ),
+    (
+        "enum E { A = , B }",
+        "Grammar { span: Span { from: 13, to: 14 } }",
+    ),
+    (
+        "enum E { #[a] }",
+        "Grammar { span: Span { from: 0, to: 0 } }",
+    ),
+    (
+        "enum E { #(a) A }",
+        "Grammar { span: Span { from: 10, to: 13 } }",
+    ),
+    (
+        "enum E { #[a b] A, B C }",
+        "Grammar { span: Span { from: 13, to: 14 } }",
+    ),
+    (
+        "enum E { A(u8 u8) }",
+        "Grammar { span: Span { from: 14, to: 16 } }",
+    ),
+    (
+        "enum E { A(,) }",
+        "Grammar { span: Span { from: 11, to: 12 } }",
+    ),
+    (
+        "enum E { A(a: u8) }",
+        "Grammar { span: Span { from: 12, to: 13 } }",
+    ),
+    (
+        "enum E { A { u8 } }",
+        "Grammar { span: Span { from: 0, to: 0 } }",
+    ),
+    (
+        "enum E { A { a: u8 b: u8 } }",
+        "Grammar { span: Span { from: 19, to: 20 } }",
+    ),
+    (
+        "enum E { A { a: } }",
+        "Grammar { span: Span { from: 0, to: 0 } }",
+    ),
+    (
+        "enum E { A(pub) }",
+        "Grammar { span: Span { from: 0, to: 0 } }",
+    ),
+    (
+        "enum E { A(#[a] ) B }",
+        "Grammar { span: Span { from: 0, to: 0 } }",
+    ),
     (
         "enum E { A(u8) = 1 B, C, }",
         "E: A tuple 10..14 [u8]11..13 ; C ; ",
     ),
-    ("enum E { A(_), B C }", "TypeUnsupported { span: Span { from: 11, to: 12 } }"),
-    ("enum E { A(u8, Vec<!>) }", "TypeUnsupported { span: Span { from: 19, to: 20 } }"),
-    ("enum E { A { a: impl Copy } }", "TypeUnsupported { span: Span { from: 16, to: 25 } }"),
-    ("enum E { A B, C(_) }", "Grammar { span: Span { from: 11, to: 12 } }"),
+    (
+        "enum E { A(_), B C }",
+        "TypeUnsupported { span: Span { from: 11, to: 12 } }",
+    ),
+    (
+        "enum E { A(u8, Vec<!>) }",
+        "TypeUnsupported { span: Span { from: 19, to: 20 } }",
+    ),
+    (
+        "enum E { A { a: impl Copy } }",
+        "TypeUnsupported { span: Span { from: 16, to: 25 } }",
+    ),
+    (
+        "enum E { A B, C(_) }",
+        "Grammar { span: Span { from: 11, to: 12 } }",
+    ),
 ];
 
 /// What nests up to its limits, and past them.
@@ -202,7 +330,11 @@ fn agree(rt: &impl Abort, alloc: Global, frame: Frame, pieces: &[&str]) {
     let stream = tokenize(alloc, &source).expect(rt, "tokens");
     let found = read_enum(alloc, stream.run()).err();
     let whole = source.trim_end().len();
-    hold(rt, found == misfit(frame.0, pieces, frame.1.len(), whole), &source);
+    hold(
+        rt,
+        found == misfit(frame.0, pieces, frame.1.len(), whole),
+        &source,
+    );
 }
 
 /// What is said of the base with one change, or with two of which the second is at most six pieces behind the first, is what the plain
@@ -213,7 +345,12 @@ fn agree_on(rt: &impl Abort, alloc: Global, frame: Frame, base: &[&str]) {
         let pieces = changed(rt, alloc, base, first % 3, first / 3);
         agree(rt, alloc, frame, &pieces);
         let place = (first / 3).saturating_add(second / 3);
-        agree(rt, alloc, frame, &changed(rt, alloc, &pieces, second % 3, place));
+        agree(
+            rt,
+            alloc,
+            frame,
+            &changed(rt, alloc, &pieces, second % 3, place),
+        );
     }
 }
 

@@ -43,7 +43,12 @@ fn push_piece(rt: &impl Abort, alloc: Global, out: &mut String, piece: Nested<'_
 }
 
 /// Adds all pieces of an argument.
-pub(in crate::tests) fn push_pieces(rt: &impl Abort, alloc: Global, out: &mut String, argument: &str) {
+pub(in crate::tests) fn push_pieces(
+    rt: &impl Abort,
+    alloc: Global,
+    out: &mut String,
+    argument: &str,
+) {
     let stream = tokenize(alloc, argument).expect(rt, "tokens");
     for piece in AttributeParser::new(stream.run()) {
         push_piece(rt, alloc, out, piece);
@@ -88,7 +93,12 @@ pub(in crate::tests) const ARGUMENTS: &[(&str, &str)] = &[
 ];
 
 /// Adds each run up to a comma that cuts, in brackets.
-pub(in crate::tests) fn push_runs(rt: &impl Abort, alloc: Global, out: &mut String, argument: &str) {
+pub(in crate::tests) fn push_runs(
+    rt: &impl Abort,
+    alloc: Global,
+    out: &mut String,
+    argument: &str,
+) {
     let stream = tokenize(alloc, argument).expect(rt, "tokens");
     let mut parser = AttributeParser::new(stream.run());
     for _ in 0..argument.len() {

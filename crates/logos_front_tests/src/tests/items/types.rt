@@ -37,7 +37,12 @@ pub(in crate::tests) fn push_type(rt: &impl Abort, alloc: Global, out: &mut Stri
 }
 
 /// Adds whether a type has more than 127 levels, and whether it has more than 128, or why it is none.
-pub(in crate::tests) fn push_levels(rt: &impl Abort, alloc: Global, out: &mut String, source: &str) {
+pub(in crate::tests) fn push_levels(
+    rt: &impl Abort,
+    alloc: Global,
+    out: &mut String,
+    source: &str,
+) {
     let stream = tokenize(alloc, source).expect(rt, "tokens");
     match &read_type(alloc, stream.run()) {
         Ok((read, _)) => write!(

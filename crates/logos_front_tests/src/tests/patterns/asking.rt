@@ -27,7 +27,9 @@ pub(in crate::tests) enum Use {
     /// What is told of the pattern of a `token` with it.
     Token(Told),
     /// Its value as the text of a pattern.
-    Escape { escaped: bool },
+    Escape {
+        escaped: bool,
+    },
     /// Its token, its span, whether it is of characters, its bytes, and its priority.
     Parts,
 }

@@ -50,21 +50,45 @@ const SETS: [&[Range]; 5] = [
         Range { first: 1, last: 2 },
         Range { first: 3, last: 4 },
         Range { first: 8, last: 12 },
-        Range { first: 30, last: 20 },
+        Range {
+            first: 30,
+            last: 20,
+        },
         Range { first: 5, last: 5 },
     ],
     &[
-        Range { first: 0xD7F0, last: 0xD800 },
-        Range { first: 0xDFFF, last: 0xE010 },
-        Range { first: 0x10_FFFF, last: 0x11_0005 },
+        Range {
+            first: 0xD7F0,
+            last: 0xD800,
+        },
+        Range {
+            first: 0xDFFF,
+            last: 0xE010,
+        },
+        Range {
+            first: 0x10_FFFF,
+            last: 0x11_0005,
+        },
     ],
     &[
-        Range { first: 0xD800, last: 0xDFFF },
-        Range { first: 0x11_0000, last: 0xFFFF_FFFF },
+        Range {
+            first: 0xD800,
+            last: 0xDFFF,
+        },
+        Range {
+            first: 0x11_0000,
+            last: 0xFFFF_FFFF,
+        },
     ],
     &[
-        Range { first: 97, last: 99 },
-        Range { first: 0x100, last: 0x1FF },
+        Range {
+            first: 97,
+            last: 99,
+        },
+        Range {
+            first: 0x100,
+            last: 0x1FF,
+        },
     ],
     &[Range { first: 1, last: 0 }],
 ];

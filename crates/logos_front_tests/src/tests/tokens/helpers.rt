@@ -35,7 +35,12 @@ fn push_tokens(rt: &impl Abort, alloc: Global, out: &mut String, tokens: &MaybeV
 }
 
 /// Adds what stood there when tokens took the place of none, when all but their first took theirs, when these were taken, and then.
-pub(in crate::tests) fn push_replaced(rt: &impl Abort, alloc: Global, out: &mut String, text: &str) {
+pub(in crate::tests) fn push_replaced(
+    rt: &impl Abort,
+    alloc: Global,
+    out: &mut String,
+    text: &str,
+) {
     let stream = tokenize(alloc, text).expect(rt, text);
     let rest = stream.run().rest().to_stream(alloc).expect(rt, "memory");
     let mut tokens = MaybeVoid::Void;
@@ -69,13 +74,18 @@ pub(in crate::tests) const NAMES: &[(&str, &str)] = &[
 ];
 
 /// Tokens that take the place of others.
-pub(in crate::tests) const REPLACEMENTS: &[(&str, &str)] =
-    &[("a b (c)", "( ); a b ( c ); b ( c ); ( ); ")];
+pub(in crate::tests) const REPLACEMENTS: &[(&str, &str)] = &[(
+    "a b (c)",
+    "( ); a b ( c ); b ( c ); ( ); ",
+)];
 
 /// Literals, and the strings that they are; they are read off the rules of the language.
 pub(in crate::tests) const VALUES: &[(&str, &str)] = &[
     ("\"\"", r#"Some(Text(""))"#),
-    ("\"a \u{E9} \u{1F600}\"", "Some(Text(\"a \u{E9} \u{1F600}\"))"),
+    (
+        "\"a \u{E9} \u{1F600}\"",
+        "Some(Text(\"a \u{E9} \u{1F600}\"))",
+    ),
     (r#""\n\r\t\\\0\'\"""#, r#"Some(Text("\n\r\t\\\0'\""))"#),
     (r#""a\x41\x7fb""#, r#"Some(Text("aA\u{7f}b"))"#),
     (r#""\u{e9}\u{1_F600}c""#, "Some(Text(\"\u{E9}\u{1F600}c\"))"),

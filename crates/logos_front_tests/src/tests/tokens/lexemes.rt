@@ -1,9 +1,9 @@
 //! Lexemes by example; the expected values are read off the rules of the language.
 
-use std::alloc::Global;
-use std::process::Abort;
 use super::super::rows::push;
 use logos_lexeme::lexeme::lexeme_at;
+use std::alloc::Global;
+use std::process::Abort;
 
 /// Adds what stands in front of a text, or behind the mark `‖` in it: the kind and the end of a lexeme, or why there is none.
 pub(in crate::tests) fn push_lexeme(rt: &impl Abort, alloc: Global, out: &mut String, text: &str) {
@@ -23,7 +23,10 @@ pub(in crate::tests) fn push_lexeme(rt: &impl Abort, alloc: Global, out: &mut St
 
 /// White space and comments.
 pub(in crate::tests) const GAPS_AND_DOCUMENTATION: &[(&str, &str)] = &[
-    ("\t\n\u{B}\u{C}\r \u{85}\u{200E}\u{200F}\u{2028}\u{2029}", "Gap 20"),
+    (
+        "\t\n\u{B}\u{C}\r \u{85}\u{200E}\u{200F}\u{2028}\u{2029}",
+        "Gap 20",
+    ),
     ("\u{FEFF}", "Gap 3"),
     ("a‖  b", "Gap 3"),
     (" // x", "Gap 1"),

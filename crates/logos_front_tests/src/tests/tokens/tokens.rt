@@ -29,7 +29,13 @@ fn push_tree(rt: &impl Abort, alloc: Global, out: &mut String, tree: TokenTree<'
 }
 
 /// Adds what the trees of a run are, and where they stand if that is asked for.
-fn push_trees(rt: &impl Abort, alloc: Global, out: &mut String, run: Tokens<'_, '_>, is_placed: bool) {
+fn push_trees(
+    rt: &impl Abort,
+    alloc: Global,
+    out: &mut String,
+    run: Tokens<'_, '_>,
+    is_placed: bool,
+) {
     for tree in run.iter() {
         push_tree(rt, alloc, out, tree);
         if is_placed {
@@ -63,7 +69,12 @@ fn push_levels(rt: &impl Abort, alloc: Global, out: &mut String, run: Tokens<'_,
 
 /// Adds where the tokens of a source stand, those in front of all but the first and of all but the first two, what they are, and how a
 /// copy of them is printed.
-pub(in crate::tests) fn push_stream(rt: &impl Abort, alloc: Global, out: &mut String, source: &str) {
+pub(in crate::tests) fn push_stream(
+    rt: &impl Abort,
+    alloc: Global,
+    out: &mut String,
+    source: &str,
+) {
     let stream = tokenize(alloc, source).expect(rt, source);
     push_span(rt, out, "", stream.run().span());
     let (first, second, is_none) = fronts(stream.run());
@@ -76,12 +87,22 @@ pub(in crate::tests) fn push_stream(rt: &impl Abort, alloc: Global, out: &mut St
 }
 
 /// Adds why a source is not read, or `None`.
-pub(in crate::tests) fn push_refusal(rt: &impl Abort, alloc: Global, out: &mut String, source: &str) {
+pub(in crate::tests) fn push_refusal(
+    rt: &impl Abort,
+    alloc: Global,
+    out: &mut String,
+    source: &str,
+) {
     write!(out, "{:?}", tokenize(alloc, source).err()).expect(rt, "memory");
 }
 
 /// Adds how the printed tokens of a source are printed, which are those of the source.
-pub(in crate::tests) fn push_printed(rt: &impl Abort, alloc: Global, out: &mut String, source: &str) {
+pub(in crate::tests) fn push_printed(
+    rt: &impl Abort,
+    alloc: Global,
+    out: &mut String,
+    source: &str,
+) {
     let stream = tokenize(alloc, source).expect(rt, source);
     let printed = print(alloc, stream.run()).expect(rt, "memory");
     let again = tokenize(alloc, &printed).expect(rt, source);
@@ -138,21 +159,48 @@ pub(in crate::tests) const READABLE: &[(&str, &str)] = &[
 
 /// Sources that are refused.
 pub(in crate::tests) const UNREADABLE: &[(&str, &str)] = &[
-    ("enum E {", "Some(Lexical { kind: Unbalanced, span: Span { from: 7, to: 8 } })"),
-    (")", "Some(Lexical { kind: Unbalanced, span: Span { from: 0, to: 1 } })"),
-    ("( ]", "Some(Lexical { kind: Unbalanced, span: Span { from: 2, to: 3 } })"),
-    ("([()", "Some(Lexical { kind: Unbalanced, span: Span { from: 1, to: 2 } })"),
-    ("a \"bc", "Some(Lexical { kind: Unterminated, span: Span { from: 2, to: 5 } })"),
-    ("( `", "Some(Lexical { kind: BadCharacter, span: Span { from: 2, to: 3 } })"),
-    ("a £", "Some(Lexical { kind: BadCharacter, span: Span { from: 2, to: 4 } })"),
-    ("\"a\\b\" c", "Some(Lexical { kind: BadLiteral, span: Span { from: 0, to: 5 } })"),
+    (
+        "enum E {",
+        "Some(Lexical { kind: Unbalanced, span: Span { from: 7, to: 8 } })",
+    ),
+    (
+        ")",
+        "Some(Lexical { kind: Unbalanced, span: Span { from: 0, to: 1 } })",
+    ),
+    (
+        "( ]",
+        "Some(Lexical { kind: Unbalanced, span: Span { from: 2, to: 3 } })",
+    ),
+    (
+        "([()",
+        "Some(Lexical { kind: Unbalanced, span: Span { from: 1, to: 2 } })",
+    ),
+    (
+        "a \"bc",
+        "Some(Lexical { kind: Unterminated, span: Span { from: 2, to: 5 } })",
+    ),
+    (
+        "( `",
+        "Some(Lexical { kind: BadCharacter, span: Span { from: 2, to: 3 } })",
+    ),
+    (
+        "a £",
+        "Some(Lexical { kind: BadCharacter, span: Span { from: 2, to: 4 } })",
+    ),
+    (
+        "\"a\\b\" c",
+        "Some(Lexical { kind: BadLiteral, span: Span { from: 0, to: 5 } })",
+    ),
 ];
 
 /// Delimiters inside one another, of which 128 may be open, the brace of the enum among them; and
 /// sources as long as can be.
 pub(in crate::tests) const NESTED: &[(&str, &str)] = &[
     ("(×128¦)×128", "None"),
-    ("(×129¦)×129", "Some(LimitTokenNesting { span: Span { from: 128, to: 129 } })"),
+    (
+        "(×129¦)×129",
+        "Some(LimitTokenNesting { span: Span { from: 128, to: 129 } })",
+    ),
     ("enum E { #[token(\"a\")] A = ¦(×127¦)×127¦ }", "None"),
     (
         "enum E { #[token(\"a\")] A = ¦(×128¦)×128¦ }",
