@@ -257,7 +257,7 @@ pub(in crate::tests) const LEXEMES: &[(&str, &str)] = &[
     ("'a", "'a"),
     ("'r#a", "'r#a"),
     ("'a: 'static", "'a : 'static"),
-    ("'r\"a\"", "'r \"a\""),
+    ("'r\"a\"", "'r\"a\""),
     ("&'a T", "&'a T"),
     ("a::b", "a :: b"),
     ("->=>", "->=>"),
