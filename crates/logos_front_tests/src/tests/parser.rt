@@ -1,340 +1,548 @@
 //! Enums that are read, and the first misfits of others.
 
-use super::rows::{judge, push, push_span};
-use logos_parser::parser::{Definition, DefinitionKind, ItemEnum, ReadError, read_enum};
-use logos_token::token::{Span, tokenize};
+use super::rows::{Ask, are_told, push, push_span};
+use logos_parser::parser::{Definition, DefinitionKind, read_enum};
+use logos_token::token::tokenize;
 use std::alloc::Global;
 use std::process::Abort;
 
-/// What is told of an enum that is read.
-#[derive(Clone, Copy)]
-enum Told {
-    /// Its mode, and how many definitions it has.
-    Counts,
-    /// Its name, its mode and its definitions: their literals, and the words with which they are written.
-    Definitions,
-    /// Its name, its mode, and the names of the variants of its definitions.
-    Names,
+/// Adds the literal of a definition, and the word with which it is written, with the variant that it is for.
+fn push_definition(rt: &impl Abort, out: &mut String, definition: &Definition<'_>) {
+    push(rt, out, definition.literal.text);
+    push_span(rt, out, " ", definition.literal.span);
+    let (word, variant) = match definition.kind {
+        DefinitionKind::Token(variant) => (" token ", variant),
+        DefinitionKind::Regex(variant) => (" regex ", variant),
+        DefinitionKind::Skip => return push(rt, out, " skip, "),
+    };
+    push(rt, out, word);
+    push(rt, out, variant.text);
+    push_span(rt, out, " ", variant.span);
+    push(rt, out, ", ");
 }
 
-/// Adds the literal of a definition, and the word with which it is written.
-fn push_written(rt: &impl Abort, text: &mut String, definition: &Definition<'_>) {
-    push(rt, text, definition.literal.text);
-    push_span(rt, text, " ", definition.literal.span);
-    push(
-        rt,
-        text,
-        match definition.kind {
-            DefinitionKind::Token(_) => " token, ",
-            DefinitionKind::Regex(_) => " regex, ",
-            DefinitionKind::Skip => " skip, ",
-        },
-    );
-}
-
-/// Adds the name of the variant that a definition is for.
-fn push_name(rt: &impl Abort, text: &mut String, kind: DefinitionKind<'_>) {
-    if let DefinitionKind::Token(variant) | DefinitionKind::Regex(variant) = kind {
-        push(rt, text, variant.text);
-        push_span(rt, text, " ", variant.span);
-    }
-    push(rt, text, ", ");
-}
-
-/// Adds the definitions to what is told.
-fn push_definitions(rt: &impl Abort, text: &mut String, item: &ItemEnum<'_>, told: Told) {
-    push(rt, text, item.name.text);
-    push_span(rt, text, " ", item.name.span);
-    push(
-        rt,
-        text,
-        if item.utf8_mode {
-            " true: "
-        } else {
-            " false: "
-        },
-    );
-    for definition in &item.definitions {
-        match told {
-            Told::Names => push_name(rt, text, definition.kind),
-            _ => push_written(rt, text, definition),
-        }
-    }
-}
-
-/// Adds the item to what is told.
-fn push_item(rt: &impl Abort, text: &mut String, item: &ItemEnum<'_>, told: Told) {
-    match told {
-        Told::Counts => {
-            write!(text, "{} {}", item.utf8_mode, item.definitions.len()).expect(rt, "memory");
-        }
-        _ => push_definitions(rt, text, item, told),
-    }
-}
-
-/// Adds what is told of the enum that a source is, or why it is none.
-fn push_read(rt: &impl Abort, alloc: Global, text: &mut String, source: &str, told: Told) {
+/// Adds the name, the mode and the definitions of the enum that a source is, or its first misfit.
+pub(super) fn push_definitions(rt: &impl Abort, alloc: Global, out: &mut String, source: &str) {
     let stream = tokenize(alloc, source).expect(rt, "tokens");
-    match read_enum(alloc, stream.run()) {
-        Ok(item) => push_item(rt, text, &item, told),
-        Err(ReadError::NotAnEnum { span }) => push_span(rt, text, "no enum ", span),
-        Err(ReadError::Grammar { span }) => push_span(rt, text, "misfit ", span),
-        Err(ReadError::Memory) => push(rt, text, "memory"),
+    match &read_enum(alloc, stream.run()) {
+        Ok(item) => {
+            let (name, span) = (item.name.text, item.name.span);
+            write!(
+                out,
+                "{name} {}..{} {}: ",
+                span.from, span.to, item.utf8_mode
+            )
+            .expect(rt, "memory");
+            for definition in &item.definitions {
+                push_definition(rt, out, definition);
+            }
+        }
+        Err(error) => write!(out, "{error:?}").expect(rt, "memory"),
     }
 }
 
-/// Each source is none, for this reason at this span.
-fn are_refused(rt: &impl Abort, alloc: Global, word: &str, cases: &[(&str, usize, usize)]) {
-    for (source, from, to) in cases {
-        let (mut text, mut wanted) = (String::new(alloc), String::new(alloc));
-        push_read(rt, alloc, &mut text, source, Told::Counts);
-        push_span(
-            rt,
-            &mut wanted,
-            word,
-            Span {
-                from: *from,
-                to: *to,
-            },
-        );
-        judge(rt, source, &text, &wanted);
-    }
-}
-
-const NO_ENUMS: &[(&str, usize, usize)] = &[
-    ("", 0, 0),
-    ("struct E {}", 0, 11),
-    (" enumeration E { A } ", 1, 20),
-    ("pub", 0, 3),
-    ("pub (crate) (super) enum E {}", 0, 29),
-    ("pub [crate] enum E {}", 0, 21),
-    ("pub pub enum E {}", 0, 17),
-    ("(crate) enum E {}", 0, 17),
-    ("pub #[a] enum E {}", 0, 18),
-    ("#[a] struct E {}", 0, 16),
-    ("#[logos(skip 5)] struct E {}", 0, 28),
-    ("#! [a] enum E {}", 0, 16),
-    ("# enum E {}", 0, 11),
-    ("#(a) enum E {}", 0, 14),
-    ("#[] enum E {}", 0, 13),
-    ("#[5] enum E {}", 0, 14),
-    ("#[a b] enum E {}", 0, 16),
-    ("#[a =] enum E {}", 0, 16),
-    ("#[a()()] enum E {}", 0, 18),
-    ("#[a: :b] enum E {}", 0, 18),
-    ("#[a::] enum E {}", 0, 16),
-    ("#[a::(b)] enum E {}", 0, 19),
-    ("#[:a] enum E {}", 0, 15),
-    ("//! inner\nenum E {}", 0, 19),
-    ("/*! inner */ enum E {}", 0, 22),
+/// Sources that are no enum.
+const NO_ENUMS: &[(&str, &str)] = &[
+    ("", "NotAnEnum { span: Span { from: 0, to: 0 } }"),
+    (
+        "struct E {}",
+        "NotAnEnum { span: Span { from: 0, to: 11 } }",
+    ),
+    (
+        " enumeration E { A } ",
+        "NotAnEnum { span: Span { from: 1, to: 20 } }",
+    ),
+    ("pub", "NotAnEnum { span: Span { from: 0, to: 3 } }"),
+    (
+        "pub (crate) (super) enum E {}",
+        "NotAnEnum { span: Span { from: 0, to: 29 } }",
+    ),
+    (
+        "pub [crate] enum E {}",
+        "NotAnEnum { span: Span { from: 0, to: 21 } }",
+    ),
+    (
+        "pub pub enum E {}",
+        "NotAnEnum { span: Span { from: 0, to: 17 } }",
+    ),
+    (
+        "(crate) enum E {}",
+        "NotAnEnum { span: Span { from: 0, to: 17 } }",
+    ),
+    (
+        "pub #[a] enum E {}",
+        "NotAnEnum { span: Span { from: 0, to: 18 } }",
+    ),
+    (
+        "#[a] struct E {}",
+        "NotAnEnum { span: Span { from: 0, to: 16 } }",
+    ),
+    (
+        "#[logos(skip 5)] struct E {}",
+        "NotAnEnum { span: Span { from: 0, to: 28 } }",
+    ),
+    (
+        "#! [a] enum E {}",
+        "NotAnEnum { span: Span { from: 0, to: 16 } }",
+    ),
+    (
+        "# enum E {}",
+        "NotAnEnum { span: Span { from: 0, to: 11 } }",
+    ),
+    (
+        "#(a) enum E {}",
+        "NotAnEnum { span: Span { from: 0, to: 14 } }",
+    ),
+    (
+        "#[] enum E {}",
+        "NotAnEnum { span: Span { from: 0, to: 13 } }",
+    ),
+    (
+        "#[5] enum E {}",
+        "NotAnEnum { span: Span { from: 0, to: 14 } }",
+    ),
+    (
+        "#[a b] enum E {}",
+        "NotAnEnum { span: Span { from: 0, to: 16 } }",
+    ),
+    (
+        "#[a =] enum E {}",
+        "NotAnEnum { span: Span { from: 0, to: 16 } }",
+    ),
+    (
+        "#[a()()] enum E {}",
+        "NotAnEnum { span: Span { from: 0, to: 18 } }",
+    ),
+    (
+        "#[a: :b] enum E {}",
+        "NotAnEnum { span: Span { from: 0, to: 18 } }",
+    ),
+    (
+        "#[a::] enum E {}",
+        "NotAnEnum { span: Span { from: 0, to: 16 } }",
+    ),
+    (
+        "#[a::(b)] enum E {}",
+        "NotAnEnum { span: Span { from: 0, to: 19 } }",
+    ),
+    (
+        "#[:a] enum E {}",
+        "NotAnEnum { span: Span { from: 0, to: 15 } }",
+    ),
+    (
+        "//! inner\nenum E {}",
+        "NotAnEnum { span: Span { from: 0, to: 19 } }",
+    ),
+    (
+        "/*! inner */ enum E {}",
+        "NotAnEnum { span: Span { from: 0, to: 22 } }",
+    ),
 ];
 
-const MISFITS_OF_ITEMS: &[(&str, usize, usize)] = &[
-    ("enum", 0, 0),
-    ("enum \"E\"", 5, 8),
-    ("enum E", 0, 0),
-    ("enum E ( )", 7, 10),
-    ("enum E<T> { }", 6, 7),
-    ("enum E where { }", 7, 12),
-    ("enum E { A } x", 13, 14),
-    ("#[a] pub(crate) enum E { A } ;", 29, 30),
-    ("enum E { A B } x", 11, 12),
-    ("enum E { A,, B }", 11, 12),
-    ("enum E { , }", 9, 10),
-    ("enum E { A = B }", 11, 12),
-    ("enum E { A { B } }", 11, 16),
-    ("enum E { A(B) }", 10, 13),
-    ("enum E { pub A }", 13, 14),
+/// Items that do not fit.
+const MISFITS_OF_ITEMS: &[(&str, &str)] = &[
+    ("enum", "Grammar { span: Span { from: 0, to: 0 } }"),
+    ("enum \"E\"", "Grammar { span: Span { from: 5, to: 8 } }"),
+    ("enum E", "Grammar { span: Span { from: 0, to: 0 } }"),
+    ("enum E ( )", "Grammar { span: Span { from: 7, to: 10 } }"),
+    ("enum E<T> { }", "Grammar { span: Span { from: 6, to: 7 } }"),
+    (
+        "enum E where { }",
+        "Grammar { span: Span { from: 7, to: 12 } }",
+    ),
+    (
+        "enum E { A } x",
+        "Grammar { span: Span { from: 13, to: 14 } }",
+    ),
+    (
+        "#[a] pub(crate) enum E { A } ;",
+        "Grammar { span: Span { from: 29, to: 30 } }",
+    ),
+    (
+        "enum E { A B } x",
+        "Grammar { span: Span { from: 11, to: 12 } }",
+    ),
+    (
+        "enum E { A,, B }",
+        "Grammar { span: Span { from: 11, to: 12 } }",
+    ),
+    ("enum E { , }", "Grammar { span: Span { from: 9, to: 10 } }"),
+    (
+        "enum E { A = B }",
+        "Grammar { span: Span { from: 11, to: 12 } }",
+    ),
+    (
+        "enum E { A { B } }",
+        "Grammar { span: Span { from: 11, to: 16 } }",
+    ),
+    (
+        "enum E { A(B) }",
+        "Grammar { span: Span { from: 10, to: 13 } }",
+    ),
+    (
+        "enum E { pub A }",
+        "Grammar { span: Span { from: 13, to: 14 } }",
+    ),
 ];
 
-const MISFITS_OF_VARIANTS: &[(&str, usize, usize)] = &[
-    ("enum E { # }", 0, 0),
-    ("enum E { # A }", 11, 12),
-    ("enum E { #(token(\"a\")) A }", 10, 22),
-    ("enum E { #[] A }", 0, 0),
-    ("enum E { #[5] A }", 11, 12),
-    ("enum E { #[a b] A }", 13, 14),
-    ("enum E { #[a() b] A }", 15, 16),
-    ("enum E { #[a =] A }", 0, 0),
-    ("enum E { #[a:b] A }", 12, 13),
-    ("enum E { #[a:=b] A }", 13, 14),
-    ("enum E { #[a::] A }", 0, 0),
-    ("enum E { #[a::5] A }", 14, 15),
-    ("enum E { #[a;] A }", 12, 13),
-    ("enum E { #[regex(a)] A }", 17, 18),
-    ("enum E { #[token] A }", 0, 0),
-    ("enum E { #[regex] A }", 0, 0),
-    ("enum E { #[token = \"a\"] A }", 17, 18),
-    ("enum E { #[token[\"a\"]] A }", 16, 21),
-    ("enum E { #[regex{\"a\"}] A }", 16, 21),
-    ("enum E { #[token()] A }", 0, 0),
-    ("enum E { #[token(a)] A }", 17, 18),
-    ("enum E { #[token(5)] A }", 17, 18),
-    ("enum E { #[token('a')] A }", 17, 20),
-    ("enum E { #[token(b'a')] A }", 17, 21),
-    ("enum E { #[token(c\"a\")] A }", 17, 21),
-    ("enum E { #[token(cr\"a\")] A }", 17, 22),
-    ("enum E { #[token(\"a\" a)] A }", 21, 22),
-    ("enum E { #[token(\"a\", \"b\")] A }", 20, 21),
-    ("enum E { #[token(\"a\",)] A }", 20, 21),
-    ("enum E { #[token(\"a\") b] A }", 22, 23),
-    ("enum E { #[token(5) b] A }", 17, 18),
-    ("enum E { #[token(\"a\")] }", 0, 0),
-    ("enum E { #[a] }", 0, 0),
-    ("enum E { /// a\n }", 0, 0),
-    ("enum E { #[token(\"a\")], A }", 22, 23),
-    ("enum E { //! a\n A }", 9, 14),
+/// Variants that do not fit.
+const MISFITS_OF_VARIANTS: &[(&str, &str)] = &[
+    ("enum E { # }", "Grammar { span: Span { from: 0, to: 0 } }"),
+    (
+        "enum E { # A }",
+        "Grammar { span: Span { from: 11, to: 12 } }",
+    ),
+    (
+        "enum E { #(token(\"a\")) A }",
+        "Grammar { span: Span { from: 10, to: 22 } }",
+    ),
+    (
+        "enum E { #[] A }",
+        "Grammar { span: Span { from: 0, to: 0 } }",
+    ),
+    (
+        "enum E { #[5] A }",
+        "Grammar { span: Span { from: 11, to: 12 } }",
+    ),
+    (
+        "enum E { #[a b] A }",
+        "Grammar { span: Span { from: 13, to: 14 } }",
+    ),
+    (
+        "enum E { #[a() b] A }",
+        "Grammar { span: Span { from: 15, to: 16 } }",
+    ),
+    (
+        "enum E { #[a =] A }",
+        "Grammar { span: Span { from: 0, to: 0 } }",
+    ),
+    (
+        "enum E { #[a:b] A }",
+        "Grammar { span: Span { from: 12, to: 13 } }",
+    ),
+    (
+        "enum E { #[a:=b] A }",
+        "Grammar { span: Span { from: 13, to: 14 } }",
+    ),
+    (
+        "enum E { #[a::] A }",
+        "Grammar { span: Span { from: 0, to: 0 } }",
+    ),
+    (
+        "enum E { #[a::5] A }",
+        "Grammar { span: Span { from: 14, to: 15 } }",
+    ),
+    (
+        "enum E { #[a;] A }",
+        "Grammar { span: Span { from: 12, to: 13 } }",
+    ),
+    (
+        "enum E { #[regex(a)] A }",
+        "Grammar { span: Span { from: 17, to: 18 } }",
+    ),
+    (
+        "enum E { #[token] A }",
+        "Grammar { span: Span { from: 0, to: 0 } }",
+    ),
+    (
+        "enum E { #[regex] A }",
+        "Grammar { span: Span { from: 0, to: 0 } }",
+    ),
+    (
+        "enum E { #[token = \"a\"] A }",
+        "Grammar { span: Span { from: 17, to: 18 } }",
+    ),
+    (
+        "enum E { #[token[\"a\"]] A }",
+        "Grammar { span: Span { from: 16, to: 21 } }",
+    ),
+    (
+        "enum E { #[regex{\"a\"}] A }",
+        "Grammar { span: Span { from: 16, to: 21 } }",
+    ),
+    (
+        "enum E { #[token()] A }",
+        "Grammar { span: Span { from: 0, to: 0 } }",
+    ),
+    (
+        "enum E { #[token(a)] A }",
+        "Grammar { span: Span { from: 17, to: 18 } }",
+    ),
+    (
+        "enum E { #[token(5)] A }",
+        "Grammar { span: Span { from: 17, to: 18 } }",
+    ),
+    (
+        "enum E { #[token('a')] A }",
+        "Grammar { span: Span { from: 17, to: 20 } }",
+    ),
+    (
+        "enum E { #[token(b'a')] A }",
+        "Grammar { span: Span { from: 17, to: 21 } }",
+    ),
+    (
+        "enum E { #[token(c\"a\")] A }",
+        "Grammar { span: Span { from: 17, to: 21 } }",
+    ),
+    (
+        "enum E { #[token(cr\"a\")] A }",
+        "Grammar { span: Span { from: 17, to: 22 } }",
+    ),
+    (
+        "enum E { #[token(\"a\" a)] A }",
+        "Grammar { span: Span { from: 21, to: 22 } }",
+    ),
+    (
+        "enum E { #[token(\"a\", \"b\")] A }",
+        "Grammar { span: Span { from: 20, to: 21 } }",
+    ),
+    (
+        "enum E { #[token(\"a\",)] A }",
+        "Grammar { span: Span { from: 20, to: 21 } }",
+    ),
+    (
+        "enum E { #[token(\"a\") b] A }",
+        "Grammar { span: Span { from: 22, to: 23 } }",
+    ),
+    (
+        "enum E { #[token(5) b] A }",
+        "Grammar { span: Span { from: 17, to: 18 } }",
+    ),
+    (
+        "enum E { #[token(\"a\")] }",
+        "Grammar { span: Span { from: 0, to: 0 } }",
+    ),
+    (
+        "enum E { #[a] }",
+        "Grammar { span: Span { from: 0, to: 0 } }",
+    ),
+    (
+        "enum E { /// a\n }",
+        "Grammar { span: Span { from: 0, to: 0 } }",
+    ),
+    (
+        "enum E { #[token(\"a\")], A }",
+        "Grammar { span: Span { from: 22, to: 23 } }",
+    ),
+    (
+        "enum E { //! a\n A }",
+        "Grammar { span: Span { from: 9, to: 14 } }",
+    ),
 ];
 
-const MISFITS_OF_OPTIONS: &[(&str, usize, usize)] = &[
-    ("#[logos] enum E {}", 0, 0),
-    ("#[logos = 5] enum E {}", 8, 9),
-    ("#[logos[skip \"a\"]] enum E {}", 7, 17),
-    ("#[logos(skip)] enum E {}", 0, 0),
-    ("#[logos(skip a)] enum E {}", 13, 14),
-    ("#[logos(skip(\"a\"))] enum E {}", 12, 17),
-    ("#[logos(skip = \"a\")] enum E {}", 13, 14),
-    ("#[logos(skip \"a\" skip \"b\")] enum E {}", 17, 21),
-    ("#[logos(skip \"a\",, skip \"b\")] enum E {}", 17, 18),
-    ("#[logos(,)] enum E {}", 8, 9),
-    ("#[logos(r#skip \"a\")] enum E {}", 8, 14),
-    ("#[logos(\"a\")] enum E {}", 8, 11),
-    ("#[logos(utf8)] enum E {}", 0, 0),
-    ("#[logos(utf8 true)] enum E {}", 13, 17),
-    ("#[logos(utf8 =)] enum E {}", 0, 0),
-    ("#[logos(utf8 = 1)] enum E {}", 15, 16),
-    ("#[logos(utf8 = maybe)] enum E {}", 15, 20),
-    ("#[logos(utf8 = true, utf8 = true)] enum E {}", 21, 25),
+/// Options that do not fit.
+const MISFITS_OF_OPTIONS: &[(&str, &str)] = &[
+    (
+        "#[logos] enum E {}",
+        "Grammar { span: Span { from: 0, to: 0 } }",
+    ),
+    (
+        "#[logos = 5] enum E {}",
+        "Grammar { span: Span { from: 8, to: 9 } }",
+    ),
+    (
+        "#[logos[skip \"a\"]] enum E {}",
+        "Grammar { span: Span { from: 7, to: 17 } }",
+    ),
+    (
+        "#[logos(skip)] enum E {}",
+        "Grammar { span: Span { from: 0, to: 0 } }",
+    ),
+    (
+        "#[logos(skip a)] enum E {}",
+        "Grammar { span: Span { from: 13, to: 14 } }",
+    ),
+    (
+        "#[logos(skip(\"a\"))] enum E {}",
+        "Grammar { span: Span { from: 12, to: 17 } }",
+    ),
+    (
+        "#[logos(skip = \"a\")] enum E {}",
+        "Grammar { span: Span { from: 13, to: 14 } }",
+    ),
+    (
+        "#[logos(skip \"a\" skip \"b\")] enum E {}",
+        "Grammar { span: Span { from: 17, to: 21 } }",
+    ),
+    (
+        "#[logos(skip \"a\",, skip \"b\")] enum E {}",
+        "Grammar { span: Span { from: 17, to: 18 } }",
+    ),
+    (
+        "#[logos(,)] enum E {}",
+        "Grammar { span: Span { from: 8, to: 9 } }",
+    ),
+    (
+        "#[logos(r#skip \"a\")] enum E {}",
+        "Grammar { span: Span { from: 8, to: 14 } }",
+    ),
+    (
+        "#[logos(\"a\")] enum E {}",
+        "Grammar { span: Span { from: 8, to: 11 } }",
+    ),
+    (
+        "#[logos(utf8)] enum E {}",
+        "Grammar { span: Span { from: 0, to: 0 } }",
+    ),
+    (
+        "#[logos(utf8 true)] enum E {}",
+        "Grammar { span: Span { from: 13, to: 17 } }",
+    ),
+    (
+        "#[logos(utf8 =)] enum E {}",
+        "Grammar { span: Span { from: 0, to: 0 } }",
+    ),
+    (
+        "#[logos(utf8 = 1)] enum E {}",
+        "Grammar { span: Span { from: 15, to: 16 } }",
+    ),
+    (
+        "#[logos(utf8 = maybe)] enum E {}",
+        "Grammar { span: Span { from: 15, to: 20 } }",
+    ),
+    (
+        "#[logos(utf8 = true, utf8 = true)] enum E {}",
+        "Grammar { span: Span { from: 21, to: 25 } }",
+    ),
     (
         "#[logos(utf8 = true)] #[logos(utf8 = true)] enum E {}",
-        30,
-        34,
+        "Grammar { span: Span { from: 30, to: 34 } }",
     ),
-    ("#[logos(extras = u8)] enum E {}", 8, 14),
-    ("#[logos(skip 5)] enum E { A B }", 13, 14),
-    ("#[logos(skip 5)] enum 5", 13, 14),
+    (
+        "#[logos(extras = u8)] enum E {}",
+        "Grammar { span: Span { from: 8, to: 14 } }",
+    ),
+    (
+        "#[logos(skip 5)] enum E { A B }",
+        "Grammar { span: Span { from: 13, to: 14 } }",
+    ),
+    (
+        "#[logos(skip 5)] enum 5",
+        "Grammar { span: Span { from: 13, to: 14 } }",
+    ),
 ];
 
-#[test]
-fn names_what_is_no_enum_and_the_first_misfit(rt: HostRuntime) {
-    are_refused(&rt, rt.alloc(), "no enum ", NO_ENUMS);
-    are_refused(&rt, rt.alloc(), "misfit ", MISFITS_OF_ITEMS);
-    are_refused(&rt, rt.alloc(), "misfit ", MISFITS_OF_VARIANTS);
-    are_refused(&rt, rt.alloc(), "misfit ", MISFITS_OF_OPTIONS);
-}
-
-/// Sources, what is told of them, and the answer.
-const READ: &[(&str, Told, &str)] = &[
+/// Sources that are enums.
+const READ: &[(&str, &str)] = &[
     (
         "#[logos(skip b\" \",)] enum T { #[token(\"ab\")] #[regex(r#\"c\"#)] A, B, #[token(\"a\"u8)] C, }",
-        Told::Definitions,
-        "T 26..27 true: b\" \" 13..17 skip, \"ab\" 38..42 token, r#\"c\"# 53..59 regex, \"a\"u8 76..81 token, ",
+        "T 26..27 true: b\" \" 13..17 skip, \"ab\" 38..42 token A 62..63, r#\"c\"# 53..59 regex A 62..63, \"a\"u8 76..81 token C 84..85, ",
     ),
     (
         "enum T { #[token(\"ab\")] #[regex(\"c\")] A, B, #[token(\"a\")] C, }",
-        Told::Names,
-        "T 5..6 true: A 38..39, A 38..39, C 58..59, ",
+        "T 5..6 true: \"ab\" 17..21 token A 38..39, \"c\" 32..35 regex A 38..39, \"a\" 52..55 token C 58..59, ",
     ),
-    ("enum E {}", Told::Counts, "true 0"),
-    ("pub enum E { A }", Told::Counts, "true 0"),
-    ("pub() enum E { A }", Told::Counts, "true 0"),
-    (
-        "pub(in a::b) enum r#E { r#enum, _ }",
-        Told::Counts,
-        "true 0",
-    ),
+    ("enum E {}", "E 5..6 true: "),
+    ("pub enum E { A }", "E 9..10 true: "),
+    ("pub() enum E { A }", "E 11..12 true: "),
+    ("pub(in a::b) enum r#E { r#enum, _ }", "r#E 18..21 true: "),
     (
         "#[a] #[a::b] #[::a] #[::a::b(c)] #[a[b]] #[a{b}] #[a = b c] #[a == b] enum E { A }",
-        Told::Counts,
-        "true 0",
+        "E 75..76 true: ",
     ),
     (
         "#[derive(Debug, Logos)] /// outer\n/** outer */ pub enum E { A }",
-        Told::Counts,
-        "true 0",
+        "E 56..57 true: ",
     ),
     (
         "#[tokens(\"a\")] #[token] #[token = 5] #[regex(x)] enum E { A }",
-        Told::Counts,
-        "true 0",
+        "E 54..55 true: ",
     ),
     (
         "#[logos::a] #[::logos] #[logos::a = 5] #[logo] #[r#logos] #[logos()] enum E { A }",
-        Told::Counts,
-        "true 0",
+        "E 74..75 true: ",
     ),
     (
         "enum E { #[a] A, /// outer\n B, #[a::b] #[::a] #[a = b] /** outer */ C }",
-        Told::Counts,
-        "true 0",
+        "E 5..6 true: ",
     ),
     (
         "enum E { #[tokens(\"a\")] #[tok(\"a\")] #[r#token(\"a\")] #[token::a(\"a\")] #[::token(\"a\")] A }",
-        Told::Counts,
-        "true 0",
+        "E 5..6 true: ",
     ),
     (
         "enum E { #[logos(skip 5)] #[logos] #[regexes] A, }",
-        Told::Counts,
-        "true 0",
+        "E 5..6 true: ",
     ),
-    ("#[logos(utf8 = true)] enum E {}", Told::Counts, "true 0"),
-    ("#[logos(utf8 = false)] enum E {}", Told::Counts, "false 0"),
-    (
-        "#[logos(utf8 = false,)] pub enum E {}",
-        Told::Counts,
-        "false 0",
-    ),
+    ("#[logos(utf8 = true)] enum E {}", "E 27..28 true: "),
+    ("#[logos(utf8 = false)] enum E {}", "E 28..29 false: "),
+    ("#[logos(utf8 = false,)] pub enum E {}", "E 33..34 false: "),
     (
         "#[logos(skip \"a\", utf8 = false, skip \"b\")] enum E {}",
-        Told::Counts,
-        "false 2",
+        "E 48..49 false: \"a\" 13..16 skip, \"b\" 37..40 skip, ",
     ),
     (
         "#[logos(skip \"a\")] #[a] #[logos(utf8 = false)] #[logos(skip r\"b\")] enum E {}",
-        Told::Counts,
-        "false 2",
+        "E 72..73 false: \"a\" 13..16 skip, r\"b\" 60..64 skip, ",
     ),
     (
         "#[logos(skip \"a\")] #[logos(skip \"b\", skip \"c\")] enum E {}",
-        Told::Counts,
-        "true 3",
+        "E 53..54 true: \"a\" 13..16 skip, \"b\" 32..35 skip, \"c\" 42..45 skip, ",
+    ),
+];
+
+/// Literals that hold text.
+const TEXT_LITERALS: &[(&str, &str)] = &[
+    (
+        "enum E { #[regex(\"\")] A }",
+        "E 5..6 true: \"\" 17..19 regex A 22..23, ",
+    ),
+    (
+        "enum E { #[regex(\"a\\n\")] A }",
+        "E 5..6 true: \"a\\n\" 17..22 regex A 25..26, ",
+    ),
+    (
+        "enum E { #[regex(\"é\")] A }",
+        "E 5..6 true: \"é\" 17..21 regex A 24..25, ",
+    ),
+    (
+        "enum E { #[regex(\"\\\"\")] A }",
+        "E 5..6 true: \"\\\"\" 17..21 regex A 24..25, ",
+    ),
+    (
+        "enum E { #[regex(r\"a\")] A }",
+        "E 5..6 true: r\"a\" 17..21 regex A 24..25, ",
+    ),
+    (
+        "enum E { #[regex(r##\"a\"##)] A }",
+        "E 5..6 true: r##\"a\"## 17..25 regex A 28..29, ",
+    ),
+    (
+        "enum E { #[regex(b\"a\")] A }",
+        "E 5..6 true: b\"a\" 17..21 regex A 24..25, ",
+    ),
+    (
+        "enum E { #[regex(b\"\")] A }",
+        "E 5..6 true: b\"\" 17..20 regex A 23..24, ",
+    ),
+    (
+        "enum E { #[regex(br\"a\")] A }",
+        "E 5..6 true: br\"a\" 17..22 regex A 25..26, ",
+    ),
+    (
+        "enum E { #[regex(br#\"a\"#)] A }",
+        "E 5..6 true: br#\"a\"# 17..24 regex A 27..28, ",
+    ),
+    (
+        "enum E { #[regex(\"a\"suffix)] A }",
+        "E 5..6 true: \"a\"suffix 17..26 regex A 29..30, ",
+    ),
+    (
+        "enum E { #[regex(b\"a\"r#suffix)] A }",
+        "E 5..6 true: b\"a\"r#suffix 17..29 regex A 32..33, ",
     ),
 ];
 
 #[test]
-fn reads_definitions_names_and_modes(rt: HostRuntime) {
-    for (source, told, wanted) in READ {
-        let mut text = String::new(rt.alloc());
-        push_read(&rt, rt.alloc(), &mut text, source, *told);
-        judge(&rt, source, &text, wanted);
-    }
-}
-
-const TEXT_LITERALS: &[&str] = &[
-    "\"\"",
-    "\"a\\n\"",
-    "\"é\"",
-    "\"\\\"\"",
-    "r\"a\"",
-    "r##\"a\"##",
-    "b\"a\"",
-    "b\"\"",
-    "br\"a\"",
-    "br#\"a\"#",
-    "\"a\"suffix",
-    "b\"a\"r#suffix",
-];
-
-#[test]
-fn reads_text_literals(rt: HostRuntime) {
-    for literal in TEXT_LITERALS {
-        let mut source = String::new(rt.alloc());
-        write!(source, "enum E {{ #[regex({literal})] A }}").expect(&rt, "memory");
-        let (mut text, mut wanted) = (String::new(rt.alloc()), String::new(rt.alloc()));
-        push_read(&rt, rt.alloc(), &mut text, &source, Told::Definitions);
-        let to = literal.len().saturating_add(17);
-        write!(wanted, "E 5..6 true: {literal} 17..{to} regex, ").expect(&rt, "memory");
-        judge(&rt, literal, &text, &wanted);
+fn enums_of_definitions(rt: HostRuntime) {
+    for rows in [
+        NO_ENUMS,
+        MISFITS_OF_ITEMS,
+        MISFITS_OF_VARIANTS,
+        MISFITS_OF_OPTIONS,
+        READ,
+        TEXT_LITERALS,
+    ] {
+        are_told(&rt, rt.alloc(), &Ask::Definitions, rows);
     }
 }

@@ -1,10 +1,7 @@
 //! Definitions: what stands in `skip(..)`, which is read as `token(..)` and `regex(..)` are.
 
-use super::asking::{Told, tells};
-use std::test::Fail;
-
 /// Faults of the literal.
-const LITERALS: &str = r##"skip "a", skip("b", priority = 3), skip r"c" dropped => none
+pub(super) const LITERALS: &str = r##"skip "a", skip("b", priority = 3), skip r"c" dropped => none
 skip 5 => 5..6 NotText "Expected a &str or &[u8] slice";
 skip "a", skip 'x', skip b"c" => 15..18 NotText "Expected a &str or &[u8] slice";
 skip(5) => 5..6 NotText "Expected a &str or &[u8] slice";5..6 SkipGroup "Expected #[logos(skip(\"regex literal\"[, [callback = ] callback, priority = priority]))]";
@@ -17,7 +14,7 @@ skip("a",|x| y) => 5..14 LiteralSyntax "expected a literal";5..14 SkipGroup "Exp
 skip, skip = 1, skip x = 1 => 0..4 InvalidNested "Invalid nested attribute";6..10 SkipForm "Expected: #[logos(skip \"regex literal\")] or #[logos(skip(...))]";16..20 SkipForm "Expected: #[logos(skip \"regex literal\")] or #[logos(skip(...))]";"##;
 
 /// Faults of priorities, and of what is said of greedy dots.
-const NUMBERS_AND_BOOLEANS: &str =
+pub(super) const NUMBERS_AND_BOOLEANS: &str =
     r##"skip("a", priority = x) => 21..22 PriorityValue "Expected an unsigned integer";
 skip("a", priority = ) => 0..0 PriorityValue "Expected an unsigned integer";
 skip("a", priority = 1 2) => 21..24 PriorityValue "Expected an unsigned integer";
@@ -40,7 +37,7 @@ skip("a", allow_greedy = true, allow_greedy = false) => 46..51 GreedyTwice "Rese
 skip("a", allow_greedy(true)) => 10..22 GreedyForm "Expected: allow_greedy = ...";"##;
 
 /// Faults of callbacks.
-const CALLBACKS: &str =
+pub(super) const CALLBACKS: &str =
     r##"skip("a", f), skip("a", callback = f::<u8>), skip("a", |x| y), skip("a", callback = |x| { y } z) => none
 skip("a", |x, y| z) => 10..12 CallbackBody "Callback missing a body";14..18 NamedExpected "Expected a named argument at this position\n\nhint: If you are trying to define a callback here use: callback = ...";
 skip("a", || z) => none
@@ -58,7 +55,8 @@ skip("a", callback = |x| y, callback = |z|) => 39..42 CallbackBody "Callback mis
 skip("a", callback(f)) => 10..18 CallbackForm "Expected: callback = ...";"##;
 
 /// Faults of flags, of unknown names, and of what has no name.
-const OTHER_ARGUMENTS: &str = r##"skip("a", ignore(case, case)), skip("a", ignore(case,)) => none
+pub(super) const OTHER_ARGUMENTS: &str =
+    r##"skip("a", ignore(case, case)), skip("a", ignore(case,)) => none
 skip("a", ignore()) => 10..16 IgnoreEmpty "Invalid ignore flag\n\nExpected one of: case";
 skip("a", ignore(,)) => 10..16 IgnoreEmpty "Invalid ignore flag\n\nExpected one of: case";
 skip("a", ignore(case, 1)) => 10..16 IgnoreEmpty "Invalid ignore flag\n\nExpected one of: case";
@@ -76,7 +74,8 @@ skip("a", shape = 1, r#priority = 1) => 10..15 UnknownNested "Unknown nested att
 skip("a", f, ,) => 13..14 NamedExpected "Expected a named argument at this position\n\nhint: If you are trying to define a callback here use: callback = ...";"##;
 
 /// What is read, with faults beside it or without.
-const READ: &str = r##"skip "a" dropped, skip(b"b") => "a" None None false -;b"b" None None false -;
+pub(super) const READ: &str =
+    r##"skip "a" dropped, skip(b"b") => "a" None None false -;b"b" None None false -;
 skip 5, skip(5), skip() => none
 skip("a", priority = 007) => "a" Some(7) None false -;
 skip("a", priority = 18446744073709551615) => "a" Some(18446744073709551615) None false -;
@@ -99,32 +98,15 @@ skip("a", callback, priority = 1) => "a" Some(1) None false callback;
 skip("a", ,) => "a" None None false ,;"##;
 
 /// Definitions that stand alone.
-const DEFINED: &str = r##" => none
+pub(super) const DEFINED: &str = r##" => none
 b"a", f, priority = 1, allow_greedy = true => b"a" Some(1) Some(true) false f;none
 "a", priority = x, speed = 1, priority = 2 => "a" Some(2) None false -;16..17 PriorityValue "Expected an unsigned integer";19..24 UnknownNested "Unknown nested attribute: speed\n\nExpected one of: priority, callback";
 5, f => 0..1 NotText "Expected a &str or &[u8] slice";
 a, f => 0..1 LiteralSyntax "expected a literal";"##;
 
 /// What the calls do that are lent beside a parser.
-const LENT: &str =
+pub(super) const LENT: &str =
     r##""a" priority = 3 => "a" Some(3) None false -;- false 4..12 UnknownNested "Unknown nested attribute: priority\n\nExpected one of: callback";
 "a" callback = f => "a" None None false f;f false none
 "a" callback f = g => "a" None None false -;- false 4..12 CallbackForm "Expected: callback = ...";4..12 CallbackForm "Expected: callback = ...";
 "a" ignore(case) => "a" None None true -;- true 4..10 UnknownNested "Unknown nested attribute: ignore\n\nExpected one of: callback";"##;
-
-#[test]
-fn definitions(rt: HostRuntime) -> Result<(), Fail> {
-    tells(
-        &rt,
-        rt.alloc(),
-        &[
-            (Told::Faults, LITERALS),
-            (Told::Faults, NUMBERS_AND_BOOLEANS),
-            (Told::Faults, CALLBACKS),
-            (Told::Faults, OTHER_ARGUMENTS),
-            (Told::Skips, READ),
-            (Told::Defined, DEFINED),
-            (Told::Lent, LENT),
-        ],
-    )
-}

@@ -1,10 +1,7 @@
 //! The options of a lexer: the arguments of `#[logos(..)]` but for `skip`.
 
-use super::asking::{Told, tells};
-use std::test::Fail;
-
 /// Faults of options that have no type.
-const FAULTS: &str = r##" => none
+pub(super) const FAULTS: &str = r##" => none
 utf8 = true, utf8 = false => 20..25 Utf8Twice "Utf8 mode can be defined only once";7..11 Previous "Previous definition here";
 utf8 = 1 => 7..8 Utf8Value "Expected a boolean literal: expected boolean literal";
 utf8 = true false => 7..17 Utf8Value "Expected a boolean literal: expected boolean literal";
@@ -38,7 +35,7 @@ extras = A, , utf8 = 1 => 12..22 InvalidNested "Invalid nested attribute";
 extras = A<B, C>, utf8 = true => 14..16 InvalidNested "Invalid nested attribute";"##;
 
 /// Faults of `error(..)` and `type`. Behind an `error(..)` without a type no argument is read.
-const FAULTS_OF_TYPES: &str =
+pub(super) const FAULTS_OF_TYPES: &str =
     r##"error(), utf8 = 1 => 0..0 ErrorEmpty "Expected #[logos(error(SomeType))]";
 error(, A), utf8 = 1 => 6..9 ErrorEmpty "Expected #[logos(error(SomeType))]";
 error(5), utf8 = 1 => 6..7 TypeSyntax "not a type";
@@ -61,7 +58,7 @@ type T = &&&&&&&&&&&&&&&&&&&&&&&&&&&&&&&&&&&&&&&&&&&&&&&&&&&&&&&&&&&&&&&&&&&&&&&
 error(&&&&&&&&&&&&&&&&&&&&&&&&&&&&&&&&&&&&&&&&&&&&&&&&&&&&&&&&&&&&&&&&&&&&&&&&&&&&&&&&&&&&&&&&&&&&&&&&&&&&&&&&&&&&&&&&&&&&&&&&&&&&&&&&u8), utf8 = 1 => 6..136 LimitTypeNesting "limit LimitTypeNesting passed";"##;
 
 /// What is read, with faults beside it or without.
-const READ: &str = r##" => -;( );
+pub(super) const READ: &str = r##" => -;( );
 utf8 = false => false;( );
 utf8 = true, utf8 = false, utf8 = 1 => false;( );
 extras = A, extras = B<C> => -;B < C >;
@@ -83,16 +80,3 @@ error = A, error() => -;( );error A -;
 error(A, f), error(B) => -;( );error B -;
 speed = 1, utf8 = true => true;( );
 extras = A,, utf8 = true => true;A ,;"##;
-
-#[test]
-fn options(rt: HostRuntime) -> Result<(), Fail> {
-    tells(
-        &rt,
-        rt.alloc(),
-        &[
-            (Told::Faults, FAULTS),
-            (Told::Faults, FAULTS_OF_TYPES),
-            (Told::Options, READ),
-        ],
-    )
-}

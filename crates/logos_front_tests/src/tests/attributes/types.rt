@@ -1,145 +1,113 @@
 //! Type parameters: the types given to them, and what becomes of types that name them.
 
-use super::asking::{Told, push_faults, tells};
+use super::super::rows::push;
+use super::super::tokens::push_faults;
 use logos_attribute::nested::{AttributeParser, Nested, NestedValue};
 use logos_definition::parser::Parser;
-use logos_token::error::Memory;
-use logos_token::token::{TokenTree, Tokens, tokenize};
+use logos_token::token::{TokenTree, Tokens};
 use logos_type::{Part, TypeExpr, print_type};
 use logos_type_params::{Replacing, TypeParam, holds_itself, type_after};
-use logos_type_reader::{TypeFault, read_type};
-use std::alloc::{AllocError, Global};
-use std::test::Fail;
+use logos_type_reader::read_type;
+use std::alloc::Global;
+use std::process::Abort;
 
 /// What the first group of a run holds.
-fn group_of<'t, 's>(run: Tokens<'t, 's>) -> Result<Tokens<'t, 's>, Fail> {
+fn group_of<'t, 's>(rt: &impl Abort, run: Tokens<'t, 's>) -> Tokens<'t, 's> {
     match run.first() {
-        Some(TokenTree::Group(group)) => Ok(group.run()),
-        _ => Err("no group")?,
+        Some(TokenTree::Group(group)) => group.run(),
+        _ => panic!(rt; "no group"),
     }
 }
 
-/// Declares the names; any other token stands for a lifetime.
-fn declare<'s>(parser: &mut Parser<'s>, names: Tokens<'_, 's>) -> Result<(), Memory> {
-    for tree in names.iter() {
+/// Adds the faults of arguments, where the names in the group in front of them are declared. A token in it that is no name stands for a
+/// lifetime.
+pub(super) fn push_given(rt: &impl Abort, alloc: Global, out: &mut String, run: Tokens<'_, '_>) {
+    let mut parser = Parser::new(alloc);
+    for tree in group_of(rt, run).iter() {
         match tree {
-            TokenTree::Ident(name) => parser.types.add(name)?,
+            TokenTree::Ident(name) => parser.types.add(name),
             _ => parser
                 .types
-                .explicit_lifetime(tree.span(), &mut parser.errors)?,
+                .explicit_lifetime(tree.span(), &mut parser.errors),
         }
+        .expect(rt, "memory");
     }
-    Ok(())
+    parser.read_logos(run.rest()).expect(rt, "memory");
+    parser.types.check(&mut parser.errors).expect(rt, "memory");
+    push_faults(rt, out, &parser.errors);
 }
 
-/// Declares the names in the group in front, reads the arguments behind it, and lists the names that
-/// hold themselves.
-fn read_given<'s>(parser: &mut Parser<'s>, run: Tokens<'_, 's>) -> Result<(), Fail> {
-    declare(parser, group_of(run)?)?;
-    parser.read_logos(run.rest())?;
-    Ok(parser.types.check(&mut parser.errors)?)
-}
-
-/// Adds the faults of arguments, where the names in the group in front of them are declared.
-pub(super) fn push_given(alloc: Global, out: &mut String, text: &str) -> Result<(), Fail> {
-    let stream = tokenize(alloc, text)?;
-    let mut parser = Parser::new(alloc);
-    read_given(&mut parser, stream.run())?;
-    Ok(push_faults(out, &parser.errors)?)
-}
-
-/// The type that is assigned to a name.
-fn param_in<'s>(alloc: Global, nested: Nested<'_, 's>) -> Result<TypeParam<'s>, Fail> {
-    let Nested::Named(name, NestedValue::Assign(run)) = nested else {
-        return Err("no type")?;
-    };
-    let (type_expr, _) = read_type(alloc, run).ok().ok_or("no type")?;
-    Ok(TypeParam {
-        name,
-        part: type_expr.part,
-        span: run.span(),
-    })
+/// The type that the front of a run is.
+fn part_of<'s>(rt: &impl Abort, alloc: Global, run: Tokens<'_, 's>) -> Part<'s> {
+    match read_type(alloc, run) {
+        Ok((type_expr, _)) => type_expr.part,
+        Err(_) => panic!(rt; "no type"),
+    }
 }
 
 /// The types that are assigned to names, one after another.
-fn given<'s>(alloc: Global, run: Tokens<'_, 's>) -> Result<Vec<TypeParam<'s>>, Fail> {
+fn given<'s>(rt: &impl Abort, alloc: Global, run: Tokens<'_, 's>) -> Vec<TypeParam<'s>> {
     let mut types = Vec::new(alloc);
     for nested in AttributeParser::new(run) {
-        types.push(param_in(alloc, nested)?)?;
-    }
-    Ok(types)
-}
-
-/// The names that hold themselves.
-fn held_in<'s>(alloc: Global, types: &[TypeParam<'s>]) -> Result<Vec<&'s str>, Fail> {
-    let mut held = Vec::new(alloc);
-    for param in types {
-        if holds_itself(alloc, types, param.name.text)? {
-            held.push(param.name.text)?;
+        if let Nested::Named(name, NestedValue::Assign(run)) = nested {
+            let part = part_of(rt, alloc, run);
+            let span = run.span();
+            types
+                .push(TypeParam { name, part, span })
+                .expect(rt, "memory");
         }
     }
-    Ok(held)
+    types
 }
 
-/// What becomes of a type within the fewest levels, and how many they are.
-fn least<'s>(
-    alloc: Global,
-    replacing: Replacing<'_, 's>,
-    part: &Part<'s>,
-) -> Result<(u32, Part<'s>), Fail> {
-    for levels in 0..=128 {
-        match type_after(alloc, levels, replacing, part) {
-            Ok(after) => return Ok((levels, after)),
-            Err(TypeFault::LimitNesting) => {}
-            Err(_) => Err("no memory")?,
-        }
-    }
-    Err("too deep")?
-}
-
-fn push_names(out: &mut String, names: &[&str]) -> Result<(), AllocError> {
-    for name in names {
-        write!(out, "{name} ")?;
-    }
-    Ok(())
-}
-
-/// Adds how many levels it takes, and what becomes of the type that a run is.
-fn push_least<'s>(
-    alloc: Global,
-    out: &mut String,
-    replacing: Replacing<'_, 's>,
-    run: Tokens<'_, 's>,
-) -> Result<(), Fail> {
-    let (type_expr, _) = read_type(alloc, run).ok().ok_or("no type")?;
-    let (levels, part) = least(alloc, replacing, &type_expr.part)?;
-    let text = print_type(alloc, &TypeExpr { part })?;
-    Ok(write!(out, "{levels}: {text}")?)
-}
-
-/// Adds the names that hold themselves, and what becomes of the type that a run is.
-fn push_after<'s>(
+/// The names that hold themselves, which it adds to the text.
+fn push_held<'s>(
+    rt: &impl Abort,
     alloc: Global,
     out: &mut String,
     types: &[TypeParam<'s>],
-    run: Tokens<'_, 's>,
-) -> Result<(), Fail> {
-    let held = held_in(alloc, types)?;
-    push_names(out, &held)?;
-    let replacing = Replacing { types, held: &held };
-    push_least(alloc, out, replacing, run)
+) -> Vec<&'s str> {
+    let mut held = Vec::new(alloc);
+    for param in types {
+        if holds_itself(alloc, types, param.name.text).expect(rt, "memory") {
+            held.push(param.name.text).expect(rt, "memory");
+            push(rt, out, param.name.text);
+            push(rt, out, " ");
+        }
+    }
+    held
+}
+
+/// Adds what becomes of a type within the fewest levels, and how many they are.
+fn push_least<'s>(
+    rt: &impl Abort,
+    alloc: Global,
+    out: &mut String,
+    replacing: Replacing<'_, 's>,
+    part: &Part<'s>,
+) {
+    for levels in 0..129 {
+        if let Ok(part) = type_after(alloc, levels, replacing, part) {
+            let text = print_type(alloc, &TypeExpr { part }).expect(rt, "memory");
+            return write!(out, "{levels}: {text}").expect(rt, "memory");
+        }
+    }
 }
 
 /// Adds the names that hold themselves, how many levels it takes, and what becomes of the type, which
 /// stands behind the types of names.
-pub(super) fn push_replaced(alloc: Global, out: &mut String, text: &str) -> Result<(), Fail> {
-    let stream = tokenize(alloc, text)?;
-    let types = given(alloc, group_of(stream.run())?)?;
-    push_after(alloc, out, &types, stream.run().rest())
+pub(super) fn push_replaced(rt: &impl Abort, alloc: Global, out: &mut String, run: Tokens<'_, '_>) {
+    let types = given(rt, alloc, group_of(rt, run));
+    let held = push_held(rt, alloc, out, &types);
+    let replacing = Replacing {
+        types: &types,
+        held: &held,
+    };
+    push_least(rt, alloc, out, replacing, &part_of(rt, alloc, run.rest()));
 }
 
 /// Names that are declared, arguments, and the faults of both.
-const GIVEN: &str = r#"(T) type T = u8 => none
+pub(super) const GIVEN: &str = r#"(T) type T = u8 => none
 (& &a) => 3..4 ManyLifetimes "Logos types can only have one lifetime";
 (T) type U = u8 => 9..10 NotTypeParameter "U is not a declared type parameter";
 (T) type T = u8 u8, type T = _ => 13..18 TypeSyntax "not a type";29..30 TypeSyntax "not a type";
@@ -153,7 +121,7 @@ const GIVEN: &str = r#"(T) type T = u8 => none
 (T) type T = <T as A>::B => none"#;
 
 /// Types of names, a type, and what becomes of it.
-const REPLACED: &str = r#"(T = Vec<&str>) &'a T => 4: & 's Vec < & 's str >
+pub(super) const REPLACED: &str = r#"(T = Vec<&str>) &'a T => 4: & 's Vec < & 's str >
 (T = Vec<U>, U = Option<T>) (T, U, V) => T U 2: ( T , U , V )
 (T = Vec<U>, U = Box<V>) T => 3: Vec < Box < V > >
 (T = U, U = Vec<V>) (T, U) => 3: ( U , Vec < V > )
@@ -169,12 +137,3 @@ const REPLACED: &str = r#"(T = Vec<&str>) &'a T => 4: & 's Vec < & 's str >
 (T = u8) &T => 2: & 's u8
 (T = Vec<u8>) (A, &T) => 4: ( A , & 's Vec < u8 > )
 (T = <&&u8 as P>::X) &T => 5: & 's < & & u8 as P > :: X"#;
-
-#[test]
-fn types(rt: HostRuntime) -> Result<(), Fail> {
-    tells(
-        &rt,
-        rt.alloc(),
-        &[(Told::Given, GIVEN), (Told::Replaced, REPLACED)],
-    )
-}

@@ -1,8 +1,9 @@
 // What is asked of the graph of some patterns, and its answer as a text.
 
-use super::super::rows::{judge_row, push, push_number};
-use super::matching::{found, state_count};
-use logos_graph::graph::{BuildError, Config, Dfa, Graph, GraphError, State, StateId};
+use super::super::rows::{judge, push};
+use super::matching::found;
+use super::states::{push_equal, push_names};
+use logos_graph::graph::{Config, Dfa, Graph, GraphError, StateId};
 use logos_pattern::leaf::Leaf;
 use logos_pattern::pattern::Pattern;
 use logos_token::token::Span;
@@ -13,15 +14,12 @@ use std::process::Abort;
 pub(super) type Rules<'a> = &'a [(&'a str, usize)];
 
 /// What is asked of the graph of some patterns.
-#[derive(Clone, Copy)]
 pub(super) enum Ask<'a> {
     /// Its errors, or the limit that it passes.
     Faults,
     /// Its states, each with its edges.
     Listing,
     Chart,
-    /// The fourth line of the chart: the node of its first edge.
-    Label,
     /// Each state in the plain form, and in the alternate one.
     States,
     /// The states that lead to each state.
@@ -39,6 +37,10 @@ pub(super) enum Ask<'a> {
     Finds(&'a [&'a str]),
     /// Whether the text, with the end after it or without, tells two of its states apart: 1 if it does, else 0.
     Tells(&'a [(usize, usize, &'a str, bool)]),
+    /// The names of its states.
+    Names,
+    /// Which made states equal the first of them.
+    Equal,
 }
 
 /// The leaves of patterns.
@@ -52,27 +54,15 @@ fn leaves<'s>(rt: &impl Abort, alloc: Global, rules: &[(&'s str, usize)]) -> Vec
     leaves
 }
 
-/// Adds an error.
-fn push_error(rt: &impl Abort, text: &mut String, error: &GraphError) {
-    match error {
-        GraphError::NoUniversalStart => push(rt, text, "start "),
-        GraphError::EmptyMatch(leaf) => {
-            push(rt, text, "empty ");
-            push_number(rt, text, leaf.0);
-        }
-        GraphError::Disambiguation(set) => {
-            push(rt, text, "same ");
-            for leaf in set {
-                push_number(rt, text, leaf.0);
-            }
-        }
-    }
+/// Adds a number and a space.
+fn push_number(rt: &impl Abort, text: &mut String, number: usize) {
+    write!(text, "{number} ").expect(rt, "memory");
 }
 
 /// Adds errors.
 pub(super) fn push_errors(rt: &impl Abort, text: &mut String, errors: &[GraphError]) {
     for error in errors {
-        push_error(rt, text, error);
+        write!(text, "{error:?} ").expect(rt, "memory");
     }
 }
 
@@ -117,18 +107,9 @@ fn push_child_count(rt: &impl Abort, text: &mut String, dfa: &Dfa, child: StateI
     push_number(rt, text, count);
 }
 
-/// How many states there are.
-pub(super) fn count_states(dfa: &Dfa) -> usize {
-    let mut count = 0usize;
-    for _ in dfa.get_states() {
-        count = count.saturating_add(1);
-    }
-    count
-}
-
 /// Adds the children to what is told.
 fn push_children(rt: &impl Abort, text: &mut String, dfa: &Dfa) {
-    push_number(rt, text, count_states(dfa));
+    push_number(rt, text, dfa.get_states().count());
     push_child_count(rt, text, dfa, behind(rt, dfa, b"a"));
     push_child_count(rt, text, dfa, behind(rt, dfa, b"b"));
     push_child_count(rt, text, dfa, dfa.start());
@@ -145,30 +126,26 @@ fn push_finds(rt: &impl Abort, text: &mut String, graph: &Graph<'_>, fronts: &[&
     }
 }
 
-/// Whether the text, with the end after it or without, tells two states apart; `?` where one is not there.
-fn told(graph: &Graph<'_>, case: &(usize, usize, &str, bool)) -> &'static str {
-    let mut states = graph.iter_states();
-    let (Some(one), Some(other)) = (states.nth(case.0), graph.iter_states().nth(case.1)) else {
-        return "?";
-    };
-    if !graph.contains(one) | !graph.contains(other) {
-        return "?";
-    }
-    if graph.checks(one, other, case.2.as_bytes(), case.3) {
-        return "1";
-    }
-    "0"
-}
-
-/// Adds what a row asks for.
-fn push_told(
+/// Adds whether each text, with the end after it or without, tells two states apart; `?` where one is not there.
+fn push_telling(
     rt: &impl Abort,
     text: &mut String,
     graph: &Graph<'_>,
     cases: &[(usize, usize, &str, bool)],
 ) {
     for case in cases {
-        push(rt, text, told(graph, case));
+        let mut states = graph.iter_states();
+        let answer = match (states.nth(case.0), graph.iter_states().nth(case.1)) {
+            (Some(one), Some(other)) if graph.contains(one) & graph.contains(other) => {
+                if graph.checks(one, other, case.2.as_bytes(), case.3) {
+                    "1"
+                } else {
+                    "0"
+                }
+            }
+            _ => "?",
+        };
+        push(rt, text, answer);
     }
 }
 
@@ -181,76 +158,53 @@ fn push_states(rt: &impl Abort, text: &mut String, graph: &Graph<'_>) {
     }
 }
 
-/// Adds the states of a list.
-fn push_numbers(rt: &impl Abort, text: &mut String, states: &[State]) {
-    for state in states {
-        push_number(rt, text, state.index());
-    }
-    push(rt, text, ";");
-}
-
 /// Adds the states that lead to each state.
 fn push_backward(rt: &impl Abort, text: &mut String, graph: &Graph<'_>) {
     for number in graph.iter_states() {
         assert!(rt; graph.contains(number));
-        push_numbers(rt, text, &graph.get_state(number).backward);
+        write!(text, "{:?};", graph.get_state(number).backward).expect(rt, "memory");
     }
 }
 
-/// Adds a text, or its fourth line alone.
-fn push_chart(rt: &impl Abort, text: &mut String, chart: &str, is_label: bool) {
-    if is_label {
-        push(rt, text, chart.lines().nth(3).unwrap_or("no line"));
-    } else {
-        push(rt, text, chart);
-    }
-}
-
-/// Adds the answer to what is told.
-fn push_answer(rt: &impl Abort, alloc: Global, text: &mut String, graph: &Graph<'_>, ask: Ask<'_>) {
+/// Adds what is asked of a graph.
+fn push_answer(
+    rt: &impl Abort,
+    alloc: Global,
+    text: &mut String,
+    graph: &Graph<'_>,
+    ask: &Ask<'_>,
+) {
     match ask {
         Ask::Faults => push_errors(rt, text, graph.errors()),
         Ask::Listing => write!(text, "{graph}").expect(rt, "memory"),
-        Ask::Chart => push_chart(
-            rt,
-            text,
-            &graph.get_mermaid(alloc).expect(rt, "memory"),
-            false,
-        ),
-        Ask::Label => push_chart(
-            rt,
-            text,
-            &graph.get_mermaid(alloc).expect(rt, "memory"),
-            true,
-        ),
+        Ask::Chart => push(rt, text, &graph.get_mermaid(alloc).expect(rt, "memory")),
         Ask::States => push_states(rt, text, graph),
         Ask::Backward => push_backward(rt, text, graph),
-        Ask::Len => push_number(rt, text, state_count(graph)),
+        Ask::Len => push_number(rt, text, graph.iter_states().count()),
         Ask::Lists(fronts) => push_lists(rt, text, graph.dfa(), fronts, false),
         Ask::ListsAtEnd(fronts) => push_lists(rt, text, graph.dfa(), fronts, true),
         Ask::Children => push_children(rt, text, graph.dfa()),
         Ask::Finds(fronts) => push_finds(rt, text, graph, fronts),
-        Ask::Tells(cases) => push_told(rt, text, graph, cases),
+        Ask::Tells(cases) => push_telling(rt, text, graph, cases),
+        Ask::Names => push_names(rt, alloc, text, graph),
+        Ask::Equal => push_equal(rt, alloc, text, graph),
     }
 }
 
-/// Adds what the graph of the patterns answers.
-fn push_graph(rt: &impl Abort, alloc: Global, text: &mut String, rules: Rules<'_>, ask: Ask<'_>) {
+/// Adds what the graph of the patterns answers, or why there is none.
+fn push_graph(rt: &impl Abort, alloc: Global, text: &mut String, rules: Rules<'_>, ask: &Ask<'_>) {
     let leaves = leaves(rt, alloc, rules);
-    match Graph::new(alloc, leaves, Config { utf8_mode: true }) {
-        Err(BuildError::LimitSize) => push(rt, text, "size"),
-        Err(BuildError::LimitStates) => push(rt, text, "states"),
-        Err(BuildError::Memory) => push(rt, text, "out of memory"),
-        Ok(graph) => push_answer(rt, alloc, text, &graph, ask),
+    match &Graph::new(alloc, leaves, Config { utf8_mode: true }) {
+        Err(error) => write!(text, "{error:?}").expect(rt, "memory"),
+        Ok(graph) => push_answer(rt, alloc, text, graph, ask),
     }
 }
 
-/// Each graph answers as is said behind its patterns and what is asked. A row that does not is named by its number and its first pattern.
+/// Each graph answers as is said behind its patterns and what is asked.
 pub(super) fn answers(rt: &impl Abort, alloc: Global, cases: &[(Rules<'_>, Ask<'_>, &str)]) {
-    for (number, case) in cases.iter().enumerate() {
+    for (rules, ask, wanted) in cases {
         let mut text = String::new(alloc);
-        push_graph(rt, alloc, &mut text, case.0, case.1);
-        let pattern = case.0.first().unwrap_or(&("no pattern", 0)).0;
-        judge_row(rt, pattern, number, &text, case.2);
+        push_graph(rt, alloc, &mut text, rules, ask);
+        judge(rt, "a graph", &text, wanted);
     }
 }

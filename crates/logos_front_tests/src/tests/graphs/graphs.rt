@@ -148,8 +148,12 @@ const PRINTED_STATES: &[(Rules<'static>, Ask<'static>, &str)] = &[
 };StateData(early(0) ); StateData(early(0) ) {
 };",
     ),
-    (&[("a*b", 2)], Ask::Backward, "0 ;0 ;"),
-    (&[("a$", 3), ("a", 2)], Ask::Backward, ";0 ;1 ;1 ;"),
+    (&[("a*b", 2)], Ask::Backward, "[State(0)];[State(0)];"),
+    (
+        &[("a$", 3), ("a", 2)],
+        Ask::Backward,
+        "[];[State(0)];[State(1)];[State(1)];",
+    ),
     (&[("a{3}", 6)], Ask::Len, "4 "),
     (&[("a{2000}", 4000)], Ask::Len, "2001 "),
 ];
@@ -397,42 +401,118 @@ en7n3-->n3
 ];
 
 const LABELS_OF_CHARTS: &[(Rules<'static>, Ask<'static>, &str)] = &[
-    (&[("\"", 2)], Ask::Label, "en0n1{\"\\\\&quot\"}"),
-    (&[("\\\\", 2)], Ask::Label, "en0n1{\"\\\\\\\\\"}"),
+    (
+        &[("\"", 2)],
+        Ask::Chart,
+        "flowchart TB
+n0[\"State 0\"]
+style n0 stroke:#000000
+en0n1{\"\\\\&quot\"}
+style en0n1 stroke:#000000
+n0-->en0n1
+en0n1-->n1
+n1[\"State 1<br>early(0)\"]
+style n1 stroke:#00C853
+",
+    ),
+    (
+        &[("\\\\", 2)],
+        Ask::Chart,
+        "flowchart TB
+n0[\"State 0\"]
+style n0 stroke:#000000
+en0n1{\"\\\\\\\\\"}
+style en0n1 stroke:#000000
+n0-->en0n1
+en0n1-->n1
+n1[\"State 1<br>early(0)\"]
+style n1 stroke:#00C853
+",
+    ),
     (
         &[("[\\n-\\x10]", 2)],
-        Ask::Label,
-        "en0n1{\"\\\\n..=\\\\x10\"}",
+        Ask::Chart,
+        "flowchart TB
+n0[\"State 0\"]
+style n0 stroke:#000000
+en0n1{\"\\\\n..=\\\\x10\"}
+style en0n1 stroke:#000000
+n0-->en0n1
+en0n1-->n1
+n1[\"State 1<br>early(0)\"]
+style n1 stroke:#00C853
+",
     ),
-    (&[("[abd]", 2)], Ask::Label, "en0n1{\"a..=b<br>d\"}"),
+    (
+        &[("[abd]", 2)],
+        Ask::Chart,
+        "flowchart TB
+n0[\"State 0\"]
+style n0 stroke:#000000
+en0n1{\"a..=b<br>d\"}
+style en0n1 stroke:#000000
+n0-->en0n1
+en0n1-->n1
+n1[\"State 1<br>early(0)\"]
+style n1 stroke:#00C853
+",
+    ),
+];
+
+const STATES_THEMSELVES: &[(Rules<'static>, Ask<'static>, &str)] = &[
+    // a state that others lead to equals one that none leads to; one with an end, another leaf, another range or another target does not
+    (&[("abcdefghijk", 22)], Ask::Equal, "1 0 0 0 0 "),
+    (
+        &[("abcdefghijk", 22)],
+        Ask::Names,
+        "State0 state0 state0;State1 state1 state1;State2 state2 state2;State3 state3 state3;\
+         State4 state4 state4;State5 state5 state5;State6 state6 state6;State7 state7 state7;\
+         State8 state8 state8;State9 state9 state9;State10 state10 state10;State11 state11 state11;",
+    ),
 ];
 
 const FAULTS: &[(Rules<'static>, Ask<'static>, &str)] = &[
-    (&[("a$", 2), ("a", 2)], Ask::Faults, "same 0 1 "),
+    (
+        &[("a$", 2), ("a", 2)],
+        Ask::Faults,
+        "Disambiguation([LeafId(0), LeafId(1)]) ",
+    ),
     (&[("a$", 3), ("a", 2)], Ask::Faults, ""),
-    (&[("z", 2), ("[a-z]", 2)], Ask::Faults, "same 0 1 "),
-    (&[("a", 2), ("a", 2)], Ask::Faults, "same 0 1 "),
-    (&[("x", 2), ("a*", 0)], Ask::Faults, "empty 1 "),
-    (&[("", 0)], Ask::Faults, "empty 0 "),
+    (
+        &[("z", 2), ("[a-z]", 2)],
+        Ask::Faults,
+        "Disambiguation([LeafId(0), LeafId(1)]) ",
+    ),
+    (
+        &[("a", 2), ("a", 2)],
+        Ask::Faults,
+        "Disambiguation([LeafId(0), LeafId(1)]) ",
+    ),
+    (
+        &[("x", 2), ("a*", 0)],
+        Ask::Faults,
+        "EmptyMatch(LeafId(1)) ",
+    ),
+    (&[("", 0)], Ask::Faults, "EmptyMatch(LeafId(0)) "),
     (&[("a+", 2), ("[a&&b]", 2)], Ask::Faults, ""),
     (
         &[("([a&&b])*", 2), ("a", 2), ("b*", 2)],
         Ask::Faults,
-        "empty 0 empty 2 ",
+        "EmptyMatch(LeafId(0)) EmptyMatch(LeafId(2)) ",
     ),
-    (&[("(?R).*", 0)], Ask::Faults, "empty 0 "),
-    (&[("^a", 2)], Ask::Faults, "start "),
+    (&[("(?R).*", 0)], Ask::Faults, "EmptyMatch(LeafId(0)) "),
+    (&[("^a", 2)], Ask::Faults, "NoUniversalStart "),
     // a missing start is told alone
     (
         &[("a*$", 0), ("b*", 0), ("a", 2), ("a", 2)],
         Ask::Faults,
-        "start ",
+        "NoUniversalStart ",
     ),
     // three words of one text, and a fourth of two of them
     (
         &[("ab", 4), ("a[b]", 4), ("ac", 4), ("[a]c|ab", 4)],
         Ask::Faults,
-        "same 0 1 3 same 2 3 ",
+        "Disambiguation([LeafId(0), LeafId(1), LeafId(3)]) Disambiguation([LeafId(2), LeafId(3)]) ",
     ),
     // a common text alone is no fault
     (
@@ -450,21 +530,25 @@ const FAULTS: &[(Rules<'static>, Ask<'static>, &str)] = &[
 const LIMITS: &[(Rules<'static>, Ask<'static>, &str)] = &[
     (&[(".{100}", 200)], Ask::Faults, ""),
     (&[("[x&&y]a{1048575}", 2)], Ask::Faults, ""),
-    (&[("[x&&y]a{1048576}", 2)], Ask::Faults, "size"),
-    (&[("a{1048576,}", 2)], Ask::Faults, "size"),
-    (&[("[x&&y]{4294967295}", 2)], Ask::Faults, "size"),
+    (&[("[x&&y]a{1048576}", 2)], Ask::Faults, "LimitSize"),
+    (&[("a{1048576,}", 2)], Ask::Faults, "LimitSize"),
+    (&[("[x&&y]{4294967295}", 2)], Ask::Faults, "LimitSize"),
     // the sizes of all leaves add up
     (&[("[x&&y]a{1048574}", 2), ("b", 2)], Ask::Faults, ""),
-    (&[("[x&&y]a{1048574}", 2), ("bc", 4)], Ask::Faults, "size"),
+    (
+        &[("[x&&y]a{1048574}", 2), ("bc", 4)],
+        Ask::Faults,
+        "LimitSize",
+    ),
     (
         &[("(?:(?:a{4294967295}){4294967295}){4294967295}", 1)],
         Ask::Faults,
-        "size",
+        "LimitSize",
     ),
     (
         &[("x|(?:(?:a{4294967295}){4294967295}){4294967295}", 2)],
         Ask::Faults,
-        "size",
+        "LimitSize",
     ),
 ];
 
@@ -638,19 +722,23 @@ const WHAT_TELLS_STATES_APART: &[(Rules<'static>, Ask<'static>, &str)] = &[
 
 #[test]
 fn graphs_answer_as_the_rows_say(rt: HostRuntime) {
-    let alloc = rt.alloc();
-    answers(&rt, alloc, STATES_OF_SMALL_GRAPHS);
-    answers(&rt, alloc, STATES_OF_SEVERAL_PATTERNS);
-    answers(&rt, alloc, PRINTED_STATES);
-    answers(&rt, alloc, CHARTS);
-    answers(&rt, alloc, CHARTS_OF_SEVERAL_PATTERNS);
-    answers(&rt, alloc, LABELS_OF_CHARTS);
-    answers(&rt, alloc, FAULTS);
-    answers(&rt, alloc, LIMITS);
-    answers(&rt, alloc, LISTS_OF_THE_AUTOMATON);
-    answers(&rt, alloc, LISTS_OF_NO_LEAVES);
-    answers(&rt, alloc, LOOKS_ARE_SEEN_ONE_BYTE_LATE);
-    answers(&rt, alloc, LOOKS_ARE_SEEN_AT_THE_END);
-    answers(&rt, alloc, FINDS_OF_SMALL_GRAPHS);
-    answers(&rt, alloc, WHAT_TELLS_STATES_APART);
+    for cases in [
+        STATES_OF_SMALL_GRAPHS,
+        STATES_OF_SEVERAL_PATTERNS,
+        PRINTED_STATES,
+        CHARTS,
+        CHARTS_OF_SEVERAL_PATTERNS,
+        LABELS_OF_CHARTS,
+        STATES_THEMSELVES,
+        FAULTS,
+        LIMITS,
+        LISTS_OF_THE_AUTOMATON,
+        LISTS_OF_NO_LEAVES,
+        LOOKS_ARE_SEEN_ONE_BYTE_LATE,
+        LOOKS_ARE_SEEN_AT_THE_END,
+        FINDS_OF_SMALL_GRAPHS,
+        WHAT_TELLS_STATES_APART,
+    ] {
+        answers(&rt, rt.alloc(), cases);
+    }
 }

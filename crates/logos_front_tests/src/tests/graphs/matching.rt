@@ -1,8 +1,9 @@
 // Automata and graphs of generated leaves, compared with matching as it is defined.
 
-use super::super::rows::{hold, hold_row, judge, push};
+use super::super::rows::{hold, judge, push};
 use super::asking::{behind, push_errors};
-use super::generating::{Random, leaves_of};
+use super::generating::leaves_of;
+use super::partition::least_count;
 use logos_graph::graph::{Config, Dfa, Graph, State, StateData, StateId};
 use logos_hir::hir::{Class, Hir, Look, Range};
 use logos_hir::leaf::LeafId;
@@ -285,44 +286,27 @@ fn are_right(rt: &impl Abort, graph: &Graph<'_>, length: usize, count: usize) {
     for number in 0..count {
         fill(&mut text, number);
         let front = text.get(..length).unwrap_or(&[]);
-        hold_row(
-            rt,
-            is_right(rt, graph, front),
-            "another match of text",
-            number,
-        );
+        hold(rt, is_right(rt, graph, front), "another match");
     }
-}
-
-/// How many states a graph has.
-pub(super) fn state_count(graph: &Graph<'_>) -> usize {
-    let mut count = 0usize;
-    for _ in graph.iter_states() {
-        count = count.saturating_add(1);
-    }
-    count
 }
 
 /// Two states are told apart by what the graph tells of them, and only if they differ.
 fn tell(rt: &impl Abort, alloc: Global, graph: &Graph<'_>, one: State, other: State) {
     assert!(rt; graph.contains(one) & graph.contains(other) & (one != other));
     let telling = graph.telling(alloc, one, other).expect(rt, "memory");
-    let is_short = telling.bytes.len() < state_count(graph);
+    let is_short = telling.bytes.len() < graph.iter_states().count();
     let tells = graph.checks(one, other, &telling.bytes, telling.at_end);
     let tells_itself = graph.checks(one, one, &telling.bytes, telling.at_end);
-    hold_row(
-        rt,
-        is_short & tells & !tells_itself,
-        "not told apart: state",
-        one.index(),
-    );
+    hold(rt, is_short & tells & !tells_itself, "not told apart");
 }
 
-/// Tells a state from all others of its graph.
-fn tell_from_all(rt: &impl Abort, alloc: Global, graph: &Graph<'_>, one: State) {
-    for other in graph.iter_states() {
-        if one != other {
-            tell(rt, alloc, graph, one, other);
+/// Any two states are told apart.
+fn are_told(rt: &impl Abort, alloc: Global, graph: &Graph<'_>) {
+    for one in graph.iter_states() {
+        for other in graph.iter_states() {
+            if one != other {
+                tell(rt, alloc, graph, one, other);
+            }
         }
     }
 }
@@ -369,55 +353,58 @@ fn push_first_errors(rt: &impl Abort, text: &mut String, leaves: &[Leaf<'_>]) {
         let (passes, meets) = front(leaf.pattern.hir());
         meets_look = meets_look | meets;
         if passes {
-            write!(text, "empty {number} ").expect(rt, "memory");
+            write!(text, "EmptyMatch(LeafId({number})) ").expect(rt, "memory");
         }
     }
     if meets_look {
         text.clear();
-        push(rt, text, "start ");
+        push(rt, text, "NoUniversalStart ");
     }
 }
 
-/// The errors that come before the automaton stand alone, and there are no states.
-fn are_refused(rt: &impl Abort, alloc: Global, graph: &Graph<'_>, first: &str) {
-    let mut text = String::new(alloc);
+/// Whether there are errors that come before the automaton; they stand alone, and there are no states.
+fn is_refused(rt: &impl Abort, alloc: Global, graph: &Graph<'_>) -> bool {
+    let (mut first, mut text) = (String::new(alloc), String::new(alloc));
+    push_first_errors(rt, &mut first, graph.leaves());
+    if first.is_empty() {
+        return false;
+    }
     push_errors(rt, &mut text, graph.errors());
-    judge(rt, "first errors", &text, first);
-    hold(rt, state_count(graph) == 0, "no states");
+    judge(rt, "first errors", &text, &first);
+    hold(rt, graph.iter_states().count() == 0, "no states");
+    true
 }
 
-/// Any two states are told apart.
-fn are_told(rt: &impl Abort, alloc: Global, graph: &Graph<'_>) {
-    for one in graph.iter_states() {
-        tell_from_all(rt, alloc, graph, one);
-    }
-}
-
-/// Graph and automaton of some leaves are as matching by its definition says, on texts below a length up to 6.
+/// Graph and automaton of some leaves are as matching by its definition says, on texts below a length up to 6, and there are as many
+/// states as a partition has.
 fn are_as_defined(rt: &impl Abort, alloc: Global, graph: &Graph<'_>, lengths: usize) {
     let counts = [1, 6, 36, 216, 1296, 7776];
     for (length, count) in counts.iter().enumerate().take(lengths) {
         are_right(rt, graph, length, *count);
     }
     are_told(rt, alloc, graph);
+    if graph.errors().is_empty() & (graph.dfa().get_states().count() <= 24) {
+        let least = least_count(rt, alloc, graph);
+        hold(rt, graph.iter_states().count() == least, "another count");
+    }
 }
 
+/// Sets of patterns that look random, from two seeds.
 #[test]
 fn generated_leaves_match_as_defined(rt: HostRuntime) {
-    let alloc = rt.alloc();
-    let mut random = Random::new(7);
+    let mut random = 7u64;
     let mut tried = 0usize;
-    for set in 0..300usize {
-        let leaves = leaves_of(&rt, alloc, &mut random, set % 10 == 0);
-        let graph = Graph::new(alloc, leaves, Config { utf8_mode: false }).expect(&rt, "a graph");
-        let mut first = String::new(alloc);
-        push_first_errors(&rt, &mut first, graph.leaves());
-        if first.is_empty() {
-            are_as_defined(&rt, alloc, &graph, if set % 30 == 1 { 5 } else { 4 });
+    for set in 0..600usize {
+        if set == 300 {
+            random = 11;
+        }
+        let leaves = leaves_of(&rt, rt.alloc(), &mut random, set % 10 == 0);
+        let made = Graph::new(rt.alloc(), leaves, Config { utf8_mode: false });
+        let graph = &made.expect(&rt, "a graph");
+        if !is_refused(&rt, rt.alloc(), graph) {
+            are_as_defined(&rt, rt.alloc(), graph, if set % 30 == 1 { 5 } else { 4 });
             tried = tried.saturating_add(1);
-        } else {
-            are_refused(&rt, alloc, &graph, &first);
         }
     }
-    hold(&rt, tried > 100, "sets without first errors");
+    hold(&rt, tried > 200, "sets without first errors");
 }

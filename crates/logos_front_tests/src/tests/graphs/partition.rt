@@ -1,10 +1,6 @@
-// The number of a graph's states, compared with a plain partition of its automaton by rounds.
+// The number of a graph's states, by a plain partition of its automaton in rounds. The automaton has at most 24 states.
 
-use super::super::rows::{hold, hold_row};
-use super::asking::count_states;
-use super::generating::{Random, leaves_of};
-use super::matching::state_count;
-use logos_graph::graph::{Config, Graph, StateId};
+use logos_graph::graph::Graph;
 use std::alloc::Global;
 use std::process::Abort;
 
@@ -19,134 +15,82 @@ fn at(list: &[usize], place: usize) -> usize {
     }
 }
 
-/// Adds one more.
-fn add(rt: &impl Abort, list: &mut Vec<usize>, number: usize) {
-    list.push(number).expect(rt, "memory");
-}
-
-/// The mark of the leaf of highest priority among those that a state lists: its number, which is the higher the higher its priority,
-/// from 1.
-fn top(rt: &impl Abort, graph: &Graph<'_>, state: StateId) -> usize {
-    assert!(rt; graph.dfa().contains(state));
-    let mut best = 0;
-    for leaf in graph.dfa().iter_matches(state) {
-        best = leaf.0.saturating_add(1).max(best);
-    }
-    best
-}
-
-/// The states to which a state leads, each once.
-fn children_of(rt: &impl Abort, alloc: Global, graph: &Graph<'_>, state: StateId) -> Vec<usize> {
-    assert!(rt; graph.dfa().contains(state));
+/// Where each state of the automaton leads: 257 numbers for each, by the bytes and by the end behind them.
+fn all_children(rt: &impl Abort, alloc: Global, graph: &Graph<'_>) -> Vec<usize> {
     let mut children = Vec::new(alloc);
-    for child in graph.dfa().iter_children(state) {
-        add(rt, &mut children, child.index());
+    for state in graph.dfa().get_states() {
+        assert!(rt; graph.dfa().contains(state));
+        for child in graph.dfa().iter_children(state) {
+            children.push(child.index()).expect(rt, "memory");
+        }
     }
     children
 }
 
-/// Where each state of the automaton leads by the bytes, and by the end behind them.
-fn all_children(rt: &impl Abort, alloc: Global, graph: &Graph<'_>) -> Vec<Vec<usize>> {
-    let mut children = Vec::new(alloc);
-    for state in graph.dfa().get_states() {
-        hold(rt, state.index() == children.len(), "states in order");
-        let targets = children_of(rt, alloc, graph, state);
-        children.push(targets).expect(rt, "memory");
-    }
-    children
-}
-
-/// The mark of the leaf of highest priority that each state lists.
-fn all_marks(rt: &impl Abort, alloc: Global, graph: &Graph<'_>) -> Vec<usize> {
-    let mut marks = Vec::new(alloc);
-    for state in graph.dfa().get_states() {
-        add(rt, &mut marks, top(rt, graph, state));
+/// The mark of the leaf of highest priority that each state lists: its number, which is the higher the higher its priority, from 1.
+fn all_marks(rt: &impl Abort, graph: &Graph<'_>) -> [usize; 24] {
+    let mut marks = [0; 24];
+    for (mark, state) in marks.iter_mut().zip(graph.dfa().get_states()) {
+        assert!(rt; graph.dfa().contains(state));
+        for leaf in graph.dfa().iter_matches(state) {
+            *mark = leaf.0.saturating_add(1).max(*mark);
+        }
     }
     marks
 }
 
-/// The mark that all of the states have.
-fn shared(marks: &[usize], states: &[usize]) -> usize {
-    let first = at(marks, at(states, 0));
-    for state in states {
-        if at(marks, *state) != first {
+/// Where a state leads.
+fn children_of(children: &[usize], state: usize) -> &[usize] {
+    let from = state.saturating_mul(257);
+    children.get(from..from.saturating_add(257)).unwrap_or(&[])
+}
+
+/// The mark that all children of a state have.
+fn early(children: &[usize], marks: &[usize], state: usize) -> usize {
+    let targets = children_of(children, state);
+    let first = at(marks, at(targets, 0));
+    for target in targets {
+        if at(marks, *target) != first {
             return 0;
         }
     }
     first
 }
 
-/// The mark that all children of each state have.
-fn all_early(
-    rt: &impl Abort,
-    alloc: Global,
-    children: &[Vec<usize>],
-    marks: &[usize],
-) -> Vec<usize> {
-    let mut early = Vec::new(alloc);
-    for targets in children {
-        add(rt, &mut early, shared(marks, targets));
-    }
-    early
-}
-
 /// Whether some state that leads to this one does not have its mark as the one of all children.
-fn is_needed(children: &[Vec<usize>], early: &[usize], state: usize, mark: usize) -> bool {
-    for (from, targets) in children.iter().enumerate() {
-        if (at(early, from) != mark) & targets.contains(&state) {
+fn is_needed(children: &[usize], marks: &[usize], state: usize) -> bool {
+    for from in 0..children.len() / 257 {
+        let is_early = early(children, marks, from) == at(marks, state);
+        if children_of(children, from).contains(&state) & !is_early {
             return true;
         }
     }
     false
 }
 
-/// The blocks of states with the same marks, which are below 9: the one of all children, and the late one where some way in needs it.
-fn marked(
-    rt: &impl Abort,
-    alloc: Global,
-    children: &[Vec<usize>],
-    marks: &[usize],
-    early: &[usize],
-) -> Vec<usize> {
-    let mut blocks = Vec::new(alloc);
-    for (state, mark) in marks.iter().enumerate() {
-        let needed = usize::from(is_needed(children, early, state, *mark));
-        let late = mark.saturating_mul(needed);
-        let both = late.saturating_mul(10).saturating_add(at(early, state));
-        add(
-            rt,
-            &mut blocks,
-            if both == 0 { 0 } else { both.saturating_add(1) },
-        );
+/// The block of a state by its marks, which are below 9: the one of all children, and the late one where some way in needs it.
+fn marked(children: &[usize], marks: &[usize], state: usize) -> usize {
+    let late = if is_needed(children, marks, state) {
+        at(marks, state)
+    } else {
+        0
+    };
+    match late
+        .saturating_mul(10)
+        .saturating_add(early(children, marks, state))
+    {
+        0 => 0,
+        both => both.saturating_add(1),
     }
-    blocks
 }
 
-/// The greatest number of the states.
-fn greatest(list: &[usize], states: &[usize]) -> usize {
+/// The block of a state, and block 1 where it has none and leads to one.
+fn widened(children: &[usize], blocks: &[usize], state: usize) -> usize {
     let mut greatest = 0;
-    for state in states {
-        greatest = at(list, *state).max(greatest);
+    for child in children_of(children, state) {
+        greatest = at(blocks, *child).max(greatest);
     }
-    greatest
-}
-
-/// The blocks of those that have one, and block 1 of those that lead to one.
-fn widened(
-    rt: &impl Abort,
-    alloc: Global,
-    children: &[Vec<usize>],
-    blocks: &[usize],
-) -> Vec<usize> {
-    let mut wider = Vec::new(alloc);
-    for (state, targets) in children.iter().enumerate() {
-        add(
-            rt,
-            &mut wider,
-            at(blocks, state).max(greatest(blocks, targets).min(1)),
-        );
-    }
-    wider
+    at(blocks, state).max(greatest.min(1))
 }
 
 /// Whether two states lead by each byte and the end to one block, or both to none that stays.
@@ -160,89 +104,59 @@ fn is_alike(blocks: &[usize], here: &[usize], there: &[usize]) -> bool {
 }
 
 /// The block of a state that stays, named by the first state of its block that is alike.
-fn first_alike(
-    children: &[Vec<usize>],
-    blocks: &[usize],
-    block: usize,
-    targets: &[usize],
-) -> usize {
-    for (other, others) in children.iter().enumerate() {
-        if at(blocks, other) == block && is_alike(blocks, others, targets) {
+fn split(children: &[usize], blocks: &[usize], state: usize) -> usize {
+    let block = at(blocks, state);
+    let targets = children_of(children, state);
+    for other in 0..state.saturating_add(1) {
+        let is_same = (at(blocks, other) == block) & (block != 0);
+        if is_same && is_alike(blocks, children_of(children, other), targets) {
             return other.saturating_add(1);
         }
     }
     0
 }
 
-/// Splits each block by where its states lead.
-fn split(rt: &impl Abort, alloc: Global, children: &[Vec<usize>], blocks: &[usize]) -> Vec<usize> {
-    let mut parts = Vec::new(alloc);
-    for (state, targets) in children.iter().enumerate() {
-        let block = at(blocks, state);
-        let part = first_alike(children, blocks, block, targets);
-        add(rt, &mut parts, if block == 0 { 0 } else { part });
-    }
-    parts
+/// What is made of the block of a state in a round.
+enum Round {
+    Mark,
+    Widen,
+    Split,
 }
 
-/// Widens the blocks, or splits them, until they stay as they are.
-fn rounds(
-    rt: &impl Abort,
-    alloc: Global,
-    children: &[Vec<usize>],
-    blocks: &mut Vec<usize>,
-    splits: bool,
-) {
-    for _ in 0..children.len() {
-        let next = if splits {
-            split(rt, alloc, children, blocks)
-        } else {
-            widened(rt, alloc, children, blocks)
+/// The blocks after a round.
+fn after(children: &[usize], blocks: &[usize], round: &Round) -> [usize; 24] {
+    let mut next = [0; 24];
+    for (state, block) in next.iter_mut().enumerate().take(children.len() / 257) {
+        *block = match round {
+            Round::Mark => marked(children, blocks, state),
+            Round::Widen => widened(children, blocks, state),
+            Round::Split => split(children, blocks, state),
         };
-        if next == *blocks {
-            return;
-        }
-        *blocks = next;
     }
+    next
 }
 
-/// How many blocks are named by their first states.
-fn block_count(blocks: &[usize]) -> usize {
+/// The blocks when they are widened or split until they stay as they are.
+fn settled(children: &[usize], blocks: [usize; 24], round: &Round) -> [usize; 24] {
+    let mut blocks = blocks;
+    for _ in 0..24 {
+        blocks = after(children, &blocks, round);
+    }
+    blocks
+}
+
+/// The number of blocks of states that nothing tells apart: of those with a mark, those that lead to one, and the start.
+pub(super) fn least_count(rt: &impl Abort, alloc: Global, graph: &Graph<'_>) -> usize {
+    let children = all_children(rt, alloc, graph);
+    let blocks = after(&children, &all_marks(rt, graph), &Round::Mark);
+    let mut blocks = settled(&children, blocks, &Round::Widen);
+    if let Some(start) = blocks.get_mut(graph.dfa().start().index()) {
+        *start = (*start).max(1);
+    }
+    let blocks = settled(&children, blocks, &Round::Split);
     let mut count = 0usize;
     for (state, block) in blocks.iter().enumerate() {
         count = count.saturating_add(usize::from(*block == state.saturating_add(1)));
     }
     count
-}
-
-/// The number of blocks of states that nothing tells apart: of those with a mark, those that lead to one, and the start.
-fn least_count(rt: &impl Abort, alloc: Global, graph: &Graph<'_>) -> usize {
-    let children = all_children(rt, alloc, graph);
-    let marks = all_marks(rt, alloc, graph);
-    let early = all_early(rt, alloc, &children, &marks);
-    let mut blocks = marked(rt, alloc, &children, &marks, &early);
-    rounds(rt, alloc, &children, &mut blocks, false);
-    let start = blocks
-        .get_mut(graph.dfa().start().index())
-        .expect(rt, "a start");
-    *start = (*start).max(1);
-    rounds(rt, alloc, &children, &mut blocks, true);
-    block_count(&blocks)
-}
-
-#[test]
-fn as_many_states_as_a_partition_by_rounds_has(rt: HostRuntime) {
-    let alloc = rt.alloc();
-    let mut random = Random::new(11);
-    let mut tried = 0usize;
-    for set in 0..300usize {
-        let leaves = leaves_of(&rt, alloc, &mut random, set % 10 == 0);
-        let graph = Graph::new(alloc, leaves, Config { utf8_mode: false }).expect(&rt, "a graph");
-        if graph.errors().is_empty() & (count_states(graph.dfa()) <= 24) {
-            let least = least_count(&rt, alloc, &graph);
-            hold_row(&rt, state_count(&graph) == least, "another count: set", set);
-            tried = tried.saturating_add(1);
-        }
-    }
-    hold(&rt, tried > 100, "small graphs");
 }

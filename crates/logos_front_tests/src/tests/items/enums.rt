@@ -1,117 +1,85 @@
 //! Whole enums, as they are read, and why a source is none.
 
-use super::super::rows::{judge, push, push_span};
-use super::plain::{Change, changed, push_wanted};
-use logos_item::{
-    Field, Fields, ItemEnum, Parameter, ParameterKind, ReadError, Variant, read_enum,
-};
-use logos_token::token::{Span, Tokens, print, tokenize};
+use super::super::rows::{hold, push, push_span};
+use super::plain::{changed, misfit};
+use logos_item::{Field, Fields, ItemEnum, Variant, read_enum};
+use logos_token::token::{Tokens, print, tokenize};
 use std::alloc::Global;
 use std::process::Abort;
 
-/// Adds a run as it is printed, in brackets; nothing where it is empty.
-fn push_run(rt: &impl Abort, alloc: Global, text: &mut String, run: Tokens<'_, '_>) {
-    if !run.is_empty() {
-        let Span { from, to } = run.span();
-        let printed = print(alloc, run).expect(rt, "memory");
-        write!(text, "[{printed}]{from}..{to} ").expect(rt, "memory");
+/// Adds a run as it is printed, in brackets, and its span; nothing where it is empty.
+fn push_run(rt: &impl Abort, alloc: Global, out: &mut String, run: Tokens<'_, '_>) {
+    if run.is_empty() {
+        return;
     }
+    let (printed, span) = (print(alloc, run).expect(rt, "memory"), run.span());
+    write!(out, "[{printed}]{}..{} ", span.from, span.to).expect(rt, "memory");
 }
 
-/// Adds the fields to what is told.
-fn push_fields(
-    rt: &impl Abort,
-    alloc: Global,
-    text: &mut String,
-    span: Span,
-    list: &[Field<'_, '_>],
-) {
-    push_span(rt, text, "", span);
-    push(rt, text, " ");
+/// Adds the attributes and the runs of fields.
+fn push_fields(rt: &impl Abort, alloc: Global, out: &mut String, list: &[Field<'_, '_>]) {
+    push(rt, out, " ");
     for field in list {
-        push_run(rt, alloc, text, field.attributes);
-        push_run(rt, alloc, text, field.run);
+        push_run(rt, alloc, out, field.attributes);
+        push_run(rt, alloc, out, field.run);
     }
 }
 
-/// Adds the variant to what is told.
-fn push_variant(rt: &impl Abort, alloc: Global, text: &mut String, variant: &Variant<'_, '_>) {
-    push_run(rt, alloc, text, variant.attributes);
-    push(rt, text, variant.name.text);
+/// Adds the attributes, the name and the fields of a variant.
+fn push_variant(rt: &impl Abort, alloc: Global, out: &mut String, variant: &Variant<'_, '_>) {
+    push_run(rt, alloc, out, variant.attributes);
+    push(rt, out, variant.name.text);
     match &variant.fields {
-        Fields::Unit => push(rt, text, " "),
+        Fields::Unit => push(rt, out, " "),
         Fields::Tuple(span, list) => {
-            push(rt, text, " tuple ");
-            push_fields(rt, alloc, text, *span, list);
+            push_span(rt, out, " tuple ", *span);
+            push_fields(rt, alloc, out, list);
         }
         Fields::Named(span, list) => {
-            push(rt, text, " named ");
-            push_fields(rt, alloc, text, *span, list);
+            push_span(rt, out, " named ", *span);
+            push_fields(rt, alloc, out, list);
         }
     }
-    push(rt, text, "; ");
+    push(rt, out, "; ");
 }
 
-/// Adds the parameter to what is told.
-fn push_parameter(rt: &impl Abort, text: &mut String, parameter: &Parameter<'_, '_>) {
-    push(
-        rt,
-        text,
-        match parameter.kind {
-            ParameterKind::Lifetime => "lifetime ",
-            ParameterKind::Type => "type ",
-            ParameterKind::Const => "const ",
-        },
-    );
-    push(rt, text, parameter.name.text);
-    push_span(rt, text, " ", parameter.run.span());
-    push(rt, text, ", ");
-}
-
-/// Adds the item to what is told.
-fn push_item(rt: &impl Abort, alloc: Global, text: &mut String, item: &ItemEnum<'_, '_>) {
-    push_run(rt, alloc, text, item.attributes);
-    push(rt, text, item.name.text);
-    push(rt, text, ": ");
+/// Adds the attributes, the name, the parameters and the variants of an enum.
+fn push_item(rt: &impl Abort, alloc: Global, out: &mut String, item: &ItemEnum<'_, '_>) {
+    push_run(rt, alloc, out, item.attributes);
+    push(rt, out, item.name.text);
+    push(rt, out, ": ");
     for parameter in &item.parameters {
-        push_parameter(rt, text, parameter);
+        write!(out, "{:?} {}", parameter.kind, parameter.name.text).expect(rt, "memory");
+        push_span(rt, out, " ", parameter.run.span());
+        push(rt, out, ", ");
     }
     for variant in &item.variants {
-        push_variant(rt, alloc, text, variant);
+        push_variant(rt, alloc, out, variant);
     }
 }
 
-/// Adds the error to what is told.
-fn push_error(rt: &impl Abort, text: &mut String, error: ReadError) {
-    match error {
-        ReadError::NotAnEnum { span } => push_span(rt, text, "NotAnEnum ", span),
-        ReadError::Grammar { span } => push_span(rt, text, "Grammar ", span),
-        ReadError::TypeUnsupported { span } => push_span(rt, text, "TypeUnsupported ", span),
-        ReadError::LimitTypeNesting { span } => push_span(rt, text, "LimitTypeNesting ", span),
-        ReadError::Memory => push(rt, text, "Memory"),
-    }
-}
-
-/// Adds what is read, or that something is where no more is asked, or why nothing is.
-fn push_read(rt: &impl Abort, alloc: Global, text: &mut String, source: &str, is_shown: bool) {
+/// Adds what is read of a source, or why nothing is.
+pub(in crate::tests) fn push_enum(rt: &impl Abort, alloc: Global, out: &mut String, source: &str) {
     let stream = tokenize(alloc, source).expect(rt, "tokens");
-    match read_enum(alloc, stream.run()) {
-        Ok(item) if is_shown => push_item(rt, alloc, text, &item),
-        Ok(_) => push(rt, text, "read"),
-        Err(error) => push_error(rt, text, error),
+    match &read_enum(alloc, stream.run()) {
+        Ok(item) => push_item(rt, alloc, out, item),
+        Err(error) => write!(out, "{error:?}").expect(rt, "memory"),
     }
 }
 
-/// Of each source that is said which stands beside it.
-fn tell(rt: &impl Abort, alloc: Global, cases: &[(&str, &str)]) {
-    for case in cases {
-        let mut text = String::new(alloc);
-        push_read(rt, alloc, &mut text, case.0, true);
-        judge(rt, case.0, &text, case.1);
-    }
+/// Adds why a source is no enum, or `None`.
+pub(in crate::tests) fn push_no_enum(
+    rt: &impl Abort,
+    alloc: Global,
+    out: &mut String,
+    source: &str,
+) {
+    let stream = tokenize(alloc, source).expect(rt, "tokens");
+    write!(out, "{:?}", read_enum(alloc, stream.run()).err()).expect(rt, "memory");
 }
 
-const ENUMS: &[(&str, &str)] = &[
+/// Enums.
+pub(in crate::tests) const ENUMS: &[(&str, &str)] = &[
     ("enum E {}", "E: "),
     ("pub enum _ { A }", "_: A ; "),
     ("pub(in a::b) enum r#fn { enum, }", "r#fn: enum ; "),
@@ -134,126 +102,219 @@ const ENUMS: &[(&str, &str)] = &[
     ),
     (
         "enum E<'a, 'b: 'a + 'a, T, const N: usize = { 3 > 2 }> {}",
-        "E: lifetime a 7..9, lifetime b 11..22, type T 24..25, const N 27..53, ",
+        "E: Lifetime a 7..9, Lifetime b 11..22, Type T 24..25, Const N 27..53, ",
     ),
     (
         "enum E<#[a] T: Fn(u8) -> u8 + Into<Vec<u8>> = fn(u8) -> u8, U = V<W, X>,> {}",
-        "E: type T 7..58, type U 60..71, ",
+        "E: Type T 7..58, Type U 60..71, ",
     ),
     ("enum E<> where {}", "E: "),
     (
         "enum E<T> where T: Is<[u8; { 1 }]>, [(); { 2 }]: Sized { A }",
-        "E: type T 7..8, A ; ",
+        "E: Type T 7..8, A ; ",
     ),
-    ("enum E { A(pub (u8), B) }", "Grammar 19..20"),
+    (
+        "enum E { A(pub (u8), B) }",
+        "Grammar { span: Span { from: 19, to: 20 } }",
+    ),
     ("enum E { A(pub (u8) B) }", "E: A tuple 10..22 [B]20..21 ; "),
     ("enum E { A = a::<u8>(), B }", "E: A ; B ; "),
 ];
 
-const FAULTS: &[(&str, &str)] = &[
-    ("", "NotAnEnum 0..0"),
-    (" struct E {} ", "NotAnEnum 1..12"),
-    ("pub(a) (b) enum E {}", "NotAnEnum 0..20"),
-    ("#[a] #[b c] enum E {}", "NotAnEnum 0..21"),
-    ("#[] enum E {}", "NotAnEnum 0..13"),
-    ("#[a =] enum E {}", "NotAnEnum 0..16"),
-    ("# enum E {}", "NotAnEnum 0..11"),
-    ("//! a\nenum E {}", "NotAnEnum 0..15"),
-    ("r#enum E {}", "NotAnEnum 0..11"),
-    ("enum", "Grammar 0..0"),
-    ("enum {}", "Grammar 5..7"),
-    ("enum E", "Grammar 0..0"),
-    ("enum E ;", "Grammar 7..8"),
-    ("enum E where T: U", "Grammar 0..0"),
-    ("enum E {} x", "Grammar 10..11"),
-    ("enum E<T {}", "Grammar 9..11"),
-    ("enum E<T", "Grammar 0..0"),
-    ("enum E<,> {}", "Grammar 7..8"),
-    ("enum E<T U> {}", "Grammar 9..10"),
-    ("enum E<5> {}", "Grammar 7..8"),
-    ("enum E<'a = 'b> {}", "Grammar 10..11"),
-    ("enum E<T = > {}", "Grammar 11..12"),
-    ("enum E<T = , U> {}", "Grammar 11..12"),
-    ("enum E<const N> {}", "Grammar 14..15"),
-    ("enum E<const N: = 3> {}", "Grammar 16..17"),
-    ("enum E<const, T> {}", "Grammar 12..13"),
-    ("enum E<#[5] T> {}", "Grammar 9..10"),
-    ("enum E<T: Fn() -> u8 {}", "Grammar 0..0"),
-    ("enum E { A,, B }", "Grammar 11..12"),
-    ("enum E { , }", "Grammar 9..10"),
-    ("enum E { A B }", "Grammar 11..12"),
-    ("enum E { pub A }", "Grammar 13..14"),
-    ("enum E { A [u8] }", "Grammar 11..15"),
-    ("enum E { A(u8)(u8) }", "Grammar 14..18"),
-    ("enum E { A = }", "Grammar 0..0"),
-    ("enum E { A = , B }", "Grammar 13..14"),
-    ("enum E { #[a] }", "Grammar 0..0"),
-    ("enum E { #(a) A }", "Grammar 10..13"),
-    ("enum E { #[a b] A, B C }", "Grammar 13..14"),
-    ("enum E { A(u8 u8) }", "Grammar 14..16"),
-    ("enum E { A(,) }", "Grammar 11..12"),
-    ("enum E { A(a: u8) }", "Grammar 12..13"),
-    ("enum E { A { u8 } }", "Grammar 0..0"),
-    ("enum E { A { a: u8 b: u8 } }", "Grammar 19..20"),
-    ("enum E { A { a: } }", "Grammar 0..0"),
-    ("enum E { A(pub) }", "Grammar 0..0"),
-    ("enum E { A(#[a] ) B }", "Grammar 0..0"),
+/// Faults.
+pub(in crate::tests) const FAULTS: &[(&str, &str)] = &[
+    ("", "NotAnEnum { span: Span { from: 0, to: 0 } }"),
+    (
+        " struct E {} ",
+        "NotAnEnum { span: Span { from: 1, to: 12 } }",
+    ),
+    (
+        "pub(a) (b) enum E {}",
+        "NotAnEnum { span: Span { from: 0, to: 20 } }",
+    ),
+    (
+        "#[a] #[b c] enum E {}",
+        "NotAnEnum { span: Span { from: 0, to: 21 } }",
+    ),
+    (
+        "#[] enum E {}",
+        "NotAnEnum { span: Span { from: 0, to: 13 } }",
+    ),
+    (
+        "#[a =] enum E {}",
+        "NotAnEnum { span: Span { from: 0, to: 16 } }",
+    ),
+    (
+        "# enum E {}",
+        "NotAnEnum { span: Span { from: 0, to: 11 } }",
+    ),
+    (
+        "//! a\nenum E {}",
+        "NotAnEnum { span: Span { from: 0, to: 15 } }",
+    ),
+    (
+        "r#enum E {}",
+        "NotAnEnum { span: Span { from: 0, to: 11 } }",
+    ),
+    ("enum", "Grammar { span: Span { from: 0, to: 0 } }"),
+    ("enum {}", "Grammar { span: Span { from: 5, to: 7 } }"),
+    ("enum E", "Grammar { span: Span { from: 0, to: 0 } }"),
+    ("enum E ;", "Grammar { span: Span { from: 7, to: 8 } }"),
+    (
+        "enum E where T: U",
+        "Grammar { span: Span { from: 0, to: 0 } }",
+    ),
+    ("enum E {} x", "Grammar { span: Span { from: 10, to: 11 } }"),
+    ("enum E<T {}", "Grammar { span: Span { from: 9, to: 11 } }"),
+    ("enum E<T", "Grammar { span: Span { from: 0, to: 0 } }"),
+    ("enum E<,> {}", "Grammar { span: Span { from: 7, to: 8 } }"),
+    (
+        "enum E<T U> {}",
+        "Grammar { span: Span { from: 9, to: 10 } }",
+    ),
+    ("enum E<5> {}", "Grammar { span: Span { from: 7, to: 8 } }"),
+    (
+        "enum E<'a = 'b> {}",
+        "Grammar { span: Span { from: 10, to: 11 } }",
+    ),
+    (
+        "enum E<T = > {}",
+        "Grammar { span: Span { from: 11, to: 12 } }",
+    ),
+    (
+        "enum E<T = , U> {}",
+        "Grammar { span: Span { from: 11, to: 12 } }",
+    ),
+    (
+        "enum E<const N> {}",
+        "Grammar { span: Span { from: 14, to: 15 } }",
+    ),
+    (
+        "enum E<const N: = 3> {}",
+        "Grammar { span: Span { from: 16, to: 17 } }",
+    ),
+    (
+        "enum E<const, T> {}",
+        "Grammar { span: Span { from: 12, to: 13 } }",
+    ),
+    (
+        "enum E<#[5] T> {}",
+        "Grammar { span: Span { from: 9, to: 10 } }",
+    ),
+    (
+        "enum E<T: Fn() -> u8 {}",
+        "Grammar { span: Span { from: 0, to: 0 } }",
+    ),
+    (
+        "enum E { A,, B }",
+        "Grammar { span: Span { from: 11, to: 12 } }",
+    ),
+    ("enum E { , }", "Grammar { span: Span { from: 9, to: 10 } }"),
+    (
+        "enum E { A B }",
+        "Grammar { span: Span { from: 11, to: 12 } }",
+    ),
+    (
+        "enum E { pub A }",
+        "Grammar { span: Span { from: 13, to: 14 } }",
+    ),
+    (
+        "enum E { A [u8] }",
+        "Grammar { span: Span { from: 11, to: 15 } }",
+    ),
+    (
+        "enum E { A(u8)(u8) }",
+        "Grammar { span: Span { from: 14, to: 18 } }",
+    ),
+    (
+        "enum E { A = }",
+        "Grammar { span: Span { from: 0, to: 0 } }",
+    ),
+    (
+        "enum E { A = , B }",
+        "Grammar { span: Span { from: 13, to: 14 } }",
+    ),
+    (
+        "enum E { #[a] }",
+        "Grammar { span: Span { from: 0, to: 0 } }",
+    ),
+    (
+        "enum E { #(a) A }",
+        "Grammar { span: Span { from: 10, to: 13 } }",
+    ),
+    (
+        "enum E { #[a b] A, B C }",
+        "Grammar { span: Span { from: 13, to: 14 } }",
+    ),
+    (
+        "enum E { A(u8 u8) }",
+        "Grammar { span: Span { from: 14, to: 16 } }",
+    ),
+    (
+        "enum E { A(,) }",
+        "Grammar { span: Span { from: 11, to: 12 } }",
+    ),
+    (
+        "enum E { A(a: u8) }",
+        "Grammar { span: Span { from: 12, to: 13 } }",
+    ),
+    (
+        "enum E { A { u8 } }",
+        "Grammar { span: Span { from: 0, to: 0 } }",
+    ),
+    (
+        "enum E { A { a: u8 b: u8 } }",
+        "Grammar { span: Span { from: 19, to: 20 } }",
+    ),
+    (
+        "enum E { A { a: } }",
+        "Grammar { span: Span { from: 0, to: 0 } }",
+    ),
+    (
+        "enum E { A(pub) }",
+        "Grammar { span: Span { from: 0, to: 0 } }",
+    ),
+    (
+        "enum E { A(#[a] ) B }",
+        "Grammar { span: Span { from: 0, to: 0 } }",
+    ),
     (
         "enum E { A(u8) = 1 B, C, }",
         "E: A tuple 10..14 [u8]11..13 ; C ; ",
     ),
-    ("enum E { A(_), B C }", "TypeUnsupported 11..12"),
-    ("enum E { A(u8, Vec<!>) }", "TypeUnsupported 19..20"),
-    ("enum E { A { a: impl Copy } }", "TypeUnsupported 16..25"),
-    ("enum E { A B, C(_) }", "Grammar 11..12"),
+    (
+        "enum E { A(_), B C }",
+        "TypeUnsupported { span: Span { from: 11, to: 12 } }",
+    ),
+    (
+        "enum E { A(u8, Vec<!>) }",
+        "TypeUnsupported { span: Span { from: 19, to: 20 } }",
+    ),
+    (
+        "enum E { A { a: impl Copy } }",
+        "TypeUnsupported { span: Span { from: 16, to: 25 } }",
+    ),
+    (
+        "enum E { A B, C(_) }",
+        "Grammar { span: Span { from: 11, to: 12 } }",
+    ),
 ];
 
-#[test]
-fn reads_enums_and_names_the_first_fault(rt: HostRuntime) {
-    tell(&rt, rt.alloc(), ENUMS);
-    tell(&rt, rt.alloc(), FAULTS);
-}
-
-const LIMITS: &[(&str, (&str, &str, &str), usize, &str, &str)] = &[
-    ("enum E { A(", ("&", "u8", ""), 127, ", B) }", "read"),
+/// What nests up to its limits, and past them.
+pub(in crate::tests) const LIMITS: &[(&str, &str)] = &[
+    ("enum E { A(¦&×127¦u8, B) }", "None"),
     (
-        "enum E { A(",
-        ("&", "u8", ""),
-        128,
-        ", B) }",
-        "LimitTypeNesting 11..141",
+        "enum E { A(¦&×128¦u8, B) }",
+        "Some(LimitTypeNesting { span: Span { from: 11, to: 141 } })",
     ),
-    ("enum E { A(", ("V<u8, ", "u8", ">"), 127, ") }", "read"),
+    ("enum E { A(¦V<u8, ×127¦u8¦>×127¦) }", "None"),
     (
-        "enum E { A(",
-        ("V<u8, ", "u8", ">"),
-        128,
-        ") }",
-        "LimitTypeNesting 11..909",
+        "enum E { A(¦V<u8, ×128¦u8¦>×128¦) }",
+        "Some(LimitTypeNesting { span: Span { from: 11, to: 909 } })",
     ),
-    (
-        "enum E { #[token(\"a\")] A = ",
-        ("(", "1", ")"),
-        127,
-        " }",
-        "read",
-    ),
-    ("enum E<T: ", ("V<", "u8", ">"), 1000, "> {}", "read"),
+    ("enum E { #[token(\"a\")] A = ¦(×127¦1¦)×127¦ }", "None"),
+    ("enum E<T: ¦V<×1000¦u8¦>×1000¦> {}", "None"),
 ];
-
-#[test]
-fn reads_up_to_the_limits(rt: HostRuntime) {
-    let alloc = rt.alloc();
-    for (front, nest, count, back, wanted) in LIMITS {
-        let opening = nest.0.repeat(alloc, *count).expect(&rt, "memory");
-        let closing = nest.2.repeat(alloc, *count).expect(&rt, "memory");
-        let mut source = String::new(alloc);
-        write!(source, "{front}{opening}{}{closing}{back}", nest.1).expect(&rt, "memory");
-        let mut text = String::new(alloc);
-        push_read(&rt, alloc, &mut text, &source, false);
-        judge(&rt, front, &text, wanted);
-    }
-}
 
 /// Where pieces stand: the place at which they begin, and what stands in front of them and behind them.
 type Frame = (&'static str, &'static str, &'static str);
@@ -266,47 +327,30 @@ fn agree(rt: &impl Abort, alloc: Global, frame: Frame, pieces: &[&str]) {
         push(rt, &mut source, " ");
     }
     push(rt, &mut source, frame.2);
-    let (mut text, mut wanted) = (String::new(alloc), String::new(alloc));
-    push_read(rt, alloc, &mut text, &source, false);
-    push_wanted(
+    let stream = tokenize(alloc, &source).expect(rt, "tokens");
+    let found = read_enum(alloc, stream.run()).err();
+    let whole = source.trim_end().len();
+    hold(
         rt,
-        &mut wanted,
-        frame.0,
-        pieces,
-        frame.1.len(),
-        source.trim_end().len(),
+        found == misfit(frame.0, pieces, frame.1.len(), whole),
+        &source,
     );
-    judge(rt, &source, &text, &wanted);
-}
-
-const CHANGES: [Change; 3] = [Change::Drop, Change::Double, Change::Turn];
-
-/// What is said of pieces with one change up to six pieces behind this one; counts such changes.
-fn agree_changed(
-    rt: &impl Abort,
-    alloc: Global,
-    frame: Frame,
-    base: &[&str],
-    at: usize,
-    count: &mut usize,
-) {
-    for index in 0..21usize {
-        let place = at.saturating_add(index / 3);
-        if place < base.len() {
-            let pieces = changed(rt, alloc, base, CHANGES[index % 3], place);
-            agree(rt, alloc, frame, &pieces);
-            *count = count.saturating_add(1);
-        }
-    }
 }
 
 /// What is said of the base with one change, or with two of which the second is at most six pieces behind the first, is what the plain
-/// reader says; counts those with two.
-fn agree_on(rt: &impl Abort, alloc: Global, frame: Frame, base: &[&str], count: &mut usize) {
-    for index in 0..base.len().saturating_mul(3) {
-        let pieces = changed(rt, alloc, base, CHANGES[index % 3], index / 3);
+/// reader says. Past the last piece a change is none.
+fn agree_on(rt: &impl Abort, alloc: Global, frame: Frame, base: &[&str]) {
+    for turn in 0..base.len().saturating_mul(63) {
+        let (first, second) = (turn / 21, turn % 21);
+        let pieces = changed(rt, alloc, base, first % 3, first / 3);
         agree(rt, alloc, frame, &pieces);
-        agree_changed(rt, alloc, frame, &pieces, index / 3, count);
+        let place = (first / 3).saturating_add(second / 3);
+        agree(
+            rt,
+            alloc,
+            frame,
+            &changed(rt, alloc, &pieces, second % 3, place),
+        );
     }
 }
 
@@ -357,22 +401,10 @@ const PIECES_OF_FIELDS: &[&str] = &[
 
 #[test]
 fn agrees_with_a_plain_reader(rt: HostRuntime) {
-    let alloc = rt.alloc();
-    let mut count = 0usize;
-    agree_on(&rt, alloc, ("front", "", ""), PIECES_OF_ENUM, &mut count);
-    agree_on(
-        &rt,
-        alloc,
-        ("variant", "enum E { ", "}"),
-        PIECES_OF_VARIANTS,
-        &mut count,
-    );
-    agree_on(
-        &rt,
-        alloc,
-        ("field", "enum E { A { ", "} }"),
-        PIECES_OF_FIELDS,
-        &mut count,
-    );
-    assert!(rt; count > 4000);
+    let front = ("front", "", "");
+    agree_on(&rt, rt.alloc(), front, PIECES_OF_ENUM);
+    let variant = ("variant", "enum E { ", "}");
+    agree_on(&rt, rt.alloc(), variant, PIECES_OF_VARIANTS);
+    let field = ("field", "enum E { A { ", "} }");
+    agree_on(&rt, rt.alloc(), field, PIECES_OF_FIELDS);
 }

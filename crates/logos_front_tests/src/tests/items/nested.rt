@@ -1,50 +1,62 @@
 //! The pieces of an attribute's argument.
 
-use super::super::rows::{judge, push, push_run};
+use super::super::rows::push;
 use logos_attribute::nested::{AttributeParser, Nested, NestedValue};
-use logos_token::token::{Tokens, tokenize};
+use logos_token::token::{Tokens, print, tokenize};
 use std::alloc::Global;
 use std::process::Abort;
 
+/// Adds a run as it is printed, in brackets, behind a text.
+fn push_run(rt: &impl Abort, alloc: Global, out: &mut String, before: &str, run: Tokens<'_, '_>) {
+    let printed = print(alloc, run).expect(rt, "memory");
+    write!(out, "{before}[{printed}]").expect(rt, "memory");
+}
+
 /// Adds the value to what is told.
-fn push_value(rt: &impl Abort, alloc: Global, text: &mut String, value: NestedValue<'_, '_>) {
+fn push_value(rt: &impl Abort, alloc: Global, out: &mut String, value: NestedValue<'_, '_>) {
     match value {
-        NestedValue::Assign(run) => push_run(rt, alloc, text, " = ", run),
+        NestedValue::Assign(run) => push_run(rt, alloc, out, " = ", run),
         NestedValue::Literal(literal) => {
-            push(rt, text, " ");
-            push(rt, text, literal.text);
+            push(rt, out, " ");
+            push(rt, out, literal.text);
         }
-        NestedValue::Group(run) => push_run(rt, alloc, text, " in ", run),
+        NestedValue::Group(run) => push_run(rt, alloc, out, " in ", run),
         NestedValue::KeywordAssign(name, run) => {
-            push(rt, text, " ");
-            push(rt, text, name.text);
-            push_run(rt, alloc, text, " = ", run);
+            push(rt, out, " ");
+            push(rt, out, name.text);
+            push_run(rt, alloc, out, " = ", run);
         }
     }
 }
 
 /// Adds the piece to what is told.
-fn push_piece(rt: &impl Abort, alloc: Global, text: &mut String, piece: Nested<'_, '_>) {
+fn push_piece(rt: &impl Abort, alloc: Global, out: &mut String, piece: Nested<'_, '_>) {
     match piece {
-        Nested::Unnamed(run) => push_run(rt, alloc, text, "", run),
-        Nested::Unexpected(run) => push_run(rt, alloc, text, "unexpected ", run),
+        Nested::Unnamed(run) => push_run(rt, alloc, out, "", run),
+        Nested::Unexpected(run) => push_run(rt, alloc, out, "unexpected ", run),
         Nested::Named(name, value) => {
-            push(rt, text, name.text);
-            push_value(rt, alloc, text, value);
+            push(rt, out, name.text);
+            push_value(rt, alloc, out, value);
         }
     }
-    push(rt, text, "; ");
+    push(rt, out, "; ");
 }
 
 /// Adds all pieces of an argument.
-fn push_pieces(rt: &impl Abort, alloc: Global, text: &mut String, argument: &str) {
+pub(in crate::tests) fn push_pieces(
+    rt: &impl Abort,
+    alloc: Global,
+    out: &mut String,
+    argument: &str,
+) {
     let stream = tokenize(alloc, argument).expect(rt, "tokens");
     for piece in AttributeParser::new(stream.run()) {
-        push_piece(rt, alloc, text, piece);
+        push_piece(rt, alloc, out, piece);
     }
 }
 
-const ARGUMENTS: &[(&str, &str)] = &[
+/// Arguments, and their pieces.
+pub(in crate::tests) const ARGUMENTS: &[(&str, &str)] = &[
     ("", ""),
     ("a", "[a]; "),
     ("a,", "[a]; "),
@@ -80,38 +92,26 @@ const ARGUMENTS: &[(&str, &str)] = &[
     ("/** a */ b, c", "[/** a */ b]; [c]; "),
 ];
 
-#[test]
-fn cuts_arguments(rt: HostRuntime) {
-    for (argument, wanted) in ARGUMENTS {
-        let mut text = String::new(rt.alloc());
-        push_pieces(&rt, rt.alloc(), &mut text, argument);
-        judge(&rt, argument, &text, wanted);
-    }
-}
-
 /// Adds each run up to a comma that cuts, in brackets.
-fn push_runs(rt: &impl Abort, alloc: Global, text: &mut String, argument: &str) {
+pub(in crate::tests) fn push_runs(
+    rt: &impl Abort,
+    alloc: Global,
+    out: &mut String,
+    argument: &str,
+) {
     let stream = tokenize(alloc, argument).expect(rt, "tokens");
     let mut parser = AttributeParser::new(stream.run());
     for _ in 0..argument.len() {
         if let Some(run) = parser.run() {
-            push_run(rt, alloc, text, "", run);
+            push_run(rt, alloc, out, "", run);
         }
     }
 }
 
-const RUNS: &[(&str, &str)] = &[
+/// Arguments, and their runs.
+pub(in crate::tests) const RUNS: &[(&str, &str)] = &[
     ("", ""),
     ("a b, c", "[a b][c]"),
     ("a,, b", "[a ,][b]"),
     (", a", "[a]"),
 ];
-
-#[test]
-fn takes_runs(rt: HostRuntime) {
-    for (argument, wanted) in RUNS {
-        let mut text = String::new(rt.alloc());
-        push_runs(&rt, rt.alloc(), &mut text, argument);
-        judge(&rt, argument, &text, wanted);
-    }
-}

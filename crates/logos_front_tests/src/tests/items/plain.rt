@@ -1,6 +1,6 @@
 //! A plain reader of pieces, which says where their first misfit is, by a table of places.
 
-use super::super::rows::{push, push_span};
+use logos_item::ReadError;
 use logos_token::token::Span;
 use std::alloc::Global;
 use std::process::Abort;
@@ -120,31 +120,23 @@ fn behind(place: &str, piece: &str) -> &'static str {
     ""
 }
 
-/// How a base is changed at one place.
-#[derive(Clone, Copy)]
-pub(super) enum Change {
-    Drop,
-    Double,
-    Turn,
-}
-
 /// Where the piece at an index of the changed pieces stands in the base.
-fn before(change: Change, at: usize, index: usize) -> usize {
+fn before(change: usize, at: usize, index: usize) -> usize {
     match change {
-        Change::Drop if index >= at => index.saturating_add(1),
-        Change::Double if index > at => index.saturating_sub(1),
-        Change::Turn if index == at => at.saturating_add(1),
-        Change::Turn if index == at.saturating_add(1) => at,
+        0 if index >= at => index.saturating_add(1),
+        1 if index > at => index.saturating_sub(1),
+        2 if index == at => at.saturating_add(1),
+        2 if index == at.saturating_add(1) => at,
         _ => index,
     }
 }
 
-/// The pieces, of which the one at this place is dropped, doubled, or put behind the next.
+/// The pieces, of which the one at this place is dropped (0), doubled (1), or put behind the next (2).
 pub(super) fn changed<'p>(
     rt: &impl Abort,
     alloc: Global,
     base: &[&'p str],
-    change: Change,
+    change: usize,
     at: usize,
 ) -> Vec<&'p str> {
     let mut pieces = Vec::new(alloc);
@@ -156,43 +148,35 @@ pub(super) fn changed<'p>(
     pieces
 }
 
-/// The place behind the pieces, or behind the last one in front of a misfit, and the misfit, where they stand from an offset with a
-/// blank behind each.
-fn walk(begin: &'static str, pieces: &[&str], offset: usize) -> (&'static str, Option<Span>) {
+/// Why the pieces are not read, where they stand from an offset with a blank behind each and the whole run ends at `whole`.
+pub(super) fn misfit(
+    begin: &'static str,
+    pieces: &[&str],
+    offset: usize,
+    whole: usize,
+) -> Option<ReadError> {
     let mut place = begin;
     let mut from = offset;
     for piece in pieces {
         let next = behind(place, *piece);
         let to = from.saturating_add(piece.len());
         if next.is_empty() {
-            return (place, Some(Span { from, to }));
+            return Some(refused(place, Span { from, to }, whole));
         }
         place = next;
         from = to.saturating_add(1);
     }
-    (place, None)
+    if ENDS.contains(&place) {
+        return None;
+    }
+    Some(refused(place, Span { from: 0, to: 0 }, whole))
 }
 
-/// Says what should be said of pieces from an offset, where the whole run ends at another.
-pub(super) fn push_wanted(
-    rt: &impl Abort,
-    text: &mut String,
-    begin: &'static str,
-    pieces: &[&str],
-    offset: usize,
-    whole: usize,
-) {
-    let (place, misfit) = walk(begin, pieces, offset);
-    let end = if ENDS.contains(&place) {
-        "read"
-    } else {
-        "Grammar 0..0"
-    };
+/// The error for a misfit behind a place.
+fn refused(place: &str, span: Span, whole: usize) -> ReadError {
     if place.starts_with("front") {
-        push_span(rt, text, "NotAnEnum ", Span { from: 0, to: whole });
-    } else if let Some(span) = misfit {
-        push_span(rt, text, "Grammar ", span);
-    } else {
-        push(rt, text, end);
+        let span = Span { from: 0, to: whole };
+        return ReadError::NotAnEnum { span };
     }
+    ReadError::Grammar { span }
 }

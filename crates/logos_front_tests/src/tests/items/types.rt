@@ -1,42 +1,63 @@
 //! Types, as they are read, printed and copied, and why a source is none.
 
-use super::super::rows::{hold, judge, push, push_span};
-use logos_token::token::{Span, tokenize};
+use super::super::rows::{judge, push, push_span};
+use logos_token::token::tokenize;
 use logos_type::{TypeExpr, exceeds, print_type};
 use logos_type_reader::{TypeFault, read_type};
 use std::alloc::Global;
 use std::process::Abort;
 
 /// Adds a type as a copy of it is printed, which is as the type itself is.
-fn push_type(rt: &impl Abort, alloc: Global, text: &mut String, type_expr: &TypeExpr<'_>) {
+fn push_copy(rt: &impl Abort, alloc: Global, out: &mut String, type_expr: &TypeExpr<'_>) {
     let copy = type_expr.clone().expect(rt, "memory");
     let printed = print_type(alloc, &copy).expect(rt, "memory");
     let itself = print_type(alloc, type_expr).expect(rt, "memory");
     judge(rt, "a copy", &printed, &itself);
-    push(rt, text, &printed);
+    push(rt, out, &printed);
 }
 
 /// Adds why a source is no type: what stands there is left out, or does not fit.
-fn push_fault(rt: &impl Abort, text: &mut String, fault: TypeFault) {
+fn push_fault(rt: &impl Abort, out: &mut String, fault: TypeFault) {
     match fault {
-        TypeFault::Unsupported { span } => push_span(rt, text, "left out ", span),
-        TypeFault::Misfit { span } => push_span(rt, text, "misfit ", span),
-        TypeFault::LimitNesting => push(rt, text, "limit"),
-        TypeFault::Memory => push(rt, text, "memory"),
+        TypeFault::Unsupported { span } => push_span(rt, out, "left out ", span),
+        TypeFault::Misfit { span } => push_span(rt, out, "misfit ", span),
+        TypeFault::LimitNesting => push(rt, out, "limit"),
+        TypeFault::Memory => push(rt, out, "memory"),
     }
 }
 
 /// Adds the text of the type that the whole source is, or why it is none; `none` where more stands behind a type.
-fn push_read(rt: &impl Abort, alloc: Global, text: &mut String, source: &str) {
+pub(in crate::tests) fn push_type(rt: &impl Abort, alloc: Global, out: &mut String, source: &str) {
     let stream = tokenize(alloc, source).expect(rt, "tokens");
-    match read_type(alloc, stream.run()) {
-        Ok((type_expr, rest)) if rest.is_empty() => push_type(rt, alloc, text, &type_expr),
-        Ok(_) => push(rt, text, "none"),
-        Err(fault) => push_fault(rt, text, fault),
+    match &read_type(alloc, stream.run()) {
+        Ok((type_expr, rest)) if rest.is_empty() => push_copy(rt, alloc, out, type_expr),
+        Ok(_) => push(rt, out, "none"),
+        Err(fault) => push_fault(rt, out, *fault),
     }
 }
 
-const TYPES: &[(&str, &str)] = &[
+/// Adds whether a type has more than 127 levels, and whether it has more than 128, or why it is none.
+pub(in crate::tests) fn push_levels(
+    rt: &impl Abort,
+    alloc: Global,
+    out: &mut String,
+    source: &str,
+) {
+    let stream = tokenize(alloc, source).expect(rt, "tokens");
+    match &read_type(alloc, stream.run()) {
+        Ok((read, _)) => write!(
+            out,
+            "{} {}",
+            exceeds(&read.part, 127),
+            exceeds(&read.part, 128)
+        )
+        .expect(rt, "memory"),
+        Err(fault) => push_fault(rt, out, *fault),
+    }
+}
+
+/// Types, and how they are printed.
+pub(in crate::tests) const TYPES: &[(&str, &str)] = &[
     ("u8", "u8"),
     ("Vec<T>", "Vec < T >"),
     ("a::b", "a :: b"),
@@ -90,96 +111,54 @@ const TYPES: &[(&str, &str)] = &[
     ("A -> B", "none"),
 ];
 
-#[test]
-fn reads_and_prints(rt: HostRuntime) {
-    for (source, wanted) in TYPES {
-        let mut text = String::new(rt.alloc());
-        push_read(&rt, rt.alloc(), &mut text, source);
-        judge(&rt, source, &text, wanted);
-    }
-}
-
-const NO_TYPES: &[(&str, bool, usize, usize)] = &[
-    ("", false, 0, 0),
-    (";", false, 0, 1),
-    ("Vec<T", false, 0, 0),
-    ("Vec<T;", false, 5, 6),
-    ("&'a mut", false, 0, 0),
-    ("(A B)", false, 3, 4),
-    ("[A, B]", false, 2, 3),
-    ("[A;]", false, 0, 0),
-    ("[]", false, 0, 0),
-    ("a::5", false, 3, 4),
-    ("Vec<(A;)>", false, 6, 7),
-    ("{}", false, 0, 2),
-    ("dyn", false, 0, 0),
-    ("dyn ('a)", false, 5, 6),
-    ("dyn A + ?;", false, 9, 10),
-    ("<T as P>", false, 0, 0),
-    ("<T, P>::X", false, 2, 3),
-    ("for<T> fn()", false, 4, 5),
-    ("for<'a> A", false, 8, 9),
-    ("fn(A, ..)", false, 6, 7),
-    ("a!b", false, 2, 3),
-    ("Vec<_>", true, 4, 5),
-    ("&!", true, 1, 2),
-    ("impl A + 'a;", true, 0, 11),
-    ("&impl A + 'a", true, 1, 7),
-    ("impl I<Item = impl A<_>>", true, 21, 22),
-    ("(u8, a::m![x y])", true, 5, 15),
-    ("::m!{}", true, 0, 6),
-    ("Vec<I<A: B + C<D>, 5>>", true, 4, 21),
-    ("dyn I<A: B> + C", true, 0, 15),
-    ("Vec<fn(A, b: ...) -> C>", true, 4, 22),
-    ("unsafe fn(...,)", true, 0, 15),
-    ("fn(...) -> impl A", true, 11, 17),
-    ("(_, ;)", true, 1, 2),
+/// What is no type.
+pub(in crate::tests) const NO_TYPES: &[(&str, &str)] = &[
+    ("", "misfit 0..0"),
+    (";", "misfit 0..1"),
+    ("Vec<T", "misfit 0..0"),
+    ("Vec<T;", "misfit 5..6"),
+    ("&'a mut", "misfit 0..0"),
+    ("(A B)", "misfit 3..4"),
+    ("[A, B]", "misfit 2..3"),
+    ("[A;]", "misfit 0..0"),
+    ("[]", "misfit 0..0"),
+    ("a::5", "misfit 3..4"),
+    ("Vec<(A;)>", "misfit 6..7"),
+    ("{}", "misfit 0..2"),
+    ("dyn", "misfit 0..0"),
+    ("dyn ('a)", "misfit 5..6"),
+    ("dyn A + ?;", "misfit 9..10"),
+    ("<T as P>", "misfit 0..0"),
+    ("<T, P>::X", "misfit 2..3"),
+    ("for<T> fn()", "misfit 4..5"),
+    ("for<'a> A", "misfit 8..9"),
+    ("fn(A, ..)", "misfit 6..7"),
+    ("a!b", "misfit 2..3"),
+    ("Vec<_>", "left out 4..5"),
+    ("&!", "left out 1..2"),
+    ("impl A + 'a;", "left out 0..11"),
+    ("&impl A + 'a", "left out 1..7"),
+    ("impl I<Item = impl A<_>>", "left out 21..22"),
+    ("(u8, a::m![x y])", "left out 5..15"),
+    ("::m!{}", "left out 0..6"),
+    ("Vec<I<A: B + C<D>, 5>>", "left out 4..21"),
+    ("dyn I<A: B> + C", "left out 0..15"),
+    ("Vec<fn(A, b: ...) -> C>", "left out 4..22"),
+    ("unsafe fn(...,)", "left out 0..15"),
+    ("fn(...) -> impl A", "left out 11..17"),
+    ("(_, ;)", "left out 1..2"),
 ];
 
-#[test]
-fn names_what_is_no_type(rt: HostRuntime) {
-    for (source, is_left_out, from, to) in NO_TYPES {
-        let (mut text, mut wanted) = (String::new(rt.alloc()), String::new(rt.alloc()));
-        push_read(&rt, rt.alloc(), &mut text, source);
-        let word = if *is_left_out { "left out " } else { "misfit " };
-        push_span(
-            &rt,
-            &mut wanted,
-            word,
-            Span {
-                from: *from,
-                to: *to,
-            },
-        );
-        judge(&rt, source, &text, &wanted);
-    }
-}
-
-/// Whether the limit is passed where this stands so many times in front of a type, or it has another depth than 128 levels.
-fn passes(rt: &impl Abort, alloc: Global, opening: &str, count: usize, inner: &str) -> bool {
-    let mut source = opening.repeat(alloc, count).expect(rt, "memory");
-    push(rt, &mut source, inner);
-    let stream = tokenize(alloc, &source).expect(rt, "tokens");
-    match read_type(alloc, stream.run()) {
-        Ok((read, _)) => exceeds(&read.part, 128) | !exceeds(&read.part, 127),
-        Err(fault) => matches!(fault, TypeFault::LimitNesting),
-    }
-}
-
-/// What nests, the type inside, and how many times the first may stand in front of it.
-const NESTS: &[(&str, &str, usize)] = &[
-    ("&", "u8", 127),
-    ("*mut ", "u8", 127),
-    ("&", "[u8; { 5 }]", 126),
-    ("fn() -> ", "u8", 127),
-    ("fn() -> ", "dyn A", 127),
+/// What nests up to the limit, and past it.
+pub(in crate::tests) const NESTS: &[(&str, &str)] = &[
+    ("&×127¦u8", "true false"),
+    ("&×128¦u8", "limit"),
+    ("*mut ×127¦u8", "true false"),
+    ("*mut ×128¦u8", "limit"),
+    ("&×126¦[u8; { 5 }]", "true false"),
+    ("&×127¦[u8; { 5 }]", "limit"),
+    ("fn() -> ×127¦u8", "true false"),
+    ("fn() -> ×128¦u8", "limit"),
+    ("fn() -> ×127¦dyn A", "true false"),
+    ("fn() -> ×128¦dyn A", "limit"),
 ];
-
-#[test]
-fn counts_levels(rt: HostRuntime) {
-    for (opening, inner, most) in NESTS {
-        let most_passes = passes(&rt, rt.alloc(), opening, *most, inner);
-        let next_passes = passes(&rt, rt.alloc(), opening, most.saturating_add(1), inner);
-        hold(&rt, next_passes & !most_passes, opening);
-    }
-}

@@ -1,14 +1,13 @@
 //! Texts, and what is answered when they are asked of.
 
-use super::super::rows::{judge, push};
+use super::super::rows::push;
 use logos_pattern::pattern::{Class, Hir, Literal, Pattern, PatternError, Range, token_priority};
 use logos_token::token::{self, Span};
 use std::alloc::Global;
 use std::process::Abort;
 
 /// What is told of a pattern.
-#[derive(Clone, Copy)]
-pub(super) enum Told {
+pub(in crate::tests) enum Told {
     /// Its tree, in brackets: `[..]` holds characters, `<..>` bytes.
     Tree,
     /// Its priority, whether it is UTF-8, and whether it has a greedy dot.
@@ -17,41 +16,23 @@ pub(super) enum Told {
     Printed,
 }
 
-/// What is asked of a text.
-#[derive(Clone, Copy)]
-pub(super) enum Ask {
-    /// What is told of a regular expression, of characters or of bytes.
-    Regex {
-        unicode: bool,
-        told: Told,
-    },
-    /// What is told of the pattern in a literal, which is to stand for itself if it is escaped.
+/// What is asked of a literal.
+pub(in crate::tests) enum Use {
+    /// What is told of the pattern in it, which is to stand for itself if it is escaped.
     Value {
         escaped: bool,
         ignore_case: bool,
         told: Told,
     },
-    /// What is told of the pattern of a `token` with this literal.
+    /// What is told of the pattern of a `token` with it.
     Token(Told),
-    /// The value of a literal as the text of a pattern.
+    /// Its value as the text of a pattern.
     Escape {
         escaped: bool,
     },
-    /// The token of a literal, its span, whether it is of characters, its bytes, and its priority.
-    Literal,
+    /// Its token, its span, whether it is of characters, its bytes, and its priority.
+    Parts,
 }
-
-/// The tree of a regular expression of characters.
-pub(super) const TREE: Ask = Ask::Regex {
-    unicode: true,
-    told: Told::Tree,
-};
-
-/// The tree of a regular expression of bytes.
-pub(super) const TREE_OF_BYTES: Ask = Ask::Regex {
-    unicode: false,
-    told: Told::Tree,
-};
 
 /// Adds bytes as a string literal writes them.
 fn push_bytes(rt: &impl Abort, out: &mut String, bytes: &[u8]) {
@@ -138,7 +119,7 @@ fn push_row(rt: &impl Abort, out: &mut String, open: &str, row: &[Hir]) {
 }
 
 /// Adds what a row asks for.
-fn push_told(rt: &impl Abort, out: &mut String, pattern: &Pattern<'_>, told: Told) {
+fn push_told(rt: &impl Abort, out: &mut String, pattern: &Pattern<'_>, told: &Told) {
     match told {
         Told::Tree => push_tree(rt, out, pattern.hir()),
         Told::Measures => {
@@ -157,17 +138,30 @@ fn push_told(rt: &impl Abort, out: &mut String, pattern: &Pattern<'_>, told: Tol
 fn push_read(
     rt: &impl Abort,
     out: &mut String,
-    read: Result<Pattern<'_>, PatternError>,
-    told: Told,
+    read: &Result<Pattern<'_>, PatternError>,
+    told: &Told,
 ) {
     match read {
-        Ok(pattern) => push_told(rt, out, &pattern, told),
+        Ok(pattern) => push_told(rt, out, pattern, told),
         Err(PatternError::Syntax { kind, at }) => write!(out, "{kind:?} at {at}").expect(
             rt, "memory",
         ),
         Err(PatternError::LimitPatternNesting) => push(rt, out, "too deep"),
         Err(PatternError::Memory) => push(rt, out, "no memory"),
     }
+}
+
+/// Adds what is told of a regular expression, of characters or of bytes.
+pub(in crate::tests) fn push_pattern(
+    rt: &impl Abort,
+    alloc: Global,
+    out: &mut String,
+    unicode: bool,
+    told: &Told,
+    text: &str,
+) {
+    let read = Pattern::compile(alloc, false, text, text, unicode, false);
+    push_read(rt, out, &read, told);
 }
 
 /// Adds what is told of the pattern in a literal: whether it is escaped, and whether case is ignored.
@@ -177,85 +171,59 @@ fn push_value(
     out: &mut String,
     literal: &Literal<'_>,
     flags: (bool, bool),
-    told: Told,
+    told: &Told,
 ) {
     let regex = literal.escape(alloc, flags.0).expect(rt, "memory");
     let (source, unicode) = (literal.token().text, literal.unicode());
     let read = Pattern::compile(alloc, flags.0, &regex, source, unicode, flags.1);
-    push_read(rt, out, read, told);
+    push_read(rt, out, &read, told);
 }
 
 /// Adds the token of a literal, its span, whether it is of characters, its bytes, and its priority.
-fn push_literal(rt: &impl Abort, out: &mut String, literal: &Literal<'_>) {
+fn push_parts(rt: &impl Abort, out: &mut String, literal: &Literal<'_>) {
     let (text, span, unicode) = (literal.token().text, literal.span(), literal.unicode());
     let (value, priority) = (literal.value(), token_priority(literal));
     write!(out, "{text} {span:?} {unicode} {value:?} {priority}").expect(rt, "memory");
 }
 
 /// Adds the answer of a literal.
-fn push_of_literal(
+fn push_answer(
     rt: &impl Abort,
     alloc: Global,
     out: &mut String,
+    asked: &Use,
     literal: &Literal<'_>,
-    ask: Ask,
 ) {
-    match ask {
-        Ask::Value {
+    match asked {
+        Use::Value {
             escaped,
             ignore_case,
             told,
-        } => push_value(rt, alloc, out, literal, (escaped, ignore_case), told),
-        Ask::Token(told) => {
+        } => push_value(rt, alloc, out, literal, (*escaped, *ignore_case), told),
+        Use::Token(told) => {
             let pattern = Pattern::compile_lit(alloc, literal).expect(rt, "memory");
             push_told(rt, out, &pattern, told);
         }
-        Ask::Escape { escaped } => {
-            let text = literal.escape(alloc, escaped).expect(rt, "memory");
+        Use::Escape { escaped } => {
+            let text = literal.escape(alloc, *escaped).expect(rt, "memory");
             write!(out, "{:?}", text.as_str()).expect(rt, "memory");
         }
-        _ => push_literal(rt, out, literal),
+        Use::Parts => push_parts(rt, out, literal),
     }
 }
 
-/// Adds the answer of a text. A literal begins at the fourth byte of its source.
-fn push_answer(rt: &impl Abort, alloc: Global, out: &mut String, ask: Ask, text: &str) {
-    if let Ask::Regex { unicode, told } = ask {
-        let read = Pattern::compile(alloc, false, text, text, unicode, false);
-        return push_read(rt, out, read, told);
-    }
+/// Adds the answer of a literal that begins at the fourth byte of its source.
+pub(in crate::tests) fn push_literal(
+    rt: &impl Abort,
+    alloc: Global,
+    out: &mut String,
+    asked: &Use,
+    text: &str,
+) {
     let to = text.len().saturating_add(3);
     let span = Span { from: 3, to };
-    match Literal::read(alloc, &token::Literal { text, span }).expect(rt, "memory") {
-        Some(literal) => push_of_literal(rt, alloc, out, &literal, ask),
+    match &Literal::read(alloc, &token::Literal { text, span }).expect(rt, "memory") {
+        Some(literal) => push_answer(rt, alloc, out, asked, literal),
         None => push(rt, out, "none"),
-    }
-}
-
-/// On each line stands a text, and behind ` => ` its answer.
-pub(super) fn answers(rt: &impl Abort, alloc: Global, ask: Ask, rows: &str) {
-    for row in rows.lines() {
-        let (text, wanted) = row.split_once(" => ").expect(rt, row);
-        let mut out = String::new(alloc);
-        push_answer(rt, alloc, &mut out, ask, text);
-        judge(rt, row, &out, wanted);
-    }
-}
-
-/// So many times what opens, what is inside, as many times what closes, what is behind it, and the
-/// answer.
-pub(super) type Nested<'t> = (usize, &'t str, &'t str, &'t str, &'t str, &'t str);
-
-/// Each nested text, as a regular expression, answers as is said behind it.
-pub(super) fn nested_answers(rt: &impl Abort, alloc: Global, told: Told, cases: &[Nested<'_>]) {
-    for (times, open, inside, close, after, wanted) in cases {
-        let opening = open.repeat(alloc, *times).expect(rt, "memory");
-        let closing = close.repeat(alloc, *times).expect(rt, "memory");
-        let mut text = String::new(alloc);
-        write!(text, "{opening}{inside}{closing}{after}").expect(rt, "memory");
-        let mut out = String::new(alloc);
-        let unicode = true;
-        push_answer(rt, alloc, &mut out, Ask::Regex { unicode, told }, &text);
-        judge(rt, open, &out, wanted);
     }
 }

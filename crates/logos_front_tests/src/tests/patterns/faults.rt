@@ -1,9 +1,7 @@
 //! What is refused, and where.
 
-use super::asking::{Nested, TREE, Told, answers, nested_answers};
-
 /// What is not closed or not opened.
-const UNCLOSED_AND_UNOPENED: &str = r#"(a => Unclosed at 0
+pub(super) const UNCLOSED_AND_UNOPENED: &str = r#"(a => Unclosed at 0
 a(b(c) => Unclosed at 1
 a(b(c => Unclosed at 3
 [a => Unclosed at 0
@@ -40,7 +38,7 @@ a) => Unopened at 1
 😀) => Unopened at 4"#;
 
 /// Operators, counts and ranges.
-const FAULTS_OF_OPERATORS_AND_RANGES: &str = r#"* => NothingToRepeat at 0
+pub(super) const FAULTS_OF_OPERATORS_AND_RANGES: &str = r#"* => NothingToRepeat at 0
 a|* => NothingToRepeat at 2
 (?i)* => NothingToRepeat at 4
 (+) => NothingToRepeat at 1
@@ -82,7 +80,7 @@ a{99999999999999999999} => CountTooLarge at 0
 [\p{Zs}-z] => ClassRange at 1"#;
 
 /// Groups and flags.
-const FAULTS_OF_GROUPS: &str = r#"a(?x)a => FlagUnsupported at 1
+pub(super) const FAULTS_OF_GROUPS: &str = r#"a(?x)a => FlagUnsupported at 1
 (?ix:a) => FlagUnsupported at 0
 (?-x) => FlagUnsupported at 0
 (?I) => FlagSyntax at 0
@@ -116,7 +114,7 @@ a(?!b) => GroupSyntax at 1
 (?<n>a(?P<n>b)) => GroupSyntax at 6"#;
 
 /// Escapes.
-const FAULTS_OF_ESCAPES: &str = r#"a\q => EscapeUnknown at 1
+pub(super) const FAULTS_OF_ESCAPES: &str = r#"a\q => EscapeUnknown at 1
 é\ => EscapeUnknown at 2
 \1 => EscapeUnknown at 0
 \é => EscapeUnknown at 0
@@ -150,7 +148,7 @@ const FAULTS_OF_ESCAPES: &str = r#"a\q => EscapeUnknown at 1
 \U00110000 => HexNotScalar at 0"#;
 
 /// Names, and what stands among bytes.
-const FAULTS_OF_NAMES_AND_BYTES: &str = r#"\p{zzz} => UnknownProperty at 0
+pub(super) const FAULTS_OF_NAMES_AND_BYTES: &str = r#"\p{zzz} => UnknownProperty at 0
 a\pX => UnknownProperty at 1
 \P => UnknownProperty at 0
 [a\p{zzz}] => UnknownProperty at 2
@@ -187,47 +185,26 @@ a\B => UnicodeWordBoundary at 1
 (?-u)[[aé]] => NotInBytes at 8"#;
 
 /// Groups, brackets and operators that nest. Counts are read before the limit is looked at.
-const NESTED: [Nested<'static>; 21] = [
-    (250, "(", "a", ")", "", "Some(2) true false"),
-    (251, "(", "a", ")", "", "too deep"),
-    (250, "(?:", "a", ")", "", "Some(2) true false"),
-    (251, "(?:", "a", ")", "", "too deep"),
-    (250, "[", "a", "]", "", "Some(2) true false"),
-    (251, "[", "a", "]", "", "too deep"),
-    (250, "", "a", "+", "", "Some(2) true false"),
-    (251, "", "a", "+", "", "too deep"),
-    (250, "", "a", "{1}", "", "Some(2) true false"),
-    (251, "", "a", "{0}", "", "too deep"),
-    (249, "(", "[a]", ")", "", "Some(2) true false"),
-    (250, "(", "[a]", ")", "", "too deep"),
-    (
-        249,
-        "(",
-        "(?i)[[:alpha:]&&a]",
-        ")",
-        "",
-        "Some(2) true false",
-    ),
-    (125, "(", "a", "+)", "", "Some(2) true false"),
-    (126, "(", "a", "+)", "", "too deep"),
-    (300, "(", "", "", "", "too deep"),
-    (1000, "(a)", "", "", "", "Some(2000) true false"),
-    (249, "(", "a*", ")", "", "Some(0) true false"),
-    (250, "(", "a*", ")", "", "too deep"),
-    (250, "(?i-s:", "a", ")", "", "Some(2) true false"),
-    (250, "", "a", "+", "{3,2}", "CountOrder at 0"),
+pub(super) const NESTED: &[(&str, &str)] = &[
+    ("(×250¦a¦)×250", "Some(2) true false"),
+    ("(×251¦a¦)×251", "too deep"),
+    ("(?:×250¦a¦)×250", "Some(2) true false"),
+    ("(?:×251¦a¦)×251", "too deep"),
+    ("[×250¦a¦]×250", "Some(2) true false"),
+    ("[×251¦a¦]×251", "too deep"),
+    ("a¦+×250", "Some(2) true false"),
+    ("a¦+×251", "too deep"),
+    ("a¦{1}×250", "Some(2) true false"),
+    ("a¦{0}×251", "too deep"),
+    ("(×249¦[a]¦)×249", "Some(2) true false"),
+    ("(×250¦[a]¦)×250", "too deep"),
+    ("(×249¦(?i)[[:alpha:]&&a]¦)×249", "Some(2) true false"),
+    ("(×125¦a¦+)×125", "Some(2) true false"),
+    ("(×126¦a¦+)×126", "too deep"),
+    ("(×300", "too deep"),
+    ("(a)×1000", "Some(2000) true false"),
+    ("(×249¦a*¦)×249", "Some(0) true false"),
+    ("(×250¦a*¦)×250", "too deep"),
+    ("(?i-s:×250¦a¦)×250", "Some(2) true false"),
+    ("a¦+×250¦{3,2}", "CountOrder at 0"),
 ];
-
-#[test]
-fn faults(rt: HostRuntime) {
-    for (ask, rows) in [
-        (TREE, UNCLOSED_AND_UNOPENED),
-        (TREE, FAULTS_OF_OPERATORS_AND_RANGES),
-        (TREE, FAULTS_OF_GROUPS),
-        (TREE, FAULTS_OF_ESCAPES),
-        (TREE, FAULTS_OF_NAMES_AND_BYTES),
-    ] {
-        answers(&rt, rt.alloc(), ask, rows);
-    }
-    nested_answers(&rt, rt.alloc(), Told::Measures, &NESTED);
-}

@@ -1,10 +1,8 @@
 //! Sets of characters. What is expected was computed from the data of Unicode 18.0, the version that
 //! `unicode` has.
 
-use super::asking::{Nested, TREE, Told, answers, nested_answers};
-
 /// Operations of brackets.
-const OPERATIONS: &str = r#"[\x07-\x09\x01-\x02\x03-\x04\x08-\x0C\x05] => [1-5,7-C]
+pub(super) const OPERATIONS: &str = r#"[\x07-\x09\x01-\x02\x03-\x04\x08-\x0C\x05] => [1-5,7-C]
 [\u{E000}-\u{E001}\u{D700}-\u{D7FF}] => [D700-E001]
 [^\u{E000}-\u{10FFFF}] => [0-D7FF]
 [^\n] => [0-9,B-10FFFF]
@@ -27,7 +25,7 @@ const OPERATIONS: &str = r#"[\x07-\x09\x01-\x02\x03-\x04\x08-\x0C\x05] => [1-5,7
 [^\p{Zs}~~\x20] => [0-9F,A1-167F,1681-1FFF,200B-202E,2030-205E,2060-2FFF,3001-10FFFF]"#;
 
 /// Properties.
-const PROPERTIES: &str = r#"\p{any} => [0-10FFFF]
+pub(super) const PROPERTIES: &str = r#"\p{any} => [0-10FFFF]
 \p{ascii} => [0-7F]
 \P{ASCII} => [80-10FFFF]
 \P{any} => []
@@ -66,7 +64,7 @@ const PROPERTIES: &str = r#"\p{any} => [0-10FFFF]
 [\s&&\u{85}\u{2003}\u{200B}] => [85,2003]"#;
 
 /// Foldings. Nothing shares a simple folding with the two Turkic letters, dotted I and dotless i.
-const FOLDINGS: &str = r#"(?i)a => [41,61]
+pub(super) const FOLDINGS: &str = r#"(?i)a => [41,61]
 (?i-u)k => <4B,6B>
 (?i)1 => '1'
 (?i-u)é => '\xC3\xA9'
@@ -115,25 +113,13 @@ xa(?i)b|c => alt(cat('xa' [42,62]) [43,63])
 (?i-u)[X-b\xC0-\xE0] => <41-42,58-62,78-7A,C0-E0>
 (?i)[\p{Lu}&&1\u{3C9}] => [3A9,3C9,2126]"#;
 
-/// 401 operands in turn. What is expected was computed by going over them from the left.
-const OPERANDS_IN_TURN: [Nested<'static>; 1] = [(
-    10,
-    "",
-    "[\\x00",
-    "~~\\x25-\\x32~~\\x4A-\\x64--\\x6F-\\x96&&\\x04-\\xFB~~\\xB9-\\xCD--\\x0B-\\x2C~~\\x30-\\x31\
+/// 401 operands in turn: those of the row, ten times. What is expected was computed by going over them from the left.
+pub(super) const OPERANDS_IN_TURN: &[(&str, &str)] = &[(
+    "[\\x00¦~~\\x25-\\x32~~\\x4A-\\x64--\\x6F-\\x96&&\\x04-\\xFB~~\\xB9-\\xCD--\\x0B-\\x2C~~\\x30-\\x31\
      ~~\\x55-\\x63&&\\x00-\\xF7~~\\x9F-\\xC7~~\\xC4-\\xCC--\\x16-\\x2B~~\\x3B-\\x5D&&\\x05-\\xFC\
      --\\x85-\\x94~~\\xAA-\\xC6~~\\xCF-\\xF8--\\x21-\\x2A&&\\x01-\\xF8~~\\x6B-\\x8E--\\x90-\\x93\
      ~~\\xB5-\\xC5~~\\x07-\\x24&&\\x06-\\xFD~~\\x51-\\x5B~~\\x76-\\x8D--\\x9B-\\xBF~~\\xC0-\\xC4\
      &&\\x02-\\xF9--\\x37-\\x55~~\\x5C-\\x87~~\\x81-\\x8C--\\xA6-\\xBE&&\\x07-\\xFE~~\\x1D-\\x22\
-     --\\x42-\\x54~~\\x67-\\x86~~\\x8C-\\xB8&&\\x03-\\xFA~~\\x03-\\x1C",
-    "]",
+     --\\x42-\\x54~~\\x67-\\x86~~\\x8C-\\xB8&&\\x03-\\xFA~~\\x03-\\x1C×10¦]",
     "[3-6,23-24,6F-75,81-86,88-8B,8D,8F-96,9B-B8,F8]",
 )];
-
-#[test]
-fn sets(rt: HostRuntime) {
-    for (ask, rows) in [(TREE, OPERATIONS), (TREE, PROPERTIES), (TREE, FOLDINGS)] {
-        answers(&rt, rt.alloc(), ask, rows);
-    }
-    nested_answers(&rt, rt.alloc(), Told::Tree, &OPERANDS_IN_TURN);
-}

@@ -1,9 +1,7 @@
 //! What patterns read as.
 
-use super::asking::{TREE, TREE_OF_BYTES, answers};
-
 /// Branches, groups, and what stands side by side.
-const BRANCHES_AND_GROUPS: &str = r#" => E
+pub(super) const BRANCHES_AND_GROUPS: &str = r#" => E
 abc => 'abc'
 ab|c => alt('ab' 'c')
 a|b => [61-62]
@@ -36,7 +34,7 @@ x(?:^a)b => cat('x' Start 'ab')
 é|a|[b-c] => [61-63,E9]"#;
 
 /// Repetitions.
-const OPERATORS: &str = r#"ab* => cat('a' ('b'){0,})
+pub(super) const OPERATORS: &str = r#"ab* => cat('a' ('b'){0,})
 a+ => ('a'){1,}
 a? => ('a'){0,1}
 a{3} => ('a'){3,3}
@@ -80,7 +78,7 @@ a{2,}? => ('a'){2,}?
 (^){3,7} => cap(Start)"#;
 
 /// Escapes, looks, dots and the classes of ASCII.
-const ESCAPES_AND_ASCII_CLASSES: &str = r#"\a\f\t\n\r\v => '\x07\x0C\x09\x0A\x0D\x0B'
+pub(super) const ESCAPES_AND_ASCII_CLASSES: &str = r#"\a\f\t\n\r\v => '\x07\x0C\x09\x0A\x0D\x0B'
 \x41\u0042\U00000043 => 'ABC'
 \x{41}\u{42}\U{43} => 'ABC'
 \xe9\u{1F600} => '\xC3\xA9\xF0\x9F\x98\x80'
@@ -125,7 +123,7 @@ const ESCAPES_AND_ASCII_CLASSES: &str = r#"\a\f\t\n\r\v => '\x07\x0C\x09\x0A\x0D
 [[::]] => ':'"#;
 
 /// Patterns of bytes.
-const BYTES: &str = r#"\xE9 => '\xE9'
+pub(super) const BYTES: &str = r#"\xE9 => '\xE9'
 \u00E9 => '\xC3\xA9'
 é => '\xC3\xA9'
 . => <0-9,B-FF>
@@ -164,7 +162,7 @@ const BYTES: &str = r#"\xE9 => '\xE9'
 [^\n] => <0-9,B-FF>"#;
 
 /// Brackets.
-const BRACKETS: &str = r#"[a-z] => [61-7A]
+pub(super) const BRACKETS: &str = r#"[a-z] => [61-7A]
 [cab] => [61-63]
 [^a-z] => [0-60,7B-10FFFF]
 [-a] => [2D,61]
@@ -213,16 +211,3 @@ const BRACKETS: &str = r#"[a-z] => [61-7A]
 [a[c[e]]g] => [61,63,65,67]
 [.*^$(] => [24,28,2A,2E,5E]
 [a-z]|(?-u:[0-9]) => alt([61-7A] <30-39>)"#;
-
-#[test]
-fn trees(rt: HostRuntime) {
-    for (ask, rows) in [
-        (TREE, BRANCHES_AND_GROUPS),
-        (TREE, OPERATORS),
-        (TREE, ESCAPES_AND_ASCII_CLASSES),
-        (TREE, BRACKETS),
-        (TREE_OF_BYTES, BYTES),
-    ] {
-        answers(&rt, rt.alloc(), ask, rows);
-    }
-}

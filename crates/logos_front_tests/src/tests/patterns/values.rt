@@ -1,14 +1,12 @@
 //! What is told of patterns that were read, and of literals.
 
-use super::asking::{Ask, Told, answers};
+use super::super::rows::Ask;
+use super::asking::{Told, Use};
 
 /// Priorities. The counts are as great as can be: three of them give no priority that fits.
-const PRIORITIES: &[(Ask, &str)] = &[
+pub(super) const PRIORITIES: &[(Ask, &str)] = &[
     (
-        Ask::Regex {
-            unicode: true,
-            told: Told::Measures,
-        },
+        Ask::Pattern(true, Told::Measures),
         r#" => Some(0) true false
 rope => Some(8) true false
 é => Some(2) true false
@@ -28,10 +26,7 @@ ab|\d => Some(2) true false
 x|(?:(?:a{4294967295}){4294967295}){4294967295} => Some(2) true false"#,
     ),
     (
-        Ask::Regex {
-            unicode: false,
-            told: Told::Measures,
-        },
+        Ask::Pattern(false, Told::Measures),
         r#"\xFF+ => Some(2) false false
 \xFF\xFE => Some(4) false false
 \xC3\xA9 => Some(2) true false
@@ -48,11 +43,8 @@ x|(?:(?:a{4294967295}){4294967295}){4294967295} => Some(2) true false"#,
 ];
 
 /// Greedy repetitions of a dot.
-const GREEDY_DOTS: &[(Ask, &str)] = &[(
-    Ask::Regex {
-        unicode: true,
-        told: Told::Measures,
-    },
+pub(super) const GREEDY_DOTS: &[(Ask, &str)] = &[(
+    Ask::Pattern(true, Told::Measures),
     r#".*x => Some(2) true true
 .+ => Some(2) true true
 .{3,} => Some(6) true true
@@ -83,13 +75,13 @@ ab|c.* => Some(2) true true
 )];
 
 /// Patterns in literals.
-const PATTERNS_OF_LITERALS: &[(Ask, &str)] = &[
+pub(super) const PATTERNS_OF_LITERALS: &[(Ask, &str)] = &[
     (
-        Ask::Value {
+        Ask::Literal(Use::Value {
             escaped: true,
             ignore_case: false,
             told: Told::Tree,
-        },
+        }),
         r#""a.b" => 'a.b'
 b"\xFF." => '\xFF.'
 r"\.+*?()|[]{}^$#&-~" => '\.+*?()|[]{}^$#&-~'
@@ -98,64 +90,61 @@ b"\\.+*?()|[]{}^$#&-~" => '\.+*?()|[]{}^$#&-~'
 "" => E"#,
     ),
     (
-        Ask::Value {
+        Ask::Literal(Use::Value {
             escaped: true,
             ignore_case: true,
             told: Told::Tree,
-        },
+        }),
         r#""k" => [4B,6B,212A]
 b"k" => <4B,6B>
 b"\xFF." => '\xFF.'"#,
     ),
     (
-        Ask::Value {
+        Ask::Literal(Use::Value {
             escaped: false,
             ignore_case: false,
             told: Told::Tree,
-        },
+        }),
         r#""\\\0\\\n\\\u{7F}" => '\x00\x0A\x7F'"#,
     ),
     (
-        Ask::Value {
+        Ask::Literal(Use::Value {
             escaped: false,
             ignore_case: true,
             told: Told::Tree,
-        },
+        }),
         r#""a(?-i:b)" => cat([41,61] 'b')"#,
     ),
     (
-        Ask::Value {
+        Ask::Literal(Use::Value {
             escaped: true,
             ignore_case: false,
             told: Told::Printed,
-        },
+        }),
         r#""a.b" => #[token("a.b")] "a.b" true"#,
     ),
     (
-        Ask::Regex {
-            unicode: true,
-            told: Told::Printed,
-        },
+        Ask::Pattern(true, Told::Printed),
         r#"".." => #[regex("..")] ".." false"#,
     ),
 ];
 
 /// Literals, and what is made of them.
-const LITERALS: &[(Ask, &str)] = &[
+pub(super) const LITERALS: &[(Ask, &str)] = &[
     (
-        Ask::Escape { escaped: true },
+        Ask::Literal(Use::Escape { escaped: true }),
         r#"b"\xFF." => "\\xFF\\."
 b"\x80\n\x7F" => "\\x80\n\u{7f}"
 r"\.+*?()|[]{}^$#&-~" => "\\\\\\.\\+\\*\\?\\(\\)\\|\\[\\]\\{\\}\\^\\$\\#\\&\\-\\~"
 "aZ0_ !%',/:;<=>@`\né" => "aZ0_ !%',/:;<=>@`\né""#,
     ),
     (
-        Ask::Escape { escaped: false },
+        Ask::Literal(Use::Escape { escaped: false }),
         r#"b"\xFF." => "\\xFF."
 r"\.+*?()|[]{}^$#&-~" => "\\.+*?()|[]{}^$#&-~""#,
     ),
     (
-        Ask::Literal,
+        Ask::Literal(Use::Parts),
         r#"b"\n" => b"\n" Span { from: 3, to: 8 } false [10] 2
 "\n" => "\n" Span { from: 3, to: 7 } true [10] 2
 "é" => "é" Span { from: 3, to: 7 } true [195, 169] 4
@@ -163,27 +152,18 @@ r"\.+*?()|[]{}^$#&-~" => "\\.+*?()|[]{}^$#&-~""#,
 c"a" => none"#,
     ),
     (
-        Ask::Token(Told::Tree),
+        Ask::Literal(Use::Token(Told::Tree)),
         r#""\x2E" => '.'
 r"" => E"#,
     ),
     (
-        Ask::Token(Told::Measures),
+        Ask::Literal(Use::Token(Told::Measures)),
         r#""é" => Some(2) true false
 r"" => Some(0) true false"#,
     ),
     (
-        Ask::Token(Told::Printed),
+        Ask::Literal(Use::Token(Told::Printed)),
         r#""\x2E" => #[token("\x2E")] "\x2E" true
 r"" => #[token(r"")] r"" true"#,
     ),
 ];
-
-#[test]
-fn values(rt: HostRuntime) {
-    for table in [PRIORITIES, GREEDY_DOTS, PATTERNS_OF_LITERALS, LITERALS] {
-        for (ask, rows) in table {
-            answers(&rt, rt.alloc(), *ask, rows);
-        }
-    }
-}

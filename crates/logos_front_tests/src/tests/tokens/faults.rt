@@ -1,80 +1,67 @@
 //! The list of faults by example: its order, its names, and its text.
 
-use super::super::rows::{hold, judge};
-use logos_token::error::{Errors, FaultCode, Memory};
+use super::super::rows::{judge, push};
+use logos_token::error::{Errors, FaultCode, Memory, SpannedError};
 use logos_token::token::Span;
 use std::process::Abort;
+
+/// Adds a fault: its place, perhaps a second place, its code and its text.
+fn push_fault(rt: &impl Abort, out: &mut String, fault: &SpannedError) {
+    write!(out, "{}..{} ", fault.span.from, fault.span.to).expect(rt, "memory");
+    if let Some(also) = fault.also {
+        write!(out, "also {}..{} ", also.from, also.to).expect(rt, "memory");
+    }
+    write!(out, "{} {:?};", fault.code, fault.message.as_str()).expect(rt, "memory");
+}
+
+/// Adds faults, or `none`.
+pub(in crate::tests) fn push_faults(rt: &impl Abort, out: &mut String, errors: &Errors) {
+    if errors.list().is_empty() {
+        return push(rt, out, "none");
+    }
+    for fault in errors.list() {
+        push_fault(rt, out, fault);
+    }
+}
+
+/// Adds how faults are rendered, or nothing where there are none.
+fn push_rendered(rt: &impl Abort, out: &mut String, errors: &Errors) {
+    if let Some(text) = errors.render().expect(rt, "memory") {
+        push(rt, out, &text);
+    }
+    push(rt, out, "\n");
+}
 
 const FIRST: Span = Span { from: 0, to: 1 };
 
 const SECOND: Span = Span { from: 4, to: 9 };
 
-/// A fault at one place, and one of another place that speaks of the first one.
+/// How faults are rendered when there is none, one, and two; all faults, of which the last stands elsewhere and speaks of the first
+/// place; and some names.
+const TOLD: &str = r#"
+fn _logos_derive_compile_errors ( ) { { compile_error ! ( "Not a valid callback" ) } } unimplemented ! ( )
+fn _logos_derive_compile_errors ( ) { { compile_error ! ( "Not a valid callback" ) } { compile_error ! ( "\"x\\y\"\n\r\té" ) } } unimplemented ! ( )
+0..1 CallbackValue "Not a valid callback";0..1 IgnoreUnknown "\"x\\y\"\n\r\té";0..1 EmptyMatch "empty";4..9 also 0..1 TypeTwice "twice";
+NotAnEnum LimitSource: out of memory"#;
+
 #[test]
-fn two_faults(rt: HostRuntime) {
+fn faults(rt: HostRuntime) {
     let mut errors = Errors::new(rt.alloc());
-    errors
-        .err(FaultCode::EmptyMatch, "empty", FIRST)
-        .expect(&rt, "memory");
-    errors
-        .err_also(FaultCode::TypeTwice, "twice", SECOND, FIRST)
-        .expect(&rt, "memory");
-    let list = errors.list();
-    assert!(rt; list.len() == 2);
-    let (first, second) = (&list[0], &list[1]);
-    hold(&rt, first.code == FaultCode::EmptyMatch, "the first code");
-    hold(&rt, second.code == FaultCode::TypeTwice, "the second code");
-    hold(
-        &rt,
-        (first.span == FIRST) & (second.span == SECOND),
-        "the spans",
-    );
-    hold(
-        &rt,
-        (first.also == None) & (second.also == Some(FIRST)),
-        "the other spans",
-    );
-    judge(&rt, "the message", &first.message, "empty");
-}
-
-/// The name of a fault, another that is printed, and the text of want of memory.
-#[test]
-fn names(rt: HostRuntime) {
-    let mut text = String::new(rt.alloc());
-    let name = FaultCode::NotAnEnum.name();
-    write!(text, "{name} {}: {}", FaultCode::LimitSource, Memory).expect(&rt, "memory");
-    judge(&rt, "names", &text, "NotAnEnum LimitSource: out of memory");
-}
-
-/// The faults are rendered as this text, or not at all where it is empty.
-fn are_rendered(rt: &impl Abort, errors: &Errors, wanted: &str) {
-    match errors.render().expect(rt, "memory") {
-        Some(text) => judge(rt, "rendered", &text, wanted),
-        None => judge(rt, "rendered", "", wanted),
-    }
-}
-
-/// Faults with texts that are escaped and texts that are not.
-const RENDERED: [(FaultCode, &str, &str); 2] = [
-    (
-        FaultCode::CallbackValue,
-        "Not a valid callback",
-        "fn _logos_derive_compile_errors ( ) { { compile_error ! ( \"Not a valid callback\" ) } } unimplemented ! ( )",
-    ),
-    (
-        FaultCode::IgnoreUnknown,
-        "\"x\\y\"\n\r\té",
-        "fn _logos_derive_compile_errors ( ) { { compile_error ! ( \"Not a valid callback\" ) } { compile_error ! ( \"\\\"x\\\\y\\\"\\n\\r\\té\" ) } } unimplemented ! ( )",
-    ),
-];
-
-/// Faults, collected one after another, are rendered with each as is said beside it.
-#[test]
-fn rendered(rt: HostRuntime) {
-    let mut errors = Errors::new(rt.alloc());
-    are_rendered(&rt, &errors, "");
-    for (code, message, wanted) in RENDERED {
+    let mut out = String::new(rt.alloc());
+    push_rendered(&rt, &mut out, &errors);
+    for (code, message) in [
+        (FaultCode::CallbackValue, "Not a valid callback"),
+        (FaultCode::IgnoreUnknown, "\"x\\y\"\n\r\té"),
+    ] {
         errors.err(code, message, FIRST).expect(&rt, "memory");
-        are_rendered(&rt, &errors, wanted);
+        push_rendered(&rt, &mut out, &errors);
     }
+    let empty = FaultCode::EmptyMatch;
+    errors.err(empty, "empty", FIRST).expect(&rt, "memory");
+    let twice = errors.err_also(FaultCode::TypeTwice, "twice", SECOND, FIRST);
+    twice.expect(&rt, "memory");
+    push_faults(&rt, &mut out, &errors);
+    let name = FaultCode::NotAnEnum.name();
+    write!(out, "\n{name} {}: {}", FaultCode::LimitSource, Memory).expect(&rt, "memory");
+    judge(&rt, "faults", &out, TOLD);
 }

@@ -1,87 +1,9 @@
 //! Tokens by example: where they stand, what refuses a source, and what is printed of them.
 
-use super::super::rows::{hold_row, judge, push, push_span};
-use logos_token::token::{
-    LexicalKind, Spacing, Span, TokenError, TokenTree, Tokens, print, tokenize,
-};
+use super::super::rows::{judge, push, push_span};
+use logos_token::token::{Span, TokenTree, Tokens, print, tokenize};
 use std::alloc::Global;
 use std::process::Abort;
-
-/// What is asked of a source.
-#[derive(Clone, Copy)]
-enum Ask<'a> {
-    /// Why it is not read, and the span of the reason; nothing if it is read.
-    Refusal,
-    /// The span of all tokens, or that there are none.
-    Extent,
-    /// The span of each tree that stands behind so many others, in groups that stand behind so many
-    /// others each.
-    Spans(&'a [(&'a [usize], usize)]),
-    /// Each identifier and punctuation with a joint one marked, and the texts of literals without
-    /// their quotes.
-    Texts,
-    /// The spans of what stands in front of all trees but the first, and in front of all but the
-    /// first two, and whether none stands in front of all.
-    Fronts,
-    /// How it is printed.
-    Print,
-}
-
-/// The run behind so many trees.
-fn past<'t, 's>(run: Tokens<'t, 's>, count: usize) -> Tokens<'t, 's> {
-    let mut rest = run;
-    for _ in 0..count {
-        rest = rest.rest();
-    }
-    rest
-}
-
-/// The run in the groups that stand behind so many trees each.
-fn inner<'t, 's>(rt: &impl Abort, run: Tokens<'t, 's>, groups: &[usize]) -> Tokens<'t, 's> {
-    let mut run = run;
-    for index in groups {
-        run = match past(run, *index).first() {
-            Some(TokenTree::Group(group)) => group.run(),
-            _ => panic!(rt; "no group"),
-        };
-    }
-    run
-}
-
-/// Adds the spans to what is told.
-fn push_spans(
-    rt: &impl Abort,
-    text: &mut String,
-    run: Tokens<'_, '_>,
-    places: &[(&[usize], usize)],
-) {
-    for (groups, count) in places {
-        let tree = past(inner(rt, run, groups), *count).first();
-        push_span(rt, text, "", tree.expect(rt, "a tree").span());
-        push(rt, text, " ");
-    }
-}
-
-/// The text of a tree; the one between the quotes of a literal.
-fn text_of<'s>(tree: TokenTree<'_, 's>) -> &'s str {
-    match tree {
-        TokenTree::Ident(ident) => ident.text,
-        TokenTree::Literal(literal) => literal.text.trim_matches('"'),
-        TokenTree::Punct(punct) if punct.spacing == Spacing::Joint => "-",
-        _ => "",
-    }
-}
-
-/// Adds the texts to what is told.
-fn push_texts(rt: &impl Abort, text: &mut String, run: Tokens<'_, '_>) {
-    for tree in run.iter() {
-        if let TokenTree::Punct(punct) = tree {
-            text.push(punct.character).expect(rt, "memory");
-        }
-        push(rt, text, text_of(tree));
-        push(rt, text, " ");
-    }
-}
 
 /// The spans of the trees in front of all but the first and of all but the first two, and whether
 /// there are none in front of all.
@@ -91,301 +13,109 @@ fn fronts(run: Tokens<'_, '_>) -> (Span, Span, bool) {
     (first, second, run.before(run).is_empty())
 }
 
-/// Adds the fronts to what is told.
-fn push_fronts(rt: &impl Abort, text: &mut String, run: Tokens<'_, '_>) {
-    let (first, second, is_none) = fronts(run);
-    push_span(rt, text, "", first);
-    push_span(rt, text, " ", second);
-    push(rt, text, if is_none { " none" } else { " some" });
-}
-
-/// Adds the extent to what is told.
-fn push_extent(rt: &impl Abort, text: &mut String, run: Tokens<'_, '_>) {
-    if run.is_empty() {
-        return push(rt, text, "none");
-    }
-    push_span(rt, text, "", run.span());
-    push(rt, text, " ");
-}
-
-/// Adds the answer to what is told.
-fn push_answer(
-    rt: &impl Abort,
-    alloc: Global,
-    text: &mut String,
-    run: Tokens<'_, '_>,
-    ask: Ask<'_>,
-) {
-    match ask {
-        Ask::Refusal => push(rt, text, ""),
-        Ask::Extent => push_extent(rt, text, run),
-        Ask::Spans(places) => push_spans(rt, text, run, places),
-        Ask::Texts => push_texts(rt, text, run),
-        Ask::Fronts => push_fronts(rt, text, run),
-        Ask::Print => push(rt, text, &print(alloc, run).expect(rt, "memory")),
-    }
-}
-
-/// Adds the refusal to what is told.
-fn push_refusal(rt: &impl Abort, text: &mut String, kind: LexicalKind, span: Span) {
-    let name = match kind {
-        LexicalKind::BadCharacter => "character ",
-        LexicalKind::BadLiteral => "literal ",
-        LexicalKind::Unterminated => "unterminated ",
-        LexicalKind::Unbalanced => "unbalanced ",
-    };
-    push_span(rt, text, name, span);
-    push(rt, text, " ");
-}
-
-/// Adds what a source answers.
-fn push_read(rt: &impl Abort, alloc: Global, text: &mut String, source: &str, ask: Ask<'_>) {
-    match tokenize(alloc, source) {
-        Ok(stream) => push_answer(rt, alloc, text, stream.run(), ask),
-        Err(TokenError::Memory) => push(rt, text, "memory"),
-        Err(TokenError::LimitSource) => push(rt, text, "source"),
-        Err(TokenError::Lexical { kind, span }) => push_refusal(rt, text, kind, span),
-        Err(TokenError::LimitTokenNesting { span }) => {
-            push_span(rt, text, "nesting ", span);
-            push(rt, text, " ");
-        }
-    }
-}
-
-/// Sources that are read.
-const READABLE: &[(&str, Ask<'static>, &str)] = &[
-    ("enum T { #[token(\"a\")] A }", Ask::Extent, "0..26 "),
-    (
-        "enum T { #[token(\"a\")] A }",
-        Ask::Spans(&[
-            (&[], 0),
-            (&[], 1),
-            (&[], 2),
-            (&[2], 0),
-            (&[2], 1),
-            (&[2], 2),
-            (&[2, 1], 0),
-            (&[2, 1, 1], 0),
-        ]),
-        "0..4 5..6 7..26 9..10 10..22 23..24 11..16 17..20 ",
-    ),
-    ("a :: \"b\"", Ask::Texts, "a :- : b "),
-    ("a (b) c", Ask::Fronts, "0..1 0..5 none"),
-    ("", Ask::Fronts, "0..0 0..0 none"),
-    ("", Ask::Extent, "none"),
-    (" \t\r\n", Ask::Extent, "none"),
-    ("a,|b|", Ask::Print, "a ,| b |"),
-    (
-        "enum E{#[token(\"a\")]A::B}",
-        Ask::Print,
-        "enum E { # [ token ( \"a\" ) ] A :: B }",
-    ),
-    ("", Ask::Print, ""),
-];
-
-/// Sources that are refused.
-const UNREADABLE: &[(&str, Ask<'static>, &str)] = &[
-    ("enum E {", Ask::Refusal, "unbalanced 7..8 "),
-    (")", Ask::Refusal, "unbalanced 0..1 "),
-    ("( ]", Ask::Refusal, "unbalanced 2..3 "),
-    ("([()", Ask::Refusal, "unbalanced 1..2 "),
-    ("a \"bc", Ask::Refusal, "unterminated 2..5 "),
-    ("( `", Ask::Refusal, "character 2..3 "),
-    ("a £", Ask::Refusal, "character 2..4 "),
-    ("\"a\\b\" c", Ask::Refusal, "literal 0..5 "),
-];
-
-/// Each source answers as is said behind it and what is asked.
-#[test]
-fn answers(rt: HostRuntime) {
-    for table in [READABLE, UNREADABLE] {
-        for (source, ask, wanted) in table {
-            let mut text = String::new(rt.alloc());
-            push_read(&rt, rt.alloc(), &mut text, source, *ask);
-            judge(&rt, source, &text, wanted);
-        }
-    }
-}
-
-/// A text, so many times what opens, as many times what closes, a text behind it, and the reason
-/// for which it is refused.
-type Nested = (
-    &'static str,
-    &'static str,
-    usize,
-    &'static str,
-    &'static str,
-    &'static str,
-);
-
-/// Delimiters inside one another, of which 128 may be open, the brace of the enum among them; and
-/// sources as long as can be.
-const NESTED: &[Nested] = &[
-    ("", "(", 128, ")", "", ""),
-    ("", "(", 129, ")", "", "nesting 128..129 "),
-    ("enum E { #[token(\"a\")] A = ", "(", 127, ")", " }", ""),
-    (
-        "enum E { #[token(\"a\")] A = ",
-        "(",
-        128,
-        ")",
-        " }",
-        "nesting 154..155 ",
-    ),
-    ("", " ", 16_777_216, "", "", ""),
-    ("", " ", 16_777_217, "", "", "source"),
-];
-
-/// Nested sources are refused as is said behind them, or read.
-#[test]
-fn nested(rt: HostRuntime) {
-    let alloc = rt.alloc();
-    for (front, open, times, close, rest, wanted) in NESTED {
-        let opening = open.repeat(alloc, *times).expect(&rt, "memory");
-        let closing = close.repeat(alloc, *times).expect(&rt, "memory");
-        let mut source = String::new(alloc);
-        write!(source, "{front}{opening}{closing}{rest}").expect(&rt, "memory");
-        let mut text = String::new(alloc);
-        push_read(&rt, alloc, &mut text, &source, Ask::Refusal);
-        hold_row(&rt, text.as_str() == *wanted, open, *times);
-    }
-}
-
-/// What two trees must have alike, their spans aside: of a group its delimiters and what is printed of its inside, of a mark whether it
-/// stands alone.
-fn push_tree(rt: &impl Abort, alloc: Global, text: &mut String, tree: TokenTree<'_, '_>) {
+/// Adds what a tree is: of a group its delimiters and what is printed of its inside, of a mark whether it stands alone.
+fn push_tree(rt: &impl Abort, alloc: Global, out: &mut String, tree: TokenTree<'_, '_>) {
     match tree {
-        TokenTree::Ident(ident) => write!(text, "ident {}", ident.text),
-        TokenTree::Literal(literal) => write!(text, "literal {}", literal.text),
-        TokenTree::Doc(doc) => write!(text, "doc {}", doc.text),
-        TokenTree::Punct(punct) => write!(text, "{} {:?}", punct.character, punct.spacing),
+        TokenTree::Ident(ident) => write!(out, "ident {}", ident.text),
+        TokenTree::Literal(literal) => write!(out, "literal {}", literal.text),
+        TokenTree::Doc(doc) => write!(out, "doc {}", doc.text),
+        TokenTree::Punct(punct) => write!(out, "{} {:?}", punct.character, punct.spacing),
         TokenTree::Group(group) => {
             let printed = print(alloc, group.run()).expect(rt, "memory");
-            write!(text, "{:?} {printed}", group.delimiter)
+            write!(out, "{:?} {printed}", group.delimiter)
         }
     }
     .expect(rt, "memory");
-    push(rt, text, "; ");
 }
 
-/// Adds what the trees of a source must have alike, and how it is printed.
+/// Adds what the trees of a run are, and where they stand if that is asked for.
 fn push_trees(
     rt: &impl Abort,
     alloc: Global,
-    text: &mut String,
-    printed: &mut String,
-    source: &str,
+    out: &mut String,
+    run: Tokens<'_, '_>,
+    is_placed: bool,
 ) {
-    let stream = tokenize(alloc, source).expect(rt, source);
-    for tree in stream.run().iter() {
-        push_tree(rt, alloc, text, tree);
+    for tree in run.iter() {
+        push_tree(rt, alloc, out, tree);
+        if is_placed {
+            push_span(rt, out, " ", tree.span());
+        }
+        push(rt, out, "; ");
     }
-    push(
-        rt,
-        printed,
-        &print(alloc, stream.run()).expect(rt, "memory"),
-    );
 }
 
-/// The printed text of a source has the source's tokens, and is printed as it is.
-fn prints_back(rt: &impl Abort, alloc: Global, source: &str) {
-    let (mut text, mut printed) = (String::new(alloc), String::new(alloc));
-    push_trees(rt, alloc, &mut text, &mut printed, source);
-    let (mut other, mut again) = (String::new(alloc), String::new(alloc));
-    push_trees(rt, alloc, &mut other, &mut again, &printed);
-    judge(rt, source, &other, &text);
-    judge(rt, source, &again, &printed);
+/// What the first group of a run holds.
+fn inside<'t, 's>(run: Tokens<'t, 's>) -> Option<Tokens<'t, 's>> {
+    for tree in run.iter() {
+        if let TokenTree::Group(group) = tree {
+            return Some(group.run());
+        }
+    }
+    None
 }
 
-/// Literals alone.
-const LITERALS: &[&str] = &[
-    "1",
-    "0x1F",
-    "1_000u32",
-    "1.5e-3f32",
-    "1.foo",
-    "1..2",
-    "0b1_0",
-    "2.0",
-    "0o17",
-    "1e+9",
-    "\"\"",
-    "\"a\\\"b\"",
-    "\"a\\u{1F600}\\x41\"",
-    "\"a\\\n   b\"",
-    "\"a\"suffix",
-    "r\"a\\\"",
-    "r#\"a\"b\"#",
-    "r##\"a\"#\"##r",
-    "b\"a\\xFF\"",
-    "br\"a\"",
-    "br#\"\"#",
-    "c\"a\"",
-    "cr#\"a\"#",
-    "'a'",
-    "'\\''",
-    "'\\n'",
-    "'\u{e9}'",
-    "b'a'",
-    "b'\\\\'",
-    "'('u8",
-];
-
-/// Other lexemes, and some side by side.
-const LEXEMES: &[&str] = &[
-    "a",
-    "r#fn",
-    "r",
-    "b",
-    "c",
-    "br",
-    "\u{e9}t\u{e9}",
-    "_",
-    "'a",
-    "'r#a",
-    "'a: 'static",
-    "'r\"a\"",
-    "&'a T",
-    "a::b",
-    "->=>",
-    "..=",
-    "<<=",
-    "+ +",
-    "/ /",
-    "a//b\n/c",
-    "a/*b*/c",
-    "+/*a*/+",
-    "+//\n+",
-    "///a\n///b",
-    "//!a\r\nb",
-    "/**a*/b",
-    "/*!a/*b*/c*/",
-    "///a",
-    "/***/",
-    "////a",
-    "$%^!@~?",
-    "()",
-    "[{}]",
-    "(a, [b; 2])",
-    "f(1)(2)",
-    "{'a'}",
-    "#[a = \"b\"]",
-    "\u{feff}a",
-    "a\u{200e}b",
-    "/-/",
-];
-
-#[test]
-fn print_back(rt: HostRuntime) {
-    for table in [LITERALS, LEXEMES] {
-        for source in table {
-            prints_back(&rt, rt.alloc(), source);
+/// Adds the trees of a run, those of its first group, those of the first group in it, and so on.
+fn push_levels(rt: &impl Abort, alloc: Global, out: &mut String, run: Tokens<'_, '_>) {
+    let mut run = run;
+    for _ in 0..4 {
+        push_trees(rt, alloc, out, run, true);
+        match inside(run) {
+            Some(inner) => run = inner,
+            None => return,
         }
     }
 }
 
+/// Adds where the tokens of a source stand, those in front of all but the first and of all but the first two, what they are, and how a
+/// copy of them is printed.
+pub(in crate::tests) fn push_stream(
+    rt: &impl Abort,
+    alloc: Global,
+    out: &mut String,
+    source: &str,
+) {
+    let stream = tokenize(alloc, source).expect(rt, source);
+    push_span(rt, out, "", stream.run().span());
+    let (first, second, is_none) = fronts(stream.run());
+    push_span(rt, out, " ", first);
+    push_span(rt, out, " ", second);
+    write!(out, " {} {is_none}: ", stream.run().is_empty()).expect(rt, "memory");
+    push_levels(rt, alloc, out, stream.run());
+    let copy = stream.clone().expect(rt, "memory");
+    push(rt, out, &print(alloc, copy.run()).expect(rt, "memory"));
+}
+
+/// Adds why a source is not read, or `None`.
+pub(in crate::tests) fn push_refusal(
+    rt: &impl Abort,
+    alloc: Global,
+    out: &mut String,
+    source: &str,
+) {
+    write!(out, "{:?}", tokenize(alloc, source).err()).expect(rt, "memory");
+}
+
+/// Adds how the printed tokens of a source are printed, which are those of the source.
+pub(in crate::tests) fn push_printed(
+    rt: &impl Abort,
+    alloc: Global,
+    out: &mut String,
+    source: &str,
+) {
+    let stream = tokenize(alloc, source).expect(rt, source);
+    let printed = print(alloc, stream.run()).expect(rt, "memory");
+    let again = tokenize(alloc, &printed).expect(rt, source);
+    let (mut trees, mut others) = (String::new(alloc), String::new(alloc));
+    push_trees(rt, alloc, &mut trees, stream.run(), false);
+    push_trees(rt, alloc, &mut others, again.run(), false);
+    judge(rt, source, &others, &trees);
+    push(rt, out, &print(alloc, again.run()).expect(rt, "memory"));
+    judge(rt, source, out, &printed);
+}
+
 /// The text of the first tree, if it is an identifier. It outlives the buffer, which ends here.
-fn first_name<'s>(rt: &impl Abort, alloc: Global, source: &'s str) -> &'s str {
+pub(in crate::tests) fn first_name<'s>(rt: &impl Abort, alloc: Global, source: &'s str) -> &'s str {
     let stream = tokenize(alloc, source).expect(rt, "tokens");
     match stream.run().first() {
         Some(TokenTree::Ident(name)) => name.text,
@@ -393,12 +123,167 @@ fn first_name<'s>(rt: &impl Abort, alloc: Global, source: &'s str) -> &'s str {
     }
 }
 
-#[test]
-fn names_outlive_the_buffer(rt: HostRuntime) {
-    judge(
-        &rt,
-        "a name",
-        first_name(&rt, rt.alloc(), "enum T {}"),
-        "enum",
-    );
-}
+/// Sources that are read.
+pub(in crate::tests) const READABLE: &[(&str, &str)] = &[
+    (
+        "enum T { #[token(\"a\")] A }",
+        "0..26 0..4 0..6 false true: \
+         ident enum 0..4; ident T 5..6; Brace # [ token ( \"a\" ) ] A 7..26; \
+         # Alone 9..10; Bracket token ( \"a\" ) 10..22; ident A 23..24; \
+         ident token 11..16; Parenthesis \"a\" 16..21; literal \"a\" 17..20; \
+         enum T { # [ token ( \"a\" ) ] A }",
+    ),
+    (
+        "a :: \"b\"",
+        "0..8 0..1 0..3 false true: ident a 0..1; : Joint 2..3; : Alone 3..4; literal \"b\" 5..8; a :: \"b\"",
+    ),
+    (
+        "a (b) c",
+        "0..7 0..1 0..5 false true: ident a 0..1; Parenthesis b 2..5; ident c 6..7; ident b 3..4; a ( b ) c",
+    ),
+    ("", "0..0 0..0 0..0 true true: "),
+    (" \t\r\n", "0..0 0..0 0..0 true true: "),
+    (
+        "a,|b|",
+        "0..5 0..1 0..2 false true: ident a 0..1; , Joint 1..2; | Alone 2..3; ident b 3..4; | Alone 4..5; a ,| b |",
+    ),
+    (
+        "enum E{#[token(\"a\")]A::B}",
+        "0..25 0..4 0..6 false true: \
+         ident enum 0..4; ident E 5..6; Brace # [ token ( \"a\" ) ] A :: B 6..25; \
+         # Alone 7..8; Bracket token ( \"a\" ) 8..20; ident A 20..21; : Joint 21..22; : Alone 22..23; ident B 23..24; \
+         ident token 9..14; Parenthesis \"a\" 14..19; literal \"a\" 15..18; \
+         enum E { # [ token ( \"a\" ) ] A :: B }",
+    ),
+];
+
+/// Sources that are refused.
+pub(in crate::tests) const UNREADABLE: &[(&str, &str)] = &[
+    (
+        "enum E {",
+        "Some(Lexical { kind: Unbalanced, span: Span { from: 7, to: 8 } })",
+    ),
+    (
+        ")",
+        "Some(Lexical { kind: Unbalanced, span: Span { from: 0, to: 1 } })",
+    ),
+    (
+        "( ]",
+        "Some(Lexical { kind: Unbalanced, span: Span { from: 2, to: 3 } })",
+    ),
+    (
+        "([()",
+        "Some(Lexical { kind: Unbalanced, span: Span { from: 1, to: 2 } })",
+    ),
+    (
+        "a \"bc",
+        "Some(Lexical { kind: Unterminated, span: Span { from: 2, to: 5 } })",
+    ),
+    (
+        "( `",
+        "Some(Lexical { kind: BadCharacter, span: Span { from: 2, to: 3 } })",
+    ),
+    (
+        "a £",
+        "Some(Lexical { kind: BadCharacter, span: Span { from: 2, to: 4 } })",
+    ),
+    (
+        "\"a\\b\" c",
+        "Some(Lexical { kind: BadLiteral, span: Span { from: 0, to: 5 } })",
+    ),
+];
+
+/// Delimiters inside one another, of which 128 may be open, the brace of the enum among them; and
+/// sources as long as can be.
+pub(in crate::tests) const NESTED: &[(&str, &str)] = &[
+    ("(×128¦)×128", "None"),
+    (
+        "(×129¦)×129",
+        "Some(LimitTokenNesting { span: Span { from: 128, to: 129 } })",
+    ),
+    ("enum E { #[token(\"a\")] A = ¦(×127¦)×127¦ }", "None"),
+    (
+        "enum E { #[token(\"a\")] A = ¦(×128¦)×128¦ }",
+        "Some(LimitTokenNesting { span: Span { from: 154, to: 155 } })",
+    ),
+    (" ×16777216", "None"),
+    (" ×16777217", "Some(LimitSource)"),
+];
+
+/// Literals alone, and how they are printed.
+pub(in crate::tests) const LITERALS: &[(&str, &str)] = &[
+    ("1", "1"),
+    ("0x1F", "0x1F"),
+    ("1_000u32", "1_000u32"),
+    ("1.5e-3f32", "1.5e-3f32"),
+    ("1.foo", "1 . foo"),
+    ("1..2", "1 .. 2"),
+    ("0b1_0", "0b1_0"),
+    ("2.0", "2.0"),
+    ("0o17", "0o17"),
+    ("1e+9", "1e+9"),
+    ("\"\"", "\"\""),
+    ("\"a\\\"b\"", "\"a\\\"b\""),
+    ("\"a\\u{1F600}\\x41\"", "\"a\\u{1F600}\\x41\""),
+    ("\"a\\\n   b\"", "\"a\\\n   b\""),
+    ("\"a\"suffix", "\"a\"suffix"),
+    ("r\"a\\\"", "r\"a\\\""),
+    ("r#\"a\"b\"#", "r#\"a\"b\"#"),
+    ("r##\"a\"#\"##r", "r##\"a\"#\"##r"),
+    ("b\"a\\xFF\"", "b\"a\\xFF\""),
+    ("br\"a\"", "br\"a\""),
+    ("br#\"\"#", "br#\"\"#"),
+    ("c\"a\"", "c\"a\""),
+    ("cr#\"a\"#", "cr#\"a\"#"),
+    ("'a'", "'a'"),
+    ("'\\''", "'\\''"),
+    ("'\\n'", "'\\n'"),
+    ("'\u{e9}'", "'\u{e9}'"),
+    ("b'a'", "b'a'"),
+    ("b'\\\\'", "b'\\\\'"),
+    ("'('u8", "'('u8"),
+];
+
+/// Other lexemes, and some side by side.
+pub(in crate::tests) const LEXEMES: &[(&str, &str)] = &[
+    ("a", "a"),
+    ("r#fn", "r#fn"),
+    ("r", "r"),
+    ("b", "b"),
+    ("c", "c"),
+    ("br", "br"),
+    ("\u{e9}t\u{e9}", "\u{e9}t\u{e9}"),
+    ("_", "_"),
+    ("'a", "'a"),
+    ("'r#a", "'r#a"),
+    ("'a: 'static", "'a : 'static"),
+    ("'r\"a\"", "'r\"a\""),
+    ("&'a T", "&'a T"),
+    ("a::b", "a :: b"),
+    ("->=>", "->=>"),
+    ("..=", "..="),
+    ("<<=", "<<="),
+    ("+ +", "+ +"),
+    ("/ /", "/ /"),
+    ("a//b\n/c", "a / c"),
+    ("a/*b*/c", "a c"),
+    ("+/*a*/+", "+ +"),
+    ("+//\n+", "+ +"),
+    ("///a\n///b", "///a\n///b"),
+    ("//!a\r\nb", "//!a\nb"),
+    ("/**a*/b", "/**a*/ b"),
+    ("/*!a/*b*/c*/", "/*!a/*b*/c*/"),
+    ("///a", "///a"),
+    ("/***/", ""),
+    ("////a", ""),
+    ("$%^!@~?", "$%^!@~?"),
+    ("()", "( )"),
+    ("[{}]", "[ { } ]"),
+    ("(a, [b; 2])", "( a , [ b ; 2 ] )"),
+    ("f(1)(2)", "f ( 1 ) ( 2 )"),
+    ("{'a'}", "{ 'a' }"),
+    ("#[a = \"b\"]", "# [ a = \"b\" ]"),
+    ("\u{feff}a", "a"),
+    ("a\u{200e}b", "a b"),
+    ("/-/", "/-/"),
+];
