@@ -57,10 +57,7 @@ pub(super) const PATTERNS: &[(&str, &str)] = &[
         r#"enum E { #[regex(r"a\b")] A }"#,
         "17..23 Regex: regex fault at byte 1: UnicodeWordBoundary",
     ),
-    (
-        r#"enum E { #[regex("(?R)a")] A }"#,
-        "17..24 Regex: regex fault at byte 0: FlagUnsupported",
-    ),
+    (r#"enum E { #[regex("(?R)a")] A }"#, "accepted"),
     (
         r#"enum E { #[regex("(?x)a")] A }"#,
         "17..24 Regex: regex fault at byte 0: FlagUnsupported",
