@@ -10,21 +10,14 @@ pub(super) use enums::{push_enum, push_no_enum};
 pub(super) use nested::{push_pieces, push_runs};
 pub(super) use types::{push_levels, push_type};
 
-/// What is asked of texts, and their answers.
-const TABLES: &[(Ask, &[(&str, &str)])] = &[
-    (Ask::Enum, enums::ENUMS),
-    (Ask::Enum, enums::FAULTS),
-    (Ask::NoEnum, enums::LIMITS),
-    (Ask::Type, types::TYPES),
-    (Ask::Type, types::NO_TYPES),
-    (Ask::Levels, types::NESTS),
-    (Ask::Pieces, nested::ARGUMENTS),
-    (Ask::Runs, nested::RUNS),
-];
-
 #[test]
 fn items(rt: HostRuntime) {
-    for (ask, rows) in TABLES {
-        are_told(&rt, rt.alloc(), ask, rows);
-    }
+    are_told(&rt, rt.alloc(), &Ask::Enum, enums::ENUMS);
+    are_told(&rt, rt.alloc(), &Ask::Enum, enums::FAULTS);
+    are_told(&rt, rt.alloc(), &Ask::NoEnum, enums::LIMITS);
+    are_told(&rt, rt.alloc(), &Ask::Type, types::TYPES);
+    are_told(&rt, rt.alloc(), &Ask::Type, types::NO_TYPES);
+    are_told(&rt, rt.alloc(), &Ask::Levels, types::NESTS);
+    are_told(&rt, rt.alloc(), &Ask::Pieces, nested::ARGUMENTS);
+    are_told(&rt, rt.alloc(), &Ask::Runs, nested::RUNS);
 }

@@ -11,32 +11,44 @@ pub(super) use helpers::{push_marks, push_name, push_replaced, push_value};
 pub(super) use lexemes::push_lexeme;
 pub(super) use tokens::{first_name, push_printed, push_refusal, push_stream};
 
-/// What is asked of texts, and their answers.
-const TABLES: &[(Ask, &[(&str, &str)])] = &[
-    (Ask::Lexeme, lexemes::GAPS_AND_DOCUMENTATION),
-    (Ask::Lexeme, lexemes::IDENTIFIERS_AND_LIFETIMES),
-    (Ask::Lexeme, lexemes::CHARACTERS),
-    (Ask::Lexeme, lexemes::STRINGS),
-    (Ask::Lexeme, lexemes::OTHER_STRINGS),
-    (Ask::Lexeme, lexemes::NUMBERS_AND_SUFFIXES),
-    (Ask::Lexeme, lexemes::PUNCTUATION_AND_DELIMITERS),
-    (Ask::Lexeme, lexemes::MARKS),
-    (Ask::Lexeme, lexemes::MANY_HASHES),
-    (Ask::Stream, tokens::READABLE),
-    (Ask::Refusal, tokens::UNREADABLE),
-    (Ask::Refusal, tokens::NESTED),
-    (Ask::Printed, tokens::LITERALS),
-    (Ask::Printed, tokens::LEXEMES),
-    (Ask::FirstName, &[("enum T {}", "enum")]),
-    (Ask::Marks, helpers::MARKS_IN_FRONT),
-    (Ask::Name, helpers::NAMES),
-    (Ask::Replaced, helpers::REPLACEMENTS),
-    (Ask::Value, helpers::VALUES),
-];
+#[test]
+fn lexemes_of_sources(rt: HostRuntime) {
+    are_told(
+        &rt,
+        rt.alloc(),
+        &Ask::Lexeme,
+        lexemes::GAPS_AND_DOCUMENTATION,
+    );
+    are_told(
+        &rt,
+        rt.alloc(),
+        &Ask::Lexeme,
+        lexemes::IDENTIFIERS_AND_LIFETIMES,
+    );
+    are_told(&rt, rt.alloc(), &Ask::Lexeme, lexemes::CHARACTERS);
+    are_told(&rt, rt.alloc(), &Ask::Lexeme, lexemes::STRINGS);
+    are_told(&rt, rt.alloc(), &Ask::Lexeme, lexemes::OTHER_STRINGS);
+    are_told(&rt, rt.alloc(), &Ask::Lexeme, lexemes::NUMBERS_AND_SUFFIXES);
+    are_told(
+        &rt,
+        rt.alloc(),
+        &Ask::Lexeme,
+        lexemes::PUNCTUATION_AND_DELIMITERS,
+    );
+    are_told(&rt, rt.alloc(), &Ask::Lexeme, lexemes::MARKS);
+    are_told(&rt, rt.alloc(), &Ask::Lexeme, lexemes::MANY_HASHES);
+}
 
 #[test]
 fn tokens_and_values(rt: HostRuntime) {
-    for (ask, rows) in TABLES {
-        are_told(&rt, rt.alloc(), ask, rows);
-    }
+    are_told(&rt, rt.alloc(), &Ask::Stream, tokens::READABLE);
+    are_told(&rt, rt.alloc(), &Ask::Refusal, tokens::UNREADABLE);
+    are_told(&rt, rt.alloc(), &Ask::Refusal, tokens::NESTED);
+    are_told(&rt, rt.alloc(), &Ask::Printed, tokens::LITERALS);
+    are_told(&rt, rt.alloc(), &Ask::Printed, tokens::LEXEMES);
+    are_told(&rt, rt.alloc(), &Ask::FirstName, &[("enum T {}", "enum")]);
+    are_told(&rt, rt.alloc(), &Ask::Marks, helpers::MARKS_IN_FRONT);
+    are_told(&rt, rt.alloc(), &Ask::Name, helpers::NAMES);
+    are_told(&rt, rt.alloc(), &Ask::Replaced, helpers::REPLACEMENTS);
+    are_told(&rt, rt.alloc(), &Ask::Value, helpers::VALUES);
 }

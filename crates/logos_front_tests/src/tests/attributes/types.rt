@@ -19,21 +19,26 @@ fn group_of<'t, 's>(rt: &impl Abort, run: Tokens<'t, 's>) -> Tokens<'t, 's> {
     }
 }
 
-/// Adds the faults of arguments, where the names in the group in front of them are declared. A token in it that is no name stands for a
-/// lifetime.
-pub(super) fn push_given(rt: &impl Abort, alloc: Global, out: &mut String, run: Tokens<'_, '_>) {
-    let mut parser = Parser::new(alloc);
+/// Declares the names in the group in front, reads the arguments behind it, and lists the names that hold themselves. A token in the
+/// group that is no name stands for a lifetime.
+fn read_given<'s>(rt: &impl Abort, parser: &mut Parser<'s>, run: Tokens<'_, 's>) {
     for tree in group_of(rt, run).iter() {
         match tree {
-            TokenTree::Ident(name) => parser.types.add(name),
+            TokenTree::Ident(name) => parser.types.add(name).expect(rt, "memory"),
             _ => parser
                 .types
-                .explicit_lifetime(tree.span(), &mut parser.errors),
+                .explicit_lifetime(tree.span(), &mut parser.errors)
+                .expect(rt, "memory"),
         }
-        .expect(rt, "memory");
     }
     parser.read_logos(run.rest()).expect(rt, "memory");
     parser.types.check(&mut parser.errors).expect(rt, "memory");
+}
+
+/// Adds the faults of arguments, where the names in the group in front of them are declared.
+pub(super) fn push_given(rt: &impl Abort, alloc: Global, out: &mut String, run: Tokens<'_, '_>) {
+    let mut parser = Parser::new(alloc);
+    read_given(rt, &mut parser, run);
     push_faults(rt, out, &parser.errors);
 }
 

@@ -107,9 +107,27 @@ fn push_child_count(rt: &impl Abort, text: &mut String, dfa: &Dfa, child: StateI
     push_number(rt, text, count);
 }
 
+/// How many states an automaton has.
+pub(super) fn count_states(dfa: &Dfa) -> usize {
+    let mut count = 0usize;
+    for _ in dfa.get_states() {
+        count = count.saturating_add(1);
+    }
+    count
+}
+
+/// How many states a graph has.
+pub(super) fn state_count(graph: &Graph<'_>) -> usize {
+    let mut count = 0usize;
+    for _ in graph.iter_states() {
+        count = count.saturating_add(1);
+    }
+    count
+}
+
 /// Adds the children to what is told.
 fn push_children(rt: &impl Abort, text: &mut String, dfa: &Dfa) {
-    push_number(rt, text, dfa.get_states().count());
+    push_number(rt, text, count_states(dfa));
     push_child_count(rt, text, dfa, behind(rt, dfa, b"a"));
     push_child_count(rt, text, dfa, behind(rt, dfa, b"b"));
     push_child_count(rt, text, dfa, dfa.start());
@@ -180,7 +198,7 @@ fn push_answer(
         Ask::Chart => push(rt, text, &graph.get_mermaid(alloc).expect(rt, "memory")),
         Ask::States => push_states(rt, text, graph),
         Ask::Backward => push_backward(rt, text, graph),
-        Ask::Len => push_number(rt, text, graph.iter_states().count()),
+        Ask::Len => push_number(rt, text, state_count(graph)),
         Ask::Lists(fronts) => push_lists(rt, text, graph.dfa(), fronts, false),
         Ask::ListsAtEnd(fronts) => push_lists(rt, text, graph.dfa(), fronts, true),
         Ask::Children => push_children(rt, text, graph.dfa()),

@@ -1,7 +1,7 @@
 // Automata and graphs of generated leaves, compared with matching as it is defined.
 
 use super::super::rows::{hold, judge, push};
-use super::asking::{behind, push_errors};
+use super::asking::{behind, count_states, push_errors, state_count};
 use super::generating::leaves_of;
 use super::partition::least_count;
 use logos_graph::graph::{Config, Dfa, Graph, State, StateData, StateId};
@@ -294,7 +294,7 @@ fn are_right(rt: &impl Abort, graph: &Graph<'_>, length: usize, count: usize) {
 fn tell(rt: &impl Abort, alloc: Global, graph: &Graph<'_>, one: State, other: State) {
     assert!(rt; graph.contains(one) & graph.contains(other) & (one != other));
     let telling = graph.telling(alloc, one, other).expect(rt, "memory");
-    let is_short = telling.bytes.len() < graph.iter_states().count();
+    let is_short = telling.bytes.len() < state_count(graph);
     let tells = graph.checks(one, other, &telling.bytes, telling.at_end);
     let tells_itself = graph.checks(one, one, &telling.bytes, telling.at_end);
     hold(rt, is_short & tells & !tells_itself, "not told apart");
@@ -371,7 +371,7 @@ fn is_refused(rt: &impl Abort, alloc: Global, graph: &Graph<'_>) -> bool {
     }
     push_errors(rt, &mut text, graph.errors());
     judge(rt, "first errors", &text, &first);
-    hold(rt, graph.iter_states().count() == 0, "no states");
+    hold(rt, state_count(graph) == 0, "no states");
     true
 }
 
@@ -383,9 +383,9 @@ fn are_as_defined(rt: &impl Abort, alloc: Global, graph: &Graph<'_>, lengths: us
         are_right(rt, graph, length, *count);
     }
     are_told(rt, alloc, graph);
-    if graph.errors().is_empty() & (graph.dfa().get_states().count() <= 24) {
+    if graph.errors().is_empty() & (count_states(graph.dfa()) <= 24) {
         let least = least_count(rt, alloc, graph);
-        hold(rt, graph.iter_states().count() == least, "another count");
+        hold(rt, state_count(graph) == least, "another count");
     }
 }
 
