@@ -1,1 +1,5 @@
+mod CallbackLemmas
+mod LiteralLemmas
+mod NumberLemmas
 mod PieceLemmas
+pub mod ToldLemmas

@@ -1,4 +1,11 @@
+pub mod CallbackViews
+pub mod Callbacks
+pub mod Flags
+pub mod LiteralViews
+pub mod Literals
 pub mod Nested
 pub mod Pieces
 pub mod Slices
+pub mod Told
+pub mod Values
 pub mod inside

@@ -1,1 +1,4 @@
+pub mod CallbackRuns
 pub mod Cutting
+pub mod FlagSteps
+pub mod Steps

@@ -1,5 +1,10 @@
-//! Attributes of an enum and its variants: the pieces of their arguments.
+//! Attributes of an enum and its variants: the pieces of their arguments, and the values in them.
 
 #![tactic(auto)]
 
+pub mod callback;
+pub mod flags;
+pub mod listing;
+pub mod literal;
 pub mod nested;
+pub mod value;

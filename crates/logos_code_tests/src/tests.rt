@@ -2,6 +2,7 @@
 
 mod codes;
 mod commands;
+mod faults;
 mod sources;
 
 use logos_generator::machine::Item;

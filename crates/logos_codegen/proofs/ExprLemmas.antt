@@ -14,9 +14,9 @@ use Rattle.logos_code.specs.Items.{Callback, Search, Item, token, error, asks, M
 use Rattle.logos_generator.proofs.Compose.{runs_iff, next_iff}
 use Rattle.logos_generator.proofs.InOrder.{best_within, stop_within}
 use Rattle.logos_codegen.specs.Source.{IsRefused}
-use Rattle.logos_codegen.specs.Refusals.{Refuses}
-use Rattle.logos_codegen.specs.declared.refusal.Refusal.{Refusal}
-use Rattle.logos_codegen.specs.declared.refusal.Refusal.TheVariants as refusals
+use Rattle.logos_source.specs.Refusals.{Refuses}
+use Rattle.logos_source.specs.declared.refusal.Refusal.{Refusal}
+use Rattle.logos_source.specs.declared.refusal.Refusal.TheVariants as refusals
 use Rattle.logos_codegen.specs.declared.expr.ExprError.{ExprError}
 use Rattle.logos_codegen.specs.Language.{IsLanguage}
 use Rattle.logos_codegen.specs.declared.expr.TheConstants.{SOURCE}

@@ -1,10 +1,24 @@
 -- What the graph of the leaves lists, and what all steps list together.
-use Rattle.std.proofs.Common.{◌≡◌, ◌≢◌, ℕ, ◌<◌, ◌≤◌, ◌^◌, Bool, List, [], ◌∷◌, ◌++◌, length, map, flat_map, Option, Some, None, refl, sym, subst, ◌∙◌, ap, inl, inr}
+use Rattle.std.proofs.Common.{◌≡◌, ◌≢◌, ℕ, ◌<◌, ◌≤◌, ◌^◌, Bool, List, [], ◌∷◌, ◌++◌, length, map, flat_map, Option, Some, None, option_map, is_some, refl, sym, subst, ◌∙◌, ap, inl, inr}
 use Rattle.std.proofs.lemmas.Bool.{cases_lt}
 use Rattle.logos_lexeme.specs.declared.lexeme.Span.{Span}
 use Rattle.logos_token.specs.Faults.{Fault as ListedFault}
 use Rattle.logos_pattern.specs.declared.leaf.Leaf.{Leaf}
-use Rattle.logos_parser.specs.Values.{EnumValue}
+use Rattle.logos_item.specs.EnumValues.{EnumValue}
+use Rattle.logos_item.specs.Values.{Slice}
+use Rattle.logos_definition.specs.Options.{OptionsView}
+use Rattle.logos_pattern.specs.Leaf.{kind_text, kind_value, is_skip}
+use Rattle.logos_pattern.specs.declared.leaf.VariantKind.{VariantKind}
+use Rattle.logos_pattern.specs.declared.leaf.VariantKind.TheVariants.{Unit as UnitVariant, Value, Skip}
+use Rattle.logos_pattern.specs.declared.leaf.Callback.{Callback}
+use Rattle.logos_attribute.specs.CallbackViews.{callback_view}
+use Rattle.logos_leaf.specs.Leaves.{LeafView}
+use Rattle.logos_leaf.specs.LeafViews.{leaf_view}
+use Rattle.logos_leaf.specs.Sources.{utf8_mode}
+use Rattle.logos_source.specs.Endings.{Says, IsShallow}
+use Rattle.logos_source.specs.Refusals.{Refuses as RefusesSource}
+use Rattle.logos_source.specs.Saying.{EnumSays}
+use Rattle.logos_source.specs.Utf8Faults.{kind_name}
 use Rattle.logos_automaton.specs.Munch.{Rule}
 use Rattle.logos_automaton.specs.Faults.{AreFaults}
 use Rattle.logos_automaton.specs.Measures.{size_of}
@@ -13,12 +27,11 @@ use Rattle.logos_graph.specs.GraphOf.{IsGraphOf, Refuses}
 use Rattle.logos_automaton.specs.declared.errors.BuildError.{BuildError}
 use Rattle.logos_automaton.specs.declared.errors.BuildError.TheVariants.{LimitSize, LimitStates, Memory}
 use Rattle.logos_codegen.specs.Texts.{named_leaf, listed_of}
-use Rattle.logos_codegen.specs.Rules.{NamedRule, named_rule, rules_in, names_in, GiveAll, utf8_faults, GraphLists, graph_faults, size_limit, states_limit, AreListed}
-use Rattle.logos_codegen.specs.Source.{Says, IsShallow, IsAccepted, IsRefused, faulty}
+use Rattle.logos_codegen.specs.Rules.{NamedRule, named_rule, named_said, rule_said, rules_said, skips, rules_in, names_in, GraphLists, graph_faults, size_limit, states_limit}
+use Rattle.logos_codegen.specs.Source.{AreListed, IsAccepted, IsRefused, faulty}
 use Rattle.logos_codegen.specs.Steps.{IsLimit, ListsGraph, AreGraphFaults, IsGraphMade}
-use Rattle.logos_codegen.specs.Refusals.{Refuses as RefusesSource}
-use Rattle.logos_codegen.specs.declared.refusal.Refusal.{Refusal}
-use Rattle.logos_codegen.proofs.RefusalLemmas.{refuses_by}
+use Rattle.logos_source.specs.declared.refusal.Refusal.{Refusal}
+use Rattle.logos_source.proofs.RefusalLemmas.{refuses_by}
 use Rattle.logos_codegen.proofs.Listing.{lists_some}
 
 pub rules_are : (leaves : List Leaf) → rules_in (map named_rule leaves) ≡ rules_of leaves
@@ -94,75 +107,93 @@ pub missing_listed : (leaves : List Leaf) (utf8 : Bool) (item : Span) (before af
     AreGraphFaults leaves utf8 item before after
 missing_listed leaves utf8 item before after graph lists none = (λ e. lists.missing none (both_empty before lists.faults (sym lists.all ∙ e)).1, (graph, lists))
 
--- where nothing is listed the source is accepted
-pub nothing_listed : (source : List ℕ) (enum : EnumValue) (item : Span) (faults : List ListedFault) (leaves : List NamedRule) → Says source enum item → AreListed enum item faults leaves → faults ≡ [] →
-    IsAccepted source (rules_in leaves) enum.utf8
-nothing_listed source enum item faults leaves says listed none =
-    let all = both_empty (listed.definition_faults ++ utf8_faults enum.utf8 leaves) listed.graph_faults (sym listed.all ∙ none) in
-    let first = both_empty listed.definition_faults (utf8_faults enum.utf8 leaves) all.0 in
-    record {
-      enum = enum;
-      item = item;
-      says = says;
-      leaves = leaves;
-      give = rw first.0 at listed.give;
-      text = first.1;
-      faultless = graph_faultless leaves item listed.graph_faults all.1 listed.graph;
-      same_rules = refl;
-      same_mode = refl;
-    }
+-- ---- leaves, and what is said of them
 
-module _ (enum : EnumValue) (item : Span) (leaves : List Leaf) (first second third last : List ListedFault) (graph : Option GraphValue)
-    (begun : first ≡ []) (given : (faults : List ListedFault) × GiveAll enum.definitions faults (map named_rule leaves) × (second ≡ first ++ faults))
-    (text : third ≡ second ++ utf8_faults enum.utf8 (map named_rule leaves)) (graphs : ListsGraph leaves enum.utf8 item third last graph) where
-  -- all that is listed
-  pub all_listed : AreListed enum item last (map named_rule leaves)
-  all_listed = record {
-    definition_faults = given.0;
-    graph_faults = graphs.faults;
-    give = given.1;
-    graph = graphs.listed;
-    all = graphs.all ∙ ap (λ (xs : List ListedFault). xs ++ graphs.faults) (text ∙ ap (λ (xs : List ListedFault). xs ++ utf8_faults enum.utf8 (map named_rule leaves)) (given.2 ∙ ap (λ (xs : List ListedFault). xs ++ given.0) begun));
+kind_names : (kind : VariantKind) → kind_text kind ≡ kind_name (kind_value kind)
+kind_names (UnitVariant name) = refl
+kind_names (Value name type) = refl
+kind_names Skip = refl
+
+kind_skips : (kind : VariantKind) → is_skip kind ≡ skips (kind_value kind)
+kind_skips (UnitVariant name) = refl
+kind_skips (Value name type) = refl
+kind_skips Skip = refl
+
+callback_asks : (callback : Option Callback) → is_some callback ≡ is_some (option_map callback_view callback)
+callback_asks None = refl
+callback_asks (Some callback) = refl
+
+named_is : (leaf : Leaf) → named_rule leaf ≡ named_said (leaf_view leaf)
+named_is leaf = rw (kind_names leaf.kind, kind_skips leaf.kind, callback_asks leaf.callback) refl
+
+named_are : (leaves : List Leaf) → map named_rule leaves ≡ map named_said (map leaf_view leaves)
+named_are [] = refl
+named_are (leaf ∷ leaves) = rw (named_is leaf, named_are leaves) refl
+
+pub said_rules : (leaves : List LeafView) → rules_in (map named_said leaves) ≡ rules_said leaves
+said_rules [] = refl
+said_rules (leaf ∷ leaves) = ap (λ (rules : List Rule). rule_said leaf ∷ rules) (said_rules leaves)
+
+-- the rules of leaves are those that are said of them
+pub rules_view : (leaves : List Leaf) → rules_said (map leaf_view leaves) ≡ rules_of leaves
+rules_view leaves = sym (said_rules (map leaf_view leaves)) ∙ ap rules_in (sym (named_are leaves)) ∙ rules_are leaves
+
+-- ---- an enum, and the graph of its leaves
+
+module _ (source : List ℕ) (enum : EnumValue) (item : Span) (leaves : List Leaf) (rest : OptionsView) (before : List ListedFault)
+    (says : Says source enum item) (enum_says : EnumSays enum (map leaf_view leaves) rest before) where
+  -- all faults
+  abbrev Listed : List ListedFault → Type 0
+  Listed faults = AreListed enum item faults (map leaf_view leaves)
+
+  all_listed : (after : List ListedFault) (graph : Option GraphValue) → ListsGraph leaves (utf8_mode rest) item before after graph → Listed after
+  all_listed after graph lists = record {
+    rest = rest;
+    enum_faults = before;
+    graph_faults = lists.faults;
+    says = enum_says;
+    graph = rw (named_are leaves) at lists.listed;
+    all = lists.all;
   }
 
-  -- without a graph something is listed
-  pub some_listed : graph ≡ None → last ≢ []
-  some_listed n e = graphs.missing n (both_empty third graphs.faults (sym graphs.all ∙ e)).1
-
-  pub refused : (source : List ℕ) → Says source enum item → last ≢ [] → IsRefused source last
-  refused source says some = faulty says all_listed some
+  -- some faults up to those of the graph refuse the source
+  pub graph_refuses : (error : Refusal) → RefusesSource (AreGraphFaults leaves (utf8_mode rest) item before) error → RefusesSource (IsRefused source) error
+  graph_refuses error r =
+      refuses_by (AreGraphFaults leaves (utf8_mode rest) item before) (IsRefused source) (λ faults f. faulty says (all_listed faults f.1.0 f.1.1) f.0) error r
 
   -- where nothing is listed, the graph is that of an accepted source
-  pub accepted : (source : List ℕ) → length source ≤ 16777216 → IsShallow source → Says source enum item → last ≡ [] → (value : GraphValue) → graph ≡ Some value →
-      IsGraphMade source value
-  accepted source short shallow says none value is =
-      let held = graphs.is value is in
+  pub graph_made : (name : Slice) (graph : GraphValue) → length source ≤ 16777216 → IsShallow source → enum.name ≡ name →
+      ListsGraph leaves (utf8_mode rest) item before [] (Some graph) → IsGraphMade source name rest graph
+  graph_made name graph short shallow is_name lists =
+      let both = both_empty before lists.faults (sym lists.all) in
+      let held = lists.is graph refl in
       let made = held.0 in
-      let both = both_empty third graphs.faults (sym graphs.all ∙ none) in
-      let faultless : value.faults ≡ [] = held.1 both.1 in
-      let source_is = nothing_listed source enum item last (map named_rule leaves) says all_listed none in
-      let listed = all_listed in
-      let first = both_empty (listed.definition_faults ++ utf8_faults enum.utf8 (map named_rule leaves)) listed.graph_faults (sym listed.all ∙ none) in
-      let definitions = both_empty listed.definition_faults (utf8_faults enum.utf8 (map named_rule leaves)) first.0 in
-      let small = graph_small (map named_rule leaves) item graphs.faults both.1 graphs.listed in
+      let none : EnumSays enum (map leaf_view leaves) rest [] = rw both.0 at enum_says in
+      let listed : GraphLists (map named_rule leaves) item lists.faults = lists.listed in
+      let rules : rules_in (map named_rule leaves) ≡ rules_of leaves = rules_are leaves in
+      let faultless : AreFaults (rules_of leaves) [] = rw rules at (graph_faultless (map named_rule leaves) item lists.faults both.1 listed) in
+      let small : size_of (rules_of leaves) ≤ 2 ^ 20 = rw rules at (graph_small (map named_rule leaves) item lists.faults both.1 listed) in
       record {
-        accepted = rw (made.leaves_are, made.mode, ← rules_are leaves) source_is;
+        accepted = record {
+          enum = enum;
+          item = item;
+          says = says;
+          leaves = map leaf_view leaves;
+          rest = rest;
+          enum_says = none;
+          faultless = rw (rules_view leaves) faultless;
+          same_rules = ap rules_of made.leaves_are ∙ sym (rules_view leaves);
+          same_mode = made.mode;
+        };
         of_source = record {
           enum = enum;
           item = item;
           says = says;
-          give = rw (made.leaves_are, sym definitions.0) listed.give;
+          is_name = is_name;
+          enum_says = rw (sym made.leaves_are) at none;
           same_mode = made.mode;
-          of_leaves = subst (λ (given : List Leaf). IsGraphOf given value.utf8 value) (sym made.leaves_are) (subst (λ (mode : Bool). IsGraphOf leaves mode value) (sym made.mode) made);
-          faultless = faultless;
+          of_leaves = subst (λ (given : List Leaf). IsGraphOf given graph.utf8 graph) (sym made.leaves_are) (subst (λ (mode : Bool). IsGraphOf leaves mode graph) (sym made.mode) made);
+          faultless = held.1 both.1;
         };
-        sizes = record { short = short; shallow = shallow; small = rw (made.leaves_are, ← rules_are leaves) small };
+        sizes = record { short = short; shallow = shallow; small = rw made.leaves_are small };
       }
-
--- some faults up to those of the graph refuse the source
-pub graph_refuses : (enum : EnumValue) (item : Span) (leaves : List Leaf) (first second third : List ListedFault)
-    (begun : first ≡ []) (given : (faults : List ListedFault) × GiveAll enum.definitions faults (map named_rule leaves) × (second ≡ first ++ faults))
-    (text : third ≡ second ++ utf8_faults enum.utf8 (map named_rule leaves)) (source : List ℕ) (error : Refusal) → Says source enum item →
-    RefusesSource (AreGraphFaults leaves enum.utf8 item third) error → RefusesSource (IsRefused source) error
-graph_refuses enum item leaves first second third begun given text source error says r =
-    refuses_by (AreGraphFaults leaves enum.utf8 item third) (IsRefused source) (λ faults f. refused enum item leaves first second third faults f.1.0 begun given text f.1.1 source says f.0) error r

@@ -15,44 +15,42 @@ use Rattle.logos_machine.specs.LexerValue.{LexerValue, Gives, Ends, item_of}
 use Rattle.logos_machine.specs.declared.machine.Item.{Item as TheItem}
 use Rattle.logos_code.specs.declared.action.Action.{Action}
 use Rattle.logos_code.specs.declared.action.Action.TheVariants.{Emit, Skip, Error}
-use Rattle.logos_token.specs.declared.error.fault_code.FaultCode.TheVariants.{Utf8Pattern}
-use Rattle.logos_token.specs.Faults.{Fault as ListedFault}
 use Rattle.logos_hir.specs.Measure.{is_text}
-use Rattle.logos_codegen.specs.Texts.{fault_at, utf8_text}
+use Rattle.logos_attribute.specs.Told.{only}
+use Rattle.logos_leaf.specs.Leaves.{LeafView}
 use Rattle.logos_code.specs.Order.{AreInOrder, Parts, IsMatch}
 use Rattle.logos_code.specs.Runs.{CodeFinds, Runs}
 use Rattle.logos_generator.proofs.Compose.{runs_iff}
 use Rattle.logos_generator.proofs.InOrder.{in_order, parted}
-use Rattle.logos_codegen.specs.Rules.{NamedRule, rules_in, utf8_faults}
+use Rattle.logos_source.specs.Refusals.{IsMemory}
+use Rattle.logos_source.specs.Utf8Faults.{utf8_fault, utf8_faults}
+use Rattle.logos_codegen.specs.Rules.{rule_said, rules_said}
 use Rattle.logos_codegen.specs.Source.{IsAccepted}
-use Rattle.logos_codegen.specs.Refusals.{IsMemory, IsUnlexed, IsJust, IsNoRefusal, IsThatRefusal}
-use Rattle.logos_codegen.specs.declared.refusal.Refusal.{Refusal}
-use Rattle.logos_codegen.specs.declared.refusal.Refusal.TheVariants.{Errors, Memory}
+use Rattle.logos_codegen.specs.Refusals.{IsUnlexed, IsJust, IsNoRefusal, IsThatRefusal}
+use Rattle.logos_source.specs.declared.refusal.Refusal.{Refusal}
+use Rattle.logos_source.specs.declared.refusal.Refusal.TheVariants.{Errors, Memory}
 use Rattle.logos_codegen.specs.declared.lexing.LexSourceError.{LexSourceError}
 use Rattle.logos_codegen.specs.declared.lexing.LexSourceError.TheVariants.{Refused, NotUtf8, Memory as OutOfMemory}
-use Rattle.logos_codegen.proofs.AcceptLemmas.{accepted_once}
+use Rattle.logos_codegen.proofs.AcceptLemmas.{accepted_once, silent}
 use Rattle.logos_generator.proofs.CutLemmas.{items_cut}
 
 pub are_bytes : (bytes : List ℕ) → ((i : ℕ) → Fits w8 (get_or bytes i 0)) → IsBytes bytes
 are_bytes bytes h = λ k d l. rw (get_or_default_zero bytes k d l) (Fits-lt-pow (h k))
 
 -- where no leaf is listed as no text, all trees are texts
-texts_are : (leaves : List NamedRule) → utf8_faults true leaves ≡ [] → All (λ rule. is_text rule.tree ≡ true) (rules_in leaves)
+texts_are : (leaves : List LeafView) → utf8_faults true leaves ≡ [] → All (λ rule. is_text rule.tree ≡ true) (rules_said leaves)
 texts_are [] e = All-nil (λ (rule : Rule). is_text rule.tree ≡ true)
 texts_are (leaf ∷ leaves) e =
-    let both = go (is_text leaf.rule.tree) e in
-    All-cons (λ (rule : Rule). is_text rule.tree ≡ true) leaf.rule (rules_in leaves) both.0 (texts_are leaves both.1)
+    let both = go (is_text leaf.tree) e in
+    All-cons (λ (rule : Rule). is_text rule.tree ≡ true) (rule_said leaf) (rules_said leaves) both.0 (texts_are leaves both.1)
   where
-    fault : ListedFault
-    fault = fault_at Utf8Pattern (utf8_text leaf.named) leaf.named.span
-
-    go : (t : Bool) → (if t then [] else fault ∷ []) ++ utf8_faults true leaves ≡ [] → (t ≡ true) × (utf8_faults true leaves ≡ [])
+    go : (t : Bool) → (if t then [] else only (utf8_fault leaf)) ++ utf8_faults true leaves ≡ [] → (t ≡ true) × (utf8_faults true leaves ≡ [])
     go true e = (refl, e)
     go false e = absurd (cc)
 
 pub accepted_texts : (source : List ℕ) (rules : List Rule) → IsAccepted source rules true → All (λ rule. is_text rule.tree ≡ true) rules
 accepted_texts source rules a =
-    let text : utf8_faults true a.leaves ≡ [] = rw (sym a.same_mode) at a.text in
+    let text : utf8_faults true a.leaves ≡ [] = rw (sym a.same_mode) at (silent a.enum a.leaves a.rest a.enum_says).text in
     rw a.same_rules (texts_are a.leaves text)
 
 -- the same items by a callback that answers no less

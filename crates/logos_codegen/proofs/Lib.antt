@@ -1,7 +1,6 @@
-pub mod GiveLemmas
 pub mod RefusalLemmas
-pub mod HeldLemmas
 pub mod Listing
+pub mod ShownLemmas
 pub mod AcceptLemmas
 pub mod GraphLemmas
 pub mod LexLemmas

@@ -1,10 +1,8 @@
 pub mod Texts
-pub mod Held
 pub mod Rules
 pub mod Source
+pub mod Given
 pub mod Refusals
 pub mod Steps
-pub mod Kept
-pub mod SourceGraph
 pub mod Language
 pub mod Tokenizing

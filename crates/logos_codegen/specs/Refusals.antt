@@ -1,33 +1,13 @@
 -- What the errors of `generate` and `lex_source` say.
 use Rattle.std.specs.Prelude.{◌≡◌, ℕ, List, true, IsTrue}
 use Rattle.std.specs.Str.{IsUtf8, IsValidUpTo}
-use Rattle.logos_token.specs.Faults.{Fault as ListedFault}
-use Rattle.logos_lexeme.specs.declared.lexeme.Span.{Span}
-use Rattle.logos_parser.specs.declared.parser.ReadError.{ReadError}
-use Rattle.logos_parser.specs.declared.parser.ReadError.TheVariants.{NotAnEnum, Grammar, Memory as NoMemoryToRead}
 use Rattle.logos_automaton.specs.Munch.{Rule}
 use Rattle.logos_code.specs.Code.{CodeValue}
 use Rattle.logos_codegen.specs.Source.{IsAccepted, IsRefused}
-use Rattle.logos_codegen.specs.declared.refusal.Refusal.{Refusal}
-use Rattle.logos_codegen.specs.declared.refusal.Refusal.TheVariants as refusals
+use Rattle.logos_source.specs.declared.refusal.Refusal.{Refusal}
+use Rattle.logos_source.specs.declared.refusal.Refusal.TheVariants as refusals
 use Rattle.logos_codegen.specs.declared.lexing.LexSourceError.{LexSourceError}
 use Rattle.logos_codegen.specs.declared.lexing.LexSourceError.TheVariants as errors
-
--- the source is refused with faults of which this holds, or memory ran out
-abbrev pub Refuses : (List ListedFault → Type 0) → Refusal → Type 0
-Refuses Hold (refusals.Errors faults) = Hold faults
-Refuses Hold refusals.Memory = Unit {0}
-
--- memory ran out, and the source is not refused
-abbrev pub IsMemory : Refusal → Type 0
-IsMemory (refusals.Errors faults) = ⊥
-IsMemory refusals.Memory = Unit {0}
-
--- what holds of each kind of a reading error
-abbrev pub MatchReadError : ReadError → (Span → Type 0) → (Span → Type 0) → Type 0 → Type 0
-MatchReadError (NotAnEnum span) P Q R = P span
-MatchReadError (Grammar span) P Q R = Q span
-MatchReadError NoMemoryToRead P Q R = R
 
 -- What an error of lexing says: the faults of the source; or the source is accepted in UTF-8 mode and the input is no UTF-8, with
 -- the length of its longest beginning that is; or memory ran out.

@@ -3,6 +3,8 @@ use Rattle.std.specs.Prelude.{◌≡◌, ◌≢◌, ℕ, Bool, List, [], ◌∷�
 use Rattle.logos_lexeme.specs.declared.lexeme.Span.{Span}
 use Rattle.logos_token.specs.declared.error.fault_code.FaultCode.TheVariants.{LimitSize as LimitSizeCode, LimitStates as LimitStatesCode}
 use Rattle.logos_token.specs.Faults.{Fault as ListedFault}
+use Rattle.logos_item.specs.Values.{Slice}
+use Rattle.logos_definition.specs.Options.{OptionsView}
 use Rattle.logos_pattern.specs.declared.leaf.Leaf.{Leaf}
 use Rattle.logos_graph.specs.View.{GraphValue, rules_of}
 use Rattle.logos_graph.specs.GraphOf.{IsGraphOf}
@@ -11,7 +13,7 @@ use Rattle.logos_automaton.specs.declared.errors.BuildError.TheVariants.{LimitSi
 use Rattle.logos_codegen.specs.Texts.{fault_at, size_text, states_text}
 use Rattle.logos_codegen.specs.Rules.{named_rule, GraphLists}
 use Rattle.logos_codegen.specs.Source.{IsAccepted, IsWithinSizes}
-use Rattle.logos_codegen.specs.SourceGraph.{IsSourceGraph}
+use Rattle.logos_codegen.specs.Given.{IsGraphSaid}
 
 -- what a limit adds to the faults before it
 abbrev pub IsLimit : BuildError → Span → List ListedFault → List ListedFault → Type 0
@@ -35,8 +37,8 @@ IsFaultless leaves utf8 item before graph = ListsGraph leaves utf8 item before [
 abbrev pub AreGraphFaults : List Leaf → Bool → Span → List ListedFault → List ListedFault → Type 0
 AreGraphFaults leaves utf8 item before faults = (faults ≢ []) × ((graph : Option GraphValue) × ListsGraph leaves utf8 item before faults graph)
 
--- the graph of a source without faults, which has these rules and is within the sizes
-pub record IsGraphMade (source : List ℕ) (graph : GraphValue) : Type 0 where
+-- the graph of a source without faults, which says this beside its leaves; it has these rules and is within the sizes
+pub record IsGraphMade (source : List ℕ) (name : Slice) (rest : OptionsView) (graph : GraphValue) : Type 0 where
   pub accepted : IsAccepted source (rules_of graph.leaves) graph.utf8
-  pub of_source : IsSourceGraph source graph
+  pub of_source : IsGraphSaid source name rest graph
   pub sizes : IsWithinSizes source (rules_of graph.leaves)

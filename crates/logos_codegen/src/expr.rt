@@ -7,11 +7,11 @@ ghost use Rattle.logos_codegen.specs.Language.{IsLanguage};
 ghost use Rattle.logos_codegen.specs.Tokenizing.{kind_of, IsToken, IsErrorAt, Tokenizes, IsOutcome, Answers, IsRefusalOf};
 
 use crate::generation::generate;
-use crate::refusal::Refusal;
 use logos_generator::code::Code;
 use logos_generator::generator::Config;
 use logos_generator::machine::{Action, Item, Lexer};
 use logos_hir::leaf::LeafId;
+use logos_source::refusal::Refusal;
 use logos_token::token::Span;
 use std::alloc::{AllocError, AllocFailed, Global};
 use std::marker::Model;

@@ -1,36 +1,48 @@
 //! From a source text to the code of its lexer.
 
-ghost use Rattle.std.specs.Prelude.{◌≡◌, ◌<◌, ◌↔◌, ◌∷◌, ◌++◌, ℕ, Bool, List, [], length, map, flat_map, true, None, IfOk, IfErr, IsErrAnd, OnOk, IsTrue, string_bytes};
-ghost use Rattle.logos_parser.specs.Values.{ident_slice};
+ghost use Rattle.std.specs.Prelude.{◌≡◌, ◌<◌, ◌↔◌, ◌∷◌, ◌++◌, ℕ, Bool, List, [], length};
+ghost use Rattle.std.specs.Prelude.{map, flat_map, option_map, IfOk, IfErr, IsErrAnd, OnOk};
+ghost use Rattle.std.specs.Prelude.{IsTrue, string_bytes, option_copied};
 ghost use Rattle.logos_automaton.specs.Munch.{Rule};
 ghost use Rattle.logos_automaton.specs.Errors.{fault_of};
+ghost use Rattle.logos_item.specs.Values.{ident_slice};
+ghost use Rattle.logos_attribute.specs.CallbackViews.{callback_view};
+ghost use Rattle.logos_type_params.specs.Generics.{generics_of, generics as between_brackets};
+ghost use Rattle.logos_definition.specs.ParserViews.{parser_view};
+ghost use Rattle.logos_leaf.specs.Sources.{utf8_mode};
 ghost use Rattle.logos_graph.specs.GraphOf.{IsGraphOf};
 ghost use Rattle.logos_graph.specs.View.{rules_of};
 ghost use Rattle.logos_generator.specs.GeneratorValue.{KeepsGiven};
 ghost use Rattle.logos_code.specs.Headline.{IsLexer};
+ghost use Rattle.logos_source.specs.Endings.{too_long};
+ghost use Rattle.logos_source.specs.Refusals.{Refuses, IsMemory};
 ghost use Rattle.logos_text.specs.Standing.{StandInOrder};
 ghost use Rattle.logos_text.specs.Texts.{texts_of};
 ghost use Rattle.logos_codegen.specs.Texts.{named_leaf, listed_of};
-ghost use Rattle.logos_codegen.specs.Rules.{named_rule};
-ghost use Rattle.logos_codegen.specs.Source.{IsNamed, IsAccepted, IsRefused, IsWithinSizes, IsWithinLimits, too_long};
-ghost use Rattle.logos_codegen.specs.SourceGraph.{IsSourceGraph};
-ghost use Rattle.logos_codegen.specs.Kept.{KeepsSource};
-ghost use Rattle.logos_codegen.specs.Refusals.{Refuses, IsMemory};
-ghost use Rattle.logos_codegen.specs.Steps.{IsLimit, ListsGraph, IsFaultless, AreGraphFaults, IsGraphMade};
+ghost use Rattle.logos_codegen.specs.Given.{IsGiven, KeepsSaid, error_callback};
+ghost use Rattle.logos_codegen.specs.Source.{IsAccepted, IsRefused};
+ghost use Rattle.logos_codegen.specs.Source.{IsWithinSizes, IsWithinLimits};
+ghost use Rattle.logos_codegen.specs.Steps.{IsLimit, ListsGraph, IsFaultless, AreGraphFaults};
+ghost use Rattle.logos_codegen.specs.Steps.{IsGraphMade};
 
-use crate::leaves::{leaves_of, list_not_utf8};
-use crate::refusal::Refusal;
-use crate::source::read_source;
 use crate::texts::list_fault;
+use logos_definition::error_type::ErrorType;
+use logos_definition::parser::{ExportPath, Parser};
 use logos_generator::code::Code;
 use logos_generator::generator::{Config, Generator};
 use logos_graph::graph::{BuildError, Config as GraphConfig, Graph, GraphError};
-use logos_pattern::leaf::Leaf;
+use logos_leaf::source::utf8_mode;
+use logos_pattern::leaf::{Callback, Leaf};
+use logos_source::enum_type::enum_type;
+use logos_source::refusal::Refusal;
+use logos_source::said::{Said, read_said};
 use logos_text::{Around, text_in};
 use logos_token::error::{Errors, FaultCode, Memory};
-use logos_token::token::{Ident, Span};
-use logos_type::{Part, TypeExpr};
+use logos_token::token::{Ident, Span, TokenStream, print};
+use logos_type::TypeExpr;
+use logos_type_params::Generics;
 use std::alloc::{AllocError, Global};
+use std::mem;
 
 /// What a source gives.
 #[derive(Drop)]
@@ -41,12 +53,33 @@ pub struct Generated<'s> {
     pub graph: Graph<'s>,
     /// The name of the enum.
     pub name: Ident<'s>,
+    /// The text of `export_dir`, where the chart of the graph goes, if it is said.
+    pub export_path: Option<String>,
+    /// What the attributes of the enum say.
+    options: Parser<'s>,
+}
+
+/// The text of the path of the library.
+fn library_text(alloc: Global, path: Option<&TokenStream<'_>>) -> Result<String, Memory> {
+    match path {
+        Some(stream) => print(alloc, stream.run()),
+        None => Ok(String::from_str(alloc, ":: logos")?),
+    }
+}
+
+/// The text of the type of errors.
+fn error_text(alloc: Global, error: Option<&ErrorType<'_>>) -> Result<String, Memory> {
+    match error {
+        Some(error) => error.ty.print(alloc),
+        None => Ok(String::from_str(alloc, "( )")?),
+    }
 }
 
 impl Generated<'_> {
-    /// The whole Rust text of the lexer: the implementation of `Logos` for the enum, as printed tokens. Where the code has tests by
-    /// tables, the texts of all bit tables, by number, and behind them those of the conditions of all forks, by states and by the
-    /// fork's order, stand in it without overlap. It fails only where there is no memory.
+    /// The whole Rust text of the lexer: the implementation of `Logos` for the enum, as printed
+    /// tokens. Where the code has tests by tables, the texts of all bit tables, by number, and
+    /// behind them those of the conditions of all forks, by states and by the fork's order, stand in
+    /// it without overlap. It fails only where there is no memory.
     pub fn text(&self, alloc: Global) -> Result<String, Memory>
         ensures { IfOk result (λ text. StandInOrder (texts_of self.now.code) (string_bytes text)) }
     {
@@ -55,14 +88,28 @@ impl Generated<'_> {
         } else {
             "[ u8 ]"
         };
+        let logos = library_text(alloc, self.options.logos_path.as_ref())?;
+        let error = error_text(alloc, self.options.error_type.as_ref())?;
+        let extras = self.options.extras.print(alloc)?;
         let around = Around {
-            logos: ":: logos",
-            error: "( )",
-            extras: "( )",
+            logos: logos.as_str(),
+            error: error.as_str(),
+            extras: extras.as_str(),
             source,
         };
         text_in(alloc, &self.code, around)
     }
+}
+
+/// What a source says beside its leaves.
+#[derive(Drop)]
+struct Rest<'s> {
+    /// The name of the enum.
+    name: Ident<'s>,
+    /// What stands between angle brackets behind the name.
+    generics: Option<Generics<'s>>,
+    /// The options.
+    parser: Parser<'s>,
 }
 
 // Lists the faults of a graph.
@@ -148,24 +195,32 @@ fn faultless_graph<'s>(
     }
 }
 
-// The graph of a source without faults, and the name of its enum.
-fn accept<'s>(alloc: Global, src: &'s str) -> Result<(Graph<'s>, Ident<'s>), Refusal>
-    ensures ok { IfOk result (λ read. IsGraphMade src.now read.0) }
-    ensures name { IfOk result (λ read. IsNamed src.now (ident_slice read.1)) }
-    ensures err { IfErr result (Refuses (IsRefused src.now)) }
-    ensures long { 16777216 < length src.now → IsErrAnd result (Refuses (λ faults.
-        faults ≡ too_long src.now ∷ [])) }
+// The graph of leaves, where no fault stands in the parser. Its faults are taken out of it.
+fn graph_said<'s>(
+    alloc: Global,
+    leaves: Vec<Leaf<'s>>,
+    item: Span,
+    parser: &mut Parser<'s>,
+) -> Result<Graph<'s>, Refusal>
+    ensures ok { IfOk result (IsFaultless leaves.entry.items (utf8_mode (parser_view parser.old))
+        item parser.old.errors) }
+    ensures err { IfErr result (Refuses (AreGraphFaults leaves.entry.items
+        (utf8_mode (parser_view parser.old)) item parser.old.errors)) }
+    ensures kept { parser_view parser.new ≡ parser_view parser.old }
 {
-    let (item, span) = match read_source(alloc, src) {
-        Ok(read) => read,
-        Err(refusal) => return Err(refusal),
-    };
-    let mut errors = Errors::new(alloc);
-    let leaves = leaves_of(alloc, &item.definitions, &mut errors)?;
-    list_not_utf8(alloc, item.utf8_mode, &leaves, &mut errors)?;
-    match faultless_graph(alloc, leaves, item.utf8_mode, span, errors) {
-        Ok(graph) => Ok((graph, item.name)),
-        Err(refusal) => Err(refusal),
+    let mode = utf8_mode(parser);
+    let errors = mem::replace(&mut parser.errors, Errors::new(alloc));
+    faultless_graph(alloc, leaves, mode, item, errors)
+}
+
+// What is called on an error, if anything is.
+fn callback_in<'p, 's>(parser: &'p Parser<'s>) -> Option<&'p Callback<'s>>
+    ensures { option_map callback_view (option_copied result)
+        ≡ error_callback (parser_view parser.now) }
+{
+    match &parser.error_type {
+        Some(error) => error.callback.as_ref(),
+        None => None,
     }
 }
 
@@ -176,60 +231,136 @@ fn code_for<'g, 's>(
     name: Ident<'s>,
     this: &'g TypeExpr<'s>,
     graph: &'g Graph<'s>,
+    callback: Option<&'g Callback<'s>>,
 ) -> Result<Code<'s>, AllocError>
     requires of_leaves { IsGraphOf graph.now.leaves graph.now.utf8 graph.now }
     requires faultless { graph.now.faults ≡ [] }
     ensures lexer { IfOk result (IsLexer (rules_of graph.now.leaves) graph.now.utf8) }
-    ensures keeps { IfOk result (KeepsGiven
-        (record { shape = config; name = name.entry; this = this.now; error_callback = None })
-        graph.now) }
+    ensures keeps { IfOk result (KeepsGiven (record {
+      shape = config;
+      name = name.entry;
+      this = this.now;
+      error_callback = option_copied callback.entry;
+    }) graph.now) }
 {
-    let mut generator = Generator::new(alloc, config, name, this, graph, None);
+    let mut generator = Generator::new(alloc, config, name, this, graph, callback);
     generator.generate(alloc)
 }
 
-// The code of a graph that finds the longest matches, for the enum with this name, which has no parameters.
-fn code_of<'s>(
+// The code of a graph that finds the longest matches, for an enum that says this.
+fn code_said<'s>(
     alloc: Global,
     config: Config,
     name: Ident<'s>,
+    generics: Option<Generics<'s>>,
+    parser: &Parser<'s>,
     graph: &Graph<'s>,
 ) -> Result<Code<'s>, AllocError>
     requires of_leaves { IsGraphOf graph.now.leaves graph.now.utf8 graph.now }
     requires faultless { graph.now.faults ≡ [] }
+    requires given { option_map generics_of generics
+        ≡ between_brackets (parser_view parser.now).types }
     ensures lexer { IfOk result (IsLexer (rules_of graph.now.leaves) graph.now.utf8) }
-    ensures keeps { IfOk result (KeepsSource config (ident_slice name.entry) graph.now.leaves) }
+    ensures keeps { IfOk result (KeepsSaid config (ident_slice name.entry)
+        (parser_view parser.now) graph.now) }
 {
-    let this = TypeExpr {
-        part: Part::Name(name.text),
+    let this = enum_type(alloc, name.text, generics)?;
+    code_for(alloc, config, name, &this, graph, callback_in(parser))
+}
+
+// The graph of a source without faults, and what the source says beside its leaves.
+fn accept<'s>(alloc: Global, src: &'s str) -> Result<(Graph<'s>, Rest<'s>), Refusal>
+    ensures ok { IfOk result (λ read. IsGraphMade src.now (ident_slice read.1.name)
+        (parser_view read.1.parser) read.0) }
+    ensures given { IfOk result (λ read. option_map generics_of read.1.generics
+        ≡ between_brackets (parser_view read.1.parser).types) }
+    ensures err { IfErr result (Refuses (IsRefused src.now)) }
+    ensures long { 16777216 < length src.now → IsErrAnd result (Refuses (λ faults.
+        faults ≡ too_long src.now ∷ [])) }
+{
+    let Said {
+        name,
+        span,
+        generics,
+        leaves,
+        mut parser,
+    } = match read_said(alloc, src) {
+        Ok(said) => said,
+        Err(refusal) => return Err(refusal),
     };
-    code_for(alloc, config, name, &this, graph)
+    match graph_said(alloc, leaves, span, &mut parser) {
+        Ok(graph) => Ok((
+            graph,
+            Rest {
+                name,
+                generics,
+                parser,
+            },
+        )),
+        Err(refusal) => Err(refusal),
+    }
+}
+
+// The path of a chart.
+fn path_of(export: Option<ExportPath>) -> Option<String>
+    ensures { option_map string_bytes result
+        ≡ option_map (λ e. string_bytes e.path) export }
+{
+    match export {
+        Some(export) => Some(export.path),
+        None => None,
+    }
+}
+
+// All that a source gives, of its parts.
+fn put_together<'s>(
+    code: Code<'s>,
+    graph: Graph<'s>,
+    name: Ident<'s>,
+    parser: Parser<'s>,
+) -> Generated<'s>
+    ensures parts { (result.code ≡ code.entry) × (result.graph ≡ graph.entry)
+        × (result.name ≡ name.entry) }
+    ensures path { option_map string_bytes result.export_path
+        ≡ option_map (λ e. e.path) (parser_view parser.entry).export_path }
+{
+    let mut options = parser;
+    let export_path = path_of(options.export_path.take());
+    Generated {
+        code,
+        graph,
+        name,
+        export_path,
+        options,
+    }
 }
 
 /// The code of the lexer that a source says.
 ///
-/// The source is an enum, with `#[token("..")]` and `#[regex("..")]` on its variants and, in front of
-/// it, `#[logos(skip "..")]` and `#[logos(utf8 = false)]`. Leaves are numbered skips first, then in the
-/// order of the source. In both shapes of `config` the code finds the same.
+/// The source is an enum with the attributes `token` and `regex` on its variants and `logos` in
+/// front of it. Leaves are numbered skips first, then in the order of the source. In both shapes of
+/// `config` the code finds the same.
 ///
-/// `Errors` has all faults of the source, in order, or the one that ends its reading. A limit stands
-/// among them: of the source's bytes, of the nesting of its delimiters and patterns, of the size of all
-/// trees, and of the number of states. `Memory` comes wherever memory runs out.
+/// `Errors` has all faults of the source, in order, or the one that ends its reading: those of the
+/// generic parameters, of the attributes of the enum, of parameters that hold themselves, of
+/// subpatterns, of skips, of variants in source order, of leaves that match what is no UTF-8 where
+/// inputs are, of parameters without a type, and of the graph. A limit stands among them: of the
+/// source's bytes, of the nesting of its delimiters, types and patterns, of the size of all trees,
+/// and of the number of states. `Memory` comes wherever memory runs out.
 pub fn generate<'s>(alloc: Global, src: &'s str, config: Config) -> Result<Generated<'s>, Refusal>
     // The source has no faults, and these are its rules and its mode.
     ensures accepted { IfOk result (λ made. IsAccepted src.now
         (rules_of made.graph.leaves) made.graph.utf8) }
-    // The graph is that of the source's leaves, so it can be handed on to a generator.
-    ensures graph { IfOk result (λ made. IsSourceGraph src.now made.graph) }
+    // The graph is that of the source's leaves; the code keeps the shape, the name and the type of the
+    // enum, and what becomes of errors and of the matches of each leaf; the name is the enum's, and the
+    // path is that of `export_dir`.
+    ensures given { IfOk result (λ made. IsGiven src.now config made.graph made.code
+        (ident_slice made.name) (option_map string_bytes made.export_path)) }
     // The length of the source, its nesting and the size of its trees are within their limits.
     ensures within { IfOk result (λ made. IsWithinSizes src.now (rules_of made.graph.leaves)) }
     // At each place of each input the code finds exactly what maximal munch finds there.
     ensures lexer { IfOk result (λ made. IsLexer
         (rules_of made.graph.leaves) made.graph.utf8 made.code) }
-    ensures name { IfOk result (λ made. IsNamed src.now (ident_slice made.name)) }
-    // The code keeps the shape, the name, and what becomes of the matches of each leaf.
-    ensures keeps { IfOk result (λ made. KeepsSource config
-        (ident_slice made.name) made.graph.leaves made.code) }
     // What is refused has these faults.
     ensures refused { IfErr result (Refuses (IsRefused src.now)) }
     // A source that is longer than the limit has that one fault.
@@ -239,11 +370,17 @@ pub fn generate<'s>(alloc: Global, src: &'s str, config: Config) -> Result<Gener
     ensures complete { (rules : List Rule) (utf8 : Bool) → IsAccepted src.now rules utf8 →
         IsWithinLimits src.now rules → IfErr result IsMemory }
 {
-    match accept(alloc, src) {
-        Ok((graph, name)) => match code_of(alloc, config, name, &graph) {
-            Ok(code) => Ok(Generated { code, graph, name }),
-            Err(_) => Err(Refusal::Memory),
-        },
-        Err(refusal) => Err(refusal),
+    let (graph, rest) = match accept(alloc, src) {
+        Ok(read) => read,
+        Err(refusal) => return Err(refusal),
+    };
+    let Rest {
+        name,
+        generics,
+        parser,
+    } = rest;
+    match code_said(alloc, config, name, generics, &parser, &graph) {
+        Ok(code) => Ok(put_together(code, graph, name, parser)),
+        Err(_) => Err(Refusal::Memory),
     }
 }

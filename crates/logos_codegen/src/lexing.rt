@@ -13,11 +13,11 @@ ghost use Rattle.logos_codegen.specs.Source.{IsAccepted, IsWithinLimits};
 ghost use Rattle.logos_codegen.specs.Refusals.{IsUnlexed, IsJust, IsNoRefusal};
 
 use crate::generation::generate;
-use crate::refusal::Refusal;
 use logos_generator::code::Code;
 use logos_generator::generator::Config;
 use logos_generator::machine::{Action, Item, Lexer, NotUtf8};
 use logos_hir::leaf::LeafId;
+use logos_source::refusal::Refusal;
 use logos_token::error::Errors;
 use std::alloc::{AllocError, AllocFailed, Global};
 

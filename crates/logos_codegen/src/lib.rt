@@ -5,10 +5,7 @@
 pub mod expr;
 mod generation;
 pub mod laws;
-mod leaves;
 mod lexing;
-mod refusal;
-mod source;
 mod texts;
 
 pub use generation::{Generated, generate};
@@ -17,5 +14,5 @@ pub use logos_generator::{code, generator, machine};
 pub use logos_graph::graph;
 pub use logos_parser::{item, nested, parser};
 pub use logos_pattern::{leaf, pattern};
+pub use logos_source::refusal::Refusal;
 pub use logos_token::{error, token, util};
-pub use refusal::Refusal;

@@ -3,12 +3,11 @@
 ghost use Rattle.std.specs.Prelude.{◌≡◌, ◌++◌, ◌==◌, ◌∷◌, [], map, flat_map, slice_get, option_map, if◌then◌else◌, IfOk, OnOk, string_bytes};
 ghost use Rattle.std.specs.Option.{option_map_or};
 ghost use Rattle.logos_automaton.specs.Errors.{fault_of, numbers};
-ghost use Rattle.logos_codegen.specs.Texts.{named_leaf, fault_at, line_of, other_lines, empty_match_faults, disambiguation_text, disambiguation_faults, listed_of, kind_name, regex_text, utf8_text, IsPatternFault};
+ghost use Rattle.logos_codegen.specs.Texts.{named_leaf, fault_at, line_of, other_lines, empty_match_faults, disambiguation_text, disambiguation_faults, listed_of};
 
 use logos_graph::graph::GraphError;
 use logos_hir::leaf::LeafId;
 use logos_pattern::leaf::Leaf;
-use logos_pattern::pattern::{Kind, PatternError};
 use logos_token::error::{Errors, FaultCode, Memory};
 use logos_token::token::Span;
 use std::alloc::{AllocError, Global};
@@ -141,99 +140,6 @@ fn list_empty_match(
         Some(leaf) => list_empty(alloc, leaf, errors),
         None => Ok(()),
     }
-}
-
-// The name of a pattern's fault.
-fn kind_name(kind: Kind) -> &'static str
-    ensures { result.now ≡ kind_name kind }
-{
-    match kind {
-        Kind::Unclosed => "Unclosed",
-        Kind::Unopened => "Unopened",
-        Kind::NothingToRepeat => "NothingToRepeat",
-        Kind::CountSyntax => "CountSyntax",
-        Kind::CountOrder => "CountOrder",
-        Kind::CountTooLarge => "CountTooLarge",
-        Kind::FlagUnsupported => "FlagUnsupported",
-        Kind::FlagSyntax => "FlagSyntax",
-        Kind::GroupSyntax => "GroupSyntax",
-        Kind::EscapeUnknown => "EscapeUnknown",
-        Kind::HexSyntax => "HexSyntax",
-        Kind::HexNotScalar => "HexNotScalar",
-        Kind::ClassRange => "ClassRange",
-        Kind::UnknownProperty => "UnknownProperty",
-        Kind::PropertyForm => "PropertyForm",
-        Kind::NotInBytes => "NotInBytes",
-        Kind::UnicodeWordBoundary => "UnicodeWordBoundary",
-        Kind::WordBoundaryForm => "WordBoundaryForm",
-    }
-}
-
-// The text of a pattern's fault at this byte.
-fn regex_text(alloc: Global, kind: Kind, at: usize) -> Result<String, AllocError>
-    ensures { IfOk result (λ text. string_bytes text ≡ regex_text at kind) }
-{
-    let name = kind_name(kind);
-    let text = format!(in alloc; "regex fault at byte {at}: {name}")?;
-    Ok(text)
-}
-
-// Lists that a text is no pattern, for what stands there at this byte.
-fn list_regex(
-    alloc: Global,
-    kind: Kind,
-    at: usize,
-    span: Span,
-    errors: &mut Errors,
-) -> Result<(), Memory>
-    ensures { OnOk result (errors.new ≡ errors.old ++ fault_at FaultCode.Regex (regex_text at kind) span ∷ []) }
-{
-    let text = regex_text(alloc, kind, at)?;
-    errors.err(FaultCode::Regex, text.as_str(), span)
-}
-
-/// Lists why a pattern was not read. `span` is that of its literal.
-pub(crate) fn list_pattern_error(
-    alloc: Global,
-    error: PatternError,
-    span: Span,
-    errors: &mut Errors,
-) -> Result<(), Memory>
-    ensures { OnOk result (IsPatternFault error span errors.old errors.new) }
-{
-    match error {
-        PatternError::Syntax { kind, at } => list_regex(alloc, kind, at, span, errors),
-        PatternError::LimitPatternNesting => errors.err(
-            FaultCode::LimitPatternNesting,
-            "limit LimitPatternNesting passed",
-            span,
-        ),
-        PatternError::Memory => Err(Memory),
-    }
-}
-
-// The text of a leaf's fault whose pattern can match what is no UTF-8.
-fn utf8_text(alloc: Global, leaf: &Leaf<'_>) -> Result<String, AllocError>
-    ensures { IfOk result (λ text. string_bytes text ≡ utf8_text (named_leaf leaf.now)) }
-{
-    let source = leaf.pattern.source();
-    let kind = &leaf.kind;
-    let text = format!(in alloc;
-        "UTF-8 mode is requested, but the pattern {source} of variant `{kind}` can match invalid utf8.\nYou can disable UTF-8 mode with #[logos(utf8 = false)]"
-    )?;
-    Ok(text)
-}
-
-/// Lists that the pattern of a leaf can match what is no UTF-8.
-pub(crate) fn list_utf8_fault(
-    alloc: Global,
-    leaf: &Leaf<'_>,
-    errors: &mut Errors,
-) -> Result<(), Memory>
-    ensures { OnOk result (errors.new ≡ errors.old ++ fault_at FaultCode.Utf8Pattern (utf8_text (named_leaf leaf.now)) leaf.now.span ∷ []) }
-{
-    let text = utf8_text(alloc, leaf)?;
-    errors.err(FaultCode::Utf8Pattern, text.as_str(), leaf.span)
 }
 
 /// Lists a fault of the leaves' graph. `item` is the span of the whole enum.

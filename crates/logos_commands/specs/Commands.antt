@@ -3,8 +3,8 @@ use Rattle.std.specs.Prelude.{◌≡◌, ◌∷◌, [], ℕ, List, Option, Some,
 use Rattle.logos_code.specs.declared.code.Config.{Config}
 use Rattle.logos_codegen.specs.declared.lexing.LexSourceError.{LexSourceError}
 use Rattle.logos_codegen.specs.declared.lexing.LexSourceError.TheVariants as errors
-use Rattle.logos_codegen.specs.declared.refusal.Refusal.{Refusal}
-use Rattle.logos_codegen.specs.declared.refusal.Refusal.TheVariants as refusals
+use Rattle.logos_source.specs.declared.refusal.Refusal.{Refusal}
+use Rattle.logos_source.specs.declared.refusal.Refusal.TheVariants as refusals
 use Rattle.logos_commands.specs.declared.command.Command.{Command}
 use Rattle.logos_commands.specs.declared.command.Command.TheVariants.{Text, Items, Chart}
 use Rattle.logos_commands.specs.declared.failure.Failure.{Failure}

@@ -1,16 +1,15 @@
 -- In a sound code each step of a try leads to a place where it can stand.
-use Rattle.std.proofs.Common.{◌≡◌, ◌≢◌, ℕ, suc, ◌+◌, ◌-◌, ◌<◌, ◌≤◌, ◌⊎◌, inl, inr, ⊎_elim, Bool, true, false, ◌&&◌, ◌==◌, IsTrue, IfSome, IsSomeAnd, List, [], ◌∷◌, length, drop, find, Option, Some, None, option_map, slice_get, refl, sym, ◌∙◌, subst, arith, rules, length-drop, All, cond, if◌then◌else◌}
+use Rattle.std.proofs.Common.{◌≡◌, ◌≢◌, ℕ, ◌+◌, ◌-◌, ◌<◌, ◌≤◌, ◌⊎◌, inl, inr, ⊎_elim, Bool, true, false, ◌&&◌, ◌==◌, IsTrue, IfSome, IsSomeAnd, List, length, drop, Option, Some, None, slice_get, refl, sym, ◌∙◌, subst, arith, length-drop, if◌then◌else◌}
 use Rattle.std.specs.Option.{option_map_or}
 use Rattle.std.proofs.lemmas.List.Folds.{length-prefix_len}
 use Rattle.std.proofs.lemmas.List.Sums.{prefix_len-le-length}
 use Rattle.std.proofs.lemmas.Option.{slice_get_within, get_or_from_slice_get, slice_get_cases}
-use Rattle.std.proofs.Math.ListN.{get_or-eq_default}
 use Rattle.std.proofs.lemmas.Bool.Decides.{eqb_tells}
 use Rattle.logos_code.specs.Bytes.{passes_test}
-use Rattle.logos_code.specs.Code.{CodeValue, CodeState, Mark, Condition, Fork, by_conditions, by_table}
+use Rattle.logos_code.specs.Code.{CodeValue, CodeState, Mark}
 use Rattle.logos_code.specs.CodeView.{state_at, no_state}
-use Rattle.logos_code.specs.Headline.{IsSound, IsRoot, IsEnd, IsLate, NamesWhatIsThere, NamesFork, NamesState, NamesCondition}
-use Rattle.logos_code.specs.Runs.{Stand, enters, acts, returns, passes, target, looped, marked, forked, Does}
+use Rattle.logos_code.specs.Headline.{IsSound, IsRoot, IsEnd, IsLate, NamesWhatIsThere}
+use Rattle.logos_code.specs.Runs.{Stand, enters, acts, returns, target, looped, marked, forked, Does}
 use Rattle.logos_code.proofs.TargetLemmas.{All-slice_get, target_there}
 use Rattle.logos_machine.specs.Stands.{IsMatch, IsContext, IsStand}
 

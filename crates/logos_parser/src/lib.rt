@@ -1,4 +1,5 @@
-//! The enum of a lexer, as its tokens say it.
+//! What the tokens of an enum, and of the attributes on it and its variants, say. The modules of the
+//! crates below are handed on.
 
 #![tactic(auto)]
 

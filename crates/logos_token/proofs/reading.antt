@@ -9,3 +9,4 @@ pub mod ClosingLemmas
 pub mod RefusalLemmas
 pub mod OrderLemmas
 pub mod LengthLemmas
+pub mod GrowingLemmas

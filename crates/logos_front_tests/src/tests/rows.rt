@@ -1,6 +1,6 @@
 //! How rows of tables are judged, and how a text is told.
 
-use super::{items, parser, patterns, tokens};
+use super::{attributes, items, parser, patterns, tokens};
 use logos_token::error::Errors;
 use logos_token::token::Span;
 use std::alloc::Global;
@@ -46,6 +46,8 @@ pub(super) enum Ask {
     Runs,
     /// The definitions of the enum that it is, or its first misfit.
     Definitions,
+    /// What is told of the arguments of an attribute.
+    Attribute(attributes::Told),
 }
 
 /// Ends the test unless a row is told as is wanted; it names the row.
@@ -105,6 +107,7 @@ fn push_told(rt: &impl Abort, alloc: Global, out: &mut String, ask: &Ask, text: 
         Ask::Pieces => items::push_pieces(rt, alloc, out, text),
         Ask::Runs => items::push_runs(rt, alloc, out, text),
         Ask::Definitions => parser::push_definitions(rt, alloc, out, text),
+        Ask::Attribute(told) => attributes::push_attribute(rt, alloc, out, told, text),
     }
 }
 

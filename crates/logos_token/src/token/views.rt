@@ -2,6 +2,8 @@
 ghost use Rattle.std.proofs.Props.{props};
 ghost use Rattle.logos_token.specs.Flat.{IsFlat};
 
+mod growing;
+
 use crate::error::Memory;
 use crate::token::entry::Entry;
 use crate::token::{Delimiter, Doc, Ident, Literal, Punct, Span};

@@ -1,0 +1,25 @@
+-- Callbacks whose tokens are not copied yet.
+use Rattle.std.specs.Prelude.{Result, Ok, Err}
+use Rattle.logos_lexeme.specs.declared.lexeme.Span.{Span}
+use Rattle.logos_token.specs.Faults.{Fault}
+use Rattle.logos_token.specs.Views.{tokens_of}
+use Rattle.logos_attribute.specs.declared.callback.CallbackRun.{CallbackRun}
+use Rattle.logos_attribute.specs.declared.callback.CallbackRun.TheVariants.{Label, Inline}
+use Rattle.logos_attribute.specs.declared.callback.CallbackMisfit.{CallbackMisfit}
+use Rattle.logos_attribute.specs.declared.callback.CallbackMisfit.TheVariants.{Closure, Body}
+use Rattle.logos_attribute.specs.Slices.{ident_slice}
+use Rattle.logos_attribute.specs.Callbacks.{CallbackView, label, inline, closure_fault, body_fault}
+
+-- a run that is a callback, of which the whole stands at the span
+abbrev pub run_view : Span → CallbackRun → CallbackView
+run_view span (Label run) = label (tokens_of run)
+run_view span (Inline arg body) = inline (ident_slice arg) (tokens_of body) span
+
+abbrev pub misfit_fault : Span → CallbackMisfit → Fault
+misfit_fault span Closure = closure_fault span
+misfit_fault span Body = body_fault span
+
+-- what the reading of a callback gives
+abbrev pub read_view : Span → Result CallbackRun CallbackMisfit → Result CallbackView Fault
+read_view span (Ok run) = Ok (run_view span run)
+read_view span (Err misfit) = Err (misfit_fault span misfit)

@@ -1,0 +1,209 @@
+//! Callbacks, as arguments of attributes say them.
+ghost use Rattle.std.specs.Prelude.{◌≡◌, ◌++◌, IfOk, OnOk, option_map};
+ghost use Rattle.logos_token.specs.Tokens.{run_span};
+ghost use Rattle.logos_token.specs.Views.{tokens_of};
+ghost use Rattle.logos_attribute.specs.Slices.{ident_slice};
+ghost use Rattle.logos_attribute.specs.Told.{Tells, Lists};
+ghost use Rattle.logos_attribute.specs.Callbacks.{body_in, bar_in, parameter_in, callback_in};
+ghost use Rattle.logos_attribute.specs.Callbacks.{callback_told, callback_set, twice_at, view_span};
+ghost use Rattle.logos_attribute.specs.Callbacks.{closure_fault, body_fault};
+ghost use Rattle.logos_attribute.specs.CallbackViews.{callback_view};
+ghost use Rattle.logos_attribute.specs.inside.CallbackRuns.{run_view, misfit_fault, read_view};
+
+use crate::nested::split;
+use logos_pattern::leaf::{Callback, InlineCallback};
+use logos_token::error::{Errors, FaultCode, Memory};
+use logos_token::token::{Ident, Span, TokenTree, Tokens};
+use logos_token::util::is_punct;
+use std::alloc::Global;
+
+/// A callback as runs of tokens, which are not copied yet.
+#[derive(Clone, Copy)]
+enum CallbackRun<'t, 's> {
+    /// Tokens that name a function.
+    Label(Tokens<'t, 's>),
+    /// A parameter and a body.
+    Inline(Ident<'s>, Tokens<'t, 's>),
+}
+
+/// Why tokens are no callback.
+#[derive(Clone, Copy)]
+enum CallbackMisfit {
+    Closure,
+    Body,
+}
+
+/// The body of a closure.
+fn body_in<'t, 's>(
+    arg: Ident<'s>,
+    tokens: Tokens<'t, 's>,
+) -> Result<CallbackRun<'t, 's>, CallbackMisfit>
+    ensures { (span : Span) →
+        read_view span result ≡ body_in span (ident_slice arg.entry) (tokens_of tokens.entry) }
+{
+    match tokens.first() {
+        None => Err(CallbackMisfit::Body),
+        Some(TokenTree::Group(group)) => Ok(CallbackRun::Inline(arg, group.run())),
+        Some(_) => Ok(CallbackRun::Inline(arg, tokens)),
+    }
+}
+
+/// What stands behind the parameter of a closure.
+fn bar_in<'t, 's>(
+    arg: Ident<'s>,
+    tokens: Tokens<'t, 's>,
+) -> Result<CallbackRun<'t, 's>, CallbackMisfit>
+    ensures { (span : Span) →
+        read_view span result ≡ bar_in span (ident_slice arg.entry) (tokens_of tokens.entry) }
+{
+    match split(tokens) {
+        None => Err(CallbackMisfit::Body),
+        Some((tree, rest)) if is_punct(&tree, '|') => body_in(arg, rest),
+        Some(_) => Err(CallbackMisfit::Closure),
+    }
+}
+
+/// What stands behind the first bar of a closure.
+fn parameter_in<'t, 's>(tokens: Tokens<'t, 's>) -> Result<CallbackRun<'t, 's>, CallbackMisfit>
+    ensures { (span : Span) → read_view span result ≡ parameter_in span (tokens_of tokens.entry) }
+{
+    match split(tokens) {
+        Some((TokenTree::Ident(arg), rest)) => bar_in(arg, rest),
+        _ => Err(CallbackMisfit::Closure),
+    }
+}
+
+/// The callback that a run is.
+fn callback_in<'t, 's>(tokens: Tokens<'t, 's>) -> Result<CallbackRun<'t, 's>, CallbackMisfit>
+    ensures { read_view (run_span (tokens_of tokens.entry)) result
+        ≡ callback_in (tokens_of tokens.entry) }
+{
+    match split(tokens) {
+        None => Err(CallbackMisfit::Closure),
+        Some((tree, rest)) if is_punct(&tree, '|') => parameter_in(rest),
+        Some(_) => Ok(CallbackRun::Label(tokens)),
+    }
+}
+
+/// The callback with tokens of its own.
+fn copied<'s>(alloc: Global, run: CallbackRun<'_, 's>, span: Span) -> Result<Callback<'s>, Memory>
+    ensures { IfOk result (λ callback. callback_view callback ≡ run_view span run.entry) }
+{
+    match run {
+        CallbackRun::Label(tokens) => Ok(Callback::Label(tokens.to_stream(alloc)?)),
+        CallbackRun::Inline(arg, body) => {
+            let body = body.to_stream(alloc)?;
+            Ok(Callback::Inline(InlineCallback { arg, body, span }))
+        }
+    }
+}
+
+/// Lists that tokens are no closure.
+fn list_closure(errors: &mut Errors, span: Span) -> Result<(), Memory>
+    ensures { OnOk result (Lists (closure_fault span) errors.old errors.new) }
+{
+    errors.err(
+        FaultCode::CallbackClosure,
+        "Inline callbacks must use closure syntax with exactly one parameter",
+        span,
+    )?;
+    Ok(())
+}
+
+/// Lists that a closure has no body.
+fn list_body(errors: &mut Errors, span: Span) -> Result<(), Memory>
+    ensures { OnOk result (Lists (body_fault span) errors.old errors.new) }
+{
+    errors.err(FaultCode::CallbackBody, "Callback missing a body", span)?;
+    Ok(())
+}
+
+/// Lists why tokens are no callback.
+fn list_misfit(errors: &mut Errors, misfit: CallbackMisfit, span: Span) -> Result<(), Memory>
+    ensures { OnOk result (Lists (misfit_fault span misfit) errors.old errors.new) }
+{
+    match misfit {
+        CallbackMisfit::Closure => list_closure(errors, span)?,
+        CallbackMisfit::Body => list_body(errors, span)?,
+    }
+    Ok(())
+}
+
+/// The callback that a run without a name is; `None` where it is none, which was listed. After
+/// `Memory` nothing is told of the faults.
+pub fn read_callback<'s>(
+    alloc: Global,
+    tokens: Tokens<'_, 's>,
+    errors: &mut Errors,
+) -> Result<Option<Callback<'s>>, Memory>
+    ensures { IfOk result (λ callback.
+        Tells (callback_told (tokens_of tokens.entry))
+        (option_map callback_view callback) errors.old errors.new) }
+{
+    let span = tokens.span();
+    match callback_in(tokens) {
+        Ok(run) => Ok(Some(copied(alloc, run, span)?)),
+        Err(misfit) => {
+            list_misfit(errors, misfit, span)?;
+            Ok(None)
+        }
+    }
+}
+
+/// Lists that a callback was set before, and where.
+fn list_again(
+    errors: &mut Errors,
+    name: Ident<'_>,
+    span: Span,
+    former: &Callback<'_>,
+) -> Result<(), Memory>
+    ensures { OnOk result (errors.new
+        ≡ errors.old
+        ++ twice_at (ident_slice name.entry) span (view_span (callback_view former.now))) }
+{
+    errors.err_also(
+        FaultCode::CallbackTwice,
+        "Callback has been already set",
+        span,
+        name.span,
+    )?;
+    errors.err(
+        FaultCode::Previous,
+        "Previous callback set here",
+        former.span(),
+    )?;
+    Ok(())
+}
+
+/// Sets the callback that is assigned to a name, in place of the former one, which is listed. A run
+/// that is no callback is listed and sets nothing. After `Memory` nothing is told of the callback
+/// and the faults.
+pub fn set_callback<'s>(
+    alloc: Global,
+    callback: &mut Option<Callback<'s>>,
+    name: Ident<'s>,
+    tokens: Tokens<'_, 's>,
+    errors: &mut Errors,
+) -> Result<(), Memory>
+    ensures { OnOk result (Tells
+        (callback_set (ident_slice name.entry) (tokens_of tokens.entry)
+        (option_map callback_view callback.old))
+        (option_map callback_view callback.new) errors.old errors.new) }
+{
+    let span = tokens.span();
+    match callback_in(tokens) {
+        Ok(run) => {
+            let next = copied(alloc, run, span)?;
+            if let Some(former) = callback {
+                list_again(errors, name, span, former)?;
+            }
+            *callback = Some(next);
+            Ok(())
+        }
+        Err(misfit) => {
+            list_misfit(errors, misfit, span)?;
+            errors.err(FaultCode::CallbackValue, "Not a valid callback", span)?;
+            Ok(())
+        }
+    }
+}

@@ -1,0 +1,172 @@
+//! The flags in `ignore(..)`.
+ghost use Rattle.std.specs.Prelude.{◌≡◌, OnOk, IfOk, false, string_bytes};
+ghost use Rattle.logos_token.specs.Tokens.{also, none};
+ghost use Rattle.logos_token.specs.Views.{tokens_of, tree_of};
+ghost use Rattle.logos_token.specs.Printing.{printed};
+ghost use Rattle.logos_attribute.specs.Slices.{Slice, ident_slice};
+ghost use Rattle.logos_attribute.specs.Told.{Tells, Lists};
+ghost use Rattle.logos_attribute.specs.Nested.{IsSplit};
+ghost use Rattle.logos_attribute.specs.Flags.{flags_told, ascii_flag, other_flag};
+ghost use Rattle.logos_attribute.specs.Flags.{no_flag, no_comma};
+ghost use Rattle.logos_attribute.specs.inside.FlagSteps.{GoesOn, HasCase};
+
+use crate::listing::{list_form, list_named};
+use crate::nested::split;
+use logos_token::error::{Errors, FaultCode, Memory};
+use logos_token::token::{Ident, TokenTree, Tokens, print};
+use logos_token::util::{is_punct, push_escaped};
+use std::alloc::Global;
+
+/// The printed text of the first tree of a run.
+fn first_printed(
+    alloc: Global,
+    tokens: Tokens<'_, '_>,
+    tree: TokenTree<'_, '_>,
+    rest: Tokens<'_, '_>,
+) -> Result<String, Memory>
+    requires { IsSplit tokens tree rest }
+    ensures { IfOk result (λ text. string_bytes text ≡ printed (also (tree_of tree.entry) none)) }
+{
+    let text = print(alloc, tokens.before(rest))?;
+    Ok(text)
+}
+
+/// Lists a token where a comma should stand, the first of a run.
+fn list_no_comma(
+    alloc: Global,
+    tokens: Tokens<'_, '_>,
+    tree: TokenTree<'_, '_>,
+    rest: Tokens<'_, '_>,
+    errors: &mut Errors,
+) -> Result<(), Memory>
+    requires { IsSplit tokens tree rest }
+    ensures { OnOk result (Lists (no_comma (tree_of tree.entry)) errors.old errors.new) }
+{
+    let text = first_printed(alloc, tokens, tree, rest)?;
+    let mut message = String::from_str(alloc, "Unexpected token: \"")?;
+    push_escaped(&mut message, text.as_str())?;
+    message.push_str("\"")?;
+    errors.err(FaultCode::IgnoreToken, message.as_str(), tree.span())?;
+    Ok(())
+}
+
+/// Lists the flag `ascii_case`.
+fn list_ascii(flag: Ident<'_>, errors: &mut Errors) -> Result<(), Memory>
+    ensures { OnOk result (Lists (ascii_flag (ident_slice flag.entry)) errors.old errors.new) }
+{
+    list_form(
+        errors,
+        FaultCode::IgnoreAscii,
+        "The flag \"ascii_case\" is no longer supported",
+        flag,
+    )
+}
+
+/// Lists a flag other than `case`.
+fn list_other(alloc: Global, flag: Ident<'_>, errors: &mut Errors) -> Result<(), Memory>
+    ensures { OnOk result (Lists (other_flag (ident_slice flag.entry)) errors.old errors.new) }
+{
+    if flag.text == "ascii_case" {
+        return list_ascii(flag, errors);
+    }
+    list_named(
+        alloc,
+        errors,
+        FaultCode::IgnoreUnknown,
+        "Unknown flag: ",
+        flag,
+        "\n\nExpected one of: case",
+    )
+}
+
+/// Lists that there is no flag.
+fn list_none(name: Ident<'_>, errors: &mut Errors) -> Result<(), Memory>
+    ensures { OnOk result (Lists (no_flag (ident_slice name.entry)) errors.old errors.new) }
+{
+    list_form(
+        errors,
+        FaultCode::IgnoreEmpty,
+        "Invalid ignore flag\n\nExpected one of: case",
+        name,
+    )
+}
+
+/// What stands behind the comma behind `case`; `None` where no comma is there, and a fault was
+/// listed where another token is.
+fn behind_flag<'t, 's>(
+    alloc: Global,
+    tokens: Tokens<'t, 's>,
+    errors: &mut Errors,
+) -> Result<Option<Tokens<'t, 's>>, Memory>
+    ensures { IfOk result (λ next.
+        (name : Slice) → GoesOn name (tokens_of tokens.entry) errors.old errors.new next) }
+{
+    let Some((tree, rest)) = split(tokens) else {
+        return Ok(None);
+    };
+    if is_punct(&tree, ',') {
+        return Ok(Some(rest));
+    }
+    list_no_comma(alloc, tokens, tree, rest, errors)?;
+    Ok(None)
+}
+
+/// What stands behind `case`, where that comes first; else the reading ends, perhaps with a fault.
+fn read_case<'t, 's>(
+    alloc: Global,
+    name: Ident<'s>,
+    found: bool,
+    tokens: Tokens<'t, 's>,
+    errors: &mut Errors,
+) -> Result<Option<Tokens<'t, 's>>, Memory>
+    ensures { IfOk result (λ next.
+        HasCase (ident_slice name.entry) found (tokens_of tokens.entry)
+        errors.old errors.new next) }
+{
+    match split(tokens) {
+        None => {
+            if !found {
+                list_none(name, errors)?;
+            }
+            Ok(None)
+        }
+        Some((TokenTree::Ident(flag), rest)) => {
+            if flag.text == "case" {
+                return Ok(Some(rest));
+            }
+            list_other(alloc, flag, errors)?;
+            Ok(None)
+        }
+        Some(_) => {
+            list_none(name, errors)?;
+            Ok(None)
+        }
+    }
+}
+
+/// Sets what the flags in the group behind `ignore` say, whose name is given, and lists the first
+/// fault among them; the flags in front of it stay set. After `Memory` nothing is told of the flag
+/// and the faults.
+pub fn read_flags<'s>(
+    alloc: Global,
+    ignore_case: &mut bool,
+    name: Ident<'s>,
+    tokens: Tokens<'_, 's>,
+    errors: &mut Errors,
+) -> Result<(), Memory>
+    ensures { OnOk result (Tells
+        (flags_told (ident_slice name.entry) false ignore_case.old (tokens_of tokens.entry))
+        ignore_case.new errors.old errors.new) }
+{
+    let mut found = false;
+    let mut rest = tokens;
+    while let Some(behind) = read_case(alloc, name, found, rest, errors)? {
+        *ignore_case = true;
+        let Some(next) = behind_flag(alloc, behind, errors)? else {
+            return Ok(());
+        };
+        found = true;
+        rest = next;
+    }
+    Ok(())
+}

@@ -1,0 +1,100 @@
+//! The strings and byte strings in an attribute's argument.
+ghost use Rattle.std.specs.Prelude.{◌≡◌, OnOk, IfOk, option_map};
+ghost use Rattle.logos_token.specs.Views.{tokens_of};
+ghost use Rattle.logos_attribute.specs.Slices.{literal_slice};
+ghost use Rattle.logos_attribute.specs.Told.{Tells, Lists};
+ghost use Rattle.logos_attribute.specs.Literals.{literal_syntax, not_text, text_in, text_told};
+ghost use Rattle.logos_attribute.specs.Literals.{literal_told, string_in};
+ghost use Rattle.logos_attribute.specs.LiteralViews.{literal_view};
+
+use crate::listing::list_run;
+use crate::nested::split;
+use logos_pattern::pattern::Literal;
+use logos_token::error::{Errors, FaultCode, Memory};
+use logos_token::token;
+use logos_token::token::{TokenTree, Tokens};
+use std::alloc::Global;
+
+/// Lists a literal that is neither a string nor a byte string.
+fn list_not_text(token: token::Literal<'_>, errors: &mut Errors) -> Result<(), Memory>
+    ensures { OnOk result (Lists (not_text (literal_slice token.entry)) errors.old errors.new) }
+{
+    errors.err(
+        FaultCode::NotText,
+        "Expected a &str or &[u8] slice",
+        token.span,
+    )?;
+    Ok(())
+}
+
+/// Lists that a run is no literal. After `Memory` nothing is told of the faults.
+pub fn list_syntax(tokens: Tokens<'_, '_>, errors: &mut Errors) -> Result<(), Memory>
+    ensures { OnOk result (Lists (literal_syntax (tokens_of tokens.entry)) errors.old errors.new) }
+{
+    list_run(
+        errors,
+        FaultCode::LiteralSyntax,
+        "expected a literal",
+        tokens,
+    )
+}
+
+/// The string or byte string that a literal is; `None` where it is another one.
+fn text_in<'s>(alloc: Global, token: token::Literal<'s>) -> Result<Option<Literal<'s>>, Memory>
+    ensures { IfOk result (λ literal.
+        option_map literal_view literal ≡ text_in (literal_slice token.entry)) }
+{
+    Ok(Literal::read(alloc, &token)?)
+}
+
+/// The string or byte string that a literal is; `None` where it is another one, which was listed.
+/// After `Memory` nothing is told of the faults.
+pub fn read_text<'s>(
+    alloc: Global,
+    token: token::Literal<'s>,
+    errors: &mut Errors,
+) -> Result<Option<Literal<'s>>, Memory>
+    ensures { IfOk result (λ literal.
+        Tells (text_told (literal_slice token.entry))
+        (option_map literal_view literal) errors.old errors.new) }
+{
+    let Some(literal) = text_in(alloc, token)? else {
+        list_not_text(token, errors)?;
+        return Ok(None);
+    };
+    Ok(Some(literal))
+}
+
+/// The string or byte string that a run is; `None` where it is none, which was listed, and where it
+/// has no token. After `Memory` nothing is told of the faults.
+pub fn read_literal<'s>(
+    alloc: Global,
+    tokens: Tokens<'_, 's>,
+    errors: &mut Errors,
+) -> Result<Option<Literal<'s>>, Memory>
+    ensures { IfOk result (λ literal.
+        Tells (literal_told (tokens_of tokens.entry))
+        (option_map literal_view literal) errors.old errors.new) }
+{
+    match split(tokens) {
+        None => Ok(None),
+        Some((TokenTree::Literal(token), rest)) if rest.is_empty() => {
+            read_text(alloc, token, errors)
+        }
+        Some(_) => {
+            list_syntax(tokens, errors)?;
+            Ok(None)
+        }
+    }
+}
+
+/// The string or byte string that a run is; `None` where it is none.
+pub fn string_in<'s>(alloc: Global, tokens: Tokens<'_, 's>) -> Result<Option<Literal<'s>>, Memory>
+    ensures { IfOk result (λ literal.
+        option_map literal_view literal ≡ string_in (tokens_of tokens.entry)) }
+{
+    match split(tokens) {
+        Some((TokenTree::Literal(token), rest)) if rest.is_empty() => text_in(alloc, token),
+        _ => Ok(None),
+    }
+}

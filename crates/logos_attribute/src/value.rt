@@ -1,0 +1,65 @@
+//! The numbers and booleans in an attribute's argument.
+ghost use Rattle.std.specs.Prelude.{◌≡◌};
+ghost use Rattle.std.specs.Str.{all_ascii_digits};
+ghost use Rattle.logos_token.specs.Views.{tokens_of};
+ghost use Rattle.logos_attribute.specs.Values.{decimal, number_in, boolean_named, boolean_in};
+
+use crate::nested::split;
+use logos_token::token::{TokenTree, Tokens};
+
+/// Whether all bytes are digits.
+fn all_digits(bytes: &[u8]) -> bool
+    ensures { result ≡ all_ascii_digits bytes.now }
+{
+    for byte in bytes {
+        if !byte.is_ascii_digit() {
+            return false;
+        }
+    }
+    true
+}
+
+/// The number that decimal digits write.
+#[tactic(auto, using(crate::proofs::NumberLemmas::decimal_parsed))]
+fn decimal(text: &str) -> Option<usize>
+    ensures { result ≡ decimal text.now }
+{
+    if !all_digits(text.as_bytes()) {
+        return None;
+    }
+    text.parse::<usize>().ok()
+}
+
+/// The number that a run is: one literal of decimal digits, without a suffix, whose value fits
+/// `usize`. `None` where it is none.
+pub fn number_in(tokens: Tokens<'_, '_>) -> Option<usize>
+    ensures { result ≡ number_in (tokens_of tokens.entry) }
+{
+    match split(tokens) {
+        Some((TokenTree::Literal(literal), rest)) if rest.is_empty() => decimal(literal.text),
+        _ => None,
+    }
+}
+
+/// The value that a word names.
+fn boolean_named(text: &str) -> Option<bool>
+    ensures { result ≡ boolean_named text.now }
+{
+    if text == "true" {
+        return Some(true);
+    }
+    if text == "false" {
+        return Some(false);
+    }
+    None
+}
+
+/// The value that a run is: the identifier `true` or `false` alone. `None` where it is none.
+pub fn boolean_in(tokens: Tokens<'_, '_>) -> Option<bool>
+    ensures { result ≡ boolean_in (tokens_of tokens.entry) }
+{
+    match split(tokens) {
+        Some((TokenTree::Ident(word), rest)) if rest.is_empty() => boolean_named(word.text),
+        _ => None,
+    }
+}

@@ -1,0 +1,62 @@
+-- Leaves that differ only in where the names of their variants lie stand for the same rules and list the same faults.
+use Rattle.std.proofs.Common.{◌≡◌, ℕ, Bool, true, false, not, List, [], ◌∷◌, ◌++◌, map, flat_map, codes, Option, Some, None, is_some, refl, sym, ◌∙◌, ap, if◌then◌else◌}
+use Rattle.logos_token.specs.declared.error.fault_code.FaultCode.TheVariants.{Utf8Pattern}
+use Rattle.logos_token.specs.Faults.{Fault as ListedFault}
+use Rattle.logos_type.specs.Parts.{Tree as TypeTree}
+use Rattle.logos_hir.specs.Measure.{is_text}
+use Rattle.logos_item.specs.Values.{Slice}
+use Rattle.logos_pattern.specs.Leaf.{KindValue, plain, holding, skipped}
+use Rattle.logos_attribute.specs.Told.{fault, only}
+use Rattle.logos_automaton.specs.Munch.{Rule}
+use Rattle.logos_leaf.specs.Leaves.{LeafView}
+use Rattle.logos_leaf.proofs.agreement.Leaves.{ShownKind, Shown, shown_kind, shown}
+use Rattle.logos_source.specs.Utf8Faults.{kind_name, leaf_faults, utf8_faults}
+use Rattle.logos_source.proofs.ModeLemmas.{text_by}
+use Rattle.logos_codegen.specs.Rules.{skips, rule_said, rules_said}
+
+abbrev rule_shown : Shown → Rule
+rule_shown s = record { tree = s.0.tree; priority = s.0.priority; use_of = record { skips = not (is_some s.1); asks = is_some s.0.callback } }
+
+skips_shown : (kind : KindValue) → skips kind ≡ not (is_some (shown_kind kind))
+skips_shown (plain name) = refl
+skips_shown (holding name type) = refl
+skips_shown skipped = refl
+
+rule_is_shown : (leaf : LeafView) → rule_said leaf ≡ rule_shown (shown leaf)
+rule_is_shown leaf = ap (λ (b : Bool). record { tree = leaf.tree; priority = leaf.priority; use_of = record { skips = b; asks = is_some leaf.callback } }) (skips_shown leaf.kind)
+
+rules_shown : (leaves : List LeafView) → rules_said leaves ≡ map rule_shown (map shown leaves)
+rules_shown [] = refl
+rules_shown (leaf ∷ leaves) = rw (rule_is_shown leaf, rules_shown leaves) refl
+
+-- leaves that are shown alike stand for the same rules
+pub same_rules : (leaves others : List LeafView) → map shown leaves ≡ map shown others → rules_said leaves ≡ rules_said others
+same_rules leaves others e = rules_shown leaves ∙ ap (map rule_shown) e ∙ sym (rules_shown others)
+
+abbrev name_typed : Slice → Option TypeTree → List ℕ
+name_typed name None = codes "::" ++ name.text
+name_typed name (Some type) = codes "::" ++ name.text ++ codes "(_)"
+
+abbrev name_shown : ShownKind → List ℕ
+name_shown None = codes "::<skip>"
+name_shown (Some p) = name_typed p.0 p.1
+
+names_shown : (kind : KindValue) → kind_name kind ≡ name_shown (shown_kind kind)
+names_shown (plain name) = refl
+names_shown (holding name type) = refl
+names_shown skipped = refl
+
+abbrev faults_shown : Shown → List ListedFault
+faults_shown s = if is_text s.0.tree then [] else only (fault Utf8Pattern (text_by s.0.source (name_shown s.1)) s.0.span)
+
+fault_is_shown : (leaf : LeafView) → leaf_faults leaf ≡ faults_shown (shown leaf)
+fault_is_shown leaf = ap (λ (name : List ℕ). if is_text leaf.tree then [] else only (fault Utf8Pattern (text_by leaf.source name) leaf.span)) (names_shown leaf.kind)
+
+all_shown : (leaves : List LeafView) → flat_map leaf_faults leaves ≡ flat_map faults_shown (map shown leaves)
+all_shown [] = refl
+all_shown (leaf ∷ leaves) = ap (λ (xs : List ListedFault). xs ++ flat_map leaf_faults leaves) (fault_is_shown leaf) ∙ ap (λ (xs : List ListedFault). faults_shown (shown leaf) ++ xs) (all_shown leaves)
+
+-- leaves that are shown alike list the same faults of leaves that match what is no UTF-8
+pub same_faults : (mode : Bool) (leaves others : List LeafView) → map shown leaves ≡ map shown others → utf8_faults mode leaves ≡ utf8_faults mode others
+same_faults false leaves others e = refl
+same_faults true leaves others e = all_shown leaves ∙ ap (flat_map faults_shown) e ∙ sym (all_shown others)

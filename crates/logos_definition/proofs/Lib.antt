@@ -1,0 +1,3 @@
+mod ErrorLemmas
+mod ArgumentLemmas
+mod AttributeLemmas

@@ -1,0 +1,17 @@
+-- What types of errors that were read show.
+use Rattle.std.specs.Prelude.{Option, Some, None, option_map}
+use Rattle.logos_token.specs.Tokens.{TokenList}
+use Rattle.logos_token.specs.Views.{stream_tokens}
+use Rattle.logos_token.specs.declared.util.MaybeVoid.{MaybeVoid}
+use Rattle.logos_token.specs.declared.util.MaybeVoid.TheVariants.{Some as SomeTokens, Void}
+use Rattle.logos_attribute.specs.CallbackViews.{callback_view}
+use Rattle.logos_definition.specs.declared.error_type.ErrorType.{ErrorType}
+use Rattle.logos_definition.specs.ErrorTypes.{ErrorView}
+
+-- the tokens, if there are some
+abbrev pub run_in : MaybeVoid → Option TokenList
+run_in (SomeTokens stream) = Some (stream_tokens stream)
+run_in Void = None
+
+abbrev pub error_view : ErrorType → ErrorView
+error_view e = record { type_run = run_in e.ty; callback = option_map callback_view e.callback }

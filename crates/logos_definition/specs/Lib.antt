@@ -1,0 +1,11 @@
+pub mod Arguments
+pub mod Attributes
+pub mod DefinitionViews
+pub mod Definitions
+pub mod ErrorTypeViews
+pub mod ErrorTypes
+pub mod Metas
+pub mod OptionFaults
+pub mod Options
+pub mod ParserTypes
+pub mod ParserViews

@@ -1,0 +1,43 @@
+-- The names and the arguments of attributes.
+use Rattle.std.specs.Prelude.{ℕ, ◌==◌, Option, Some, None, if◌then◌else◌}
+use Rattle.logos_token.specs.Tokens.{TokenList, identifier, punctuation, group, none, also}
+use Rattle.logos_token.specs.Views.{tokens_of}
+use Rattle.logos_token.specs.declared.token.views.Tokens.{Tokens}
+use Rattle.logos_attribute.specs.Slices.{Slice, ident_slice}
+use Rattle.logos_item.specs.AttributeValues.{AttributeValue}
+use Rattle.logos_definition.specs.declared.meta.Meta.{Meta as MetaView}
+
+-- `:`
+abbrev pub colon : ℕ
+colon = 58
+
+-- an attribute whose path is one identifier: its name, and what its group holds, if it has one
+pub record Meta : Type 0 where
+  pub name : Slice
+  pub arguments : Option TokenList
+
+-- behind a name: nothing, a group, or `=` and a value; where the path goes on, it is no name
+abbrev pub behind_name : Slice → TokenList → Option Meta
+behind_name name (also (group delimiter span inside) rest) = Some (record { name = name; arguments = Some inside })
+behind_name name (also (punctuation character spacing span) rest) = if character == colon then None else Some (record { name = name; arguments = None })
+behind_name name run = Some (record { name = name; arguments = None })
+
+-- what the brackets of an attribute hold
+abbrev pub meta_inside : TokenList → Option Meta
+meta_inside (also (identifier text span) rest) = behind_name (record { text = text; span = span }) rest
+meta_inside run = None
+
+-- what an attribute is; a documentation comment has no name
+abbrev pub inside_meta : Option TokenList → Option Meta
+inside_meta None = None
+inside_meta (Some run) = meta_inside run
+
+abbrev pub meta_of : AttributeValue → Option Meta
+meta_of attribute = inside_meta attribute.inside
+
+abbrev pub arguments_view : Option Tokens → Option TokenList
+arguments_view None = None
+arguments_view (Some tokens) = Some (tokens_of tokens)
+
+abbrev pub meta_view : MetaView → Meta
+meta_view meta = record { name = ident_slice meta.name; arguments = arguments_view meta.arguments }

@@ -1,0 +1,285 @@
+//! Definitions: the literal of a `token`, `regex` or `skip(..)`, and the arguments behind it.
+ghost use Rattle.std.specs.Prelude.{◌≡◌, OnOk, IfOk, option_map};
+ghost use Rattle.logos_token.specs.Views.{tokens_of};
+ghost use Rattle.logos_attribute.specs.Slices.{ident_slice};
+ghost use Rattle.logos_attribute.specs.Told.{Tells};
+ghost use Rattle.logos_definition.specs.Definitions.{priority_set, greedy_set, definition_told};
+ghost use Rattle.logos_definition.specs.DefinitionViews.{definition_view};
+
+pub(crate) mod faults;
+
+use crate::definition::faults::{
+    list_callback_form, list_greedy_form, list_greedy_twice, list_greedy_value, list_ignore_form,
+    list_named_expected, list_priority_form, list_priority_twice, list_priority_value,
+    list_unexpected, list_unknown,
+};
+use crate::ignore_flags::IgnoreFlags;
+use logos_attribute::callback::{read_callback, set_callback};
+use logos_attribute::flags::read_flags;
+use logos_attribute::literal::read_literal;
+use logos_attribute::nested::{AttributeParser, Nested, NestedValue};
+use logos_attribute::value::{boolean_in, number_in};
+use logos_pattern::leaf::Callback;
+use logos_pattern::pattern::Literal;
+use logos_token::error::{Errors, Memory};
+use logos_token::token::{Ident, Tokens};
+use std::alloc::Global;
+
+/// The literal of a `token`, `regex` or `skip`, and what stands behind it.
+#[derive(Drop)]
+pub struct Definition<'s> {
+    pub literal: Literal<'s>,
+    pub priority: Option<usize>,
+    pub callback: Option<Callback<'s>>,
+    /// Whether a greedy repetition of a dot is allowed, if that is said.
+    pub allow_greedy: Option<bool>,
+    pub ignore_flags: IgnoreFlags,
+}
+
+/// Sets a priority, in place of the former one.
+fn set_priority(
+    priority: &mut Option<usize>,
+    tokens: Tokens<'_, '_>,
+    errors: &mut Errors,
+) -> Result<(), Memory>
+    ensures { OnOk result (Tells
+        (priority_set (tokens_of tokens.entry) priority.old)
+        priority.new errors.old errors.new) }
+{
+    let Some(next) = number_in(tokens) else {
+        list_priority_value(tokens, errors)?;
+        return Ok(());
+    };
+    if priority.replace(next).is_some() {
+        list_priority_twice(tokens, errors)?;
+    }
+    Ok(())
+}
+
+/// Sets whether a greedy dot is allowed, in place of what was said before.
+fn set_greedy(
+    allow: &mut Option<bool>,
+    tokens: Tokens<'_, '_>,
+    errors: &mut Errors,
+) -> Result<(), Memory>
+    ensures { OnOk result (Tells
+        (greedy_set (tokens_of tokens.entry) allow.old)
+        allow.new errors.old errors.new) }
+{
+    let Some(next) = boolean_in(tokens) else {
+        list_greedy_value(tokens, errors)?;
+        return Ok(());
+    };
+    if allow.replace(next).is_some() {
+        list_greedy_twice(tokens, errors)?;
+    }
+    Ok(())
+}
+
+impl<'s> Definition<'s> {
+    ghost use Rattle.std.specs.Prelude.{◌≡◌, OnOk, true};
+    ghost use Rattle.logos_attribute.specs.Slices.{ident_slice};
+    ghost use Rattle.logos_attribute.specs.Told.{Tells};
+    ghost use Rattle.logos_attribute.specs.Nested.{value_of, piece_of, pieces_left};
+    ghost use Rattle.logos_attribute.specs.LiteralViews.{literal_view};
+    ghost use Rattle.logos_definition.specs.Definitions.{plain, priority_told};
+    ghost use Rattle.logos_definition.specs.Definitions.{named_callback_told, ignore_told};
+    ghost use Rattle.logos_definition.specs.Definitions.{greedy_told, named_told};
+    ghost use Rattle.logos_definition.specs.Definitions.{argument_told, arguments_told};
+    ghost use Rattle.logos_definition.specs.DefinitionViews.{definition_view};
+
+    /// The literal with nothing behind it.
+    pub fn new(literal: Literal<'s>) -> Definition<'s>
+        ensures { definition_view result ≡ plain (literal_view literal.entry) }
+    {
+        Definition {
+            literal,
+            priority: None,
+            callback: None,
+            allow_greedy: None,
+            ignore_flags: IgnoreFlags { ignore_case: false },
+        }
+    }
+
+    /// Adds what `priority` says.
+    fn add_priority(
+        &mut self,
+        name: Ident<'s>,
+        value: NestedValue<'_, 's>,
+        errors: &mut Errors,
+    ) -> Result<(), Memory>
+        ensures { OnOk result (Tells
+            (priority_told (ident_slice name.entry) (value_of value.entry)
+            (definition_view self.old))
+            (definition_view self.new) errors.old errors.new) }
+    {
+        match value {
+            NestedValue::Assign(tokens) => set_priority(&mut self.priority, tokens, errors)?,
+            _ => list_priority_form(name, errors)?,
+        }
+        Ok(())
+    }
+
+    /// Adds what `callback` says.
+    fn add_callback(
+        &mut self,
+        alloc: Global,
+        name: Ident<'s>,
+        value: NestedValue<'_, 's>,
+        errors: &mut Errors,
+    ) -> Result<(), Memory>
+        ensures { OnOk result (Tells
+            (named_callback_told (ident_slice name.entry) (value_of value.entry)
+            (definition_view self.old))
+            (definition_view self.new) errors.old errors.new) }
+    {
+        match value {
+            NestedValue::Assign(tokens) => {
+                set_callback(alloc, &mut self.callback, name, tokens, errors)?
+            }
+            _ => list_callback_form(name, errors)?,
+        }
+        Ok(())
+    }
+
+    /// Adds the flags in `ignore(..)`.
+    fn add_ignore(
+        &mut self,
+        alloc: Global,
+        name: Ident<'s>,
+        value: NestedValue<'_, 's>,
+        errors: &mut Errors,
+    ) -> Result<(), Memory>
+        ensures { OnOk result (Tells
+            (ignore_told (ident_slice name.entry) (value_of value.entry) (definition_view self.old))
+            (definition_view self.new) errors.old errors.new) }
+    {
+        match value {
+            NestedValue::Group(tokens) => {
+                read_flags(
+                    alloc,
+                    &mut self.ignore_flags.ignore_case,
+                    name,
+                    tokens,
+                    errors,
+                )?
+            }
+            _ => list_ignore_form(name, errors)?,
+        }
+        Ok(())
+    }
+
+    /// Adds what `allow_greedy` says.
+    fn add_greedy(
+        &mut self,
+        name: Ident<'s>,
+        value: NestedValue<'_, 's>,
+        errors: &mut Errors,
+    ) -> Result<(), Memory>
+        ensures { OnOk result (Tells
+            (greedy_told (ident_slice name.entry) (value_of value.entry) (definition_view self.old))
+            (definition_view self.new) errors.old errors.new) }
+    {
+        match value {
+            NestedValue::Assign(tokens) => set_greedy(&mut self.allow_greedy, tokens, errors)?,
+            _ => list_greedy_form(name, errors)?,
+        }
+        Ok(())
+    }
+
+    /// Adds a named argument, and lists its faults.
+    pub(crate) fn add_named(
+        &mut self,
+        alloc: Global,
+        name: Ident<'s>,
+        value: NestedValue<'_, 's>,
+        errors: &mut Errors,
+    ) -> Result<(), Memory>
+        ensures { OnOk result (Tells
+            (named_told (ident_slice name.entry) (value_of value.entry) (definition_view self.old))
+            (definition_view self.new) errors.old errors.new) }
+    {
+        if name.text == "priority" {
+            return self.add_priority(name, value, errors);
+        }
+        if name.text == "callback" {
+            return self.add_callback(alloc, name, value, errors);
+        }
+        if name.text == "ignore" {
+            return self.add_ignore(alloc, name, value, errors);
+        }
+        if name.text == "allow_greedy" {
+            return self.add_greedy(name, value, errors);
+        }
+        list_unknown(alloc, name, errors)
+    }
+
+    /// Adds an argument behind the literal; only the first may be a callback without a name.
+    fn add_argument(
+        &mut self,
+        alloc: Global,
+        first: bool,
+        piece: Nested<'_, 's>,
+        errors: &mut Errors,
+    ) -> Result<(), Memory>
+        ensures { OnOk result (Tells
+            (argument_told first (piece_of piece.entry) (definition_view self.old))
+            (definition_view self.new) errors.old errors.new) }
+    {
+        match piece {
+            Nested::Unexpected(tokens) => list_unexpected(tokens, errors)?,
+            Nested::Unnamed(tokens) => {
+                if first {
+                    self.callback = read_callback(alloc, tokens, errors)?;
+                } else {
+                    list_named_expected(tokens, errors)?;
+                }
+            }
+            Nested::Named(name, value) => self.add_named(alloc, name, value, errors)?,
+        }
+        Ok(())
+    }
+
+    /// Adds all arguments behind the literal.
+    fn add_arguments(
+        &mut self,
+        alloc: Global,
+        pieces: AttributeParser<'_, 's>,
+        errors: &mut Errors,
+    ) -> Result<(), Memory>
+        ensures { OnOk result (Tells
+            (arguments_told true (pieces_left pieces.entry) (definition_view self.old))
+            (definition_view self.new) errors.old errors.new) }
+    {
+        let mut first = true;
+        let mut pieces = pieces;
+        while let Some(piece) = pieces.next() {
+            self.add_argument(alloc, first, piece, errors)?;
+            first = false;
+        }
+        Ok(())
+    }
+}
+
+/// What is in the parenthesis of `token`, `regex` or `skip`; `None` where it has no literal in
+/// front, which was listed if it has tokens there. After `Memory` nothing is told of the faults.
+pub(crate) fn read_definition<'s>(
+    alloc: Global,
+    tokens: Tokens<'_, 's>,
+    errors: &mut Errors,
+) -> Result<Option<Definition<'s>>, Memory>
+    ensures { IfOk result (λ definition.
+        Tells (definition_told (tokens_of tokens.entry))
+        (option_map definition_view definition) errors.old errors.new) }
+{
+    let mut pieces = AttributeParser::new(tokens);
+    let Some(run) = pieces.run() else {
+        return Ok(None);
+    };
+    let Some(literal) = read_literal(alloc, run, errors)? else {
+        return Ok(None);
+    };
+    let mut definition = Definition::new(literal);
+    definition.add_arguments(alloc, pieces, errors)?;
+    Ok(Some(definition))
+}

@@ -1,0 +1,226 @@
+//! The type of errors, and what makes one.
+ghost use Rattle.std.specs.Prelude.{OnOk, IfOk, option_map, true};
+ghost use Rattle.logos_token.specs.Views.{tokens_of};
+ghost use Rattle.logos_attribute.specs.Slices.{ident_slice};
+ghost use Rattle.logos_attribute.specs.Nested.{pieces_left};
+ghost use Rattle.logos_attribute.specs.Told.{Lists, Tells};
+ghost use Rattle.logos_definition.specs.ErrorTypes.{unknown_error_argument, error_alone};
+ghost use Rattle.logos_definition.specs.ErrorTypes.{error_arguments_told};
+ghost use Rattle.logos_definition.specs.ErrorTypeViews.{error_view};
+ghost use Rattle.logos_definition.specs.OptionFaults.{error_empty};
+ghost use Rattle.logos_definition.specs.Arguments.{ErrorGroup};
+
+use crate::definition::faults::{list_callback_form, list_named_expected, list_unexpected};
+use logos_attribute::callback::{read_callback, set_callback};
+use logos_attribute::listing::{list_named, list_run};
+use logos_attribute::nested::{AttributeParser, Nested, NestedValue};
+use logos_pattern::leaf::Callback;
+use logos_token::error::{Errors, FaultCode, Memory};
+use logos_token::token::{Ident, Span, TokenStream, Tokens};
+use logos_token::util::MaybeVoid;
+use logos_type_params::read_value;
+use std::alloc::Global;
+
+/// The type of errors, and what makes one.
+#[derive(Drop)]
+pub struct ErrorType<'s> {
+    /// The tokens of the type; it is `()` where there are none.
+    pub ty: MaybeVoid<'s>,
+    /// What makes an error, if something is called for it.
+    pub callback: Option<Callback<'s>>,
+}
+
+/// Lists a name that no argument of `error(..)` has.
+fn list_unknown(alloc: Global, name: Ident<'_>, errors: &mut Errors) -> Result<(), Memory>
+    ensures { OnOk result
+        (Lists (unknown_error_argument (ident_slice name.entry)) errors.old errors.new) }
+{
+    list_named(
+        alloc,
+        errors,
+        FaultCode::UnknownNested,
+        "Unknown nested attribute: ",
+        name,
+        "\n\nExpected one of: callback",
+    )
+}
+
+impl<'s> ErrorType<'s> {
+    ghost use Rattle.std.specs.Prelude.{◌≡◌, OnOk, true};
+    ghost use Rattle.logos_token.specs.Views.{stream_tokens};
+    ghost use Rattle.logos_attribute.specs.Slices.{ident_slice};
+    ghost use Rattle.logos_attribute.specs.Told.{Tells};
+    ghost use Rattle.logos_attribute.specs.Nested.{value_of, piece_of, pieces_left};
+    ghost use Rattle.logos_definition.specs.ErrorTypes.{error_alone, no_error, error_span};
+    ghost use Rattle.logos_definition.specs.ErrorTypes.{error_callback_told, error_named_told};
+    ghost use Rattle.logos_definition.specs.ErrorTypes.{error_argument_told};
+    ghost use Rattle.logos_definition.specs.ErrorTypes.{error_arguments_told};
+    ghost use Rattle.logos_definition.specs.ErrorTypeViews.{error_view};
+
+    /// The type of these tokens, without a callback.
+    pub fn new(ty: TokenStream<'s>) -> ErrorType<'s>
+        ensures { error_view result ≡ error_alone (stream_tokens ty.entry) }
+    {
+        ErrorType {
+            ty: MaybeVoid::Some(ty),
+            callback: None,
+        }
+    }
+
+    /// The type `()`, without a callback. It takes no memory.
+    pub fn default(_alloc: Global) -> ErrorType<'s>
+        ensures { error_view result ≡ no_error }
+    {
+        ErrorType {
+            ty: MaybeVoid::Void,
+            callback: None,
+        }
+    }
+
+    /// Where the type stands in the source: from its first token to its last, and 0..0 where it has
+    /// no token.
+    pub fn span(&self) -> Span
+        ensures { result ≡ error_span (error_view self.now) }
+    {
+        match &self.ty {
+            MaybeVoid::Some(tokens) => tokens.run().span(),
+            MaybeVoid::Void => Span { from: 0, to: 0 },
+        }
+    }
+
+    /// Adds what `callback` says.
+    fn add_callback(
+        &mut self,
+        alloc: Global,
+        name: Ident<'s>,
+        value: NestedValue<'_, 's>,
+        errors: &mut Errors,
+    ) -> Result<(), Memory>
+        ensures { OnOk result (Tells
+            (error_callback_told (ident_slice name.entry) (value_of value.entry)
+            (error_view self.old))
+            (error_view self.new) errors.old errors.new) }
+    {
+        match value {
+            NestedValue::Assign(tokens) => {
+                set_callback(alloc, &mut self.callback, name, tokens, errors)?
+            }
+            _ => list_callback_form(name, errors)?,
+        }
+        Ok(())
+    }
+
+    /// Adds a named argument, and lists its faults.
+    pub(crate) fn add_named(
+        &mut self,
+        alloc: Global,
+        name: Ident<'s>,
+        value: NestedValue<'_, 's>,
+        errors: &mut Errors,
+    ) -> Result<(), Memory>
+        ensures { OnOk result (Tells
+            (error_named_told (ident_slice name.entry) (value_of value.entry) (error_view self.old))
+            (error_view self.new) errors.old errors.new) }
+    {
+        if name.text == "callback" {
+            return self.add_callback(alloc, name, value, errors);
+        }
+        list_unknown(alloc, name, errors)
+    }
+
+    /// Adds an argument behind the type; only the first may be a callback without a name.
+    fn add_argument(
+        &mut self,
+        alloc: Global,
+        first: bool,
+        piece: Nested<'_, 's>,
+        errors: &mut Errors,
+    ) -> Result<(), Memory>
+        ensures { OnOk result (Tells
+            (error_argument_told first (piece_of piece.entry) (error_view self.old))
+            (error_view self.new) errors.old errors.new) }
+    {
+        match piece {
+            Nested::Unexpected(tokens) => list_unexpected(tokens, errors)?,
+            Nested::Unnamed(tokens) => {
+                if first {
+                    self.callback = read_callback(alloc, tokens, errors)?;
+                } else {
+                    list_named_expected(tokens, errors)?;
+                }
+            }
+            Nested::Named(name, value) => self.add_named(alloc, name, value, errors)?,
+        }
+        Ok(())
+    }
+
+    /// Adds all arguments behind the type.
+    pub(crate) fn add_arguments(
+        &mut self,
+        alloc: Global,
+        pieces: AttributeParser<'_, 's>,
+        errors: &mut Errors,
+    ) -> Result<(), Memory>
+        ensures { OnOk result (Tells
+            (error_arguments_told true (pieces_left pieces.entry) (error_view self.old))
+            (error_view self.new) errors.old errors.new) }
+    {
+        let mut first = true;
+        let mut pieces = pieces;
+        while let Some(piece) = pieces.next() {
+            self.add_argument(alloc, first, piece, errors)?;
+            first = false;
+        }
+        Ok(())
+    }
+}
+
+/// Lists that no type stands in `error(..)`.
+fn list_empty(group: Tokens<'_, '_>, errors: &mut Errors) -> Result<(), Memory>
+    ensures { OnOk result (Lists (error_empty (tokens_of group.entry)) errors.old errors.new) }
+{
+    list_run(
+        errors,
+        FaultCode::ErrorEmpty,
+        "Expected #[logos(error(SomeType))]",
+        group,
+    )
+}
+
+/// The type of errors with the arguments behind it, of which the first may be a callback without a
+/// name.
+fn with_arguments<'s>(
+    alloc: Global,
+    run: Tokens<'_, 's>,
+    pieces: AttributeParser<'_, 's>,
+    errors: &mut Errors,
+) -> Result<ErrorType<'s>, Memory>
+    ensures { IfOk result (λ error. Tells
+        (error_arguments_told true (pieces_left pieces.entry) (error_alone (tokens_of run.entry)))
+        (error_view error) errors.old errors.new) }
+{
+    let mut error = ErrorType::new(run.to_stream(alloc)?);
+    error.add_arguments(alloc, pieces, errors)?;
+    Ok(error)
+}
+
+/// What `error(..)` says; nothing where it has no type, which is listed at the whole group.
+pub(crate) fn error_in<'s>(
+    alloc: Global,
+    group: Tokens<'_, 's>,
+    errors: &mut Errors,
+) -> Result<Option<ErrorType<'s>>, Memory>
+    ensures { IfOk result (λ error. ErrorGroup
+        (tokens_of group.entry) errors.old errors.new (option_map error_view error)) }
+{
+    let mut pieces = AttributeParser::new(group);
+    let Some(run) = pieces.run() else {
+        list_empty(group, errors)?;
+        return Ok(None);
+    };
+    if read_value(alloc, run, group.span(), errors)?.is_none() {
+        return Ok(None);
+    }
+    let error = with_arguments(alloc, run, pieces, errors)?;
+    Ok(Some(error))
+}

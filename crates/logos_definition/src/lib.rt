@@ -1,0 +1,9 @@
+//! What the attributes of an enum and its variants say: definitions, and the options of a lexer.
+
+#![tactic(auto)]
+
+pub mod definition;
+pub mod error_type;
+pub mod ignore_flags;
+pub mod meta;
+pub mod parser;

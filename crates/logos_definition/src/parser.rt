@@ -1,0 +1,277 @@
+//! What the attributes of an enum say.
+
+mod attributes;
+mod faults;
+mod options;
+mod types;
+
+use crate::definition::{Definition, read_definition};
+use crate::error_type::ErrorType;
+use crate::ignore_flags::IgnoreFlags;
+use logos_attribute::flags::read_flags;
+use logos_attribute::literal::read_text;
+use logos_attribute::nested::{AttributeParser, NestedValue};
+use logos_pattern::pattern::Literal;
+use logos_token::error::{Errors, FaultCode, Memory};
+use logos_token::token;
+use logos_token::token::{Ident, Span, TokenStream, Tokens};
+use logos_token::util::MaybeVoid;
+use logos_type_params::TypeParams;
+use std::alloc::Global;
+
+/// Whether inputs are UTF-8, and where that is said.
+#[derive(Clone, Copy)]
+pub struct Utf8Mode {
+    pub value: bool,
+    /// The value in the source.
+    pub span: Span,
+}
+
+/// The path of the chart that is exported, and where it is said.
+#[derive(Drop)]
+pub struct ExportPath {
+    pub path: String,
+    /// The value in the source.
+    pub span: Span,
+}
+
+/// What the attributes of an enum say, and the faults found in them. Where memory ran out in a call
+/// that changes it, it has failed, and each later call answers `Memory`.
+#[derive(Drop)]
+pub struct Parser<'s> {
+    pub errors: Errors,
+    pub utf8_mode: Option<Utf8Mode>,
+    /// The definitions of `skip`, in source order.
+    pub skips: Vec<Definition<'s>>,
+    pub extras: MaybeVoid<'s>,
+    /// The subpatterns with their names, in source order.
+    pub subpatterns: Vec<(Ident<'s>, Literal<'s>)>,
+    pub error_type: Option<ErrorType<'s>>,
+    /// The path of the crate that the printed text uses.
+    pub logos_path: Option<TokenStream<'s>>,
+    pub export_path: Option<ExportPath>,
+    /// The declared type parameters, and the types that are given to them.
+    pub types: TypeParams<'s>,
+    alloc: Global,
+    failed: bool,
+}
+
+impl<'s> Parser<'s> {
+    ghost use Rattle.std.specs.Prelude.{◌≡◌, IfOk, OnOk, OnErr, option_map, true, false, []};
+    ghost use Rattle.logos_token.specs.Views.{tokens_of};
+    ghost use Rattle.logos_attribute.specs.Slices.{literal_slice};
+    ghost use Rattle.logos_attribute.specs.Told.{Tells, Lists, fault};
+    ghost use Rattle.logos_attribute.specs.Pieces.{pieces};
+    ghost use Rattle.logos_attribute.specs.Literals.{text_told};
+    ghost use Rattle.logos_attribute.specs.LiteralViews.{literal_view};
+    ghost use Rattle.logos_definition.specs.Definitions.{definition_told};
+    ghost use Rattle.logos_definition.specs.DefinitionViews.{definition_view};
+    ghost use Rattle.logos_definition.specs.Options.{nothing_said};
+    ghost use Rattle.logos_definition.specs.Arguments.{PiecesSay};
+    ghost use Rattle.logos_definition.specs.ParserViews.{parser_view, HasNotFailed};
+
+    /// A parser to which nothing was said. What is read later takes memory from `alloc`.
+    pub fn new(alloc: Global) -> Parser<'s>
+        ensures said { parser_view result ≡ nothing_said }
+        ensures errors { result.errors ≡ [] }
+        ensures failed { result.failed ≡ false }
+    {
+        Parser {
+            errors: Errors::new(alloc),
+            utf8_mode: None,
+            skips: Vec::new(alloc),
+            extras: MaybeVoid::Void,
+            subpatterns: Vec::new(alloc),
+            error_type: None,
+            logos_path: None,
+            export_path: None,
+            types: TypeParams::new(alloc),
+            alloc,
+            failed: false,
+        }
+    }
+
+    /// Adds the arguments in the parenthesis of a `logos` attribute, and lists their faults. After
+    /// `Memory` the parser has failed.
+    pub fn read_logos(&mut self, tokens: Tokens<'_, 's>) -> Result<(), Memory>
+        ensures ok { OnOk result (PiecesSay
+            (parser_view self.old) (parser_view self.new) self.old.errors self.new.errors
+            (pieces (tokens_of tokens.entry))) }
+        ensures going { OnOk result (HasNotFailed self.old self.new) }
+        ensures err { OnErr result (self.new.failed ≡ true) }
+    {
+        if self.failed {
+            return Err(Memory);
+        }
+        let ended = self.add_pieces(AttributeParser::new(tokens));
+        self.failed = ended.is_err();
+        ended
+    }
+
+    /// Adds a fault behind the others. After `Memory` the parser has failed.
+    pub fn err(&mut self, code: FaultCode, message: &str, span: Span) -> Result<(), Memory>
+        ensures ok { OnOk result
+            (Lists (fault code message.now span) self.old.errors self.new.errors) }
+        ensures kept { OnOk result (parser_view self.new ≡ parser_view self.old) }
+        ensures going { OnOk result (HasNotFailed self.old self.new) }
+        ensures err { OnErr result (self.new.failed ≡ true) }
+    {
+        if self.failed {
+            return Err(Memory);
+        }
+        let ended = self.errors.err(code, message, span);
+        self.failed = ended.is_err();
+        ended
+    }
+
+    /// The string or byte string that a literal is; `None` where it is another one, which was
+    /// listed. After `Memory` the parser has failed.
+    pub fn parse_literal(
+        &mut self,
+        literal: token::Literal<'s>,
+    ) -> Result<Option<Literal<'s>>, Memory>
+        ensures ok { IfOk result (λ read. Tells
+            (text_told (literal_slice literal.entry)) (option_map literal_view read)
+            self.old.errors self.new.errors) }
+        ensures kept { OnOk result (parser_view self.new ≡ parser_view self.old) }
+        ensures going { OnOk result (HasNotFailed self.old self.new) }
+        ensures err { OnErr result (self.new.failed ≡ true) }
+    {
+        if self.failed {
+            return Err(Memory);
+        }
+        let ended = read_text(self.alloc, literal, &mut self.errors);
+        self.failed = ended.is_err();
+        ended
+    }
+
+    /// The definition in the parenthesis of a `token` or `regex`; `None` where it has no literal in
+    /// front, which was listed if it has tokens there. After `Memory` the parser has failed.
+    pub fn parse_definition(
+        &mut self,
+        tokens: Tokens<'_, 's>,
+    ) -> Result<Option<Definition<'s>>, Memory>
+        ensures ok { IfOk result (λ definition. Tells
+            (definition_told (tokens_of tokens.entry)) (option_map definition_view definition)
+            self.old.errors self.new.errors) }
+        ensures kept { OnOk result (parser_view self.new ≡ parser_view self.old) }
+        ensures going { OnOk result (HasNotFailed self.old self.new) }
+        ensures err { OnErr result (self.new.failed ≡ true) }
+    {
+        if self.failed {
+            return Err(Memory);
+        }
+        let ended = read_definition(self.alloc, tokens, &mut self.errors);
+        self.failed = ended.is_err();
+        ended
+    }
+}
+
+impl<'s> Definition<'s> {
+    ghost use Rattle.std.specs.Prelude.{◌≡◌, OnOk, OnErr, true};
+    ghost use Rattle.logos_attribute.specs.Slices.{ident_slice};
+    ghost use Rattle.logos_attribute.specs.Told.{Tells};
+    ghost use Rattle.logos_attribute.specs.Nested.{value_of};
+    ghost use Rattle.logos_definition.specs.Definitions.{named_told};
+    ghost use Rattle.logos_definition.specs.DefinitionViews.{definition_view};
+    ghost use Rattle.logos_definition.specs.ParserViews.{parser_view, HasNotFailed};
+
+    /// Adds a named argument, and lists its faults in the parser, of which it changes nothing else.
+    /// After `Memory` the parser has failed, and the definition is only to be dropped.
+    pub fn named_attr(
+        &mut self,
+        alloc: Global,
+        name: Ident<'s>,
+        value: NestedValue<'_, 's>,
+        parser: &mut Parser<'s>,
+    ) -> Result<(), Memory>
+        ensures ok { OnOk result (Tells
+            (named_told (ident_slice name.entry) (value_of value.entry) (definition_view self.old))
+            (definition_view self.new) parser.old.errors parser.new.errors) }
+        ensures kept { OnOk result (parser_view parser.new ≡ parser_view parser.old) }
+        ensures going { OnOk result (HasNotFailed parser.old parser.new) }
+        ensures err { OnErr result (parser.new.failed ≡ true) }
+    {
+        if parser.failed {
+            return Err(Memory);
+        }
+        let ended = self.add_named(alloc, name, value, &mut parser.errors);
+        parser.failed = ended.is_err();
+        ended
+    }
+}
+
+impl<'s> ErrorType<'s> {
+    ghost use Rattle.std.specs.Prelude.{◌≡◌, OnOk, OnErr, true};
+    ghost use Rattle.logos_attribute.specs.Slices.{ident_slice};
+    ghost use Rattle.logos_attribute.specs.Told.{Tells};
+    ghost use Rattle.logos_attribute.specs.Nested.{value_of};
+    ghost use Rattle.logos_definition.specs.ErrorTypes.{error_named_told};
+    ghost use Rattle.logos_definition.specs.ErrorTypeViews.{error_view};
+    ghost use Rattle.logos_definition.specs.ParserViews.{parser_view, HasNotFailed};
+
+    /// Adds a named argument, and lists its faults in the parser, of which it changes nothing else.
+    /// After `Memory` the parser has failed, and the type is only to be dropped.
+    pub fn named_attr(
+        &mut self,
+        alloc: Global,
+        name: Ident<'s>,
+        value: NestedValue<'_, 's>,
+        parser: &mut Parser<'s>,
+    ) -> Result<(), Memory>
+        ensures ok { OnOk result (Tells
+            (error_named_told (ident_slice name.entry) (value_of value.entry) (error_view self.old))
+            (error_view self.new) parser.old.errors parser.new.errors) }
+        ensures kept { OnOk result (parser_view parser.new ≡ parser_view parser.old) }
+        ensures going { OnOk result (HasNotFailed parser.old parser.new) }
+        ensures err { OnErr result (parser.new.failed ≡ true) }
+    {
+        if parser.failed {
+            return Err(Memory);
+        }
+        let ended = self.add_named(alloc, name, value, &mut parser.errors);
+        parser.failed = ended.is_err();
+        ended
+    }
+}
+
+impl IgnoreFlags {
+    ghost use Rattle.std.specs.Prelude.{◌≡◌, OnOk, OnErr, true, false};
+    ghost use Rattle.logos_token.specs.Views.{tokens_of};
+    ghost use Rattle.logos_attribute.specs.Slices.{ident_slice};
+    ghost use Rattle.logos_attribute.specs.Told.{Tells};
+    ghost use Rattle.logos_attribute.specs.Flags.{flags_told};
+    ghost use Rattle.logos_definition.specs.ParserViews.{parser_view, HasNotFailed};
+
+    /// Sets the flags in the group behind `ignore`, whose name is given, and lists the first fault
+    /// among them in the parser, of which it changes nothing else. After `Memory` the parser has
+    /// failed, and the flags are only to be dropped.
+    pub fn parse_group<'s>(
+        &mut self,
+        alloc: Global,
+        name: Ident<'s>,
+        tokens: Tokens<'_, 's>,
+        parser: &mut Parser<'s>,
+    ) -> Result<(), Memory>
+        ensures ok { OnOk result (Tells
+            (flags_told (ident_slice name.entry) false self.old.ignore_case
+            (tokens_of tokens.entry))
+            self.new.ignore_case parser.old.errors parser.new.errors) }
+        ensures kept { OnOk result (parser_view parser.new ≡ parser_view parser.old) }
+        ensures going { OnOk result (HasNotFailed parser.old parser.new) }
+        ensures err { OnErr result (parser.new.failed ≡ true) }
+    {
+        if parser.failed {
+            return Err(Memory);
+        }
+        let ended = read_flags(
+            alloc,
+            &mut self.ignore_case,
+            name,
+            tokens,
+            &mut parser.errors,
+        );
+        parser.failed = ended.is_err();
+        ended
+    }
+}

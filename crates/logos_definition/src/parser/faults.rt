@@ -1,0 +1,253 @@
+//! The faults of the options of a lexer: each function lists one, or one with the former place.
+ghost use Rattle.std.specs.Prelude.{◌≡◌, ◌++◌, OnOk, Some};
+ghost use Rattle.logos_token.specs.Views.{tokens_of};
+ghost use Rattle.logos_attribute.specs.Slices.{ident_slice};
+ghost use Rattle.logos_attribute.specs.Told.{Lists};
+ghost use Rattle.logos_definition.specs.OptionFaults.{once_only, mode_again, extras_again};
+ghost use Rattle.logos_definition.specs.OptionFaults.{error_again, export_again, skip_form};
+ghost use Rattle.logos_definition.specs.OptionFaults.{skip_group, utf8_value, utf8_form};
+ghost use Rattle.logos_definition.specs.OptionFaults.{extras_form, crate_form, export_bytes};
+ghost use Rattle.logos_definition.specs.OptionFaults.{export_form, subpattern_form, error_form};
+ghost use Rattle.logos_definition.specs.OptionFaults.{source_old, unknown_logos, invalid_nested};
+ghost use Rattle.logos_definition.specs.OptionFaults.{type_form};
+
+use logos_attribute::listing::{list_form, list_named, list_run};
+use logos_token::error::{Errors, FaultCode, Memory};
+use logos_token::token::{Ident, Span, Tokens};
+use std::alloc::Global;
+
+/// Lists that something is said here, and was said there before.
+fn list_twice(
+    errors: &mut Errors,
+    code: FaultCode,
+    message: &str,
+    here: Span,
+    there: Span,
+) -> Result<(), Memory>
+    ensures { OnOk result (errors.new ≡ errors.old ++ once_only code message.now here there) }
+{
+    errors.err(code, message, here)?;
+    errors.err(FaultCode::Previous, "Previous definition here", there)?;
+    Ok(())
+}
+
+/// Lists that the mode was said before, and where.
+pub(super) fn list_mode_twice(here: Span, there: Span, errors: &mut Errors) -> Result<(), Memory>
+    ensures { OnOk result (errors.new ≡ errors.old ++ mode_again here (Some there)) }
+{
+    list_twice(
+        errors,
+        FaultCode::Utf8Twice,
+        "Utf8 mode can be defined only once",
+        here,
+        there,
+    )
+}
+
+/// Lists that extras were said before, and where.
+pub(super) fn list_extras_twice(here: Span, there: Span, errors: &mut Errors) -> Result<(), Memory>
+    ensures { OnOk result (errors.new ≡ errors.old ++ extras_again here (Some there)) }
+{
+    list_twice(
+        errors,
+        FaultCode::ExtrasTwice,
+        "Extras can be defined only once",
+        here,
+        there,
+    )
+}
+
+/// Lists that a type of errors was said before, and where.
+pub(super) fn list_error_twice(here: Span, there: Span, errors: &mut Errors) -> Result<(), Memory>
+    ensures { OnOk result (errors.new ≡ errors.old ++ error_again here (Some there)) }
+{
+    list_twice(
+        errors,
+        FaultCode::ErrorTwice,
+        "Error type can be defined only once",
+        here,
+        there,
+    )
+}
+
+/// Lists that a path was said before, and where.
+pub(super) fn list_export_twice(here: Span, there: Span, errors: &mut Errors) -> Result<(), Memory>
+    ensures { OnOk result (errors.new ≡ errors.old ++ export_again here (Some there)) }
+{
+    list_twice(
+        errors,
+        FaultCode::ExportTwice,
+        "Export path can be defined only once",
+        here,
+        there,
+    )
+}
+
+/// Lists another form of `skip`.
+pub(super) fn list_skip_form(name: Ident<'_>, errors: &mut Errors) -> Result<(), Memory>
+    ensures { OnOk result (Lists (skip_form (ident_slice name.entry)) errors.old errors.new) }
+{
+    list_form(
+        errors,
+        FaultCode::SkipForm,
+        "Expected: #[logos(skip \"regex literal\")] or #[logos(skip(...))]",
+        name,
+    )
+}
+
+/// Lists another form of `utf8`.
+pub(super) fn list_utf8_form(name: Ident<'_>, errors: &mut Errors) -> Result<(), Memory>
+    ensures { OnOk result (Lists (utf8_form (ident_slice name.entry)) errors.old errors.new) }
+{
+    list_form(
+        errors,
+        FaultCode::Utf8Form,
+        "Expected: #[logos(utf8 = true)]",
+        name,
+    )
+}
+
+/// Lists another form of `extras`.
+pub(super) fn list_extras_form(name: Ident<'_>, errors: &mut Errors) -> Result<(), Memory>
+    ensures { OnOk result (Lists (extras_form (ident_slice name.entry)) errors.old errors.new) }
+{
+    list_form(
+        errors,
+        FaultCode::ExtrasForm,
+        "Expected: #[logos(extras = SomeType)]",
+        name,
+    )
+}
+
+/// Lists another form of `crate`.
+pub(super) fn list_crate_form(name: Ident<'_>, errors: &mut Errors) -> Result<(), Memory>
+    ensures { OnOk result (Lists (crate_form (ident_slice name.entry)) errors.old errors.new) }
+{
+    list_form(
+        errors,
+        FaultCode::CrateForm,
+        "Expected: #[logos(crate = path::to::logos)]",
+        name,
+    )
+}
+
+/// Lists another form of `export_dir`.
+pub(super) fn list_export_form(name: Ident<'_>, errors: &mut Errors) -> Result<(), Memory>
+    ensures { OnOk result (Lists (export_form (ident_slice name.entry)) errors.old errors.new) }
+{
+    list_form(
+        errors,
+        FaultCode::ExportForm,
+        "Expected #[logos(export_dir = \"path/to/export/dir\")]",
+        name,
+    )
+}
+
+/// Lists another form of `subpattern`.
+pub(super) fn list_subpattern_form(name: Ident<'_>, errors: &mut Errors) -> Result<(), Memory>
+    ensures { OnOk result (Lists (subpattern_form (ident_slice name.entry)) errors.old errors.new) }
+{
+    list_form(
+        errors,
+        FaultCode::SubpatternForm,
+        "Expected: #[logos(subpattern name = r\"regex\")]",
+        name,
+    )
+}
+
+/// Lists another form of `error`.
+pub(super) fn list_error_form(name: Ident<'_>, errors: &mut Errors) -> Result<(), Memory>
+    ensures { OnOk result (Lists (error_form (ident_slice name.entry)) errors.old errors.new) }
+{
+    list_form(
+        errors,
+        FaultCode::ErrorForm,
+        "Expected: #[logos(error = SomeType)] or #[logos(error(SomeType[, callback))]",
+        name,
+    )
+}
+
+/// Lists the name `source`, in place of which `utf8` stands.
+pub(super) fn list_source_old(name: Ident<'_>, errors: &mut Errors) -> Result<(), Memory>
+    ensures { OnOk result (Lists (source_old (ident_slice name.entry)) errors.old errors.new) }
+{
+    list_form(
+        errors,
+        FaultCode::SourceOld,
+        "The `source` attribute is deprecated. Use the `utf8` attribute instead",
+        name,
+    )
+}
+
+/// Lists a `skip(..)` without a literal in front.
+pub(super) fn list_skip_group(tokens: Tokens<'_, '_>, errors: &mut Errors) -> Result<(), Memory>
+    ensures { OnOk result (Lists (skip_group (tokens_of tokens.entry)) errors.old errors.new) }
+{
+    list_run(
+        errors,
+        FaultCode::SkipGroup,
+        "Expected #[logos(skip(\"regex literal\"[, [callback = ] callback, priority = priority]))]",
+        tokens,
+    )
+}
+
+/// Lists a mode that is neither `true` nor `false`.
+pub(super) fn list_utf8_value(tokens: Tokens<'_, '_>, errors: &mut Errors) -> Result<(), Memory>
+    ensures { OnOk result (Lists (utf8_value (tokens_of tokens.entry)) errors.old errors.new) }
+{
+    list_run(
+        errors,
+        FaultCode::Utf8Value,
+        "Expected a boolean literal: expected boolean literal",
+        tokens,
+    )
+}
+
+/// Lists a path that is a byte string.
+pub(super) fn list_export_bytes(tokens: Tokens<'_, '_>, errors: &mut Errors) -> Result<(), Memory>
+    ensures { OnOk result (Lists (export_bytes (tokens_of tokens.entry)) errors.old errors.new) }
+{
+    list_run(errors, FaultCode::ExportBytes, "Expected a &str", tokens)
+}
+
+/// Lists tokens that are no argument.
+pub(super) fn list_invalid_nested(tokens: Tokens<'_, '_>, errors: &mut Errors) -> Result<(), Memory>
+    ensures { OnOk result (Lists (invalid_nested (tokens_of tokens.entry)) errors.old errors.new) }
+{
+    list_run(
+        errors,
+        FaultCode::InvalidNested,
+        "Invalid nested attribute",
+        tokens,
+    )
+}
+
+/// Lists a name that no option has.
+pub(super) fn list_unknown_logos(
+    alloc: Global,
+    name: Ident<'_>,
+    errors: &mut Errors,
+) -> Result<(), Memory>
+    ensures { OnOk result (Lists (unknown_logos (ident_slice name.entry)) errors.old errors.new) }
+{
+    list_named(
+        alloc,
+        errors,
+        FaultCode::UnknownLogos,
+        "Unknown nested attribute #[logos(",
+        name,
+        ")]",
+    )
+}
+
+/// Lists another form of `type`.
+pub(super) fn list_type_form(name: Ident<'_>, errors: &mut Errors) -> Result<(), Memory>
+    ensures { OnOk result (Lists (type_form (ident_slice name.entry)) errors.old errors.new) }
+{
+    list_form(
+        errors,
+        FaultCode::TypeForm,
+        "Expected: #[logos(type T = SomeType)]",
+        name,
+    )
+}

@@ -1,0 +1,144 @@
+//! Type parameters: the types given to them, and what becomes of types that name them.
+
+use super::super::rows::push;
+use super::super::tokens::push_faults;
+use logos_attribute::nested::{AttributeParser, Nested, NestedValue};
+use logos_definition::parser::Parser;
+use logos_token::token::{TokenTree, Tokens};
+use logos_type::{Part, TypeExpr, print_type};
+use logos_type_params::{Replacing, TypeParam, holds_itself, type_after};
+use logos_type_reader::read_type;
+use std::alloc::Global;
+use std::process::Abort;
+
+/// What the first group of a run holds.
+fn group_of<'t, 's>(rt: &impl Abort, run: Tokens<'t, 's>) -> Tokens<'t, 's> {
+    match run.first() {
+        Some(TokenTree::Group(group)) => group.run(),
+        _ => panic!(rt; "no group"),
+    }
+}
+
+/// Declares the names in the group in front, reads the arguments behind it, and lists the names that hold themselves. A token in the
+/// group that is no name stands for a lifetime.
+fn read_given<'s>(rt: &impl Abort, parser: &mut Parser<'s>, run: Tokens<'_, 's>) {
+    for tree in group_of(rt, run).iter() {
+        match tree {
+            TokenTree::Ident(name) => parser.types.add(name).expect(rt, "memory"),
+            _ => parser
+                .types
+                .explicit_lifetime(tree.span(), &mut parser.errors)
+                .expect(rt, "memory"),
+        }
+    }
+    parser.read_logos(run.rest()).expect(rt, "memory");
+    parser.types.check(&mut parser.errors).expect(rt, "memory");
+}
+
+/// Adds the faults of arguments, where the names in the group in front of them are declared.
+pub(super) fn push_given(rt: &impl Abort, alloc: Global, out: &mut String, run: Tokens<'_, '_>) {
+    let mut parser = Parser::new(alloc);
+    read_given(rt, &mut parser, run);
+    push_faults(rt, out, &parser.errors);
+}
+
+/// The type that the front of a run is.
+fn part_of<'s>(rt: &impl Abort, alloc: Global, run: Tokens<'_, 's>) -> Part<'s> {
+    match read_type(alloc, run) {
+        Ok((type_expr, _)) => type_expr.part,
+        Err(_) => panic!(rt; "no type"),
+    }
+}
+
+/// The types that are assigned to names, one after another.
+fn given<'s>(rt: &impl Abort, alloc: Global, run: Tokens<'_, 's>) -> Vec<TypeParam<'s>> {
+    let mut types = Vec::new(alloc);
+    for nested in AttributeParser::new(run) {
+        if let Nested::Named(name, NestedValue::Assign(run)) = nested {
+            let part = part_of(rt, alloc, run);
+            let span = run.span();
+            types
+                .push(TypeParam { name, part, span })
+                .expect(rt, "memory");
+        }
+    }
+    types
+}
+
+/// The names that hold themselves, which it adds to the text.
+fn push_held<'s>(
+    rt: &impl Abort,
+    alloc: Global,
+    out: &mut String,
+    types: &[TypeParam<'s>],
+) -> Vec<&'s str> {
+    let mut held = Vec::new(alloc);
+    for param in types {
+        if holds_itself(alloc, types, param.name.text).expect(rt, "memory") {
+            held.push(param.name.text).expect(rt, "memory");
+            push(rt, out, param.name.text);
+            push(rt, out, " ");
+        }
+    }
+    held
+}
+
+/// Adds what becomes of a type within the fewest levels, and how many they are.
+fn push_least<'s>(
+    rt: &impl Abort,
+    alloc: Global,
+    out: &mut String,
+    replacing: Replacing<'_, 's>,
+    part: &Part<'s>,
+) {
+    for levels in 0..129 {
+        if let Ok(part) = type_after(alloc, levels, replacing, part) {
+            let text = print_type(alloc, &TypeExpr { part }).expect(rt, "memory");
+            return write!(out, "{levels}: {text}").expect(rt, "memory");
+        }
+    }
+}
+
+/// Adds the names that hold themselves, how many levels it takes, and what becomes of the type, which
+/// stands behind the types of names.
+pub(super) fn push_replaced(rt: &impl Abort, alloc: Global, out: &mut String, run: Tokens<'_, '_>) {
+    let types = given(rt, alloc, group_of(rt, run));
+    let held = push_held(rt, alloc, out, &types);
+    let replacing = Replacing {
+        types: &types,
+        held: &held,
+    };
+    push_least(rt, alloc, out, replacing, &part_of(rt, alloc, run.rest()));
+}
+
+/// Names that are declared, arguments, and the faults of both.
+pub(super) const GIVEN: &str = r#"(T) type T = u8 => none
+(& &a) => 3..4 ManyLifetimes "Logos types can only have one lifetime";
+(T) type U = u8 => 9..10 NotTypeParameter "U is not a declared type parameter";
+(T) type T = u8 u8, type T = _ => 13..18 TypeSyntax "not a type";29..30 TypeSyntax "not a type";
+(T) type T = Vec<u8>, type T = u8 => 27..28 TypeTwice "T can only have one type assigned to it";13..20 Previous "Previously assigned here";
+(T) type T = A<T>, type T = u8 => 24..25 TypeTwice "T can only have one type assigned to it";13..17 Previous "Previously assigned here";
+(T) type T = T => 1..2 TypeHoldsItself "Type parameter T holds itself";
+(T T) type T = [T; 2] => 1..2 TypeHoldsItself "Type parameter T holds itself";
+(T U V) type T = Vec<U>, type U = Option<T>, type V = T => 1..2 TypeHoldsItself "Type parameter T holds itself";3..4 TypeHoldsItself "Type parameter U holds itself";
+(T U V) type T = U, type U = V, type V = Vec<T> => 1..2 TypeHoldsItself "Type parameter T holds itself";3..4 TypeHoldsItself "Type parameter U holds itself";5..6 TypeHoldsItself "Type parameter V holds itself";
+(T U) type T = U, type U = Vec<U> => 3..4 TypeHoldsItself "Type parameter U holds itself";
+(T) type T = <T as A>::B => none"#;
+
+/// Types of names, a type, and what becomes of it.
+pub(super) const REPLACED: &str = r#"(T = Vec<&str>) &'a T => 4: & 's Vec < & 's str >
+(T = Vec<U>, U = Option<T>) (T, U, V) => T U 2: ( T , U , V )
+(T = Vec<U>, U = Box<V>) T => 3: Vec < Box < V > >
+(T = U, U = Vec<V>) (T, U) => 3: ( U , Vec < V > )
+(T = T) [T; T] => T 2: [ T ; T ]
+(T = u8, T = u16) T => 1: u8
+(T = u8) <T as P<T>>::X<'a> => 2: < T as P < u8 > > :: X < 's >
+(T = <T as P>::X) &T => 3: & 's < T as P > :: X
+(T = A<{ T }>) T => 1: A < { T } >
+(T = u8) dyn A<'b, T> + 'c => 2: dyn A < 'b , u8 > + 'c
+(T = u8) for<'a> fn(a: &'a T) -> T => 3: for < 'a > fn ( a : & 's u8 ) -> u8
+(T = u8) T::X => 1: T :: X
+(T = Vec<u8>) T => 2: Vec < u8 >
+(T = u8) &T => 2: & 's u8
+(T = Vec<u8>) (A, &T) => 4: ( A , & 's Vec < u8 > )
+(T = <&&u8 as P>::X) &T => 5: & 's < & & u8 as P > :: X"#;

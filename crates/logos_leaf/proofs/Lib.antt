@@ -1,0 +1,2 @@
+mod VariantLemmas
+pub mod agreement

@@ -1,0 +1,7 @@
+pub mod Told
+pub mod Types
+pub mod Options
+pub mod Subpatterns
+pub mod Leaves
+pub mod Variants
+pub mod Sources

@@ -1,0 +1,21 @@
+use Rattle.std.proofs.Common.{◌≡◌, List, map, drop}
+use Rattle.logos_token.specs.Faults.{Fault}
+use Rattle.logos_type_params.specs.SelfReference.{texts}
+use Rattle.logos_type_params.specs.WrittenTypes.{params_with}
+use Rattle.logos_item.specs.EnumValues.{variant_value}
+use Rattle.logos_subpattern.specs.SubpatternViews.{names_of}
+use Rattle.logos_definition.specs.ParserViews.{parser_view}
+use Rattle.logos_leaf.specs.Leaves.{LeafView}
+use Rattle.logos_leaf.specs.LeafViews.{leaf_view}
+use Rattle.logos_leaf.specs.Variants.{VariantsAdd}
+use Rattle.logos_leaf.proofs.variant.add_variants.Given as goal
+
+-- what completes the rest completes the whole
+abbrev pub invariant-loop-variant : goal.invariant-loop-variant
+invariant-loop-variant l = record {
+  kept : parser_view l.parser ≡ parser_view l.fn.parser;
+  completes : (behind : List LeafView) (new : List Fault) →
+      VariantsAdd (params_with l.fn.parser.types (texts l.held)) (names_of l.subpatterns) (map variant_value (drop l.variant-index l.variants)) (map leaf_view l.leaves.items) behind
+      l.parser.errors new →
+      VariantsAdd (params_with l.fn.parser.types (texts l.held)) (names_of l.subpatterns) (map variant_value l.variants) (map leaf_view l.fn.leaves.items) behind l.fn.parser.errors new;
+}

@@ -1,0 +1,6 @@
+pub mod LeafViews
+pub mod Leaves
+pub mod Sources
+pub mod VariantFaults
+pub mod Variants
+pub mod inside

@@ -1,0 +1,76 @@
+-- All leaves of an enum, and all faults that its parameters and attributes list, in order.
+use Rattle.std.specs.Prelude.{◌≡◌, ℕ, Bool, true, List, [], ◌∷◌, ◌++◌, map, Option, Some, None, unwrap_or, option_map}
+use Rattle.logos_token.specs.Faults.{Fault}
+use Rattle.logos_token.specs.Tokens.{TokenList, run_span}
+use Rattle.logos_type_params.specs.SelfFaults.{AreChecked}
+use Rattle.logos_type_params.specs.Substitution.{Params, ParamValue}
+use Rattle.logos_type_params.specs.TypeParams.{Given}
+use Rattle.logos_type_params.specs.WrittenTypes.{AreHeld}
+use Rattle.logos_item.specs.AttributeValues.{SplitAttribute, attribute_in}
+use Rattle.logos_item.specs.EnumValues.{EnumValue, VariantValue}
+use Rattle.logos_item.specs.Values.{ParameterValue}
+use Rattle.logos_attribute.specs.Told.{Tells}
+use Rattle.logos_definition.specs.Attributes.{AttributeSays, parameter_told}
+use Rattle.logos_definition.specs.Definitions.{DefinitionView}
+use Rattle.logos_definition.specs.Options.{OptionsView, nothing_said}
+use Rattle.logos_pattern.specs.Leaf.{skipped}
+use Rattle.logos_subpattern.specs.Subpatterns.{AreAdded}
+use Rattle.logos_subpattern.specs.Substitution.{Stored}
+use Rattle.logos_leaf.specs.Leaves.{LeafView}
+use Rattle.logos_leaf.specs.Variants.{SkipsAdd, VariantsAdd}
+
+-- what the generic parameters of an enum say, in order
+pub data ParametersSay : (o : OptionsView) (o' : OptionsView) (old new : List Fault) → List ParameterValue → Type 0 where
+  no_parameter : {o : OptionsView} {faults : List Fault} → ParametersSay o o faults faults []
+  one_parameter : {o : OptionsView} {o' : OptionsView} {o'' : OptionsView} {old mid new : List Fault} {parameter : ParameterValue} {rest : List ParameterValue} →
+      Tells (parameter_told parameter.kind (record { text = parameter.name.text; span = parameter.name.span }) (run_span parameter.run) o) o' old mid →
+      ParametersSay o' o'' mid new rest → ParametersSay o o'' old new (parameter ∷ rest)
+
+-- what the attributes of an enum say, in order
+pub data AttributesSay : (o : OptionsView) (o' : OptionsView) (old new : List Fault) → TokenList → Type 0 where
+  no_attribute : {o : OptionsView} {faults : List Fault} {run : TokenList} → attribute_in run ≡ None → AttributesSay o o faults faults run
+  one_attribute : {o : OptionsView} {o' : OptionsView} {o'' : OptionsView} {old mid new : List Fault} {run : TokenList} {split : SplitAttribute} → attribute_in run ≡ Some split →
+      AttributeSays o o' old mid split.attribute → AttributesSay o' o'' mid new split.rest → AttributesSay o o'' old new run
+
+-- inputs are UTF-8, unless it is said that they are not
+abbrev pub utf8_mode : OptionsView → Bool
+utf8_mode o = unwrap_or (option_map (λ m. m.value) o.utf8) true
+
+-- a type that is given, without its place
+abbrev pub param_of : Given → ParamValue
+param_of given = record { name = given.name.text; type = given.type }
+
+-- The leaves that the skips and variants of an enum make where this was said: first it is asked which parameters hold themselves, then the subpatterns are
+-- read; the leaves of `skip` come first. Each step lists its faults behind those of the steps in front of it.
+pub record LeavesSay (o : OptionsView) (variants : List VariantValue) (leaves : List LeafView) (old new : List Fault) : Type 0 where
+  pub params : Params
+  pub names : List Stored
+  pub skips : List LeafView
+  pub of_held : List Fault
+  pub of_subpatterns : List Fault
+  pub of_skips : List Fault
+  pub given : params.types ≡ map param_of o.types.types
+  pub checked : AreChecked params.types [] o.types.names old of_held
+  pub held : AreHeld params.types params.held
+  pub subpatterns : AreAdded (utf8_mode o) o.subpatterns [] names of_held of_subpatterns
+  pub skips_add : SkipsAdd names o.skips [] skips of_subpatterns of_skips
+  pub variants_add : VariantsAdd params names variants skips leaves of_skips new
+
+-- What an enum says, in order: its parameters, its attributes, and the leaves that these and its variants make.
+pub record SourceSays (item : EnumValue) (o : OptionsView) (leaves : List LeafView) (new : List Fault) : Type 0 where
+  pub declared : OptionsView
+  pub of_parameters : List Fault
+  pub of_attributes : List Fault
+  pub parameters : ParametersSay nothing_said declared [] of_parameters item.parameters
+  pub attributes : AttributesSay declared o of_parameters of_attributes item.attributes
+  pub leaves_say : LeavesSay o item.variants leaves of_attributes new
+
+-- what was said, without the skips
+abbrev pub IsWithoutSkips : OptionsView → OptionsView → Type 0
+IsWithoutSkips options rest = rest ≡ record options { skips = [] }
+
+-- An enum was read: these are its leaves, and the rest is what it says, but for the skips, which are leaves now.
+pub record IsSourceRead (item : EnumValue) (leaves : List LeafView) (rest : OptionsView) (faults : List Fault) : Type 0 where
+  pub options : OptionsView
+  pub says : SourceSays item options leaves faults
+  pub same : IsWithoutSkips options rest

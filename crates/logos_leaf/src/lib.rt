@@ -1,0 +1,11 @@
+//! Leaves of a lexer, as definitions make them.
+
+#![tactic(auto)]
+
+mod fault;
+pub mod laws;
+pub mod leaf;
+pub mod source;
+#[cfg(test)]
+mod tests;
+pub mod variant;

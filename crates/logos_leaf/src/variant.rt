@@ -1,0 +1,265 @@
+//! The leaves that the attributes of variants make.
+ghost use Rattle.std.specs.Prelude.{◌≡◌, ◌++◌, IfOk, OnOk, map, option_map};
+ghost use Rattle.std.specs.Option.{option_to_list};
+ghost use Rattle.logos_token.specs.Views.{tokens_of};
+ghost use Rattle.logos_type_params.specs.SelfReference.{texts};
+ghost use Rattle.logos_type_params.specs.WrittenTypes.{params_with};
+ghost use Rattle.logos_item.specs.AttributeValues.{attribute_value};
+ghost use Rattle.logos_item.specs.EnumValues.{field_value, fields_value, in_parenthesis};
+ghost use Rattle.logos_item.specs.EnumValues.{variant_value};
+ghost use Rattle.logos_pattern.specs.Leaf.{kind_value};
+ghost use Rattle.logos_subpattern.specs.SubpatternViews.{names_of};
+ghost use Rattle.logos_definition.specs.ParserViews.{parser_view};
+ghost use Rattle.logos_leaf.specs.LeafViews.{leaf_view};
+ghost use Rattle.logos_leaf.specs.Variants.{HoldsType, KindIs, TokenGives, RegexGives};
+ghost use Rattle.logos_leaf.specs.Variants.{AttributeGives, AttributesAdd};
+ghost use Rattle.logos_leaf.specs.Variants.{VariantAdds, VariantsAdd};
+
+mod fault;
+
+use crate::leaf::{regex_leaf, token_leaf};
+use crate::variant::fault::{
+    list_count, list_error_variant, list_named_fields, list_regex_form, list_token_form,
+    list_variant_fields,
+};
+use logos_definition::meta::meta_of;
+use logos_definition::parser::Parser;
+use logos_item::{Attribute, Field, Fields, Variant, split_attribute};
+use logos_pattern::leaf::{Leaf, VariantKind};
+use logos_subpattern::subpattern::Subpatterns;
+use logos_token::error::{Errors, Memory};
+use logos_token::token::{Ident, Span, Tokens};
+use logos_type_params::TypeParams;
+use std::alloc::{AllocError, Global};
+
+/// The declared type parameters of an enum, and the names of those that hold themselves.
+#[derive(Clone, Copy)]
+pub struct Types<'p, 's> {
+    pub params: &'p TypeParams<'s>,
+    pub held: &'p [&'s str],
+}
+
+/// What a match gives of a variant with this field.
+fn value_kind<'s>(
+    types: Types<'_, 's>,
+    name: Ident<'s>,
+    field: &Field<'_, 's>,
+    errors: &mut Errors,
+) -> Result<VariantKind<'s>, Memory>
+    ensures { IfOk result (λ kind. HoldsType
+        (params_with types.entry.params.now (texts types.entry.held.now)) name.entry
+        (field_value field.now) errors.old errors.new (kind_value kind)) }
+{
+    let span = field.run.span();
+    let got = types
+        .params
+        .get_type(types.held, &field.field_type, span, errors)?;
+    Ok(VariantKind::Value(name, got))
+}
+
+/// What a match gives of a variant with these fields in a parenthesis at this span.
+fn tuple_kind<'s>(
+    alloc: Global,
+    types: Types<'_, 's>,
+    name: Ident<'s>,
+    span: Span,
+    fields: &[Field<'_, 's>],
+    errors: &mut Errors,
+) -> Result<VariantKind<'s>, Memory>
+    ensures { IfOk result (λ kind. KindIs
+        (params_with types.entry.params.now (texts types.entry.held.now)) name.entry
+        errors.old errors.new (in_parenthesis span (map field_value fields.now))
+        (kind_value kind)) }
+{
+    let Some((first, _)) = fields.split_first() else {
+        list_variant_fields(alloc, 0, span, errors)?;
+        return Ok(VariantKind::Skip);
+    };
+    list_count(alloc, fields.len(), span, errors)?;
+    value_kind(types, name, first, errors)
+}
+
+/// What a match gives of a variant with these fields.
+fn kind_of<'s>(
+    alloc: Global,
+    types: Types<'_, 's>,
+    name: Ident<'s>,
+    fields: &Fields<'_, 's>,
+    errors: &mut Errors,
+) -> Result<VariantKind<'s>, Memory>
+    ensures { IfOk result (λ kind. KindIs
+        (params_with types.entry.params.now (texts types.entry.held.now)) name.entry
+        errors.old errors.new (fields_value fields.now) (kind_value kind)) }
+{
+    match fields {
+        Fields::Unit => Ok(VariantKind::Unit(name)),
+        Fields::Tuple(span, list) => tuple_kind(alloc, types, name, *span, list, errors),
+        Fields::Named(span, _) => {
+            list_named_fields(*span, errors)?;
+            Ok(VariantKind::Skip)
+        }
+    }
+}
+
+/// The leaf of a `token` attribute, if it makes one.
+fn token_of<'s>(
+    alloc: Global,
+    attribute: Attribute<'_, 's>,
+    kind: &VariantKind<'s>,
+    parser: &mut Parser<'s>,
+) -> Result<Option<Leaf<'s>>, Memory>
+    ensures given { IfOk result (λ leaf. TokenGives (kind_value kind.now)
+        (attribute_value attribute.entry) parser.old.errors parser.new.errors
+        (option_map leaf_view leaf)) }
+    ensures kept { OnOk result (parser_view parser.new ≡ parser_view parser.old) }
+{
+    let Some(definition) = parser.parse_definition_attr(attribute)? else {
+        list_token_form(attribute.span, &mut parser.errors)?;
+        return Ok(None);
+    };
+    let kind = kind.clone()?;
+    token_leaf(alloc, definition, kind, &mut parser.errors)
+}
+
+/// The leaf of a `regex` attribute, if it makes one.
+fn regex_of<'s>(
+    alloc: Global,
+    attribute: Attribute<'_, 's>,
+    kind: &VariantKind<'s>,
+    subpatterns: &Subpatterns<'s>,
+    parser: &mut Parser<'s>,
+) -> Result<Option<Leaf<'s>>, Memory>
+    ensures given { IfOk result (λ leaf. RegexGives (names_of subpatterns.now)
+        (kind_value kind.now) (attribute_value attribute.entry)
+        parser.old.errors parser.new.errors (option_map leaf_view leaf)) }
+    ensures kept { OnOk result (parser_view parser.new ≡ parser_view parser.old) }
+{
+    let Some(definition) = parser.parse_definition_attr(attribute)? else {
+        list_regex_form(attribute.span, &mut parser.errors)?;
+        return Ok(None);
+    };
+    let kind = kind.clone()?;
+    regex_leaf(alloc, definition, kind, subpatterns, &mut parser.errors)
+}
+
+/// The leaf of an attribute of a variant, if it makes one.
+fn attribute_leaf<'s>(
+    alloc: Global,
+    attribute: Attribute<'_, 's>,
+    kind: &VariantKind<'s>,
+    subpatterns: &Subpatterns<'s>,
+    parser: &mut Parser<'s>,
+) -> Result<Option<Leaf<'s>>, Memory>
+    ensures given { IfOk result (λ leaf. AttributeGives (names_of subpatterns.now)
+        (kind_value kind.now) (attribute_value attribute.entry)
+        parser.old.errors parser.new.errors (option_map leaf_view leaf)) }
+    ensures kept { OnOk result (parser_view parser.new ≡ parser_view parser.old) }
+{
+    let Some(meta) = meta_of(attribute) else {
+        return Ok(None);
+    };
+    if meta.name.text == "error" {
+        list_error_variant(attribute.span, &mut parser.errors)?;
+        return Ok(None);
+    }
+    if meta.name.text == "token" {
+        return token_of(alloc, attribute, kind, parser);
+    }
+    if meta.name.text == "regex" {
+        return regex_of(alloc, attribute, kind, subpatterns, parser);
+    }
+    Ok(None)
+}
+
+/// Adds a leaf, if there is one.
+pub(crate) fn push_leaf<'s>(
+    leaves: &mut Vec<Leaf<'s>>,
+    leaf: Option<Leaf<'s>>,
+) -> Result<(), AllocError>
+    ensures { OnOk result (map leaf_view leaves.new.items
+        ≡ map leaf_view leaves.old.items ++ option_to_list (option_map leaf_view leaf.entry)) }
+{
+    match leaf {
+        Some(leaf) => Ok(leaves.push(leaf)?),
+        None => Ok(()),
+    }
+}
+
+/// Adds the leaves of all attributes of a variant.
+fn add_attributes<'s>(
+    alloc: Global,
+    attributes: Tokens<'_, 's>,
+    kind: &VariantKind<'s>,
+    subpatterns: &Subpatterns<'s>,
+    parser: &mut Parser<'s>,
+    leaves: &mut Vec<Leaf<'s>>,
+) -> Result<(), Memory>
+    ensures given { OnOk result (AttributesAdd (names_of subpatterns.now)
+        (kind_value kind.now) (tokens_of attributes.entry) (map leaf_view leaves.old.items)
+        (map leaf_view leaves.new.items) parser.old.errors parser.new.errors) }
+    ensures kept { OnOk result (parser_view parser.new ≡ parser_view parser.old) }
+{
+    let mut rest = attributes;
+    while let Some((attribute, behind)) = split_attribute(rest) {
+        let leaf = attribute_leaf(alloc, attribute, kind, subpatterns, parser)?;
+        push_leaf(leaves, leaf)?;
+        rest = behind;
+    }
+    Ok(())
+}
+
+/// Adds the leaves of a variant.
+fn add_variant<'s>(
+    alloc: Global,
+    variant: &Variant<'_, 's>,
+    held: &[&'s str],
+    subpatterns: &Subpatterns<'s>,
+    parser: &mut Parser<'s>,
+    leaves: &mut Vec<Leaf<'s>>,
+) -> Result<(), Memory>
+    ensures given { OnOk result (VariantAdds (params_with parser.old.types (texts held.now))
+        (names_of subpatterns.now) (variant_value variant.now) (map leaf_view leaves.old.items)
+        (map leaf_view leaves.new.items) parser.old.errors parser.new.errors) }
+    ensures kept { OnOk result (parser_view parser.new ≡ parser_view parser.old) }
+{
+    let types = Types {
+        params: &parser.types,
+        held,
+    };
+    let kind = kind_of(
+        alloc,
+        types,
+        variant.name,
+        &variant.fields,
+        &mut parser.errors,
+    )?;
+    add_attributes(
+        alloc,
+        variant.attributes,
+        &kind,
+        subpatterns,
+        parser,
+        leaves,
+    )
+}
+
+/// Adds the leaves of all variants, in source order.
+pub(crate) fn add_variants<'s>(
+    alloc: Global,
+    variants: &[Variant<'_, 's>],
+    held: &[&'s str],
+    subpatterns: &Subpatterns<'s>,
+    parser: &mut Parser<'s>,
+    leaves: &mut Vec<Leaf<'s>>,
+) -> Result<(), Memory>
+    ensures given { OnOk result (VariantsAdd (params_with parser.old.types (texts held.now))
+        (names_of subpatterns.now) (map variant_value variants.now)
+        (map leaf_view leaves.old.items) (map leaf_view leaves.new.items)
+        parser.old.errors parser.new.errors) }
+    ensures kept { OnOk result (parser_view parser.new ≡ parser_view parser.old) }
+{
+    for variant in variants {
+        add_variant(alloc, variant, held, subpatterns, parser, leaves)?;
+    }
+    Ok(())
+}

@@ -1,0 +1,84 @@
+//! The faults of variants and of the attributes on them: each function lists one.
+ghost use Rattle.std.specs.Prelude.{◌≡◌, ◌++◌, IfOk, OnOk, string_bytes};
+ghost use Rattle.logos_attribute.specs.Told.{Lists};
+ghost use Rattle.logos_leaf.specs.VariantFaults.{fields_text, variant_fields, count_faults};
+ghost use Rattle.logos_leaf.specs.VariantFaults.{named_fields, error_variant};
+ghost use Rattle.logos_leaf.specs.VariantFaults.{token_form, regex_form};
+
+use logos_token::error::{Errors, FaultCode, Memory};
+use logos_token::token::Span;
+use std::alloc::{AllocError, Global};
+
+/// The text for a variant with so many fields.
+fn fields_text(alloc: Global, count: usize) -> Result<String, AllocError>
+    ensures { IfOk result (λ text. string_bytes text ≡ fields_text count) }
+{
+    let text = format!(in alloc;
+        "Logos currently only supports variants with one field, found {count}"
+    )?;
+    Ok(text)
+}
+
+/// Lists a variant with so many fields in the parenthesis at this span.
+pub(super) fn list_variant_fields(
+    alloc: Global,
+    count: usize,
+    span: Span,
+    errors: &mut Errors,
+) -> Result<(), Memory>
+    ensures { OnOk result (Lists (variant_fields count span) errors.old errors.new) }
+{
+    let text = fields_text(alloc, count)?;
+    errors.err(FaultCode::VariantFields, text.as_str(), span)
+}
+
+/// Lists a variant with so many fields in the parenthesis at this span, unless it is one field.
+pub(super) fn list_count(
+    alloc: Global,
+    count: usize,
+    span: Span,
+    errors: &mut Errors,
+) -> Result<(), Memory>
+    ensures { OnOk result (errors.new ≡ errors.old ++ count_faults count span) }
+{
+    if count != 1 {
+        list_variant_fields(alloc, count, span, errors)?;
+    }
+    Ok(())
+}
+
+/// Lists a variant with named fields.
+pub(super) fn list_named_fields(span: Span, errors: &mut Errors) -> Result<(), Memory>
+    ensures { OnOk result (Lists (named_fields span) errors.old errors.new) }
+{
+    errors.err(
+        FaultCode::NamedFields,
+        "Logos doesn't support named fields yet.",
+        span,
+    )
+}
+
+/// Lists an `error` attribute.
+pub(super) fn list_error_variant(span: Span, errors: &mut Errors) -> Result<(), Memory>
+    ensures { OnOk result (Lists (error_variant span) errors.old errors.new) }
+{
+    errors.err(
+        FaultCode::ErrorVariant,
+        "Since 0.13 Logos no longer requires the #[error] variant.\n\nFor help with migration see release notes: https://github.com/maciejhirsz/logos/releases",
+        span,
+    )
+}
+
+/// Lists a `token` attribute without a definition.
+pub(super) fn list_token_form(span: Span, errors: &mut Errors) -> Result<(), Memory>
+    ensures { OnOk result (Lists (token_form span) errors.old errors.new) }
+{
+    errors.err(FaultCode::TokenForm, "Expected #[token(...)]", span)
+}
+
+/// Lists a `regex` attribute without a definition.
+pub(super) fn list_regex_form(span: Span, errors: &mut Errors) -> Result<(), Memory>
+    ensures { OnOk result (Lists (regex_form span) errors.old errors.new) }
+{
+    errors.err(FaultCode::RegexForm, "Expected #[regex(...)]", span)
+}

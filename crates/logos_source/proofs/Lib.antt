@@ -1,0 +1,2 @@
+pub mod ModeLemmas
+pub mod RefusalLemmas

@@ -1,0 +1,5 @@
+pub mod Endings
+pub mod EnumTypes
+pub mod Refusals
+pub mod Saying
+pub mod Utf8Faults

@@ -1,0 +1,2 @@
+mod SubpatternLemmas
+mod SubstitutionLemmas

@@ -1,0 +1,5 @@
+pub mod PatternFaults
+pub mod SubpatternViews
+pub mod Subpatterns
+pub mod Substitution
+pub mod inside

@@ -1,0 +1,13 @@
+-- Why patterns are not read.
+use Rattle.std.specs.Prelude.{◌≡◌, List, ◌++◌}
+use Rattle.logos_lexeme.specs.declared.lexeme.Span.{Span}
+use Rattle.logos_token.specs.Faults.{Fault}
+use Rattle.logos_pattern_tokens.specs.declared.error.PatternError.{PatternError}
+use Rattle.logos_pattern_tokens.specs.declared.error.PatternError.TheVariants as errors
+use Rattle.logos_subpattern.specs.PatternFaults.{broken, too_deep, pattern_faults}
+
+-- what an error of a pattern adds to the faults before it
+abbrev pub ListsError : PatternError → Span → List Fault → List Fault → Type 0
+ListsError (errors.Syntax kind at) span old new = new ≡ old ++ pattern_faults span (broken kind at)
+ListsError errors.LimitPatternNesting span old new = new ≡ old ++ pattern_faults span too_deep
+ListsError errors.Memory span old new = ⊥

@@ -1,0 +1,125 @@
+//! Texts that are read as patterns, and the faults that they list.
+ghost use Rattle.std.specs.Prelude.{◌≡◌, ◌++◌, chars, IfOk, IfSome, OnOk, option_map};
+ghost use Rattle.std.specs.Prelude.{string_bytes};
+ghost use Rattle.logos_pattern.specs.Leaf.{pattern_tree, source_of, is_token};
+ghost use Rattle.logos_pattern.specs.Literals.{token_of};
+ghost use Rattle.logos_attribute.specs.Told.{Lists, fault, only};
+ghost use Rattle.logos_subpattern.specs.PatternFaults.{kind_name, regex_text, IsRead};
+ghost use Rattle.logos_subpattern.specs.inside.Errors.{ListsError};
+
+use logos_pattern::pattern::{Kind, Literal, Pattern, PatternError};
+use logos_token::error::{Errors, FaultCode, Memory};
+use logos_token::token::Span;
+use std::alloc::{AllocError, Global};
+
+/// How a text is read as a pattern.
+#[derive(Clone, Copy)]
+pub struct ReadingMode {
+    /// The pattern is a `token`'s, and no `regex`.
+    pub is_literal: bool,
+    /// The text speaks of characters, and not of bytes.
+    pub unicode: bool,
+    /// Letters match in either case.
+    pub ignore_case: bool,
+}
+
+/// The name of a pattern's fault.
+fn kind_name(kind: Kind) -> &'static str
+    ensures { result.now ≡ kind_name kind }
+{
+    match kind {
+        Kind::Unclosed => "Unclosed",
+        Kind::Unopened => "Unopened",
+        Kind::NothingToRepeat => "NothingToRepeat",
+        Kind::CountSyntax => "CountSyntax",
+        Kind::CountOrder => "CountOrder",
+        Kind::CountTooLarge => "CountTooLarge",
+        Kind::FlagUnsupported => "FlagUnsupported",
+        Kind::FlagSyntax => "FlagSyntax",
+        Kind::GroupSyntax => "GroupSyntax",
+        Kind::EscapeUnknown => "EscapeUnknown",
+        Kind::HexSyntax => "HexSyntax",
+        Kind::HexNotScalar => "HexNotScalar",
+        Kind::ClassRange => "ClassRange",
+        Kind::UnknownProperty => "UnknownProperty",
+        Kind::PropertyForm => "PropertyForm",
+        Kind::NotInBytes => "NotInBytes",
+        Kind::UnicodeWordBoundary => "UnicodeWordBoundary",
+        Kind::WordBoundaryForm => "WordBoundaryForm",
+    }
+}
+
+/// The text of a pattern's fault at this byte.
+fn regex_text(alloc: Global, kind: Kind, at: usize) -> Result<String, AllocError>
+    ensures { IfOk result (λ text. string_bytes text ≡ regex_text at kind) }
+{
+    let name = kind_name(kind);
+    let text = format!(in alloc; "regex fault at byte {at}: {name}")?;
+    Ok(text)
+}
+
+/// Lists that a text is no pattern, for what stands there at this byte.
+fn list_regex(
+    alloc: Global,
+    kind: Kind,
+    at: usize,
+    span: Span,
+    errors: &mut Errors,
+) -> Result<(), Memory>
+    ensures { OnOk result
+        (Lists (fault FaultCode.Regex (regex_text at kind) span) errors.old errors.new) }
+{
+    let text = regex_text(alloc, kind, at)?;
+    errors.err(FaultCode::Regex, text.as_str(), span)
+}
+
+/// Lists why a pattern was not read.
+fn list_error(
+    alloc: Global,
+    error: PatternError,
+    span: Span,
+    errors: &mut Errors,
+) -> Result<(), Memory>
+    ensures { OnOk result (ListsError error span errors.old errors.new) }
+{
+    match error {
+        PatternError::Syntax { kind, at } => list_regex(alloc, kind, at, span, errors),
+        PatternError::LimitPatternNesting => errors.err(
+            FaultCode::LimitPatternNesting,
+            "limit LimitPatternNesting passed",
+            span,
+        ),
+        PatternError::Memory => Err(Memory),
+    }
+}
+
+/// Reads a text as the pattern of a literal. `None` where it is none, which was listed at the
+/// literal. After `Memory` nothing is told of the faults.
+pub fn read_pattern<'s>(
+    alloc: Global,
+    regex: &str,
+    literal: &Literal<'s>,
+    mode: ReadingMode,
+    errors: &mut Errors,
+) -> Result<Option<Pattern<'s>>, Memory>
+    ensures read { IfOk result (λ pattern.
+        IsRead mode.unicode mode.ignore_case (chars regex.now) (token_of literal.now).span
+        (option_map pattern_tree pattern) errors.old errors.new) }
+    ensures source { IfOk result (λ pattern. IfSome pattern (λ p.
+        source_of p ≡ (token_of literal.now).text.now)) }
+    ensures form { IfOk result (λ pattern. IfSome pattern (λ p. is_token p ≡ mode.is_literal)) }
+{
+    let token = literal.token();
+    let ReadingMode {
+        is_literal,
+        unicode,
+        ignore_case,
+    } = mode;
+    match Pattern::compile(alloc, is_literal, regex, token.text, unicode, ignore_case) {
+        Ok(pattern) => Ok(Some(pattern)),
+        Err(error) => {
+            list_error(alloc, error, token.span, errors)?;
+            Ok(None)
+        }
+    }
+}

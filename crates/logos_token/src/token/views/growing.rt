@@ -1,0 +1,66 @@
+//! Buffers that are made tree by tree.
+ghost use Rattle.std.specs.Prelude.{◌≡◌, ◌++◌, List, map, IfOk, OnOk};
+ghost use Rattle.logos_token.specs.Flat.{value_of, flat_token};
+ghost use Rattle.logos_token.specs.Tokens.{group, none, also, append};
+ghost use Rattle.logos_token.specs.Views.{stream_tokens, tree_of, inside_of};
+
+use crate::error::Memory;
+use crate::token::entry::Entry;
+use crate::token::views::{Group, TokenStream, TokenTree};
+use crate::token::{Delimiter, Span};
+use std::alloc::Global;
+
+/// Adds a tree: its entry, and behind it those inside it.
+fn push_tree<'s>(entries: &mut Vec<Entry<'s>>, tree: TokenTree<'_, 's>) -> Result<(), Memory>
+    ensures { OnOk result (map value_of entries.new.items ≡
+        map value_of entries.old.items ++ flat_token (tree_of tree.entry)) }
+{
+    match tree {
+        TokenTree::Ident(ident) => entries.push(Entry::Ident(ident))?,
+        TokenTree::Punct(punct) => entries.push(Entry::Punct(punct))?,
+        TokenTree::Literal(literal) => entries.push(Entry::Literal(literal))?,
+        TokenTree::Doc(doc) => entries.push(Entry::Doc(doc))?,
+        TokenTree::Group(group) => {
+            entries.push(Entry::Group {
+                delimiter: group.delimiter,
+                span: group.span,
+                size: group.inside.entries.len(),
+            })?;
+            entries.extend_from_slice(group.inside.entries)?;
+        }
+    }
+    Ok(())
+}
+
+impl<'s> TokenStream<'s> {
+    /// A buffer without trees.
+    pub fn new(alloc: Global) -> TokenStream<'s>
+        ensures { stream_tokens result ≡ none }
+    {
+        TokenStream {
+            entries: Vec::new(alloc),
+        }
+    }
+
+    /// The buffer with one more tree behind its own. It fails only where there is no memory for it; then nothing is kept.
+    pub fn with_tree(self, tree: TokenTree<'_, 's>) -> Result<TokenStream<'s>, Memory>
+        ensures { IfOk result (λ stream. stream_tokens stream ≡
+            append (stream_tokens self.entry) (also (tree_of tree.entry) none)) }
+    {
+        let mut entries = self.entries;
+        push_tree(&mut entries, tree)?;
+        Ok(TokenStream { entries })
+    }
+
+    /// A group that holds all trees.
+    pub fn group(&self, delimiter: Delimiter, span: Span) -> Group<'_, 's>
+        ensures { group result.delimiter result.span (inside_of result) ≡
+            group delimiter span (stream_tokens self.now) }
+    {
+        Group {
+            delimiter,
+            span,
+            inside: self.run(),
+        }
+    }
+}

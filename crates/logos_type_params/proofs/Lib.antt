@@ -1,0 +1,6 @@
+pub mod SubstitutionLemmas
+pub mod SubstitutionLaws
+pub mod ChainLemmas
+mod ValueLemmas
+mod SelfFaultLemmas
+mod HeldLemmas

@@ -1,0 +1,87 @@
+-- What becomes of a type: declared parameters are replaced, and lifetimes are set. The levels say how many types may stand inside one another.
+use Rattle.std.specs.Prelude.{◌≡◌, ℕ, ◌-◌, ◌<◌, List, [], ◌∷◌, Bool, true, false, if◌then◌else◌, Option, Some, None, codes}
+use Rattle.std.specs.Str.{bytes_eq}
+use Rattle.logos_type_params.specs.declared.substitution.TypeParam.{TypeParam}
+use Rattle.logos_type.specs.declared.type_expr.Part.{Part}
+use Rattle.logos_type.specs.Parts.{Sign, reference, lifetime, Tree, sign, name, whole, still, Trees, none, also, tree_of}
+use Rattle.logos_type.specs.Depth.{some_exceed}
+
+-- `s`
+abbrev pub source_lifetime : List ℕ
+source_lifetime = codes "s"
+
+-- lifetimes of references, and of the angle arguments of paths that are types, are set
+abbrev pub set_sign : Sign → Sign
+set_sign (reference l) = reference (Some source_lifetime)
+set_sign (lifetime text) = lifetime source_lifetime
+set_sign s = s
+
+-- a name, and a type that is given to it
+pub record ParamValue : Type 0 where
+  pub name : List ℕ
+  pub type : Tree
+
+abbrev pub param_value : TypeParam → ParamValue
+param_value param = record { name = param.name.text.now; type = tree_of param.part }
+
+-- the types that are given, and the names of those parameters that hold themselves
+pub record Params : Type 0 where
+  pub types : List ParamValue
+  pub held : List (List ℕ)
+
+-- what is put in for a name
+pub data Given : Type 0 where
+  nothing : Given
+  a_name : (text : List ℕ) → Given
+  a_type : (parts : Trees) → Given
+
+abbrev pub given_type : Tree → Given
+given_type (sign s) = nothing
+given_type (name text) = a_name text
+given_type (whole parts) = a_type parts
+given_type (still parts) = nothing
+
+-- the first type given to this name is meant
+abbrev pub given_first : List ParamValue → List ℕ → Given
+given_first [] text = nothing
+given_first (p ∷ ps) text = if bytes_eq p.name text then given_type p.type else given_first ps text
+
+-- whether the text is one of these
+abbrev pub is_among : List (List ℕ) → List ℕ → Bool
+is_among [] text = false
+is_among (t ∷ ts) text = if bytes_eq t text then true else is_among ts text
+
+-- what holds itself is left in place
+abbrev pub given : Params → List ℕ → Given
+given params text = if is_among params.held text then nothing else given_first params.types text
+
+mutual
+  -- The first part becomes the second one; what stays as it is counts its levels. What is put in for a name has its own parts replaced; a name that is put in stays.
+  pub data After : Params → ℕ → Tree → Tree → Type 0 where
+    token : {params : Params} {levels : ℕ} {s : Sign} → After params levels (sign s) (sign (set_sign s))
+    stays : {params : Params} {levels : ℕ} {text : List ℕ} → 0 < levels → given params text ≡ nothing → After params levels (name text) (name text)
+    named : {params : Params} {levels : ℕ} {text other : List ℕ} → 0 < levels → given params text ≡ a_name other → After params levels (name text) (name other)
+    put : {params : Params} {levels : ℕ} {text : List ℕ} {parts others : Trees} →
+        0 < levels → given params text ≡ a_type parts → AllAfter params (levels - 1) parts others → After params levels (name text) (whole others)
+    inside : {params : Params} {levels : ℕ} {parts others : Trees} → 0 < levels → AllAfter params (levels - 1) parts others → After params levels (whole parts) (whole others)
+    stays_still : {params : Params} {levels : ℕ} {parts : Trees} → some_exceed levels parts ≡ false → After params levels (still parts) (still parts)
+
+  -- each part becomes the one at its place
+  pub data AllAfter : Params → ℕ → Trees → Trees → Type 0 where
+    none_after : {params : Params} {levels : ℕ} → AllAfter params levels none none
+    also_after : {params : Params} {levels : ℕ} {part other : Tree} {parts others : Trees} →
+        After params levels part other → AllAfter params levels parts others → AllAfter params levels (also part parts) (also other others)
+
+mutual
+  -- what a part becomes is nested deeper
+  pub data Passes : Params → ℕ → Tree → Type 0 where
+    name_here : {params : Params} {levels : ℕ} {text : List ℕ} → levels ≡ 0 → Passes params levels (name text)
+    type_here : {params : Params} {levels : ℕ} {parts : Trees} → levels ≡ 0 → Passes params levels (whole parts)
+    put_inside : {params : Params} {levels : ℕ} {text : List ℕ} {parts : Trees} →
+        0 < levels → given params text ≡ a_type parts → SomePasses params (levels - 1) parts → Passes params levels (name text)
+    type_inside : {params : Params} {levels : ℕ} {parts : Trees} → 0 < levels → SomePasses params (levels - 1) parts → Passes params levels (whole parts)
+    still_here : {params : Params} {levels : ℕ} {parts : Trees} → some_exceed levels parts ≡ true → Passes params levels (still parts)
+
+  pub data SomePasses : Params → ℕ → Trees → Type 0 where
+    first_passes : {params : Params} {levels : ℕ} {part : Tree} {parts : Trees} → Passes params levels part → SomePasses params levels (also part parts)
+    later_passes : {params : Params} {levels : ℕ} {part : Tree} {parts : Trees} → SomePasses params levels parts → SomePasses params levels (also part parts)

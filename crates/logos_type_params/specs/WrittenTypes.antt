@@ -1,0 +1,43 @@
+-- What becomes of a written type, and which names are left in place there.
+use Rattle.std.specs.Prelude.{◌≡◌, ℕ, List, [], ◌∷◌, ◌++◌, map, codes}
+use Rattle.logos_lexeme.specs.declared.lexeme.Span.{Span}
+use Rattle.logos_token.specs.declared.error.fault_code.FaultCode.TheVariants.{LimitTypeNesting}
+use Rattle.logos_token.specs.Faults.{Fault}
+use Rattle.logos_type.specs.Parts.{Tree}
+use Rattle.logos_type_reader.specs.TypeExprs.{type_nesting}
+use Rattle.logos_type_params.specs.declared.type_params.TypeParams.{TypeParams}
+use Rattle.logos_type_params.specs.Substitution.{ParamValue, param_value, Params, After, Passes}
+use Rattle.logos_type_params.specs.SelfReference.{Leads, Has}
+use Rattle.logos_type_params.specs.TypeParams.{fault}
+
+-- the types that are given
+abbrev pub types_of : TypeParams → List ParamValue
+types_of params = map param_value params.types.items
+
+-- the types that are given, and the names that are left in place
+abbrev pub params_with : TypeParams → List (List ℕ) → Params
+params_with params held = record { types = types_of params; held = held }
+
+-- the names that a type is given to
+abbrev pub given_names : List ParamValue → List (List ℕ)
+given_names = map (λ (p : ParamValue). p.name)
+
+-- a name is added if a chain of types leads from it back to it
+pub data IsAsked (params : List ParamValue) (text : List ℕ) (held held' : List (List ℕ)) : Type 0 where
+  is_held : Leads params text text → held' ≡ held ++ text ∷ [] → IsAsked params text held held'
+  is_free : (Leads params text text → ⊥) → held' ≡ held → IsAsked params text held held'
+
+-- Just the names that have a type whose chain leads back to them.
+pub record AreHeld (params : List ParamValue) (held : List (List ℕ)) : Type 0 where
+  pub have_types : (text : List ℕ) → Has held text → Has (given_names params) text
+  pub lead_back : (text : List ℕ) → Has held text → Leads params text text
+  pub all : (text : List ℕ) → Has (given_names params) text → Leads params text text → Has held text
+
+-- more types stand inside one another than may
+abbrev pub limit_passed : Span → Fault
+limit_passed at = fault LimitTypeNesting (codes "limit LimitTypeNesting passed") at
+
+-- A written type has its declared parameters replaced and its lifetimes set; where the limit is passed by that, this is listed, and the type stays as it was written.
+pub data GetsType (params : Params) (written : Tree) (at : Span) (old new : List Fault) (got : Tree) : Type 0 where
+  replaced : After params type_nesting written got → new ≡ old → GetsType params written at old new got
+  as_written : Passes params type_nesting written → got ≡ written → new ≡ old ++ limit_passed at ∷ [] → GetsType params written at old new got

@@ -1,0 +1,16 @@
+-- What is put in for a name, as the code has it.
+use Rattle.std.specs.Prelude.{map}
+use Rattle.logos_type_params.specs.declared.substitution.Given.{Given as GivenView}
+use Rattle.logos_type_params.specs.declared.substitution.Given.TheVariants.{Nothing, Name, Parts}
+use Rattle.logos_type.specs.Parts.{trees, tree_of}
+use Rattle.logos_type_params.specs.declared.substitution.Replacing.{Replacing}
+use Rattle.logos_type_params.specs.Substitution.{Given, nothing, a_name, a_type, Params, param_value}
+
+abbrev pub given_of : GivenView → Given
+given_of Nothing = nothing
+given_of (Name text) = a_name text.now
+given_of (Parts parts) = a_type (trees (map tree_of parts.now))
+
+-- the types that are given, and those that hold themselves, as the code has them
+abbrev pub params_of : Replacing → Params
+params_of replacing = record { types = map param_value replacing.types.now; held = map (λ b. b.now) replacing.held.now }

@@ -1,0 +1,12 @@
+//! Declared type parameters of an enum: the types given to them, and what becomes of a type that
+//! names them.
+
+#![tactic(auto)]
+
+mod self_reference;
+mod substitution;
+mod type_params;
+
+pub use self_reference::holds_itself;
+pub use substitution::{Replacing, TypeParam, at_most_one_after, type_after};
+pub use type_params::{Generics, TypeParams, read_value};

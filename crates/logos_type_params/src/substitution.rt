@@ -1,0 +1,200 @@
+//! Declared type parameters, and what becomes of a type that names them.
+ghost use Rattle.std.specs.Prelude.{◌≡◌, ◌<◌, ℕ, Bool, true, false, List, map, IfOk, IfErr};
+ghost use Rattle.std.specs.Prelude.{MatchOption};
+ghost use Rattle.logos_type.specs.Parts.{Tree, name, whole, trees, tree_of, sign_of};
+ghost use Rattle.logos_type_params.specs.Substitution.{Params, given, given_first, given_type};
+ghost use Rattle.logos_type_params.specs.Substitution.{is_among, set_sign, param_value, After};
+ghost use Rattle.logos_type_params.specs.Substitution.{AllAfter, Passes, SomePasses};
+ghost use Rattle.logos_type_params.specs.SubstitutionViews.{IfDeep};
+ghost use Rattle.logos_type.specs.Depth.{exceeds};
+ghost use Rattle.logos_type_params.specs.inside.Given.{given_of, params_of};
+
+use logos_token::token::{Ident, Span};
+use logos_type::{Leaf, Part, exceeds};
+use logos_type_reader::TypeFault;
+use std::alloc::Global;
+
+/// A type that is given to a declared parameter.
+#[derive(Drop)]
+pub struct TypeParam<'s> {
+    pub name: Ident<'s>,
+    pub part: Part<'s>,
+    /// Where the type is written.
+    pub span: Span,
+}
+
+/// The types that are given, of which the first of a name is meant, and the names of those
+/// parameters that hold themselves.
+#[derive(Clone, Copy)]
+pub struct Replacing<'p, 's> {
+    pub types: &'p [TypeParam<'s>],
+    pub held: &'p [&'s str],
+}
+
+/// What is put in for a name.
+#[derive(Clone, Copy)]
+enum Given<'p, 's> {
+    Nothing,
+    Name(&'s str),
+    Parts(&'p [Part<'s>]),
+}
+
+/// With the lifetime `'s` in place of one that is set.
+pub(crate) fn set_lifetime(leaf: Leaf<'_>) -> Leaf<'_>
+    ensures { sign_of result ≡ set_sign (sign_of leaf.entry) }
+{
+    match leaf {
+        Leaf::Reference(_) => Leaf::Reference(Some("s")),
+        Leaf::Lifetime(_) => Leaf::Lifetime("s"),
+        other => other,
+    }
+}
+
+/// What is put in for a parameter of this type.
+fn given_by<'p, 's>(part: &'p Part<'s>) -> Given<'p, 's>
+    ensures { given_of result ≡ given_type (tree_of part.now) }
+{
+    match part {
+        Part::Name(text) => Given::Name(text),
+        Part::Whole(parts) => Given::Parts(parts),
+        _ => Given::Nothing,
+    }
+}
+
+/// What the first type is that is given to this name.
+fn given_first<'p, 's>(types: &'p [TypeParam<'s>], text: &str) -> Given<'p, 's>
+    ensures { given_of result ≡ given_first (map param_value types.now) text.now }
+{
+    for param in types {
+        if param.name.text == text {
+            return given_by(&param.part);
+        }
+    }
+    Given::Nothing
+}
+
+/// Whether the text is one of these.
+pub(crate) fn is_among(texts: &[&str], text: &str) -> bool
+    ensures { result ≡ is_among (map (λ b. b.now) texts.now) text.now }
+{
+    for other in texts {
+        if *other == text {
+            return true;
+        }
+    }
+    false
+}
+
+/// What is put in for a name.
+fn find<'p, 's>(params: Replacing<'p, 's>, text: &str) -> Given<'p, 's>
+    ensures { given_of result ≡ given (params_of params.entry) text.now }
+{
+    if is_among(params.held, text) {
+        return Given::Nothing;
+    }
+    given_first(params.types, text)
+}
+
+/// The type with its declared parameters replaced and its lifetimes set to `'s`, nested at most so
+/// many levels deep.
+#[cycle(after)]
+pub fn type_after<'s>(
+    alloc: Global,
+    levels: u32,
+    params: Replacing<'_, 's>,
+    part: &Part<'s>,
+) -> Result<Part<'s>, TypeFault>
+    ensures ok { IfOk result (λ after.
+        After (params_of params.entry) levels (tree_of part.now) (tree_of after)) }
+    ensures err { IfErr result
+        (IfDeep (Passes (params_of params.entry) levels (tree_of part.now))) }
+{
+    match part {
+        Part::Leaf(leaf) => Ok(Part::Leaf(set_lifetime(*leaf))),
+        Part::Name(text) => name_after(alloc, levels, params, text),
+        Part::Whole(parts) => whole_after(alloc, levels, params, parts),
+        Part::Still(_) => still_after(levels, part),
+    }
+}
+
+/// A copy of parts that stay as they are.
+fn still_after<'s>(levels: u32, part: &Part<'s>) -> Result<Part<'s>, TypeFault>
+    ensures ok { IfOk result (λ after. (tree_of after ≡ tree_of part.now)
+        × (exceeds levels (tree_of part.now) ≡ false)) }
+    ensures err { IfErr result (IfDeep (exceeds levels (tree_of part.now) ≡ true)) }
+{
+    if exceeds(part, levels) {
+        return Err(TypeFault::LimitNesting);
+    }
+    Ok(part.clone()?)
+}
+
+#[cycle(after)]
+fn name_after<'s>(
+    alloc: Global,
+    levels: u32,
+    params: Replacing<'_, 's>,
+    text: &'s str,
+) -> Result<Part<'s>, TypeFault>
+    ensures ok { IfOk result (λ after.
+        After (params_of params.entry) levels (name text.now) (tree_of after)) }
+    ensures err { IfErr result (IfDeep (Passes (params_of params.entry) levels (name text.now))) }
+{
+    if levels == 0 {
+        return Err(TypeFault::LimitNesting);
+    }
+    match find(params, text) {
+        Given::Nothing => Ok(Part::Name(text)),
+        Given::Name(other) => Ok(Part::Name(other)),
+        Given::Parts(parts) => {
+            let after = parts_after(alloc, levels - 1, params, parts)?;
+            Ok(Part::Whole(after))
+        }
+    }
+}
+
+#[cycle(after)]
+fn whole_after<'s>(
+    alloc: Global,
+    levels: u32,
+    params: Replacing<'_, 's>,
+    parts: &[Part<'s>],
+) -> Result<Part<'s>, TypeFault>
+    ensures ok { IfOk result (λ after. After (params_of params.entry) levels
+        (whole (trees (map tree_of parts.now))) (tree_of after)) }
+    ensures err { IfErr result (IfDeep
+        (Passes (params_of params.entry) levels (whole (trees (map tree_of parts.now))))) }
+{
+    if levels == 0 {
+        return Err(TypeFault::LimitNesting);
+    }
+    let after = parts_after(alloc, levels - 1, params, parts)?;
+    Ok(Part::Whole(after))
+}
+
+#[cycle(after)]
+fn parts_after<'s>(
+    alloc: Global,
+    levels: u32,
+    params: Replacing<'_, 's>,
+    parts: &[Part<'s>],
+) -> Result<Vec<Part<'s>>, TypeFault>
+    ensures ok { IfOk result (λ after. AllAfter (params_of params.entry) levels
+        (trees (map tree_of parts.now)) (trees (map tree_of after.items))) }
+    ensures err { IfErr result (IfDeep
+        (SomePasses (params_of params.entry) levels (trees (map tree_of parts.now)))) }
+{
+    let mut after = Vec::new(alloc);
+    for part in parts {
+        after.push(type_after(alloc, levels, params, part)?)?;
+    }
+    Ok(after)
+}
+
+/// A type becomes one type at most, and where the limit is passed, it becomes a deeper one.
+pub fn at_most_one_after()
+    ensures one { (params : Params) (levels others : ℕ) (part after other : Tree) →
+        After params levels part after → After params others part other → after ≡ other }
+    ensures deeper { (params : Params) (levels others : ℕ) (part after : Tree) →
+        Passes params levels part → After params others part after → levels < others }
+{}

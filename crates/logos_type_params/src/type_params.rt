@@ -1,0 +1,378 @@
+//! The declared parameters of an enum.
+ghost use Rattle.std.specs.Prelude.{◌≡◌, ◌++◌, ◌∷◌, [], Some, None, map, IfOk, OnOk, MatchOption};
+ghost use Rattle.std.specs.Prelude.{if◌then◌else◌, string_bytes, option_map, codes};
+ghost use Rattle.logos_token.specs.Views.{tokens_of};
+ghost use Rattle.logos_token.specs.Tokens.{run_span};
+ghost use Rattle.logos_type.specs.Parts.{tree_of};
+ghost use Rattle.logos_type_reader.specs.ReadingViews.{IfFault};
+ghost use Rattle.logos_type.specs.TypeTrees.{type_tree};
+ghost use Rattle.logos_type_reader.specs.TypeExprs.{IsTypeExpr, NoTypeExpr};
+ghost use Rattle.logos_token.specs.declared.error.fault_code.FaultCode.TheVariants.{TypeSyntax};
+ghost use Rattle.logos_token.specs.declared.error.fault_code.FaultCode.TheVariants.{LimitTypeNesting};
+ghost use Rattle.logos_type_params.specs.Substitution.{param_value};
+ghost use Rattle.logos_type_params.specs.SelfFaults.{IsChecked};
+ghost use Rattle.logos_type_params.specs.TypeParams.{named_of, given_of, with_lifetimes, fault};
+ghost use Rattle.logos_type_params.specs.TypeParams.{about, many_lifetimes, is_declared, former};
+ghost use Rattle.logos_type_params.specs.TypeParams.{given_more, given_faults, ReadsValue};
+
+mod concrete;
+mod written;
+
+use crate::self_reference::holds_itself;
+use crate::substitution::{TypeParam, set_lifetime};
+pub use concrete::Generics;
+use logos_token::error::{Errors, FaultCode, Memory};
+use logos_token::token::{Ident, Span, Tokens};
+use logos_type::{Part, TypeExpr};
+use logos_type_reader::{TypeFault, read_type};
+use std::alloc::{AllocError, Global};
+
+/// The declared parameters of an enum, and the types that are given to them.
+#[derive(Drop)]
+pub struct TypeParams<'s> {
+    names: Vec<Ident<'s>>,
+    types: Vec<TypeParam<'s>>,
+    lifetime: bool,
+    alloc: Global,
+}
+
+/// A text between two others.
+fn joined(alloc: Global, before: &str, text: &str, behind: &str) -> Result<String, Memory>
+    ensures { IfOk result (λ message.
+        string_bytes message ≡ (before.now ++ text.now) ++ behind.now) }
+{
+    let mut message = String::from_str(alloc, before)?;
+    message.push_str(text)?;
+    message.push_str(behind)?;
+    Ok(message)
+}
+
+/// Lists a fault of a name, which stands between two texts in the message.
+fn list_about(
+    alloc: Global,
+    errors: &mut Errors,
+    code: FaultCode,
+    before: &str,
+    name: Ident<'_>,
+    behind: &str,
+) -> Result<(), Memory>
+    ensures { OnOk result (errors.new
+        ≡ errors.old ++ (about code before.now (named_of name.entry) behind.now) ∷ []) }
+{
+    let message = joined(alloc, before, name.text, behind)?;
+    errors.err(code, message.as_str(), name.span)?;
+    Ok(())
+}
+
+/// Lists that the value at this span is no type.
+fn list_syntax(errors: &mut Errors, at: Span) -> Result<(), Memory>
+    ensures { OnOk result
+        (errors.new ≡ errors.old ++ (fault TypeSyntax (codes "not a type") at) ∷ []) }
+{
+    errors.err(FaultCode::TypeSyntax, "not a type", at)
+}
+
+/// Lists that more types stand inside one another in the value at this span than may.
+fn list_depth(errors: &mut Errors, at: Span) -> Result<(), Memory>
+    ensures { OnOk result (errors.new ≡ errors.old ++
+        (fault LimitTypeNesting (codes "limit LimitTypeNesting passed") at) ∷ []) }
+{
+    errors.err(
+        FaultCode::LimitTypeNesting,
+        "limit LimitTypeNesting passed",
+        at,
+    )
+}
+
+/// Lists at this span why a run is no type.
+fn list_no_type(
+    fault: TypeFault,
+    run: Tokens<'_, '_>,
+    at: Span,
+    errors: &mut Errors,
+) -> Result<(), Memory>
+    requires { IfFault (NoTypeExpr (tokens_of run)) fault }
+    ensures { OnOk result (ReadsValue (tokens_of run.entry) at errors.old errors.new None) }
+{
+    match fault {
+        TypeFault::Unsupported { .. } => list_syntax(errors, at),
+        TypeFault::Misfit { .. } => list_syntax(errors, at),
+        TypeFault::LimitNesting => list_depth(errors, at),
+        TypeFault::Memory => Err(Memory),
+    }
+}
+
+/// The type with which a run begins, if nothing is left behind it; else that is listed at this
+/// span.
+fn whole_type<'s>(
+    type_expr: TypeExpr<'s>,
+    rest: Tokens<'_, 's>,
+    run: Tokens<'_, 's>,
+    at: Span,
+    errors: &mut Errors,
+) -> Result<Option<TypeExpr<'s>>, Memory>
+    requires { IsTypeExpr (tokens_of run) (type_tree type_expr) (tokens_of rest) }
+    ensures { IfOk result (λ read. ReadsValue
+        (tokens_of run.entry) at errors.old errors.new (option_map type_tree read)) }
+{
+    if rest.is_empty() {
+        return Ok(Some(type_expr));
+    }
+    list_syntax(errors, at)?;
+    Ok(None)
+}
+
+/// The type that the whole run is; where it is none, that is listed at this span, as `TypeSyntax`,
+/// or `LimitTypeNesting` where it nests deeper than types may.
+pub fn read_value<'s>(
+    alloc: Global,
+    run: Tokens<'_, 's>,
+    at: Span,
+    errors: &mut Errors,
+) -> Result<Option<TypeExpr<'s>>, Memory>
+    ensures { IfOk result (λ read. ReadsValue
+        (tokens_of run.entry) at errors.old errors.new (option_map type_tree read)) }
+{
+    match read_type(alloc, run) {
+        Ok((type_expr, rest)) => whole_type(type_expr, rest, run, at, errors),
+        Err(fault) => {
+            list_no_type(fault, run, at, errors)?;
+            Ok(None)
+        }
+    }
+}
+
+/// Lists a lifetime where one is declared already.
+fn list_second_lifetime(is_declared: bool, span: Span, errors: &mut Errors) -> Result<(), Memory>
+    ensures { OnOk result (errors.new ≡ errors.old ++
+        (if is_declared then many_lifetimes span ∷ [] else [])) }
+{
+    if !is_declared {
+        return Ok(());
+    }
+    errors.err(
+        FaultCode::ManyLifetimes,
+        "Logos types can only have one lifetime",
+        span,
+    )
+}
+
+/// With the lifetimes of references, and of the angle arguments of paths that are types, set to
+/// `'s`.
+fn set_lifetimes<'s>(alloc: Global, part: &Part<'s>) -> Result<Part<'s>, AllocError>
+    ensures { IfOk result (λ after. tree_of after ≡ with_lifetimes (tree_of part.now)) }
+{
+    match part {
+        Part::Leaf(leaf) => Ok(Part::Leaf(set_lifetime(*leaf))),
+        Part::Name(text) => Ok(Part::Name(text)),
+        Part::Whole(parts) => {
+            let mut after = Vec::new(alloc);
+            for inner in parts {
+                after.push(set_lifetimes(alloc, inner)?)?;
+            }
+            Ok(Part::Whole(after))
+        }
+        Part::Still(_) => part.clone(),
+    }
+}
+
+/// Whether a name is declared.
+fn is_declared(names: &[Ident<'_>], text: &str) -> bool
+    ensures { result ≡ is_declared (map named_of names.now) text.now }
+{
+    for name in names {
+        if name.text == text {
+            return true;
+        }
+    }
+    false
+}
+
+/// Where the type stands that is meant by a name.
+fn former(types: &[TypeParam<'_>], text: &str) -> Option<Span>
+    ensures { result ≡ former (map given_of types.now) text.now }
+{
+    for param in types {
+        if param.name.text == text {
+            return Some(param.span);
+        }
+    }
+    None
+}
+
+/// Lists that a name has a type already, which is written at this span.
+fn list_twice(
+    alloc: Global,
+    name: Ident<'_>,
+    former: Span,
+    errors: &mut Errors,
+) -> Result<(), Memory>
+    ensures { OnOk result (errors.new
+        ≡ errors.old ++ given_faults (Some former) (named_of name.entry)) }
+{
+    list_about(
+        alloc,
+        errors,
+        FaultCode::TypeTwice,
+        "",
+        name,
+        " can only have one type assigned to it",
+    )?;
+    errors.err(FaultCode::Previous, "Previously assigned here", former)
+}
+
+/// Gives one type more to a name that is declared.
+fn give<'s>(
+    alloc: Global,
+    types: &mut Vec<TypeParam<'s>>,
+    param: TypeParam<'s>,
+    errors: &mut Errors,
+) -> Result<(), Memory>
+    ensures types { OnOk result (map given_of types.new.items ≡ given_more
+        (former (map given_of types.old.items) param.entry.name.text.now)
+        (given_of param.entry) (map given_of types.old.items)) }
+    ensures faults { OnOk result (errors.new ≡ errors.old ++ given_faults
+        (former (map given_of types.old.items) param.entry.name.text.now)
+        (named_of param.entry.name)) }
+{
+    let Some(span) = former(types.as_slice(), param.name.text) else {
+        types.push(param)?;
+        return Ok(());
+    };
+    list_twice(alloc, param.name, span, errors)?;
+    types.insert(0, param)?;
+    Ok(())
+}
+
+/// Lists a declared name that holds itself, unless it stands among those in front.
+fn check_name<'s>(
+    alloc: Global,
+    front: &[Ident<'s>],
+    types: &[TypeParam<'s>],
+    name: Ident<'s>,
+    errors: &mut Errors,
+) -> Result<(), Memory>
+    ensures { OnOk result (IsChecked (map param_value types.now) (map named_of front.now)
+        (named_of name.entry) errors.old errors.new) }
+{
+    if is_declared(front, name.text) {
+        return Ok(());
+    }
+    if !holds_itself(alloc, types, name.text)? {
+        return Ok(());
+    }
+    list_about(
+        alloc,
+        errors,
+        FaultCode::TypeHoldsItself,
+        "Type parameter ",
+        name,
+        " holds itself",
+    )
+}
+
+impl<'s> TypeParams<'s> {
+    ghost use Rattle.std.specs.Prelude.{◌≡◌, ◌++◌, ◌∷◌, [], OnOk, IfOk, true, false, if◌then◌else◌};
+    ghost use Rattle.logos_token.specs.Tokens.{run_span};
+    ghost use Rattle.logos_token.specs.Views.{tokens_of};
+    ghost use Rattle.std.specs.Prelude.{map};
+    ghost use Rattle.logos_type_params.specs.Substitution.{param_value};
+    ghost use Rattle.logos_type_params.specs.SelfFaults.{AreChecked};
+    ghost use Rattle.logos_type_params.specs.TypeParams.{Value, value_of, named_of, many_lifetimes};
+    ghost use Rattle.logos_type_params.specs.TypeParams.{IsSet};
+
+    /// Without a parameter. What is added later takes memory from `alloc`.
+    pub fn new(alloc: Global) -> TypeParams<'s>
+        ensures { value_of result ≡ record { names = []; types = []; lifetime = false } }
+    {
+        TypeParams {
+            names: Vec::new(alloc),
+            types: Vec::new(alloc),
+            lifetime: false,
+            alloc,
+        }
+    }
+
+    /// Notes a lifetime parameter at this span; more than one is listed.
+    pub fn explicit_lifetime(&mut self, span: Span, errors: &mut Errors) -> Result<(), Memory>
+        ensures value { OnOk result (value_of self.new ≡ record {
+          names = (value_of self.old).names;
+          types = (value_of self.old).types;
+          lifetime = true;
+        }) }
+        ensures faults { OnOk result (errors.new ≡ errors.old ++
+            (if (value_of self.old).lifetime then many_lifetimes span ∷ [] else [])) }
+    {
+        list_second_lifetime(self.lifetime, span, errors)?;
+        self.lifetime = true;
+        Ok(())
+    }
+
+    /// Declares a type parameter of this name.
+    pub fn add(&mut self, name: Ident<'s>) -> Result<(), Memory>
+        ensures { OnOk result (value_of self.new ≡ record {
+          names = (value_of self.old).names ++ named_of name.entry ∷ [];
+          types = (value_of self.old).types;
+          lifetime = (value_of self.old).lifetime;
+        }) }
+    {
+        self.names.push(name)?;
+        Ok(())
+    }
+
+    /// Gives the type that the value is to a declared name. Where the value is no type, or the name
+    /// is not declared, that is listed, and nothing is given; where it has a type, that is listed
+    /// with both places, and the new one is meant from now on.
+    pub fn set(
+        &mut self,
+        name: Ident<'s>,
+        value: Tokens<'_, 's>,
+        errors: &mut Errors,
+    ) -> Result<(), Memory>
+        ensures { OnOk result (IsSet (value_of self.old)
+            (named_of name.entry) (tokens_of value.entry) errors.old
+            (value_of self.new) errors.new) }
+    {
+        let span = value.span();
+        let Some(written) = read_value(self.alloc, value, span, errors)? else {
+            return Ok(());
+        };
+        if !is_declared(self.names.as_slice(), name.text) {
+            return list_about(
+                self.alloc,
+                errors,
+                FaultCode::NotTypeParameter,
+                "",
+                name,
+                " is not a declared type parameter",
+            );
+        }
+        let part = set_lifetimes(self.alloc, &written.part)?;
+        give(
+            self.alloc,
+            &mut self.types,
+            TypeParam { name, part, span },
+            errors,
+        )
+    }
+
+    /// Lists each parameter whose types lead back to it, in order of declaration. A name that is
+    /// declared again is not listed again.
+    pub fn check(&self, errors: &mut Errors) -> Result<(), Memory>
+        ensures { OnOk result (AreChecked (map param_value self.now.types.items) []
+            (value_of self.now).names errors.old errors.new) }
+    {
+        let mut front = Vec::new(self.alloc);
+        for name in &self.names {
+            check_name(
+                self.alloc,
+                front.as_slice(),
+                self.types.as_slice(),
+                *name,
+                errors,
+            )?;
+            front.push(*name)?;
+        }
+        Ok(())
+    }
+}

@@ -1,0 +1,168 @@
+//! The types that declared parameters have, and what stands between the angle brackets behind the enum's name.
+ghost use Rattle.std.specs.Prelude.{◌≡◌, ◌++◌, ◌∷◌, [], map, IfOk, OnOk, option_map};
+ghost use Rattle.logos_type.specs.Parts.{tree_of};
+ghost use Rattle.logos_type.specs.TypeTrees.{type_tree};
+ghost use Rattle.logos_type_params.specs.TypeParams.{named_of, given_of};
+ghost use Rattle.logos_type_params.specs.Generics.{type_of, generics_of, no_concrete_type, concrete_type, and_type, and_fault, concrete_types, missing_types, between_brackets};
+
+use super::{TypeParams, is_declared, list_about};
+use crate::substitution::TypeParam;
+use logos_token::error::{Errors, FaultCode, Memory};
+use logos_token::token::Ident;
+use logos_type::{Part, TypeExpr};
+use std::alloc::Global;
+
+/// What stands between the angle brackets behind the enum's name.
+#[derive(Drop)]
+pub struct Generics<'s> {
+    /// Whether `'s` stands there, in front of the types.
+    pub lifetime: bool,
+    /// The types of the declared parameters, in order of declaration.
+    pub types: Vec<TypeExpr<'s>>,
+}
+
+/// The type that is meant by a name.
+fn first_type<'p, 's>(types: &'p [TypeParam<'s>], text: &str) -> Option<&'p Part<'s>>
+    ensures { option_map (λ part. tree_of part.now) result ≡
+        type_of (map given_of types.now) text.now }
+{
+    for param in types {
+        if param.name.text == text {
+            return Some(&param.part);
+        }
+    }
+    None
+}
+
+/// A copy of the type that is meant by a name.
+fn copy_first<'s>(types: &[TypeParam<'s>], text: &str) -> Result<Option<TypeExpr<'s>>, Memory>
+    ensures { IfOk result (λ copy. option_map type_tree copy ≡
+        type_of (map given_of types.now) text.now) }
+{
+    let Some(part) = first_type(types, text) else {
+        return Ok(None);
+    };
+    let part = part.clone()?;
+    Ok(Some(TypeExpr { part }))
+}
+
+/// A copy of the type of a declared name behind those in front.
+fn copy_concrete<'s>(
+    front: &[Ident<'_>],
+    types: &[TypeParam<'s>],
+    text: &str,
+) -> Result<Option<TypeExpr<'s>>, Memory>
+    ensures { IfOk result (λ copy. option_map type_tree copy ≡
+        concrete_type (map given_of types.now) (map named_of front.now) text.now) }
+{
+    if is_declared(front, text) {
+        return Ok(None);
+    }
+    copy_first(types, text)
+}
+
+/// Lists that a declared name has no type.
+fn list_missing(alloc: Global, name: Ident<'_>, errors: &mut Errors) -> Result<(), Memory>
+    ensures { OnOk result (errors.new ≡ errors.old ++ no_concrete_type (named_of name.entry) ∷ []) }
+{
+    list_about(
+        alloc,
+        errors,
+        FaultCode::NoConcreteType,
+        "Generic type parameter without a concrete type\n\nDefine a concrete type Logos can use: #[logos(type ",
+        name,
+        " = Type)]",
+    )
+}
+
+/// Adds the type of a declared name, or lists that it has none.
+fn add_or_list<'s>(
+    alloc: Global,
+    found: Option<TypeExpr<'s>>,
+    name: Ident<'s>,
+    types: &mut Vec<TypeExpr<'s>>,
+    errors: &mut Errors,
+) -> Result<(), Memory>
+    ensures types { OnOk result (map type_tree types.new.items ≡
+        map type_tree types.old.items ++ and_type (option_map type_tree found.entry) []) }
+    ensures faults { OnOk result (errors.new ≡
+        errors.old ++ and_fault (option_map type_tree found.entry) (named_of name.entry) []) }
+{
+    let Some(type_expr) = found else {
+        return list_missing(alloc, name, errors);
+    };
+    types.push(type_expr)?;
+    Ok(())
+}
+
+/// The types of declared names, in order; where one has none, that is listed.
+fn copy_types<'s>(
+    alloc: Global,
+    names: &[Ident<'s>],
+    types: &[TypeParam<'s>],
+    errors: &mut Errors,
+) -> Result<Vec<TypeExpr<'s>>, Memory>
+    ensures types { IfOk result (λ copies. map type_tree copies.items ≡
+        concrete_types (map given_of types.now) [] (map named_of names.now)) }
+    ensures faults { OnOk result (errors.new ≡
+        errors.old ++ missing_types (map given_of types.now) [] (map named_of names.now)) }
+{
+    let mut front = Vec::new(alloc);
+    let mut copies = Vec::new(alloc);
+    for name in names {
+        let found = copy_concrete(front.as_slice(), types, name.text)?;
+        add_or_list(alloc, found, *name, &mut copies, errors)?;
+        front.push(*name)?;
+    }
+    Ok(copies)
+}
+
+/// A lifetime or none and these types, if there is any of both.
+fn bracketed<'s>(lifetime: bool, types: Vec<TypeExpr<'s>>) -> Option<Generics<'s>>
+    ensures { option_map generics_of result ≡
+        between_brackets lifetime (map type_tree types.entry.items) }
+{
+    if !lifetime && types.is_empty() {
+        return None;
+    }
+    Some(Generics { lifetime, types })
+}
+
+impl<'s> TypeParams<'s> {
+    ghost use Rattle.std.specs.Prelude.{◌≡◌, ◌++◌, [], IfOk, OnOk, option_map};
+    ghost use Rattle.logos_type.specs.TypeTrees.{type_tree};
+    ghost use Rattle.logos_type_params.specs.TypeParams.{value_of};
+    ghost use Rattle.logos_type_params.specs.Generics.{type_at, generics, generics_of, missing_types};
+
+    /// A copy of the type that is given to the parameter which this path just names. There is none where the path is more than a name, or where
+    /// no type is given to the name; where several are, the latest is meant, as `set` says. Only want of memory is an error.
+    pub fn find(&self, path: &TypeExpr<'s>) -> Result<Option<TypeExpr<'s>>, Memory>
+        ensures { IfOk result (λ found. option_map type_tree found ≡
+            type_at (value_of self.now).types (type_tree path.now)) }
+    {
+        match &path.part {
+            Part::Name(text) => copy_first(self.types.as_slice(), text),
+            _ => Ok(None),
+        }
+    }
+
+    /// What stands between the angle brackets behind the enum's name: `'s` if a lifetime is declared, and then the types that are given to the
+    /// declared parameters, in order of declaration. There is nothing where there is neither. A declared name without a type is listed where it is
+    /// declared, as `NoConcreteType`, and stands for nothing; a name that is declared again has no type there. Each name is looked for among those
+    /// declared in front of it and among the given types, so the time grows with the product of their numbers. Only want of memory is an error;
+    /// some of the faults are listed then.
+    pub fn generics(&self, errors: &mut Errors) -> Result<Option<Generics<'s>>, Memory>
+        ensures value { IfOk result (λ made. option_map generics_of made ≡
+            generics (value_of self.now)) }
+        ensures faults { OnOk result (errors.new ≡ errors.old ++ missing_types
+            (value_of self.now).types [] (value_of self.now).names) }
+    {
+        let types = copy_types(
+            self.alloc,
+            self.names.as_slice(),
+            self.types.as_slice(),
+            errors,
+        )?;
+        Ok(bracketed(self.lifetime, types))
+    }
+}

@@ -1,0 +1,93 @@
+//! What becomes of a written type, and which names are left in place there.
+ghost use Rattle.std.specs.Prelude.{◌≡◌, ◌++◌, ◌∷◌, [], map, IfOk, OnOk};
+ghost use Rattle.logos_type.specs.TypeTrees.{type_tree};
+ghost use Rattle.logos_type_params.specs.Substitution.{param_value};
+ghost use Rattle.logos_type_params.specs.SelfReference.{texts};
+ghost use Rattle.logos_type_params.specs.WrittenTypes.{limit_passed, IsAsked};
+
+use super::{TypeParams, list_depth};
+use crate::self_reference::holds_itself;
+use crate::substitution::{Replacing, TypeParam, type_after};
+use logos_token::error::{Errors, Memory};
+use logos_token::token::Span;
+use logos_type::TypeExpr;
+use logos_type_reader::{TYPE_NESTING, TypeFault};
+use std::alloc::Global;
+
+/// Adds a name if it holds itself.
+fn add_held<'s>(
+    alloc: Global,
+    types: &[TypeParam<'s>],
+    text: &'s str,
+    held: &mut Vec<&'s str>,
+) -> Result<(), Memory>
+    ensures { OnOk result (IsAsked (map param_value types.now) text.now
+        (texts held.old.items) (texts held.new.items)) }
+{
+    if holds_itself(alloc, types, text)? {
+        held.push(text)?;
+    }
+    Ok(())
+}
+
+/// The type as it is written; that the limit is passed is listed at this span.
+fn leave_written<'s>(
+    written: &TypeExpr<'s>,
+    span: Span,
+    errors: &mut Errors,
+) -> Result<TypeExpr<'s>, Memory>
+    ensures same { IfOk result (λ left. type_tree left ≡ type_tree written.now) }
+    ensures faults { OnOk result (errors.new ≡ errors.old ++ limit_passed span ∷ []) }
+{
+    list_depth(errors, span)?;
+    Ok(written.clone()?)
+}
+
+impl<'s> TypeParams<'s> {
+    ghost use Rattle.std.specs.Prelude.{IfOk};
+    ghost use Rattle.logos_type.specs.TypeTrees.{type_tree};
+    ghost use Rattle.logos_type_params.specs.SelfReference.{texts};
+    ghost use Rattle.logos_type_params.specs.WrittenTypes.{types_of, params_with, AreHeld, GetsType};
+
+    /// The names of the given types whose chain leads back to them: `get_type` is to leave these in place. A name that several types are given to
+    /// stands there as often. One search is made for each given type. Only want of memory is an error.
+    pub fn held_names(&self) -> Result<Vec<&'s str>, Memory>
+        ensures { IfOk result (λ held. AreHeld (types_of self.now) (texts held.items)) }
+    {
+        let mut held = Vec::new(self.alloc);
+        for param in &self.types {
+            add_held(
+                self.alloc,
+                self.types.as_slice(),
+                param.name.text,
+                &mut held,
+            )?;
+        }
+        Ok(held)
+    }
+
+    /// What becomes of a written type: its declared parameters are replaced by the types given to them, but for the held names, and its lifetimes
+    /// are set to `'s`. Where more types than may would stand inside one another then, that is listed at this span, as `LimitTypeNesting`, and the
+    /// type stays as it is written. Only want of memory is an error; the fault may be listed then.
+    pub fn get_type(
+        &self,
+        held: &[&'s str],
+        written: &TypeExpr<'s>,
+        span: Span,
+        errors: &mut Errors,
+    ) -> Result<TypeExpr<'s>, Memory>
+        ensures { IfOk result (λ got. GetsType (params_with self.now (texts held.now))
+            (type_tree written.now) span errors.old errors.new (type_tree got)) }
+    {
+        let params = Replacing {
+            types: self.types.as_slice(),
+            held,
+        };
+        match type_after(self.alloc, TYPE_NESTING, params, &written.part) {
+            Ok(part) => Ok(TypeExpr { part }),
+            Err(TypeFault::LimitNesting) => leave_written(written, span, errors),
+            // Nothing but want of memory is left.
+            Err(_) => Err(Memory),
+        }
+    }
+}
