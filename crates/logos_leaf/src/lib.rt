@@ -6,6 +6,4 @@ mod fault;
 pub mod laws;
 pub mod leaf;
 pub mod source;
-#[cfg(test)]
-mod tests;
 pub mod variant;

@@ -5,5 +5,3 @@
 pub mod fault;
 pub mod subpattern;
 mod substitution;
-#[cfg(test)]
-mod tests;
