@@ -37,7 +37,7 @@ fn lexical_text(kind: LexicalKind) -> &'static str
 }
 
 /// Why tokens are no enum.
-pub(crate) fn misread(alloc: Global, error: ReadError) -> Refusal
+pub fn misread(alloc: Global, error: ReadError) -> Refusal
     ensures { Refuses (IsMisread error) result }
 {
     match error {
@@ -70,7 +70,7 @@ pub(crate) fn misread(alloc: Global, error: ReadError) -> Refusal
 }
 
 /// Why a source gives no tokens.
-pub(crate) fn unreadable(alloc: Global, src: &str, error: TokenError) -> Refusal
+pub fn unreadable(alloc: Global, src: &str, error: TokenError) -> Refusal
     requires { IsRefusal src.now error }
     ensures ends { Refuses (λ faults. (ending : Fault) × EndsReading src.now ending
         × (faults ≡ ending ∷ [])) result }

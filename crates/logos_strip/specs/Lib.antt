@@ -1,0 +1,4 @@
+pub mod Helpers
+pub mod Places
+pub mod Stripping
+pub mod inside

@@ -1,0 +1,42 @@
+-- What is left of an enum without what belongs to the derive macro.
+use Rattle.std.specs.Prelude.{List, [], ◌∷◌, Option, Some, None, if◌then◌else◌}
+use Rattle.logos_lexeme.specs.declared.lexeme.Spacing.TheVariants.{Alone}
+use Rattle.logos_token.specs.Tokens.{Token, identifier, punctuation, literal, doc, group, TokenList, none, also}
+use Rattle.logos_strip.specs.declared.places.Scope.{Scope}
+use Rattle.logos_strip.specs.declared.places.Scope.TheVariants.{Enum}
+use Rattle.logos_strip.specs.declared.places.Place.{Place}
+use Rattle.logos_strip.specs.declared.places.Place.TheVariants.{Open}
+use Rattle.logos_strip.specs.Places.{goes, place_behind, scope_inside}
+
+-- a token with nothing joint to it
+abbrev pub alone : Token → Token
+alone (punctuation character spacing span) = punctuation character Alone span
+alone token = token
+
+-- a token that stays, in front of these: punctuation directly in front of what goes is alone
+abbrev pub in_front : List (Option Token) → Token → Token
+in_front (None ∷ rest) token = alone token
+in_front rest token = token
+
+-- what is left of a run, of which each token stays, perhaps with less in it, or goes
+abbrev pub left : List (Option Token) → TokenList
+left [] = none
+left (None ∷ rest) = left rest
+left (Some token ∷ rest) = also (in_front rest token) (left rest)
+
+abbrev mutual
+  -- a token that stays, with what is left in it
+  pub thinned : Option Scope → Token → Token
+  thinned (Some scope) (group delimiter span inside) = group delimiter span (left (sorted scope Open inside))
+  thinned scope token = token
+
+  -- for each token of a run, from a place on, what stays of it
+  pub sorted : Scope → Place → TokenList → List (Option Token)
+  sorted scope place none = []
+  sorted scope place (also token rest) =
+      let gone = goes scope place (also token rest) in
+      (if gone then None else Some (thinned (scope_inside scope place token rest) token)) ∷ sorted scope (place_behind scope place gone token) rest
+
+-- what is left of an enum
+abbrev pub stripped : TokenList → TokenList
+stripped tokens = left (sorted Enum Open tokens)

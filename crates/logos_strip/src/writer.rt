@@ -1,0 +1,77 @@
+//! What is left of a run, tree by tree.
+ghost use Rattle.std.specs.Prelude.{◌≡◌, ◌∷◌, List, Option, Some, None, IfOk};
+ghost use Rattle.logos_token.specs.Tokens.{Token};
+ghost use Rattle.logos_token.specs.Views.{stream_tokens, tree_of};
+ghost use Rattle.logos_strip.specs.Stripping.{left};
+ghost use Rattle.logos_strip.specs.inside.Writing.{completed};
+
+use logos_token::error::Memory;
+use logos_token::token::{Punct, Spacing, TokenStream, TokenTree};
+use std::alloc::Global;
+
+/// What is left so far.
+#[derive(Drop)]
+pub(crate) struct Writer<'s> {
+    /// The trees in front of the last punctuation, if that is the last tree, else all.
+    stream: TokenStream<'s>,
+    /// That punctuation: what goes directly behind it makes it stand alone.
+    held: Option<Punct>,
+}
+
+impl<'s> Writer<'s> {
+    /// Nothing so far.
+    pub(crate) fn new(alloc: Global) -> Writer<'s>
+        ensures { (pieces : List (Option Token)) → completed result pieces ≡ left pieces }
+    {
+        Writer {
+            stream: TokenStream::new(alloc),
+            held: None,
+        }
+    }
+
+    /// All trees, where none comes behind them.
+    pub(crate) fn finish(self) -> Result<TokenStream<'s>, Memory>
+        ensures { IfOk result (λ stream. stream_tokens stream ≡ completed self.entry []) }
+    {
+        match self.held {
+            Some(punct) => self.stream.with_tree(TokenTree::Punct(punct)),
+            None => Ok(self.stream),
+        }
+    }
+
+    /// One more tree.
+    pub(crate) fn with_tree(self, tree: TokenTree<'_, 's>) -> Result<Writer<'s>, Memory>
+        ensures { IfOk result (λ writer. (pieces : List (Option Token)) →
+            completed writer pieces ≡ completed self.entry (Some (tree_of tree.entry) ∷ pieces)) }
+    {
+        let stream = self.finish()?;
+        match tree {
+            TokenTree::Punct(punct) => Ok(Writer {
+                stream,
+                held: Some(punct),
+            }),
+            _ => Ok(Writer {
+                stream: stream.with_tree(tree)?,
+                held: None,
+            }),
+        }
+    }
+
+    /// Leaves out what comes next.
+    pub(crate) fn without_tree(self) -> Result<Writer<'s>, Memory>
+        ensures { IfOk result (λ writer. (pieces : List (Option Token)) →
+            completed writer pieces ≡ completed self.entry (None ∷ pieces)) }
+    {
+        let Some(punct) = self.held else {
+            return Ok(self);
+        };
+        let alone = Punct {
+            spacing: Spacing::Alone,
+            ..punct
+        };
+        Ok(Writer {
+            stream: self.stream.with_tree(TokenTree::Punct(alone))?,
+            held: None,
+        })
+    }
+}
