@@ -45,9 +45,9 @@ behind_colons (also (punctuation character spacing span) rest) = if is_path_mark
 behind_colons run = None
 
 -- whether something comes first, and this holds of what is behind it
-abbrev pub then : Option TokenList → (TokenList → Bool) → Bool
-then None holds = false
-then (Some rest) holds = holds rest
+abbrev pub holds_behind : (TokenList → Bool) → Option TokenList → Bool
+holds_behind test None = false
+holds_behind test (Some rest) = test rest
 
 -- whether an entry of a list ends here
 abbrev pub ends_entry : TokenList → Bool
@@ -56,19 +56,19 @@ ends_entry (also token rest) = is_comma token
 
 -- whether the entry that comes first is `Logos`
 abbrev pub is_macro_name : TokenList → Bool
-is_macro_name run = then (behind_word (codes "Logos") run) ends_entry
+is_macro_name run = holds_behind ends_entry (behind_word (codes "Logos") run)
 
 -- whether `::` comes first, and behind it an entry `Logos`
 abbrev pub is_macro_segment : TokenList → Bool
-is_macro_segment run = then (behind_colons run) is_macro_name
+is_macro_segment run = holds_behind is_macro_name (behind_colons run)
 
 -- whether the entry that comes first is `logos::Logos`
 abbrev pub is_macro_path : TokenList → Bool
-is_macro_path run = then (behind_word (codes "logos") run) is_macro_segment
+is_macro_path run = holds_behind is_macro_segment (behind_word (codes "logos") run)
 
 -- whether it is `::logos::Logos`
 abbrev pub is_global_path : TokenList → Bool
-is_global_path run = then (behind_colons run) is_macro_path
+is_global_path run = holds_behind is_macro_path (behind_colons run)
 
 -- whether it is one of these
 abbrev pub is_macro_entry : TokenList → Bool

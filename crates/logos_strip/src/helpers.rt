@@ -1,5 +1,5 @@
 //! What belongs to the derive macro: its helper attributes, and the entries of `derive` that name it.
-ghost use Rattle.std.specs.Prelude.{◌≡◌, option_map};
+ghost use Rattle.std.specs.Prelude.{◌≡◌, Some, None, MatchOption};
 ghost use Rattle.logos_token.specs.Views.{tokens_of, tree_of};
 ghost use Rattle.logos_item.specs.Marks.{colon, begins_with};
 ghost use Rattle.logos_item.specs.Attributes.{is_path_mark};
@@ -69,7 +69,8 @@ pub(crate) fn begins_helper(tokens: Tokens<'_, '_>) -> bool
 
 /// What is behind a word, if it comes first.
 fn behind_word<'t, 's>(word: &str, tokens: Tokens<'t, 's>) -> Option<Tokens<'t, 's>>
-    ensures { option_map tokens_of result ≡ behind_word word.now (tokens_of tokens.entry) }
+    ensures { MatchOption result (behind_word word.now (tokens_of tokens.entry) ≡ None)
+        (λ rest. behind_word word.now (tokens_of tokens.entry) ≡ Some (tokens_of rest)) }
 {
     match tokens.first() {
         Some(TokenTree::Ident(ident)) if ident.text == word => Some(tokens.rest()),
@@ -79,7 +80,8 @@ fn behind_word<'t, 's>(word: &str, tokens: Tokens<'t, 's>) -> Option<Tokens<'t, 
 
 /// What is behind the second `:` of `::`, if that comes first.
 fn behind_colon<'t, 's>(tokens: Tokens<'t, 's>) -> Option<Tokens<'t, 's>>
-    ensures { option_map tokens_of result ≡ behind_colon (tokens_of tokens.entry) }
+    ensures { MatchOption result (behind_colon (tokens_of tokens.entry) ≡ None)
+        (λ rest. behind_colon (tokens_of tokens.entry) ≡ Some (tokens_of rest)) }
 {
     match tokens.first() {
         Some(TokenTree::Punct(punct)) if punct.character == ':' => Some(tokens.rest()),
@@ -99,7 +101,8 @@ fn is_path_mark(punct: Punct) -> bool
 
 /// What is behind `::`, if it comes first.
 fn behind_colons<'t, 's>(tokens: Tokens<'t, 's>) -> Option<Tokens<'t, 's>>
-    ensures { option_map tokens_of result ≡ behind_colons (tokens_of tokens.entry) }
+    ensures { MatchOption result (behind_colons (tokens_of tokens.entry) ≡ None)
+        (λ rest. behind_colons (tokens_of tokens.entry) ≡ Some (tokens_of rest)) }
 {
     match tokens.first() {
         Some(TokenTree::Punct(punct)) if is_path_mark(punct) => behind_colon(tokens.rest()),

@@ -3,6 +3,7 @@
 #![tactic(auto)]
 
 mod helpers;
+mod laws;
 pub mod places;
 pub mod stripping;
 #[cfg(test)]

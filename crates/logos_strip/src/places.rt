@@ -39,7 +39,7 @@ pub enum Place {
 
 /// Whether what goes comes first, where an attribute or an entry may begin.
 fn begins_gone(scope: Scope, tokens: Tokens<'_, '_>) -> bool
-    ensures { result ≡ begins_gone scope.entry (tokens_of tokens.entry) }
+    ensures { result ≡ begins_gone scope (tokens_of tokens.entry) }
 {
     match scope {
         Scope::Enum | Scope::Variants | Scope::Fields => begins_helper(tokens),
@@ -50,7 +50,7 @@ fn begins_gone(scope: Scope, tokens: Tokens<'_, '_>) -> bool
 
 /// Whether the first token goes, by its place.
 pub(crate) fn goes(scope: Scope, place: Place, tokens: Tokens<'_, '_>) -> bool
-    ensures { result ≡ goes scope.entry place.entry (tokens_of tokens.entry) }
+    ensures { result ≡ goes scope place (tokens_of tokens.entry) }
 {
     match place {
         Place::Open => begins_gone(scope, tokens),
@@ -61,14 +61,14 @@ pub(crate) fn goes(scope: Scope, place: Place, tokens: Tokens<'_, '_>) -> bool
 
 /// The place behind a token of a part, where parts are parted by commas of either spacing.
 fn behind_part(other: Place, tree: TokenTree<'_, '_>) -> Place
-    ensures { result ≡ behind_part other.entry (tree_of tree.entry) }
+    ensures { result ≡ behind_part other (tree_of tree.entry) }
 {
     if is_comma(tree) { Place::Open } else { other }
 }
 
 /// The place behind a token that stays and stands where an attribute may begin.
 fn behind_start(other: Place, tree: TokenTree<'_, '_>) -> Place
-    ensures { result ≡ behind_start other.entry (tree_of tree.entry) }
+    ensures { result ≡ behind_start other (tree_of tree.entry) }
 {
     match tree {
         TokenTree::Punct(punct) if punct.character == '#' => Place::Hash,
@@ -91,7 +91,7 @@ fn behind_hash(tree: TokenTree<'_, '_>) -> Place
 /// `first` is the place behind the first token that is in none.
 fn behind_attributed(first: Place, place: Place, gone: bool, tree: TokenTree<'_, '_>) -> Place
     ensures { result ≡
-        behind_attributed first.entry place.entry gone.entry (tree_of tree.entry) }
+        behind_attributed first place gone (tree_of tree.entry) }
 {
     match place {
         Place::Open if gone => Place::Gone,
@@ -104,7 +104,7 @@ fn behind_attributed(first: Place, place: Place, gone: bool, tree: TokenTree<'_,
 
 /// The same in an enum, which has attributes in front alone.
 fn behind_in_enum(place: Place, gone: bool, tree: TokenTree<'_, '_>) -> Place
-    ensures { result ≡ behind_in_enum place.entry gone.entry (tree_of tree.entry) }
+    ensures { result ≡ behind_in_enum place gone (tree_of tree.entry) }
 {
     match place {
         Place::Within => Place::Within,
@@ -114,7 +114,7 @@ fn behind_in_enum(place: Place, gone: bool, tree: TokenTree<'_, '_>) -> Place
 
 /// The same in what the brackets of an attribute hold.
 fn behind_in_attribute(place: Place, tree: TokenTree<'_, '_>) -> Place
-    ensures { result ≡ behind_in_attribute place.entry (tree_of tree.entry) }
+    ensures { result ≡ behind_in_attribute place (tree_of tree.entry) }
 {
     match (place, tree) {
         (Place::Open, TokenTree::Ident(name)) if name.text == "derive" => Place::Named,
@@ -125,7 +125,7 @@ fn behind_in_attribute(place: Place, tree: TokenTree<'_, '_>) -> Place
 /// The place behind a token that stays or goes.
 pub(crate) fn place_behind(scope: Scope, place: Place, gone: bool, tree: TokenTree<'_, '_>) -> Place
     ensures { result ≡
-        place_behind scope.entry place.entry gone.entry (tree_of tree.entry) }
+        place_behind scope place gone (tree_of tree.entry) }
 {
     match scope {
         Scope::Enum => behind_in_enum(place, gone, tree),
@@ -145,9 +145,9 @@ pub(crate) fn scope_inside(
     rest: Tokens<'_, '_>,
 ) -> Option<Scope>
     ensures { MatchOption result
-        (scope_inside scope.entry place.entry (token_of whole.entry) (tokens_of rest.entry) ≡ None)
-        (λ inner. (scope_inside scope.entry place.entry (token_of whole.entry)
-        (tokens_of rest.entry) ≡ Some inner) × (rank inner < rank scope.entry)) }
+        (scope_inside scope place (token_of whole.entry) (tokens_of rest.entry) ≡ None)
+        (λ inner. (scope_inside scope place (token_of whole.entry)
+        (tokens_of rest.entry) ≡ Some inner) × (rank inner < rank scope)) }
 {
     match (scope, place, whole.delimiter) {
         (Scope::Enum, Place::Hash, Delimiter::Bracket) => Some(Scope::Attribute),

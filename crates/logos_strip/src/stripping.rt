@@ -1,4 +1,12 @@
 //! Stripping a source.
+ghost use Rattle.std.specs.Prelude.{◌≡◌, ◌<◌, [], ◌∷◌, length, IfOk, IfErr, IsErrAnd};
+ghost use Rattle.logos_token.specs.Faults.{Fault};
+ghost use Rattle.logos_token.specs.Views.{stream_tokens};
+ghost use Rattle.logos_item.specs.EnumValues.{EnumValue};
+ghost use Rattle.logos_source.specs.Endings.{too_long, EndsReading, EndsTokens};
+ghost use Rattle.logos_source.specs.Refusals.{Refuses};
+ghost use Rattle.logos_strip.specs.Stripping.{stripped};
+ghost use Rattle.logos_strip.specs.Results.{AreStripped, IsStripped};
 
 use crate::places::Scope;
 use crate::walk::strip_run;
@@ -9,16 +17,39 @@ use logos_token::token::{TokenStream, tokenize};
 use std::alloc::Global;
 
 /// What is left of tokens.
-fn strip_tokens<'s>(alloc: Global, stream: &TokenStream<'s>) -> Result<TokenStream<'s>, Refusal> {
+fn strip_tokens<'s>(alloc: Global, stream: &TokenStream<'s>) -> Result<TokenStream<'s>, Refusal>
+    ensures ok { IfOk result (λ left. AreStripped (stream_tokens stream.now) (stream_tokens left)) }
+    ensures err { IfErr result (Refuses (EndsTokens (stream_tokens stream.now))) }
+{
     let tokens = stream.run();
-    match read_enum(alloc, tokens) {
-        Ok(_) => Ok(strip_run(alloc, Scope::Enum, tokens)?),
-        Err(error) => Err(misread(alloc, error)),
+    if let Err(error) = read_enum(alloc, tokens) {
+        return Err(misread(alloc, error));
+    }
+    match strip_run(alloc, Scope::Enum, tokens) {
+        Ok(left) => Ok(left),
+        Err(_) => Err(Refusal::Memory),
     }
 }
 
-/// What is left of an enum.
-pub fn strip_attributes<'s>(alloc: Global, src: &'s str) -> Result<TokenStream<'s>, Refusal> {
+/// What is left of the enum that a source spells without what belongs to the derive macro.
+///
+/// The helper attributes `logos`, `token` and `regex` go from the enum, its variants and its
+/// fields, whatever their arguments. Of what each `derive` of the enum lists, the entries `Logos`,
+/// `logos::Logos` and `::logos::Logos` go, each with the comma behind it. Punctuation that stands
+/// directly in front of what goes is alone from then on. All else stays as it is, with its span in
+/// the source.
+///
+/// `Errors` has the one fault that ends the reading: `LimitSource` where the source is longer than
+/// 16 MiB; `Lexical` or `LimitTokenNesting` where it has no tokens; `NotAnEnum`, `Grammar`,
+/// `TypeUnsupported` or `LimitTypeNesting` where these are no enum. `Memory` comes wherever memory
+/// runs out. After an error nothing is kept.
+pub fn strip_attributes<'s>(alloc: Global, src: &'s str) -> Result<TokenStream<'s>, Refusal>
+    ensures ok { IfOk result (λ left. IsStripped src.now (stream_tokens left)) }
+    ensures err { IfErr result (Refuses (λ faults. (ending : Fault) × EndsReading src.now ending
+        × (faults ≡ ending ∷ []))) }
+    ensures long { 16777216 < length src.now →
+        IsErrAnd result (Refuses (λ faults. faults ≡ too_long src.now ∷ [])) }
+{
     match tokenize(alloc, src) {
         Ok(stream) => strip_tokens(alloc, &stream),
         Err(error) => Err(unreadable(alloc, src, error)),

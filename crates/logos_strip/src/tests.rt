@@ -20,7 +20,7 @@ const ATTRIBUTES: &str = r##"enum E { A,#[token("b")]B } => enum E { A , B }
 #[logos(skip " ")] #[repr(u8)] #[token] #[regex = 1] pub(crate) enum E { A } => # [ repr ( u8 ) ] pub ( crate ) enum E { A }
 /// a¦enum E { #[regex("b")] /** b */ #[doc = "c"] #[token("d")] A(#[logos] u8,#[logos::x] u8,#[token] pub u8) = 1 } => /// a¦enum E { /** b */ # [ doc = "c" ] A ( u8 ,# [ logos :: x ] u8 , pub u8 ) = 1 }
 enum E { #[derive(Logos)] A { #[regex] a: Map<u8, (u8, u8)>,#[derive(Logos)] b: u8 } } => enum E { # [ derive ( Logos ) ] A { a : Map < u8 , ( u8 , u8 ) >,# [ derive ( Logos ) ] b : u8 } }
-enum E<#[logos] T: Has<{ #[logos] 1 }>> where T: A { A = { #[logos] 1 }, B = a,#[logos] C } => enum E < # [ logos ] T : Has < { # [ logos ] 1 } >> where T : A { A = { # [ logos ] 1 } , B = a , C }
+enum E<#[logos] T: Has<{ #[logos] 1 }>> where T: A { A = { #[logos] 1 }, B = a,#[logos] C } => enum E <# [ logos ] T : Has < { # [ logos ] 1 } >> where T : A { A = { # [ logos ] 1 } , B = a , C }
 #[r#logos] enum E { A(#[x] Map<T,'a>) } => # [ r#logos ] enum E { A ( # [ x ] Map < T ,'a > ) }"##;
 
 /// The same, where the source is refused.

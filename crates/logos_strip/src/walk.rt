@@ -22,7 +22,7 @@ fn keep_group<'s>(
     whole: Group<'_, 's>,
 ) -> Result<Writer<'s>, Memory>
     ensures { IfOk result (λ next. (pieces : List (Option Token)) → completed next pieces
-        ≡ completed writer.entry (Some (thinned (Some scope.entry) (token_of whole.entry)) ∷ pieces)) }
+        ≡ completed writer.entry (Some (thinned (Some scope) (token_of whole.entry)) ∷ pieces)) }
 {
     let kept = strip_run(alloc, scope, whole.run())?;
     writer.with_tree(TokenTree::Group(kept.group(whole.delimiter, whole.span)))
@@ -40,7 +40,7 @@ fn keep<'s>(
 ) -> Result<Writer<'s>, Memory>
     ensures { IfOk result (λ next. (pieces : List (Option Token)) → completed next pieces
         ≡ completed writer.entry (Some (thinned
-        (scope_inside scope.entry place.entry (tree_of tree.entry) (tokens_of rest.entry))
+        (scope_inside scope place (tree_of tree.entry) (tokens_of rest.entry))
         (tree_of tree.entry)) ∷ pieces)) }
 {
     let TokenTree::Group(whole) = tree else {
@@ -60,7 +60,7 @@ pub(crate) fn strip_run<'s>(
     run: Tokens<'_, 's>,
 ) -> Result<TokenStream<'s>, Memory>
     ensures { IfOk result (λ stream. stream_tokens stream
-        ≡ left (sorted scope.entry Open (tokens_of run.entry))) }
+        ≡ left (sorted scope Open (tokens_of run.entry))) }
 {
     let mut writer = Writer::new(alloc);
     let mut place = Place::Open;

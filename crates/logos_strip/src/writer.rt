@@ -1,5 +1,5 @@
 //! What is left of a run, tree by tree.
-ghost use Rattle.std.specs.Prelude.{◌≡◌, ◌∷◌, List, Option, Some, None, IfOk};
+ghost use Rattle.std.specs.Prelude.{◌≡◌, [], ◌∷◌, List, Option, Some, None, IfOk};
 ghost use Rattle.logos_token.specs.Tokens.{Token};
 ghost use Rattle.logos_token.specs.Views.{stream_tokens, tree_of};
 ghost use Rattle.logos_strip.specs.Stripping.{left};
