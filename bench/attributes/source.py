@@ -2,17 +2,22 @@
 import sys
 
 
+def beside(options):
+    """An enum with one token and these options."""
+    return f'#[logos({options})]\nenum E {{ #[token("a")] A }}\n'
+
+
 def pieces(count):
     """One `logos` attribute of so many pieces, each a known one."""
-    return f"#[logos({'utf8 = true, ' * count})]\nenum E {{ #[token(\"a\")] A }}\n"
+    return beside("utf8 = true, " * count)
 
 
 def skips(count):
-    return f"#[logos({'skip(\"a\", f, priority = 3), ' * count})]\nenum E {{ #[token(\"a\")] A }}\n"
+    return beside('skip("a", f, priority = 3), ' * count)
 
 
 def unknown(count):
-    return f"#[logos({'what, ' * count})]\nenum E {{ #[token(\"a\")] A }}\n"
+    return beside("what, " * count)
 
 
 def subpatterns(count):
