@@ -1,1 +1,2 @@
 mod WritingLemmas
+mod once

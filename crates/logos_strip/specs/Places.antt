@@ -1,9 +1,10 @@
 -- What goes from an enum, by where it stands.
 use Rattle.std.specs.Prelude.{ℕ, ◌==◌, if◌then◌else◌, Bool, true, false, Option, Some, None, codes}
 use Rattle.std.specs.Str.{bytes_eq}
+use Rattle.logos_lexeme.specs.declared.lexeme.Delimiter.{Delimiter}
 use Rattle.logos_lexeme.specs.declared.lexeme.Delimiter.TheVariants.{Bracket, Brace}
 use Rattle.logos_token.specs.Tokens.{Token, identifier, punctuation, literal, doc, group, TokenList, none, also}
-use Rattle.logos_item.specs.Marks.{hash}
+use Rattle.logos_item.specs.Marks.{hash, is_none}
 use Rattle.logos_strip.specs.declared.places.Scope.{Scope}
 use Rattle.logos_strip.specs.declared.places.Scope.TheVariants.{Enum, Attribute, Derives, Variants, Fields}
 use Rattle.logos_strip.specs.declared.places.Place.{Place}
@@ -68,11 +69,16 @@ place_behind Derives place gone token = behind_part (if gone then Gone else With
 place_behind Variants place gone token = behind_attributed Named place gone token
 place_behind Fields place gone token = behind_attributed Within place gone token
 
--- What a group that stays, with these behind it, holds, where something in that may go: brackets in front of an enum and the braces at its end, a list behind
--- `derive`, fields behind the name of a variant.
+-- The scope of what a group with this delimiter holds that stays, where something in that may go: brackets in front of an enum and the braces that are its last
+-- token, a list behind `derive`, fields behind the name of a variant.
+abbrev pub scope_of : Scope → Place → Delimiter → Bool → Option Scope
+scope_of Enum Hash Bracket last = Some Attribute
+scope_of Enum Within Brace true = Some Variants
+scope_of Attribute Named delimiter last = Some Derives
+scope_of Variants Named delimiter last = Some Fields
+scope_of scope place delimiter last = None
+
+-- the scope of what a token holds that stays, in front of these
 abbrev pub scope_inside : Scope → Place → Token → TokenList → Option Scope
-scope_inside Enum Hash (group Bracket span inside) rest = Some Attribute
-scope_inside Enum Within (group Brace span inside) none = Some Variants
-scope_inside Attribute Named (group delimiter span inside) rest = Some Derives
-scope_inside Variants Named (group delimiter span inside) rest = Some Fields
+scope_inside scope place (group delimiter span inside) rest = scope_of scope place delimiter (is_none rest)
 scope_inside scope place token rest = None

@@ -1,11 +1,12 @@
 //! Where the tokens of an enum stand, and which of them go.
 ghost use Rattle.std.specs.Prelude.{◌≡◌, ◌<◌, Some, None, MatchOption};
 ghost use Rattle.logos_token.specs.Views.{tokens_of, tree_of};
-ghost use Rattle.logos_strip.specs.Places.{begins_gone, goes, behind_part, behind_start, behind_hash, behind_attributed, behind_in_enum, behind_in_attribute, place_behind, scope_inside};
-ghost use Rattle.logos_strip.specs.inside.Writing.{rank, token_of};
+ghost use Rattle.logos_item.specs.Marks.{is_none};
+ghost use Rattle.logos_strip.specs.Places.{begins_gone, goes, behind_part, behind_start, behind_hash, behind_attributed, behind_in_enum, behind_in_attribute, place_behind, scope_of};
+ghost use Rattle.logos_strip.specs.inside.Writing.{rank};
 
 use crate::helpers::{begins_helper, is_comma, is_macro_entry};
-use logos_token::token::{Delimiter, Group, TokenTree, Tokens};
+use logos_token::token::{Delimiter, TokenTree, Tokens};
 
 /// What a run of tokens is.
 #[derive(Clone, Copy)]
@@ -137,19 +138,19 @@ pub(crate) fn place_behind(scope: Scope, place: Place, gone: bool, tree: TokenTr
     }
 }
 
-/// What a group that stays, with these behind it, holds, where something in that may go.
-pub(crate) fn scope_inside(
+/// What a group that stays holds, with its delimiter and with these behind it, where something in that may go.
+pub(crate) fn scope_of(
     scope: Scope,
     place: Place,
-    whole: Group<'_, '_>,
+    delimiter: Delimiter,
     rest: Tokens<'_, '_>,
 ) -> Option<Scope>
     ensures { MatchOption result
-        (scope_inside scope place (token_of whole.entry) (tokens_of rest.entry) ≡ None)
-        (λ inner. (scope_inside scope place (token_of whole.entry)
-        (tokens_of rest.entry) ≡ Some inner) × (rank inner < rank scope)) }
+        (scope_of scope place delimiter (is_none (tokens_of rest.entry)) ≡ None)
+        (λ inner. (scope_of scope place delimiter (is_none (tokens_of rest.entry)) ≡ Some inner)
+        × (rank inner < rank scope)) }
 {
-    match (scope, place, whole.delimiter) {
+    match (scope, place, delimiter) {
         (Scope::Enum, Place::Hash, Delimiter::Bracket) => Some(Scope::Attribute),
         (Scope::Enum, Place::Within, Delimiter::Brace) if rest.is_empty() => Some(Scope::Variants),
         (Scope::Attribute, Place::Named, _) => Some(Scope::Derives),

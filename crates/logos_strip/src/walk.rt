@@ -7,7 +7,7 @@ ghost use Rattle.logos_strip.specs.Places.{scope_inside};
 ghost use Rattle.logos_strip.specs.Stripping.{left, thinned, sorted};
 ghost use Rattle.logos_strip.specs.inside.Writing.{completed, token_of};
 
-use crate::places::{Place, Scope, goes, place_behind, scope_inside};
+use crate::places::{Place, Scope, goes, place_behind, scope_of};
 use crate::writer::Writer;
 use logos_token::error::Memory;
 use logos_token::token::{Group, TokenStream, TokenTree, Tokens};
@@ -46,7 +46,7 @@ fn keep<'s>(
     let TokenTree::Group(whole) = tree else {
         return writer.with_tree(tree);
     };
-    match scope_inside(scope, place, whole, rest) {
+    match scope_of(scope, place, whole.delimiter, rest) {
         Some(inner) => keep_group(alloc, writer, inner, whole),
         None => writer.with_tree(tree),
     }

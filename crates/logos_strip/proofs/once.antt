@@ -1,0 +1,3 @@
+pub mod ShapeLemmas
+pub mod EntryLemmas
+pub mod OnceLemmas
