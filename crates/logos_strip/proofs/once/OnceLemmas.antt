@@ -1,21 +1,22 @@
 -- Nothing more goes from what is left.
-use Rattle.std.proofs.Common.{◌≡◌, ◌==◌, ◌&&◌, Bool, true, false, ℕ, List, [], ◌∷◌, Option, Some, None, codes, refl, sym, ◌∙◌, ap, if◌then◌else◌}
+use Rattle.std.proofs.Common.{◌≡◌, ◌==◌, ◌&&◌, not, Bool, true, false, ℕ, List, [], ◌∷◌, Option, Some, None, codes, refl, sym, ◌∙◌, ap, subst, if◌then◌else◌}
 use Rattle.std.proofs.lemmas.Bool.{false≢true, true≢false, eqb-true, cases_Bool}
 use Rattle.std.specs.Str.{bytes_eq}
 use Rattle.logos_lexeme.specs.declared.lexeme.Spacing.{Spacing}
+use Rattle.logos_lexeme.specs.declared.lexeme.Spacing.TheVariants.{Alone}
 use Rattle.logos_lexeme.specs.declared.lexeme.Span.{Span}
 use Rattle.logos_lexeme.specs.declared.lexeme.Delimiter.{Delimiter}
 use Rattle.logos_lexeme.specs.declared.lexeme.Delimiter.TheVariants.{Parenthesis, Bracket, Brace}
 use Rattle.logos_token.specs.Tokens.{Token, identifier, punctuation, literal, doc, group, TokenList, none, also}
-use Rattle.logos_item.specs.Marks.{comma, colon, hash, begins_with}
+use Rattle.logos_item.specs.Marks.{comma, colon, hash, begins_with, is_none}
 use Rattle.logos_strip.specs.declared.places.Scope.{Scope}
 use Rattle.logos_strip.specs.declared.places.Scope.TheVariants.{Enum, Attribute, Derives, Variants, Fields}
 use Rattle.logos_strip.specs.declared.places.Place.{Place}
 use Rattle.logos_strip.specs.declared.places.Place.TheVariants.{Open, Hash, Gone, Named, Within}
 use Rattle.logos_strip.specs.Helpers.{is_comma, is_helper_name, is_helper_path, holds_helper, begins_helper, is_macro_entry}
-use Rattle.logos_strip.specs.Places.{begins_gone, goes, place_behind, behind_start, scope_inside}
-use Rattle.logos_strip.specs.Stripping.{alone, in_front, left, thinned, sorted}
-use Rattle.logos_strip.proofs.once.ShapeLemmas.{shape, shape-front, is_comma-shape, behind-front}
+use Rattle.logos_strip.specs.Places.{begins_gone, goes, behind_part, behind_start, behind_hash, behind_attributed, behind_in_enum, behind_in_attribute, place_behind, scope_of, scope_inside}
+use Rattle.logos_strip.specs.Stripping.{alone, in_front, left, thinned, sorted, stripped}
+use Rattle.logos_strip.proofs.once.ShapeLemmas.{shape, front_either, shape-front, is_comma-shape, behind-front, scope-front}
 use Rattle.logos_strip.proofs.once.EntryLemmas.{SameEntry, ended, parted, further, entry_same}
 
 -- all tokens stay
@@ -66,3 +67,388 @@ reached-behind Attribute place gone token = reached-path place token
 reached-behind Derives place gone token = tt
 reached-behind Variants place gone token = tt
 reached-behind Fields place gone token = tt
+
+-- what stays is followed by no place in what goes
+
+if_settled : (found : Bool) (one other : Place) → settled one ≡ one → settled other ≡ other → settled (if found then one else other) ≡ (if found then one else other)
+if_settled found one other a b = if_place (λ p. settled p ≡ p) found one other a b
+
+settled-start : (other : Place) → settled other ≡ other → (token : Token) → settled (behind_start other token) ≡ behind_start other token
+settled-start other e (identifier text span) = e
+settled-start other e (punctuation character spacing span) = if_settled (character == hash) Hash other refl e
+settled-start other e (literal text span) = e
+settled-start other e (doc text span) = refl
+settled-start other e (group delimiter span inside) = e
+
+settled-hash : (token : Token) → settled (behind_hash token) ≡ behind_hash token
+settled-hash (identifier text span) = refl
+settled-hash (punctuation character spacing span) = refl
+settled-hash (literal text span) = refl
+settled-hash (doc text span) = refl
+settled-hash (group delimiter span inside) = refl
+
+settled-attributed : (first place : Place) → settled first ≡ first → (token : Token) → settled (behind_attributed first place false token) ≡ behind_attributed first place false token
+settled-attributed first Open e token = settled-start first e token
+settled-attributed first Hash e token = settled-hash token
+settled-attributed first Gone e token = refl
+settled-attributed first Named e token = if_settled (is_comma token) Open Within refl refl
+settled-attributed first Within e token = if_settled (is_comma token) Open Within refl refl
+
+settled-enum : (place : Place) (token : Token) → settled (behind_in_enum place false token) ≡ behind_in_enum place false token
+settled-enum Open token = settled-attributed Within Open refl token
+settled-enum Hash token = settled-attributed Within Hash refl token
+settled-enum Gone token = settled-attributed Within Gone refl token
+settled-enum Named token = settled-attributed Within Named refl token
+settled-enum Within token = refl
+
+settled-path : (place : Place) (token : Token) → settled (behind_in_attribute place token) ≡ behind_in_attribute place token
+settled-path Open (identifier text span) = if_settled (bytes_eq text (codes "derive")) Named Within refl refl
+settled-path Open (punctuation character spacing span) = refl
+settled-path Open (literal text span) = refl
+settled-path Open (doc text span) = refl
+settled-path Open (group delimiter span inside) = refl
+settled-path Hash token = refl
+settled-path Gone token = refl
+settled-path Named token = refl
+settled-path Within token = refl
+
+settled-behind : (scope : Scope) (place : Place) (token : Token) → settled (place_behind scope place false token) ≡ place_behind scope place false token
+settled-behind Enum place token = settled-enum place token
+settled-behind Attribute place token = settled-path place token
+settled-behind Derives place token = if_settled (is_comma token) Open Within refl refl
+settled-behind Variants place token = settled-attributed Named place refl token
+settled-behind Fields place token = settled-attributed Within place refl token
+
+-- what goes stands where an attribute or an entry may begin, and so does what is behind it
+abbrev GoesOpen : Scope → Place → Token → Type 0
+GoesOpen scope place token = (settled place ≡ Open) × (settled (place_behind scope place true token) ≡ Open)
+
+gone-entry : (token : Token) → settled (place_behind Derives Gone true token) ≡ Open
+gone-entry token = if_place (λ p. settled p ≡ Open) (is_comma token) Open Gone refl refl
+
+goes-open : (scope : Scope) (place : Place) (token : Token) (run : TokenList) → IsReached scope place → goes scope place run ≡ true → GoesOpen scope place token
+goes-open Enum Open token run reached e = (refl, refl)
+goes-open Attribute Open token run reached e = absurd (false≢true e)
+goes-open Derives Open token run reached e = (refl, gone-entry token)
+goes-open Variants Open token run reached e = (refl, refl)
+goes-open Fields Open token run reached e = (refl, refl)
+goes-open Enum Gone token run reached e = (refl, refl)
+goes-open Attribute Gone token run reached e = absurd reached
+goes-open Derives Gone token run reached e = (refl, gone-entry token)
+goes-open Variants Gone token run reached e = (refl, refl)
+goes-open Fields Gone token run reached e = (refl, refl)
+goes-open scope Hash token run reached e = absurd (false≢true e)
+goes-open scope Named token run reached e = absurd (false≢true e)
+goes-open scope Within token run reached e = absurd (false≢true e)
+
+-- the brackets of an attribute keep its path
+
+no_scope : (place : Place) (token : Token) (rest : TokenList) → scope_inside Derives place token rest ≡ None
+no_scope place (identifier text span) rest = refl
+no_scope place (punctuation character spacing span) rest = refl
+no_scope place (literal text span) rest = refl
+no_scope place (doc text span) rest = refl
+no_scope place (group delimiter span inside) rest = refl
+
+abbrev BeginsSame : TokenList → TokenList → Type 0
+BeginsSame one other = begins_with colon one ≡ begins_with colon other
+
+first-colon : (pieces : List (Option Token)) (inner : Option Scope) (token : Token) (rest more : TokenList) → begins_with colon (also (in_front pieces (thinned inner token)) more) ≡ begins_with colon (also token rest)
+first-colon pieces inner token rest more =
+    let shown : (t : Token) → begins_with colon (also t more) ≡ begins_with colon (also (shape t) none) = λ t. colon-shape t more in
+    shown (in_front pieces (thinned inner token)) ∙ ap (λ t. begins_with colon (also t none)) (shape-front pieces inner token) ∙ sym (colon-shape token rest)
+  where
+    colon-shape : (token : Token) (rest : TokenList) → begins_with colon (also token rest) ≡ begins_with colon (also (shape token) none)
+    colon-shape (identifier text span) rest = refl
+    colon-shape (punctuation character spacing span) rest = refl
+    colon-shape (literal text span) rest = refl
+    colon-shape (doc text span) rest = refl
+    colon-shape (group delimiter span inside) rest = refl
+
+attribute-goes : (place : Place) (run : TokenList) → IsReached Attribute place → goes Attribute place run ≡ false
+attribute-goes Open run reached = refl
+attribute-goes Hash run reached = refl
+attribute-goes Gone run reached = absurd reached
+attribute-goes Named run reached = refl
+attribute-goes Within run reached = refl
+
+colon-left : (place : Place) (rest : TokenList) → IsReached Attribute place → BeginsSame (left (sorted Attribute place rest)) rest
+colon-left place none reached = refl
+colon-left place (also token rest) reached = rw (attribute-goes place (also token rest) reached) (first-colon _ _ token rest _)
+
+path-left : (inside : TokenList) → is_helper_path (left (sorted Attribute Open inside)) ≡ is_helper_path inside
+path-left none = refl
+path-left (also (identifier text span) rest) =
+    let next = place_behind Attribute Open false (identifier text span) in
+    let more = left (sorted Attribute next rest) in
+    let is : is_helper_path (also (identifier text span) more) ≡ is_helper_path (also (identifier text span) rest) =
+    ap (λ b. is_helper_name text && not b) (colon-left next rest (reached-path Open (identifier text span))) in
+    front_either (λ t. is_helper_path (also t more) ≡ is_helper_path (also (identifier text span) rest)) (sorted Attribute next rest) (identifier text span) is is
+path-left (also (punctuation character spacing span) rest) = front_either (λ t. is_helper_path (also t (left (sorted Attribute Within rest))) ≡ false) (sorted Attribute Within rest) (punctuation character spacing span) refl refl
+path-left (also (literal text span) rest) = front_either (λ t. is_helper_path (also t (left (sorted Attribute Within rest))) ≡ false) (sorted Attribute Within rest) (literal text span) refl refl
+path-left (also (doc text span) rest) = front_either (λ t. is_helper_path (also t (left (sorted Attribute Within rest))) ≡ false) (sorted Attribute Within rest) (doc text span) refl refl
+path-left (also (group delimiter span inside) rest) = front_either (λ t. is_helper_path (also t (left (sorted Attribute Within rest))) ≡ false) (sorted Attribute Within rest) (group delimiter span inside) refl refl
+
+-- behind the `#` of an attribute that stays, brackets hold what they held
+
+brackets-left : (scope : Scope) (last : Bool) (span : Span) (inside rest more : TokenList) →
+    holds_helper (also (thinned (scope_of scope Hash Bracket last) (group Bracket span inside)) more) ≡ holds_helper (also (group Bracket span inside) rest)
+brackets-left Enum last span inside rest more = path-left inside
+brackets-left Attribute last span inside rest more = refl
+brackets-left Derives last span inside rest more = refl
+brackets-left Variants last span inside rest more = refl
+brackets-left Fields last span inside rest more = refl
+
+-- a token that is no group, or one of another delimiter
+abbrev IsOther : Token → Type 0
+IsOther (group Bracket span inside) = ⊥
+IsOther token = Unit {0}
+
+other-first : (token : Token) (rest : TokenList) → IsOther token → holds_helper (also token rest) ≡ false
+other-first (identifier text span) rest o = refl
+other-first (punctuation character spacing span) rest o = refl
+other-first (literal text span) rest o = refl
+other-first (doc text span) rest o = refl
+other-first (group Parenthesis span inside) rest o = refl
+other-first (group Bracket span inside) rest o = absurd o
+other-first (group Brace span inside) rest o = refl
+
+other-thinned : (inner : Option Scope) (token : Token) → IsOther token → IsOther (thinned inner token)
+other-thinned None token o = o
+other-thinned (Some scope) (identifier text span) o = tt
+other-thinned (Some scope) (punctuation character spacing span) o = tt
+other-thinned (Some scope) (literal text span) o = tt
+other-thinned (Some scope) (doc text span) o = tt
+other-thinned (Some scope) (group Parenthesis span inside) o = tt
+other-thinned (Some scope) (group Bracket span inside) o = o
+other-thinned (Some scope) (group Brace span inside) o = tt
+
+other-alone : (token : Token) → IsOther token → IsOther (alone token)
+other-alone (identifier text span) o = o
+other-alone (punctuation character spacing span) o = tt
+other-alone (literal text span) o = o
+other-alone (doc text span) o = o
+other-alone (group delimiter span inside) o = o
+
+other-left : (pieces : List (Option Token)) (inner : Option Scope) (token : Token) (rest more : TokenList) → IsOther token →
+    holds_helper (also (in_front pieces (thinned inner token)) more) ≡ holds_helper (also token rest)
+other-left pieces inner token rest more o =
+    let t = other-thinned inner token o in
+    other-first (in_front pieces (thinned inner token)) more (front_either IsOther pieces (thinned inner token) t (other-alone (thinned inner token) t)) ∙ sym (other-first token rest o)
+
+alone-group : (inner : Option Scope) (delimiter : Delimiter) (span : Span) (inside : TokenList) → alone (thinned inner (group delimiter span inside)) ≡ thinned inner (group delimiter span inside)
+alone-group None delimiter span inside = refl
+alone-group (Some scope) delimiter span inside = refl
+
+holds-left : (scope : Scope) (rest : TokenList) → holds_helper (left (sorted scope Hash rest)) ≡ holds_helper rest
+holds-left scope none = refl
+holds-left scope (also (group Bracket span inside) rest) =
+    let inner = scope_of scope Hash Bracket (is_none rest) in
+    let next = sorted scope (place_behind scope Hash false (group Bracket span inside)) rest in
+    let is = brackets-left scope (is_none rest) span inside rest (left next) in
+    front_either (λ t. holds_helper (also t (left next)) ≡ holds_helper (also (group Bracket span inside) rest)) next (thinned inner (group Bracket span inside)) is
+    (ap (λ t. holds_helper (also t (left next))) (alone-group inner Bracket span inside) ∙ is)
+holds-left scope (also token rest) =
+    let next = sorted scope (place_behind scope Hash false token) rest in
+    other-left next (scope_inside scope Hash token rest) token rest (left next) tt
+
+-- no helper attribute begins with what stays
+
+mark-shape : (token : Token) (rest : TokenList) → begins_helper (also (shape token) rest) ≡ begins_helper (also token rest)
+mark-shape (identifier text span) rest = refl
+mark-shape (punctuation character spacing span) rest = refl
+mark-shape (literal text span) rest = refl
+mark-shape (doc text span) rest = refl
+mark-shape (group delimiter span inside) rest = refl
+
+mark-left : (scope : Scope) (first : Place) (token : Token) (rest : TokenList) → begins_helper (also token rest) ≡ false → begins_helper (also token (left (sorted scope (behind_start first token) rest))) ≡ false
+mark-left scope first (identifier text span) rest h = refl
+mark-left scope first (punctuation character spacing span) rest h = go (character == hash) refl
+  where
+    go : (b : Bool) → (character == hash) ≡ b → begins_helper (also (punctuation character spacing span) (left (sorted scope (behind_start first (punctuation character spacing span)) rest))) ≡ false
+    go true e = let f : holds_helper rest ≡ false = rw e at h in rw e (holds-left scope rest ∙ f)
+    go false e = rw e refl
+mark-left scope first (literal text span) rest h = refl
+mark-left scope first (doc text span) rest h = refl
+mark-left scope first (group delimiter span inside) rest h = refl
+
+helper-left : (scope : Scope) (first : Place) (pieces : List (Option Token)) (inner : Option Scope) (token : Token) (rest : TokenList) → begins_helper (also token rest) ≡ false →
+    begins_helper (also (in_front pieces (thinned inner token)) (left (sorted scope (behind_start first token) rest))) ≡ false
+helper-left scope first pieces inner token rest h =
+    let t = in_front pieces (thinned inner token) in
+    let more = left (sorted scope (behind_start first token) rest) in
+    sym (mark-shape t more) ∙ ap (λ u. begins_helper (also u more)) (shape-front pieces inner token) ∙ mark-shape token more ∙ mark-left scope first token rest h
+
+-- an entry that stays is the same
+
+comma-entry : (character : ℕ) (spacing : Spacing) (span : Span) (rest : TokenList) (pieces : List (Option Token)) → character ≡ comma →
+    SameEntry (also (punctuation character spacing span) rest) (left (Some (punctuation character spacing span) ∷ pieces))
+comma-entry character spacing span rest pieces e =
+    let more = left pieces in
+    let P : ℕ → Type 0 = λ c. SameEntry (also (punctuation c spacing span) rest) (left (Some (punctuation c spacing span) ∷ pieces)) in
+    subst P (sym e) (front_either (λ t. SameEntry (also (punctuation comma spacing span) rest) (also t more)) pieces (punctuation comma spacing span) (parted span spacing spacing rest more) (parted span spacing Alone rest more))
+
+parted-entry : (token : Token) (rest : TokenList) (pieces : List (Option Token)) → is_comma token ≡ true → SameEntry (also token rest) (left (Some token ∷ pieces))
+parted-entry (identifier text span) rest pieces e = absurd (false≢true e)
+parted-entry (punctuation character spacing span) rest pieces e = comma-entry character spacing span rest pieces (eqb-true character comma e)
+parted-entry (literal text span) rest pieces e = absurd (false≢true e)
+parted-entry (doc text span) rest pieces e = absurd (false≢true e)
+parted-entry (group delimiter span inside) rest pieces e = absurd (false≢true e)
+
+within-front : (rest : TokenList) (token : Token) → in_front (sorted Derives Within rest) token ≡ token
+within-front none token = refl
+within-front (also next rest) token = refl
+
+one-entry : (token : Token) (rest : TokenList) → SameEntry rest (left (sorted Derives Within rest)) → SameEntry (also token rest) (left (Some token ∷ sorted Derives (behind_part Within token) rest))
+one-entry token rest ih = go (is_comma token) refl
+  where
+    go : (b : Bool) → is_comma token ≡ b → SameEntry (also token rest) (left (Some token ∷ sorted Derives (behind_part Within token) rest))
+    go true e = parted-entry token rest (sorted Derives (behind_part Within token) rest) e
+    go false e =
+        let more = left (sorted Derives Within rest) in
+        let P : Place → Type 0 = λ p. SameEntry (also token rest) (left (Some token ∷ sorted Derives p rest)) in
+        let place : Within ≡ behind_part Within token = ap (λ b. if b then Open else Within) (sym e) in
+        subst P place (subst (λ t. SameEntry (also token rest) (also t more)) (sym (within-front rest token)) (further token e ih))
+
+entry-left : (rest : TokenList) → SameEntry rest (left (sorted Derives Within rest))
+entry-left none = ended
+entry-left (also token rest) = rw (no_scope Within token rest) (one-entry token rest (entry-left rest))
+
+-- What is left of a token that stays, and of those behind it.
+module _ (scope : Scope) (place : Place) (token : Token) (rest : TokenList) where
+  abbrev Next : Place
+  Next = place_behind scope place false token
+
+  abbrev first_left : Token
+  first_left = in_front (sorted scope Next rest) (thinned (scope_inside scope place token rest) token)
+
+  abbrev rest_left : TokenList
+  rest_left = left (sorted scope Next rest)
+
+-- it stays again
+goes-left : (scope : Scope) (place : Place) (token : Token) (rest : TokenList) → goes scope place (also token rest) ≡ false → goes scope place (also (first_left scope place token rest) (rest_left scope place token rest)) ≡ false
+goes-left Enum Open token rest h = helper-left Enum Within (sorted Enum (place_behind Enum Open false token) rest) (scope_inside Enum Open token rest) token rest h
+goes-left Attribute Open token rest h = refl
+goes-left Derives Open token rest h =
+    let is : is_macro_entry (left (Some token ∷ sorted Derives (behind_part Within token) rest)) ≡ false = sym (entry_same _ _ (one-entry token rest (entry-left rest))) ∙ h in
+    rw (no_scope Open token rest) is
+goes-left Variants Open token rest h = helper-left Variants Named (sorted Variants (place_behind Variants Open false token) rest) (scope_inside Variants Open token rest) token rest h
+goes-left Fields Open token rest h = helper-left Fields Within (sorted Fields (place_behind Fields Open false token) rest) (scope_inside Fields Open token rest) token rest h
+goes-left scope Hash token rest h = refl
+goes-left scope Gone token rest h = absurd (true≢false h)
+goes-left scope Named token rest h = refl
+goes-left scope Within token rest h = refl
+
+-- of the same scope
+none-left : (rest : TokenList) → is_none (left (sorted Enum Within rest)) ≡ is_none rest
+none-left none = refl
+none-left (also token rest) = refl
+
+scope-rest : (scope : Scope) (place : Place) (delimiter : Delimiter) (span : Span) (inside rest : TokenList) →
+    scope_of scope place delimiter (is_none (rest_left scope place (group delimiter span inside) rest)) ≡ scope_of scope place delimiter (is_none rest)
+scope-rest Enum Open delimiter span inside rest = refl
+scope-rest Enum Hash Parenthesis span inside rest = refl
+scope-rest Enum Hash Bracket span inside rest = refl
+scope-rest Enum Hash Brace span inside rest = refl
+scope-rest Enum Gone delimiter span inside rest = refl
+scope-rest Enum Named delimiter span inside rest = refl
+scope-rest Enum Within delimiter span inside rest = ap (scope_of Enum Within delimiter) (none-left rest)
+scope-rest Attribute Open delimiter span inside rest = refl
+scope-rest Attribute Hash delimiter span inside rest = refl
+scope-rest Attribute Gone delimiter span inside rest = refl
+scope-rest Attribute Named delimiter span inside rest = refl
+scope-rest Attribute Within delimiter span inside rest = refl
+scope-rest Derives place delimiter span inside rest = refl
+scope-rest Variants Open delimiter span inside rest = refl
+scope-rest Variants Hash delimiter span inside rest = refl
+scope-rest Variants Gone delimiter span inside rest = refl
+scope-rest Variants Named delimiter span inside rest = refl
+scope-rest Variants Within delimiter span inside rest = refl
+scope-rest Fields place delimiter span inside rest = refl
+
+scope-again : (scope : Scope) (place : Place) (token : Token) (rest : TokenList) → scope_inside scope place token (rest_left scope place token rest) ≡ scope_inside scope place token rest
+scope-again scope place (identifier text span) rest = refl
+scope-again scope place (punctuation character spacing span) rest = refl
+scope-again scope place (literal text span) rest = refl
+scope-again scope place (doc text span) rest = refl
+scope-again scope place (group delimiter span inside) rest = scope-rest scope place delimiter span inside rest
+
+scope-left : (scope : Scope) (place : Place) (token : Token) (rest : TokenList) → scope_inside scope place (first_left scope place token rest) (rest_left scope place token rest) ≡ scope_inside scope place token rest
+scope-left scope place token rest =
+    scope-front scope place (sorted scope (place_behind scope place false token) rest) (scope_inside scope place token rest) token (rest_left scope place token rest) ∙ scope-again scope place token rest
+
+-- and what it holds is left
+abbrev InsideOnce : Token → Type 0
+InsideOnce (group delimiter span inside) = (inner : Scope) → sorted inner Open (left (sorted inner Open inside)) ≡ kept (left (sorted inner Open inside))
+InsideOnce token = Unit {0}
+
+abbrev IsThinned : Scope → Token → Type 0
+IsThinned scope token = thinned (Some scope) token ≡ token
+
+thinned-again : (scope : Scope) (token : Token) → InsideOnce token → (IsThinned scope (thinned (Some scope) token)) × (IsThinned scope (alone (thinned (Some scope) token)))
+thinned-again scope (identifier text span) ih = (refl, refl)
+thinned-again scope (punctuation character spacing span) ih = (refl, refl)
+thinned-again scope (literal text span) ih = (refl, refl)
+thinned-again scope (doc text span) ih = (refl, refl)
+thinned-again scope (group delimiter span inside) ih =
+    let is : left (sorted scope Open (left (sorted scope Open inside))) ≡ left (sorted scope Open inside) = ap left (ih scope) ∙ left-kept (left (sorted scope Open inside)) in
+    (ap (group delimiter span) is, ap (group delimiter span) is)
+
+thinned-front : (pieces : List (Option Token)) (inner : Option Scope) (token : Token) → InsideOnce token → thinned inner (in_front pieces (thinned inner token)) ≡ in_front pieces (thinned inner token)
+thinned-front pieces None token ih = refl
+thinned-front pieces (Some scope) token ih = let both = thinned-again scope token ih in front_either (IsThinned scope) pieces (thinned (Some scope) token) both.0 both.1
+
+-- Twice is once.
+
+abbrev Once : Scope → Place → TokenList → Type 0
+Once scope place run = sorted scope (settled place) (left (sorted scope place run)) ≡ kept (left (sorted scope place run))
+
+stays : (scope : Scope) (place : Place) (token : Token) (rest : TokenList) → goes scope place (also token rest) ≡ false → InsideOnce token → Once scope (place_behind scope place false token) rest →
+    sorted scope place (also (first_left scope place token rest) (rest_left scope place token rest)) ≡ Some (first_left scope place token rest) ∷ kept (rest_left scope place token rest)
+stays scope place token rest h inside ih =
+    let first = first_left scope place token rest in
+    let more = rest_left scope place token rest in
+    let next = place_behind scope place false token in
+    let pieces = sorted scope next rest in
+    let inner = scope_inside scope place token rest in
+    let again : thinned (scope_inside scope place first more) first ≡ first = ap (λ o. thinned o first) (scope-left scope place token rest) ∙ thinned-front pieces inner token inside in
+    let behind : place_behind scope place false first ≡ next = behind-front scope place false pieces inner token in
+    let there : settled next ≡ next = settled-behind scope place token in
+    let others : sorted scope (place_behind scope place false first) more ≡ kept more = ap (λ p. sorted scope p more) (behind ∙ sym there) ∙ ih in
+    rw (goes-left scope place token rest h) (ap (λ t. Some t ∷ sorted scope (place_behind scope place false first) more) again ∙ ap (λ ps. Some first ∷ ps) others)
+
+stays-place : (scope : Scope) (place : Place) (run : TokenList) → goes scope place run ≡ false → settled place ≡ place
+stays-place scope Open run h = refl
+stays-place scope Hash run h = refl
+stays-place scope Gone run h = absurd (true≢false h)
+stays-place scope Named run h = refl
+stays-place scope Within run h = refl
+
+step : (scope : Scope) (place : Place) (token : Token) (rest : TokenList) → IsReached scope place → InsideOnce token → ((next : Place) → IsReached scope next → Once scope next rest) → Once scope place (also token rest)
+step scope place token rest reached inside ih = go (goes scope place (also token rest)) refl
+  where
+    go : (b : Bool) → goes scope place (also token rest) ≡ b → Once scope place (also token rest)
+    go true e =
+        let next = place_behind scope place true token in
+        let more = left (sorted scope next rest) in
+        let open_places = goes-open scope place token (also token rest) reached e in
+        let is : sorted scope (settled place) more ≡ kept more = ap (λ p. sorted scope p more) (open_places.0 ∙ sym open_places.1) ∙ ih next (reached-behind scope place true token) in
+        rw e is
+    go false e =
+        let is : sorted scope (settled place) (also (first_left scope place token rest) (rest_left scope place token rest)) ≡ Some (first_left scope place token rest) ∷ kept (rest_left scope place token rest) =
+        ap (λ p. sorted scope p (also (first_left scope place token rest) (rest_left scope place token rest))) (stays-place scope place (also token rest) e)
+        ∙ stays scope place token rest e inside (ih (place_behind scope place false token) (reached-behind scope place false token)) in
+        rw e is
+
+once : (scope : Scope) (place : Place) (run : TokenList) → IsReached scope place → Once scope place run
+once scope place none reached = refl
+once scope place (also (identifier text span) rest) reached = step scope place (identifier text span) rest reached tt (λ next r. once scope next rest r)
+once scope place (also (punctuation character spacing span) rest) reached = step scope place (punctuation character spacing span) rest reached tt (λ next r. once scope next rest r)
+once scope place (also (literal text span) rest) reached = step scope place (literal text span) rest reached tt (λ next r. once scope next rest r)
+once scope place (also (doc text span) rest) reached = step scope place (doc text span) rest reached tt (λ next r. once scope next rest r)
+once scope place (also (group delimiter span inside) rest) reached =
+    step scope place (group delimiter span inside) rest reached (λ inner. once inner Open inside (reached-start inner)) (λ next r. once scope next rest r)
+
+-- nothing more goes from what is left of an enum
+pub stripped-once : (tokens : TokenList) → stripped (stripped tokens) ≡ stripped tokens
+stripped-once tokens = ap left (once Enum Open tokens tt) ∙ left-kept (stripped tokens)
