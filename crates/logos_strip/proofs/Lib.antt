@@ -1,2 +1,3 @@
 mod WritingLemmas
 mod once
+mod again

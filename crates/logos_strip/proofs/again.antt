@@ -1,0 +1,4 @@
+pub mod CommaLemmas
+pub mod SiteLemmas
+pub mod ThinningLemmas
+pub mod BackLemmas

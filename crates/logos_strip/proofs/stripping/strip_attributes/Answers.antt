@@ -1,0 +1,6 @@
+use Rattle.logos_token.specs.Views.{stream_tokens}
+use Rattle.logos_source.proofs.RefusalLemmas.{result_ends}
+use Rattle.logos_strip.proofs.stripping.strip_attributes.Goals as goal
+
+pub returns-in-Ok-clause-err : goal.returns-in-Ok-clause-err
+returns-in-Ok-clause-err c = result_ends c.args.src.now (stream_tokens c.in-Ok.stream) _ c.in-Ok.ensures.ok c.strip_tokens.ensures.err
