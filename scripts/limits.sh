@@ -22,7 +22,7 @@ fail() {
 times() {
     local text
     printf -v text "%${2}s" ''
-    printf '%s' "${text// /$1}"
+    printf '%s' "${text// /"$1"}"
 }
 
 # The status, the output and the complaint that the source in the file `source` must give, in both shapes. `*` stands for any text.

@@ -4,6 +4,7 @@ mod codes;
 mod commands;
 mod faults;
 mod sources;
+mod stripping;
 
 use logos_generator::machine::Item;
 use std::alloc::AllocError;

@@ -15,4 +15,5 @@ pub use logos_graph::graph;
 pub use logos_parser::{item, nested, parser};
 pub use logos_pattern::{leaf, pattern};
 pub use logos_source::refusal::Refusal;
+pub use logos_strip::stripping::strip_attributes;
 pub use logos_token::{error, token, util};

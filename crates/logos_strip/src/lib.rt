@@ -6,7 +6,5 @@ mod helpers;
 mod laws;
 pub mod places;
 pub mod stripping;
-#[cfg(test)]
-mod tests;
 mod walk;
 pub mod writer;

@@ -1,8 +1,7 @@
 //! What is left of sources, by example.
 
-use crate::stripping::strip_attributes;
-use logos_source::refusal::Refusal;
-use logos_token::token::print;
+use logos_codegen::token::print;
+use logos_codegen::{Refusal, strip_attributes};
 use std::alloc::Global;
 use std::process::Abort;
 
@@ -62,16 +61,8 @@ fn are_left(rt: &impl Abort, alloc: Global, lines: &str) {
 }
 
 #[test]
-fn entries(rt: HostRuntime) {
-    are_left(&rt, rt.alloc(), ENTRIES);
-}
-
-#[test]
-fn attributes(rt: HostRuntime) {
-    are_left(&rt, rt.alloc(), ATTRIBUTES);
-}
-
-#[test]
-fn refused(rt: HostRuntime) {
-    are_left(&rt, rt.alloc(), REFUSED);
+fn what_is_left_is_what_the_rows_say(rt: HostRuntime) {
+    for rows in [ENTRIES, ATTRIBUTES, REFUSED] {
+        are_left(&rt, rt.alloc(), rows);
+    }
 }
