@@ -3,7 +3,7 @@
 #![tactic(auto)]
 
 mod helpers;
-mod laws;
+pub mod laws;
 pub mod places;
 pub mod stripping;
 mod walk;
