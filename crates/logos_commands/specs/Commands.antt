@@ -6,15 +6,16 @@ use Rattle.logos_codegen.specs.declared.lexing.LexSourceError.TheVariants as err
 use Rattle.logos_source.specs.declared.refusal.Refusal.{Refusal}
 use Rattle.logos_source.specs.declared.refusal.Refusal.TheVariants as refusals
 use Rattle.logos_commands.specs.declared.command.Command.{Command}
-use Rattle.logos_commands.specs.declared.command.Command.TheVariants.{Text, Items, Chart}
+use Rattle.logos_commands.specs.declared.command.Command.TheVariants.{Text, Items, Chart, Export}
 use Rattle.logos_commands.specs.declared.failure.Failure.{Failure}
-use Rattle.logos_commands.specs.declared.failure.Failure.TheVariants.{Read, Write, Refused, NotUtf8, Alike, Memory}
+use Rattle.logos_commands.specs.declared.failure.Failure.TheVariants.{Read, Write, Output, Refused, NotUtf8, Alike, NotExported, Memory}
 
--- What the words ask for: the Rust text of the lexer in a file, the items of an input by it, or the chart of its graph.
+-- What the words ask for: the Rust text of the lexer in a file, the items of an input by it, or the chart of its graph, here or in a file.
 pub data Asked : Type 0 where
   asks_text : (file : List ℕ) → (shape : Config) → Asked
   asks_items : (file input : List ℕ) → (shape : Config) → Asked
   asks_chart : (file : List ℕ) → Asked
+  asks_export : (file : List ℕ) → Asked
 
 -- the shape of a name
 abbrev pub shape_named : List ℕ → Option Config
@@ -44,6 +45,11 @@ abbrev pub chart_in : List (List ℕ) → Option Asked
 chart_in (file ∷ []) = Some (asks_chart file)
 chart_in words = None
 
+-- behind `export`: a file
+abbrev pub export_in : List (List ℕ) → Option Asked
+export_in (file ∷ []) = Some (asks_export file)
+export_in words = None
+
 -- what the words ask for, if they are a command
 abbrev pub asked : List (List ℕ) → Option Asked
 asked [] = None
@@ -51,21 +57,25 @@ asked (name ∷ rest) =
     if bytes_eq name (codes "gen") then text_in rest
     else (if bytes_eq name (codes "lex") then items_in rest
     else (if bytes_eq name (codes "mermaid") then chart_in rest
-    else None))
+    else (if bytes_eq name (codes "export") then export_in rest
+    else None)))
 
 -- what a command asks for
 abbrev pub command_asked : Command → Asked
 command_asked (Text file config) = asks_text file.now config
 command_asked (Items file input config) = asks_items file.now input.now config
 command_asked (Chart file) = asks_chart file.now
+command_asked (Export file) = asks_export file.now
 
--- 1 where source, input or graph are refused, 3 where a file or the memory fails
+-- 1 where source, input, graph or the path of a chart are refused, 3 where a file or the memory fails
 abbrev pub status_of : Failure → ℕ
 status_of (Read path) = 3
 status_of (Write path) = 3
+status_of Output = 3
 status_of (Refused errors) = 1
 status_of (NotUtf8 valid_up_to) = 1
 status_of (Alike s t) = 1
+status_of (NotExported why) = 1
 status_of Memory = 3
 
 -- what is not done where a source is refused

@@ -1,7 +1,8 @@
 //! The commands that words ask for.
 
 ghost use Rattle.std.specs.Prelude.{◌≡◌, bytes_eq, map, option_map, string_bytes};
-ghost use Rattle.logos_commands.specs.Commands.{asked, chart_in, command_asked, items_in, shape_in, shape_named, text_in};
+ghost use Rattle.logos_commands.specs.Commands.{asked, chart_in, command_asked, export_in, items_in, shape_in};
+ghost use Rattle.logos_commands.specs.Commands.{shape_named, text_in};
 
 use logos_codegen::generator::Config;
 
@@ -23,6 +24,10 @@ pub(super) enum Command<'w> {
     Chart {
         file: &'w str,
     },
+    /// The same chart, in the file that the source names.
+    Export {
+        file: &'w str,
+    },
 }
 
 /// What the words ask for, if they are a command.
@@ -40,6 +45,9 @@ pub(super) fn command_of(words: &[String]) -> Option<Command<'_>>
     }
     if is_word(name, "mermaid") {
         return chart_of(words);
+    }
+    if is_word(name, "export") {
+        return export_of(words);
     }
     None
 }
@@ -85,6 +93,18 @@ fn chart_of(words: &[String]) -> Option<Command<'_>>
 {
     match words {
         [file] => Some(Command::Chart {
+            file: file.as_str(),
+        }),
+        _ => None,
+    }
+}
+
+/// What the words behind `export` ask for.
+fn export_of(words: &[String]) -> Option<Command<'_>>
+    ensures { option_map command_asked result ≡ export_in (map string_bytes words.now) }
+{
+    match words {
+        [file] => Some(Command::Export {
             file: file.as_str(),
         }),
         _ => None,

@@ -12,13 +12,33 @@ use std::io::Write;
 /// Why a command was not done.
 #[derive(Drop)]
 pub(super) enum Failure<'w> {
+    /// The file at this path cannot be read, or is no text.
     Read(&'w str),
-    Write(&'w str),
+    /// The file at this path cannot be written.
+    Write(String),
+    /// Standard output cannot be written.
+    Output,
+    /// The source has these faults.
     Refused(Errors),
+    /// The input is no UTF-8 behind so many bytes.
     NotUtf8 { valid_up_to: usize },
     /// Two states of a graph that nothing tells apart.
     Alike { s: usize, t: usize },
+    /// The source does not say where its chart goes, or says it in a way that is refused.
+    NotExported(Unexported),
+    /// Memory ran out.
     Memory,
+}
+
+/// Why there is no path for a chart.
+#[derive(Clone, Copy)]
+pub(super) enum Unexported {
+    /// The source names none.
+    Unsaid,
+    /// It is one of a chart in the language DOT.
+    Dot,
+    /// It has another extension than a chart.
+    Extension,
 }
 
 impl From<AllocError> for Failure<'_> {
@@ -89,6 +109,11 @@ pub(super) fn report<E: Write>(failure: &Failure<'_>, err: &mut E) -> u8
             let _ = writeln!(err, "states {s} and {t} are alike");
             1
         }
+        Failure::NotExported(why) => {
+            let text = unexported_text(*why);
+            let _ = writeln!(err, "{text}");
+            1
+        }
         Failure::Read(path) => {
             let _ = writeln!(err, "cannot read {path}");
             3
@@ -97,9 +122,24 @@ pub(super) fn report<E: Write>(failure: &Failure<'_>, err: &mut E) -> u8
             let _ = writeln!(err, "cannot write {path}");
             3
         }
+        Failure::Output => {
+            let _ = writeln!(err, "cannot write standard output");
+            3
+        }
         Failure::Memory => {
             let _ = writeln!(err, "out of memory");
             3
+        }
+    }
+}
+
+/// Why there is no path for a chart, in words.
+fn unexported_text(why: Unexported) -> &'static str {
+    match why {
+        Unexported::Unsaid => "no export path",
+        Unexported::Dot => "DOT export is left out",
+        Unexported::Extension => {
+            "Export path must end in '.dot' or '.mmd', or it must be a directory."
         }
     }
 }

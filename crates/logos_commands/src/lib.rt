@@ -2,6 +2,7 @@
 
 #![tactic(auto)]
 
+mod chart_path;
 mod command;
 mod failure;
 mod files;

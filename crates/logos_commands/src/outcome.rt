@@ -1,7 +1,8 @@
 //! What the commands give.
 
+use crate::chart_path::chart_path;
 use crate::command::Command;
-use crate::failure::Failure;
+use crate::failure::{Failure, Unexported};
 use crate::files::{FileError, Files};
 use logos_codegen::generator::Config;
 use logos_codegen::graph::{Graph, State};
@@ -9,20 +10,30 @@ use logos_codegen::machine::{Action, Item};
 use logos_codegen::{Generated, generate, lex_source};
 use std::alloc::{AllocError, Global};
 
-/// The text that a command writes.
-pub(super) fn outcome<'w, F: Files>(
+/// What a command gives.
+#[derive(Drop)]
+pub(super) enum Outcome {
+    /// A text for standard output.
+    Text(String),
+    /// A chart for the file at this path.
+    Chart { path: String, text: String },
+}
+
+/// What a command gives, whole, before any of it is written.
+pub(super) fn outcome_of<'w, F: Files>(
     alloc: Global,
     command: Command<'w>,
     files: &mut F,
-) -> Result<String, Failure<'w>> {
+) -> Result<Outcome, Failure<'w>> {
     match command {
-        Command::Text { file, config } => text(alloc, file, config, files),
+        Command::Text { file, config } => Ok(Outcome::Text(text(alloc, file, config, files)?)),
         Command::Items {
             file,
             input,
             config,
-        } => items(alloc, file, input, config, files),
-        Command::Chart { file } => chart(alloc, file, files),
+        } => Ok(Outcome::Text(items(alloc, file, input, config, files)?)),
+        Command::Chart { file } => Ok(Outcome::Text(chart(alloc, file, files)?)),
+        Command::Export { file } => export(alloc, file, files),
     }
 }
 
@@ -95,6 +106,40 @@ fn chart_of_source(alloc: Global, source: &str) -> Result<String, Failure<'stati
     };
     let made = generate(alloc, source, config)?;
     tested_chart(alloc, &made.graph)
+}
+
+/// The chart of a source's graph, for the file that the source names.
+fn export<'w, F: Files>(
+    alloc: Global,
+    file: &'w str,
+    files: &mut F,
+) -> Result<Outcome, Failure<'w>> {
+    let source = read_text(file, files)?;
+    export_of_source(alloc, source.as_str())
+}
+
+/// The chart of a source's graph, for the file that the source names.
+fn export_of_source(alloc: Global, source: &str) -> Result<Outcome, Failure<'static>> {
+    let config = Config {
+        use_state_machine_codegen: true,
+    };
+    let made = generate(alloc, source, config)?;
+    export_of_lexer(alloc, &made)
+}
+
+/// The chart of the graph of a lexer that was made, for the file that its source names.
+fn export_of_lexer(alloc: Global, made: &Generated<'_>) -> Result<Outcome, Failure<'static>> {
+    let path = path_of_chart(alloc, made)?;
+    let text = tested_chart(alloc, &made.graph)?;
+    Ok(Outcome::Chart { path, text })
+}
+
+/// The path of the file that a source names for its chart.
+fn path_of_chart(alloc: Global, made: &Generated<'_>) -> Result<String, Failure<'static>> {
+    match &made.export_path {
+        Some(path) => chart_path(alloc, path.as_str(), made.name.text),
+        None => Err(Failure::NotExported(Unexported::Unsaid)),
+    }
 }
 
 /// The chart of a graph, once each state is told apart from the next.

@@ -5,8 +5,8 @@ ghost use Rattle.logos_commands.specs.Commands.{asked};
 
 use crate::command::{Command, command_of};
 use crate::failure::{Failure, report};
-use crate::files::Files;
-use crate::outcome::outcome;
+use crate::files::{FileError, Files};
+use crate::outcome::{Outcome, outcome_of};
 use std::alloc::Global;
 use std::io;
 use std::io::Write;
@@ -39,10 +39,26 @@ fn carry_out<'w, F: Files, O: Write>(
     files: &mut F,
     out: &mut O,
 ) -> Result<(), Failure<'w>> {
-    let text = outcome(alloc, command, files)?;
+    match outcome_of(alloc, command, files)? {
+        Outcome::Text(text) => write_out(text.as_str(), out),
+        Outcome::Chart { path, text } => write_file(path, text.as_str(), files),
+    }
+}
+
+/// Writes a text to standard output.
+fn write_out<O: Write>(text: &str, out: &mut O) -> Result<(), Failure<'static>> {
     match out.write_all(text.as_bytes()) {
         Ok(()) => Ok(()),
-        Err(_) => Err(Failure::Write("standard output")),
+        Err(_) => Err(Failure::Output),
+    }
+}
+
+/// Writes a text to a file.
+fn write_file<F: Files>(path: String, text: &str, files: &mut F) -> Result<(), Failure<'static>> {
+    match files.write(path.as_str(), text.as_bytes()) {
+        Ok(()) => Ok(()),
+        Err(FileError::Failed) => Err(Failure::Write(path)),
+        Err(FileError::Memory) => Err(Failure::Memory),
     }
 }
 

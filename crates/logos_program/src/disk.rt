@@ -17,9 +17,30 @@ impl<R: Runtime + AllocGlobal> Files for Disk<'_, R> {
             Err(error) => Err(file_error(&error)),
         }
     }
+
+    fn write(&mut self, path: &str, bytes: &[u8]) -> Result<(), FileError> {
+        match write_file(self.rt, path, bytes) {
+            Ok(()) => Ok(()),
+            Err(error) => Err(file_error(&error)),
+        }
+    }
 }
 
-/// Why a file was not read: there was no memory for its bytes, or something else.
+/// Writes the file, once the folders on the way to it are there.
+fn write_file<R: Runtime>(rt: &R, path: &str, bytes: &[u8]) -> io::Result<()> {
+    fs::create_dir_all(rt, folder_of(path))?;
+    fs::write(rt, path, bytes)
+}
+
+/// The folder that a file lies in: what stands in front of the last `/` of its path, and nothing where there is none.
+fn folder_of(path: &str) -> &str {
+    match path.rsplit_once('/') {
+        Some((folder, _)) => folder,
+        None => "",
+    }
+}
+
+/// Why a file was not read or written: there was no memory for it, or something else.
 fn file_error(error: &io::Error) -> FileError {
     match error.kind() {
         io::ErrorKind::OutOfMemory => FileError::Memory,
