@@ -6,16 +6,18 @@ use Rattle.logos_codegen.specs.declared.lexing.LexSourceError.TheVariants as err
 use Rattle.logos_source.specs.declared.refusal.Refusal.{Refusal}
 use Rattle.logos_source.specs.declared.refusal.Refusal.TheVariants as refusals
 use Rattle.logos_commands.specs.declared.command.Command.{Command}
-use Rattle.logos_commands.specs.declared.command.Command.TheVariants.{Text, Items, Chart, Export}
+use Rattle.logos_commands.specs.declared.command.Command.TheVariants.{Text, Items, Chart, Export, Strip}
 use Rattle.logos_commands.specs.declared.failure.Failure.{Failure}
 use Rattle.logos_commands.specs.declared.failure.Failure.TheVariants.{Read, Write, Output, Refused, NotUtf8, Alike, NotExported, Memory}
 
--- What the words ask for: the Rust text of the lexer in a file, the items of an input by it, or the chart of its graph, here or in a file.
+-- What the words ask for: the Rust text of the lexer in a file, the items of an input by it, the chart of its graph, here or in a file, or what is left
+-- of the file without what belongs to the derive macro.
 pub data Asked : Type 0 where
   asks_text : (file : List ℕ) → (shape : Config) → Asked
   asks_items : (file input : List ℕ) → (shape : Config) → Asked
   asks_chart : (file : List ℕ) → Asked
   asks_export : (file : List ℕ) → Asked
+  asks_strip : (file : List ℕ) → Asked
 
 -- the shape of a name
 abbrev pub shape_named : List ℕ → Option Config
@@ -50,6 +52,11 @@ abbrev pub export_in : List (List ℕ) → Option Asked
 export_in (file ∷ []) = Some (asks_export file)
 export_in words = None
 
+-- behind `strip`: a file
+abbrev pub strip_in : List (List ℕ) → Option Asked
+strip_in (file ∷ []) = Some (asks_strip file)
+strip_in words = None
+
 -- what the words ask for, if they are a command
 abbrev pub asked : List (List ℕ) → Option Asked
 asked [] = None
@@ -58,7 +65,8 @@ asked (name ∷ rest) =
     else (if bytes_eq name (codes "lex") then items_in rest
     else (if bytes_eq name (codes "mermaid") then chart_in rest
     else (if bytes_eq name (codes "export") then export_in rest
-    else None)))
+    else (if bytes_eq name (codes "strip") then strip_in rest
+    else None))))
 
 -- what a command asks for
 abbrev pub command_asked : Command → Asked
@@ -66,6 +74,7 @@ command_asked (Text file config) = asks_text file.now config
 command_asked (Items file input config) = asks_items file.now input.now config
 command_asked (Chart file) = asks_chart file.now
 command_asked (Export file) = asks_export file.now
+command_asked (Strip file) = asks_strip file.now
 
 -- 1 where source, input, graph or the path of a chart are refused, 3 where a file or the memory fails
 abbrev pub status_of : Failure → ℕ

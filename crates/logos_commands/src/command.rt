@@ -2,7 +2,7 @@
 
 ghost use Rattle.std.specs.Prelude.{◌≡◌, bytes_eq, map, option_map, string_bytes};
 ghost use Rattle.logos_commands.specs.Commands.{asked, chart_in, command_asked, export_in, items_in, shape_in};
-ghost use Rattle.logos_commands.specs.Commands.{shape_named, text_in};
+ghost use Rattle.logos_commands.specs.Commands.{shape_named, strip_in, text_in};
 
 use logos_codegen::generator::Config;
 
@@ -28,6 +28,10 @@ pub(super) enum Command<'w> {
     Export {
         file: &'w str,
     },
+    /// What is left of the file without what belongs to the derive macro.
+    Strip {
+        file: &'w str,
+    },
 }
 
 /// What the words ask for, if they are a command.
@@ -48,6 +52,9 @@ pub(super) fn command_of(words: &[String]) -> Option<Command<'_>>
     }
     if is_word(name, "export") {
         return export_of(words);
+    }
+    if is_word(name, "strip") {
+        return strip_of(words);
     }
     None
 }
@@ -105,6 +112,18 @@ fn export_of(words: &[String]) -> Option<Command<'_>>
 {
     match words {
         [file] => Some(Command::Export {
+            file: file.as_str(),
+        }),
+        _ => None,
+    }
+}
+
+/// What the words behind `strip` ask for.
+fn strip_of(words: &[String]) -> Option<Command<'_>>
+    ensures { option_map command_asked result ≡ strip_in (map string_bytes words.now) }
+{
+    match words {
+        [file] => Some(Command::Strip {
             file: file.as_str(),
         }),
         _ => None,

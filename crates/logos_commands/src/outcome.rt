@@ -7,7 +7,8 @@ use crate::files::{FileError, Files};
 use logos_codegen::generator::Config;
 use logos_codegen::graph::{Graph, State};
 use logos_codegen::machine::{Action, Item};
-use logos_codegen::{Generated, generate, lex_source};
+use logos_codegen::token::print;
+use logos_codegen::{Generated, generate, lex_source, strip_attributes};
 use std::alloc::{AllocError, Global};
 
 /// What a command gives.
@@ -34,6 +35,7 @@ pub(super) fn outcome_of<'w, F: Files>(
         } => Ok(Outcome::Text(items(alloc, file, input, config, files)?)),
         Command::Chart { file } => Ok(Outcome::Text(chart(alloc, file, files)?)),
         Command::Export { file } => export(alloc, file, files),
+        Command::Strip { file } => Ok(Outcome::Text(stripped(alloc, file, files)?)),
     }
 }
 
@@ -76,6 +78,24 @@ fn text_of_source(alloc: Global, source: &str, config: Config) -> Result<String,
 /// The Rust text of a lexer that was made.
 fn text_of_lexer(alloc: Global, made: &Generated<'_>) -> Result<String, Failure<'static>> {
     Ok(made.text(alloc)?)
+}
+
+/// What is left of a file without what belongs to the derive macro, and LF.
+fn stripped<'w, F: Files>(
+    alloc: Global,
+    file: &'w str,
+    files: &mut F,
+) -> Result<String, Failure<'w>> {
+    let source = read_text(file, files)?;
+    let mut text = stripped_source(alloc, source.as_str())?;
+    text.push('\n')?;
+    Ok(text)
+}
+
+/// What is left of a source without what belongs to the derive macro.
+fn stripped_source(alloc: Global, source: &str) -> Result<String, Failure<'static>> {
+    let left = strip_attributes(alloc, source)?;
+    Ok(print(alloc, left.run())?)
 }
 
 /// A line for each item of the input.
