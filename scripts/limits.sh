@@ -1,6 +1,7 @@
 #!/usr/bin/env bash
 # Meets each limit of sources and patterns, and passes it by one, in both shapes: what is within a limit is accepted, what is beyond it
-# is refused with that limit at its place. Then it cuts a source off at each byte: each proper beginning is refused with one fault.
+# is refused with that limit at its place. Then it cuts a source off at each byte: each proper beginning is refused with one fault, by
+# `lex` and by `strip`.
 #
 # It needs the program as `rt ci` or `rt run` leaves it in crates/logos_program/out, or the first argument.
 set -euo pipefail
@@ -105,6 +106,13 @@ for ((length = 0; length < ${#whole}; length++)); do
     printf '%s' "${whole:0:length}" > source
     gives "the first $length bytes" 1 '' '*..* [A-Z]*: *'
     [ "$(wc -l < err)" = 1 ] || fail "the first $length bytes: more than one fault"
+    mv err wanted
+    status=0
+    "$program" strip source > out 2> err || status=$?
+    [ "$status" = 1 ] && cmp -s err wanted && [ ! -s out ] || fail "the first $length bytes: stripped as something else"
+    met=$((met + 1))
 done
+printf '%s' "$whole" > source
+[ "$("$program" strip source)" = '# [ derive ( Debug , serde :: Serialize ) ] enum E { A }' ] || fail "another strip of the whole"
 
 echo "limits: $met answers are as they must be"
