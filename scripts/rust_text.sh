@@ -1,9 +1,11 @@
 #!/usr/bin/env bash
 # Compiles the Rust texts that `logos gen` prints and compares what they find with `logos lex`.
 #
-# Each source of scripts/rust_text/sources is printed in both shapes. rustc compiles all texts at once beside the project's small runtime,
+# Each source of scripts/rust_text/sources is printed in both shapes. rustc compiles all texts at once beside a small runtime,
 # and what comes of each input of scripts/rust_text/inputs is compared, item by item. A source has each attribute on a line of its own,
-# and at most one on a variant, so that a variant's place tells its leaf. Where an input is refused, since it is not UTF-8, nothing is
+# and at most one on a variant, so that a variant's place tells its leaf. A source with callbacks, values or parameters may have more;
+# beside it stands a file of this name in scripts/rust_text/beside, with the Rust items that it names, the type of its tokens and the
+# leaf of each. Its callbacks keep what they match, as `logos lex` does. Where an input is refused, since it is not UTF-8, nothing is
 # compared. The program `logos` is that which the gate has built, or the first argument. Where there is no rustc, it says so and ends well.
 set -euo pipefail
 
@@ -28,11 +30,13 @@ for source in "$root"/scripts/rust_text/sources/*.rs; do
         { echo "mod ${name}_$shape {"
           grep -v '^ *#\[' "$source"
           cat "$room/$name.$shape.rs"
-          echo "pub fn lines(input: &[u8]) { super::lines::<$enum>(super::Input::of(input), |token| leaf(token)) }"
-          if grep -q '^    [A-Z]' "$source"; then
-              echo "fn leaf(token: $enum) -> usize { token as usize + $skips }"
+          if [ -e "$root/scripts/rust_text/beside/$name.rs" ]; then
+              cat "$root/scripts/rust_text/beside/$name.rs"
+              echo "pub fn lines(input: &[u8]) { super::lines::<Tokens>(super::Input::of(input), leaf) }"
+          elif grep -q '^    [A-Z]' "$source"; then
+              echo "pub fn lines(input: &[u8]) { super::lines::<$enum>(super::Input::of(input), |_, token| token as usize + $skips) }"
           else
-              echo "fn leaf(token: $enum) -> usize { match token {} }"
+              echo "pub fn lines(input: &[u8]) { super::lines::<$enum>(super::Input::of(input), |_, token| match token {}) }"
           fi
           echo "}"; } >> "$room/main.rs"
         arms+="(\"$name\", \"$shape\") => ${name}_$shape::lines(&input), "
@@ -43,7 +47,7 @@ done
   echo "let input = std::fs::read(&words[3]).expect(\"an input\");"
   echo "match (words[1].as_str(), words[2].as_str()) { $arms _ => panic!(\"no such text\") }"
   echo "}"; } >> "$room/main.rs"
-rustc --edition 2021 --crate-type rlib --crate-name logos -o "$room/liblogos.rlib" "$root/bench/lexer/rust/runtime.rs"
+rustc --edition 2021 --crate-type rlib --crate-name logos -o "$room/liblogos.rlib" "$root/scripts/rust_text/runtime.rs"
 rustc --edition 2021 --extern "logos=$room/liblogos.rlib" -o "$room/items" "$room/main.rs"
 
 compared=0

@@ -1,5 +1,7 @@
 //! The commands over files in memory: their statuses, and what they write.
 
+mod exports;
+
 use logos_commands::{FileError, Files, run};
 use std::alloc::{AllocError, Global};
 use std::io;
@@ -23,6 +25,10 @@ impl Files for Shelf {
             _ => return Err(FileError::Failed),
         };
         Vec::from_slice(self.alloc, bytes).map_err(|_| FileError::Memory)
+    }
+
+    fn write(&mut self, _path: &str, _bytes: &[u8]) -> Result<(), FileError> {
+        Err(FileError::Failed)
     }
 }
 
@@ -196,6 +202,19 @@ const REFUSED: &[Row] = &[
         b"",
         "17..19 EmptyMatch: The pattern #[token(\"\")] ::A can match the empty string, which is unsupported by logos.\n",
     ),
+    // the faults of a source come before its path
+    (
+        &["export", "t.rs"],
+        b"#[logos(export_dir = \"a.dot\")] enum T { #[token(\"\")] A }",
+        b"",
+        "48..50 EmptyMatch: The pattern #[token(\"\")] ::A can match the empty string, which is unsupported by logos.\n",
+    ),
+    (
+        &["export", "t.rs"],
+        b"#[logos(export_dir = b\"a.dot\")] enum T { #[token(\"a\")] A }",
+        b"",
+        "21..29 ExportBytes: Expected a &str\n",
+    ),
 ];
 
 const SOURCE: &[u8] = b"enum T { }";
@@ -218,6 +237,8 @@ const NOT_READ: &[Row] = &[
     (&["gen", "--shape"], SOURCE, b"", "cannot read --shape\n"),
     (&["gen", "t.rs"], TORN, b"", "cannot read t.rs\n"),
     (&["mermaid", "none"], SOURCE, b"", "cannot read none\n"),
+    (&["export", "none"], SOURCE, b"", "cannot read none\n"),
+    (&["export", "t.rs"], TORN, b"", "cannot read t.rs\n"),
 ];
 
 const USAGE: &str = "usage: logos gen|lex|strip|mermaid|export FILE ..\n";
@@ -254,6 +275,15 @@ const USAGES: &[Row] = &[
     (&["mermaid"], SOURCE, b"", USAGE),
     (
         &["mermaid", "t.rs", "--shape", "tailcall"],
+        SOURCE,
+        b"",
+        USAGE,
+    ),
+    (&["export"], SOURCE, b"", USAGE),
+    (&["Export", "t.rs"], SOURCE, b"", USAGE),
+    (&["export", "t.rs", "input"], SOURCE, b"", USAGE),
+    (
+        &["export", "t.rs", "--shape", "tailcall"],
         SOURCE,
         b"",
         USAGE,
