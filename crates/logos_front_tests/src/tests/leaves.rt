@@ -3,9 +3,9 @@
 use super::parser::{push_codes, push_leaf};
 use super::rows::{Ask, lines_are_told, push};
 use logos_leaf::leaf::{regex_leaf, token_leaf};
-use logos_parser::parser::{Definition, Parser, Subpatterns};
+use logos_parser::parser::{Parser, Subpatterns};
 use logos_pattern::leaf::{Leaf, VariantKind};
-use logos_token::error::{Errors, Memory};
+use logos_token::error::Memory;
 use logos_token::token::{Ident, Span, tokenize};
 use std::alloc::Global;
 use std::process::Abort;
@@ -23,18 +23,22 @@ const NAME: Ident<'static> = Ident {
     span: Span { from: 0, to: 0 },
 };
 
-/// The leaf of a variant that a definition makes.
+/// The leaf of a variant that the last `skip` makes, if there is one.
 fn made<'s>(
     alloc: Global,
-    definition: Definition<'s>,
     form: &Form,
     subpatterns: &Subpatterns<'s>,
-    errors: &mut Errors,
+    parser: &mut Parser<'s>,
 ) -> Result<Option<Leaf<'s>>, Memory> {
     let kind = VariantKind::Unit(NAME);
-    match form {
-        Form::Token => token_leaf(alloc, definition, kind, errors),
-        Form::Regex => regex_leaf(alloc, definition, kind, subpatterns, errors),
+    match (parser.skips.pop(), form) {
+        (None, _) => Ok(None),
+        (Some(definition), Form::Token) => {
+            token_leaf(alloc, definition, kind, &mut parser.errors)
+        }
+        (Some(definition), Form::Regex) => {
+            regex_leaf(alloc, definition, kind, subpatterns, &mut parser.errors)
+        }
     }
 }
 
@@ -52,7 +56,7 @@ fn push_answer(
     }
 }
 
-/// Adds the leaf that the last `skip` of what was read makes, and the faults.
+/// Adds the leaf that the last `skip` of what was read makes, or `-`.
 fn push_last(
     rt: &impl Abort,
     alloc: Global,
@@ -61,12 +65,12 @@ fn push_last(
     parser: &mut Parser<'_>,
 ) {
     let list = parser.subpatterns.as_slice();
-    let read = Subpatterns::new(alloc, list, false, &mut parser.errors);
-    let subpatterns = read.expect(rt, "memory");
-    let definition = parser.skips.pop().expect(rt, "a skip");
-    let answer = made(alloc, definition, form, &subpatterns, &mut parser.errors);
-    push_answer(rt, alloc, out, &answer);
-    push_codes(rt, out, &parser.errors);
+    match &Subpatterns::new(alloc, list, false, &mut parser.errors) {
+        Ok(subpatterns) => {
+            push_answer(rt, alloc, out, &made(alloc, form, subpatterns, parser));
+        }
+        Err(_) => push(rt, out, "no memory"),
+    }
 }
 
 /// Adds the leaf that the last `skip` of an argument list makes, and the faults.
@@ -75,6 +79,7 @@ pub(super) fn push_made(rt: &impl Abort, alloc: Global, out: &mut String, form: 
     let mut parser = Parser::new(alloc);
     parser.read_logos(stream.run()).expect(rt, "memory");
     push_last(rt, alloc, out, form, &mut parser);
+    push_codes(rt, out, &parser.errors);
 }
 
 /// What becomes of definitions in `token`.

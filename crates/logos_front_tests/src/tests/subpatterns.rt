@@ -50,6 +50,15 @@ fn pairs<'s>(rt: &impl Abort, alloc: Global, run: Tokens<'_, 's>) -> Vec<(Ident<
     list
 }
 
+/// Adds a whole pattern in brackets, or `-`.
+fn push_whole(rt: &impl Abort, out: &mut String, put: &Result<Option<String>, Memory>) {
+    match put {
+        Ok(Some(whole)) => write!(out, "[{whole}] ").expect(rt, "memory"),
+        Ok(None) => push(rt, out, "- "),
+        Err(_) => push(rt, out, "no memory "),
+    }
+}
+
 /// Adds what a pattern becomes in brackets, or `-`, and the faults.
 fn push_put(
     rt: &impl Abort,
@@ -60,12 +69,12 @@ fn push_put(
     pattern: &str,
 ) {
     let mut errors = Errors::new(alloc);
-    let read = Subpatterns::new(alloc, list, utf8_mode, &mut errors);
-    let subpatterns = read.expect(rt, "memory");
-    let put = subpatterns.subst_subpatterns(alloc, pattern, PLACE, &mut errors);
-    match &put.expect(rt, "memory") {
-        Some(whole) => write!(out, "[{whole}] ").expect(rt, "memory"),
-        None => push(rt, out, "- "),
+    match &Subpatterns::new(alloc, list, utf8_mode, &mut errors) {
+        Ok(subpatterns) => {
+            let put = subpatterns.subst_subpatterns(alloc, pattern, PLACE, &mut errors);
+            push_whole(rt, out, &put);
+        }
+        Err(_) => push(rt, out, "no memory "),
     }
     push_faults(rt, out, &errors);
 }
