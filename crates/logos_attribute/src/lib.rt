@@ -7,4 +7,5 @@ pub mod flags;
 pub mod listing;
 pub mod literal;
 pub mod nested;
+pub mod parsed;
 pub mod value;

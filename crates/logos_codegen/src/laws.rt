@@ -16,16 +16,26 @@ use logos_hir::leaf::LeafId;
 
 /// A source has one list of rules and one mode.
 pub fn a_source_has_one_list_of_rules()
-    ensures { (source : List ℕ) (rules others : List Rule) (utf8 other : Bool) → IsAccepted source rules utf8 → IsAccepted source others other → (rules ≡ others) × (utf8 ≡ other) }
+    ensures { (source : List ℕ) (rules others : List Rule) (utf8 other : Bool) →
+        IsAccepted source rules utf8 → IsAccepted source others other → (rules ≡ others)
+        × (utf8 ≡ other) }
 {}
 
 /// Of a source in UTF-8 mode, each run of its code on a text gives items that start and end between
 /// characters.
 pub fn runs_start_and_end_between_characters<C: Fn(LeafId, &[u8]) -> Action>(callback: &C)
-    ensures { (source : List ℕ) (rules : List Rule) (code : CodeValue) (bytes : List ℕ) (items : List Item) → IsAccepted source rules true → IsLexer rules true code → IsInput true bytes → Runs code (answers_of C.Fn callback.now) bytes 0 items → All (IsCut bytes) items }
+    ensures { (source : List ℕ) (rules : List Rule) (code : CodeValue) (bytes : List ℕ)
+        (items : List Item) → IsAccepted source rules true → IsLexer rules true code →
+        IsInput true bytes → Runs code (answers_of C.Fn callback.now) bytes 0 items →
+        All (IsCut bytes) items }
 {}
 
 /// Two codes of one source, as of both shapes, have the same runs.
 pub fn codes_of_a_source_agree<C: Fn(LeafId, &[u8]) -> Action>(callback: &C)
-    ensures { (source : List ℕ) (rules others : List Rule) (utf8 other : Bool) (code next : CodeValue) (bytes : List ℕ) (items : List Item) → IsAccepted source rules utf8 → IsAccepted source others other → IsLexer rules utf8 code → IsLexer others other next → IsInput utf8 bytes → Runs code (answers_of C.Fn callback.now) bytes 0 items ↔ Runs next (answers_of C.Fn callback.now) bytes 0 items }
+    ensures { (source : List ℕ) (rules others : List Rule) (utf8 other : Bool)
+        (code next : CodeValue) (bytes : List ℕ) (items : List Item) →
+        IsAccepted source rules utf8 → IsAccepted source others other → IsLexer rules utf8 code →
+        IsLexer others other next → IsInput utf8 bytes →
+        Runs code (answers_of C.Fn callback.now) bytes 0 items ↔ Runs next
+        (answers_of C.Fn callback.now) bytes 0 items }
 {}

@@ -88,7 +88,8 @@ fn lex_input<'i, C: Fn(LeafId, &[u8]) -> Action + Drop>(
     callbacks: C,
 ) -> Result<Vec<Item<'i>>, LexSourceError>
     requires { C.IsAlwaysCallable callbacks }
-    ensures items { IfOk result (λ items. Runs code.now (answers_of C.Fn callbacks) input.now 0 (map item_of items.items)) }
+    ensures items { IfOk result (λ items. Runs code.now (answers_of C.Fn callbacks) input.now 0
+        (map item_of items.items)) }
     ensures text { IfOk result (λ items. IsTrue code.now.utf8 → IsUtf8 input.now) }
     ensures err { IfErr result (IsUnlexed code.now input.now) }
 {
@@ -105,8 +106,9 @@ fn lex_input<'i, C: Fn(LeafId, &[u8]) -> Action + Drop>(
 /// The source is one that `generate` takes. At each place of the input the longest match that begins
 /// there is a token of its leaf, of several as long that of the leaf of highest priority; matches of a
 /// `skip` are left out. Where no leaf has a match, an error reaches over the longest beginning that
-/// could still grow. No leaf has a callback yet, so `callbacks` is not asked. Both shapes of `config`
-/// give the same items.
+/// could still grow. A match of a leaf with a callback is what `callbacks` answers for that leaf and
+/// that slice, a `skip` leaf's too, where `Emit` reads as `Skip`; other leaves are not asked about. Both
+/// shapes of `config` give the same items.
 ///
 /// `Refused` comes first, where the source has faults; then `NotUtf8`, where the source is in UTF-8 mode
 /// and the input is not UTF-8; `Memory` wherever memory runs out. Nothing that the caller holds is
@@ -120,16 +122,22 @@ pub fn lex_source<'i, C: Fn(LeafId, &[u8]) -> Action + Drop>(
 ) -> Result<Vec<Item<'i>>, LexSourceError>
     requires { C.IsAlwaysCallable callbacks }
     // The items are those of maximal munch, by the rules of a source without faults; in UTF-8 mode, of UTF-8.
-    ensures items { IfOk result (λ items. (rules : List Rule) × (utf8 : Bool) × IsAccepted src.now rules utf8 × (IsTrue utf8 → IsUtf8 input.now) × Items rules (answers_of C.Fn callbacks) utf8 input.now 0 (map item_of items.items)) }
-    ensures in_order { IfOk result (λ items. AreInOrder (length input.now) 0 (map item_of items.items)) }
+    ensures items { IfOk result (λ items. (rules : List Rule) × (utf8 : Bool)
+        × IsAccepted src.now rules utf8 × (IsTrue utf8 → IsUtf8 input.now)
+        × Items rules (answers_of C.Fn callbacks) utf8 input.now 0 (map item_of items.items)) }
+    ensures in_order { IfOk result (λ items.
+        AreInOrder (length input.now) 0 (map item_of items.items)) }
     // Together with the matches that are left out, the items part the input in order.
     ensures parts { (rules : List Rule) (utf8 : Bool) → IsAccepted src.now rules utf8 →
-        IfOk result (λ items. Parts (IsMatch rules input.now) (length input.now) 0 (map item_of items.items)) }
+        IfOk result (λ items. Parts (IsMatch rules input.now) (length input.now) 0
+        (map item_of items.items)) }
     // In UTF-8 mode each item starts and ends between characters.
-    ensures cut { (rules : List Rule) → IsAccepted src.now rules true → IfOk result (λ items. All (IsCut input.now) (map item_of items.items)) }
+    ensures cut { (rules : List Rule) → IsAccepted src.now rules true →
+        IfOk result (λ items. All (IsCut input.now) (map item_of items.items)) }
     ensures err { IfErr result (IsJust src.now input.now) }
     // A source without faults, within the limits, is not refused.
-    ensures accepted { (rules : List Rule) (utf8 : Bool) → IsAccepted src.now rules utf8 → IsWithinLimits src.now rules → IfErr result IsNoRefusal }
+    ensures accepted { (rules : List Rule) (utf8 : Bool) → IsAccepted src.now rules utf8 →
+        IsWithinLimits src.now rules → IfErr result IsNoRefusal }
 {
     let generated = generate(alloc, src, config)?;
     lex_input(alloc, &generated.code, input, callbacks)

@@ -14,7 +14,8 @@ use std::alloc::{AllocError, Global};
 
 // The leaf with this number, if there is one.
 fn leaf_at<'l, 's>(leaves: &'l [Leaf<'s>], number: LeafId) -> Option<&'l Leaf<'s>>
-    ensures { option_map (λ leaf. named_leaf leaf.now) result ≡ slice_get (map named_leaf leaves.now) number.0 }
+    ensures { option_map (λ leaf. named_leaf leaf.now) result
+        ≡ slice_get (map named_leaf leaves.now) number.0 }
 {
     leaves.get(number.0)
 }
@@ -26,7 +27,9 @@ fn push_line(
     leaf: LeafId,
     other: LeafId,
 ) -> Result<(), AllocError>
-    ensures { OnOk result (string_bytes text.new ≡ string_bytes text.old ++ (if other.0 == leaf.0 then [] else option_map_or line_of (slice_get (map named_leaf leaves.now) other.0) [])) }
+    ensures { OnOk result (string_bytes text.new ≡ string_bytes text.old
+        ++ (if other.0 == leaf.0 then [] else option_map_or line_of (slice_get
+        (map named_leaf leaves.now) other.0) [])) }
 {
     if other.0 == leaf.0 {
         return Ok(());
@@ -44,7 +47,8 @@ fn push_lines(
     leaf: LeafId,
     set: &[LeafId],
 ) -> Result<(), AllocError>
-    ensures { OnOk result (string_bytes text.new ≡ string_bytes text.old ++ other_lines (map named_leaf leaves.now) leaf.0 (numbers set.now)) }
+    ensures { OnOk result (string_bytes text.new ≡ string_bytes text.old
+        ++ other_lines (map named_leaf leaves.now) leaf.0 (numbers set.now)) }
 {
     for other in set {
         push_line(text, leaves, leaf, *other)?;
@@ -60,7 +64,8 @@ fn disambiguation_text(
     number: LeafId,
     leaf: &Leaf<'_>,
 ) -> Result<String, AllocError>
-    ensures { IfOk result (λ text. string_bytes text ≡ disambiguation_text (map named_leaf leaves.now) (numbers set.now) number.0 (named_leaf leaf.now)) }
+    ensures { IfOk result (λ text. string_bytes text ≡ disambiguation_text
+        (map named_leaf leaves.now) (numbers set.now) number.0 (named_leaf leaf.now)) }
 {
     let mut text = format!(in alloc;
         "The pattern {leaf} can match simultaneously with the following variants:"
@@ -80,7 +85,9 @@ fn list_ambiguous(
     leaf: &Leaf<'_>,
     errors: &mut Errors,
 ) -> Result<(), Memory>
-    ensures { OnOk result (errors.new ≡ errors.old ++ fault_at FaultCode.Disambiguation (disambiguation_text (map named_leaf leaves.now) (numbers set.now) number.0 (named_leaf leaf.now)) leaf.now.span ∷ []) }
+    ensures { OnOk result (errors.new ≡ errors.old ++ fault_at FaultCode.Disambiguation
+        (disambiguation_text (map named_leaf leaves.now) (numbers set.now) number.0
+        (named_leaf leaf.now)) leaf.now.span ∷ []) }
 {
     let text = disambiguation_text(alloc, leaves, set, number, leaf)?;
     errors.err(FaultCode::Disambiguation, text.as_str(), leaf.span)
@@ -94,7 +101,8 @@ fn list_numbered(
     number: LeafId,
     errors: &mut Errors,
 ) -> Result<(), Memory>
-    ensures { OnOk result (errors.new ≡ errors.old ++ disambiguation_faults (map named_leaf leaves.now) (numbers set.now) number.0) }
+    ensures { OnOk result (errors.new ≡ errors.old ++ disambiguation_faults
+        (map named_leaf leaves.now) (numbers set.now) number.0) }
 {
     match leaf_at(leaves, number) {
         Some(leaf) => list_ambiguous(alloc, leaves, set, number, leaf, errors),
@@ -109,7 +117,8 @@ fn list_set(
     set: &[LeafId],
     errors: &mut Errors,
 ) -> Result<(), Memory>
-    ensures { OnOk result (errors.new ≡ errors.old ++ flat_map (disambiguation_faults (map named_leaf leaves.now) (numbers set.now)) (numbers set.now)) }
+    ensures { OnOk result (errors.new ≡ errors.old ++ flat_map (disambiguation_faults
+        (map named_leaf leaves.now) (numbers set.now)) (numbers set.now)) }
 {
     for number in set {
         list_numbered(alloc, leaves, set, *number, errors)?;
@@ -134,7 +143,8 @@ fn list_empty_match(
     number: LeafId,
     errors: &mut Errors,
 ) -> Result<(), Memory>
-    ensures { OnOk result (errors.new ≡ errors.old ++ option_map_or empty_match_faults (slice_get (map named_leaf leaves.now) number.0) []) }
+    ensures { OnOk result (errors.new ≡ errors.old ++ option_map_or empty_match_faults (slice_get
+        (map named_leaf leaves.now) number.0) []) }
 {
     match leaf_at(leaves, number) {
         Some(leaf) => list_empty(alloc, leaf, errors),
@@ -150,7 +160,8 @@ pub(crate) fn list_fault(
     fault: &GraphError,
     errors: &mut Errors,
 ) -> Result<(), Memory>
-    ensures { OnOk result (errors.new ≡ errors.old ++ listed_of (map named_leaf leaves.now) item (fault_of fault.now)) }
+    ensures { OnOk result (errors.new ≡ errors.old ++ listed_of (map named_leaf leaves.now) item
+        (fault_of fault.now)) }
 {
     match fault {
         GraphError::NoUniversalStart => errors.err(FaultCode::NoUniversalStart, START, item),

@@ -1,0 +1,90 @@
+//! Values that are read from an attribute's argument one after another.
+ghost use Rattle.std.specs.Prelude.{◌≡◌, ◌≢◌, List, Option, None, ◌⊎◌, IfOk, option_map};
+ghost use Rattle.logos_token.specs.Faults.{Fault};
+ghost use Rattle.logos_token.specs.Tokens.{TokenList, none, run_span};
+ghost use Rattle.logos_token.specs.Views.{tokens_of};
+ghost use Rattle.logos_type.specs.TypeTrees.{type_tree};
+ghost use Rattle.logos_type_params.specs.TypeParams.{ReadsValue};
+ghost use Rattle.logos_attribute.specs.LiteralViews.{literal_view};
+ghost use Rattle.logos_attribute.specs.Literals.{literal_told};
+ghost use Rattle.logos_attribute.specs.Nested.{pieces_left};
+ghost use Rattle.logos_attribute.specs.Pieces.{up_to_comma, behind_comma, pieces};
+ghost use Rattle.logos_attribute.specs.Told.{Tells};
+
+use crate::literal::read_literal;
+use crate::nested::AttributeParser;
+use logos_pattern::pattern::Literal;
+use logos_token::error::{Errors, Memory};
+use logos_token::token::Tokens;
+use logos_type::TypeExpr;
+use logos_type_params::read_value;
+use std::alloc::Global;
+
+/// What a run of tokens can be read as.
+pub trait FromRun<'s>: Sized {
+    /// The run is read as this value, and the list of faults becomes the second one.
+    ghost is_read: { TokenList → Option Self → List Fault → List Fault → Type 0 };
+
+    /// The value that the whole run is. `None` where it is none, which was listed. After `Memory`
+    /// nothing is told of the faults.
+    fn from_run(
+        alloc: Global,
+        run: Tokens<'_, 's>,
+        errors: &mut Errors,
+    ) -> Result<Option<Self>, Memory>
+        ensures { IfOk result (λ read.
+            is_read (tokens_of run.entry) read errors.old errors.new) };
+}
+
+/// A string or a byte string. Another literal is listed as `NotText` at the literal, another run as
+/// `LiteralSyntax` at the run.
+impl<'s> FromRun<'s> for Literal<'s> {
+    ghost is_read = { λ run read old new.
+        Tells (literal_told run) (option_map literal_view read) old new };
+
+    fn from_run(
+        alloc: Global,
+        run: Tokens<'_, 's>,
+        errors: &mut Errors,
+    ) -> Result<Option<Literal<'s>>, Memory> {
+        read_literal(alloc, run, errors)
+    }
+}
+
+/// A type. What is none is listed at the run: `TypeSyntax`, or `LimitTypeNesting` where it nests
+/// deeper than types may.
+impl<'s> FromRun<'s> for TypeExpr<'s> {
+    ghost is_read = { λ run read old new.
+        ReadsValue run (run_span run) old new (option_map type_tree read) };
+
+    fn from_run(
+        alloc: Global,
+        run: Tokens<'_, 's>,
+        errors: &mut Errors,
+    ) -> Result<Option<TypeExpr<'s>>, Memory> {
+        read_value(alloc, run, run.span(), errors)
+    }
+}
+
+impl<'t, 's> AttributeParser<'t, 's> {
+    /// Reads the tokens up to the next comma that cuts, which is taken with them, as one value.
+    /// `None` where no token is in front of that comma, and where they are no such value, which was
+    /// listed. After `Memory` nothing is told of the faults.
+    pub fn parsed<T: FromRun<'s>>(
+        &mut self,
+        alloc: Global,
+        errors: &mut Errors,
+    ) -> Result<Option<T>, Memory>
+        ensures nothing { up_to_comma (tokens_of self.old.rest) ≡ none →
+            IfOk result (λ read. (read ≡ None) × (errors.new ≡ errors.old)) }
+        ensures value { up_to_comma (tokens_of self.old.rest) ≢ none →
+            IfOk result (λ read. T.is_read
+            (up_to_comma (tokens_of self.old.rest)) read errors.old errors.new) }
+        ensures pieces { pieces_left self.new ≡ pieces (behind_comma (tokens_of self.old.rest)) }
+    {
+        match self.run() {
+            None => Ok(None),
+            Some(run) => T::from_run(alloc, run, errors),
+        }
+    }
+}

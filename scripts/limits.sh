@@ -1,0 +1,110 @@
+#!/usr/bin/env bash
+# Meets each limit of sources and patterns, and passes it by one, in both shapes: what is within a limit is accepted, what is beyond it
+# is refused with that limit at its place. Then it cuts a source off at each byte: each proper beginning is refused with one fault.
+#
+# It needs the program as `rt ci` or `rt run` leaves it in crates/logos_program/out, or the first argument.
+set -euo pipefail
+
+program=$(realpath "${1:-$(dirname "${BASH_SOURCE[0]}")/../crates/logos_program/out/logos_program}")
+room=$(mktemp -d)
+trap 'rm -rf "$room"' EXIT
+cd "$room"
+printf 'aa' > input
+met=0
+
+fail() {
+    echo "limits: $1" >&2
+    cat out err >&2
+    exit 1
+}
+
+# A text, so many times.
+times() {
+    local text
+    printf -v text "%${2}s" ''
+    printf '%s' "${text// /$1}"
+}
+
+# The status, the output and the complaint that the source in the file `source` must give, in both shapes. `*` stands for any text.
+gives() {
+    local name=$1 wanted=$2 out=$3 err=$4 shape status
+    for shape in state_machine tailcall; do
+        status=0
+        "$program" lex source input --shape "$shape" > out 2> err || status=$?
+        [ "$status" = "$wanted" ] || fail "$name: status $status in place of $wanted"
+        # shellcheck disable=SC2053
+        [[ $(cat out) == $out ]] || fail "$name: another output than $out"
+        # shellcheck disable=SC2053
+        [[ $(cat err) == $err ]] || fail "$name: another complaint than $err"
+        met=$((met + 1))
+    done
+}
+
+# The enum of one variant with this regex.
+regex() {
+    printf 'enum E { #[regex("%s")] A }' "$1" > source
+}
+
+# A number in so many parentheses behind a variant.
+deep() {
+    printf 'enum E { #[token("a")] A = %s1%s }' "$(times '(' "$1")" "$(times ')' "$1")" > source
+}
+
+token=$'token 0 0..1\ntoken 0 1..2'
+deep 127
+gives "127 delimiters" 0 "$token" ''
+deep 128
+gives "128 delimiters" 1 '' '154..155 LimitTokenNesting: limit LimitTokenNesting passed'
+
+printf 'enum E { #[token("a")] A(%su8) }' "$(times '&' 127)" > source
+gives "127 references" 0 "$token" ''
+printf 'enum E { #[token("a")] A(%su8) }' "$(times '&' 128)" > source
+gives "128 references" 1 '' '25..155 LimitTypeNesting: limit LimitTypeNesting passed'
+
+regex "$(times '(' 250)a$(times ')' 250)"
+gives "250 groups" 0 "$token" ''
+regex "$(times '(' 251)a$(times ')' 251)"
+gives "251 groups" 1 '' '17..522 LimitPatternNesting: limit LimitPatternNesting passed'
+regex "$(times '(' 249)a*$(times ')' 249)"
+gives "249 groups around a repetition" 1 '' '17..519 EmptyMatch: *'
+regex "$(times '(' 250)a*$(times ')' 250)"
+gives "250 groups around a repetition" 1 '' '17..521 LimitPatternNesting: limit LimitPatternNesting passed'
+
+source='enum E { #[token("a")] A }'
+printf '%s%*s' "$source" $((16777216 - ${#source})) '' > source
+gives "16777216 bytes" 0 "$token" ''
+printf ' ' >> source
+gives "16777217 bytes" 1 '' '0..16777217 LimitSource: limit LimitSource passed'
+
+regex '[x&&y]a{1048575}'
+gives "a tree of size 1048576" 0 $'error 0..1\nerror 1..2' ''
+regex '[x&&y]a{1048576}'
+gives "a tree of size 1048577" 1 '' '0..* LimitSize: limit LimitSize passed'
+regex '[x&&y]{4294967295}'
+gives "a repetition of nothing" 1 '' '0..* LimitSize: limit LimitSize passed'
+
+regex 'a{65000}'
+gives "65000 letters" 0 'error 0..2' ''
+regex '.{100}'
+gives "100 characters" 0 'error 0..2' ''
+regex 'a{70000}'
+gives "70000 letters" 1 '' '0..33 LimitStates: limit LimitStates passed'
+
+great='(?:(?:a{4294967295}){4294967295}){4294967295}'
+printf 'enum E { #[regex("%s", priority = 1)] A }' "$great" > source
+gives "a great repetition with a priority" 1 '' '0..* LimitSize: limit LimitSize passed'
+regex "x|$great"
+gives "a letter or a great repetition" 1 '' '0..* LimitSize: limit LimitSize passed'
+
+printf '#[logos(type T = Vec<U>, type U = Option<T>)] enum E<T, U> { #[token("a")] A(T) }' > source
+gives "types that hold each other" 1 '' '53..54 TypeHoldsItself: *
+56..57 TypeHoldsItself: *'
+
+whole='#[derive(Debug, Logos, serde::Serialize)] enum E { #[token("a")] A }'
+for ((length = 0; length < ${#whole}; length++)); do
+    printf '%s' "${whole:0:length}" > source
+    gives "the first $length bytes" 1 '' '*..* [A-Z]*: *'
+    [ "$(wc -l < err)" = 1 ] || fail "the first $length bytes: more than one fault"
+done
+
+echo "limits: $met answers are as they must be"
