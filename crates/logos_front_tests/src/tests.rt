@@ -3,8 +3,10 @@
 mod attributes;
 mod graphs;
 mod items;
+mod leaves;
 mod parser;
 mod patterns;
 mod rows;
+mod subpatterns;
 mod tokens;
 mod types;

@@ -6,7 +6,7 @@ mod options;
 mod types;
 
 use super::rows::{Ask, lines_are_told};
-pub(super) use asking::{Told, push_attribute};
+pub(super) use asking::{Told, push_attribute, push_callback};
 
 /// What is told of argument lists, each of which stands on a line with what is told of it.
 const LINES: &[(Ask, &str)] = &[

@@ -1,6 +1,7 @@
 //! How rows of tables are judged, and how a text is told.
 
-use super::{attributes, items, parser, patterns, tokens};
+use super::{attributes, items, leaves, parser, patterns, subpatterns, tokens};
+use logos_subpattern::fault::ReadingMode;
 use logos_token::error::Errors;
 use logos_token::token::Span;
 use std::alloc::Global;
@@ -44,8 +45,14 @@ pub(super) enum Ask {
     Pieces,
     /// The runs of an argument.
     Runs,
-    /// The definitions of the enum that it is, or its first misfit.
-    Definitions,
+    /// What the enum says that it is, or why it is none.
+    Source,
+    /// The leaf of its last `skip`, and its faults.
+    Made(leaves::Form),
+    /// What becomes of its pattern with its subpatterns, where inputs are UTF-8 or not.
+    Substituted(bool),
+    /// The pattern that it is, read in a mode, and its faults.
+    Text(ReadingMode),
     /// What is told of the arguments of an attribute.
     Attribute(attributes::Told),
 }
@@ -106,7 +113,12 @@ fn push_told(rt: &impl Abort, alloc: Global, out: &mut String, ask: &Ask, text: 
         Ask::Levels => items::push_levels(rt, alloc, out, text),
         Ask::Pieces => items::push_pieces(rt, alloc, out, text),
         Ask::Runs => items::push_runs(rt, alloc, out, text),
-        Ask::Definitions => parser::push_definitions(rt, alloc, out, text),
+        Ask::Source => parser::push_source(rt, alloc, out, text),
+        Ask::Made(form) => leaves::push_made(rt, alloc, out, form, text),
+        Ask::Substituted(utf8_mode) => {
+            subpatterns::push_substituted(rt, alloc, out, *utf8_mode, text)
+        }
+        Ask::Text(mode) => subpatterns::push_text(rt, alloc, out, *mode, text),
         Ask::Attribute(told) => attributes::push_attribute(rt, alloc, out, told, text),
     }
 }

@@ -36,7 +36,7 @@ pub(in crate::tests) enum Told {
 }
 
 /// Adds a callback: what it names, or its parameter, body and place.
-fn push_callback(
+pub(in crate::tests) fn push_callback(
     rt: &impl Abort,
     alloc: Global,
     out: &mut String,
