@@ -1,6 +1,7 @@
 #!/usr/bin/env bash
 # Meets for real what the tests of the commands meet with files in memory: files that are missing, folders or no text, words that are
-# no text, and a standard output that is full or closed. Each time the status and all that is written must be as said here.
+# no text, a standard output that is full or closed, and charts whose folders are missing or whose files cannot be made. Each time the
+# status and all that is written must be as said here.
 #
 # It needs the program as `rt ci` or `rt run` leaves it in crates/logos_program/out, or the first argument.
 set -euo pipefail
@@ -15,6 +16,11 @@ printf 'enum \xff' > torn
 printf 'ab' > input
 printf 'a\xff' > bytes
 mkdir folder
+for path in deep/er/ b.mmd folder.mmd source/x full.mmd a.dot a.txt; do
+    printf '#[logos(export_dir = "%s")] enum My { #[token("a")] A }' "$path" > "to_${path//\//_}"
+done
+mkdir folder.mmd
+ln -s /dev/full full.mmd
 usage='usage: logos gen|lex|strip|mermaid|export FILE ..'
 met=0
 
@@ -46,14 +52,52 @@ gives 3 '' 'cannot read folder' lex source folder
 gives 3 '' 'cannot read torn' gen torn
 gives 3 '' 'cannot read none' lex none gone
 gives 1 '' 'NotUtf8 1' lex source bytes
+gives 3 '' 'cannot read none' strip none
+gives 3 '' 'cannot read torn' strip torn
+gives 3 '' 'cannot read none' export none
+gives 3 '' 'cannot read folder' export folder
 gives 2 '' "$usage"
 gives 2 '' "$usage" lex source
 gives 2 '' "$usage" $'gen\xff' source
 gives 2 '' "$usage" gen $'\xff'
 
+# Fails unless this file is the chart of this source.
+charts() {
+    if ! "$program" mermaid "$2" | cmp - "$1"; then
+        echo "files: $1 is another chart" >&2
+        exit 1
+    fi
+}
+
+# A chart goes to its file, in place of what stood there, and makes the folders that are missing.
+gives 0 '' '' export to_deep_er_
+charts deep/er/my.mmd to_deep_er_
+gives 0 '' '' export to_deep_er_
+for _ in 1 2 3; do cat deep/er/my.mmd; done > b.mmd
+gives 0 '' '' export to_b.mmd
+charts b.mmd to_b.mmd
+gives 3 '' 'cannot write folder.mmd' export to_folder.mmd
+gives 3 '' 'cannot write source/x/my.mmd' export to_source_x
+gives 3 '' 'cannot write full.mmd' export to_full.mmd
+gives 1 '' 'DOT export is left out' export to_a.dot
+gives 1 '' "Export path must end in '.dot' or '.mmd', or it must be a directory." export to_a.txt
+gives 1 '' 'no export path' export source
+if [ -e a.dot ] || [ -e a.txt ] || [ -e my.mmd ]; then
+    echo "files: a chart that was refused was written" >&2
+    exit 1
+fi
+
+# It needs no standard output.
+rm b.mmd
+: > out
+status=0
+"$program" export to_b.mmd >&- 2> err || status=$?
+wants "$status" 0 '' ''
+charts b.mmd to_b.mmd
+
 # The output cannot be written: the faults of source and input come first.
 : > out
-for command in 'lex source input' 'gen source' 'mermaid source'; do
+for command in 'lex source input' 'gen source' 'mermaid source' 'strip source'; do
     status=0
     # shellcheck disable=SC2086
     "$program" $command > /dev/full 2> err || status=$?
@@ -69,10 +113,10 @@ wants "$status" 1 '' 'NotUtf8 1'
 
 # Nobody hears the complaint: the status stays.
 : > err
-for case in '1 gen alike' '3 gen none' '2 gen'; do
+for case in '1 gen alike' '3 gen none' '2 gen' '1 export source' '3 export to_source_x'; do
     status=0
     # shellcheck disable=SC2086
     "$program" ${case#* } > out 2> /dev/full || status=$?
     wants "$status" "${case%% *}" '' ''
 done
-echo "files: $met ways to fail end as said"
+echo "files: $met runs end as said"
