@@ -32,7 +32,7 @@ answer() {
     LD_PRELOAD="$room/refuse.so" REFUSE=$number REQUESTS="$room/requests" \
         "$program" "$@" > "$to.out" 2> "$to.err" || status=$?
     echo "$status" > "$to.status"
-    cat charts/*.mmd > "$to.chart" 2> /dev/null || true
+    cat charts/*/*.mmd > "$to.chart" 2> /dev/null || true
 }
 
 # The words of a command, with each of its requests refused in turn.
