@@ -19,11 +19,14 @@ use std::process::Abort;
 /// Adds a line with the place of a fault, its code and its text, in which the ends of lines are written out.
 fn push_fault(rt: &impl Abort, text: &mut String, fault: &SpannedError) {
     let (from, to, code) = (fault.span.from, fault.span.to, fault.code);
-    let mut before = "";
+    let mut is_begun = false;
     write!(text, "{from}..{to} {code}: ").expect(rt, "memory");
     for line in fault.message.split('\n') {
-        write!(text, "{before}{line}").expect(rt, "memory");
-        before = "\\n";
+        if is_begun {
+            text.push_str("\\n").expect(rt, "memory");
+        }
+        text.push_str(line).expect(rt, "memory");
+        is_begun = true;
     }
     text.push_str("\n").expect(rt, "memory");
 }

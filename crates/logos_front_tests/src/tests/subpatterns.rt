@@ -60,11 +60,11 @@ fn push_whole(rt: &impl Abort, out: &mut String, put: &Result<Option<String>, Me
 }
 
 /// Adds what a pattern becomes in brackets, or `-`, and the faults.
-fn push_put(
+fn push_put<'s>(
     rt: &impl Abort,
     alloc: Global,
     out: &mut String,
-    list: &[(Ident<'_>, Literal<'_>)],
+    list: &[(Ident<'s>, Literal<'s>)],
     utf8_mode: bool,
     pattern: &str,
 ) {
