@@ -1,6 +1,7 @@
 //! The commands over files in memory: their statuses, and what they write.
 
 mod exports;
+mod settings;
 
 use logos_commands::{FileError, Files, run};
 use std::alloc::{AllocError, Global};
@@ -113,6 +114,8 @@ const LEX: &[&str] = &["lex", "t.rs", "input"];
 
 const MERMAID: &[&str] = &["mermaid", "t.rs"];
 
+const STRIP: &[&str] = &["strip", "t.rs"];
+
 /// The chart of a text's graph.
 const ROPE: &str =
     "flowchart TB\nn0[\"State 0\"]\nstyle n0 stroke:#000000\nen0n1{\"r\"}\nstyle en0n1 stroke:#000000\nn0-->en0n1\nen0n1-->n1\nn1[\"State 1\"]\nstyle n1 stroke:#000000\nen1n2{\"o\"}\nstyle en1n2 stroke:#000000\nn1-->en1n2\nen1n2-->n2\nn2[\"State 2\"]\nstyle n2 stroke:#000000\nen2n3{\"p\"}\nstyle en2n3 stroke:#000000\nn2-->en2n3\nen2n3-->n3\nn3[\"State 3\"]\nstyle n3 stroke:#000000\nen3n4{\"e\"}\nstyle en3n4 stroke:#000000\nn3-->en3n4\nen3n4-->n4\nn4[\"State 4<br>early(0)\"]\nstyle n4 stroke:#00C853\n";
@@ -138,6 +141,18 @@ const DONE: &[Row] = &[
         "token 3 0..6\ntoken 3 7..19\ntoken 1 20..24\ntoken 3 25..31\ntoken 2 31..32\n",
     ),
     (MERMAID, b"enum T { #[token(\"rope\")] A }", b"", ROPE),
+    (
+        STRIP,
+        b"#[derive(Debug, Logos, serde::Serialize)] enum E { #[token(\"a\")] A }",
+        b"",
+        "# [ derive ( Debug , serde :: Serialize ) ] enum E { A }\n",
+    ),
+    (
+        STRIP,
+        b"#[logos(export_dir = 5)] enum E { #[token(\"\")] A }",
+        b"",
+        "enum E { A }\n",
+    ),
 ];
 
 const REFUSED: &[Row] = &[
@@ -202,6 +217,18 @@ const REFUSED: &[Row] = &[
         b"",
         "17..19 EmptyMatch: The pattern #[token(\"\")] ::A can match the empty string, which is unsupported by logos.\n",
     ),
+    (
+        STRIP,
+        b"enum T { A B }",
+        b"",
+        "11..12 Grammar: the enum is not well formed\n",
+    ),
+    (
+        STRIP,
+        b"struct A",
+        b"",
+        "0..8 NotAnEnum: Logos can be only be derived for enums\n",
+    ),
     // the faults of a source come before its path
     (
         &["export", "t.rs"],
@@ -238,6 +265,8 @@ const NOT_READ: &[Row] = &[
     (&["gen", "t.rs"], TORN, b"", "cannot read t.rs\n"),
     (&["mermaid", "none"], SOURCE, b"", "cannot read none\n"),
     (&["export", "none"], SOURCE, b"", "cannot read none\n"),
+    (&["strip", "none"], SOURCE, b"", "cannot read none\n"),
+    (STRIP, TORN, b"", "cannot read t.rs\n"),
     (&["export", "t.rs"], TORN, b"", "cannot read t.rs\n"),
 ];
 
@@ -280,6 +309,15 @@ const USAGES: &[Row] = &[
         USAGE,
     ),
     (&["export"], SOURCE, b"", USAGE),
+    (&["strip"], SOURCE, b"", USAGE),
+    (&["Strip", "t.rs"], SOURCE, b"", USAGE),
+    (&["strip", "t.rs", "input"], SOURCE, b"", USAGE),
+    (
+        &["strip", "t.rs", "--shape", "tailcall"],
+        SOURCE,
+        b"",
+        USAGE,
+    ),
     (&["Export", "t.rs"], SOURCE, b"", USAGE),
     (&["export", "t.rs", "input"], SOURCE, b"", USAGE),
     (
@@ -330,6 +368,7 @@ const BY_FUNCTIONS_ROWS: &[Row] = &[(
 fn runs_end_as_the_rows_say(rt: HostRuntime) -> Result<(), Fail> {
     let alloc = rt.alloc();
     end_so(&rt, alloc, (0, ""), DONE)?;
+    end_so(&rt, alloc, (0, ""), settings::SETTINGS)?;
     end_so(&rt, alloc, (1, ""), REFUSED)?;
     end_so(&rt, alloc, (3, ""), NOT_READ)?;
     end_so(&rt, alloc, (2, ""), USAGES)?;
