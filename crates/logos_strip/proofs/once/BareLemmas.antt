@@ -1,8 +1,6 @@
 -- What goes does not depend on spans.
 use Rattle.std.proofs.Common.{◌≡◌, ◌==◌, ◌&&◌, ◌||◌, not, Bool, true, false, List, [], ◌∷◌, map, option_map, Option, Some, None, codes, ℕ, refl, sym, ◌∙◌, ap, if◌then◌else◌}
 use Rattle.std.specs.Str.{bytes_eq}
-use Rattle.logos_lexeme.specs.declared.lexeme.Span.{Span}
-use Rattle.logos_lexeme.specs.declared.lexeme.Delimiter.{Delimiter}
 use Rattle.logos_lexeme.specs.declared.lexeme.Delimiter.TheVariants.{Parenthesis, Bracket, Brace}
 use Rattle.logos_token.specs.Tokens.{Token, identifier, punctuation, literal, doc, group, TokenList, none, also}
 use Rattle.logos_token.specs.PrintedAgain.{no_span, bare_token, bare}
@@ -12,7 +10,7 @@ use Rattle.logos_strip.specs.declared.places.Scope.{Scope}
 use Rattle.logos_strip.specs.declared.places.Scope.TheVariants.{Enum, Attribute, Derives, Variants, Fields}
 use Rattle.logos_strip.specs.declared.places.Place.{Place}
 use Rattle.logos_strip.specs.declared.places.Place.TheVariants.{Open, Hash, Gone, Named, Within}
-use Rattle.logos_strip.specs.Helpers.{is_comma, is_helper_name, is_helper_path, holds_helper, begins_helper, behind_word, behind_colon, behind_colons, holds_behind, ends_entry, is_macro_name, is_macro_segment, is_macro_path, is_global_path, is_macro_entry}
+use Rattle.logos_strip.specs.Helpers.{is_helper_name, is_helper_path, holds_helper, begins_helper, behind_word, behind_colon, behind_colons, holds_behind, ends_entry, is_macro_name, is_macro_segment, is_macro_path, is_global_path, is_macro_entry}
 use Rattle.logos_strip.specs.Places.{begins_gone, goes, place_behind, scope_of, scope_inside}
 use Rattle.logos_strip.specs.Stripping.{alone, in_front, left, thinned, sorted, stripped}
 use Rattle.logos_strip.proofs.once.ShapeLemmas.{behind-bare, is_comma-bare}
