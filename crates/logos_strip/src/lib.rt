@@ -3,10 +3,10 @@
 #![tactic(auto)]
 
 mod helpers;
-mod laws;
-pub mod places;
+pub mod laws;
+mod places;
 pub mod stripping;
 #[cfg(test)]
 mod tests;
 mod walk;
-pub mod writer;
+mod writer;

@@ -10,7 +10,7 @@ use logos_token::token::{Delimiter, TokenTree, Tokens};
 
 /// What a run of tokens is.
 #[derive(Clone, Copy)]
-pub enum Scope {
+pub(crate) enum Scope {
     /// The whole enum.
     Enum,
     /// What the brackets of an attribute of the enum hold.
@@ -25,7 +25,7 @@ pub enum Scope {
 
 /// Where the next token of a run stands.
 #[derive(Clone, Copy)]
-pub enum Place {
+pub(crate) enum Place {
     /// Where an attribute, a path or an entry may begin.
     Open,
     /// Behind the `#` of an attribute that stays.
