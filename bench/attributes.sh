@@ -50,5 +50,6 @@ measure "5,000 subpatterns" subpatterns 5000
 measure "10,000 subpatterns" subpatterns 10000
 measure "50,000 attributes of one variant" attributes 50000
 measure "100,000 attributes of one variant" attributes 100000
-measure "5,000 parameters with types" parameters 5000
-measure "10,000 parameters with types" parameters 10000
+measure "250 parameters with types" parameters 250
+measure "500 parameters with types" parameters 500
+measure "1,000 parameters with types" parameters 1000
