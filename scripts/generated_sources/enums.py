@@ -31,9 +31,9 @@ class EnumReader(TypeReader):
             tree = self.peek()
             if tree is not None and tree.kind == 'doc' and not tree.inner:
                 found.append(Attribute(span([self.take()]), 'doc', None))
-            elif self.is_punct('#') and self.is_group('[', 1):
+            elif self.is_punct('#'):
                 self.take()
-                found.append(self.attribute(self.take(), tree))
+                found.append(self.attribute(self.expect(self.is_group('[')), tree))
             else:
                 return found
 

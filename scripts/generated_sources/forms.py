@@ -22,7 +22,7 @@ NO_PRIORITIES = ['x', '- 1', '1_000', '0x1', '1u8', '', '18446744073709551616', 
 PIECES = ['ignore ( case )', 'ignore ( case , )', 'ignore ( case , case )', 'allow_greedy = true', 'allow_greedy = false']
 NO_PIECES = [
     'priority ( 3 )', 'priority 3', 'priority x = 3', 'priority x', 'callback', 'callback ( f )', 'callback "f"', 'callback f', 'callback =',
-    'ignore', 'ignore = case', 'ignore "case"', 'ignore ( )', 'ignore ( ascii_case )', 'ignore ( other )', 'ignore ( case , other )',
+    'ignore', 'ignore = case', 'ignore "case"', 'ignore ( )', 'ignore ( ascii_case )', 'ignore ( other )', 'ignore ( case , other )', 'ignore ( case , ascii_case )',
     'ignore ( r#case )', 'ignore ( case case )', 'ignore ( case ; case )', 'ignore ( case ( a , b ) )', 'ignore ( case "x\\y" )', 'ignore ( , )',
     'ignore ( 5 )', 'ignore ( case , 5 )', 'ignore ( case ) x y', 'allow_greedy', 'allow_greedy = 1', 'allow_greedy =', 'allow_greedy ( true )',
     'allow_greedy = true false', 'allow_greedy true', 'other = 1', 'other ( 1 )', 'other "x"', 'other word = 1', 'other word', 'r#priority = 3',

@@ -97,7 +97,7 @@ def made(seed):
             continue
         if wrong or not reading.faults.list or not left:
             return source, reading, random
-    return None
+    raise TooLarge(f'seed {seed}')
 
 
 def judge(program, seed):

@@ -1,14 +1,14 @@
 """Reads a pattern's text into a tree.
 
-Trees are tuples: ('empty',), ('literal', bytes), ('class', ranges, of_characters), ('look', kind), ('repetition', least, most or None, greedy,
-body), ('capture', body), ('concatenation', parts), ('alternation', branches).
+Trees are tuples: ('empty',), ('literal', bytes), ('class', ranges, of_characters), ('look', kind), ('capture', body),
+('repetition', least, most or None, greedy, body), ('concatenation', parts), ('alternation', branches).
 """
 
 import re
 from byte_sets import BYTES, CHARACTERS, DIGITS, NAMED, SPACE, WHITE, WORD, common, folded, united, without
 
 EMPTY = ('empty',)
-LEAST_ESCAPED = set(map(chr, range(128))) - set('<>0123456789ABCDEFGHIJKLMNOPQRSTUVWXYZabcdefghijklmnopqrstuvwxyz')
+ESCAPABLE = set(map(chr, range(128))) - set('<>0123456789ABCDEFGHIJKLMNOPQRSTUVWXYZabcdefghijklmnopqrstuvwxyz')
 CONTROLS = {'a': 7, 'f': 12, 't': 9, 'n': 10, 'r': 13, 'v': 11}
 COUNT = re.compile(r'\{([0-9]+)(,?)([0-9]*)\}')
 FLAGS = re.compile(r'\(\?([imsUuR]*)(-[imsUuR]+)?([:)])')
@@ -238,7 +238,7 @@ class PatternReader:
             code = int(digits[1] or digits[2], 16)
             self.need(code < 0x110000 and not 0xD800 <= code < 0xE000)
             return code, 'u' not in self.flags and sign == 'x' and digits[2] is not None
-        self.need(sign in LEAST_ESCAPED)
+        self.need(sign in ESCAPABLE)
         return ord(sign), False
 
     def bracket(self):

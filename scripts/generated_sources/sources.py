@@ -4,7 +4,8 @@ import re
 import forms
 from pattern_texts import LiteralMaker
 
-GAPS = [' ', ' ', ' ', '\n', '\t', '  ', '/* c */', '// c\n', '/* a /* b */ c */', '\r\n', '\u200e', '\u2028', '/**/', '////x\n', '\x0b', '/***/', '// c\r\n']
+GAPS = [' ', ' ', ' ', '\n', '\t', '  ', '/* c */', '// c\n', '/* a /* b */ c */', '\r\n', '\u200e', '\u2028', '/**/',
+        '////x\n', '\x0b', '/***/', '// c\r\n']
 SIGNS = '~!@#$%^&*-=+|;:,<.>?'
 WORD_END, WORD_START = re.compile(r"[\w\"'#]$"), re.compile(r"[\w\"'#]")
 
@@ -26,7 +27,7 @@ class SourceMaker(LiteralMaker):
     def __init__(self, random, wrong, turn):
         super().__init__(random)
         self.wrong, self.odd, self.turn = wrong, random.random() < 0.4, turn
-        self.parameters, self.set, self.serial, self.distinct = [], False, 0, random.random() < 0.8
+        self.parameters, self.set, self.serial, self.distinct = [], False, 0, random.random() < (0.4 if wrong else 0.8)
 
     def is_wrong(self):
         return self.chance(self.wrong)
@@ -86,7 +87,7 @@ class SourceMaker(LiteralMaker):
                 options.append(self.type_option(parameter))
         self.set = True
         options += [self.option() for _ in range(self.pick([0, 1, 1, 2, 3]))]
-        for _ in range(self.pick([0, 0, 1, 2] if self.wrong else [0])):
+        for _ in range(self.pick([0, 1, 2, 3] if self.wrong else [0])):
             options.append(lexemes(self.next_wrong(forms.NO_OPTIONS)))
         if self.is_wrong():
             self.random.shuffle(options)
@@ -101,7 +102,8 @@ class SourceMaker(LiteralMaker):
             inside.pop()
         if self.is_wrong() and inside and self.chance(0.5):
             at = self.random.randrange(len(inside))
-            inside[at:at + 1] = self.pick([[], [inside[at], inside[at]], [inside[at], self.pick(inside)], [self.pick([',', '=', 'x', '5', '|'])]])
+            one = inside[at]
+            inside[at:at + 1] = self.pick([[], [one, one], [one, self.pick(inside)], [self.pick([',', '=', 'x', '5', '|'])]])
         return balanced(inside)
 
     def type_option(self, parameter):
@@ -115,7 +117,9 @@ class SourceMaker(LiteralMaker):
             return lexemes(self.next_wrong(forms.NO_OPTIONS))
         kind = self.random.random()
         if kind < 0.4:
-            return lexemes('skip', Text(self.literal(self.some_pattern()))) if self.chance(0.5) else lexemes('skip (', self.definition(False), ')')
+            if self.chance(0.5):
+                return lexemes('skip', Text(self.literal(self.some_pattern())))
+            return lexemes('skip (', self.definition(False), ')')
         if kind < 0.65:
             return self.subpattern()
         if kind < 0.75:

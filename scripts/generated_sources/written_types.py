@@ -1,4 +1,4 @@
-"""Reads types, as far as a source's faults rest on them: what is no type, what is left out, and which names stand where types are walked."""
+"""Reads types, as far as faults rest on them: what is no type, what is left out, and which names stand where types are walked."""
 
 
 class NotAType(Exception):
