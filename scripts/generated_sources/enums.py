@@ -83,7 +83,8 @@ class EnumReader(TypeReader):
             if kind != 'type':
                 self.take()
             name = self.name()
-            self.until(',>')
+            if self.is_punct(':') or self.is_punct('='):
+                self.until(',>')
             found.append(Parameter(kind, name.text, span([name]), (self.trees[start].start, self.trees[self.at - 1].end)))
             if not self.is_punct('>'):
                 self.expect(self.is_punct(','))
