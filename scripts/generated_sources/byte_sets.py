@@ -38,6 +38,10 @@ def without(one, other):
     return united(left)
 
 
+# Characters that fold as others do in the Unicode of the program, and are not assigned yet in that of older Pythons.
+LATER = {0x1DF95: 0xDF}
+
+
 @functools.cache
 def partners():
     """For each character that shares a simple folding with others, all these."""
@@ -47,6 +51,10 @@ def partners():
             sign = chr(code)
             single = [form for form in (sign.casefold(), sign.lower(), sign) if len(form) == 1]
             groups.setdefault(single[0], []).append(code)
+    for code, other in LATER.items():
+        group = next(group for group in groups.values() if other in group)
+        if code not in group:
+            group.append(code)
     return {code: tuple(group) for group in groups.values() if len(group) > 1 for code in group}
 
 
