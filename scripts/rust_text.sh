@@ -1,7 +1,7 @@
 #!/usr/bin/env bash
 # Compiles the Rust texts that `logos gen` prints and compares what they find with `logos lex`.
 #
-# Each source of scripts/rust_text/sources is printed in both shapes. rustc compiles all texts at once beside a small runtime,
+# Each source of scripts/rust_text/sources is stripped, and printed in both shapes. rustc compiles all texts at once beside a small runtime,
 # and what comes of each input of scripts/rust_text/inputs is compared, item by item. A source has each attribute on a line of its own,
 # and at most one on a variant, so that a variant's place tells its leaf. A source with callbacks, values or parameters may have more;
 # beside it stands a file of this name in scripts/rust_text/beside, with the Rust items that it names, the type of its tokens and the
@@ -28,7 +28,7 @@ for source in "$root"/scripts/rust_text/sources/*.rs; do
     for shape in state_machine tailcall; do
         "$logos" gen "$source" --shape "$shape" > "$room/$name.$shape.rs"
         { echo "mod ${name}_$shape {"
-          grep -v '^ *#\[' "$source"
+          "$logos" strip "$source"
           cat "$room/$name.$shape.rs"
           if [ -e "$root/scripts/rust_text/beside/$name.rs" ]; then
               cat "$root/scripts/rust_text/beside/$name.rs"
