@@ -142,6 +142,18 @@ const DONE: &[Row] = &[
     ),
     (MERMAID, b"enum T { #[token(\"rope\")] A }", b"", ROPE),
     (
+        LEX,
+        b"#[logos(subpattern h = r\"[0-9a-f]\")] #[logos(subpattern p = r\"(?&h){2}\")] enum E { #[regex(r\"#(?&p)\")] A }",
+        b"#0f#0",
+        "token 0 0..3\nerror 3..5\n",
+    ),
+    (
+        LEX,
+        b"enum E { #[token(\"k\", ignore(case), priority = 3)] A }",
+        b"\xE2\x84\xAA",
+        "token 0 0..3\n",
+    ),
+    (
         STRIP,
         b"#[derive(Debug, Logos, serde::Serialize)] enum E { #[token(\"a\")] A }",
         b"",

@@ -3,10 +3,12 @@
 mod asking;
 mod definitions;
 mod options;
+mod parsed;
 mod types;
 
 use super::rows::{Ask, lines_are_told};
 pub(super) use asking::{Told, push_attribute, push_callback};
+pub(super) use parsed::push_parsed;
 
 /// What is told of argument lists, each of which stands on a line with what is told of it.
 const LINES: &[(Ask, &str)] = &[
@@ -25,6 +27,7 @@ const LINES: &[(Ask, &str)] = &[
     (Ask::Attribute(Told::Options), options::READ),
     (Ask::Attribute(Told::Given), types::GIVEN),
     (Ask::Attribute(Told::Replaced), types::REPLACED),
+    (Ask::Parsed, parsed::READ),
 ];
 
 #[test]

@@ -45,6 +45,8 @@ pub(super) enum Ask {
     Pieces,
     /// The runs of an argument.
     Runs,
+    /// Whether its runs are literals or types.
+    Parsed,
     /// What the enum says that it is, or why it is none.
     Source,
     /// The leaf of its last `skip`, and its faults.
@@ -113,6 +115,7 @@ fn push_told(rt: &impl Abort, alloc: Global, out: &mut String, ask: &Ask, text: 
         Ask::Levels => items::push_levels(rt, alloc, out, text),
         Ask::Pieces => items::push_pieces(rt, alloc, out, text),
         Ask::Runs => items::push_runs(rt, alloc, out, text),
+        Ask::Parsed => attributes::push_parsed(rt, alloc, out, text),
         Ask::Source => parser::push_source(rt, alloc, out, text),
         Ask::Made(form) => leaves::push_made(rt, alloc, out, form, text),
         Ask::Substituted(utf8_mode) => {

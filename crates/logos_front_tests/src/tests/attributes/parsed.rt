@@ -1,0 +1,61 @@
+//! The values in an argument list, one after another.
+
+use super::super::rows::push;
+use super::super::tokens::push_faults;
+use logos_attribute::nested::AttributeParser;
+use logos_pattern::pattern::Literal;
+use logos_token::error::{Errors, Memory};
+use logos_token::token::tokenize;
+use logos_type::TypeExpr;
+use std::alloc::Global;
+use std::process::Abort;
+
+/// Each text says how its runs are read, and behind ` : ` has them.
+pub(super) const READ: &str = r#"lt : "a", Vec<u8> => literal type none
+lll : b"\xFF", , 'c', d => literal - - 11..14 NotText "Expected a &str or &[u8] slice";
+ltlt : 1 2, "a" => - - - - 0..3 LiteralSyntax "expected a literal";5..8 TypeSyntax "not a type";
+t : A<B, C> => - 0..3 TypeSyntax "not a type";
+l :  => - none"#;
+
+/// Adds whether a value was read.
+fn push_read(rt: &impl Abort, out: &mut String, word: &str, is_read: bool) {
+    push(rt, out, if is_read { word } else { "- " });
+}
+
+/// Whether the next run is a literal.
+fn reads_literal(
+    alloc: Global,
+    parser: &mut AttributeParser<'_, '_>,
+    errors: &mut Errors,
+) -> Result<bool, Memory> {
+    let read: Option<Literal<'_>> = parser.parsed(alloc, errors)?;
+    Ok(read.is_some())
+}
+
+/// Whether the next run is a type.
+fn reads_type(
+    alloc: Global,
+    parser: &mut AttributeParser<'_, '_>,
+    errors: &mut Errors,
+) -> Result<bool, Memory> {
+    let read: Option<TypeExpr<'_>> = parser.parsed(alloc, errors)?;
+    Ok(read.is_some())
+}
+
+/// Adds what becomes of the runs behind ` : `, each read as a literal for `l` in front of it and as a type for `t`, and the faults.
+pub(in crate::tests) fn push_parsed(rt: &impl Abort, alloc: Global, out: &mut String, text: &str) {
+    let (ways, source) = text.split_once(" : ").expect(rt, "runs");
+    let stream = tokenize(alloc, source).expect(rt, "tokens");
+    let mut parser = AttributeParser::new(stream.run());
+    let mut errors = Errors::new(alloc);
+    for way in ways.chars() {
+        if way == 'l' {
+            let is_read = reads_literal(alloc, &mut parser, &mut errors).expect(rt, "memory");
+            push_read(rt, out, "literal ", is_read);
+        } else {
+            let is_read = reads_type(alloc, &mut parser, &mut errors).expect(rt, "memory");
+            push_read(rt, out, "type ", is_read);
+        }
+    }
+    push_faults(rt, out, &errors);
+}
