@@ -1,5 +1,8 @@
 //! What the commands give.
 
+ghost use Rattle.std.specs.Prelude.{◌≡◌, IfErr, IfOk, option_map, string_bytes};
+ghost use Rattle.logos_commands.specs.Charts.{FailsAt, IsChartAt, destination_said, file_at};
+
 use crate::chart_path::chart_path;
 use crate::command::Command;
 use crate::failure::{Failure, Unexported};
@@ -148,14 +151,22 @@ fn export_of_source(alloc: Global, source: &str) -> Result<Outcome, Failure<'sta
 }
 
 /// The chart of the graph of a lexer that was made, for the file that its source names.
-fn export_of_lexer(alloc: Global, made: &Generated<'_>) -> Result<Outcome, Failure<'static>> {
+fn export_of_lexer(alloc: Global, made: &Generated<'_>) -> Result<Outcome, Failure<'static>>
+    ensures { IfOk result (IsChartAt
+        (destination_said (option_map string_bytes made.now.export_path) made.now.name.text.now)) }
+{
     let path = path_of_chart(alloc, made)?;
     let text = tested_chart(alloc, &made.graph)?;
     Ok(Outcome::Chart { path, text })
 }
 
 /// The path of the file that a source names for its chart.
-fn path_of_chart(alloc: Global, made: &Generated<'_>) -> Result<String, Failure<'static>> {
+fn path_of_chart(alloc: Global, made: &Generated<'_>) -> Result<String, Failure<'static>>
+    ensures file { IfOk result (λ chart. file_at (string_bytes chart)
+        ≡ destination_said (option_map string_bytes made.now.export_path) made.now.name.text.now) }
+    ensures failure { IfErr result (FailsAt
+        (destination_said (option_map string_bytes made.now.export_path) made.now.name.text.now)) }
+{
     match &made.export_path {
         Some(path) => chart_path(alloc, path.as_str(), made.name.text),
         None => Err(Failure::NotExported(Unexported::Unsaid)),

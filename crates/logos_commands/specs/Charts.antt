@@ -1,0 +1,62 @@
+-- Where the chart of an enum goes, as lists of bytes.
+use Rattle.std.specs.Prelude.{◌≡◌, ◌++◌, ℕ, List, Option, Some, None, if◌then◌else◌, map, bytes_eq, codes, string_bytes}
+use Rattle.std.specs.Char.{to_ascii_lowercase}
+use Rattle.std.specs.Path.{slash, dot, parent_dir, rsplit_once, extension_of_split, with_separator}
+use Rattle.logos_commands.specs.declared.failure.Failure.{Failure}
+use Rattle.logos_commands.specs.declared.failure.Failure.TheVariants.{NotExported, Memory}
+use Rattle.logos_commands.specs.declared.failure.Unexported.{Unexported}
+use Rattle.logos_commands.specs.declared.failure.Unexported.TheVariants.{Unsaid, Dot, Extension}
+use Rattle.logos_commands.specs.declared.outcome.Outcome.{Outcome}
+use Rattle.logos_commands.specs.declared.outcome.Outcome.TheVariants.{Text, Chart}
+
+-- What becomes of a chart: it goes to the file at these bytes, or its path is refused.
+pub data Destination : Type 0 where
+  file_at : (path : List ℕ) → Destination
+  refused : (why : Unexported) → Destination
+
+-- what stands behind the last slash of a path, or all of it: its split at that slash
+abbrev pub name_of_split : List ℕ → Option (List ℕ × List ℕ) → List ℕ
+name_of_split path None = path
+name_of_split path (Some split) = split.1
+
+-- the name at the end of a path
+abbrev pub file_name : List ℕ → List ℕ
+file_name path = name_of_split path (rsplit_once slash path)
+
+-- what stands behind the last dot of a name, where that is not its first byte; `..` has no extension
+abbrev pub extension : List ℕ → Option (List ℕ)
+extension name = if bytes_eq name parent_dir then None else extension_of_split (rsplit_once dot name)
+
+-- the file of a chart in a folder: the enum's name, with its ASCII letters lowered
+abbrev pub file_in : List ℕ → List ℕ → List ℕ
+file_in folder name = with_separator folder ++ (map to_ascii_lowercase name ++ codes ".mmd")
+
+-- why a path with this extension is refused, which is not `mmd`
+abbrev pub refusal_by : List ℕ → Unexported
+refusal_by extension = if bytes_eq extension (codes "dot") then Dot else Extension
+
+-- where the chart goes by a path with this extension: a path without one is that of a folder
+abbrev pub destination_by : Option (List ℕ) → List ℕ → List ℕ → Destination
+destination_by None path name = file_at (file_in path name)
+destination_by (Some extension) path name =
+    if bytes_eq extension (codes "mmd") then file_at path else refused (refusal_by extension)
+
+-- where the chart of an enum of this name goes, by the path of a file or of a folder
+abbrev pub destination : List ℕ → List ℕ → Destination
+destination path name = destination_by (extension (file_name path)) path name
+
+-- where the chart goes by the path that a source says, if it says one
+abbrev pub destination_said : Option (List ℕ) → List ℕ → Destination
+destination_said None name = refused Unsaid
+destination_said (Some path) name = destination path name
+
+-- whether this is why a chart does not go where it is to go: its path is refused, or the bytes of it found no memory
+abbrev pub FailsAt : Destination → Failure → Type 0
+FailsAt (file_at path) failure = failure ≡ Memory
+FailsAt (refused why) failure = failure ≡ NotExported why
+
+-- whether what a command gives is a chart for the file at which it is to be
+abbrev pub IsChartAt : Destination → Outcome → Type 0
+IsChartAt (file_at path) (Chart chart text) = string_bytes chart ≡ path
+IsChartAt (file_at path) (Text text) = ⊥
+IsChartAt (refused why) outcome = ⊥
