@@ -7,6 +7,7 @@ mod enums;
 mod graphs;
 mod nested;
 mod options;
+mod pairs;
 mod patterns;
 
 use super::check;
@@ -102,5 +103,14 @@ fn faults_of_graphs(rt: HostRuntime) {
         &rt,
         rt.alloc(),
         &[graphs::SUBPATTERNS, graphs::GRAPHS, graphs::ALL_TWICE],
+    );
+}
+
+#[test]
+fn faults_of_pairs(rt: HostRuntime) {
+    answer(
+        &rt,
+        rt.alloc(),
+        &[pairs::NEIGHBOURS, pairs::GRAPH, pairs::ALL],
     );
 }
