@@ -6,7 +6,15 @@
 # and at most one on a variant, so that a variant's place tells its leaf. A source with callbacks, values or parameters may have more;
 # beside it stands a file of this name in scripts/rust_text/beside, with the Rust items that it names, the type of its tokens and the
 # leaf of each. Its callbacks keep what they match, as `logos lex` does. Where an input is refused, since it is not UTF-8, nothing is
-# compared. The program `logos` is that which the gate has built, or the first argument. Where there is no rustc, it says so and ends well.
+# compared.
+#
+# Callbacks of skips, callbacks that refuse what they match or leave it out, and the one that makes errors are told too. Of a source with a
+# file of its name in scripts/rust_text/told the skips stand in `skip(..)`, and `logos lex` is asked with each of them as a variant in front of the
+# others, so that it tells all matches in order, by the same leaves. The file, in sed's language, says what becomes of these lines: `token`
+# where a skip's callback has to say that it was called, `made` in front of `error` where the callback that makes errors has to say so. Each prints
+# where the lexer stands, and `told`, in the file beside, looks at the value of each error.
+#
+# The program `logos` is that which the gate has built, or the first argument. Where there is no rustc, it says so and ends well.
 set -euo pipefail
 
 root=$(cd "$(dirname "${BASH_SOURCE[0]}")/.." && pwd)
@@ -18,6 +26,25 @@ if ! command -v rustc > /dev/null; then
     exit 0
 fi
 
+# The source with each skip as a variant, in front of the others.
+with_skips_shown() {
+    awk '/^#\[logos\(skip\(/ { sub(/^#\[logos\(skip/, "#[regex"); sub(/\)\)\]$/, ")]"); shown = shown "    " $0 " Skip" count++ ",\n"; next }
+         { print }
+         /^enum / { printf "%s", shown }' "$1"
+}
+
+# The lines that an input has to give by a source, in a shape.
+wanted_lines() {
+    local source=$1 input=$2 shape=$3 name
+    name=$(basename "$source" .rs)
+    if [ ! -e "$root/scripts/rust_text/told/$name.sed" ]; then
+        "$logos" lex "$source" "$input" --shape "$shape" > "$room/wanted" 2> "$room/said"
+        return
+    fi
+    "$logos" lex "$room/$name.shown.rs" "$input" --shape "$shape" > "$room/matches" 2> "$room/said" || return
+    sed -f "$root/scripts/rust_text/told/$name.sed" "$room/matches" > "$room/wanted"
+}
+
 # A module for each source and shape, and an arm for each in `main`.
 cp "$root/scripts/rust_text/main.rs.in" "$room/main.rs"
 arms=
@@ -25,6 +52,11 @@ for source in "$root"/scripts/rust_text/sources/*.rs; do
     name=$(basename "$source" .rs)
     enum=$(sed -n 's/^enum \([A-Za-z]*\) {$/\1/p' "$source")
     skips=$(grep -c '^#\[logos(skip' "$source" || true)
+    told='|_, _| ()'
+    if [ -e "$root/scripts/rust_text/told/$name.sed" ]; then
+        told=told
+        with_skips_shown "$source" > "$room/$name.shown.rs"
+    fi
     for shape in state_machine tailcall; do
         "$logos" gen "$source" --shape "$shape" > "$room/$name.$shape.rs"
         { echo "mod ${name}_$shape {"
@@ -32,11 +64,11 @@ for source in "$root"/scripts/rust_text/sources/*.rs; do
           cat "$room/$name.$shape.rs"
           if [ -e "$root/scripts/rust_text/beside/$name.rs" ]; then
               cat "$root/scripts/rust_text/beside/$name.rs"
-              echo "pub fn lines(input: &[u8]) { super::lines::<Tokens>(super::Input::of(input), leaf) }"
+              echo "pub fn lines(input: &[u8]) { super::lines::<Tokens>(super::Input::of(input), leaf, $told) }"
           elif grep -q '^    [A-Z]' "$source"; then
-              echo "pub fn lines(input: &[u8]) { super::lines::<$enum>(super::Input::of(input), |_, token| token as usize + $skips) }"
+              echo "pub fn lines(input: &[u8]) { super::lines::<$enum>(super::Input::of(input), |_, token| token as usize + $skips, $told) }"
           else
-              echo "pub fn lines(input: &[u8]) { super::lines::<$enum>(super::Input::of(input), |_, token| match token {}) }"
+              echo "pub fn lines(input: &[u8]) { super::lines::<$enum>(super::Input::of(input), |_, token| match token {}, $told) }"
           fi
           echo "}"; } >> "$room/main.rs"
         arms+="(\"$name\", \"$shape\") => ${name}_$shape::lines(&input), "
@@ -55,7 +87,7 @@ for source in "$root"/scripts/rust_text/sources/*.rs; do
     name=$(basename "$source" .rs)
     for input in "$root"/scripts/rust_text/inputs/*; do
         for shape in state_machine tailcall; do
-            if ! "$logos" lex "$source" "$input" --shape "$shape" > "$room/wanted" 2> "$room/said"; then
+            if ! wanted_lines "$source" "$input" "$shape"; then
                 grep -q '^NotUtf8 ' "$room/said" || { cat "$room/said" >&2; exit 1; }
                 continue
             fi
