@@ -139,6 +139,8 @@ pub fn lex_source<'i, C: Fn(LeafId, &[u8]) -> Action + Drop>(
     ensures accepted { (rules : List Rule) (utf8 : Bool) → IsAccepted src.now rules utf8 →
         IsWithinLimits src.now rules → IfErr result IsNoRefusal }
 {
-    let generated = generate(alloc, src, config)?;
-    lex_input(alloc, &generated.code, input, callbacks)
+    match generate(alloc, src, config) {
+        Ok(generated) => lex_input(alloc, &generated.code, input, callbacks),
+        Err(refusal) => Err(LexSourceError::from(refusal)),
+    }
 }

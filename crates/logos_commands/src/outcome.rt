@@ -23,6 +23,22 @@ pub(super) enum Outcome {
     Chart { path: String, text: String },
 }
 
+/// What is asked for of a lexer.
+#[derive(Clone, Copy)]
+enum Asked {
+    /// Its Rust text.
+    Text,
+    /// The chart of its graph.
+    Chart,
+    /// The same chart, for the file that its source names.
+    Export,
+}
+
+/// A chart is the same in both shapes.
+const ANY_SHAPE: Config = Config {
+    use_state_machine_codegen: true,
+};
+
 /// What a command gives, whole, before any of it is written.
 pub(super) fn outcome_of<'w, F: Files>(
     alloc: Global,
@@ -30,14 +46,14 @@ pub(super) fn outcome_of<'w, F: Files>(
     files: &mut F,
 ) -> Result<Outcome, Failure<'w>> {
     match command {
-        Command::Text { file, config } => Ok(Outcome::Text(text(alloc, file, config, files)?)),
+        Command::Text { file, config } => of_file(alloc, file, config, Asked::Text, files),
         Command::Items {
             file,
             input,
             config,
         } => Ok(Outcome::Text(items(alloc, file, input, config, files)?)),
-        Command::Chart { file } => Ok(Outcome::Text(chart(alloc, file, files)?)),
-        Command::Export { file } => export(alloc, file, files),
+        Command::Chart { file } => of_file(alloc, file, ANY_SHAPE, Asked::Chart, files),
+        Command::Export { file } => of_file(alloc, file, ANY_SHAPE, Asked::Export, files),
         Command::Strip { file } => Ok(Outcome::Text(stripped(alloc, file, files)?)),
     }
 }
@@ -59,28 +75,49 @@ fn read_text<'w, F: Files>(path: &'w str, files: &mut F) -> Result<String, Failu
     Ok(text)
 }
 
-/// The Rust text of a source's lexer, and LF.
-fn text<'w, F: Files>(
+/// What is asked for of the lexer of the source in a file.
+fn of_file<'w, F: Files>(
     alloc: Global,
     file: &'w str,
     config: Config,
+    asked: Asked,
     files: &mut F,
-) -> Result<String, Failure<'w>> {
+) -> Result<Outcome, Failure<'w>> {
     let source = read_text(file, files)?;
-    let mut text = text_of_source(alloc, source.as_str(), config)?;
+    of_source(alloc, source.as_str(), config, asked)
+}
+
+/// What is asked for of the lexer of a source.
+fn of_source(
+    alloc: Global,
+    source: &str,
+    config: Config,
+    asked: Asked,
+) -> Result<Outcome, Failure<'static>> {
+    match generate(alloc, source, config) {
+        Ok(made) => of_lexer(alloc, &made, asked),
+        Err(refusal) => Err(Failure::from(refusal)),
+    }
+}
+
+/// What is asked for of a lexer that was made.
+fn of_lexer(
+    alloc: Global,
+    made: &Generated<'_>,
+    asked: Asked,
+) -> Result<Outcome, Failure<'static>> {
+    match asked {
+        Asked::Text => Ok(Outcome::Text(text_of_lexer(alloc, made)?)),
+        Asked::Chart => Ok(Outcome::Text(tested_chart(alloc, &made.graph)?)),
+        Asked::Export => export_of_lexer(alloc, made),
+    }
+}
+
+/// The Rust text of a lexer that was made, and LF.
+fn text_of_lexer(alloc: Global, made: &Generated<'_>) -> Result<String, Failure<'static>> {
+    let mut text = made.text(alloc)?;
     text.push('\n')?;
     Ok(text)
-}
-
-/// The Rust text of a source's lexer.
-fn text_of_source(alloc: Global, source: &str, config: Config) -> Result<String, Failure<'static>> {
-    let made = generate(alloc, source, config)?;
-    text_of_lexer(alloc, &made)
-}
-
-/// The Rust text of a lexer that was made.
-fn text_of_lexer(alloc: Global, made: &Generated<'_>) -> Result<String, Failure<'static>> {
-    Ok(made.text(alloc)?)
 }
 
 /// What is left of a file without what belongs to the derive macro, and LF.
@@ -114,40 +151,6 @@ fn items<'w, F: Files>(
     let emit = |_leaf, _slice: &[u8]| Action::Emit;
     let items = lex_source(alloc, source.as_str(), config, bytes.as_slice(), emit)?;
     Ok(lines_of(alloc, items.as_slice())?)
-}
-
-/// The chart of a source's graph.
-fn chart<'w, F: Files>(alloc: Global, file: &'w str, files: &mut F) -> Result<String, Failure<'w>> {
-    let source = read_text(file, files)?;
-    chart_of_source(alloc, source.as_str())
-}
-
-/// The chart of a source's graph, once each state is told apart from the next.
-fn chart_of_source(alloc: Global, source: &str) -> Result<String, Failure<'static>> {
-    let config = Config {
-        use_state_machine_codegen: true,
-    };
-    let made = generate(alloc, source, config)?;
-    tested_chart(alloc, &made.graph)
-}
-
-/// The chart of a source's graph, for the file that the source names.
-fn export<'w, F: Files>(
-    alloc: Global,
-    file: &'w str,
-    files: &mut F,
-) -> Result<Outcome, Failure<'w>> {
-    let source = read_text(file, files)?;
-    export_of_source(alloc, source.as_str())
-}
-
-/// The chart of a source's graph, for the file that the source names.
-fn export_of_source(alloc: Global, source: &str) -> Result<Outcome, Failure<'static>> {
-    let config = Config {
-        use_state_machine_codegen: true,
-    };
-    let made = generate(alloc, source, config)?;
-    export_of_lexer(alloc, &made)
 }
 
 /// The chart of the graph of a lexer that was made, for the file that its source names.
