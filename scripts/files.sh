@@ -1,7 +1,8 @@
 #!/usr/bin/env bash
 # Meets for real what the tests of the commands meet with files in memory: files that are missing, folders or no text, words that are
-# no text, a standard output that is full or closed, and charts whose folders are missing or whose files cannot be made. Each time the
-# status and all that is written must be as said here.
+# no text, an input that comes piece by piece, a standard output that is full, closed, read slowly or read no more, or that takes the
+# beginning alone, and charts whose folders are missing or whose files cannot be made, or not whole. Each time the status and all that is
+# written must be as said here.
 #
 # It needs the program as `rt ci` or `rt run` leaves it in crates/logos_program/out, or the first argument.
 set -euo pipefail
@@ -19,6 +20,7 @@ mkdir folder
 for path in deep/er/ b.mmd folder.mmd source/x full.mmd a.dot a.txt; do
     printf '#[logos(export_dir = "%s")] enum My { #[token("a")] A }' "$path" > "to_${path//\//_}"
 done
+printf '#[logos(export_dir = "long.mmd")] enum My { #[regex("a{2000}")] A }' > long
 mkdir folder.mmd
 ln -s /dev/full full.mmd
 usage='usage: logos gen|lex|strip|mermaid|export FILE ..'
@@ -51,15 +53,23 @@ gives 3 '' 'cannot read folder' mermaid folder
 gives 3 '' 'cannot read folder' lex source folder
 gives 3 '' 'cannot read torn' gen torn
 gives 3 '' 'cannot read none' lex none gone
+gives 3 '' 'cannot read torn' lex torn input
+gives 3 '' 'cannot read torn' lex torn none
+gives 3 '' 'cannot read torn' mermaid torn
 gives 1 '' 'NotUtf8 1' lex source bytes
 gives 3 '' 'cannot read none' strip none
 gives 3 '' 'cannot read torn' strip torn
 gives 3 '' 'cannot read none' export none
 gives 3 '' 'cannot read folder' export folder
+gives 3 '' 'cannot read torn' export torn
+gives 3 '' 'cannot read ' gen ''
 gives 2 '' "$usage"
 gives 2 '' "$usage" lex source
 gives 2 '' "$usage" $'gen\xff' source
 gives 2 '' "$usage" gen $'\xff'
+gives 2 '' "$usage" lex source $'in\xffput'
+gives 2 '' "$usage" export $'\xff'
+gives 2 '' "$usage" gen source --shape $'\xff'
 
 # Fails unless this file is the chart of this source.
 charts() {
@@ -110,6 +120,44 @@ done
 status=0
 "$program" lex source bytes > /dev/full 2> err || status=$?
 wants "$status" 1 '' 'NotUtf8 1'
+
+# The input comes piece by piece, and a long output is read slowly: both are whole.
+: > err
+status=0
+{ printf a; sleep 0.2; printf b; } | "$program" lex source /dev/stdin > out 2> err || status=$?
+wants "$status" 0 $'token 0 0..1\nerror 1..2' ''
+"$program" mermaid long > whole
+[ "$(wc -c < whole)" -gt 100000 ]
+: > out
+"$program" mermaid long 2> err | { sleep 0.2; cat; } | cmp - whole
+wants 0 0 '' ''
+
+# The output takes the beginning alone, which stays there.
+for command in 'gen source' 'mermaid long'; do
+    # shellcheck disable=SC2086
+    "$program" $command > whole
+    status=0
+    # shellcheck disable=SC2086
+    (trap '' XFSZ; ulimit -f 1; exec "$program" $command > half 2> err) || status=$?
+    wants "$status" 3 '' 'cannot write standard output'
+    head -c 1024 whole | cmp - half
+done
+status=0
+(trap '' XFSZ; ulimit -f 1; exec "$program" export long 2> err) || status=$?
+wants "$status" 3 '' 'cannot write long.mmd'
+
+# Nobody reads the output any more.
+mkfifo pipe
+for command in 'lex source input' 'gen source' 'mermaid long' 'strip source'; do
+    : < pipe &
+    exec 3> pipe
+    wait
+    status=0
+    # shellcheck disable=SC2086
+    "$program" $command >&3 2> err || status=$?
+    exec 3>&-
+    wants "$status" 3 '' 'cannot write standard output'
+done
 
 # Nobody hears the complaint: the status stays.
 : > err

@@ -34,15 +34,16 @@ fn push_faults(text: &mut String, errors: &Errors) -> Result<(), AllocError> {
     Ok(())
 }
 
-/// Adds what a source gives on an input.
+/// Adds what a source gives on an input, where each callback answers so.
 fn push_given(
     text: &mut String,
     alloc: Global,
     source: &str,
     input: &[u8],
     config: Config,
+    answer: Action,
 ) -> Result<(), AllocError> {
-    match lex_source(alloc, source, config, input, |_, _| Action::Emit) {
+    match lex_source(alloc, source, config, input, |_, _| answer) {
         Ok(items) => push_items(text, items.as_slice()),
         Err(LexSourceError::Refused(errors)) => push_faults(text, &errors),
         Err(LexSourceError::NotUtf8 { valid_up_to }) => {
@@ -52,19 +53,40 @@ fn push_given(
     }
 }
 
-/// What in this shape the source gives on the input.
+/// What in this shape the source gives on the input, where each callback answers so.
 fn given(
     alloc: Global,
     source: &str,
     input: &[u8],
     use_state_machine_codegen: bool,
+    answer: Action,
 ) -> Result<String, AllocError> {
     let config = Config {
         use_state_machine_codegen,
     };
     let mut text = String::new(alloc);
-    push_given(&mut text, alloc, source, input, config)?;
+    push_given(&mut text, alloc, source, input, config, answer)?;
     Ok(text)
+}
+
+/// In both shapes the source gives this on the input, where each callback answers so.
+fn give_by(
+    rt: &impl Abort,
+    alloc: Global,
+    source: &str,
+    input: &[u8],
+    answer: Action,
+    wanted: &str,
+) -> Result<(), Fail> {
+    for shape in [true, false] {
+        check(
+            rt,
+            source,
+            given(alloc, source, input, shape, answer)?.as_str(),
+            wanted,
+        );
+    }
+    Ok(())
 }
 
 /// In both shapes the source gives this on the input.
@@ -75,15 +97,7 @@ fn give_so(
     input: &[u8],
     wanted: &str,
 ) -> Result<(), Fail> {
-    for shape in [true, false] {
-        check(
-            rt,
-            source,
-            given(alloc, source, input, shape)?.as_str(),
-            wanted,
-        );
-    }
-    Ok(())
+    give_by(rt, alloc, source, input, Action::Emit, wanted)
 }
 
 /// In both shapes each source gives on the input what is said behind it.
@@ -406,6 +420,34 @@ const READS_TEXT_AND_BYTES: &[(&str, &[u8], &str)] = &[
     ),
 ];
 
+/// A source, an input, what each callback answers, and what is given then.
+const ASKS_ITS_CALLBACKS: &[(&str, &[u8], Action, &str)] = &[
+    (
+        r#"enum T { #[regex("[a-z]+", f)] A }"#,
+        b"ab1c",
+        Action::Skip,
+        "error 2..3, ",
+    ),
+    (
+        r#"enum T { #[regex("[a-z]+", f)] A }"#,
+        b"ab1c",
+        Action::Error,
+        "error of 0 0..2, error 2..3, error of 0 3..4, ",
+    ),
+    (
+        r#"#[logos(skip(" ", f))] enum T { #[token("a")] A, #[token("b", |l| f(l))] B }"#,
+        b"a b",
+        Action::Error,
+        "1 at 0..1, error of 0 1..2, error of 2 2..3, ",
+    ),
+    (
+        r#"#[logos(skip(" ", f))] enum T { #[token("a")] A, #[token("b", |l| f(l))] B }"#,
+        b"a b",
+        Action::Skip,
+        "1 at 0..1, ",
+    ),
+];
+
 #[test]
 fn sources_give_what_the_rows_say(rt: HostRuntime) -> Result<(), Fail> {
     for rows in [
@@ -416,6 +458,9 @@ fn sources_give_what_the_rows_say(rt: HostRuntime) -> Result<(), Fail> {
         READS_TEXT_AND_BYTES,
     ] {
         give(&rt, rt.alloc(), rows)?;
+    }
+    for row in ASKS_ITS_CALLBACKS {
+        give_by(&rt, rt.alloc(), row.0, row.1, row.2, row.3)?;
     }
     Ok(())
 }

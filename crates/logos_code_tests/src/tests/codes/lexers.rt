@@ -111,6 +111,10 @@ const SKIPS: Rules<'static> = &[
     ("c", 1, Fate::Token),
 ];
 
+const SINGLE: Rules<'static> = &[("a", 1, Fate::Called)];
+
+const WORDS: Rules<'static> = &[("[ab]+", 1, Fate::CalledSkip), (" ", 1, Fate::Skip)];
+
 /// The first item, which outlives its lexer, and may outlive the code.
 fn first_item<'i>(code: &Code<'_>, input: &'i str) -> Option<Item<'i>> {
     let mut lexer = Lexer::new_str(code, input, emit);
@@ -328,6 +332,23 @@ pub(super) const ROWS: &[Row] = &[
         b"a1ab",
         "0 at 0..1, error 1..2, error of 0 2..4, ",
     ),
+    (true, true, SINGLE, Ask::Skip, b"aa", ""),
+    (
+        true,
+        true,
+        SINGLE,
+        Ask::Refuse,
+        b"aa",
+        "error of 0 0..1, error of 0 1..2, ",
+    ),
+    (
+        false,
+        true,
+        SINGLE,
+        Ask::Refuse,
+        b"aa",
+        "error of 0 0..1, error of 0 1..2, ",
+    ),
     // skips are left out
     (
         true,
@@ -345,6 +366,16 @@ pub(super) const ROWS: &[Row] = &[
         b"abc",
         "error of 0 0..1, 2 at 2..3, ",
     ),
+    (true, true, SKIPS, Ask::Skip, b"abc", "2 at 2..3, "),
+    (
+        true,
+        true,
+        WORDS,
+        Ask::EmitA,
+        b"a ab a b",
+        "error of 0 2..4, error of 0 7..8, ",
+    ),
+    (true, true, WORDS, Ask::Emit, b"a ab a b", ""),
     // errors end between characters
     (
         true,
