@@ -1,7 +1,6 @@
 -- What `error(..)` gives, by what is read in it.
-use Rattle.std.proofs.Common.{◌≡◌, ◌≢◌, List, Bool, true, false, Option, Some, None, sym}
+use Rattle.std.proofs.Common.{◌≡◌, ◌≢◌, List, true, Option, Some, None}
 use Rattle.std.specs.Prelude.{option_map}
-use Rattle.std.specs.Option.{is_some}
 use Rattle.logos_lexeme.specs.declared.lexeme.Span.{Span}
 use Rattle.logos_token.specs.Faults.{Fault}
 use Rattle.logos_token.specs.Tokens.{TokenList, none, run_span}

@@ -1,13 +1,13 @@
 -- What the arguments of a `logos` attribute say, one after another. A type in them is read by the grammar of types.
-use Rattle.std.specs.Prelude.{◌≡◌, ◌≢◌, ℕ, Bool, true, false, List, [], ◌∷◌, ◌++◌, codes, Option, Some, None}
+use Rattle.std.specs.Prelude.{◌≡◌, ◌≢◌, Bool, true, false, List, [], ◌∷◌, ◌++◌, codes, Option, Some, None}
 use Rattle.std.specs.Str.{bytes_eq}
 use Rattle.logos_token.specs.Faults.{Fault}
 use Rattle.logos_token.specs.Tokens.{TokenList, none, run_span}
 use Rattle.logos_type.specs.Parts.{Tree}
 use Rattle.logos_type_params.specs.TypeParams.{Value, ReadsValue, IsSet}
 use Rattle.logos_attribute.specs.Slices.{Slice}
-use Rattle.logos_attribute.specs.Pieces.{PieceValue, assigned, beside, grouped, keyed, Piece, unnamed, named, unexpected, pieces, up_to_comma, behind_comma}
-use Rattle.logos_attribute.specs.Told.{Told, Tells, telling, only}
+use Rattle.logos_attribute.specs.Pieces.{PieceValue, grouped, keyed, Piece, unnamed, named, unexpected, pieces, up_to_comma, behind_comma}
+use Rattle.logos_attribute.specs.Told.{Tells, telling, only}
 use Rattle.logos_definition.specs.ErrorTypes.{ErrorView, error_read, error_arguments_told}
 use Rattle.logos_definition.specs.Options.{OptionsView, error_set, error_told, option_told}
 use Rattle.logos_definition.specs.OptionFaults.{error_empty, type_form, invalid_nested}

@@ -1,4 +1,3 @@
-use Rattle.std.proofs.Common.{◌∙◌, sym}
 use Rattle.logos_token.specs.Views.{tokens_of}
 use Rattle.logos_type.specs.TypeTrees.{type_tree}
 use Rattle.logos_definition.specs.ErrorTypeViews.{error_view}
