@@ -70,7 +70,7 @@ fn library_text(alloc: Global, path: Option<&TokenStream<'_>>) -> Result<String,
 /// The text of the type of errors.
 fn error_text(alloc: Global, error: Option<&ErrorType<'_>>) -> Result<String, Memory> {
     match error {
-        Some(error) => error.ty.print(alloc),
+        Some(error) => error.print(alloc),
         None => Ok(String::from_str(alloc, "( )")?),
     }
 }

@@ -1,5 +1,5 @@
 -- The forms of the values of arguments.
-use Rattle.std.proofs.Common.{◌≡◌, Bool, false, refl}
+use Rattle.std.proofs.Common.{◌≡◌, false, refl}
 use Rattle.logos_token.specs.declared.token.Ident.{Ident}
 use Rattle.logos_token.specs.declared.token.views.Tokens.{Tokens}
 use Rattle.logos_attribute.specs.declared.nested.NestedValue.{NestedValue}

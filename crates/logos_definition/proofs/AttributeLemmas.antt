@@ -1,5 +1,5 @@
 -- Attributes as wholes.
-use Rattle.std.proofs.Common.{◌≡◌, List, Option, Some, ap}
+use Rattle.std.proofs.Common.{◌≡◌, List, Some, ap}
 use Rattle.logos_lexeme.specs.declared.lexeme.Span.{Span}
 use Rattle.logos_token.specs.Faults.{Fault}
 use Rattle.logos_token.specs.Views.{tokens_of}

@@ -1,24 +1,24 @@
 -- What the arguments of a `logos` attribute say, one after another. A type in them is read by the grammar of types.
-use Rattle.std.specs.Prelude.{◌≡◌, ◌≢◌, ℕ, Bool, true, false, List, [], ◌∷◌, ◌++◌, codes, Option, Some, None}
+use Rattle.std.specs.Prelude.{◌≡◌, ◌≢◌, Bool, true, false, List, [], ◌∷◌, ◌++◌, codes, Option, Some, None}
 use Rattle.std.specs.Str.{bytes_eq}
 use Rattle.logos_token.specs.Faults.{Fault}
 use Rattle.logos_token.specs.Tokens.{TokenList, none, run_span}
 use Rattle.logos_type.specs.Parts.{Tree}
 use Rattle.logos_type_params.specs.TypeParams.{Value, ReadsValue, IsSet}
 use Rattle.logos_attribute.specs.Slices.{Slice}
-use Rattle.logos_attribute.specs.Pieces.{PieceValue, assigned, beside, grouped, keyed, Piece, unnamed, named, unexpected, pieces, up_to_comma, behind_comma}
-use Rattle.logos_attribute.specs.Told.{Told, Tells, telling, only}
-use Rattle.logos_definition.specs.ErrorTypes.{ErrorView, error_alone, error_arguments_told}
+use Rattle.logos_attribute.specs.Pieces.{PieceValue, grouped, keyed, Piece, unnamed, named, unexpected, pieces, up_to_comma, behind_comma}
+use Rattle.logos_attribute.specs.Told.{Tells, telling, only}
+use Rattle.logos_definition.specs.ErrorTypes.{ErrorView, error_read, error_arguments_told}
 use Rattle.logos_definition.specs.Options.{OptionsView, error_set, error_told, option_told}
 use Rattle.logos_definition.specs.OptionFaults.{error_empty, type_form, invalid_nested}
 
--- What `error(..)` gives: its type is the run up to the first comma, and the other arguments stand behind it. Without a type there is none, and
+-- What `error(..)` gives: its type is what the run up to the first comma is read as, and the other arguments stand behind it. Without a type there is none, and
 -- that is listed.
 pub data ErrorGroup (group : TokenList) (old new : List Fault) : Option ErrorView → Type 0 where
   nothing : up_to_comma group ≡ none → new ≡ old ++ only (error_empty group) → ErrorGroup group old new None
   no_type : up_to_comma group ≢ none → ReadsValue (up_to_comma group) (run_span group) old new None → ErrorGroup group old new None
   a_type : {mid : List Fault} {tree : Tree} {error : ErrorView} → up_to_comma group ≢ none → ReadsValue (up_to_comma group) (run_span group) old mid (Some tree) →
-      Tells (error_arguments_told true (pieces (behind_comma group)) (error_alone (up_to_comma group))) error mid new → ErrorGroup group old new (Some error)
+      Tells (error_arguments_told true (pieces (behind_comma group)) (error_read (up_to_comma group) tree)) error mid new → ErrorGroup group old new (Some error)
 
 -- the value is in parentheses
 abbrev pub is_grouped : PieceValue → Bool

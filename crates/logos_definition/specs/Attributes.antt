@@ -4,11 +4,10 @@ use Rattle.std.specs.Str.{bytes_eq}
 use Rattle.logos_lexeme.specs.declared.lexeme.Span.{Span}
 use Rattle.logos_token.specs.declared.error.fault_code.FaultCode.TheVariants.{LogosForm, ConstGeneric}
 use Rattle.logos_token.specs.Faults.{Fault}
-use Rattle.logos_token.specs.Tokens.{TokenList, run_span}
+use Rattle.logos_token.specs.Tokens.{TokenList}
 use Rattle.logos_item.specs.declared.generics.ParameterKind.{ParameterKind}
 use Rattle.logos_item.specs.declared.generics.ParameterKind.TheVariants as kinds
 use Rattle.logos_item.specs.AttributeValues.{AttributeValue}
-use Rattle.logos_item.specs.Values.{ParameterValue}
 use Rattle.logos_type_params.specs.TypeParams.{many_lifetimes}
 use Rattle.logos_attribute.specs.Slices.{Slice}
 use Rattle.logos_attribute.specs.Pieces.{pieces}

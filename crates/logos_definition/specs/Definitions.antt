@@ -2,7 +2,6 @@
 use Rattle.std.specs.Prelude.{ℕ, Bool, true, false, List, [], ◌∷◌, codes, Option, Some, None, if◌then◌else◌}
 use Rattle.std.specs.Str.{bytes_eq}
 use Rattle.logos_token.specs.Faults.{Fault}
-use Rattle.logos_token.specs.declared.error.fault_code.FaultCode.{FaultCode}
 use Rattle.logos_token.specs.declared.error.fault_code.FaultCode.TheVariants.{PriorityValue, PriorityTwice, PriorityForm, GreedyValue, GreedyTwice, GreedyForm, CallbackForm, IgnoreForm, UnknownNested, UnexpectedToken, NamedExpected}
 use Rattle.logos_token.specs.Tokens.{TokenList, run_span}
 use Rattle.logos_attribute.specs.Slices.{Slice}

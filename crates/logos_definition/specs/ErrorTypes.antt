@@ -1,28 +1,50 @@
 -- The type of errors, and what makes one.
-use Rattle.std.specs.Prelude.{Bool, true, false, List, [], ◌∷◌, codes, Option, Some, None, if◌then◌else◌}
+use Rattle.std.specs.Prelude.{ℕ, Bool, true, false, List, [], ◌∷◌, codes, Option, Some, None, if◌then◌else◌}
 use Rattle.std.specs.Str.{bytes_eq}
 use Rattle.logos_lexeme.specs.declared.lexeme.Span.{Span}
 use Rattle.logos_token.specs.Faults.{Fault}
 use Rattle.logos_token.specs.declared.error.fault_code.FaultCode.TheVariants.{UnknownNested}
 use Rattle.logos_token.specs.Tokens.{TokenList, none, run_span}
+use Rattle.logos_token.specs.Printing.{printed}
+use Rattle.logos_type.specs.Parts.{Tree}
+use Rattle.logos_type.specs.Printed.{printed_type}
 use Rattle.logos_attribute.specs.Slices.{Slice}
 use Rattle.logos_attribute.specs.Pieces.{PieceValue, assigned, Piece, unnamed, named, unexpected}
 use Rattle.logos_attribute.specs.Told.{Told, telling, quiet, and_then, told_as, fault_about, only}
 use Rattle.logos_attribute.specs.Callbacks.{CallbackView, callback_told, callback_set}
 use Rattle.logos_definition.specs.Definitions.{callback_form, named_expected, unexpected_token}
 
--- the type of errors, which is `()` where no tokens are given, and the callback that makes an error, if there is one
+-- the type of errors, which is `()` where no tokens are given, the type as it was read from these tokens, if it was, and the callback that makes an error, if
+-- there is one
 pub record ErrorView : Type 0 where
   pub type_run : Option TokenList
+  pub type : Option Tree
   pub callback : Option CallbackView
 
--- a type alone
+-- tokens alone, which are not read as a type
 abbrev pub error_alone : TokenList → ErrorView
-error_alone run = record { type_run = Some run; callback = None }
+error_alone run = record { type_run = Some run; type = None; callback = None }
+
+-- a type alone, as it was read from its tokens
+abbrev pub error_read : TokenList → Tree → ErrorView
+error_read run tree = record { type_run = Some run; type = Some tree; callback = None }
 
 -- the type `()`
 abbrev pub no_error : ErrorView
-no_error = record { type_run = None; callback = None }
+no_error = record { type_run = None; type = None; callback = None }
+
+-- the printed text of tokens, or of `()` where there are none
+abbrev pub run_text : Option TokenList → List ℕ
+run_text (Some run) = printed run
+run_text None = codes "( )"
+
+-- the printed text of a type that was read, else of the tokens
+abbrev pub type_or_run : Option Tree → Option TokenList → List ℕ
+type_or_run (Some tree) run = printed_type tree
+type_or_run None run = run_text run
+
+abbrev pub error_text : ErrorView → List ℕ
+error_text e = type_or_run e.type e.type_run
 
 -- where the type stands
 abbrev pub run_place : Option TokenList → Span

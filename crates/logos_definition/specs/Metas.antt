@@ -1,6 +1,6 @@
 -- The names and the arguments of attributes.
 use Rattle.std.specs.Prelude.{ℕ, ◌==◌, Option, Some, None, if◌then◌else◌}
-use Rattle.logos_token.specs.Tokens.{TokenList, identifier, punctuation, group, none, also}
+use Rattle.logos_token.specs.Tokens.{TokenList, identifier, punctuation, group, also}
 use Rattle.logos_token.specs.Views.{tokens_of}
 use Rattle.logos_token.specs.declared.token.views.Tokens.{Tokens}
 use Rattle.logos_attribute.specs.Slices.{Slice, ident_slice}

@@ -1,5 +1,5 @@
 -- The faults of the options of a lexer, each with its text and its place.
-use Rattle.std.specs.Prelude.{ℕ, List, [], ◌∷◌, ◌++◌, codes, Option, Some, None}
+use Rattle.std.specs.Prelude.{ℕ, List, [], ◌∷◌, codes, Option, Some, None}
 use Rattle.logos_lexeme.specs.declared.lexeme.Span.{Span}
 use Rattle.logos_token.specs.declared.error.fault_code.FaultCode.{FaultCode}
 use Rattle.logos_token.specs.declared.error.fault_code.FaultCode.TheVariants.{InvalidNested, UnknownLogos, CrateForm, ErrorTwice, ErrorForm, ErrorEmpty, ExtrasTwice, ExtrasForm, ExportTwice, ExportBytes, ExportForm, SkipForm, SkipGroup, SourceOld, SubpatternForm, Utf8Twice, Utf8Value, Utf8Form, TypeForm, Previous}

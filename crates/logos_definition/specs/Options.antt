@@ -1,18 +1,18 @@
 -- The options of a lexer: the arguments of `#[logos(..)]`.
-use Rattle.std.specs.Prelude.{ℕ, Bool, true, false, List, [], ◌∷◌, ◌++◌, codes, Option, Some, None, option_map, if◌then◌else◌}
+use Rattle.std.specs.Prelude.{ℕ, Bool, false, List, [], ◌∷◌, ◌++◌, codes, Option, Some, None, option_map, if◌then◌else◌}
 use Rattle.std.specs.Str.{bytes_eq}
 use Rattle.logos_lexeme.specs.declared.lexeme.Span.{Span}
 use Rattle.logos_token.specs.Held.{Held, of_text, of_bytes}
 use Rattle.logos_token.specs.Tokens.{TokenList, run_span}
 use Rattle.logos_attribute.specs.Slices.{Slice}
-use Rattle.logos_attribute.specs.Pieces.{PieceValue, assigned, beside, grouped, keyed, Piece, unnamed, named, unexpected}
+use Rattle.logos_attribute.specs.Pieces.{PieceValue, assigned, beside, grouped, keyed}
 use Rattle.logos_attribute.specs.Told.{Told, telling, quiet, and_then, told_as, only}
 use Rattle.logos_attribute.specs.Values.{boolean_in}
 use Rattle.logos_attribute.specs.Literals.{LiteralView, NamedLiteral, literal_syntax, text_told, string_in}
 use Rattle.logos_type_params.specs.TypeParams.{Value}
 use Rattle.logos_definition.specs.Definitions.{DefinitionView, plain, definition_told}
 use Rattle.logos_definition.specs.ErrorTypes.{ErrorView, error_span, error_alone}
-use Rattle.logos_definition.specs.OptionFaults.{mode_again, extras_again, error_again, export_again, skip_form, skip_group, utf8_value, utf8_form, extras_form, crate_form, export_bytes, export_form, subpattern_form, error_form, source_old, unknown_logos, invalid_nested}
+use Rattle.logos_definition.specs.OptionFaults.{mode_again, extras_again, error_again, export_again, skip_form, skip_group, utf8_value, utf8_form, extras_form, crate_form, export_bytes, export_form, subpattern_form, error_form, source_old, unknown_logos}
 
 -- whether inputs are UTF-8, and where that is said
 pub record ModeView : Type 0 where

@@ -1,10 +1,11 @@
 //! The type of errors, and what makes one.
 ghost use Rattle.std.specs.Prelude.{OnOk, IfOk, option_map, true};
+ghost use Rattle.logos_type.specs.TypeTrees.{type_tree};
 ghost use Rattle.logos_token.specs.Views.{tokens_of};
 ghost use Rattle.logos_attribute.specs.Slices.{ident_slice};
 ghost use Rattle.logos_attribute.specs.Nested.{pieces_left};
 ghost use Rattle.logos_attribute.specs.Told.{Lists, Tells};
-ghost use Rattle.logos_definition.specs.ErrorTypes.{unknown_error_argument, error_alone};
+ghost use Rattle.logos_definition.specs.ErrorTypes.{unknown_error_argument, error_read};
 ghost use Rattle.logos_definition.specs.ErrorTypes.{error_arguments_told};
 ghost use Rattle.logos_definition.specs.ErrorTypeViews.{error_view};
 ghost use Rattle.logos_definition.specs.OptionFaults.{error_empty};
@@ -18,6 +19,7 @@ use logos_pattern::leaf::Callback;
 use logos_token::error::{Errors, FaultCode, Memory};
 use logos_token::token::{Ident, Span, TokenStream, Tokens};
 use logos_token::util::MaybeVoid;
+use logos_type::{TypeExpr, print_type};
 use logos_type_params::read_value;
 use std::alloc::Global;
 
@@ -26,6 +28,8 @@ use std::alloc::Global;
 pub struct ErrorType<'s> {
     /// The tokens of the type; it is `()` where there are none.
     pub ty: MaybeVoid<'s>,
+    /// The type as it was read from these tokens, if it was: in `error(..)`, and not behind `error =`.
+    pub type_expr: Option<TypeExpr<'s>>,
     /// What makes an error, if something is called for it.
     pub callback: Option<Callback<'s>>,
 }
@@ -46,12 +50,12 @@ fn list_unknown(alloc: Global, name: Ident<'_>, errors: &mut Errors) -> Result<(
 }
 
 impl<'s> ErrorType<'s> {
-    ghost use Rattle.std.specs.Prelude.{◌≡◌, OnOk, true};
+    ghost use Rattle.std.specs.Prelude.{◌≡◌, IfOk, OnOk, true, string_bytes};
     ghost use Rattle.logos_token.specs.Views.{stream_tokens};
     ghost use Rattle.logos_attribute.specs.Slices.{ident_slice};
     ghost use Rattle.logos_attribute.specs.Told.{Tells};
     ghost use Rattle.logos_attribute.specs.Nested.{value_of, piece_of, pieces_left};
-    ghost use Rattle.logos_definition.specs.ErrorTypes.{error_alone, no_error, error_span};
+    ghost use Rattle.logos_definition.specs.ErrorTypes.{error_alone, no_error, error_span, error_text};
     ghost use Rattle.logos_definition.specs.ErrorTypes.{error_callback_told, error_named_told};
     ghost use Rattle.logos_definition.specs.ErrorTypes.{error_argument_told};
     ghost use Rattle.logos_definition.specs.ErrorTypes.{error_arguments_told};
@@ -63,6 +67,7 @@ impl<'s> ErrorType<'s> {
     {
         ErrorType {
             ty: MaybeVoid::Some(ty),
+            type_expr: None,
             callback: None,
         }
     }
@@ -73,7 +78,20 @@ impl<'s> ErrorType<'s> {
     {
         ErrorType {
             ty: MaybeVoid::Void,
+            type_expr: None,
             callback: None,
+        }
+    }
+
+    /// The text of the type: that of a type where it was read, else that of its tokens, or of `()`
+    /// where there are none. Its lifetimes and parameters are those that are written. It fails only
+    /// where there is no memory.
+    pub fn print(&self, alloc: Global) -> Result<String, Memory>
+        ensures { IfOk result (λ text. string_bytes text ≡ error_text (error_view self.now)) }
+    {
+        match &self.type_expr {
+            Some(type_expr) => print_type(alloc, type_expr),
+            None => self.ty.print(alloc),
         }
     }
 
@@ -187,19 +205,25 @@ fn list_empty(group: Tokens<'_, '_>, errors: &mut Errors) -> Result<(), Memory>
     )
 }
 
-/// The type of errors with the arguments behind it, of which the first may be a callback without a
+/// The type of errors, as it was read from a run, with the arguments behind it, of which the first may be a callback without a
 /// name.
 fn with_arguments<'s>(
     alloc: Global,
     run: Tokens<'_, 's>,
+    type_expr: TypeExpr<'s>,
     pieces: AttributeParser<'_, 's>,
     errors: &mut Errors,
 ) -> Result<ErrorType<'s>, Memory>
     ensures { IfOk result (λ error. Tells
-        (error_arguments_told true (pieces_left pieces.entry) (error_alone (tokens_of run.entry)))
+        (error_arguments_told true (pieces_left pieces.entry)
+        (error_read (tokens_of run.entry) (type_tree type_expr.entry)))
         (error_view error) errors.old errors.new) }
 {
-    let mut error = ErrorType::new(run.to_stream(alloc)?);
+    let mut error = ErrorType {
+        ty: MaybeVoid::Some(run.to_stream(alloc)?),
+        type_expr: Some(type_expr),
+        callback: None,
+    };
     error.add_arguments(alloc, pieces, errors)?;
     Ok(error)
 }
@@ -218,9 +242,9 @@ pub(crate) fn error_in<'s>(
         list_empty(group, errors)?;
         return Ok(None);
     };
-    if read_value(alloc, run, group.span(), errors)?.is_none() {
+    let Some(type_expr) = read_value(alloc, run, group.span(), errors)? else {
         return Ok(None);
-    }
-    let error = with_arguments(alloc, run, pieces, errors)?;
+    };
+    let error = with_arguments(alloc, run, type_expr, pieces, errors)?;
     Ok(Some(error))
 }

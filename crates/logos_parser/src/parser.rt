@@ -8,4 +8,4 @@ pub use logos_definition::ignore_flags::IgnoreFlags;
 pub use logos_definition::parser::{ExportPath, Parser, Utf8Mode};
 pub use logos_pattern::pattern::Literal;
 pub use logos_subpattern::subpattern::{Subpattern, Subpatterns};
-pub use logos_type_params::{Generics, TypeParams};
+pub use logos_type_params::{Generics, TypeParams, replace_lifetime, replace_lifetimes};

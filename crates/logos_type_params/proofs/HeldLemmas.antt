@@ -36,8 +36,8 @@ module _ (params : List ParamValue) where
       now other h = rw e at h
 
   has_type : (from to : Text) → Leads params from to → Has (given_names params) from
-  has_type from to (one h) = declares params to params from to h
-  has_type from to (on {over = over} h l) = declares params to params from over h
+  has_type from to (one h) = declares params from to h
+  has_type from to (on {over = over} h l) = declares params from over h
 
   pub asked_all : (rest held : List Text) → Asking params rest held → rest ≡ [] → AreHeld params held
   asked_all rest held a e = record {

@@ -2,5 +2,5 @@ pub mod SubstitutionLemmas
 pub mod SubstitutionLaws
 pub mod ChainLemmas
 mod ValueLemmas
-mod SelfFaultLemmas
 mod HeldLemmas
+pub mod SettledLemmas

@@ -1,5 +1,5 @@
 -- Parts that are replaced one by one.
-use Rattle.std.specs.Prelude.{Result, Ok, Err, IfOk, IfErr, Bool, true, false}
+use Rattle.std.specs.Prelude.{Result, Ok, Err, IfOk, IfErr, true, false}
 use Rattle.std.proofs.Common.{subst, ◌≡◌, ℕ, ◌<◌, List, [], ◌∷◌, ◌++◌, ◌+◌, length, get_or, drop, map, refl, sym, ap, ◌∙◌}
 use Rattle.std.proofs.lemmas.List.{map_push, at_drop_more}
 use Rattle.logos_type.specs.declared.type_expr.Part.{Part}

@@ -1,5 +1,5 @@
 -- Values that go on behind a type, and types with their lifetimes set.
-use Rattle.std.proofs.Common.{◌≡◌, List, [], ◌∷◌, ◌++◌, Option, Some, None, Bool, true, false, Result, Ok, Err, OnOk, ℕ, codes, refl, sym, ap, ◌∙◌, map, Vec, Global}
+use Rattle.std.proofs.Common.{◌≡◌, List, [], ◌∷◌, ◌++◌, Some, None, true, false, Result, Ok, Err, OnOk, codes, refl, sym, ap, ◌∙◌, map, Vec, Global}
 use Rattle.logos_token.specs.Tokens.{TokenList, none, also, run_span}
 use Rattle.logos_token.specs.declared.error.fault_code.FaultCode.TheVariants.{TypeSyntax}
 use Rattle.logos_token.specs.Faults.{Fault}
@@ -8,7 +8,7 @@ use Rattle.logos_type.specs.declared.type_expr.Part.{Part}
 use Rattle.logos_type.specs.declared.type_expr.Part.TheVariants.{Whole}
 use Rattle.logos_type.proofs.PartTrees.{tree-Whole}
 use Rattle.logos_type_reader.specs.TypeExprs.{IsTypeExpr}
-use Rattle.logos_type_params.specs.TypeParams.{Value, Named, fault, with_lifetimes, all_with_lifetimes, not_a_parameter, is_declared, former, given_more, given_faults, ReadsValue, is_type, goes_on, IsSet, undeclared, is_given}
+use Rattle.logos_type_params.specs.TypeParams.{Value, Named, fault, with_lifetimes, all_with_lifetimes, own_lifetime, own_lifetimes, not_a_parameter, is_declared, former, given_more, given_faults, ReadsValue, is_type, goes_on, IsSet, undeclared, is_given}
 use Rattle.logos_lexeme.specs.declared.lexeme.Span.{Span}
 
 pub more_left : {old new : List Fault} {tree : Tree} {at : Span} (run rest : TokenList) → (rest ≡ none → ⊥) → IsTypeExpr run tree rest →
@@ -25,6 +25,14 @@ pub whole_with_lifetimes : (part : Part) (parts after : Vec Part Global) → par
     map tree_of after.items ≡ map (λ part. with_lifetimes (tree_of part)) parts.items → tree_of (Whole after) ≡ with_lifetimes (tree_of part)
 whole_with_lifetimes part parts after is each =
     tree-Whole after ∙ ap (λ (l : List Tree). whole (trees l)) each ∙ sym (ap whole (all_lifetimes parts.items)) ∙ sym (ap with_lifetimes (tree-Whole parts)) ∙ sym (ap (λ (p : Part). with_lifetimes (tree_of p)) is)
+
+all_own : (parts : List Part) → own_lifetimes (trees (map tree_of parts)) ≡ trees (map (λ part. own_lifetime (tree_of part)) parts)
+all_own [] = refl
+all_own (part ∷ parts) = ap (also_part (own_lifetime (tree_of part))) (all_own parts)
+
+-- a type whose tokens have their lifetimes set
+pub whole_with_own : (parts : List Part) (after : Vec Part Global) → map tree_of after.items ≡ map (λ part. own_lifetime (tree_of part)) parts → tree_of (Whole after) ≡ whole (own_lifetimes (trees (map tree_of parts)))
+whole_with_own parts after each = tree-Whole after ∙ ap (λ (l : List Tree). whole (trees l)) each ∙ sym (ap whole (all_own parts))
 
 -- what is read without a fault lists nothing
 read_same : {run : TokenList} {at : Span} {old new : List Fault} {tree : Tree} → ReadsValue run at old new (Some tree) → new ≡ old

@@ -1,5 +1,5 @@
 -- Which parameters hold themselves.
-use Rattle.std.specs.Prelude.{◌≡◌, ℕ, ◌+◌, ◌||◌, ◌⊎◌, ◌++◌, map, List, [], ◌∷◌, length, Bool, true, false, if◌then◌else◌, Option, Some, None}
+use Rattle.std.specs.Prelude.{◌≡◌, ℕ, ◌||◌, ◌⊎◌, map, List, [], ◌∷◌, Bool, true, false, if◌then◌else◌}
 use Rattle.std.specs.Str.{bytes_eq}
 use denote.Ref.{Bor}
 use Rattle.logos_type.specs.Parts.{Tree, sign, name, whole, still, Trees, none, also}
@@ -32,18 +32,5 @@ abbrev pub Has : List (List ℕ) → List ℕ → Type 0
 Has [] text = ⊥
 Has (t ∷ ts) text = (t ≡ text) ⊎ Has ts text
 
--- The names that the type of `from` holds are moved from one list behind another one; the others are kept.
-pub record IsMoved (params : List ParamValue) (from : List ℕ) (left before kept behind : List (List ℕ)) : Type 0 where
-  pub each : (text : List ℕ) → Has left text → Has kept text ⊎ Has behind text
-  pub stay : (text : List ℕ) → Has before text → Has behind text
-  pub led : (text : List ℕ) → Has behind text → Has before text ⊎ (holds params from text ≡ true)
-  pub free : (text : List ℕ) → Has kept text → holds params from text ≡ false
-  pub count : length kept + length behind ≡ length left + length before
-
 abbrev pub texts : List (Bor (List ℕ)) → List (List ℕ)
 texts = map (λ b. b.now)
-
--- one name is put where it belongs
-pub data IsPlaced (params : List ParamValue) (from text : List ℕ) (kept kept' behind behind' : List (List ℕ)) : Type 0 where
-  is_led : holds params from text ≡ true → kept' ≡ kept → behind' ≡ behind ++ text ∷ [] → IsPlaced params from text kept kept' behind behind'
-  is_kept : holds params from text ≡ false → kept' ≡ kept ++ text ∷ [] → behind' ≡ behind → IsPlaced params from text kept kept' behind behind'

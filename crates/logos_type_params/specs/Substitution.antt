@@ -1,8 +1,7 @@
 -- What becomes of a type: declared parameters are replaced, and lifetimes are set. The levels say how many types may stand inside one another.
-use Rattle.std.specs.Prelude.{◌≡◌, ℕ, ◌-◌, ◌<◌, List, [], ◌∷◌, Bool, true, false, if◌then◌else◌, Option, Some, None, codes}
+use Rattle.std.specs.Prelude.{◌≡◌, ℕ, ◌-◌, ◌<◌, List, [], ◌∷◌, Bool, true, false, if◌then◌else◌, Some, codes}
 use Rattle.std.specs.Str.{bytes_eq}
 use Rattle.logos_type_params.specs.declared.substitution.TypeParam.{TypeParam}
-use Rattle.logos_type.specs.declared.type_expr.Part.{Part}
 use Rattle.logos_type.specs.Parts.{Sign, reference, lifetime, Tree, sign, name, whole, still, Trees, none, also, tree_of}
 use Rattle.logos_type.specs.Depth.{some_exceed}
 

@@ -4,7 +4,7 @@ use Rattle.std.specs.Str.{bytes_eq}
 use Rattle.logos_lexeme.specs.declared.lexeme.Span.{Span}
 use Rattle.logos_token.specs.declared.token.Ident.{Ident}
 use Rattle.logos_token.specs.declared.error.fault_code.FaultCode.{FaultCode}
-use Rattle.logos_token.specs.declared.error.fault_code.FaultCode.TheVariants.{ManyLifetimes, NotTypeParameter, TypeTwice, Previous, NoConcreteType, TypeHoldsItself, TypeSyntax, LimitTypeNesting}
+use Rattle.logos_token.specs.declared.error.fault_code.FaultCode.TheVariants.{ManyLifetimes, NotTypeParameter, TypeTwice, Previous, TypeSyntax, LimitTypeNesting}
 use Rattle.logos_token.specs.Tokens.{Token, TokenList, none, also, run_span}
 use Rattle.logos_token.specs.Faults.{Fault}
 use Rattle.logos_type.specs.Parts.{Tree, sign, name, whole, still, Trees, none as no_part, also as and_part, tree_of}
@@ -51,6 +51,24 @@ abbrev mutual
   pub all_with_lifetimes : Trees → Trees
   all_with_lifetimes no_part = no_part
   all_with_lifetimes (and_part part parts) = and_part (with_lifetimes part) (all_with_lifetimes parts)
+
+-- a part of a type, where a token has its lifetime set and a type stays
+abbrev pub own_lifetime : Tree → Tree
+own_lifetime (sign s) = sign (set_sign s)
+own_lifetime (name text) = name text
+own_lifetime (whole parts) = whole parts
+own_lifetime (still parts) = still parts
+
+abbrev pub own_lifetimes : Trees → Trees
+own_lifetimes no_part = no_part
+own_lifetimes (and_part part parts) = and_part (own_lifetime part) (own_lifetimes parts)
+
+-- with the lifetimes of the type itself set to `'s`, the one of a reference or those of the angle arguments of a path; the types inside keep theirs
+abbrev pub with_lifetime : Tree → Tree
+with_lifetime (sign s) = sign (set_sign s)
+with_lifetime (name text) = name text
+with_lifetime (whole parts) = whole (own_lifetimes parts)
+with_lifetime (still parts) = still parts
 
 abbrev pub fault : FaultCode → List ℕ → Span → Fault
 fault code message span = record { code = code; message = message; span = span; also = None }

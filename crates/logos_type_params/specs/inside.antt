@@ -1,1 +1,3 @@
 pub mod Given
+pub mod Chains
+pub mod Checks

@@ -1,12 +1,14 @@
 //! Declared type parameters of an enum: the types given to them, and what becomes of a type that
-//! names them.
+//! names them, or has lifetimes.
 
 #![tactic(auto)]
 
+mod lifetimes;
 mod self_reference;
 mod substitution;
 mod type_params;
 
+pub use lifetimes::{replace_lifetime, replace_lifetimes};
 pub use self_reference::holds_itself;
 pub use substitution::{Replacing, TypeParam, at_most_one_after, type_after};
 pub use type_params::{Generics, TypeParams, read_value};

@@ -1,14 +1,28 @@
 //! Which parameters hold themselves.
-ghost use Rattle.std.specs.Prelude.{◌≡◌, ◌<◌, ℕ, Bool, true, false, map, length, slice_index, IfOk};
-ghost use Rattle.std.specs.Prelude.{OnOk, MatchOption, IsTrue, ◌↔◌};
-ghost use Rattle.logos_type.specs.Parts.{trees, tree_of};
+ghost use Rattle.std.specs.Prelude.{◌≡◌, ◌∷◌, ◌⊎◌, [], ℕ, List, map, IfOk, OnOk, IsTrue, ◌↔◌};
+ghost use Rattle.logos_type.specs.Parts.{name, tree_of};
 ghost use Rattle.logos_type_params.specs.Substitution.{param_value};
-ghost use Rattle.logos_type_params.specs.SelfReference.{names, holds, Leads, IsPlaced, IsMoved};
-ghost use Rattle.logos_type_params.specs.SelfReference.{texts};
+ghost use Rattle.logos_type_params.specs.SelfReference.{names, holds, Leads, texts};
+ghost use Rattle.logos_type_params.specs.inside.Chains.{first_types, with_first, firsts_of};
+ghost use Rattle.logos_type_params.specs.inside.Chains.{free_of, IsReached, AreFree, AreSame};
+ghost use Rattle.logos_type_params.specs.inside.Chains.{IsNoted, IsAnswered, StaySettled, IsSettled};
 
 use crate::substitution::TypeParam;
+use indexmap::{IndexMap, IndexSet};
 use logos_type::Part;
 use std::alloc::{AllocError, Global};
+
+/// Types that name one another.
+#[derive(Drop)]
+pub(crate) struct Chains<'p, 's> {
+    /// The first type that is given to each name.
+    firsts: IndexMap<&'s str, &'p Part<'s>>,
+    /// Names to which no chain is known to lead back, so no chain that leads back passes them.
+    free: IndexSet<&'s str>,
+    /// Names to which a chain is known to lead back.
+    held: IndexSet<&'s str>,
+    alloc: Global,
+}
 
 /// Whether a type has this name among its parts, or is it.
 fn names(part: &Part<'_>, text: &str) -> bool
@@ -28,65 +42,200 @@ fn names(part: &Part<'_>, text: &str) -> bool
     }
 }
 
-/// Whether the first type that is given to this name has that name.
-fn holds(params: &[TypeParam<'_>], text: &str, other: &str) -> bool
-    ensures { result ≡ holds (map param_value params.now) text.now other.now }
+/// Adds a type, unless one is given to its name already.
+fn add_first<'p, 's>(
+    firsts: &mut IndexMap<&'s str, &'p Part<'s>>,
+    param: &'p TypeParam<'s>,
+) -> Result<(), AllocError>
+    ensures { OnOk result (first_types firsts.new.entries
+        ≡ with_first (first_types firsts.old.entries) (param_value param.now)) }
 {
-    for param in params {
-        if param.name.text == text {
-            return names(&param.part, other);
-        }
+    if firsts.contains_key(param.name.text) {
+        return Ok(());
     }
-    false
+    firsts.insert(param.name.text, &param.part)?;
+    Ok(())
 }
 
-/// Puts a name behind the others if the type of `from` has it, else among the kept ones.
-fn place<'s>(
-    params: &[TypeParam<'s>],
-    from: &str,
-    text: &'s str,
-    kept: &mut Vec<&'s str>,
-    behind: &mut Vec<&'s str>,
-) -> Result<(), AllocError>
-    ensures { OnOk result (IsPlaced (map param_value params.now) from.now text.now
-        (texts kept.old.items) (texts kept.new.items)
-        (texts behind.old.items) (texts behind.new.items)) }
+/// The first type that is given to each name.
+fn firsts<'p, 's>(
+    alloc: Global,
+    types: &'p [TypeParam<'s>],
+) -> Result<IndexMap<&'s str, &'p Part<'s>>, AllocError>
+    ensures { IfOk result (λ firsts.
+        AreSame (first_types firsts.entries) (map param_value types.now)) }
 {
-    if holds(params, from, text) {
-        behind.push(text)?;
+    let mut firsts = IndexMap::new(alloc);
+    for param in types {
+        add_first(&mut firsts, param)?;
+    }
+    Ok(firsts)
+}
+
+/// Adds a name to those that are reached, if it has a type from which a chain may lead on.
+fn reach_name<'s>(
+    chains: &Chains<'_, 's>,
+    text: &'s str,
+    reached: &mut IndexSet<&'s str>,
+) -> Result<(), AllocError>
+    ensures { OnOk result (IsReached (firsts_of chains.now) (free_of chains.now)
+        (names (name text.now)) (texts reached.old.keys) (texts reached.new.keys)) }
+{
+    if chains.free.contains(text) {
+        return Ok(());
+    }
+    if !chains.firsts.contains_key(text) {
+        return Ok(());
+    }
+    reached.insert(text)?;
+    Ok(())
+}
+
+/// Adds the names that a type has, as far as chains may lead on from them.
+fn reach<'s>(
+    chains: &Chains<'_, 's>,
+    part: &Part<'s>,
+    reached: &mut IndexSet<&'s str>,
+) -> Result<(), AllocError>
+    ensures { OnOk result (IsReached (firsts_of chains.now) (free_of chains.now)
+        (names (tree_of part.now)) (texts reached.old.keys) (texts reached.new.keys)) }
+{
+    match part {
+        Part::Leaf(_) | Part::Still(_) => Ok(()),
+        Part::Name(text) => reach_name(chains, text, reached),
+        Part::Whole(parts) => {
+            for part in parts {
+                reach(chains, part, reached)?;
+            }
+            Ok(())
+        }
+    }
+}
+
+/// Adds the names that the type of `from` has, and answers whether `text` is one of them.
+fn follow<'s>(
+    chains: &Chains<'_, 's>,
+    from: &str,
+    text: &str,
+    reached: &mut IndexSet<&'s str>,
+) -> Result<bool, AllocError>
+    ensures ends { IfOk result (λ ends. ends ≡ holds (firsts_of chains.now) from.now text.now) }
+    ensures reached { OnOk result (IsReached (firsts_of chains.now) (free_of chains.now)
+        (holds (firsts_of chains.now) from.now)
+        (texts reached.old.keys) (texts reached.new.keys)) }
+{
+    let Some(part) = chains.firsts.get(from) else {
+        return Ok(false);
+    };
+    reach(chains, part, reached)?;
+    Ok(names(part, text))
+}
+
+/// Whether a chain leads back to the name with which `reached` begins. What chains reach from there
+/// on is added to it.
+fn search<'s>(
+    chains: &Chains<'_, 's>,
+    text: &str,
+    reached: &mut IndexSet<&'s str>,
+) -> Result<bool, AllocError>
+    requires { texts reached.old.keys ≡ text.now ∷ [] }
+    ensures { IfOk result (λ leads. AreFree (firsts_of chains.now) (free_of chains.now) →
+        IsTrue leads ↔ Leads (firsts_of chains.now) text.now text.now) }
+{
+    let mut at = 0;
+    while at < reached.len() {
+        let Some(from) = reached.get_index(at) else {
+            unreachable!();
+        };
+        if follow(chains, *from, text, reached)? {
+            return Ok(true);
+        }
+        at += 1;
+    }
+    Ok(false)
+}
+
+/// Notes of a name whether a chain leads back to it.
+fn note<'s>(chains: &mut Chains<'_, 's>, text: &'s str, leads: bool) -> Result<(), AllocError>
+    ensures { OnOk result (IsNoted chains.old text.now leads chains.new) }
+{
+    if leads {
+        chains.held.insert(text)?;
     } else {
-        kept.push(text)?;
+        chains.free.insert(text)?;
     }
     Ok(())
 }
 
-/// Moves the names that the type of `from` has behind the others: those that are kept.
-fn move_led<'s>(
-    alloc: Global,
-    params: &[TypeParam<'s>],
-    from: &str,
-    left: &[&'s str],
-    behind: &mut Vec<&'s str>,
-) -> Result<Vec<&'s str>, AllocError>
-    ensures { IfOk result (λ kept. IsMoved (map param_value params.now) from.now
-        (texts left.now) (texts behind.old.items) (texts kept.items) (texts behind.new.items)) }
+/// Whether a chain leads back to this name, which it notes. What a search for that reaches is added
+/// behind the name, if there is one.
+fn ask<'s>(
+    chains: &mut Chains<'_, 's>,
+    text: &'s str,
+    reached: &mut IndexSet<&'s str>,
+) -> Result<bool, AllocError>
+    requires { reached.old.keys ≡ [] }
+    ensures { IfOk result (λ leads. IsAnswered chains.old text.now leads chains.new) }
 {
-    let mut kept = Vec::new(alloc);
-    for text in left {
-        place(params, from, text, &mut kept, behind)?;
+    if chains.free.contains(text) {
+        return Ok(false);
     }
-    Ok(kept)
+    if chains.held.contains(text) {
+        return Ok(true);
+    }
+    reached.insert(text)?;
+    let leads = search(chains, text, reached)?;
+    note(chains, text, leads)?;
+    Ok(leads)
 }
 
-/// The names that are declared.
-fn declared<'s>(alloc: Global, params: &[TypeParam<'s>]) -> Result<Vec<&'s str>, AllocError>
-    ensures { IfOk result (λ all. all.items ≡ map (λ p. p.name.text) params.now) }
+/// Asks of each of these names, from the last one, whether a chain leads back to it.
+fn ask_all<'s>(chains: &mut Chains<'_, 's>, texts: &[&'s str]) -> Result<(), AllocError>
+    ensures { OnOk result (StaySettled chains.old chains.new) }
 {
-    params.iter().map(|param| param.name.text).collect(alloc)
+    for text in texts.iter().rev() {
+        let mut reached = IndexSet::new(chains.alloc);
+        ask(chains, text, &mut reached)?;
+    }
+    Ok(())
+}
+
+impl<'p, 's> Chains<'p, 's> {
+    ghost use Rattle.std.specs.Prelude.{map, IfOk};
+    ghost use Rattle.logos_type_params.specs.Substitution.{param_value};
+    ghost use Rattle.logos_type_params.specs.inside.Chains.{IsSettled, IsAnswered};
+
+    /// The chains of these types.
+    pub(crate) fn new(
+        alloc: Global,
+        types: &'p [TypeParam<'s>],
+    ) -> Result<Chains<'p, 's>, AllocError>
+        ensures { IfOk result (λ chains. IsSettled (map param_value types.now) chains) }
+    {
+        let firsts = firsts(alloc, types)?;
+        Ok(Chains {
+            firsts,
+            free: IndexSet::new(alloc),
+            held: IndexSet::new(alloc),
+            alloc,
+        })
+    }
+
+    /// Whether a chain leads back to this name. All names that are reached by that are asked, the
+    /// deepest first, since a search ends at names to which no chain leads back.
+    pub(crate) fn lead_back(&mut self, text: &'s str) -> Result<bool, AllocError>
+        ensures { IfOk result (λ leads. IsAnswered self.old text.now leads self.new) }
+    {
+        let mut reached = IndexSet::new(self.alloc);
+        let leads = ask(self, text, &mut reached)?;
+        ask_all(self, reached.as_slice())?;
+        Ok(leads)
+    }
 }
 
 /// Whether a chain of types that name one another leads from this parameter back to it. It fails
-/// only where there is no memory.
+/// only where there is no memory. The time grows with the sizes of the types along such chains, and
+/// with the number of all types.
 pub fn holds_itself<'s>(
     alloc: Global,
     params: &[TypeParam<'s>],
@@ -95,14 +244,7 @@ pub fn holds_itself<'s>(
     ensures { IfOk result (λ holds.
         IsTrue holds ↔ Leads (map param_value params.now) text.now text.now) }
 {
-    let mut left = declared(alloc, params)?;
-    let mut queue: Vec<&'s str> = Vec::new(alloc);
-    queue.push(text)?;
-    while let Some(from) = queue.pop() {
-        if holds(params, from, text) {
-            return Ok(true);
-        }
-        left = move_led(alloc, params, from, &left, &mut queue)?;
-    }
-    Ok(false)
+    let mut chains = Chains::new(alloc, params)?;
+    let mut reached = IndexSet::new(alloc);
+    ask(&mut chains, text, &mut reached)
 }

@@ -10,7 +10,7 @@ ghost use Rattle.logos_type_reader.specs.TypeExprs.{IsTypeExpr, NoTypeExpr};
 ghost use Rattle.logos_token.specs.declared.error.fault_code.FaultCode.TheVariants.{TypeSyntax};
 ghost use Rattle.logos_token.specs.declared.error.fault_code.FaultCode.TheVariants.{LimitTypeNesting};
 ghost use Rattle.logos_type_params.specs.Substitution.{param_value};
-ghost use Rattle.logos_type_params.specs.SelfFaults.{IsChecked};
+ghost use Rattle.logos_type_params.specs.inside.Checks.{ChecksName};
 ghost use Rattle.logos_type_params.specs.TypeParams.{named_of, given_of, with_lifetimes, fault};
 ghost use Rattle.logos_type_params.specs.TypeParams.{about, many_lifetimes, is_declared, former};
 ghost use Rattle.logos_type_params.specs.TypeParams.{given_more, given_faults, ReadsValue};
@@ -18,14 +18,16 @@ ghost use Rattle.logos_type_params.specs.TypeParams.{given_more, given_faults, R
 mod concrete;
 mod written;
 
-use crate::self_reference::holds_itself;
-use crate::substitution::{TypeParam, set_lifetime};
+use crate::lifetimes::set_lifetimes;
+use crate::self_reference::Chains;
+use crate::substitution::TypeParam;
 pub use concrete::Generics;
+use indexmap::IndexSet;
 use logos_token::error::{Errors, FaultCode, Memory};
 use logos_token::token::{Ident, Span, Tokens};
-use logos_type::{Part, TypeExpr};
+use logos_type::TypeExpr;
 use logos_type_reader::{TypeFault, read_type};
-use std::alloc::{AllocError, Global};
+use std::alloc::Global;
 
 /// The declared parameters of an enum, and the types that are given to them.
 #[derive(Drop)]
@@ -157,25 +159,6 @@ fn list_second_lifetime(is_declared: bool, span: Span, errors: &mut Errors) -> R
     )
 }
 
-/// With the lifetimes of references, and of the angle arguments of paths that are types, set to
-/// `'s`.
-fn set_lifetimes<'s>(alloc: Global, part: &Part<'s>) -> Result<Part<'s>, AllocError>
-    ensures { IfOk result (λ after. tree_of after ≡ with_lifetimes (tree_of part.now)) }
-{
-    match part {
-        Part::Leaf(leaf) => Ok(Part::Leaf(set_lifetime(*leaf))),
-        Part::Name(text) => Ok(Part::Name(text)),
-        Part::Whole(parts) => {
-            let mut after = Vec::new(alloc);
-            for inner in parts {
-                after.push(set_lifetimes(alloc, inner)?)?;
-            }
-            Ok(Part::Whole(after))
-        }
-        Part::Still(_) => part.clone(),
-    }
-}
-
 /// Whether a name is declared.
 fn is_declared(names: &[Ident<'_>], text: &str) -> bool
     ensures { result ≡ is_declared (map named_of names.now) text.now }
@@ -244,21 +227,22 @@ fn give<'s>(
     Ok(())
 }
 
-/// Lists a declared name that holds itself, unless it stands among those in front.
+/// Lists a declared name that holds itself, unless it stands among those in front. It is one of
+/// these from now on.
 fn check_name<'s>(
     alloc: Global,
-    front: &[Ident<'s>],
-    types: &[TypeParam<'s>],
+    front: &mut IndexSet<&'s str>,
+    chains: &mut Chains<'_, 's>,
     name: Ident<'s>,
     errors: &mut Errors,
 ) -> Result<(), Memory>
-    ensures { OnOk result (IsChecked (map param_value types.now) (map named_of front.now)
-        (named_of name.entry) errors.old errors.new) }
+    ensures { OnOk result (ChecksName front.old.keys chains.old (named_of name.entry)
+        errors.old front.new.keys chains.new errors.new) }
 {
-    if is_declared(front, name.text) {
+    if !front.insert(name.text)? {
         return Ok(());
     }
-    if !holds_itself(alloc, types, name.text)? {
+    if !chains.lead_back(name.text)? {
         return Ok(());
     }
     list_about(
@@ -357,21 +341,16 @@ impl<'s> TypeParams<'s> {
     }
 
     /// Lists each parameter whose types lead back to it, in order of declaration. A name that is
-    /// declared again is not listed again.
+    /// declared again is not listed again. The time grows with the sizes of all types, and where
+    /// chains lead back, at most with their product with the number of types.
     pub fn check(&self, errors: &mut Errors) -> Result<(), Memory>
         ensures { OnOk result (AreChecked (map param_value self.now.types.items) []
             (value_of self.now).names errors.old errors.new) }
     {
-        let mut front = Vec::new(self.alloc);
+        let mut chains = Chains::new(self.alloc, self.types.as_slice())?;
+        let mut front = IndexSet::new(self.alloc);
         for name in &self.names {
-            check_name(
-                self.alloc,
-                front.as_slice(),
-                self.types.as_slice(),
-                *name,
-                errors,
-            )?;
-            front.push(*name)?;
+            check_name(self.alloc, &mut front, &mut chains, *name, errors)?;
         }
         Ok(())
     }

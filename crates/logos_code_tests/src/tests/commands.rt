@@ -356,6 +356,12 @@ const OVER_TEXT: &str =
 const OVER_BYTES: &str =
     "impl < 's > :: logos :: Logos < 's > for T { type Error = ( ) ; type Extras = ( ) ; type Source = [ u8 ] ; ";
 
+const LETTERS_WITH_FAULTS: &[u8] =
+    b"#[logos(error(Foo<&u8>, make))] enum T { #[regex(\"[a-z]+\")] A }";
+
+const WITH_FAULTS: &str =
+    "impl < 's > :: logos :: Logos < 's > for T { type Error = Foo < & u8 > ; type Extras = ( ) ; type Source = str ; ";
+
 /// Texts of lexers by states.
 const BY_STATES_ROWS: &[Row] = &[
     (&["gen", "t.rs"], LETTERS, b"", OVER_TEXT),
@@ -366,6 +372,7 @@ const BY_STATES_ROWS: &[Row] = &[
         OVER_TEXT,
     ),
     (&["gen", "t.rs"], LETTERS_IN_BYTES, b"", OVER_BYTES),
+    (&["gen", "t.rs"], LETTERS_WITH_FAULTS, b"", WITH_FAULTS),
 ];
 
 /// Texts of lexers by functions.

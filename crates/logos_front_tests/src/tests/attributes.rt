@@ -27,6 +27,7 @@ const LINES: &[(Ask, &str)] = &[
     (Ask::Attribute(Told::Options), options::READ),
     (Ask::Attribute(Told::Given), types::GIVEN),
     (Ask::Attribute(Told::Replaced), types::REPLACED),
+    (Ask::Attribute(Told::Lifetimes), types::LIFETIMES),
     (Ask::Parsed, parsed::READ),
 ];
 

@@ -3,11 +3,12 @@ use Rattle.std.proofs.Common.{◌≡◌, List, [], Bool, true, false, Option, So
 use Rattle.logos_lexeme.specs.declared.lexeme.Span.{Span}
 use Rattle.logos_token.specs.Faults.{Fault}
 use Rattle.logos_token.specs.Tokens.{TokenList}
+use Rattle.logos_type.specs.Parts.{Tree}
 use Rattle.logos_type_params.specs.TypeParams.{Value}
 use Rattle.logos_item.specs.AttributeValues.{AttributeValue}
 use Rattle.logos_attribute.specs.Slices.{Slice}
-use Rattle.logos_attribute.specs.Pieces.{PieceValue, Piece, pieces}
-use Rattle.logos_definition.specs.ErrorTypes.{ErrorView}
+use Rattle.logos_attribute.specs.Pieces.{PieceValue, Piece, pieces, up_to_comma, behind_comma}
+use Rattle.logos_definition.specs.ErrorTypes.{ErrorView, error_read, error_arguments_told}
 use Rattle.logos_definition.specs.Options.{OptionsView, error_set}
 use Rattle.logos_definition.specs.Metas.{Meta}
 use Rattle.logos_definition.specs.Arguments.{ErrorGroup, nothing, no_type, a_type, ErrorSays, alone, with_arguments, without_type, with_types, TypeSays, is_given, other_form, PieceSays, on_error, on_type, on_other, without_name, no_argument, PiecesSay, no_piece, one_more, ends}
@@ -30,8 +31,9 @@ group_once : {group : TokenList} {old new old' new' : List Fault} {error : Error
     ErrorGroup group old' new' read → Agree (Some error) read old' new'
 group_once n (a_type s r t) (nothing e f) = absurd (s e)
 group_once n (a_type s r t) (no_type c q) = absurd (no_some (read_once r q).1)
-group_once n (a_type s r t) (a_type c q u) =
-    let k = told_once _ refl n t u in (k.0 ∙ (read_once r q).0, ap (λ (x : ErrorView). Some x) k.1)
+group_once {group = group} n (a_type s r t) (a_type c q u) =
+    let same = ap (λ (x : Tree). error_arguments_told true (pieces (behind_comma group)) (error_read (up_to_comma group) x)) (the_same (read_once r q).1) in
+    let k = told_once _ same n t u in (k.0 ∙ (read_once r q).0, ap (λ (x : ErrorView). Some x) k.1)
 
 error_grows : {name : Slice} {o : OptionsView} {o' : OptionsView} {old new : List Fault} {value : PieceValue} {further : Bool} → ErrorSays name o o' old new value further → Grows old new
 error_grows (alone g t) = told_grows _ t

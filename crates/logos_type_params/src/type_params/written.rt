@@ -1,30 +1,28 @@
 //! What becomes of a written type, and which names are left in place there.
 ghost use Rattle.std.specs.Prelude.{◌≡◌, ◌++◌, ◌∷◌, [], map, IfOk, OnOk};
 ghost use Rattle.logos_type.specs.TypeTrees.{type_tree};
-ghost use Rattle.logos_type_params.specs.Substitution.{param_value};
 ghost use Rattle.logos_type_params.specs.SelfReference.{texts};
-ghost use Rattle.logos_type_params.specs.WrittenTypes.{limit_passed, IsAsked};
+ghost use Rattle.logos_type_params.specs.WrittenTypes.{limit_passed};
+ghost use Rattle.logos_type_params.specs.inside.Checks.{AsksName};
 
 use super::{TypeParams, list_depth};
-use crate::self_reference::holds_itself;
-use crate::substitution::{Replacing, TypeParam, type_after};
+use crate::self_reference::Chains;
+use crate::substitution::{Replacing, type_after};
 use logos_token::error::{Errors, Memory};
 use logos_token::token::Span;
 use logos_type::TypeExpr;
 use logos_type_reader::{TYPE_NESTING, TypeFault};
-use std::alloc::Global;
 
 /// Adds a name if it holds itself.
 fn add_held<'s>(
-    alloc: Global,
-    types: &[TypeParam<'s>],
+    chains: &mut Chains<'_, 's>,
     text: &'s str,
     held: &mut Vec<&'s str>,
 ) -> Result<(), Memory>
-    ensures { OnOk result (IsAsked (map param_value types.now) text.now
-        (texts held.old.items) (texts held.new.items)) }
+    ensures { OnOk result (AsksName chains.old text.now (texts held.old.items)
+        chains.new (texts held.new.items)) }
 {
-    if holds_itself(alloc, types, text)? {
+    if chains.lead_back(text)? {
         held.push(text)?;
     }
     Ok(())
@@ -50,18 +48,14 @@ impl<'s> TypeParams<'s> {
     ghost use Rattle.logos_type_params.specs.WrittenTypes.{types_of, params_with, AreHeld, GetsType};
 
     /// The names of the given types whose chain leads back to them: `get_type` is to leave these in place. A name that several types are given to
-    /// stands there as often. One search is made for each given type. Only want of memory is an error.
+    /// stands there as often. The time grows as that of `check`. Only want of memory is an error.
     pub fn held_names(&self) -> Result<Vec<&'s str>, Memory>
         ensures { IfOk result (λ held. AreHeld (types_of self.now) (texts held.items)) }
     {
+        let mut chains = Chains::new(self.alloc, self.types.as_slice())?;
         let mut held = Vec::new(self.alloc);
         for param in &self.types {
-            add_held(
-                self.alloc,
-                self.types.as_slice(),
-                param.name.text,
-                &mut held,
-            )?;
+            add_held(&mut chains, param.name.text, &mut held)?;
         }
         Ok(held)
     }

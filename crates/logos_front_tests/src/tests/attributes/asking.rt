@@ -2,7 +2,7 @@
 
 use super::super::rows::push;
 use super::super::tokens::push_faults;
-use super::types::{push_given, push_replaced};
+use super::types::{push_given, push_lifetimes, push_replaced};
 use logos_attribute::nested::{AttributeParser, Nested, NestedValue};
 use logos_definition::definition::Definition;
 use logos_definition::error_type::ErrorType;
@@ -33,6 +33,8 @@ pub(in crate::tests) enum Told {
     Given,
     /// What becomes of the type behind a group of names with their types.
     Replaced,
+    /// The type with all its lifetimes set, and with its own ones.
+    Lifetimes,
 }
 
 /// Adds a callback: what it names, or its parameter, body and place.
@@ -104,7 +106,7 @@ fn push_options(rt: &impl Abort, alloc: Global, out: &mut String, parser: &Parse
         write!(out, "{}={};", name.text, literal.token().text).expect(rt, "memory");
     }
     if let Some(error) = &parser.error_type {
-        let printed = error.ty.print(alloc).expect(rt, "memory");
+        let printed = error.print(alloc).expect(rt, "memory");
         write!(out, "error {printed} ").expect(rt, "memory");
         push_callback(rt, alloc, out, &error.callback);
         push(rt, out, ";");
@@ -193,6 +195,7 @@ pub(in crate::tests) fn push_attribute(
         Told::Defined => push_defined(rt, alloc, out, stream.run()),
         Told::Given => push_given(rt, alloc, out, stream.run()),
         Told::Replaced => push_replaced(rt, alloc, out, stream.run()),
+        Told::Lifetimes => push_lifetimes(rt, alloc, out, stream.run()),
         _ => push_read(rt, alloc, out, told, stream.run()),
     }
 }

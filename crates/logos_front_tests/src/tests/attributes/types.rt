@@ -6,7 +6,9 @@ use logos_attribute::nested::{AttributeParser, Nested, NestedValue};
 use logos_definition::parser::Parser;
 use logos_token::token::{TokenTree, Tokens};
 use logos_type::{Part, TypeExpr, print_type};
-use logos_type_params::{Replacing, TypeParam, holds_itself, type_after};
+use logos_type_params::{
+    Replacing, TypeParam, holds_itself, replace_lifetime, replace_lifetimes, type_after,
+};
 use logos_type_reader::read_type;
 use std::alloc::Global;
 use std::process::Abort;
@@ -42,12 +44,18 @@ pub(super) fn push_given(rt: &impl Abort, alloc: Global, out: &mut String, run: 
     push_faults(rt, out, &parser.errors);
 }
 
-/// The type that the front of a run is.
-fn part_of<'s>(rt: &impl Abort, alloc: Global, run: Tokens<'_, 's>) -> Part<'s> {
+/// The type with which a run begins.
+fn type_of<'s>(rt: &impl Abort, alloc: Global, run: Tokens<'_, 's>) -> TypeExpr<'s> {
     match read_type(alloc, run) {
-        Ok((type_expr, _)) => type_expr.part,
+        Ok((type_expr, _)) => type_expr,
         Err(_) => panic!(rt; "no type"),
     }
+}
+
+/// The part that it is.
+fn part_of<'s>(rt: &impl Abort, alloc: Global, run: Tokens<'_, 's>) -> Part<'s> {
+    let type_expr = type_of(rt, alloc, run);
+    type_expr.part
 }
 
 /// The types that are assigned to names, one after another.
@@ -111,6 +119,27 @@ pub(super) fn push_replaced(rt: &impl Abort, alloc: Global, out: &mut String, ru
     push_least(rt, alloc, out, replacing, &part_of(rt, alloc, run.rest()));
 }
 
+/// Adds the text of a type.
+fn push_type(rt: &impl Abort, alloc: Global, out: &mut String, type_expr: &TypeExpr<'_>) {
+    let text = print_type(alloc, type_expr).expect(rt, "memory");
+    push(rt, out, &text);
+}
+
+/// Adds the type that the run is with all its lifetimes set, and with its own ones.
+pub(super) fn push_lifetimes(
+    rt: &impl Abort,
+    alloc: Global,
+    out: &mut String,
+    run: Tokens<'_, '_>,
+) {
+    let type_expr = type_of(rt, alloc, run);
+    let all = replace_lifetimes(alloc, &type_expr).expect(rt, "memory");
+    push_type(rt, alloc, out, &all);
+    push(rt, out, "; ");
+    let own = replace_lifetime(alloc, &type_expr).expect(rt, "memory");
+    push_type(rt, alloc, out, &own);
+}
+
 /// Names that are declared, arguments, and the faults of both.
 pub(super) const GIVEN: &str = r#"(T) type T = u8 => none
 (& &a) => 3..4 ManyLifetimes "Logos types can only have one lifetime";
@@ -142,3 +171,17 @@ pub(super) const REPLACED: &str = r#"(T = Vec<&str>) &'a T => 4: & 's Vec < & 's
 (T = u8) &T => 2: & 's u8
 (T = Vec<u8>) (A, &T) => 4: ( A , & 's Vec < u8 > )
 (T = <&&u8 as P>::X) &T => 5: & 's < & & u8 as P > :: X"#;
+
+/// Types with all their lifetimes set, and with their own ones.
+pub(super) const LIFETIMES: &str = r#"u8 => u8; u8
+&u8 => & 's u8; & 's u8
+&'a &'b mut u8 => & 's & 's mut u8; & 's & 'b mut u8
+&'a Vec<&'b u8, 'c> => & 's Vec < & 's u8 , 's >; & 's Vec < & 'b u8 , 'c >
+a::B<'b, &'c u8>::C<'static> => a :: B < 's , & 's u8 > :: C < 's >; a :: B < 's , & 'c u8 > :: C < 's >
+(A<'a>, &u8) => ( A < 's > , & 's u8 ); ( A < 'a > , & u8 )
+[&'a u8; 2] => [ & 's u8 ; 2 ]; [ & 'a u8 ; 2 ]
+A<B = &'a u8> => A < B = & 's u8 >; A < B = & 'a u8 >
+*const A<'a> => * const A < 's >; * const A < 'a >
+dyn A<'b, &'c u8> + 'd => dyn A < 'b , & 's u8 > + 'd; dyn A < 'b , & 'c u8 > + 'd
+for<'a> fn(&'a A<'b>) -> &u8 => for < 'a > fn ( & 's A < 's > ) -> & 's u8; for < 'a > fn ( & 'a A < 'b > ) -> & u8
+<&'a u8 as P<'b>>::X<'c, &'d u8> => < & 'a u8 as P < 's > > :: X < 's , & 's u8 >; < & 'a u8 as P < 's > > :: X < 's , & 'd u8 >"#;

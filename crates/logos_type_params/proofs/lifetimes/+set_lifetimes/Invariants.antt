@@ -1,7 +1,7 @@
 use Rattle.std.proofs.Common.{◌≡◌, ◌++◌, map, drop}
 use Rattle.logos_type.specs.Parts.{tree_of}
 use Rattle.logos_type_params.specs.TypeParams.{with_lifetimes}
-use Rattle.logos_type_params.proofs.type_params.+set_lifetimes.Given as goal
+use Rattle.logos_type_params.proofs.lifetimes.+set_lifetimes.Given as goal
 
 -- the parts so far, and what is left of them
 abbrev pub invariant-loop-inner : goal.invariant-loop-inner

@@ -3,7 +3,7 @@ use Rattle.std.proofs.lemmas.List.{at_drop_all, append-nil}
 use Rattle.logos_type.specs.Parts.{tree_of}
 use Rattle.logos_type_params.specs.TypeParams.{with_lifetimes}
 use Rattle.logos_type_params.proofs.ValueLemmas.{whole_with_lifetimes}
-use Rattle.logos_type_params.proofs.type_params.+set_lifetimes.Goals as goal
+use Rattle.logos_type_params.proofs.lifetimes.+set_lifetimes.Goals as goal
 
 pub returns-after-loop-inner : goal.returns-after-loop-inner
 returns-after-loop-inner t c =

@@ -1,0 +1,178 @@
+-- What is noted of names, and what follows for those that are asked.
+use Rattle.std.proofs.Common.{◌≡◌, ◌⊎◌, ◌↔◌, inl, ⊎_elim, List, [], ◌∷◌, ◌++◌, ◌||◌, Bool, true, false, not, Bor, refl, sym, ap, ◌∙◌, subst, true≢false, IsTrue, if◌then◌else◌, Result, Ok, Err}
+use Rattle.std.specs.Prelude.{IfOk, OnOk}
+use Rattle.std.specs.Str.{bytes_eq}
+use Rattle.std.specs.List.{list_any}
+use Rattle.indexmap.specs.IndexSet.{insert_key}
+use Rattle.logos_token.specs.Faults.{Fault}
+use Rattle.logos_type_params.specs.declared.self_reference.Chains.{Chains}
+use Rattle.logos_type_params.specs.Substitution.{ParamValue}
+use Rattle.logos_type_params.specs.SelfReference.{Leads, one, on, Has, texts}
+use Rattle.logos_type_params.specs.SelfFaults.{self_fault, declared_again, leads_on, leads_back, AreChecked, one_more}
+use Rattle.logos_type_params.specs.TypeParams.{Named, is_declared}
+use Rattle.logos_type_params.specs.WrittenTypes.{is_held, is_free}
+use Rattle.logos_type_params.specs.inside.Chains.{firsts_of, free_of, held_of, AreSame, AreFree, IsSettled, IsNoted, IsAnswered, StaySettled}
+use Rattle.logos_type_params.specs.inside.Checks.{AreInFront, ChecksName, AsksName}
+use Rattle.logos_type_params.proofs.ChainLemmas.{Text, has_cases, any_texts, any_has, any_from_has, any_push, with_key, eq_sym, same_text}
+
+-- chains of types that hold the same are the same
+pub leads_same : (ps qs : List ParamValue) {from to : Text} → AreSame ps qs → Leads ps from to → Leads qs from to
+leads_same ps qs {from = from} {to = to} s (one h) = one (sym (s from to) ∙ h)
+leads_same ps qs {from = from} s (on {over = over} h l) = on (sym (s from over) ∙ h) (leads_same ps qs s l)
+
+-- a text among those to which one was added
+has_key : (t : Bor Text) (keys keys' : List (Bor Text)) (x : Text) → keys' ≡ insert_key (λ (a b : Bor Text). bytes_eq a.now b.now) keys t → Has (texts keys') x → Has (texts keys) x ⊎ (t.now ≡ x)
+has_key t keys keys' x e h = ⊎_elim
+    (λ there. inl (let f = e ∙ there.1 in rw f at h))
+    (λ new. has_cases (texts keys) t.now x (let f = ap texts e ∙ new.1 in rw f at h))
+    (with_key t keys)
+
+pub noted_held : (old new : Chains) (t : Bor Text) → firsts_of new ≡ firsts_of old → free_of new ≡ free_of old → new.held.keys ≡ insert_key (λ (a b : Bor Text). bytes_eq a.now b.now) old.held.keys t →
+    IsNoted old t.now true new
+noted_held old new t firsts free e params s led = record {
+  same = rw firsts s.same;
+  free = rw free s.free;
+  held = λ x h. ⊎_elim (λ k. s.held x k) (λ (q : t.now ≡ x). subst (λ (y : Text). Leads params y y) q (led.0 refl)) (has_key t old.held.keys new.held.keys x e h);
+}
+
+pub noted_free : (old new : Chains) (t : Bor Text) → firsts_of new ≡ firsts_of old → held_of new ≡ held_of old → new.free.keys ≡ insert_key (λ (a b : Bor Text). bytes_eq a.now b.now) old.free.keys t →
+    IsNoted old t.now false new
+noted_free old new t firsts held e params s led = record {
+  same = rw firsts s.same;
+  free = λ x h l. ⊎_elim (λ k. s.free x k l) (λ (q : t.now ≡ x). true≢false (sym (led.1 (subst (λ (y : Text). Leads params y y) (sym q) l)))) (has_key t old.free.keys new.free.keys x e h);
+  held = rw held s.held;
+}
+
+-- a name that is noted already
+pub asked_free : (chains : Chains) (t : Text) → list_any (λ (k : Bor Text). bytes_eq t k.now) chains.free.keys ≡ true → IsAnswered chains t false chains
+asked_free chains t h params s = ((λ e. absurd (true≢false (sym e)), λ l. absurd (s.free t (any_has t (free_of chains) (sym (any_texts t chains.free.keys) ∙ h)) l)), s)
+
+pub asked_held : (chains : Chains) (t : Text) → list_any (λ (k : Bor Text). bytes_eq t k.now) chains.held.keys ≡ true → IsAnswered chains t true chains
+asked_held chains t h params s = ((λ e. s.held t (any_has t (held_of chains) (sym (any_texts t chains.held.keys) ∙ h)), λ l. refl), s)
+
+-- a name for which a search is made
+pub asked_new : (old new : Chains) (t : Text) (leads : Bool) → (AreFree (firsts_of old) (free_of old) → IsTrue leads ↔ Leads (firsts_of old) t t) → IsNoted old t leads new → IsAnswered old t leads new
+asked_new old new t leads searched noted params s =
+    let there = λ (l : Leads (firsts_of old) t t). leads_same (firsts_of old) params s.same l in
+    let back = λ (l : Leads params t t). leads_same params (firsts_of old) (λ from to. sym (s.same from to)) l in
+    let answer = searched (λ x h l. s.free x h (back_at x l)) in
+    let both : IsTrue leads ↔ Leads params t t = (λ e. there (answer.0 e), λ l. answer.1 (back l)) in
+    (both, noted params s both)
+  where
+    back_at : (x : Text) → Leads (firsts_of old) x x → Leads params x x
+    back_at x l = leads_same (firsts_of old) params s.same l
+
+-- an answer where memory lasts
+pub answered : {E : Type 0} (r : Result Bool E) (params : List ParamValue) (old new : Chains) (t : Text) → IfOk r (λ leads. IsAnswered old t leads new) → IsSettled params old →
+    IfOk r (λ leads. IsTrue leads ↔ Leads params t t)
+answered (Ok leads) params old new t h s = (h params s).0
+answered (Err e) params old new t h s = tt
+
+-- an answer, and then others
+pub asked_on : {E : Type 0} (r : Result Bool E) (old mid new : Chains) (t : Text) → IfOk r (λ leads. IsAnswered old t leads mid) → StaySettled mid new → IfOk r (λ leads. IsAnswered old t leads new)
+asked_on (Ok leads) old mid new t h stay = λ params s. let a = h params s in (a.0, stay params a.1)
+asked_on (Err e) old mid new t h stay = tt
+
+-- ---- names in front
+
+in_front : (front : List Named) (named : Named) (t : Text) → is_declared (front ++ named ∷ []) t ≡ (is_declared front t || bytes_eq named.text t)
+in_front [] named t = go (bytes_eq named.text t) refl
+  where
+    go : (b : Bool) → bytes_eq named.text t ≡ b → (if bytes_eq named.text t then true else false) ≡ bytes_eq named.text t
+    go true e = rw e refl
+    go false e = rw e refl
+in_front (n ∷ front) named t = go (bytes_eq n.text t) refl (in_front front named t)
+  where
+    go : (b : Bool) → bytes_eq n.text t ≡ b → is_declared (front ++ named ∷ []) t ≡ (is_declared front t || bytes_eq named.text t) →
+        is_declared ((n ∷ front) ++ named ∷ []) t ≡ (is_declared (n ∷ front) t || bytes_eq named.text t)
+    go true e rest = rw e refl
+    go false e rest = rw e rest
+
+or_false : (a b : Bool) → (b ≡ true → a ≡ true) → a ≡ (a || b)
+or_false true b h = refl
+or_false false true h = h refl
+or_false false false h = refl
+
+pub fronts_on : (t : Bor Text) (named : Named) (keys keys' : List (Bor Text)) (front : List Named) → named.text ≡ t.now → keys' ≡ insert_key (λ (a b : Bor Text). bytes_eq a.now b.now) keys t →
+    AreInFront front keys → AreInFront (front ++ named ∷ []) keys'
+fronts_on t named keys keys' front is e are x = ⊎_elim there new (with_key t keys)
+  where
+    there : (Has (texts keys) t.now × (insert_key (λ (a b : Bor Text). bytes_eq a.now b.now) keys t ≡ keys)) → list_any (bytes_eq x) (texts keys') ≡ is_declared (front ++ named ∷ []) x
+    there h =
+        ap (λ ks. list_any (bytes_eq x) (texts ks)) (e ∙ h.1) ∙ are x
+        ∙ or_false (is_declared front x) (bytes_eq named.text x) (λ q. sym (are x) ∙ any_from_has x (texts keys) (subst (λ (y : Text). Has (texts keys) y) (sym is ∙ same_text named.text x q) h.0))
+        ∙ sym (in_front front named x)
+
+    new : ((list_any (bytes_eq t.now) (texts keys) ≡ false) × (texts (insert_key (λ (a b : Bor Text). bytes_eq a.now b.now) keys t) ≡ texts keys ++ t.now ∷ [])) → list_any (bytes_eq x) (texts keys') ≡ is_declared (front ++ named ∷ []) x
+    new h =
+        ap (λ (ks : List Text). list_any (bytes_eq x) ks) (ap texts e ∙ h.1) ∙ any_push t.now (texts keys) x
+        ∙ rw (are x, sym is, eq_sym x named.text) (ap (λ b. is_declared front x || b) (or_none (bytes_eq named.text x))) ∙ sym (in_front front named x)
+      where
+        or_none : (b : Bool) → (b || false) ≡ b
+        or_none true = refl
+        or_none false = refl
+
+pub among : (t : Bor Text) (keys : List (Bor Text)) (added b : Bool) → added ≡ not (list_any (λ (k : Bor Text). bytes_eq t.now k.now) keys) → added ≡ b → list_any (bytes_eq t.now) (texts keys) ≡ not b
+among t keys added b e f = sym (any_texts t.now keys) ∙ go (list_any (λ (k : Bor Text). bytes_eq t.now k.now) keys) b (sym f ∙ e)
+  where
+    go : (a d : Bool) → d ≡ not a → a ≡ not d
+    go true true h = absurd (true≢false h)
+    go true false h = refl
+    go false true h = refl
+    go false false h = absurd (true≢false (sym h))
+
+module _ (t : Bor Text) (named : Named) (is : named.text ≡ t.now) (keys keys' : List (Bor Text)) (put : keys' ≡ insert_key (λ (a b : Bor Text). bytes_eq a.now b.now) keys t) (old new : Chains) (before after : List Fault) where
+  declared_as : (front : List Named) → AreInFront front keys → (b : Bool) → list_any (bytes_eq t.now) (texts keys) ≡ b → is_declared front named.text ≡ b
+  declared_as front are b e = rw is (sym (are t.now) ∙ e)
+
+  -- a name that stands in front already
+  pub checked_again : list_any (bytes_eq t.now) (texts keys) ≡ true → new ≡ old → after ≡ before → ChecksName keys old named before keys' new after
+  checked_again e same none = record {
+    checked = λ params front s are. declared_again (declared_as front are true e) none;
+    settled = λ params s. rw same s;
+    fronts = λ front are. fronts_on t named keys keys' front is put are;
+  }
+
+  -- a name to which no chain leads back
+  pub checked_free : (leads : Bool) → leads ≡ false → IsAnswered old t.now leads new → after ≡ before → ChecksName keys old named before keys' new after
+  checked_free leads l asked none = record {
+    checked = λ params front s are. leads_on (λ back. true≢false (sym ((asked params s).0.1 (rw is at back)) ∙ l)) none;
+    settled = λ params s. (asked params s).1;
+    fronts = λ front are. fronts_on t named keys keys' front is put are;
+  }
+
+  -- a name to which a chain leads back
+  pub checked_held : list_any (bytes_eq t.now) (texts keys) ≡ false → (leads : Bool) → leads ≡ true → IsAnswered old t.now leads new → after ≡ before ++ self_fault named ∷ [] → ChecksName keys old named before keys' new after
+  checked_held e leads l asked listed = record {
+    checked = λ params front s are. leads_back (declared_as front are false e) (rw is ((asked params s).0.0 l)) listed;
+    settled = λ params s. (asked params s).1;
+    fronts = λ front are. fronts_on t named keys keys' front is put are;
+  }
+
+-- what follows from a fact about a success
+pub on_ok_one : {T E P Q : Type 0} (r : Result T E) → (P → Q) → OnOk r P → OnOk r Q
+on_ok_one (Ok x) f p = f p
+on_ok_one (Err e) f p = tt
+
+-- a name that is asked is held or not
+pub asks_held : (old new : Chains) (t : Text) (leads : Bool) (held held' : List Text) → leads ≡ true → IsAnswered old t leads new → held' ≡ held ++ t ∷ [] → AsksName old t held new held'
+asks_held old new t leads held held' l asked pushed params s = let a = asked params s in (is_held (a.0.0 l) pushed, a.1)
+
+pub asks_free : (old new : Chains) (t : Text) (leads : Bool) (held : List Text) → leads ≡ false → IsAnswered old t leads new → AsksName old t held new held
+asks_free old new t leads held l asked params s = let a = asked params s in (is_free (λ back. true≢false (sym (a.0.1 back) ∙ l)) refl, a.1)
+
+-- names are checked one by one, where what completes the rest completes the whole
+pub record Checking (params : List ParamValue) (Whole : List Fault → Type 0) (rest : List Named) (keys : List (Bor Text)) (chains : Chains) (now : List Fault) : Type 0 where
+  pub front : List Named
+  pub fronts : AreInFront front keys
+  pub settled : IsSettled params chains
+  pub completes : (faults : List Fault) → AreChecked params front rest now faults → Whole faults
+
+pub check_on : (params : List ParamValue) (Whole : List Fault → Type 0) (all rest : List Named) (named : Named) (keys keys' : List (Bor Text)) (old new : Chains) (before after : List Fault) →
+    Checking params Whole all keys old before → all ≡ named ∷ rest → ChecksName keys old named before keys' new after → Checking params Whole rest keys' new after
+check_on params Whole all rest named keys keys' old new before after c e h = record {
+  front = c.front ++ named ∷ [];
+  fronts = h.fronts c.front c.fronts;
+  settled = h.settled params c.settled;
+  completes = λ faults r. c.completes faults (rw e (one_more (h.checked params c.front c.settled c.fronts) r));
+}
