@@ -1,4 +1,5 @@
 pub mod StandLemmas
 pub mod StopLemmas
 pub mod LookLemmas
+pub mod StepLemmas
 pub mod LexerLemmas
