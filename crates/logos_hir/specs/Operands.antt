@@ -1,8 +1,9 @@
 -- What operands of a bracket make of a set, each with the operator in front of it.
-use Rattle.std.specs.Prelude.{List, [], ◌∷◌, Option, Some, None}
+use Rattle.std.specs.Prelude.{false, List, [], ◌∷◌, Option, Some, None, if◌then◌else◌}
 use Rattle.logos_hir.specs.declared.sets.operands.SetOperator.{SetOperator}
 use Rattle.logos_hir.specs.declared.sets.operands.SetOperator.TheVariants.{Intersection, Difference, SymmetricDifference}
-use Rattle.logos_hir.specs.declared.sets.operands.Operand.{Operand}
+use Rattle.logos_hir.specs.declared.sets.operands.Effect.{Effect}
+use Rattle.logos_hir.specs.declared.sets.operands.OperandRuns.{OperandRuns}
 use Rattle.logos_hir.specs.Sets.{Set, intersection, difference, symmetric_difference}
 use Rattle.logos_hir.specs.RangeSets.{set_of}
 
@@ -17,7 +18,15 @@ abbrev pub with_operand : Option SetOperator → Set → Set → Set
 with_operand None before set = set
 with_operand (Some op) before set = combination op before set
 
--- what operands make of a set, from the left
-abbrev pub with_operands : List Operand → Set → Set
-with_operands [] before = before
-with_operands (x ∷ rest) before = with_operands rest (with_operand x.operator before (set_of x.set))
+-- the members of the one set that are in the test, and those of the other that are not
+abbrev pub selection : Set → Set → Set → Set
+selection test inside outside c = if test c then inside c else outside c
+
+-- What effects make of a set, from the left: its members stay where they are inside, and what it lacks is added where it is outside.
+abbrev pub effects_on : List Effect → Set → Set
+effects_on [] before = before
+effects_on (e ∷ rest) before = effects_on rest (selection before (set_of e.inside) (set_of e.outside))
+
+-- what the operands make, from the left: nothing is before the first one
+abbrev pub made_by : OperandRuns → Set
+made_by runs = effects_on runs.effects.items (λ c. false)

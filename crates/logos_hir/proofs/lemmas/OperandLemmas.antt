@@ -6,13 +6,11 @@ use lib.Utf8.{scalar}
 use Rattle.logos_hir.specs.declared.sets.operands.SetOperator.{SetOperator}
 use Rattle.logos_hir.specs.declared.sets.operands.SetOperator.TheVariants.{Intersection, Difference, SymmetricDifference}
 use Rattle.logos_hir.specs.declared.sets.operands.Effect.{Effect}
-use Rattle.logos_hir.specs.declared.sets.operands.Operand.{Operand}
 use Rattle.logos_hir.specs.Hir.{pairs}
 use Rattle.logos_hir.specs.Sets.{Set, members, union, intersection, difference, complement, in_ranges}
 use Rattle.logos_hir.specs.RangeSets.{set_of}
-use Rattle.logos_hir.specs.Operands.{combination}
-use Rattle.logos_hir.specs.Operands.{with_operand, with_operands}
-use Rattle.logos_hir.specs.inside.Effects.{selection, Makes}
+use Rattle.logos_hir.specs.Operands.{combination, with_operand, selection, effects_on}
+use Rattle.logos_hir.specs.inside.Effects.{Makes}
 use Rattle.logos_hir.proofs.lemmas.RangeLemmas.{char_bound}
 
 pub chosen_by_parts : (test inside outside : Set) → union (intersection test inside) (difference outside test) ≡ selection test inside outside
@@ -35,13 +33,6 @@ complement_at set c h = rw (h, le-leb c 0x10_FFFF (char_bound c h)) refl
 -- what the function makes of members is in the second set, and what it adds is in the first
 abbrev pub IsMade : Set → Set → (Set → Set) → Type 0
 IsMade outside inside f = (before : Set) (c : ℕ) → scalar c ≡ true → f before c ≡ selection before inside outside c
-
-pub no_operand : IsMade (λ c. false) (complement 0x10_FFFF (λ c. false)) (λ before. before)
-no_operand before c h = at (before c) (complement_at (λ n. false) c h)
-  where
-    at : (b : Bool) → complement 0x10_FFFF (λ n. false) c ≡ true → b ≡ cond b (complement 0x10_FFFF (λ n. false) c) false
-    at true e = sym e
-    at false e = refl
 
 pub first_operand : (set : Set) → IsMade set set (λ before. with_operand None before set)
 first_operand set before c h = at (before c)
@@ -78,44 +69,43 @@ same_made outside outside2 inside inside2 f f2 eo ei ef h before c char =
     ap (λ (s : Set). s c) (ef before) ∙ h before c char ∙ ap₂ (λ (i o : Set). selection before i o c) (sym ei) (sym eo)
 
 -- one effect, and then another
-pub made_then : (o i p j : Set) (f g : Set → Set) → IsMade o i f → IsMade p j g → IsMade (selection o j p) (selection i j p) (λ before. g (f before))
-made_then o i p j f g hf hg before c h =
-    hg (f before) c h ∙ ap (λ b. cond b (j c) (p c)) (hf before c h) ∙ at (before c)
+pub one_then_other : (before o i p j : Set) → selection before (selection i j p) (selection o j p) ≡ selection (selection before i o) j p
+one_then_other before o i p j = fun_ext (λ c. at (before c) (cond (i c) (j c) (p c)) (cond (o c) (j c) (p c)) (i c) (o c) (j c) (p c) refl refl)
   where
-    at : (b : Bool) → cond (cond b (i c) (o c)) (j c) (p c) ≡ cond b (cond (i c) (j c) (p c)) (cond (o c) (j c) (p c))
-    at true = refl
-    at false = refl
+    at : (b x y k l m n : Bool) → x ≡ cond k m n → y ≡ cond l m n → cond b x y ≡ cond (cond b k l) m n
+    at true x y k l m n e f = e
+    at false x y k l m n e f = f
 
--- ---- lists of operands
+-- ---- lists of effects
 
-pub with_operands-append : (xs ys : List Operand) (before : Set) → with_operands (xs ++ ys) before ≡ with_operands ys (with_operands xs before)
-with_operands-append [] ys before = refl
-with_operands-append (x ∷ xs) ys before = with_operands-append xs ys (with_operand x.operator before (set_of x.set))
-
--- the effects of two halves
-pub in_halves : {E : Type 0} (r : Result Effect E) (a b : Effect) (xs ys zs : List Operand) → zs ≡ xs ++ ys → Makes a (with_operands xs) → Makes b (with_operands ys) →
-    IfOk r (λ e. (f g : Set → Set) → Makes a f → Makes b g → Makes e (λ before. g (f before))) → IfOk r (λ e. Makes e (with_operands zs))
-in_halves (Ok e) a b xs ys zs same ha hb h = λ before c char.
-    ap (λ (l : List Operand). with_operands l before c) same ∙ ap (λ (s : Set). s c) (with_operands-append xs ys before)
-    ∙ h (with_operands xs) (with_operands ys) ha hb before c char
-in_halves (Err e) a b xs ys zs same ha hb h = tt
+pub effects_on-push : (es : List Effect) (e : Effect) (before : Set) → effects_on (es ++ e ∷ []) before ≡ selection (effects_on es before) (set_of e.inside) (set_of e.outside)
+effects_on-push [] e before = refl
+effects_on-push (x ∷ es) e before = effects_on-push es e (selection before (set_of x.inside) (set_of x.outside))
 
 -- numbers that are no characters are no members
+no_character : (xs : List (ℕ × ℕ)) (c : ℕ) → scalar c ≡ false → members xs c ≡ false
+no_character xs c h = rw h refl
+
 outside_operand : (o : Option SetOperator) (before : Set) (xs : List (ℕ × ℕ)) (c : ℕ) → scalar c ≡ false → before c ≡ false → with_operand o before (members xs) c ≡ false
 outside_operand None before xs c h e = rw h refl
 outside_operand (Some Intersection) before xs c h e = rw e refl
 outside_operand (Some Difference) before xs c h e = rw e refl
 outside_operand (Some SymmetricDifference) before xs c h e = rw (e, h) refl
 
-outside_operands : (xs : List Operand) (before : Set) (c : ℕ) → scalar c ≡ false → before c ≡ false → with_operands xs before c ≡ false
-outside_operands [] before c h e = e
-outside_operands (x ∷ xs) before c h e =
-    outside_operands xs (with_operand x.operator before (set_of x.set)) c h (outside_operand x.operator before (pairs x.set.ranges.items) c h e)
+-- the same of what effects make of no member at all
+outside_effects : (es : List Effect) (before : Set) (c : ℕ) → scalar c ≡ false → before c ≡ false → effects_on es before c ≡ false
+outside_effects [] before c h e = e
+outside_effects (x ∷ es) before c h e =
+    outside_effects es (selection before (set_of x.inside) (set_of x.outside)) c h
+    (ap (λ b. cond b (set_of x.inside c) (set_of x.outside c)) e ∙ no_character (pairs x.outside.ranges.items) c h)
 
--- what is made of no member at all
-pub made_of_none : (xs : List Operand) (ranges : List (ℕ × ℕ)) (inside : Set) → IsMade (members ranges) inside (with_operands xs) → members ranges ≡ with_operands xs (λ n. false)
-made_of_none xs ranges inside h = fun_ext (λ c. at c (scalar c) refl)
+-- an operand behind others
+pub one_more : (es : List Effect) (o : Option SetOperator) (xs ins outs : List (ℕ × ℕ)) → IsMade (members outs) (members ins) (λ before. with_operand o before (members xs)) →
+    selection (effects_on es (λ n. false)) (members ins) (members outs) ≡ with_operand o (effects_on es (λ n. false)) (members xs)
+one_more es o xs ins outs h = fun_ext (λ c. at c (scalar c) refl)
   where
-    at : (c : ℕ) (b : Bool) → scalar c ≡ b → members ranges c ≡ with_operands xs (λ n. false) c
-    at c true char = sym (h (λ n. false) c char)
-    at c false char = ap (λ b. b && in_ranges ranges c) char ∙ sym (outside_operands xs (λ n. false) c char refl)
+    at : (c : ℕ) (b : Bool) → scalar c ≡ b → selection (effects_on es (λ n. false)) (members ins) (members outs) c ≡ with_operand o (effects_on es (λ n. false)) (members xs) c
+    at c true char = sym (h (effects_on es (λ n. false)) c char)
+    at c false char =
+        let none = outside_effects es (λ n. false) c char refl in
+        ap (λ b. cond b (members ins c) (members outs c)) none ∙ no_character outs c char ∙ sym (outside_operand o (effects_on es (λ n. false)) xs c char none)

@@ -1,9 +1,9 @@
 //! Operands of a bracket, each with the operator in front of it.
 
-ghost use Rattle.std.specs.Prelude.{◌≡◌, false, IfOk};
+ghost use Rattle.std.specs.Prelude.{◌≡◌, false, IfOk, OnOk};
+ghost use Rattle.logos_hir.specs.Sets.{Set};
 ghost use Rattle.logos_hir.specs.RangeSets.{set_of};
-ghost use Rattle.logos_hir.specs.inside.Effects.{selection, Makes};
-ghost use Rattle.logos_hir.specs.Operands.{combination, with_operands};
+ghost use Rattle.logos_hir.specs.Operands.{combination, selection, effects_on};
 
 use crate::sets::RangeSet;
 use std::alloc::{AllocError, Global};
@@ -17,13 +17,6 @@ pub enum SetOperator {
     Difference,
     /// `~~`
     SymmetricDifference,
-}
-
-/// An operand, and the operator in front of it; the first operand has none.
-#[derive(Drop)]
-pub struct Operand {
-    pub operator: Option<SetOperator>,
-    pub set: RangeSet,
 }
 
 /// Two sets, by the operator between them.
@@ -68,21 +61,10 @@ fn selection(test: &RangeSet, inside: &RangeSet, outside: &RangeSet) -> Result<R
 }
 
 impl Effect {
-    ghost use Rattle.std.specs.Prelude.{IfOk};
-    ghost use Rattle.logos_hir.specs.Sets.{Set};
+    ghost use Rattle.std.specs.Prelude.{◌≡◌, IfOk};
     ghost use Rattle.logos_hir.specs.RangeSets.{set_of};
-    ghost use Rattle.logos_hir.specs.Operands.{combination};
-    ghost use Rattle.logos_hir.specs.Operands.{with_operand};
+    ghost use Rattle.logos_hir.specs.Operands.{combination, with_operand, selection};
     ghost use Rattle.logos_hir.specs.inside.Effects.{Makes};
-
-    /// The effect of no operand.
-    fn none(alloc: Global) -> Result<Effect, AllocError>
-        ensures { IfOk result (λ effect. Makes effect (λ before. before)) }
-    {
-        let outside = nothing(alloc)?;
-        let inside = outside.complement(char::MAX)?;
-        Ok(Effect { outside, inside })
-    }
 
     /// The effect of an operand behind an operator.
     fn behind(alloc: Global, op: SetOperator, set: &RangeSet) -> Result<Effect, AllocError>
@@ -106,23 +88,31 @@ impl Effect {
     }
 
     /// The effect of one operand.
-    fn of(alloc: Global, operand: &Operand) -> Result<Effect, AllocError>
+    fn of(
+        alloc: Global,
+        operator: Option<SetOperator>,
+        set: &RangeSet,
+    ) -> Result<Effect, AllocError>
         ensures { IfOk result (λ effect. Makes effect
-            (λ before. with_operand operand.now.operator before (set_of operand.now.set))) }
+            (λ before. with_operand operator before (set_of set.now))) }
     {
-        match operand.operator {
+        match operator {
             None => Ok(Effect {
-                outside: copy(alloc, &operand.set)?,
-                inside: copy(alloc, &operand.set)?,
+                outside: copy(alloc, set)?,
+                inside: copy(alloc, set)?,
             }),
-            Some(op) => Effect::behind(alloc, op, &operand.set),
+            Some(op) => Effect::behind(alloc, op, set),
         }
     }
 
     /// The effect of these operands, and then of others.
     fn then(&self, other: &Effect) -> Result<Effect, AllocError>
-        ensures { IfOk result (λ effect. (f g : Set → Set) → Makes self.now f → Makes other.now g →
-            Makes effect (λ before. g (f before))) }
+        ensures outside { IfOk result (λ effect. set_of effect.outside ≡
+            selection (set_of self.now.outside) (set_of other.now.inside)
+            (set_of other.now.outside)) }
+        ensures inside { IfOk result (λ effect. set_of effect.inside ≡
+            selection (set_of self.now.inside) (set_of other.now.inside)
+            (set_of other.now.outside)) }
     {
         Ok(Effect {
             outside: selection(&self.outside, &other.inside, &other.outside)?,
@@ -131,25 +121,71 @@ impl Effect {
     }
 }
 
-/// What the operands make of a set, from the left. The effects of both
-/// halves are put together, so that each range is gone over as often as the operands can be halved.
-fn effect_of(alloc: Global, operands: &[Operand]) -> Result<Effect, AllocError>
-    ensures { IfOk result (λ effect. Makes effect (with_operands operands.now)) }
+/// Adds an effect behind those of so many operands. As a counter carries, it is put together with
+/// the last one for each binary digit 1 at the number's end.
+fn push_effect(effects: &mut Vec<Effect>, count: usize, effect: Effect) -> Result<(), AllocError>
+    ensures { (before : Set) → OnOk result (effects_on effects.new.items before ≡
+        selection (effects_on effects.old.items before) (set_of effect.inside)
+        (set_of effect.outside)) }
 {
-    match operands {
-        [] => Effect::none(alloc),
-        [operand] => Effect::of(alloc, operand),
-        _ => {
-            let (front, back) = operands.split_at(operands.len() / 2);
-            effect_of(alloc, front)?.then(&effect_of(alloc, back)?)
-        }
+    if count % 2 == 0 {
+        return Ok(effects.push(effect)?);
+    }
+    match effects.pop() {
+        Some(last) => push_effect(effects, count / 2, last.then(&effect)?),
+        None => Ok(effects.push(effect)?),
     }
 }
 
-/// The set of operands, from the left.
-pub fn operands_set(alloc: Global, operands: &[Operand]) -> Result<RangeSet, AllocError>
-    ensures { IfOk result (λ set. set_of set ≡ with_operands operands.now (λ c. false)) }
-{
-    let Effect { outside, .. } = effect_of(alloc, operands)?;
-    Ok(outside)
+/// The operands so far. They are put together as they come, so that each range is gone over as often
+/// as the operands can be halved, and few effects wait.
+#[derive(Drop)]
+pub struct OperandRuns {
+    /// One for each binary digit 1 of the number of operands, of so many of them.
+    effects: Vec<Effect>,
+    count: usize,
+}
+
+impl OperandRuns {
+    ghost use Rattle.std.specs.Prelude.{◌≡◌, false, IfOk, OnOk};
+    ghost use Rattle.logos_hir.specs.RangeSets.{set_of};
+    ghost use Rattle.logos_hir.specs.Operands.{with_operand, made_by};
+
+    /// No operand.
+    pub fn new(alloc: Global) -> OperandRuns
+        ensures { made_by result ≡ (λ c. false) }
+    {
+        OperandRuns {
+            effects: Vec::new(alloc),
+            count: 0,
+        }
+    }
+
+    /// Adds an operand, and the operator in front of it; the first operand has none. After an error
+    /// some operands may be lost.
+    pub fn push(
+        &mut self,
+        alloc: Global,
+        operator: Option<SetOperator>,
+        set: &RangeSet,
+    ) -> Result<(), AllocError>
+        ensures { OnOk result (made_by self.new ≡
+            with_operand operator (made_by self.old) (set_of set.now)) }
+    {
+        let effect = Effect::of(alloc, operator, set)?;
+        push_effect(&mut self.effects, self.count, effect)?;
+        self.count = self.count.wrapping_add(1);
+        Ok(())
+    }
+
+    /// The set that the operands make, from the left.
+    pub fn set(&self, alloc: Global) -> Result<RangeSet, AllocError>
+        ensures { IfOk result (λ set. set_of set ≡ made_by self.now) }
+    {
+        let mut made = nothing(alloc)?;
+        for effect in &self.effects {
+            made = selection(&made, &effect.inside, &effect.outside)?;
+        }
+        Ok(made)
+    }
 }

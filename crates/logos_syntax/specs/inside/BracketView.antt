@@ -12,7 +12,7 @@ use Rattle.logos_syntax.specs.declared.bracket.stack.BracketValue.{BracketValue}
 use Rattle.logos_hir.specs.Hir.{pairs}
 use Rattle.logos_hir.specs.Sets.{members}
 use Rattle.logos_hir.specs.RangeSets.{set_of}
-use Rattle.logos_hir.specs.Operands.{with_operands}
+use Rattle.logos_hir.specs.Operands.{made_by}
 use Rattle.logos_pattern_tokens.specs.Token.{Text}
 use Rattle.std.specs.Borrow.{Bor}
 use Rattle.logos_pattern_tokens.specs.declared.error.Fault.{Fault}
@@ -27,7 +27,7 @@ use Rattle.logos_syntax.specs.inside.BracketStack.{Frame, Frames, bracket_step}
 abbrev pub frame_view : FrameValue → Frame
 frame_view f = record {
   negated = f.negated;
-  before = option_map (λ op. (with_operands f.before.items (λ c. false), op)) f.operator;
+  before = option_map (λ op. (made_by f.before, op)) f.operator;
   here = members (pairs f.ranges.items);
   inner = f.inner;
 }

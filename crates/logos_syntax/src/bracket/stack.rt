@@ -7,7 +7,7 @@ ghost use Rattle.logos_hir.specs.Sets.{members};
 use crate::bracket::translate::{item_fits, lead_ranges, push_item, push_set, set_or_complement};
 use logos_hir::hir::Range;
 use logos_hir::sets::RangeSet;
-use logos_hir::sets::operands::{Operand, SetOperator, combination, operands_set};
+use logos_hir::sets::operands::{OperandRuns, SetOperator, combination};
 use logos_pattern_tokens::bracket::token::{BracketToken, Item, Lead};
 use logos_pattern_tokens::error::{Kind, Stop};
 use logos_pattern_tokens::token::Flags;
@@ -30,7 +30,7 @@ pub(crate) struct BracketOpening {
 pub(crate) struct Frame {
     negated: bool,
     /// The operands before.
-    before: Vec<Operand>,
+    before: OperandRuns,
     /// The operator behind them.
     operator: Option<SetOperator>,
     /// The operand so far.
@@ -70,7 +70,7 @@ impl Frame {
     {
         Ok(Frame {
             negated: opening.negated,
-            before: Vec::new(alloc),
+            before: OperandRuns::new(alloc),
             operator: None,
             ranges: lead_ranges(alloc, opening.lead)?,
             inner: level,
@@ -85,7 +85,7 @@ impl Frame {
         let here = RangeSet::from_ranges(alloc, &self.ranges)?;
         match self.operator {
             None => Ok(here),
-            Some(op) => combination(op, &operands_set(alloc, &self.before)?, &here),
+            Some(op) => combination(op, &self.before.set(alloc)?, &here),
         }
     }
 
@@ -206,7 +206,7 @@ impl Frames {
     {
         let set = RangeSet::from_ranges(alloc, &self.top.ranges)?;
         let operator = self.top.operator;
-        self.top.before.push(Operand { operator, set })?;
+        self.top.before.push(alloc, operator, &set)?;
         self.top.operator = Some(op);
         self.top.ranges = Vec::new(alloc);
         Ok(())

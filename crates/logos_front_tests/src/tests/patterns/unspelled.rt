@@ -5,7 +5,7 @@ use super::asking::{push_ranges, push_tree};
 use logos_hir::build::{alternation, concat, literal, look, repetition};
 use logos_hir::hir::{Hir, Look, Range};
 use logos_hir::sets::RangeSet;
-use logos_hir::sets::operands::operands_set;
+use logos_hir::sets::operands::OperandRuns;
 use std::alloc::Global;
 use std::process::Abort;
 
@@ -98,7 +98,8 @@ const SETS: [&[Range]; 5] = [
 fn unspelled(rt: HostRuntime) {
     let mut out = String::new(rt.alloc());
     push_branches(&rt, rt.alloc(), &mut out);
-    let none = operands_set(rt.alloc(), &[]).expect(&rt, "memory");
+    let operands = OperandRuns::new(rt.alloc());
+    let none = operands.set(rt.alloc()).expect(&rt, "memory");
     push_set(&rt, &mut out, &none);
     for ranges in SETS {
         let set = RangeSet::from_ranges(rt.alloc(), ranges).expect(&rt, "memory");

@@ -6,5 +6,5 @@ use Rattle.logos_hir.proofs.sets.operands.Effect.of.Goals as goal
 
 pub returns-in_ok-copy-in-None-2 : goal.returns-in_ok-copy-in-None-2
 returns-in_ok-copy-in-None-2 c =
-    let set = set_of c.args.operand.now.set in
+    let set = set_of c.args.set.now in
     same_made _ _ _ _ _ _ c.in_ok-copy-in-None.ensures c.in_ok-copy-in-None-2.ensures (λ before. ap (λ o. with_operand o before set) c.in-None.is) (first_operand set)
