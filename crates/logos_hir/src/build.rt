@@ -5,7 +5,7 @@ ghost use Rattle.std.specs.Str.{chars};
 ghost use Rattle.logos_hir.specs.Tree.{look, capture};
 ghost use Rattle.logos_hir.specs.Hir.{pairs, tree_of};
 ghost use Rattle.logos_hir.specs.RangeSets.{set_of};
-ghost use Rattle.logos_hir.specs.Build.{literal_of, one_char_of, one_byte_of, is_byteless, is_most, cut, times, repetition_of, parts_of, concat_of, sole_char, char_ranges_of, byte_ranges_of, all_ranges, branches_of, bytes_or, chars_or, choice_of, alternation_of};
+ghost use Rattle.logos_hir.specs.Build.{literal_of, one_char_of, one_byte_of, is_byteless, is_most, cut, times, repetition_of, parts_of, in_a_row, concat_of, sole_char, char_ranges_of, byte_ranges_of, all_ranges, branches_of, bytes_or, chars_or, choice_of, alternation_of};
 ghost use Rattle.logos_hir.specs.inside.BuildSteps.{part_text, add_text, add_part, add_parts, is_literal_tree, are_apart, IsAdded};
 
 use crate::hir::{Class, Hir, Look, Range};
@@ -223,7 +223,7 @@ fn push_all(parts: &mut Vec<Hir>, inner: Vec<Hir>) -> Result<(), AllocError>
 }
 
 /// Adds the parts that a tree brings into a concatenation.
-fn push_flat(parts: &mut Vec<Hir>, part: Hir) -> Result<(), AllocError>
+pub(crate) fn push_flat(parts: &mut Vec<Hir>, part: Hir) -> Result<(), AllocError>
     ensures { OnOk result (map tree_of parts.new.items ≡
         add_parts (map tree_of parts.old.items) (parts_of (tree_of part))) }
 {
@@ -231,6 +231,19 @@ fn push_flat(parts: &mut Vec<Hir>, part: Hir) -> Result<(), AllocError>
         Hir::Empty => Ok(()),
         Hir::Concat(inner) => push_all(parts, inner),
         other => push_part(parts, other),
+    }
+}
+
+/// Parts that do not join, in a row. One part is itself, and none is `Empty`.
+pub(crate) fn in_a_row(mut parts: Vec<Hir>) -> Hir
+    ensures { tree_of result ≡ in_a_row (map tree_of parts.items) }
+{
+    if parts.len() > 1 {
+        return Hir::Concat(parts);
+    }
+    match parts.pop() {
+        Some(only) => only,
+        None => Hir::Empty,
     }
 }
 
@@ -243,13 +256,7 @@ pub fn concat(all: Vec<Hir>) -> Result<Hir, AllocError>
     for part in all {
         push_flat(&mut parts, part)?;
     }
-    if parts.len() > 1 {
-        return Ok(Hir::Concat(parts));
-    }
-    match parts.pop() {
-        Some(only) => Ok(only),
-        None => Ok(Hir::Empty),
-    }
+    Ok(in_a_row(parts))
 }
 
 /// The character that is the whole text, if it is one.

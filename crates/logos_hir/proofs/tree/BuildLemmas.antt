@@ -48,12 +48,12 @@ list_of-trees [] = refl
 list_of-trees (t ∷ ts) = ap (λ (rest : List Tree). t ∷ rest) (list_of-trees ts)
 
 -- how a part joins with others: as a literal, or not at all
-data Part (t : Tree) : Type 0 where
+pub data Part (t : Tree) : Type 0 where
   is_text : (a : List ℕ) → t ≡ literal a → Part t
   is_other : ((rest : List Tree) → join t rest ≡ t ∷ rest) → ((parts : List Tree) → add_part parts t ≡ parts ++ t ∷ []) →
       ((b : List ℕ) → part_text t b ≡ t ∷ literal b ∷ []) → ((a : List ℕ) (rest : List Tree) → with_text a (t ∷ rest) ≡ literal a ∷ t ∷ rest) → Part t
 
-part : (t : Tree) → Part t
+pub part : (t : Tree) → Part t
 part empty = is_other (λ _. refl) (λ _. refl) (λ _. refl) (λ _ _. refl)
 part (literal a) = is_text a refl
 part (byte_class ranges) = is_other (λ _. refl) (λ _. refl) (λ _. refl) (λ _ _. refl)
