@@ -171,11 +171,6 @@ many_parts [] h = absurd (omega arith)
 many_parts (t ∷ []) h = absurd (omega arith)
 many_parts (t ∷ u ∷ ts) h = refl
 
-pub flat-push : (f : Tree → List Tree) (hs : List Hir) (h : Hir) → flat_map f (map tree_of (hs ++ h ∷ [])) ≡ flat_map f (map tree_of hs) ++ f (tree_of h)
-flat-push f hs h =
-    ap (flat_map f) (map_push tree_of hs h) ∙ flat_map-append f (map tree_of hs) (tree_of h ∷ [])
-    ∙ ap (λ ts. flat_map f (map tree_of hs) ++ ts) (flat_map-cons f (tree_of h) [] ∙ append-nil (f (tree_of h)))
-
 -- ---- alternations
 
 pub branches-other : (h : Hir) → ((v : Vec Hir Global) → h ≡ Alternation v → ⊥) → branches_of (tree_of h) ≡ tree_of h ∷ []
