@@ -38,6 +38,9 @@ measure() {
 
 openings=$(printf '(?:%.0s' {1..249})
 closings=$(printf 'b)%.0s' {1..249})
+ends=$(printf ')%.0s' {1..249})
+parts=$(printf '(?:b^%.0s' {1..249})
+branches=$(printf '(?:b|%.0s' {1..249})
 ranges=$(for ((i = 1024; i < 13024; i += 2)); do printf '\\x{%x}' "$i"; done)
 
 echo "$(nproc) cores, $(sed -n 's/^model name[^:]*: //p' /proc/cpuinfo | head -n 1)"
@@ -54,5 +57,9 @@ measure "\`(?i)\` and \`a\`, 1 MiB" "(?i)" "a" 1048576 ""
 measure "\`\\w\`" "\\w" "" 0 ""
 measure "\`\\p{L}\`" "\\p{L}" "" 0 ""
 measure "\`(?i)\\p{Lu}\`" "(?i)\\p{Lu}" "" 0 ""
-measure "249 groups around 100,000 parts" "$openings" "^a" 50000 "$closings"
+measure "249 groups around 1,040,000 parts" "$openings" "^a" 520000 "$closings"
+measure "249 groups, each with parts in front, around 1,040,000 parts" "$parts" "^a" 520000 "$ends"
+measure "249 groups around 520,000 branches" "$openings" "a|" 520000 "bb$ends"
+measure "249 groups, each with a branch in front, around 520,000 branches" "$branches" "a|" 520000 "bb$ends"
 measure "6,000 ranges and 6,000 operators in one bracket" "[$ranges" "--a" 6000 "]"
+measure "\`\\pL--\`, 1 MiB in one bracket" "[" "\\pL--" 209714 "a]"

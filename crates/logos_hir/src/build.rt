@@ -5,7 +5,7 @@ ghost use Rattle.std.specs.Str.{chars};
 ghost use Rattle.logos_hir.specs.Tree.{look, capture};
 ghost use Rattle.logos_hir.specs.Hir.{pairs, tree_of};
 ghost use Rattle.logos_hir.specs.RangeSets.{set_of};
-ghost use Rattle.logos_hir.specs.Build.{literal_of, one_char_of, one_byte_of, is_byteless, is_most, cut, times, repetition_of, parts_of, concat_of, sole_char, char_ranges_of, byte_ranges_of, all_ranges, branches_of, bytes_or, chars_or, choice_of, alternation_of};
+ghost use Rattle.logos_hir.specs.Build.{literal_of, one_char_of, one_byte_of, is_byteless, is_most, cut, times, repetition_of, parts_of, in_a_row, sole_char, char_ranges_of, byte_ranges_of, all_ranges, branches_of, bytes_or, chars_or, choice_of, alternation_of};
 ghost use Rattle.logos_hir.specs.inside.BuildSteps.{part_text, add_text, add_part, add_parts, is_literal_tree, are_apart, IsAdded};
 
 use crate::hir::{Class, Hir, Look, Range};
@@ -223,7 +223,7 @@ fn push_all(parts: &mut Vec<Hir>, inner: Vec<Hir>) -> Result<(), AllocError>
 }
 
 /// Adds the parts that a tree brings into a concatenation.
-fn push_flat(parts: &mut Vec<Hir>, part: Hir) -> Result<(), AllocError>
+pub(crate) fn push_flat(parts: &mut Vec<Hir>, part: Hir) -> Result<(), AllocError>
     ensures { OnOk result (map tree_of parts.new.items ≡
         add_parts (map tree_of parts.old.items) (parts_of (tree_of part))) }
 {
@@ -234,21 +234,16 @@ fn push_flat(parts: &mut Vec<Hir>, part: Hir) -> Result<(), AllocError>
     }
 }
 
-/// A concatenation: flattened, without `Empty`, neighbouring literals joined. One part is itself,
-/// and none is `Empty`.
-pub fn concat(all: Vec<Hir>) -> Result<Hir, AllocError>
-    ensures { IfOk result (λ hir. tree_of hir ≡ concat_of (map tree_of all.items)) }
+/// Parts in a row, as they stand. One part is itself, and none is `Empty`.
+pub(crate) fn in_a_row(mut parts: Vec<Hir>) -> Hir
+    ensures { tree_of result ≡ in_a_row (map tree_of parts.items) }
 {
-    let mut parts = Vec::new(*all.allocator());
-    for part in all {
-        push_flat(&mut parts, part)?;
-    }
     if parts.len() > 1 {
-        return Ok(Hir::Concat(parts));
+        return Hir::Concat(parts);
     }
     match parts.pop() {
-        Some(only) => Ok(only),
-        None => Ok(Hir::Empty),
+        Some(only) => only,
+        None => Hir::Empty,
     }
 }
 

@@ -2,6 +2,7 @@
 
 ghost use Rattle.std.specs.Prelude.{◌≤◌, ◌≡◌, ◌+◌, ◌<◌, length, map, IfOk, OnOk, Some, unwrap_or, vec_len};
 ghost use Rattle.logos_hir.specs.Hir.{tree_of};
+ghost use Rattle.logos_hir.specs.Settled.{settled_tree};
 ghost use Rattle.logos_pattern_tokens.specs.Flags.{flags_after};
 ghost use Rattle.logos_pattern_tokens.specs.Token.{opening_view, token_view, closes, opens, repeats, sets, bracketed, atom as token_atom};
 ghost use Rattle.logos_pattern_tokens.specs.bracket.Form.{Bracket};
@@ -12,8 +13,8 @@ ghost use Rattle.logos_syntax.specs.Grammar.{captures, group_tree, is_greedy};
 
 use crate::bracket::stack::{BracketValue, MAX_NESTING};
 use crate::translate::{atom_fits, atom_tree, one_of};
-use logos_hir::build;
 use logos_hir::hir::Hir;
+use logos_hir::settle;
 use logos_pattern_tokens::error::{Kind, Stop};
 use logos_pattern_tokens::token::{Atom, Change, Flags, Opening, Operator, Token};
 use std::alloc::{AllocError, Global};
@@ -105,10 +106,10 @@ fn is_greedy(flags: Flags, op: Operator) -> bool
 
 /// A group that may be a capture.
 fn group_tree(alloc: Global, captured: bool, tree: Hir) -> Result<Hir, AllocError>
-    ensures { IfOk result (λ hir. tree_of hir ≡ group_tree captured (tree_of tree)) }
+    ensures { IfOk result (λ hir. settled_tree hir ≡ group_tree captured (settled_tree tree)) }
 {
     if captured {
-        return build::capture(alloc, tree);
+        return settle::captured(alloc, tree);
     }
     Ok(tree)
 }
@@ -169,17 +170,17 @@ impl OpenGroup {
         self.settle()?;
         let empty = Vec::new(*self.parts.allocator());
         let parts = mem::replace(&mut self.parts, empty);
-        self.branches.push(build::concat(parts)?)?;
+        self.branches.push(settle::row(parts))?;
         Ok(())
     }
 
     /// The whole group, once it is closed.
     fn finish(mut self, alloc: Global) -> Result<Hir, AllocError>
-        ensures { IfOk result (λ hir. tree_of hir ≡ whole_tree (group_view self)) }
+        ensures { IfOk result (λ hir. settled_tree hir ≡ whole_tree (group_view self)) }
     {
         self.next_branch()?;
         let captured = self.captured;
-        group_tree(alloc, captured, build::alternation(self.branches)?)
+        group_tree(alloc, captured, settle::either(self.branches))
     }
 
     /// Repeats what stands last.
@@ -199,7 +200,7 @@ impl OpenGroup {
         let depth = part.depth + 1;
         let left = part.left;
         let greedy = is_greedy(self.flags, op);
-        let tree = build::repetition(alloc, op.least, op.most, greedy, part.tree)?;
+        let tree = settle::repeated(alloc, op.least, op.most, greedy, part.tree)?;
         self.inner = self.inner.max(depth);
         self.last = Some(Part { tree, depth, left });
         Ok(())
@@ -359,7 +360,8 @@ impl Groups {
                 left: self.top.left,
             });
         }
-        Ok(self.top.finish(alloc)?)
+        let tree = self.top.finish(alloc)?;
+        Ok(settle::settle(alloc, tree)?)
     }
 }
 

@@ -1,5 +1,5 @@
 -- Operands of a bracket: what they make of each character.
-use Rattle.std.proofs.Common.{◌≡◌, ℕ, Bool, true, false, cond, not, ◌&&◌, ◌||◌, List, [], ◌∷◌, ◌++◌, Option, Some, None, Result, Ok, Err, IfOk, refl, sym, ap, ap₂, ◌∙◌}
+use Rattle.std.proofs.Common.{◌≡◌, ℕ, Bool, true, false, cond, not, ◌&&◌, ◌||◌, List, [], ◌∷◌, ◌++◌, Option, Some, None, refl, sym, ap, ap₂, ◌∙◌}
 use Rattle.std.proofs.lemmas.Bool.{le-leb}
 use Rattle.std.proofs.Math.Path.{fun_ext}
 use lib.Utf8.{scalar}
@@ -7,10 +7,9 @@ use Rattle.logos_hir.specs.declared.sets.operands.SetOperator.{SetOperator}
 use Rattle.logos_hir.specs.declared.sets.operands.SetOperator.TheVariants.{Intersection, Difference, SymmetricDifference}
 use Rattle.logos_hir.specs.declared.sets.operands.Effect.{Effect}
 use Rattle.logos_hir.specs.Hir.{pairs}
-use Rattle.logos_hir.specs.Sets.{Set, members, union, intersection, difference, complement, in_ranges}
+use Rattle.logos_hir.specs.Sets.{Set, members, union, intersection, difference, complement}
 use Rattle.logos_hir.specs.RangeSets.{set_of}
 use Rattle.logos_hir.specs.Operands.{combination, with_operand, selection, effects_on}
-use Rattle.logos_hir.specs.inside.Effects.{Makes}
 use Rattle.logos_hir.proofs.lemmas.RangeLemmas.{char_bound}
 
 pub chosen_by_parts : (test inside outside : Set) → union (intersection test inside) (difference outside test) ≡ selection test inside outside

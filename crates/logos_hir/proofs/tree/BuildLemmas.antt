@@ -48,12 +48,12 @@ list_of-trees [] = refl
 list_of-trees (t ∷ ts) = ap (λ (rest : List Tree). t ∷ rest) (list_of-trees ts)
 
 -- how a part joins with others: as a literal, or not at all
-data Part (t : Tree) : Type 0 where
+pub data Part (t : Tree) : Type 0 where
   is_text : (a : List ℕ) → t ≡ literal a → Part t
   is_other : ((rest : List Tree) → join t rest ≡ t ∷ rest) → ((parts : List Tree) → add_part parts t ≡ parts ++ t ∷ []) →
       ((b : List ℕ) → part_text t b ≡ t ∷ literal b ∷ []) → ((a : List ℕ) (rest : List Tree) → with_text a (t ∷ rest) ≡ literal a ∷ t ∷ rest) → Part t
 
-part : (t : Tree) → Part t
+pub part : (t : Tree) → Part t
 part empty = is_other (λ _. refl) (λ _. refl) (λ _. refl) (λ _ _. refl)
 part (literal a) = is_text a refl
 part (byte_class ranges) = is_other (λ _. refl) (λ _. refl) (λ _. refl) (λ _ _. refl)
@@ -170,11 +170,6 @@ pub many_parts : (ts : List Tree) → 1 < length ts → concat (trees ts) ≡ in
 many_parts [] h = absurd (omega arith)
 many_parts (t ∷ []) h = absurd (omega arith)
 many_parts (t ∷ u ∷ ts) h = refl
-
-pub flat-push : (f : Tree → List Tree) (hs : List Hir) (h : Hir) → flat_map f (map tree_of (hs ++ h ∷ [])) ≡ flat_map f (map tree_of hs) ++ f (tree_of h)
-flat-push f hs h =
-    ap (flat_map f) (map_push tree_of hs h) ∙ flat_map-append f (map tree_of hs) (tree_of h ∷ [])
-    ∙ ap (λ ts. flat_map f (map tree_of hs) ++ ts) (flat_map-cons f (tree_of h) [] ∙ append-nil (f (tree_of h)))
 
 -- ---- alternations
 

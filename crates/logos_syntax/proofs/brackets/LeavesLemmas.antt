@@ -1,5 +1,5 @@
 -- A beginning of a bracket, and how many brackets it leaves open.
-use Rattle.std.proofs.Common.{◌≡◌, ℕ, suc, ◌+◌, ◌≤◌, Bool, Err, List, [], ◌∷◌, ◌++◌, length, Some, refl, ap, subst, ◌∙◌, arith, option_and_then}
+use Rattle.std.proofs.Common.{◌≡◌, ℕ, suc, ◌≤◌, Bool, Err, List, [], ◌∷◌, ◌++◌, length, Some, refl, ap, subst, ◌∙◌, arith, option_and_then}
 use Rattle.logos_pattern_tokens.specs.declared.token.Flags.{Flags}
 use Rattle.logos_pattern_tokens.specs.declared.bracket.token.Lead.{Lead}
 use Rattle.logos_pattern_tokens.specs.declared.bracket.token.BracketToken.{BracketToken}

@@ -8,19 +8,20 @@ use Rattle.logos_syntax.specs.declared.groups.Part.{Part as PartValue}
 use Rattle.logos_syntax.specs.declared.groups.OpenGroup.{OpenGroup}
 use Rattle.logos_syntax.specs.declared.groups.Groups.{Groups}
 use Rattle.logos_hir.specs.Hir.{tree_of}
+use Rattle.logos_hir.specs.Settled.{settled_tree}
 use Rattle.logos_pattern_tokens.specs.Token.{Token}
 use Rattle.logos_syntax.specs.Grammar.{TokenFits}
 use Rattle.logos_syntax.specs.inside.Groups.{Part, Group, State, step, whole_tree, deepest}
 
 abbrev pub part_view : PartValue → Part
-part_view p = (tree_of p.tree, p.depth)
+part_view p = (settled_tree p.tree, p.depth)
 
 abbrev pub group_view : OpenGroup → Group
 group_view l = record {
   flags = l.flags;
   captured = l.captured;
-  branches = map tree_of l.branches.items;
-  parts = map tree_of l.parts.items;
+  branches = map settled_tree l.branches.items;
+  parts = map settled_tree l.parts.items;
   last = option_map part_view l.last;
   inner = l.inner;
 }
