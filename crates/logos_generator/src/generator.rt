@@ -3,8 +3,9 @@
 ghost use Rattle.std.specs.Prelude.{◌≡◌, [], IfOk, OnOk, OnErr, map, option_copied};
 ghost use Rattle.logos_graph.specs.View.{rule_of};
 ghost use Rattle.logos_code.specs.Headline.{RunsAs};
-ghost use Rattle.logos_generator.specs.GeneratorValue.{IsCopy, KeepsGiven};
+ghost use Rattle.logos_generator.specs.GeneratorValue.{code_leaf_value, leaf_value, IsCopy, KeepsGiven};
 ghost use Rattle.logos_generator.specs.Numbering.{HasNodesOf, tests_of};
+ghost use Rattle.logos_generator.specs.StateView.{leaf_use};
 
 mod fork;
 mod leaves;
@@ -96,14 +97,45 @@ impl<'g, 's> Generator<'g, 's> {
         ensures same { (self.new.given ≡ self.old.given) × (self.new.graph ≡ self.old.graph) }
         ensures error { OnErr result (self.new ≡ self.old) }
     {
-        let kept = self.kept()?;
-        let states = self.graph.iter_states();
         let mut tests = IndexSet::new(alloc);
         let mut jumps = IndexSet::new(alloc);
-        let code = code_of(alloc, &mut tests, &mut jumps, kept, self.graph, states)?;
-        self.tests = tests;
-        self.jumps = jumps;
-        Ok(code)
+        match self.code(alloc, &mut tests, &mut jumps) {
+            Ok(code) => {
+                self.tests = tests;
+                self.jumps = jumps;
+                Ok(code)
+            }
+            Err(error) => Err(error),
+        }
+    }
+
+    /// The code. Its tests and jump tables are put into empty sets, by their numbers.
+    fn code(
+        &self,
+        alloc: Global,
+        tests: &mut IndexSet<[bool; 256]>,
+        jumps: &mut IndexSet<[u32; 256]>,
+    ) -> Result<Code<'s>, AllocError>
+        requires { tests.old.keys ≡ [] }
+        ensures runs { IfOk result (λ code. RunsAs self.now.graph.states self.now.graph.utf8 code) }
+        ensures mode { IfOk result (λ code. code.utf8 ≡ self.now.graph.utf8) }
+        ensures leaves { IfOk result (λ code. code.leaves ≡ map leaf_use self.now.graph.leaves) }
+        ensures nodes { IfOk result (HasNodesOf self.now.graph.states) }
+        ensures tests { OnOk result (tests.new.keys ≡ tests_of self.now.graph.states) }
+        ensures kept { IfOk result (λ code. IsCopy self.now.given code.kept) }
+        ensures kept_leaves { IfOk result (λ code. map code_leaf_value code.kept_leaves ≡ map leaf_value self.now.graph.leaves) }
+    {
+        match self.kept() {
+            Ok(kept) => code_of(
+                alloc,
+                tests,
+                jumps,
+                kept,
+                self.graph,
+                self.graph.iter_states(),
+            ),
+            Err(error) => Err(error),
+        }
     }
 
     /// A copy of what a code keeps.

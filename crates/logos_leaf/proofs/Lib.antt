@@ -1,2 +1,3 @@
+mod LeafLemmas
 mod VariantLemmas
 pub mod agreement

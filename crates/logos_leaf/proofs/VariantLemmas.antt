@@ -5,7 +5,7 @@ use Rattle.logos_lexeme.specs.declared.lexeme.Span.{Span}
 use Rattle.logos_token.specs.Faults.{Fault}
 use Rattle.logos_token.specs.declared.token.Ident.{Ident}
 use Rattle.logos_type_params.specs.Substitution.{ParamValue, param_value, Params}
-use Rattle.logos_type_params.specs.TypeParams.{Given, given_of}
+use Rattle.logos_type_params.specs.TypeParams.{given_of}
 use Rattle.logos_type_params.specs.WrittenTypes.{params_with}
 use Rattle.logos_type_params.specs.declared.substitution.TypeParam.{TypeParam}
 use Rattle.logos_item.specs.EnumValues.{field_value, in_parenthesis}

@@ -1,5 +1,5 @@
 -- All leaves of an enum, and all faults that its parameters and attributes list, in order.
-use Rattle.std.specs.Prelude.{◌≡◌, ℕ, Bool, true, List, [], ◌∷◌, ◌++◌, map, Option, Some, None, unwrap_or, option_map}
+use Rattle.std.specs.Prelude.{◌≡◌, Bool, true, List, [], ◌∷◌, map, Some, None, unwrap_or, option_map}
 use Rattle.logos_token.specs.Faults.{Fault}
 use Rattle.logos_token.specs.Tokens.{TokenList, run_span}
 use Rattle.logos_type_params.specs.SelfFaults.{AreChecked}
@@ -11,9 +11,7 @@ use Rattle.logos_item.specs.EnumValues.{EnumValue, VariantValue}
 use Rattle.logos_item.specs.Values.{ParameterValue}
 use Rattle.logos_attribute.specs.Told.{Tells}
 use Rattle.logos_definition.specs.Attributes.{AttributeSays, parameter_told}
-use Rattle.logos_definition.specs.Definitions.{DefinitionView}
 use Rattle.logos_definition.specs.Options.{OptionsView, nothing_said}
-use Rattle.logos_pattern.specs.Leaf.{skipped}
 use Rattle.logos_subpattern.specs.Subpatterns.{AreAdded}
 use Rattle.logos_subpattern.specs.Substitution.{Stored}
 use Rattle.logos_leaf.specs.Leaves.{LeafView}

@@ -2,6 +2,7 @@
 ghost use Rattle.std.specs.Prelude.{◌≡◌, ◌++◌, IfOk, IfSome, OnOk, true, false, option_map};
 ghost use Rattle.std.specs.Prelude.{chars, string_bytes};
 ghost use Rattle.logos_hir.specs.Hir.{literal_tree};
+ghost use Rattle.logos_pattern.specs.Leaf.{KindValue};
 ghost use Rattle.logos_pattern.specs.Leaf.{pattern_tree, source_of, is_token, kind_value};
 ghost use Rattle.logos_pattern.specs.Literals.{token_of};
 ghost use Rattle.logos_attribute.specs.LiteralViews.{literal_view};
@@ -9,13 +10,14 @@ ghost use Rattle.logos_attribute.specs.Told.{Tells};
 ghost use Rattle.logos_definition.specs.DefinitionViews.{definition_view};
 ghost use Rattle.logos_subpattern.specs.PatternFaults.{IsRead};
 ghost use Rattle.logos_subpattern.specs.Subpatterns.{regex_of};
+ghost use Rattle.logos_subpattern.specs.Substitution.{subst_told};
 ghost use Rattle.logos_subpattern.specs.SubpatternViews.{names_of};
 ghost use Rattle.logos_leaf.specs.Leaves.{bytes_of, speaks_of_text, escaped_of, leaf_with};
 ghost use Rattle.logos_leaf.specs.Leaves.{token_priority, token_leaf, regex_priority, given_or};
-ghost use Rattle.logos_leaf.specs.Leaves.{greedy_faults, fitted_told, tree_told};
+ghost use Rattle.logos_leaf.specs.Leaves.{greedy_faults, tree_told};
 ghost use Rattle.logos_leaf.specs.Leaves.{IsTokenLeaf, IsRegexLeaf};
 ghost use Rattle.logos_leaf.specs.LeafViews.{leaf_view};
-ghost use Rattle.logos_leaf.specs.inside.Readings.{IsFoldedLeaf, IsWholeLeaf};
+ghost use Rattle.logos_leaf.specs.inside.Readings.{leaf_by, IsFoldedLeaf, IsWholeLeaf};
 
 use crate::fault::{list_greedy_dot, list_overflow};
 use logos_definition::definition::Definition;
@@ -184,71 +186,55 @@ fn regex_priority(definition: &Definition<'_>, pattern: &Pattern<'_>) -> Option<
     given_or(definition.priority, pattern.priority())
 }
 
-/// The leaf of a pattern with this priority; without one it is listed that its own is too large.
-fn fitted_leaf<'s>(
-    definition: Definition<'s>,
-    kind: VariantKind<'s>,
+/// A pattern and its priority: the one that is given, or its own. `None` where its own is too large,
+/// which is listed. A greedy dot is listed before, unless the definition allows it.
+fn fitted_pattern<'s>(
+    definition: &Definition<'s>,
     pattern: Pattern<'s>,
-    priority: Option<usize>,
     errors: &mut Errors,
-) -> Result<Option<Leaf<'s>>, Memory>
-    requires source { source_of pattern ≡ (token_of definition.literal).text.now }
+) -> Result<Option<(Pattern<'s>, usize)>, Memory>
+    requires source { source_of pattern ≡ (token_of definition.now.literal).text.now }
     requires regex { is_token pattern ≡ false }
-    ensures { IfOk result (λ leaf. Tells
-        (fitted_told (definition_view definition.entry) (kind_value kind.entry)
-        (pattern_tree pattern.entry) priority)
-        (option_map leaf_view leaf) errors.old errors.new) }
+    ensures made { IfOk result (λ fitted. (kind : KindValue) → Tells
+        (tree_told (definition_view definition.now) kind (pattern_tree pattern.entry))
+        (leaf_by (definition_view definition.now) kind fitted) errors.old errors.new) }
+    ensures source { IfOk result (λ fitted. IfSome fitted (λ p.
+        source_of p.0 ≡ (token_of definition.now.literal).text.now)) }
+    ensures regex { IfOk result (λ fitted. IfSome fitted (λ p. is_token p.0 ≡ false)) }
 {
+    check_greedy(definition, &pattern, errors)?;
+    let priority = regex_priority(definition, &pattern);
     let Some(priority) = priority else {
         list_overflow(definition.literal.span(), errors)?;
         return Ok(None);
     };
-    Ok(Some(leaf_with(definition, kind, pattern, priority)))
+    Ok(Some((pattern, priority)))
 }
 
-/// The leaf of a pattern, and its faults.
-fn pattern_leaf<'s>(
-    definition: Definition<'s>,
-    kind: VariantKind<'s>,
-    pattern: Pattern<'s>,
-    errors: &mut Errors,
-) -> Result<Option<Leaf<'s>>, Memory>
-    requires source { source_of pattern ≡ (token_of definition.literal).text.now }
-    requires regex { is_token pattern ≡ false }
-    ensures { IfOk result (λ leaf. Tells
-        (tree_told (definition_view definition.entry) (kind_value kind.entry)
-        (pattern_tree pattern.entry))
-        (option_map leaf_view leaf) errors.old errors.new) }
-{
-    check_greedy(&definition, &pattern, errors)?;
-    let priority = regex_priority(&definition, &pattern);
-    let leaf = fitted_leaf(definition, kind, pattern, priority, errors)?;
-    Ok(leaf)
-}
-
-/// The leaf of a text with all subpatterns put in.
-fn whole_leaf<'s>(
+/// The pattern of a text with all subpatterns put in, and its priority.
+fn whole_pattern<'s>(
     alloc: Global,
-    definition: Definition<'s>,
-    kind: VariantKind<'s>,
+    definition: &Definition<'s>,
     text: &str,
     errors: &mut Errors,
-) -> Result<Option<Leaf<'s>>, Memory>
-    ensures { IfOk result (λ leaf.
-        IsWholeLeaf (definition_view definition.entry) (kind_value kind.entry) text.now
-        (option_map leaf_view leaf) errors.old errors.new) }
+) -> Result<Option<(Pattern<'s>, usize)>, Memory>
+    ensures made { IfOk result (λ fitted. (kind : KindValue) →
+        IsWholeLeaf (definition_view definition.now) kind text.now
+        (leaf_by (definition_view definition.now) kind fitted) errors.old errors.new) }
+    ensures source { IfOk result (λ fitted. IfSome fitted (λ p.
+        source_of p.0 ≡ (token_of definition.now.literal).text.now)) }
+    ensures regex { IfOk result (λ fitted. IfSome fitted (λ p. is_token p.0 ≡ false)) }
 {
     let mode = ReadingMode {
         is_literal: false,
         unicode: speaks_of_text(&definition.literal),
         ignore_case: definition.ignore_flags.ignore_case,
     };
-    let read = read_pattern(alloc, text, &definition.literal, mode, errors)?;
-    let Some(pattern) = read else {
-        return Ok(None);
-    };
-    let leaf = pattern_leaf(definition, kind, pattern, errors)?;
-    Ok(leaf)
+    match read_pattern(alloc, text, &definition.literal, mode, errors) {
+        Ok(Some(pattern)) => fitted_pattern(definition, pattern, errors),
+        Ok(None) => Ok(None),
+        Err(Memory) => Err(Memory),
+    }
 }
 
 /// The value of a literal as the text of a pattern.
@@ -258,6 +244,45 @@ fn regex_of(alloc: Global, literal: &Literal<'_>) -> Result<String, Memory>
     match literal {
         Literal::Utf8(_) => literal.escape(alloc, false),
         Literal::Bytes(_) => literal.escape(alloc, false),
+    }
+}
+
+/// The value of a literal as the text of a pattern, with all subpatterns put in; `None` where one is
+/// missing, which was listed.
+fn whole_text(
+    alloc: Global,
+    literal: &Literal<'_>,
+    subpatterns: &Subpatterns<'_>,
+    errors: &mut Errors,
+) -> Result<Option<String>, Memory>
+    ensures { IfOk result (λ text. Tells
+        (subst_told (names_of subpatterns.now) (token_of literal.now).span
+        (chars (regex_of (literal_view literal.now).held)))
+        (option_map string_bytes text) errors.old errors.new) }
+{
+    let text = regex_of(alloc, literal)?;
+    subpatterns.subst_subpatterns(alloc, text.as_str(), literal.span(), errors)
+}
+
+/// The pattern of a `regex` or `skip`, and its priority. `None` where a subpattern is missing, where
+/// its text is no pattern, or where its priority is too large, which was listed.
+fn regex_pattern<'s>(
+    alloc: Global,
+    definition: &Definition<'s>,
+    subpatterns: &Subpatterns<'s>,
+    errors: &mut Errors,
+) -> Result<Option<(Pattern<'s>, usize)>, Memory>
+    ensures made { IfOk result (λ fitted. (kind : KindValue) →
+        IsRegexLeaf (definition_view definition.now) kind (names_of subpatterns.now)
+        (leaf_by (definition_view definition.now) kind fitted) errors.old errors.new) }
+    ensures source { IfOk result (λ fitted. IfSome fitted (λ p.
+        source_of p.0 ≡ (token_of definition.now.literal).text.now)) }
+    ensures regex { IfOk result (λ fitted. IfSome fitted (λ p. is_token p.0 ≡ false)) }
+{
+    match whole_text(alloc, &definition.literal, subpatterns, errors) {
+        Ok(Some(text)) => whole_pattern(alloc, definition, text.as_str(), errors),
+        Ok(None) => Ok(None),
+        Err(Memory) => Err(Memory),
     }
 }
 
@@ -275,11 +300,9 @@ pub fn regex_leaf<'s>(
         IsRegexLeaf (definition_view definition.entry) (kind_value kind.entry)
         (names_of subpatterns.now) (option_map leaf_view leaf) errors.old errors.new) }
 {
-    let text = regex_of(alloc, &definition.literal)?;
-    let span = definition.literal.span();
-    let whole = subpatterns.subst_subpatterns(alloc, text.as_str(), span, errors)?;
-    let Some(whole) = whole else {
-        return Ok(None);
-    };
-    whole_leaf(alloc, definition, kind, whole.as_str(), errors)
+    match regex_pattern(alloc, &definition, subpatterns, errors) {
+        Ok(Some((pattern, priority))) => Ok(Some(leaf_with(definition, kind, pattern, priority))),
+        Ok(None) => Ok(None),
+        Err(Memory) => Err(Memory),
+    }
 }

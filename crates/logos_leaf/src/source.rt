@@ -1,6 +1,8 @@
 //! All leaves of an enum, as its attributes and those of its variants say.
 ghost use Rattle.std.specs.Prelude.{◌≡◌, IfOk, OnOk, map, []};
 ghost use Rattle.logos_token.specs.Views.{tokens_of};
+ghost use Rattle.logos_type_params.specs.SelfReference.{texts};
+ghost use Rattle.logos_type_params.specs.WrittenTypes.{params_with};
 ghost use Rattle.logos_item.specs.Values.{parameter_value};
 ghost use Rattle.logos_item.specs.EnumValues.{enum_value, variant_value};
 ghost use Rattle.logos_subpattern.specs.SubpatternViews.{names_of};
@@ -11,6 +13,7 @@ ghost use Rattle.logos_leaf.specs.LeafViews.{leaf_view};
 ghost use Rattle.logos_leaf.specs.Variants.{SkipsAdd};
 ghost use Rattle.logos_leaf.specs.Sources.{ParametersSay, AttributesSay, LeavesSay};
 ghost use Rattle.logos_leaf.specs.Sources.{IsSourceRead, IsWithoutSkips, utf8_mode};
+ghost use Rattle.logos_leaf.specs.inside.Readings.{AreMadeWith};
 
 use crate::leaf::regex_leaf;
 use crate::variant::{add_variants, push_leaf};
@@ -89,6 +92,29 @@ pub fn utf8_mode(parser: &Parser<'_>) -> bool
     }
 }
 
+/// Makes the leaves of the skips that were said and of these variants, where these parameters hold
+/// themselves and these subpatterns are there.
+fn leaves_with<'s>(
+    alloc: Global,
+    variants: &[Variant<'_, 's>],
+    held: &[&'s str],
+    subpatterns: &Subpatterns<'s>,
+    parser: &mut Parser<'s>,
+) -> Result<Vec<Leaf<'s>>, Memory>
+    ensures made { IfOk result (λ leaves. AreMadeWith
+        (params_with parser.old.types (texts held.now)) (names_of subpatterns.now)
+        (map definition_view parser.old.skips.items) (map variant_value variants.now)
+        (map leaf_view leaves.items) parser.old.errors parser.new.errors) }
+    ensures kept { OnOk result (IsWithoutSkips
+        (parser_view parser.old) (parser_view parser.new)) }
+{
+    let skips = mem::replace(&mut parser.skips, Vec::new(alloc));
+    let mut leaves = Vec::new(alloc);
+    add_skips(alloc, skips, subpatterns, &mut leaves, &mut parser.errors)?;
+    add_variants(alloc, variants, held, subpatterns, parser, &mut leaves)?;
+    Ok(leaves)
+}
+
 /// Makes the leaves of what was said and of these variants.
 fn read_leaves<'s>(
     alloc: Global,
@@ -105,19 +131,26 @@ fn read_leaves<'s>(
     let held = parser.types.held_names()?;
     let mode = utf8_mode(parser);
     let list = parser.subpatterns.as_slice();
-    let subpatterns = Subpatterns::new(alloc, list, mode, &mut parser.errors)?;
-    let skips = mem::replace(&mut parser.skips, Vec::new(alloc));
-    let mut leaves = Vec::new(alloc);
-    add_skips(alloc, skips, &subpatterns, &mut leaves, &mut parser.errors)?;
-    add_variants(
-        alloc,
-        variants,
-        held.as_slice(),
-        &subpatterns,
-        parser,
-        &mut leaves,
-    )?;
-    Ok(leaves)
+    match Subpatterns::new(alloc, list, mode, &mut parser.errors) {
+        Ok(subpatterns) => leaves_with(alloc, variants, held.as_slice(), &subpatterns, parser),
+        Err(Memory) => Err(Memory),
+    }
+}
+
+/// Reads all that an enum says into a parser to which nothing was said, and makes its leaves.
+fn read_item<'s>(
+    alloc: Global,
+    item: &ItemEnum<'_, 's>,
+    parser: &mut Parser<'s>,
+) -> Result<Vec<Leaf<'s>>, Memory>
+    requires said { parser_view parser.old ≡ nothing_said }
+    requires errors { parser.old.errors ≡ [] }
+    ensures { IfOk result (λ leaves. IsSourceRead (enum_value item.now)
+        (map leaf_view leaves.items) (parser_view parser.new) parser.new.errors) }
+{
+    read_parameters(item.parameters.as_slice(), parser)?;
+    read_attributes(item.attributes, parser)?;
+    read_leaves(alloc, item.variants.as_slice(), parser)
 }
 
 /// Reads all that an enum says: its generic parameters, its attributes, its subpatterns, its skips,
@@ -128,8 +161,11 @@ pub fn read_source<'s>(alloc: Global, item: &ItemEnum<'_, 's>) -> Result<Source<
         (map leaf_view source.leaves.items) (parser_view source.parser) source.parser.errors) }
 {
     let mut parser = Parser::new(alloc);
-    read_parameters(item.parameters.as_slice(), &mut parser)?;
-    read_attributes(item.attributes, &mut parser)?;
-    let leaves = read_leaves(alloc, item.variants.as_slice(), &mut parser)?;
-    Ok(Source { leaves, parser })
+    match read_item(alloc, item, &mut parser) {
+        Ok(made) => Ok(Source {
+            leaves: made,
+            parser,
+        }),
+        Err(Memory) => Err(Memory),
+    }
 }

@@ -1,5 +1,5 @@
 -- Refusals with faults that stand.
-use Rattle.std.proofs.Common.{◌≡◌, ℕ, ◌≤◌, List, [], ◌∷◌, codes, refl, ap, inl, inr, Result, Ok, Err, IfOk, IfErr}
+use Rattle.std.proofs.Common.{◌≡◌, ℕ, ◌≤◌, List, [], ◌∷◌, codes, refl, inl, inr, Result, Ok, Err, IfOk, IfErr}
 use Rattle.logos_lexeme.specs.declared.lexeme.Span.{Span}
 use Rattle.logos_token.specs.declared.error.fault_code.FaultCode.TheVariants as codes_of
 use Rattle.logos_lexeme.specs.declared.lexeme.LexicalKind.{LexicalKind}

@@ -1,5 +1,5 @@
 -- What ends the reading of a source.
-use Rattle.std.specs.Prelude.{◌≡◌, ℕ, ◌<◌, ◌≤◌, List, [], ◌∷◌, length, codes, Result, Ok, Err}
+use Rattle.std.specs.Prelude.{◌≡◌, ℕ, ◌<◌, ◌≤◌, List, length, codes, Ok, Err}
 use Rattle.logos_lexeme.specs.declared.lexeme.Span.{Span}
 use Rattle.logos_lexeme.specs.declared.lexeme.LexicalKind.{LexicalKind}
 use Rattle.logos_lexeme.specs.declared.lexeme.LexicalKind.TheVariants.{BadCharacter, BadLiteral, Unterminated, Unbalanced}

@@ -12,7 +12,7 @@ ghost use Rattle.logos_definition.specs.ParserViews.{parser_view};
 ghost use Rattle.logos_leaf.specs.LeafViews.{leaf_view};
 ghost use Rattle.logos_source.specs.Endings.{IsShallow, too_long, EndsReading, EndsTokens};
 ghost use Rattle.logos_source.specs.Refusals.{Refuses};
-ghost use Rattle.logos_leaf.specs.Sources.{utf8_mode};
+ghost use Rattle.logos_leaf.specs.Sources.{IsSourceRead, utf8_mode};
 ghost use Rattle.logos_source.specs.Saying.{type_faults, IsItemSaid, AreTokensSaid, IsSaid};
 ghost use Rattle.logos_source.specs.Utf8Faults.{utf8_faults};
 
@@ -62,21 +62,42 @@ fn generics_said<'s>(
     parser.types.generics(&mut parser.errors)
 }
 
+/// What an enum says, whose tokens stand at this span, and of which this was read.
+fn source_said<'s>(
+    alloc: Global,
+    item: &ItemEnum<'_, 's>,
+    span: Span,
+    source: Source<'s>,
+) -> Result<Said<'s>, Memory>
+    requires { IsSourceRead (enum_value item.now) (map leaf_view source.leaves.items)
+        (parser_view source.parser) source.parser.errors }
+    ensures { IfOk result (λ said. IsItemSaid (enum_value item.now) span (ident_slice said.name)
+        said.span (map leaf_view said.leaves.items) (parser_view said.parser)
+        (option_map generics_of said.generics) said.parser.errors) }
+{
+    let Source { leaves, mut parser } = source;
+    match generics_said(alloc, leaves.as_slice(), &mut parser) {
+        Ok(generics) => Ok(Said {
+            name: item.name,
+            span,
+            generics,
+            leaves,
+            parser,
+        }),
+        Err(Memory) => Err(Memory),
+    }
+}
+
 /// What an enum says, whose tokens stand at this span.
 fn item_said<'s>(alloc: Global, item: &ItemEnum<'_, 's>, span: Span) -> Result<Said<'s>, Memory>
     ensures { IfOk result (λ said. IsItemSaid (enum_value item.now) span (ident_slice said.name)
         said.span (map leaf_view said.leaves.items) (parser_view said.parser)
         (option_map generics_of said.generics) said.parser.errors) }
 {
-    let Source { leaves, mut parser } = read_source(alloc, item)?;
-    let generics = generics_said(alloc, leaves.as_slice(), &mut parser)?;
-    Ok(Said {
-        name: item.name,
-        span,
-        generics,
-        leaves,
-        parser,
-    })
+    match read_source(alloc, item) {
+        Ok(source) => source_said(alloc, item, span, source),
+        Err(Memory) => Err(Memory),
+    }
 }
 
 /// What tokens say.

@@ -1,5 +1,5 @@
-use Rattle.std.proofs.Common.{◌≡◌, ◌∙◌, [], ◌∷◌, ◌++◌, List, ap, not, map}
-use Rattle.logos_type.specs.Parts.{Tree, whole, trees, tree_of}
+use Rattle.std.proofs.Common.{◌∙◌, [], ◌∷◌, ◌++◌, List, ap, not, map}
+use Rattle.logos_type.specs.Parts.{Tree, whole, trees}
 use Rattle.logos_type.specs.TypeTrees.{type_tree}
 use Rattle.logos_type.specs.declared.type_expr.Leaf.TheVariants.{Word, Mark}
 use Rattle.logos_type.proofs.PartTrees.{tree-Leaf, tree-Whole}

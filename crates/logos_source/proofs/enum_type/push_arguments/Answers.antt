@@ -1,4 +1,4 @@
-use Rattle.std.proofs.Common.{◌≡◌, ◌∙◌, [], ◌++◌, append_assoc, append-nil, map, sym}
+use Rattle.std.proofs.Common.{◌∙◌, append_assoc, append-nil, sym}
 use Rattle.std.proofs.lemmas.List.{nil_from_length}
 use Rattle.logos_source.proofs.enum_type.push_arguments.Goals as goal
 

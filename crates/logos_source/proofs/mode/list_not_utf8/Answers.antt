@@ -1,5 +1,3 @@
-use Rattle.std.proofs.Common.{◌≡◌, ◌∙◌, ◌∷◌, ◌++◌, ◌+◌, map, drop, ap, sym}
-use Rattle.std.proofs.lemmas.List.{at_drop_more}
 use Rattle.logos_leaf.specs.LeafViews.{leaf_view}
 use Rattle.logos_source.specs.Utf8Faults.{leaf_faults}
 use Rattle.logos_source.proofs.ModeLemmas.{adds_more}

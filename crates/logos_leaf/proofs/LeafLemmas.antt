@@ -1,0 +1,97 @@
+-- What a definition makes, by what its text is.
+use Rattle.std.proofs.Common.{◌≡◌, ◌∙◌, ℕ, List, ◌++◌, Option, Some, None, refl, sym, ap, append_assoc, append-nil}
+use Rattle.std.specs.Str.{chars}
+use Rattle.logos_token.specs.Faults.{Fault}
+use Rattle.logos_hir.specs.Tree.{Tree}
+use Rattle.logos_pattern.specs.Leaf.{KindValue}
+use Rattle.logos_attribute.specs.Told.{Told, Tells, and_then}
+use Rattle.logos_definition.specs.Definitions.{DefinitionView}
+use Rattle.logos_subpattern.specs.PatternFaults.{Reading, spelled, broken, too_deep, Reads, IsRead, tree_in, pattern_faults}
+use Rattle.logos_subpattern.specs.Substitution.{Stored}
+use Rattle.logos_leaf.specs.Leaves.{LeafView, speaks_of_text, greedy_faults, fitted_told, tree_told, reading_told, regex_priority, text_told, whole_told, IsRegexLeaf}
+use Rattle.logos_leaf.specs.inside.Readings.{IsWholeLeaf}
+
+-- faults that are listed in two steps
+adds : (old first more mid new : List Fault) → mid ≡ old ++ first → new ≡ mid ++ more → new ≡ old ++ (first ++ more)
+adds old first more mid new m n = n ∙ (ap (λ l. l ++ more) m ∙ append_assoc old first more)
+
+module _ (d : DefinitionView) (kind : KindValue) where
+  -- a greedy dot is listed first
+  pub fitted_is_told : (tree : Tree) (priority : Option ℕ) (leaf : Option LeafView) (old mid new : List Fault) → priority ≡ regex_priority d tree → mid ≡ old ++ greedy_faults d tree →
+      Tells (fitted_told d kind tree priority) leaf mid new → Tells (tree_told d kind tree) leaf old new
+  fitted_is_told tree priority leaf old mid new same greedy told =
+      let value : leaf ≡ (fitted_told d kind tree priority).value = told.0 in (
+        value ∙ ap (λ p. (fitted_told d kind tree p).value) same,
+        adds old (greedy_faults d tree) (fitted_told d kind tree (regex_priority d tree)).faults mid new greedy
+            (told.1 ∙ ap (λ p. mid ++ (fitted_told d kind tree p).faults) same),
+      )
+
+  module _ (text : List ℕ) where
+    -- its text spells a tree
+    pub spelled_whole : (tree : Tree) (leaf : Option LeafView) (old mid new : List Fault) → IsRead (speaks_of_text d.literal.held) d.ignore_case (chars text) d.literal.token.span (Some tree) old mid →
+        Tells (tree_told d kind tree) leaf mid new → IsWholeLeaf d kind text leaf old new
+    spelled_whole tree leaf old mid new read told = go read.reading read.reads read.is_tree read.lists
+      where
+        go : (reading : Reading) → Reads (speaks_of_text d.literal.held) d.ignore_case (chars text) reading → Some tree ≡ tree_in reading → mid ≡ old ++ pattern_faults d.literal.token.span reading →
+            IsWholeLeaf d kind text leaf old new
+        go (spelled t) reads is lists =
+            let same : tree ≡ t = cc in
+            let here : mid ≡ old = lists ∙ append-nil old in
+            record { reading = spelled t; reads = reads; tells = rw (same, here) at told }
+        go (broken k at) reads is lists = absurd cc
+        go too_deep reads is lists = absurd cc
+
+    -- it spells none, which was listed
+    pub unread_whole : (old new : List Fault) → IsRead (speaks_of_text d.literal.held) d.ignore_case (chars text) d.literal.token.span None old new → IsWholeLeaf d kind text None old new
+    unread_whole old new read = go read.reading read.reads read.is_tree read.lists
+      where
+        go : (reading : Reading) → Reads (speaks_of_text d.literal.held) d.ignore_case (chars text) reading → None ≡ tree_in reading → new ≡ old ++ pattern_faults d.literal.token.span reading →
+            IsWholeLeaf d kind text None old new
+        go (spelled t) reads is lists = absurd cc
+        go (broken k at) reads is lists = record { reading = broken k at; reads = reads; tells = (refl, lists) }
+        go too_deep reads is lists = record { reading = too_deep; reads = reads; tells = (refl, lists) }
+
+  module _ (names : List Stored) where
+    -- all subpatterns are there
+    pub whole_is_regex : (text : List ℕ) (leaf : Option LeafView) (old mid new : List Fault) → Tells (whole_told d names) (Some text) old mid →
+        IsWholeLeaf d kind text leaf mid new → IsRegexLeaf d kind names leaf old new
+    whole_is_regex text leaf old mid new put whole =
+        let value : Some text ≡ (whole_told d names).value = put.0 in
+        let told = whole.tells in
+        record {
+          reading = whole.reading;
+          reads = λ other e. (let same : text ≡ other = some_same (value ∙ e) in rw same at whole.reads);
+          tells = by_told (whole_told d names) value put.1 told.0 told.1;
+        }
+      where
+        some_same : {a b : List ℕ} → Some a ≡ Some b → a ≡ b
+        some_same e = cc
+
+        by_told : (told : Told (Option (List ℕ))) → Some text ≡ told.value → mid ≡ old ++ told.faults →
+            leaf ≡ (reading_told d kind whole.reading).value → new ≡ mid ++ (reading_told d kind whole.reading).faults →
+            Tells (and_then told (text_told d kind whole.reading)) leaf old new
+        by_told told e m is n = (
+          is ∙ ap (λ t. (text_told d kind whole.reading t).value) e,
+          adds old told.faults (text_told d kind whole.reading told.value).faults mid new m
+              (n ∙ ap (λ t. mid ++ (text_told d kind whole.reading t).faults) e),
+        )
+
+    -- one is missing, which was listed
+    pub missing_is_regex : (old new : List Fault) → Tells (whole_told d names) None old new → IsRegexLeaf d kind names None old new
+    missing_is_regex old new put =
+        let value : None ≡ (whole_told d names).value = put.0 in
+        record {
+          reading = too_deep;
+          reads = λ other e. absurd (some_none (value ∙ e));
+          tells = by_told (whole_told d names) value put.1;
+        }
+      where
+        some_none : {a : List ℕ} → None ≡ Some a → ⊥
+        some_none e = cc
+
+        by_told : (told : Told (Option (List ℕ))) → None ≡ told.value → new ≡ old ++ told.faults → Tells (and_then told (text_told d kind too_deep)) None old new
+        by_told told e n = (
+          ap (λ t. (text_told d kind too_deep t).value) e,
+          adds old told.faults (text_told d kind too_deep told.value).faults new new n
+              (sym (append-nil new) ∙ ap (λ t. new ++ (text_told d kind too_deep t).faults) e),
+        )
