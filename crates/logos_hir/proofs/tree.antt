@@ -5,4 +5,4 @@ pub mod PassableRows
 pub mod TreeViews
 pub mod MeasureLemmas
 pub mod BuildLemmas
-pub mod SettleLemmas
+pub mod SimplifyLemmas

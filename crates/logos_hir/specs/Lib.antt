@@ -12,4 +12,4 @@ pub mod Build
 pub mod Fold
 pub mod Property
 pub mod Operands
-pub mod Settled
+pub mod Simplest

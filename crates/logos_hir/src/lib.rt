@@ -11,4 +11,4 @@ pub mod leaf;
 pub mod measure;
 pub mod property;
 pub mod sets;
-pub mod settle;
+pub mod simplify;

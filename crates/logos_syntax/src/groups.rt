@@ -2,7 +2,7 @@
 
 ghost use Rattle.std.specs.Prelude.{◌≤◌, ◌≡◌, ◌+◌, ◌<◌, length, map, IfOk, OnOk, Some, unwrap_or, vec_len};
 ghost use Rattle.logos_hir.specs.Hir.{tree_of};
-ghost use Rattle.logos_hir.specs.Settled.{settled_tree};
+ghost use Rattle.logos_hir.specs.Simplest.{simplest_tree};
 ghost use Rattle.logos_pattern_tokens.specs.Flags.{flags_after};
 ghost use Rattle.logos_pattern_tokens.specs.Token.{opening_view, token_view, closes, opens, repeats, sets, bracketed, atom as token_atom};
 ghost use Rattle.logos_pattern_tokens.specs.bracket.Form.{Bracket};
@@ -14,7 +14,7 @@ ghost use Rattle.logos_syntax.specs.Grammar.{captures, group_tree, is_greedy};
 use crate::bracket::stack::{BracketValue, MAX_NESTING};
 use crate::translate::{atom_fits, atom_tree, one_of};
 use logos_hir::hir::Hir;
-use logos_hir::settle;
+use logos_hir::simplify;
 use logos_pattern_tokens::error::{Kind, Stop};
 use logos_pattern_tokens::token::{Atom, Change, Flags, Opening, Operator, Token};
 use std::alloc::{AllocError, Global};
@@ -106,10 +106,10 @@ fn is_greedy(flags: Flags, op: Operator) -> bool
 
 /// A group that may be a capture.
 fn group_tree(alloc: Global, captured: bool, tree: Hir) -> Result<Hir, AllocError>
-    ensures { IfOk result (λ hir. settled_tree hir ≡ group_tree captured (settled_tree tree)) }
+    ensures { IfOk result (λ hir. simplest_tree hir ≡ group_tree captured (simplest_tree tree)) }
 {
     if captured {
-        return settle::captured(alloc, tree);
+        return simplify::captured(alloc, tree);
     }
     Ok(tree)
 }
@@ -170,17 +170,17 @@ impl OpenGroup {
         self.settle()?;
         let empty = Vec::new(*self.parts.allocator());
         let parts = mem::replace(&mut self.parts, empty);
-        self.branches.push(settle::row(parts))?;
+        self.branches.push(simplify::row(parts))?;
         Ok(())
     }
 
     /// The whole group, once it is closed.
     fn finish(mut self, alloc: Global) -> Result<Hir, AllocError>
-        ensures { IfOk result (λ hir. settled_tree hir ≡ whole_tree (group_view self)) }
+        ensures { IfOk result (λ hir. simplest_tree hir ≡ whole_tree (group_view self)) }
     {
         self.next_branch()?;
         let captured = self.captured;
-        group_tree(alloc, captured, settle::either(self.branches))
+        group_tree(alloc, captured, simplify::either(self.branches))
     }
 
     /// Repeats what stands last.
@@ -200,7 +200,7 @@ impl OpenGroup {
         let depth = part.depth + 1;
         let left = part.left;
         let greedy = is_greedy(self.flags, op);
-        let tree = settle::repeated(alloc, op.least, op.most, greedy, part.tree)?;
+        let tree = simplify::repeated(alloc, op.least, op.most, greedy, part.tree)?;
         self.inner = self.inner.max(depth);
         self.last = Some(Part { tree, depth, left });
         Ok(())
@@ -361,7 +361,7 @@ impl Groups {
             });
         }
         let tree = self.top.finish(alloc)?;
-        Ok(settle::settle(alloc, tree)?)
+        Ok(simplify::simplify(alloc, tree)?)
     }
 }
 

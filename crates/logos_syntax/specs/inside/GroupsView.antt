@@ -8,20 +8,20 @@ use Rattle.logos_syntax.specs.declared.groups.Part.{Part as PartValue}
 use Rattle.logos_syntax.specs.declared.groups.OpenGroup.{OpenGroup}
 use Rattle.logos_syntax.specs.declared.groups.Groups.{Groups}
 use Rattle.logos_hir.specs.Hir.{tree_of}
-use Rattle.logos_hir.specs.Settled.{settled_tree}
+use Rattle.logos_hir.specs.Simplest.{simplest_tree}
 use Rattle.logos_pattern_tokens.specs.Token.{Token}
 use Rattle.logos_syntax.specs.Grammar.{TokenFits}
 use Rattle.logos_syntax.specs.inside.Groups.{Part, Group, State, step, whole_tree, deepest}
 
 abbrev pub part_view : PartValue → Part
-part_view p = (settled_tree p.tree, p.depth)
+part_view p = (simplest_tree p.tree, p.depth)
 
 abbrev pub group_view : OpenGroup → Group
 group_view l = record {
   flags = l.flags;
   captured = l.captured;
-  branches = map settled_tree l.branches.items;
-  parts = map settled_tree l.parts.items;
+  branches = map simplest_tree l.branches.items;
+  parts = map simplest_tree l.parts.items;
   last = option_map part_view l.last;
   inner = l.inner;
 }

@@ -4,9 +4,9 @@ use super::super::rows::judge;
 use super::asking::{push_ranges, push_tree};
 use logos_hir::build::{alternation, literal, look, repetition};
 use logos_hir::hir::{Hir, Look, Range};
-use logos_hir::settle::settle;
 use logos_hir::sets::RangeSet;
 use logos_hir::sets::operands::OperandRuns;
+use logos_hir::simplify::simplify;
 use std::alloc::Global;
 use std::process::Abort;
 
@@ -24,7 +24,7 @@ fn joined(rt: &impl Abort, alloc: Global) -> Hir {
     inner.push(look(Look::Start)).expect(rt, "memory");
     parts.push(Hir::Concat(inner)).expect(rt, "memory");
     add_literal(rt, alloc, &mut parts, b"c");
-    settle(alloc, Hir::Concat(parts)).expect(rt, "memory")
+    simplify(alloc, Hir::Concat(parts)).expect(rt, "memory")
 }
 
 /// Adds a literal without bytes, counts of which the greatest is below the least, and what is joined.

@@ -7,7 +7,7 @@ use Rattle.logos_hir.specs.Sets.{members, char_ranges, byte_ranges}
 use Rattle.logos_hir.specs.Build.{is_most, is_byteless, cut, times, repetition_of, sole_member, char_tree, byte_tree, parts_of, with_text, join, junction, in_a_row, concat_of, branches_of, all_ranges, char_ranges_of, byte_ranges_of, bytes_or, chars_or, choice_of, alternation_of}
 use Rattle.logos_hir.specs.declared.hir.Hir.{Hir}
 use Rattle.logos_hir.specs.Hir.{tree_of}
-use Rattle.logos_hir.specs.Settled.{settled, all_settled, settled_tree}
+use Rattle.logos_hir.specs.Simplest.{simplest, all_simplest, simplest_tree}
 use Rattle.logos_hir.specs.inside.BuildSteps.{part_text, add_text, add_part, add_parts}
 use Rattle.logos_hir.proofs.tree.BuildLemmas.{Part, part, is_text, is_other, list_of-trees, junction-append}
 
@@ -214,64 +214,64 @@ repetition_made least most greedy body h =
 -- ---- all trees
 
 mutual
-  settled_made : (t : Tree) → IsMade (settled t)
-  settled_made empty = empty_made
-  settled_made (literal text) = part_made (literal text) refl (is_single refl)
-  settled_made (byte_class ranges) = part_made (byte_class ranges) refl (is_single refl)
-  settled_made (char_class ranges) = part_made (char_class ranges) refl (is_single refl)
-  settled_made (look l) = part_made (look l) refl (is_single refl)
-  settled_made (repetition least most greedy body) = repetition_made least most greedy (settled body) (settled_made body)
-  settled_made (capture body) = part_made (capture (settled body)) refl (is_single refl)
-  settled_made (concat parts) = concat_made (all_settled parts) (all_made parts)
-  settled_made (alternation branches) = alternation_made (all_settled branches) (all_made branches)
+  simplest_made : (t : Tree) → IsMade (simplest t)
+  simplest_made empty = empty_made
+  simplest_made (literal text) = part_made (literal text) refl (is_single refl)
+  simplest_made (byte_class ranges) = part_made (byte_class ranges) refl (is_single refl)
+  simplest_made (char_class ranges) = part_made (char_class ranges) refl (is_single refl)
+  simplest_made (look l) = part_made (look l) refl (is_single refl)
+  simplest_made (repetition least most greedy body) = repetition_made least most greedy (simplest body) (simplest_made body)
+  simplest_made (capture body) = part_made (capture (simplest body)) refl (is_single refl)
+  simplest_made (concat parts) = concat_made (all_simplest parts) (all_made parts)
+  simplest_made (alternation branches) = alternation_made (all_simplest branches) (all_made branches)
 
-  all_made : (ts : Trees) → AreMade (all_settled ts)
+  all_made : (ts : Trees) → AreMade (all_simplest ts)
   all_made none = tt
-  all_made (also t ts) = (settled_made t, all_made ts)
+  all_made (also t ts) = (simplest_made t, all_made ts)
 
 -- the parts of a concatenation inside another one are added one by one
-pub inner_parts : (ps : List Tree) (ts : Trees) → add_parts ps (flat_map parts_of (all_settled ts)) ≡ add_parts ps (parts_of (settled (concat ts)))
+pub inner_parts : (ps : List Tree) (ts : Trees) → add_parts ps (flat_map parts_of (all_simplest ts)) ≡ add_parts ps (parts_of (simplest (concat ts)))
 inner_parts ps ts =
-    let xs = flat_map parts_of (all_settled ts) in
-    sym (ap (add_parts ps) (parts_of_row (junction xs) (parts_junction xs (flat_parts (all_settled ts) (all_made ts)))) ∙ add_joined ps xs)
+    let xs = flat_map parts_of (all_simplest ts) in
+    sym (ap (add_parts ps) (parts_of_row (junction xs) (parts_junction xs (flat_parts (all_simplest ts) (all_made ts)))) ∙ add_joined ps xs)
 
 -- one part is itself, and so is one branch
-pub one_part_is : (t : Tree) → concat_of (settled t ∷ []) ≡ settled t
-one_part_is t = ap (λ ts. in_a_row (junction ts)) (flat_map-cons parts_of (settled t) [] ∙ append-nil (parts_of (settled t))) ∙ (settled_made t).row
+pub one_part_is : (t : Tree) → concat_of (simplest t ∷ []) ≡ simplest t
+one_part_is t = ap (λ ts. in_a_row (junction ts)) (flat_map-cons parts_of (simplest t) [] ∙ append-nil (parts_of (simplest t))) ∙ (simplest_made t).row
 
-pub one_branch_is : (t : Tree) → alternation_of (settled t ∷ []) ≡ settled t
-one_branch_is t = ap choice_of (flat_map-cons branches_of (settled t) [] ∙ append-nil (branches_of (settled t))) ∙ of_choice (settled_made t).choice
+pub one_branch_is : (t : Tree) → alternation_of (simplest t ∷ []) ≡ simplest t
+one_branch_is t = ap choice_of (flat_map-cons branches_of (simplest t) [] ∙ append-nil (branches_of (simplest t))) ∙ of_choice (simplest_made t).choice
   where
-    of_choice : IsChoice (settled t) → choice_of (branches_of (settled t)) ≡ settled t
+    of_choice : IsChoice (simplest t) → choice_of (branches_of (simplest t)) ≡ simplest t
     of_choice (is_single e) = ap choice_of e
     of_choice (is_several u v rest e same) = ap choice_of e ∙ same
 
 -- ---- lists
 
-pub all_settled-push : (ts : List Tree) (t : Tree) → all_settled (trees (ts ++ t ∷ [])) ≡ all_settled (trees ts) ++ settled t ∷ []
-all_settled-push [] t = refl
-all_settled-push (u ∷ ts) t = ap (λ (xs : List Tree). settled u ∷ xs) (all_settled-push ts t)
+pub all_simplest-push : (ts : List Tree) (t : Tree) → all_simplest (trees (ts ++ t ∷ [])) ≡ all_simplest (trees ts) ++ simplest t ∷ []
+all_simplest-push [] t = refl
+all_simplest-push (u ∷ ts) t = ap (λ (xs : List Tree). simplest u ∷ xs) (all_simplest-push ts t)
 
-pub flat_settled-push : (f : Tree → List Tree) (ts : List Tree) (t : Tree) → flat_map f (all_settled (trees (ts ++ t ∷ []))) ≡ flat_map f (all_settled (trees ts)) ++ f (settled t)
-flat_settled-push f ts t =
-    ap (flat_map f) (all_settled-push ts t) ∙ flat_map-append f (all_settled (trees ts)) (settled t ∷ [])
-    ∙ ap (λ xs. flat_map f (all_settled (trees ts)) ++ xs) (flat_map-cons f (settled t) [] ∙ append-nil (f (settled t)))
+pub flat_simplest-push : (f : Tree → List Tree) (ts : List Tree) (t : Tree) → flat_map f (all_simplest (trees (ts ++ t ∷ []))) ≡ flat_map f (all_simplest (trees ts)) ++ f (simplest t)
+flat_simplest-push f ts t =
+    ap (flat_map f) (all_simplest-push ts t) ∙ flat_map-append f (all_simplest (trees ts)) (simplest t ∷ [])
+    ∙ ap (λ xs. flat_map f (all_simplest (trees ts)) ++ xs) (flat_map-cons f (simplest t) [] ∙ append-nil (f (simplest t)))
 
 -- ---- trees that are put together as they stand
 
-settled_trees : (hs : List Hir) → all_settled (trees (map tree_of hs)) ≡ map settled_tree hs
-settled_trees [] = refl
-settled_trees (h ∷ hs) = ap (λ (xs : List Tree). settled_tree h ∷ xs) (settled_trees hs)
+simplest_trees : (hs : List Hir) → all_simplest (trees (map tree_of hs)) ≡ map simplest_tree hs
+simplest_trees [] = refl
+simplest_trees (h ∷ hs) = ap (λ (xs : List Tree). simplest_tree h ∷ xs) (simplest_trees hs)
 
-pub settled_row : (hs : List Hir) → settled (in_a_row (map tree_of hs)) ≡ concat_of (map settled_tree hs)
-settled_row [] = refl
-settled_row (h ∷ []) = sym (one_part_is (tree_of h))
-settled_row (h ∷ g ∷ hs) = ap concat_of (settled_trees (h ∷ g ∷ hs))
+pub simplest_row : (hs : List Hir) → simplest (in_a_row (map tree_of hs)) ≡ concat_of (map simplest_tree hs)
+simplest_row [] = refl
+simplest_row (h ∷ []) = sym (one_part_is (tree_of h))
+simplest_row (h ∷ g ∷ hs) = ap concat_of (simplest_trees (h ∷ g ∷ hs))
 
-pub settled_branches : (hs : List Hir) → settled (alternation (trees (map tree_of hs))) ≡ alternation_of (map settled_tree hs)
-settled_branches hs = ap alternation_of (settled_trees hs)
+pub simplest_branches : (hs : List Hir) → simplest (alternation (trees (map tree_of hs))) ≡ alternation_of (map simplest_tree hs)
+simplest_branches hs = ap alternation_of (simplest_trees hs)
 
-pub sole_branch : (hs rest : List Hir) (h : Hir) → hs ≡ rest ++ h ∷ [] → length hs ≤ 1 → settled_tree h ≡ alternation_of (map settled_tree hs)
-sole_branch hs [] h e few = sym (one_branch_is (tree_of h)) ∙ ap (λ xs. alternation_of (map settled_tree xs)) (sym e)
+pub sole_branch : (hs rest : List Hir) (h : Hir) → hs ≡ rest ++ h ∷ [] → length hs ≤ 1 → simplest_tree h ≡ alternation_of (map simplest_tree hs)
+sole_branch hs [] h e few = sym (one_branch_is (tree_of h)) ∙ ap (λ xs. alternation_of (map simplest_tree xs)) (sym e)
 sole_branch hs (x ∷ []) h e few = let two : length hs ≡ 2 = ap length e in absurd (omega (arith, two, few))
 sole_branch hs (x ∷ y ∷ rest) h e few = let many : length hs ≡ length (x ∷ y ∷ (rest ++ h ∷ [])) = ap length e in absurd (omega (arith, many, few))

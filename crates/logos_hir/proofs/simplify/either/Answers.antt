@@ -1,11 +1,11 @@
 use Rattle.std.proofs.Common.{◌≤◌, length, ap, ◌∙◌, arith}
-use Rattle.logos_hir.specs.Settled.{settled}
+use Rattle.logos_hir.specs.Simplest.{simplest}
 use Rattle.logos_hir.proofs.tree.TreeViews.{tree-Alternation}
-use Rattle.logos_hir.proofs.tree.SettleLemmas.{settled_branches, sole_branch}
-use Rattle.logos_hir.proofs.settle.either.Goals as goal
+use Rattle.logos_hir.proofs.tree.SimplifyLemmas.{simplest_branches, sole_branch}
+use Rattle.logos_hir.proofs.simplify.either.Goals as goal
 
 pub returns-then-len-gt1 : goal.returns-then-len-gt1
-returns-then-len-gt1 c = ap settled (tree-Alternation c.args.branches) ∙ settled_branches c.args.branches.items
+returns-then-len-gt1 c = ap simplest (tree-Alternation c.args.branches) ∙ simplest_branches c.args.branches.items
 
 pub returns-in-Some : goal.returns-in-Some
 returns-in-Some c =
