@@ -232,7 +232,10 @@ fn whole_pattern<'s>(
     };
     match read_pattern(alloc, text, &definition.literal, mode, errors) {
         Ok(Some(pattern)) => fitted_pattern(definition, pattern, errors),
-        Ok(None) => Ok(None),
+        Ok(None) => {
+            // Why the text is no pattern stands in the list already.
+            Ok(None)
+        }
         Err(Memory) => Err(Memory),
     }
 }

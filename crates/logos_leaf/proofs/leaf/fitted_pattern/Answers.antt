@@ -1,4 +1,4 @@
-use Rattle.std.proofs.Common.{Some, None, refl, sym, ◌∙◌, append-nil}
+use Rattle.std.proofs.Common.{rules, Some, None, refl, sym, ◌∙◌, append-nil}
 use Rattle.logos_pattern.specs.Leaf.{pattern_tree}
 use Rattle.logos_definition.specs.DefinitionViews.{definition_view}
 use Rattle.logos_leaf.proofs.LeafLemmas.{fitted_is_told}
@@ -11,4 +11,4 @@ returns-clause-made c =
 
 pub returns-in_default-clause-made : goal.returns-in_default-clause-made
 returns-in_default-clause-made c =
-    λ kind. fitted_is_told (definition_view c.args.definition.now) kind (pattern_tree c.args.pattern) None None c.args.errors.now c.check_greedy.new.errors c.list_overflow.new.errors (sym c.in_default.is ∙ c.regex_priority-priority.ensures) c.in_ok-check_greedy.ensures (refl, (rw c.span.ensures at c.in_ok-list_overflow.ensures))
+    λ kind. fitted_is_told (definition_view c.args.definition.now) kind (pattern_tree c.args.pattern) None None c.args.errors.now c.check_greedy.new.errors _ (sym c.in_default.is ∙ c.regex_priority-priority.ensures) c.in_ok-check_greedy.ensures (refl, search rules)
