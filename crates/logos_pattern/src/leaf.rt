@@ -7,7 +7,7 @@ ghost use Rattle.logos_pattern.specs.declared.leaf.Callback.TheVariants as callb
 use crate::pattern::Pattern;
 pub use logos_hir::leaf::LeafId;
 use logos_token::token::{Ident, Span, TokenStream};
-use logos_type::TypeExpr;
+pub use logos_type::TypeExpr;
 use std::alloc::AllocError;
 use std::fmt;
 
