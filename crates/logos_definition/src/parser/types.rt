@@ -29,9 +29,9 @@ impl<'s> Parser<'s> {
         if self.failed {
             return Err(Memory);
         }
-        let ended = self.types.generics(&mut self.errors);
-        self.failed = ended.is_err();
-        ended
+        let outcome = self.types.generics(&mut self.errors);
+        self.failed = outcome.is_err();
+        outcome
     }
 
     /// What becomes of a written type, without asking whether the parser has failed.
@@ -63,8 +63,8 @@ impl<'s> Parser<'s> {
         if self.failed {
             return Err(Memory);
         }
-        let ended = self.written_type(written, span);
-        self.failed = ended.is_err();
-        ended
+        let outcome = self.written_type(written, span);
+        self.failed = outcome.is_err();
+        outcome
     }
 }
