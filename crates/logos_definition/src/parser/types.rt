@@ -44,7 +44,7 @@ impl<'s> Parser<'s> {
         let held = self.types.held_names()?;
         let got = self
             .types
-            .get_type(held.as_slice(), written, span, &mut self.errors)?;
+            .get_type(&held, written, span, &mut self.errors)?;
         Ok(got)
     }
 

@@ -2,6 +2,7 @@
 
 use super::super::rows::push;
 use super::super::tokens::push_faults;
+use indexmap::{IndexMap, IndexSet};
 use logos_attribute::nested::{AttributeParser, Nested, NestedValue};
 use logos_definition::parser::Parser;
 use logos_token::error::FaultCode;
@@ -59,16 +60,23 @@ fn part_of<'s>(rt: &impl Abort, alloc: Global, run: Tokens<'_, 's>) -> Part<'s> 
     type_expr.part
 }
 
-/// The types that are assigned to names, one after another.
-fn given<'s>(rt: &impl Abort, alloc: Global, run: Tokens<'_, 's>) -> Vec<TypeParam<'s>> {
-    let mut types = Vec::new(alloc);
+/// The types that are assigned to names, by name: of each name the first one.
+fn given<'s>(
+    rt: &impl Abort,
+    alloc: Global,
+    run: Tokens<'_, 's>,
+) -> IndexMap<&'s str, TypeParam<'s>> {
+    let mut types = IndexMap::new(alloc);
     for nested in AttributeParser::new(run) {
         if let Nested::Named(name, NestedValue::Assign(run)) = nested {
-            let part = part_of(rt, alloc, run);
-            let span = run.span();
-            types
-                .push(TypeParam { name, part, span })
-                .expect(rt, "memory");
+            let param = TypeParam {
+                at: name.span,
+                part: part_of(rt, alloc, run),
+                span: run.span(),
+            };
+            if !types.contains_key(name.text) {
+                let _none = types.insert(name.text, param).expect(rt, "memory");
+            }
         }
     }
     types
@@ -79,13 +87,13 @@ fn push_held<'s>(
     rt: &impl Abort,
     alloc: Global,
     out: &mut String,
-    types: &[TypeParam<'s>],
-) -> Vec<&'s str> {
-    let mut held = Vec::new(alloc);
-    for param in types {
-        if holds_itself(alloc, types, param.name.text).expect(rt, "memory") {
-            held.push(param.name.text).expect(rt, "memory");
-            push(rt, out, param.name.text);
+    types: &IndexMap<&'s str, TypeParam<'s>>,
+) -> IndexSet<&'s str> {
+    let mut held = IndexSet::new(alloc);
+    for text in types.keys() {
+        if holds_itself(alloc, types, text).expect(rt, "memory") {
+            let _added = held.insert(*text).expect(rt, "memory");
+            push(rt, out, text);
             push(rt, out, " ");
         }
     }
