@@ -45,12 +45,18 @@ fn carry_out<'w, F: Files, O: Write>(
     }
 }
 
-/// Writes a text to standard output.
+/// Writes a text to standard output, and flushes that.
 fn write_out<O: Write>(text: &str, out: &mut O) -> Result<(), Failure<'static>> {
-    match out.write_all(text.as_bytes()) {
+    match write_through(text, out) {
         Ok(()) => Ok(()),
         Err(_) => Err(Failure::Output),
     }
+}
+
+/// Writes a text whole, and then flushes the writer, which may hold it back until then.
+fn write_through<O: Write>(text: &str, out: &mut O) -> io::Result<()> {
+    out.write_all(text.as_bytes())?;
+    out.flush()
 }
 
 /// Writes a text to a file.
@@ -78,5 +84,6 @@ fn usage<E: Write>(err: &mut E) -> u8
     ensures { result ≡ 2 }
 {
     let _ = writeln!(err, "usage: logos gen|lex|strip|mermaid|export FILE ..");
+    let _ = err.flush();
     2
 }
