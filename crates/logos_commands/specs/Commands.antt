@@ -1,5 +1,5 @@
 -- What the program's words ask for, and the status of what it cannot do.
-use Rattle.std.specs.Prelude.{◌≡◌, ◌∷◌, [], ℕ, List, Option, Some, None, true, false, if◌then◌else◌, option_map, bytes_eq, codes}
+use Rattle.std.specs.Prelude.{◌∷◌, [], ℕ, List, Option, Some, None, true, false, if◌then◌else◌, option_map, bytes_eq, codes}
 use Rattle.logos_code.specs.declared.code.Config.{Config}
 use Rattle.logos_codegen.specs.declared.lexing.LexSourceError.{LexSourceError}
 use Rattle.logos_codegen.specs.declared.lexing.LexSourceError.TheVariants as errors

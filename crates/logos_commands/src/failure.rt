@@ -92,8 +92,17 @@ impl From<LexSourceError> for Failure<'_> {
     }
 }
 
-/// Writes the failure's lines, and gives its status.
+/// Writes the failure's lines, flushes the writer, and gives the failure's status. What the writer answers changes nothing.
 pub(super) fn report<E: Write>(failure: &Failure<'_>, err: &mut E) -> u8
+    ensures { result ≡ status_of failure.now }
+{
+    let status = write_lines(failure, err);
+    let _ = err.flush();
+    status
+}
+
+/// Writes the failure's lines, and gives its status.
+fn write_lines<E: Write>(failure: &Failure<'_>, err: &mut E) -> u8
     ensures { result ≡ status_of failure.now }
 {
     match failure {

@@ -1,7 +1,11 @@
 //! What the commands give.
 
-ghost use Rattle.std.specs.Prelude.{◌≡◌, IfErr, IfOk, option_map, string_bytes};
+ghost use Rattle.std.specs.Prelude.{◌≡◌, ◌≢◌, IfErr, IfOk, option_map, string_bytes};
 ghost use Rattle.logos_commands.specs.Charts.{FailsAt, IsChartAt, destination_said, file_at};
+ghost use Rattle.logos_commands.specs.Commands.{command_asked, status_of};
+ghost use Rattle.logos_commands.specs.Runs.{IsDone, IsDenied, IsFaultless, IsLexed, IsStrippable};
+ghost use Rattle.logos_commands.specs.Runs.{ReadsSome, ReadsBoth};
+ghost use Rattle.logos_commands.specs.Runs.{RefusesExport, RefusesInput, RefusesLexer, RefusesStripping};
 
 use crate::chart_path::chart_path;
 use crate::command::Command;
@@ -44,7 +48,11 @@ pub(super) fn outcome_of<'w, F: Files>(
     alloc: Global,
     command: Command<'w>,
     files: &mut F,
-) -> Result<Outcome, Failure<'w>> {
+) -> Result<Outcome, Failure<'w>>
+    ensures done { IfOk result (λ outcome. IsDone F.read_gives (command_asked command.entry) files.old) }
+    ensures denied { IfErr result (λ failure. status_of failure ≡ 1 →
+        IsDenied F.read_gives (command_asked command.entry) files.old failure) }
+{
     match command {
         Command::Text { file, config } => of_file(alloc, file, config, Asked::Text, files),
         Command::Items {
@@ -59,7 +67,10 @@ pub(super) fn outcome_of<'w, F: Files>(
 }
 
 /// All bytes of a file.
-fn read<'w, F: Files>(path: &'w str, files: &mut F) -> Result<Vec<u8>, Failure<'w>> {
+fn read<'w, F: Files>(path: &'w str, files: &mut F) -> Result<Vec<u8>, Failure<'w>>
+    ensures ok { IfOk result (λ bytes. F.read_gives files.old path.now bytes.items files.new) }
+    ensures err { IfErr result (λ failure. status_of failure ≡ 3) }
+{
     match files.read(path) {
         Ok(bytes) => Ok(bytes),
         Err(FileError::Failed) => Err(Failure::Read(path)),
@@ -68,7 +79,10 @@ fn read<'w, F: Files>(path: &'w str, files: &mut F) -> Result<Vec<u8>, Failure<'
 }
 
 /// The text of a file.
-fn read_text<'w, F: Files>(path: &'w str, files: &mut F) -> Result<String, Failure<'w>> {
+fn read_text<'w, F: Files>(path: &'w str, files: &mut F) -> Result<String, Failure<'w>>
+    ensures ok { IfOk result (λ text. F.read_gives files.old path.now (string_bytes text) files.new) }
+    ensures err { IfErr result (λ failure. status_of failure ≡ 3) }
+{
     let Ok(text) = String::from_utf8(read(path, files)?) else {
         return Err(Failure::Read(path));
     };
@@ -82,7 +96,11 @@ fn of_file<'w, F: Files>(
     config: Config,
     asked: Asked,
     files: &mut F,
-) -> Result<Outcome, Failure<'w>> {
+) -> Result<Outcome, Failure<'w>>
+    ensures done { IfOk result (λ outcome. ReadsSome F.read_gives files.old file.now IsFaultless) }
+    ensures denied { IfErr result (λ failure. status_of failure ≡ 1 →
+        ReadsSome F.read_gives files.old file.now (λ source. RefusesLexer source asked failure)) }
+{
     let source = read_text(file, files)?;
     of_source(alloc, source.as_str(), config, asked)
 }
@@ -93,7 +111,11 @@ fn of_source(
     source: &str,
     config: Config,
     asked: Asked,
-) -> Result<Outcome, Failure<'static>> {
+) -> Result<Outcome, Failure<'static>>
+    ensures done { IfOk result (λ outcome. IsFaultless source.now) }
+    ensures denied { IfErr result (λ failure. status_of failure ≡ 1 →
+        RefusesLexer source.now asked failure) }
+{
     match generate(alloc, source, config) {
         Ok(made) => of_lexer(alloc, &made, asked),
         Err(refusal) => Err(Failure::from(refusal)),
@@ -101,11 +123,11 @@ fn of_source(
 }
 
 /// What is asked for of a lexer that was made.
-fn of_lexer(
-    alloc: Global,
-    made: &Generated<'_>,
-    asked: Asked,
-) -> Result<Outcome, Failure<'static>> {
+fn of_lexer(alloc: Global, made: &Generated<'_>, asked: Asked) -> Result<Outcome, Failure<'static>>
+    ensures plain { asked ≢ Asked.Export → IfErr result (λ failure. status_of failure ≡ 3) }
+    ensures export { IfErr result (λ failure. status_of failure ≡ 1 → RefusesExport
+        (destination_said (option_map string_bytes made.now.export_path) made.now.name.text.now) failure) }
+{
     match asked {
         Asked::Text => Ok(Outcome::Text(text_of_lexer(alloc, made)?)),
         Asked::Chart => Ok(Outcome::Text(tested_chart(alloc, &made.graph)?)),
@@ -114,7 +136,9 @@ fn of_lexer(
 }
 
 /// The Rust text of a lexer that was made, and LF.
-fn text_of_lexer(alloc: Global, made: &Generated<'_>) -> Result<String, Failure<'static>> {
+fn text_of_lexer(alloc: Global, made: &Generated<'_>) -> Result<String, Failure<'static>>
+    ensures { IfErr result (λ failure. status_of failure ≡ 3) }
+{
     let mut text = made.text(alloc)?;
     text.push('\n')?;
     Ok(text)
@@ -125,7 +149,11 @@ fn stripped<'w, F: Files>(
     alloc: Global,
     file: &'w str,
     files: &mut F,
-) -> Result<String, Failure<'w>> {
+) -> Result<String, Failure<'w>>
+    ensures done { IfOk result (λ text. ReadsSome F.read_gives files.old file.now IsStrippable) }
+    ensures denied { IfErr result (λ failure. status_of failure ≡ 1 →
+        ReadsSome F.read_gives files.old file.now (λ source. RefusesStripping source failure)) }
+{
     let source = read_text(file, files)?;
     let mut text = stripped_source(alloc, source.as_str())?;
     text.push('\n')?;
@@ -133,7 +161,11 @@ fn stripped<'w, F: Files>(
 }
 
 /// What is left of a source without what belongs to the derive macro.
-fn stripped_source(alloc: Global, source: &str) -> Result<String, Failure<'static>> {
+fn stripped_source(alloc: Global, source: &str) -> Result<String, Failure<'static>>
+    ensures done { IfOk result (λ text. IsStrippable source.now) }
+    ensures denied { IfErr result (λ failure. status_of failure ≡ 1 →
+        RefusesStripping source.now failure) }
+{
     let left = strip_attributes(alloc, source)?;
     Ok(print(alloc, left.run())?)
 }
@@ -145,18 +177,40 @@ fn items<'w, F: Files>(
     input: &'w str,
     config: Config,
     files: &mut F,
-) -> Result<String, Failure<'w>> {
+) -> Result<String, Failure<'w>>
+    ensures done { IfOk result (λ text.
+        ReadsBoth F.read_gives files.old file.now input.now IsLexed) }
+    ensures denied { IfErr result (λ failure. status_of failure ≡ 1 →
+        ReadsBoth F.read_gives files.old file.now input.now (λ source bytes.
+        RefusesInput source bytes failure)) }
+{
     let source = read_text(file, files)?;
     let bytes = read(input, files)?;
+    items_of(alloc, source.as_str(), bytes.as_slice(), config)
+}
+
+/// A line for each item of an input, by a source.
+fn items_of(
+    alloc: Global,
+    source: &str,
+    input: &[u8],
+    config: Config,
+) -> Result<String, Failure<'static>>
+    ensures done { IfOk result (λ text. IsLexed source.now input.now) }
+    ensures denied { IfErr result (λ failure. status_of failure ≡ 1 →
+        RefusesInput source.now input.now failure) }
+{
     let emit = |_leaf, _slice: &[u8]| Action::Emit;
-    let items = lex_source(alloc, source.as_str(), config, bytes.as_slice(), emit)?;
+    let items = lex_source(alloc, source, config, input, emit)?;
     Ok(lines_of(alloc, items.as_slice())?)
 }
 
 /// The chart of the graph of a lexer that was made, for the file that its source names.
 fn export_of_lexer(alloc: Global, made: &Generated<'_>) -> Result<Outcome, Failure<'static>>
-    ensures { IfOk result (IsChartAt
+    ensures chart { IfOk result (IsChartAt
         (destination_said (option_map string_bytes made.now.export_path) made.now.name.text.now)) }
+    ensures denied { IfErr result (λ failure. status_of failure ≡ 1 → RefusesExport
+        (destination_said (option_map string_bytes made.now.export_path) made.now.name.text.now) failure) }
 {
     let path = path_of_chart(alloc, made)?;
     let text = tested_chart(alloc, &made.graph)?;
@@ -177,13 +231,17 @@ fn path_of_chart(alloc: Global, made: &Generated<'_>) -> Result<String, Failure<
 }
 
 /// The chart of a graph, once each state is told apart from the next.
-fn tested_chart(alloc: Global, graph: &Graph<'_>) -> Result<String, Failure<'static>> {
+fn tested_chart(alloc: Global, graph: &Graph<'_>) -> Result<String, Failure<'static>>
+    ensures { IfErr result (λ failure. status_of failure ≡ 3) }
+{
     test_neighbours(alloc, graph)?;
     Ok(graph.get_mermaid(alloc)?)
 }
 
 /// Refuses a graph in which a state is like the next.
-fn test_neighbours(alloc: Global, graph: &Graph<'_>) -> Result<(), Failure<'static>> {
+fn test_neighbours(alloc: Global, graph: &Graph<'_>) -> Result<(), Failure<'static>>
+    ensures { IfErr result (λ failure. status_of failure ≡ 3) }
+{
     let mut before: Option<State> = None;
     for state in graph.iter_states() {
         if let Some(last) = before {
@@ -195,7 +253,9 @@ fn test_neighbours(alloc: Global, graph: &Graph<'_>) -> Result<(), Failure<'stat
 }
 
 /// Refuses two different states that nothing tells apart.
-fn test_pair(alloc: Global, graph: &Graph<'_>, s: State, t: State) -> Result<(), Failure<'static>> {
+fn test_pair(alloc: Global, graph: &Graph<'_>, s: State, t: State) -> Result<(), Failure<'static>>
+    ensures { IfErr result (λ failure. status_of failure ≡ 3) }
+{
     let is_pair = graph.contains(s) & graph.contains(t);
     if !is_pair || s.index() == t.index() {
         return Ok(());

@@ -1,7 +1,10 @@
 //! From words to a status: what a command gives is written, or why it is not done.
 
 ghost use Rattle.std.specs.Prelude.{◌≡◌, ◌≤◌, ◌⊎◌, ◌↔◌, None, map, string_bytes};
-ghost use Rattle.logos_commands.specs.Commands.{asked};
+ghost use Rattle.std.specs.Prelude.{IfErr, IfSome, OnOk};
+ghost use Rattle.logos_commands.specs.Commands.{asked, command_asked, status_of};
+ghost use Rattle.logos_commands.specs.Runs.{IsDone, IsDenied};
+ghost use Rattle.logos_commands.specs.declared.failure.Failure.{Failure as Why};
 
 use crate::command::{Command, command_of};
 use crate::failure::{Failure, report};
@@ -9,7 +12,7 @@ use crate::files::{FileError, Files};
 use crate::outcome::{Outcome, outcome_of};
 use std::alloc::Global;
 use std::io;
-use std::io::Write;
+use std::io::{ErrorKind, Write};
 
 /// Runs the command that the words name, and gives the exit status: 0 done, 1 refused, 2 for words
 /// that are no command, 3 files or memory. What is said at a status above 0 goes to `err`.
@@ -21,6 +24,12 @@ pub fn run<F: Files, O: Write, E: Write>(
     err: &mut E,
 ) -> u8
     ensures usage { (result ≡ 2) ↔ (asked (map string_bytes words.now) ≡ None) }
+    // Where all is done, the files gave a source that is accepted, and for `lex` an input of it.
+    ensures done { result ≡ 0 → IfSome (asked (map string_bytes words.now))
+        (λ command. IsDone F.read_gives command files.old) }
+    // A refusal stands: of what the files gave, or of the path of a chart.
+    ensures denied { result ≡ 1 → IfSome (asked (map string_bytes words.now))
+        (λ command. (failure : Why) × IsDenied F.read_gives command files.old failure) }
     ensures known { result ≤ 3 }
 {
     let Some(command) = command_of(words) else {
@@ -38,23 +47,37 @@ fn carry_out<'w, F: Files, O: Write>(
     command: Command<'w>,
     files: &mut F,
     out: &mut O,
-) -> Result<(), Failure<'w>> {
+) -> Result<(), Failure<'w>>
+    ensures done { OnOk result (IsDone F.read_gives (command_asked command.entry) files.old) }
+    ensures denied { IfErr result (λ failure. status_of failure ≡ 1 →
+        IsDenied F.read_gives (command_asked command.entry) files.old failure) }
+{
     match outcome_of(alloc, command, files)? {
         Outcome::Text(text) => write_out(text.as_str(), out),
         Outcome::Chart { path, text } => write_file(path, text.as_str(), files),
     }
 }
 
-/// Writes a text to standard output.
-fn write_out<O: Write>(text: &str, out: &mut O) -> Result<(), Failure<'static>> {
-    match out.write_all(text.as_bytes()) {
+/// Writes a text to standard output, and flushes that.
+fn write_out<O: Write>(text: &str, out: &mut O) -> Result<(), Failure<'static>>
+    ensures { IfErr result (λ failure. status_of failure ≡ 3) }
+{
+    match write_through(text, out) {
         Ok(()) => Ok(()),
         Err(_) => Err(Failure::Output),
     }
 }
 
+/// Writes a text whole, and then flushes the writer, which may hold it back until then.
+fn write_through<O: Write>(text: &str, out: &mut O) -> io::Result<()> {
+    out.write_all(text.as_bytes())?;
+    out.flush()
+}
+
 /// Writes a text to a file.
-fn write_file<F: Files>(path: String, text: &str, files: &mut F) -> Result<(), Failure<'static>> {
+fn write_file<F: Files>(path: String, text: &str, files: &mut F) -> Result<(), Failure<'static>>
+    ensures { IfErr result (λ failure. status_of failure ≡ 3) }
+{
     match files.write(path.as_str(), text.as_bytes()) {
         Ok(()) => Ok(()),
         Err(FileError::Failed) => Err(Failure::Write(path)),
@@ -64,11 +87,12 @@ fn write_file<F: Files>(path: String, text: &str, files: &mut F) -> Result<(), F
 
 /// Says why there are no words, and gives the exit status: 3 where there was no memory for them, and else 2, since a word is
 /// no text.
-pub fn refuse_words<E: Write>(why: io::ErrorKind, err: &mut E) -> u8
-    ensures { (result ≡ 2) ⊎ (result ≡ 3) }
+pub fn refuse_words<E: Write>(why: ErrorKind, err: &mut E) -> u8
+    ensures memory { (result ≡ 3) ↔ (why ≡ ErrorKind.OutOfMemory) }
+    ensures known { (result ≡ 2) ⊎ (result ≡ 3) }
 {
     match why {
-        io::ErrorKind::OutOfMemory => report(&Failure::Memory, err),
+        ErrorKind::OutOfMemory => report(&Failure::Memory, err),
         _ => usage(err),
     }
 }
@@ -78,5 +102,6 @@ fn usage<E: Write>(err: &mut E) -> u8
     ensures { result ≡ 2 }
 {
     let _ = writeln!(err, "usage: logos gen|lex|strip|mermaid|export FILE ..");
+    let _ = err.flush();
     2
 }

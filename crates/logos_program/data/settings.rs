@@ -2,6 +2,7 @@
 #[derive(Logos, Clone, Debug, PartialEq)]
 #[logos(
     crate = lexing::logos,
+    utf8 = true,
     extras = Lines,
     error(ReadError<'s>, ReadError::of),
     export_dir = "charts/",

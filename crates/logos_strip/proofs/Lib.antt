@@ -1,3 +1,4 @@
 mod WritingLemmas
 mod once
 mod again
+mod CompleteLemmas

@@ -1,3 +1,4 @@
 pub mod ShapeLemmas
 pub mod EntryLemmas
 pub mod OnceLemmas
+pub mod BareLemmas

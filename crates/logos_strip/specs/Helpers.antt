@@ -2,7 +2,7 @@
 use Rattle.std.specs.Prelude.{ℕ, ◌==◌, ◌&&◌, ◌||◌, not, if◌then◌else◌, Bool, true, false, List, Option, Some, None, codes}
 use Rattle.std.specs.Str.{bytes_eq}
 use Rattle.logos_lexeme.specs.declared.lexeme.Delimiter.TheVariants.{Bracket}
-use Rattle.logos_token.specs.Tokens.{Token, identifier, punctuation, literal, doc, group, TokenList, none, also}
+use Rattle.logos_token.specs.Tokens.{Token, identifier, punctuation, group, TokenList, none, also}
 use Rattle.logos_item.specs.Marks.{comma, hash, colon, begins_with}
 use Rattle.logos_item.specs.Attributes.{is_path_mark}
 

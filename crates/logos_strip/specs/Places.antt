@@ -1,9 +1,10 @@
--- What goes from an enum, by where it stands.
-use Rattle.std.specs.Prelude.{ℕ, ◌==◌, if◌then◌else◌, Bool, true, false, Option, Some, None, codes}
+-- What goes from an enum, by where it stands. A run is read from the left, and the place of a token tells what it may be: behind attributes comes what they
+-- stand in front of, and behind a comma attributes may stand again.
+use Rattle.std.specs.Prelude.{◌==◌, if◌then◌else◌, Bool, true, false, Option, Some, None, codes}
 use Rattle.std.specs.Str.{bytes_eq}
 use Rattle.logos_lexeme.specs.declared.lexeme.Delimiter.{Delimiter}
 use Rattle.logos_lexeme.specs.declared.lexeme.Delimiter.TheVariants.{Bracket, Brace}
-use Rattle.logos_token.specs.Tokens.{Token, identifier, punctuation, literal, doc, group, TokenList, none, also}
+use Rattle.logos_token.specs.Tokens.{Token, identifier, punctuation, doc, group, TokenList}
 use Rattle.logos_item.specs.Marks.{hash, is_none}
 use Rattle.logos_strip.specs.declared.places.Scope.{Scope}
 use Rattle.logos_strip.specs.declared.places.Scope.TheVariants.{Enum, Attribute, Derives, Variants, Fields}
@@ -27,7 +28,8 @@ goes scope Gone run = true
 goes scope Named run = false
 goes scope Within run = false
 
--- the place behind a token of a part, where parts are parted by commas of either spacing
+-- The place behind a token of a part, where parts are parted by commas of either spacing. One between the angle brackets of a type is counted too: behind that no
+-- attribute can stand, so nothing goes there.
 abbrev pub behind_part : Place → Token → Place
 behind_part other token = if is_comma token then Open else other
 

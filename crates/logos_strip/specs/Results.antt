@@ -1,6 +1,6 @@
 -- What is left of a source.
-use Rattle.std.specs.Prelude.{◌≡◌, ℕ, List, Ok}
-use Rattle.logos_token.specs.Tokens.{TokenList}
+use Rattle.std.specs.Prelude.{◌≡◌, ◌≤◌, ℕ, List, length, Ok}
+use Rattle.logos_token.specs.Tokens.{TokenList, depth_of}
 use Rattle.logos_token.specs.Spelling.{Spells}
 use Rattle.logos_item.specs.Enum.{Reads}
 use Rattle.logos_item.specs.EnumValues.{EnumValue}
@@ -17,3 +17,12 @@ pub record IsStripped (source : List ℕ) (left : TokenList) : Type 0 where
   pub tokens : TokenList
   pub spelled : Spells source tokens
   pub stripped : AreStripped tokens left
+
+-- the source spells an enum, and is within the limits of its length and of the nesting of its delimiters
+pub record SpellsEnum (source : List ℕ) : Type 0 where
+  pub tokens : TokenList
+  pub enum : EnumValue
+  pub spelled : Spells source tokens
+  pub reads : Reads tokens (Ok enum)
+  pub short : length source ≤ 16777216
+  pub shallow : depth_of tokens ≤ 128

@@ -1,7 +1,7 @@
 -- What is left of an enum without what belongs to the derive macro.
 use Rattle.std.specs.Prelude.{List, [], ◌∷◌, Option, Some, None, if◌then◌else◌}
 use Rattle.logos_lexeme.specs.declared.lexeme.Spacing.TheVariants.{Alone}
-use Rattle.logos_token.specs.Tokens.{Token, identifier, punctuation, literal, doc, group, TokenList, none, also}
+use Rattle.logos_token.specs.Tokens.{Token, punctuation, group, TokenList, none, also}
 use Rattle.logos_strip.specs.declared.places.Scope.{Scope}
 use Rattle.logos_strip.specs.declared.places.Scope.TheVariants.{Enum}
 use Rattle.logos_strip.specs.declared.places.Place.{Place}

@@ -4,9 +4,9 @@ ghost use Rattle.logos_token.specs.Faults.{Fault};
 ghost use Rattle.logos_token.specs.Views.{stream_tokens};
 ghost use Rattle.logos_item.specs.EnumValues.{EnumValue};
 ghost use Rattle.logos_source.specs.Endings.{too_long, EndsReading, EndsTokens};
-ghost use Rattle.logos_source.specs.Refusals.{Refuses};
+ghost use Rattle.logos_source.specs.Refusals.{Refuses, IsMemory};
 ghost use Rattle.logos_strip.specs.Stripping.{stripped};
-ghost use Rattle.logos_strip.specs.Results.{AreStripped, IsStripped};
+ghost use Rattle.logos_strip.specs.Results.{AreStripped, IsStripped, SpellsEnum};
 
 use crate::places::Scope;
 use crate::walk::strip_run;
@@ -49,6 +49,8 @@ pub fn strip_attributes<'s>(alloc: Global, src: &'s str) -> Result<TokenStream<'
         × (faults ≡ ending ∷ []))) }
     ensures long { 16777216 < length src.now →
         IsErrAnd result (Refuses (λ faults. faults ≡ too_long src.now ∷ [])) }
+    // A source that spells an enum, within the limits, is not refused.
+    ensures complete { SpellsEnum src.now → IfErr result IsMemory }
 {
     match tokenize(alloc, src) {
         Ok(stream) => strip_tokens(alloc, &stream),

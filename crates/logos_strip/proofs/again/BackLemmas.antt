@@ -1,5 +1,5 @@
 -- What is printed of what is left of a source spells it again.
-use Rattle.std.proofs.Common.{◌≡◌, ◌≢◌, ℕ, ◌⊎◌, inl, inr, Bool, true, false, List, [], ◌∷◌, ◌++◌, map, length, drop, slice_index, slice_range, IsUtf8, encode_utf8, refl, sym, ◌∙◌, ap, subst, arith}
+use Rattle.std.proofs.Common.{◌≡◌, ◌≢◌, ℕ, ◌⊎◌, inl, inr, Bool, true, List, [], ◌∷◌, ◌++◌, map, length, drop, slice_index, slice_range, IsUtf8, encode_utf8, refl, sym, ◌∙◌, ap, subst, arith}
 use Rattle.std.proofs.lemmas.Bool.{false≢true}
 use Rattle.std.proofs.lemmas.Str.{IsCharBoundary-start, encode_ascii}
 use Rattle.std.specs.Str.{IsCharBoundary}
@@ -9,13 +9,13 @@ use Rattle.logos_lexeme.specs.declared.lexeme.Spacing.TheVariants.{Alone, Joint}
 use Rattle.logos_lexeme.specs.declared.lexeme.Kind.{Kind}
 use Rattle.logos_lexeme.specs.declared.lexeme.Kind.TheVariants.{Gap, Identifier, Literal, Doc, Punctuation, Opening, Closing}
 use Rattle.logos_lexeme.specs.Lexemes.{IsNext}
-use Rattle.logos_token.specs.Tokens.{Token, punctuation, TokenList}
+use Rattle.logos_token.specs.Tokens.{punctuation, TokenList}
 use Rattle.logos_token.specs.Spelling.{Piece, Pieces, Lexeme, leaf, lexeme_of, seen, lexemes, Spells}
 use Rattle.logos_token.specs.Printing.{Part, printed}
 use Rattle.logos_token.specs.PrintedAgain.{SpellsAgain}
 use Rattle.logos_token.proofs.reading.PieceLemmas.{piece-boundary}
 use Rattle.logos_token.proofs.printing.PrintParts.{parts, after, bare_lexeme, printed-lexemes, rebuilt-whole}
-use Rattle.logos_token.proofs.printing.PrintPieces.{gap_of, Follows, Joined, HasText}
+use Rattle.logos_token.proofs.printing.PrintPieces.{Follows, Joined, HasText}
 use Rattle.logos_token.proofs.printing.PrintSources.{has_text, has_joints, has_docs, has_no_space}
 use Rattle.logos_item.specs.Marks.{comma}
 use Rattle.logos_strip.specs.declared.places.Scope.TheVariants.{Enum}

@@ -1,8 +1,8 @@
 -- A comma with a space, a line feed or nothing behind it is a comma alone.
-use Rattle.std.proofs.Common.{◌≡◌, ℕ, ◌+◌, ◌<◌, ◌≤◌, ◌==◌, ◌||◌, ◌⊎◌, inl, inr, Bool, true, false, List, length, get_or, Option, Some, None, refl, sym, ◌∙◌, ap, arith}
-use Rattle.std.proofs.lemmas.Bool.{cases_Bool, false≢true}
+use Rattle.std.proofs.Common.{◌≡◌, ℕ, ◌+◌, ◌⊎◌, inl, inr, false, List, length, get_or, Some, None, refl, sym, ◌∙◌, arith}
+use Rattle.std.proofs.lemmas.Bool.{cases_Bool}
 use Rattle.std.proofs.lemmas.List.{get_or_past}
-use Rattle.logos_lexeme.specs.declared.lexeme.Spacing.TheVariants.{Alone, Joint}
+use Rattle.logos_lexeme.specs.declared.lexeme.Spacing.TheVariants.{Alone}
 use Rattle.logos_lexeme.specs.declared.lexeme.Kind.TheVariants.{Punctuation}
 use Rattle.logos_lexeme.specs.declared.lexeme.openings.Opening.TheVariants.{Single}
 use Rattle.logos_lexeme.specs.LexemeCharacters.{character, past, is_space, is_start, is_mark}

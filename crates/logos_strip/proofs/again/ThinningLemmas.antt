@@ -1,6 +1,6 @@
 -- The lexemes of what is left are those of the whole, where some are left out, and commas in front of these are alone.
-use Rattle.std.proofs.Common.{◌≡◌, ◌==◌, ℕ, not, Bool, true, false, List, [], ◌∷◌, ◌++◌, Option, Some, None, refl, sym, ◌∙◌, ap, subst, append_assoc, if◌then◌else◌}
-use Rattle.std.proofs.lemmas.Bool.{cases_Bool, false≢true, true≢false, eqb-true}
+use Rattle.std.proofs.Common.{◌≡◌, ◌==◌, ℕ, not, Bool, true, false, List, [], ◌∷◌, ◌++◌, Option, Some, None, refl, sym, ◌∙◌, subst, append_assoc, if◌then◌else◌}
+use Rattle.std.proofs.lemmas.Bool.{false≢true, true≢false, eqb-true}
 use Rattle.logos_lexeme.specs.declared.lexeme.Span.{Span}
 use Rattle.logos_lexeme.specs.declared.lexeme.Spacing.{Spacing}
 use Rattle.logos_lexeme.specs.declared.lexeme.Spacing.TheVariants.{Alone, Joint}
@@ -12,7 +12,7 @@ use Rattle.logos_strip.specs.declared.places.Scope.{Scope}
 use Rattle.logos_strip.specs.declared.places.Scope.TheVariants.{Enum, Attribute, Derives, Variants, Fields}
 use Rattle.logos_strip.specs.declared.places.Place.{Place}
 use Rattle.logos_strip.specs.declared.places.Place.TheVariants.{Open, Hash, Gone, Named, Within}
-use Rattle.logos_strip.specs.Places.{goes, behind_part, behind_start, behind_attributed, behind_in_enum, behind_in_attribute, place_behind, scope_of, scope_inside}
+use Rattle.logos_strip.specs.Places.{goes, behind_attributed, behind_in_enum, behind_in_attribute, place_behind, scope_inside}
 use Rattle.logos_strip.specs.Stripping.{alone, in_front, left, thinned, sorted}
 use Rattle.logos_strip.proofs.once.ShapeLemmas.{front_either}
 

@@ -1,6 +1,6 @@
 -- Nothing more goes from what is left.
 use Rattle.std.proofs.Common.{◌≡◌, ◌==◌, ◌&&◌, not, Bool, true, false, ℕ, List, [], ◌∷◌, Option, Some, None, codes, refl, sym, ◌∙◌, ap, subst, if◌then◌else◌}
-use Rattle.std.proofs.lemmas.Bool.{false≢true, true≢false, eqb-true, cases_Bool}
+use Rattle.std.proofs.lemmas.Bool.{false≢true, true≢false, eqb-true}
 use Rattle.std.specs.Str.{bytes_eq}
 use Rattle.logos_lexeme.specs.declared.lexeme.Spacing.{Spacing}
 use Rattle.logos_lexeme.specs.declared.lexeme.Spacing.TheVariants.{Alone}
@@ -14,9 +14,9 @@ use Rattle.logos_strip.specs.declared.places.Scope.TheVariants.{Enum, Attribute,
 use Rattle.logos_strip.specs.declared.places.Place.{Place}
 use Rattle.logos_strip.specs.declared.places.Place.TheVariants.{Open, Hash, Gone, Named, Within}
 use Rattle.logos_strip.specs.Helpers.{is_comma, is_helper_name, is_helper_path, holds_helper, begins_helper, is_macro_entry}
-use Rattle.logos_strip.specs.Places.{begins_gone, goes, behind_part, behind_start, behind_hash, behind_attributed, behind_in_enum, behind_in_attribute, place_behind, scope_of, scope_inside}
+use Rattle.logos_strip.specs.Places.{goes, behind_part, behind_start, behind_hash, behind_attributed, behind_in_enum, behind_in_attribute, place_behind, scope_of, scope_inside}
 use Rattle.logos_strip.specs.Stripping.{alone, in_front, left, thinned, sorted, stripped}
-use Rattle.logos_strip.proofs.once.ShapeLemmas.{shape, front_either, shape-front, is_comma-shape, behind-front, scope-front}
+use Rattle.logos_strip.proofs.once.ShapeLemmas.{shape, front_either, shape-front, behind-front, scope-front}
 use Rattle.logos_strip.proofs.once.EntryLemmas.{SameEntry, ended, parted, further, entry_same}
 
 -- all tokens stay

@@ -1,19 +1,22 @@
--- What the walk sees of a token that stays: not its spacing, and not what it holds.
+-- What the walk sees of a token that stays: not its spacing, not where it stands, and not what it holds.
 use Rattle.std.proofs.Common.{◌≡◌, Bool, true, false, List, [], ◌∷◌, Option, Some, None, refl, sym, ◌∙◌, ap}
 use Rattle.logos_lexeme.specs.declared.lexeme.Spacing.TheVariants.{Alone}
-use Rattle.logos_token.specs.Tokens.{Token, identifier, punctuation, literal, doc, group, TokenList, none, also}
+use Rattle.logos_token.specs.Tokens.{Token, identifier, punctuation, literal, doc, group, TokenList, none}
+use Rattle.logos_token.specs.PrintedAgain.{no_span, bare_token}
 use Rattle.logos_strip.specs.declared.places.Scope.{Scope}
 use Rattle.logos_strip.specs.declared.places.Scope.TheVariants.{Enum, Attribute, Derives, Variants, Fields}
 use Rattle.logos_strip.specs.declared.places.Place.{Place}
 use Rattle.logos_strip.specs.declared.places.Place.TheVariants.{Open, Hash, Gone, Named, Within}
 use Rattle.logos_strip.specs.Helpers.{is_comma}
-use Rattle.logos_strip.specs.Places.{scope_of, scope_inside, behind_part, behind_start, behind_hash, behind_attributed, behind_in_enum, behind_in_attribute, place_behind}
+use Rattle.logos_strip.specs.Places.{scope_inside, behind_part, behind_start, behind_hash, behind_attributed, behind_in_enum, behind_in_attribute, place_behind}
 use Rattle.logos_strip.specs.Stripping.{alone, in_front, thinned}
 
 abbrev pub shape : Token → Token
-shape (punctuation character spacing span) = punctuation character Alone span
-shape (group delimiter span inside) = group delimiter span none
-shape token = token
+shape (identifier text span) = identifier text no_span
+shape (punctuation character spacing span) = punctuation character Alone no_span
+shape (literal text span) = literal text no_span
+shape (doc text span) = doc text no_span
+shape (group delimiter span inside) = group delimiter no_span none
 
 -- a token in front of others is as it was, or alone
 pub front_either : (P : Token → Type 0) (pieces : List (Option Token)) (token : Token) → P token → P (alone token) → P (in_front pieces token)
@@ -124,3 +127,17 @@ pub scope-front : (scope : Scope) (place : Place) (pieces : List (Option Token))
 scope-front scope place pieces inner token rest =
     let t = in_front pieces (thinned inner token) in
     sym (scope-shape scope place t rest) ∙ ap (λ u. scope_inside scope place u rest) (shape-front pieces inner token) ∙ scope-shape scope place token rest
+
+shape-bare : (token : Token) → shape (bare_token token) ≡ shape token
+shape-bare (identifier text span) = refl
+shape-bare (punctuation character spacing span) = refl
+shape-bare (literal text span) = refl
+shape-bare (doc text span) = refl
+shape-bare (group delimiter span inside) = refl
+
+-- behind a token without its span the place is the same
+pub behind-bare : (scope : Scope) (place : Place) (gone : Bool) (token : Token) → place_behind scope place gone (bare_token token) ≡ place_behind scope place gone token
+behind-bare scope place gone token = sym (behind-shape scope place gone (bare_token token)) ∙ ap (place_behind scope place gone) (shape-bare token) ∙ behind-shape scope place gone token
+
+pub is_comma-bare : (token : Token) → is_comma (bare_token token) ≡ is_comma token
+is_comma-bare token = sym (is_comma-shape (bare_token token)) ∙ ap is_comma (shape-bare token) ∙ is_comma-shape token

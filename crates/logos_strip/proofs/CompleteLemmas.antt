@@ -1,0 +1,39 @@
+-- A source that spells an enum within the limits is not refused.
+use Rattle.std.proofs.Common.{◌≡◌, ℕ, List, Result, Ok, Err, IfErr, arith}
+use Rattle.logos_token.specs.Faults.{Fault}
+use Rattle.logos_token.specs.Tokens.{TokenList}
+use Rattle.logos_token.proofs.reading.SpellingLaws.{spells-one, unreadable-excludes, deep-excludes}
+use Rattle.logos_item.specs.Enum.{Reads}
+use Rattle.logos_item.specs.EnumValues.{EnumValue}
+use Rattle.logos_item.proofs.EnumOnce.{once-reads}
+use Rattle.logos_source.specs.Endings.{EndsTokens, EndsReading, source_limit, nesting_limit, unreadable, misread}
+use Rattle.logos_source.specs.Refusals.{Refuses, IsMemory}
+use Rattle.logos_source.specs.declared.refusal.Refusal.{Refusal}
+use Rattle.logos_source.specs.declared.refusal.Refusal.TheVariants.{Errors, Memory}
+use Rattle.logos_source.proofs.RefusalLemmas.{OneEnds}
+use Rattle.logos_strip.specs.Results.{SpellsEnum}
+
+-- tokens of an enum do not end the reading
+tokens_exclude : (tokens : TokenList) (value : EnumValue) (faults : List Fault) → Reads tokens (Ok value) → EndsTokens tokens faults → ⊥
+tokens_exclude tokens value faults read ends =
+    let same : Ok value ≡ Err ends.error = once-reads tokens _ _ read ends.reads in
+    absurd (cc)
+
+ends_exclude : (source : List ℕ) (fault : Fault) → SpellsEnum source → EndsReading source fault → ⊥
+ends_exclude source fault whole (source_limit l is) = let s = whole.short in omega arith
+ends_exclude source fault whole (nesting_limit deep is) =
+    let more = deep-excludes source _ whole.tokens deep whole.spelled in
+    let most = whole.shallow in
+    omega arith
+ends_exclude source fault whole (unreadable u is) = unreadable-excludes source _ _ whole.tokens u whole.spelled
+ends_exclude source fault whole (misread {tokens} s m) =
+    let same = spells-one source whole.tokens tokens whole.spelled s in
+    tokens_exclude tokens whole.enum _ (rw same at whole.reads) m
+
+pub not_refused : (source : List ℕ) (refusal : Refusal) → SpellsEnum source → Refuses (OneEnds source) refusal → IsMemory refusal
+not_refused source (Errors faults) whole r = ends_exclude source r.0 whole r.1
+not_refused source Memory whole r = tt
+
+pub result_not_refused : {T : Type 0} (source : List ℕ) (result : Result T Refusal) → SpellsEnum source → IfErr result (Refuses (OneEnds source)) → IfErr result IsMemory
+result_not_refused source (Ok value) whole r = tt
+result_not_refused source (Err error) whole r = not_refused source error whole r
