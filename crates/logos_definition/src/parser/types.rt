@@ -42,9 +42,7 @@ impl<'s> Parser<'s> {
         ensures going { self.new.failed ≡ self.old.failed }
     {
         let held = self.types.held_names()?;
-        let got = self
-            .types
-            .get_type(&held, written, span, &mut self.errors)?;
+        let got = self.types.get_type(&held, written, span, &mut self.errors)?;
         Ok(got)
     }
 

@@ -238,7 +238,8 @@ for<'a> fn(&'a A<'b>) -> &u8 => for < 'a > fn ( & 's A < 's > ) -> & 's u8; for 
 <&'a u8 as P<'b>>::X<'c, &'d u8> => < & 'a u8 as P < 's > > :: X < 's , & 's u8 >; < & 'a u8 as P < 's > > :: X < 's , & 'd u8 >"#;
 
 /// Types, names with the arguments of their types, and what a parser answers call by call.
-pub(super) const ASKED: &str = r#"(&'a T) (& T) type T = Vec<&str> => & 's Vec < & 's str >; -; 's Vec < & 's str >; 1..6 InvalidNested "last";
+pub(super) const ASKED: &str =
+    r#"(&'a T) (& T) type T = Vec<&str> => & 's Vec < & 's str >; -; 's Vec < & 's str >; 1..6 InvalidNested "last";
 (T) (T) type T = u8 => u8; u8; u8; 1..2 InvalidNested "last";
 (T) (T) => T; -; -; 5..6 NoConcreteType "Generic type parameter without a concrete type\n\nDefine a concrete type Logos can use: #[logos(type T = Type)]";1..2 InvalidNested "last";
 (T) () => T; -; -; 1..2 InvalidNested "last";
