@@ -1,0 +1,495 @@
+//! Calls to which something is lent that they may change: lists of faults, a parser, what is read beside it, and a set of bytes.
+
+use crate::asking::Asking;
+use crate::given::{Given, SPAN, class_of, last_text, said_of};
+use crate::telling::{push_definition, push_generics, push_literal, push_type};
+use logos_graph::byte_class::ByteClass;
+use logos_item::{ItemEnum, read_enum, split_attribute};
+use logos_parser::parser::{
+    AttributeParser, Definition, ErrorType, IgnoreFlags, Literal, Nested, NestedValue, Parser,
+    Subpatterns,
+};
+use logos_source::said::Said;
+use logos_token::error::{Errors, FaultCode, Memory};
+use logos_token::token::{Ident, Tokens};
+use logos_token::util::ToIdent;
+use logos_type::{Part, TypeExpr};
+use logos_type_params::Generics;
+use std::alloc::Global;
+
+/// A call that may change what is lent to it.
+#[derive(Clone, Copy)]
+pub enum Change {
+    Unit(UnitCall),
+    Literal(LiteralCall),
+    Type(TypeCall),
+    Generics(GenericsCall),
+    Text(TextCall),
+    Definition,
+    Subpatterns,
+    Comparisons,
+}
+
+/// A call that gives nothing.
+#[derive(Clone, Copy)]
+pub enum UnitCall {
+    Err,
+    ErrAlso,
+    ParserErr,
+    ParseGeneric,
+    TryParseLogos,
+    DefinitionNamed,
+    ErrorTypeNamed,
+    ParseGroup,
+    ExplicitLifetime,
+    Add,
+    Set,
+    Check,
+    Merge,
+}
+
+/// A call that may give a literal.
+#[derive(Clone, Copy)]
+pub enum LiteralCall {
+    Parse,
+    Parsed,
+}
+
+/// A call that may give a type.
+#[derive(Clone, Copy)]
+pub enum TypeCall {
+    Parsed,
+    Find,
+    GetType,
+    ParserGetType,
+}
+
+/// A call that gives what stands behind the name of an enum.
+#[derive(Clone, Copy)]
+pub enum GenericsCall {
+    OfTypes,
+    OfParser,
+}
+
+/// A call that gives a text with its subpatterns put in.
+#[derive(Clone, Copy)]
+pub enum TextCall {
+    Own,
+    Missing,
+}
+
+impl Change {
+    /// Whether the parser that is lent has failed where memory ran out.
+    pub fn fails(self) -> bool {
+        match self {
+            Change::Unit(call) => matches!(
+                call,
+                UnitCall::ParserErr
+                    | UnitCall::ParseGeneric
+                    | UnitCall::TryParseLogos
+                    | UnitCall::DefinitionNamed
+                    | UnitCall::ErrorTypeNamed
+                    | UnitCall::ParseGroup
+            ),
+            Change::Literal(call) => matches!(call, LiteralCall::Parse),
+            Change::Type(call) => matches!(call, TypeCall::ParserGetType),
+            Change::Generics(call) => matches!(call, GenericsCall::OfParser),
+            Change::Definition => true,
+            _ => false,
+        }
+    }
+
+    /// Whether what is lent is only to be dropped where memory ran out.
+    pub fn drops(self) -> bool {
+        match self {
+            Change::Unit(call) => matches!(call, UnitCall::Set | UnitCall::Check),
+            Change::Literal(call) => matches!(call, LiteralCall::Parsed),
+            Change::Type(call) => matches!(call, TypeCall::Parsed),
+            Change::Generics(call) => matches!(call, GenericsCall::OfTypes),
+            Change::Text(_) | Change::Subpatterns => true,
+            _ => false,
+        }
+    }
+}
+
+/// What is lent to a call.
+#[derive(Drop)]
+pub struct Lent<'t, 's> {
+    pub errors: Errors,
+    /// What the source says, with its parser.
+    pub said: Box<Said<'s>>,
+    pub item: Box<ItemEnum<'t, 's>>,
+    pub pieces: AttributeParser<'t, 's>,
+    pub definition: Box<Definition<'s>>,
+    pub error_type: Box<ErrorType<'s>>,
+    pub flags: IgnoreFlags,
+    pub class: ByteClass,
+}
+
+/// The enum that tokens are.
+fn item_of<'t, 's>(alloc: Global, run: Tokens<'t, 's>) -> Result<Box<ItemEnum<'t, 's>>, Memory> {
+    match read_enum(alloc, run) {
+        Ok(item) => Ok(Box::new(alloc, item)?),
+        Err(_) => Err(Memory),
+    }
+}
+
+/// A definition with the literal that is given.
+fn definition_of<'s>(alloc: Global, given: &Given<'s>) -> Result<Box<Definition<'s>>, Memory> {
+    match Literal::read(alloc, &given.literal.token())? {
+        Some(literal) => Ok(Box::new(alloc, Definition::new(literal))?),
+        None => Err(Memory),
+    }
+}
+
+/// The faults of a parser; a list of four has no room for a fifth.
+fn errors_of(alloc: Global, text: &str) -> Result<Errors, Memory> {
+    let mut errors = Errors::new(alloc);
+    for _ in 0..4 {
+        errors.err(FaultCode::Grammar, text, SPAN)?;
+    }
+    Ok(errors)
+}
+
+/// What a source says, with three parameters more, of which one has a type, and with two lifetimes.
+fn widened<'s>(alloc: Global, given: &Given<'s>) -> Result<Box<Said<'s>>, Memory> {
+    let mut said = said_of(alloc, given.source)?;
+    let types = &mut said.parser.types;
+    for name in ["A", "B", "C"] {
+        types.add(name.to_ident())?;
+    }
+    let mut errors = Errors::new(alloc);
+    types.set("A".to_ident(), given.type_tokens.run(), &mut errors)?;
+    types.explicit_lifetime(SPAN, &mut errors)?;
+    Ok(said)
+}
+
+/// What is lent for one source.
+pub fn lent_of<'t, 's>(alloc: Global, given: &'t Given<'s>) -> Result<Lent<'t, 's>, Memory> {
+    Ok(Lent {
+        errors: errors_of(alloc, given.source)?,
+        said: widened(alloc, given)?,
+        item: item_of(alloc, given.tokens.run())?,
+        pieces: AttributeParser::new(given.arguments.run()),
+        definition: definition_of(alloc, given)?,
+        error_type: Box::new(alloc, ErrorType::default(alloc))?,
+        flags: IgnoreFlags { ignore_case: false },
+        class: class_of(alloc, given.source)?,
+    })
+}
+
+/// Gives a parser all parameters of an enum.
+fn parse_parameters<'s>(parser: &mut Parser<'s>, item: &ItemEnum<'_, 's>) -> Result<(), Memory> {
+    for parameter in &item.parameters {
+        parser.parse_generic(*parameter)?;
+    }
+    Ok(())
+}
+
+/// Gives a parser all attributes of an enum.
+fn parse_attributes<'s>(parser: &mut Parser<'s>, item: &ItemEnum<'_, 's>) -> Result<(), Memory> {
+    let mut rest = item.attributes;
+    while let Some((attribute, behind)) = split_attribute(rest) {
+        parser.try_parse_logos(attribute)?;
+        rest = behind;
+    }
+    Ok(())
+}
+
+/// Gives a definition all named pieces.
+fn name_definition<'s>(
+    alloc: Global,
+    definition: &mut Definition<'s>,
+    run: Tokens<'_, 's>,
+    parser: &mut Parser<'s>,
+) -> Result<(), Memory> {
+    for nested in AttributeParser::new(run) {
+        if let Nested::Named(name, value) = nested {
+            definition.named_attr(alloc, name, value, parser)?;
+        }
+    }
+    Ok(())
+}
+
+/// Gives a type of errors all named pieces.
+fn name_error_type<'s>(
+    alloc: Global,
+    error_type: &mut ErrorType<'s>,
+    run: Tokens<'_, 's>,
+    parser: &mut Parser<'s>,
+) -> Result<(), Memory> {
+    for nested in AttributeParser::new(run) {
+        if let Nested::Named(name, value) = nested {
+            error_type.named_attr(alloc, name, value, parser)?;
+        }
+    }
+    Ok(())
+}
+
+/// Gives flags all groups.
+fn parse_groups<'s>(
+    alloc: Global,
+    flags: &mut IgnoreFlags,
+    run: Tokens<'_, 's>,
+    parser: &mut Parser<'s>,
+) -> Result<(), Memory> {
+    for nested in AttributeParser::new(run) {
+        if let Nested::Named(name, NestedValue::Group(group)) = nested {
+            flags.parse_group(alloc, name, group, parser)?;
+        }
+    }
+    Ok(())
+}
+
+/// Makes a call that gives nothing.
+fn unit_by<'s>(
+    alloc: Global,
+    call: UnitCall,
+    given: &Given<'s>,
+    lent: &mut Lent<'_, 's>,
+) -> Result<(), Memory> {
+    let parser = &mut lent.said.parser;
+    let (errors, arguments) = (&mut lent.errors, given.arguments.run());
+    match call {
+        UnitCall::Err => errors.err(FaultCode::Regex, given.source, SPAN),
+        UnitCall::ErrAlso => errors.err_also(FaultCode::Regex, given.source, SPAN, SPAN),
+        UnitCall::ParserErr => parser.err(FaultCode::Regex, given.source, SPAN),
+        UnitCall::ParseGeneric => parse_parameters(parser, &lent.item),
+        UnitCall::TryParseLogos => parse_attributes(parser, &lent.item),
+        UnitCall::DefinitionNamed => {
+            name_definition(alloc, &mut lent.definition, arguments, parser)
+        }
+        UnitCall::ErrorTypeNamed => {
+            name_error_type(alloc, &mut lent.error_type, arguments, parser)
+        }
+        UnitCall::ParseGroup => parse_groups(alloc, &mut lent.flags, arguments, parser),
+        UnitCall::ExplicitLifetime => parser.types.explicit_lifetime(SPAN, errors),
+        UnitCall::Add => parser.types.add("D".to_ident()),
+        UnitCall::Set => parser
+            .types
+            .set("A".to_ident(), given.type_tokens.run(), errors),
+        UnitCall::Check => parser.types.check(errors),
+        UnitCall::Merge => Ok(lent.class.merge(alloc, &given.class)?),
+    }
+}
+
+/// The literal that a call gives.
+fn literal_by<'s>(
+    alloc: Global,
+    call: LiteralCall,
+    given: &Given<'s>,
+    lent: &mut Lent<'_, 's>,
+) -> Result<Option<Literal<'s>>, Memory> {
+    match call {
+        LiteralCall::Parse => lent.said.parser.parse_literal(given.literal.token()),
+        LiteralCall::Parsed => lent.pieces.parsed::<Literal<'s>>(alloc, &mut lent.errors),
+    }
+}
+
+/// The type that a call gives.
+fn type_by<'s>(
+    alloc: Global,
+    call: TypeCall,
+    given: &Given<'s>,
+    lent: &mut Lent<'_, 's>,
+) -> Result<Option<TypeExpr<'s>>, Memory> {
+    let parser = &mut lent.said.parser;
+    match call {
+        TypeCall::Parsed => lent.pieces.parsed::<TypeExpr<'s>>(alloc, &mut lent.errors),
+        TypeCall::Find => parser.types.find(&TypeExpr {
+            part: Part::Name("A"),
+        }),
+        TypeCall::GetType => {
+            let errors = &mut lent.errors;
+            Ok(Some(parser.types.get_type(&[], &given.written, SPAN, errors)?))
+        }
+        TypeCall::ParserGetType => Ok(Some(parser.get_type(&given.written, SPAN)?)),
+    }
+}
+
+/// What a call gives that stands behind the name of an enum.
+fn generics_by<'s>(
+    call: GenericsCall,
+    lent: &mut Lent<'_, 's>,
+) -> Result<Option<Generics<'s>>, Memory> {
+    match call {
+        GenericsCall::OfTypes => lent.said.parser.types.generics(&mut lent.errors),
+        GenericsCall::OfParser => lent.said.parser.generics(),
+    }
+}
+
+/// The text that a call gives.
+fn text_by(
+    alloc: Global,
+    call: TextCall,
+    given: &Given<'_>,
+    errors: &mut Errors,
+) -> Result<Option<String>, Memory> {
+    let text = match call {
+        TextCall::Own => last_text(given.said.leaves.as_slice()),
+        TextCall::Missing => "(?&h)(?&none)(?&nothing)",
+    };
+    given
+        .subpatterns
+        .subst_subpatterns(alloc, text, SPAN, errors)
+}
+
+/// Asks a call that gives nothing.
+fn ask_unit<'s>(
+    asking: &mut Asking,
+    call: UnitCall,
+    given: &Given<'s>,
+    lent: &mut Lent<'_, 's>,
+) -> Result<(), Memory> {
+    asking.begin();
+    let answer = unit_by(asking.alloc, call, given, lent);
+    asking.end();
+    match answer {
+        Ok(()) => Ok(()),
+        Err(Memory) => asking.lack(),
+    }
+}
+
+/// Asks for a literal.
+fn ask_literal<'s>(
+    asking: &mut Asking,
+    call: LiteralCall,
+    given: &Given<'s>,
+    lent: &mut Lent<'_, 's>,
+) -> Result<(), Memory> {
+    asking.begin();
+    let answer = literal_by(asking.alloc, call, given, lent);
+    asking.end();
+    match answer {
+        Ok(Some(literal)) => push_literal(&mut asking.text, &literal),
+        Ok(None) => Ok(()),
+        Err(Memory) => asking.lack(),
+    }
+}
+
+/// Asks for a type.
+fn ask_type<'s>(
+    asking: &mut Asking,
+    call: TypeCall,
+    given: &Given<'s>,
+    lent: &mut Lent<'_, 's>,
+) -> Result<(), Memory> {
+    asking.begin();
+    let answer = type_by(asking.alloc, call, given, lent);
+    asking.end();
+    match answer {
+        Ok(Some(made)) => push_type(asking.alloc, &mut asking.text, &made),
+        Ok(None) => Ok(()),
+        Err(Memory) => asking.lack(),
+    }
+}
+
+/// Asks for what stands behind the name of an enum.
+fn ask_generics(
+    asking: &mut Asking,
+    call: GenericsCall,
+    lent: &mut Lent<'_, '_>,
+) -> Result<(), Memory> {
+    asking.begin();
+    let answer = generics_by(call, lent);
+    asking.end();
+    match answer {
+        Ok(Some(generics)) => push_generics(asking.alloc, &mut asking.text, &generics),
+        Ok(None) => Ok(()),
+        Err(Memory) => asking.lack(),
+    }
+}
+
+/// Asks for a text.
+fn ask_text(
+    asking: &mut Asking,
+    call: TextCall,
+    given: &Given<'_>,
+    lent: &mut Lent<'_, '_>,
+) -> Result<(), Memory> {
+    asking.begin();
+    let answer = text_by(asking.alloc, call, given, &mut lent.errors);
+    asking.end();
+    match answer {
+        Ok(text) => asking.tell(&text),
+        Err(Memory) => asking.lack(),
+    }
+}
+
+/// Asks for the definition in the first attribute of the last variant.
+fn ask_definition(asking: &mut Asking, lent: &mut Lent<'_, '_>) -> Result<(), Memory> {
+    let [.., variant] = lent.item.variants.as_slice() else {
+        return Err(Memory);
+    };
+    let Some((attribute, _)) = split_attribute(variant.attributes) else {
+        return Err(Memory);
+    };
+    asking.begin();
+    let answer = lent.said.parser.parse_definition_attr(attribute);
+    asking.end();
+    match answer {
+        Ok(Some(definition)) => push_definition(asking.alloc, &mut asking.text, &definition),
+        Ok(None) => Ok(()),
+        Err(Memory) => asking.lack(),
+    }
+}
+
+/// Asks for the subpatterns of the source, which are told by what is put in for each of its names.
+fn ask_subpatterns(asking: &mut Asking, lent: &mut Lent<'_, '_>) -> Result<(), Memory> {
+    let list = lent.said.parser.subpatterns.as_slice();
+    asking.begin();
+    let answer = Subpatterns::new(asking.alloc, list, true, &mut lent.errors);
+    asking.end();
+    match answer {
+        Ok(subpatterns) => push_subpatterns(asking, list, &subpatterns),
+        Err(Memory) => asking.lack(),
+    }
+}
+
+/// Adds what is put in for each name.
+fn push_subpatterns(
+    asking: &mut Asking,
+    list: &[(Ident<'_>, Literal<'_>)],
+    subpatterns: &Subpatterns<'_>,
+) -> Result<(), Memory> {
+    let mut errors = Errors::new(asking.alloc);
+    for (name, _) in list {
+        let text = format!(in asking.alloc; "(?&{})", name.text)?;
+        let put = subpatterns.subst_subpatterns(asking.alloc, text.as_str(), SPAN, &mut errors)?;
+        asking.tell(&put)?;
+    }
+    asking.tell(&errors)
+}
+
+/// Asks for the comparisons of the lent bytes.
+fn ask_comparisons(asking: &mut Asking, class: &ByteClass) -> Result<(), Memory> {
+    if !class.is_separated() {
+        return Err(Memory);
+    }
+    asking.begin();
+    let answer = class.impl_with_cmp(asking.alloc);
+    asking.end();
+    match answer {
+        Ok(comparisons) => asking.tell(&comparisons),
+        Err(_) => asking.lack(),
+    }
+}
+
+/// Asks a call.
+pub fn ask<'s>(
+    asking: &mut Asking,
+    call: Change,
+    given: &Given<'s>,
+    lent: &mut Lent<'_, 's>,
+) -> Result<(), Memory> {
+    match call {
+        Change::Unit(call) => ask_unit(asking, call, given, lent),
+        Change::Literal(call) => ask_literal(asking, call, given, lent),
+        Change::Type(call) => ask_type(asking, call, given, lent),
+        Change::Generics(call) => ask_generics(asking, call, lent),
+        Change::Text(call) => ask_text(asking, call, given, lent),
+        Change::Definition => ask_definition(asking, lent),
+        Change::Subpatterns => ask_subpatterns(asking, lent),
+        Change::Comparisons => ask_comparisons(asking, &lent.class),
+    }
+}

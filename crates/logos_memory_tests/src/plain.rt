@@ -1,0 +1,369 @@
+//! Calls that change nothing that the caller holds.
+
+use crate::asking::Asking;
+use crate::given::{Given, SHAPE, last_text, said_of};
+use crate::telling::{
+    push_callback, push_generated, push_graph, push_item, push_kind, push_literal, push_pattern,
+    push_run, push_type,
+};
+use logos_codegen::expr::{ExprError, Language};
+use logos_codegen::machine::Action;
+use logos_codegen::{LexSourceError, Refusal, generate, lex_source, strip_attributes};
+use logos_graph::graph::{BuildError, Config, Graph};
+use logos_item::{ReadError, read_enum};
+use logos_parser::parser::{replace_lifetime, replace_lifetimes};
+use logos_pattern::leaf::{Callback, VariantKind};
+use logos_pattern::pattern::{Literal, Pattern, PatternError};
+use logos_token::error::Memory;
+use logos_token::token::{TokenError, TokenStream, Tokens, print, tokenize};
+use logos_token::util::ToIdent;
+use logos_type::{TypeExpr, print_type};
+use std::alloc::{AllocError, Global};
+
+/// A call that changes nothing.
+#[derive(Clone, Copy)]
+pub enum Plain {
+    Text(TextCall),
+    Stream(StreamCall),
+    Pattern(PatternCall),
+    Type(TypeCall),
+    Tokenize,
+    Value,
+    Literal,
+    Kind,
+    Callback,
+    Enum,
+    Held,
+    Graph,
+    Strip,
+    Generate,
+    Items,
+    Language,
+    Expression,
+}
+
+/// A call that gives a text.
+#[derive(Clone, Copy)]
+pub enum TextCall {
+    Print,
+    PrintMaybe,
+    PrintType,
+    Escape,
+    Rendered,
+}
+
+/// A call that gives tokens.
+#[derive(Clone, Copy)]
+pub enum StreamCall {
+    WithTree,
+    Clone,
+    FromIdent,
+    ToStream,
+}
+
+/// A call that gives a pattern.
+#[derive(Clone, Copy)]
+pub enum PatternCall {
+    Compile,
+    CompileLiteral,
+}
+
+/// A call that gives a type.
+#[derive(Clone, Copy)]
+pub enum TypeCall {
+    Clone,
+    ReplaceLifetimes,
+    ReplaceLifetime,
+}
+
+/// Inputs are bytes, whatever the source says, so that no leaf is refused.
+const MODE: Config = Config { utf8_mode: false };
+
+/// A text of the tokenizer of expressions.
+const EXPRESSION: &str = "let x1 = 40 + 2";
+
+/// A buffer that is made of a run, tree by tree.
+fn made_of<'s>(alloc: Global, run: Tokens<'_, 's>) -> Result<TokenStream<'s>, Memory> {
+    let mut stream = TokenStream::new(alloc);
+    for tree in run.iter() {
+        stream = stream.with_tree(tree)?;
+    }
+    Ok(stream)
+}
+
+/// The text that a call gives.
+fn text_by(alloc: Global, call: TextCall, given: &Given<'_>) -> Result<Option<String>, Memory> {
+    match call {
+        TextCall::Print => Ok(Some(print(alloc, given.tokens.run())?)),
+        TextCall::PrintMaybe => Ok(Some(given.maybe.print(alloc)?)),
+        TextCall::PrintType => Ok(Some(print_type(alloc, &given.written)?)),
+        TextCall::Escape => Ok(Some(given.literal.escape(alloc, true)?)),
+        TextCall::Rendered => given.said.parser.errors.render(),
+    }
+}
+
+/// The tokens that a call gives.
+fn stream_by<'s>(
+    alloc: Global,
+    call: StreamCall,
+    given: &Given<'s>,
+) -> Result<TokenStream<'s>, Memory> {
+    match call {
+        StreamCall::WithTree => made_of(alloc, given.tokens.run()),
+        StreamCall::Clone => Ok(given.tokens.clone()?),
+        StreamCall::FromIdent => Ok(TokenStream::from_ident(alloc, given.source.to_ident())?),
+        StreamCall::ToStream => given.tokens.run().to_stream(alloc),
+    }
+}
+
+/// The type that a call gives.
+fn type_by<'s>(alloc: Global, call: TypeCall, given: &Given<'s>) -> Result<TypeExpr<'s>, Memory> {
+    match call {
+        TypeCall::Clone => Ok(TypeExpr::clone(&given.written)?),
+        TypeCall::ReplaceLifetimes => replace_lifetimes(alloc, &given.written),
+        TypeCall::ReplaceLifetime => replace_lifetime(alloc, &given.written),
+    }
+}
+
+/// The pattern that a call gives.
+fn pattern_by<'s>(
+    alloc: Global,
+    call: PatternCall,
+    given: &Given<'s>,
+) -> Result<Pattern<'s>, PatternError> {
+    let text = last_text(given.said.leaves.as_slice());
+    match call {
+        PatternCall::Compile => Pattern::compile(alloc, false, text, text, true, true),
+        PatternCall::CompileLiteral => match Pattern::compile_lit(alloc, &given.literal) {
+            Ok(pattern) => Ok(pattern),
+            Err(Memory) => Err(PatternError::Memory),
+        },
+    }
+}
+
+/// Asks for a text.
+fn ask_text(asking: &mut Asking, call: TextCall, given: &Given<'_>) -> Result<(), Memory> {
+    asking.begin();
+    let answer = text_by(asking.alloc, call, given);
+    asking.end();
+    match answer {
+        Ok(text) => asking.tell(&text),
+        Err(Memory) => asking.lack(),
+    }
+}
+
+/// Asks for tokens.
+fn ask_stream(asking: &mut Asking, call: StreamCall, given: &Given<'_>) -> Result<(), Memory> {
+    asking.begin();
+    let answer = stream_by(asking.alloc, call, given);
+    asking.end();
+    match answer {
+        Ok(stream) => push_run(asking.alloc, &mut asking.text, stream.run()),
+        Err(Memory) => asking.lack(),
+    }
+}
+
+/// Asks for a type.
+fn ask_type(asking: &mut Asking, call: TypeCall, given: &Given<'_>) -> Result<(), Memory> {
+    asking.begin();
+    let answer = type_by(asking.alloc, call, given);
+    asking.end();
+    match answer {
+        Ok(made) => push_type(asking.alloc, &mut asking.text, &made),
+        Err(Memory) => asking.lack(),
+    }
+}
+
+/// Asks for a pattern.
+fn ask_pattern(asking: &mut Asking, call: PatternCall, given: &Given<'_>) -> Result<(), Memory> {
+    asking.begin();
+    let answer = pattern_by(asking.alloc, call, given);
+    asking.end();
+    match answer {
+        Ok(pattern) => push_pattern(&mut asking.text, &pattern),
+        Err(PatternError::Memory) => asking.lack(),
+        Err(error) => asking.tell(&error),
+    }
+}
+
+/// Asks for the tokens of the source.
+fn ask_tokens(asking: &mut Asking, given: &Given<'_>) -> Result<(), Memory> {
+    asking.begin();
+    let answer = tokenize(asking.alloc, given.source);
+    asking.end();
+    match answer {
+        Ok(stream) => push_run(asking.alloc, &mut asking.text, stream.run()),
+        Err(TokenError::Memory) => asking.lack(),
+        Err(error) => asking.tell(&error),
+    }
+}
+
+/// Asks for the value of a literal.
+fn ask_value(asking: &mut Asking, given: &Given<'_>) -> Result<(), Memory> {
+    let literal = given.literal.token();
+    asking.begin();
+    let answer = literal.value(asking.alloc);
+    asking.end();
+    match answer {
+        Ok(value) => asking.tell(&value),
+        Err(Memory) => asking.lack(),
+    }
+}
+
+/// Asks for the literal that a token is.
+fn ask_literal(asking: &mut Asking, given: &Given<'_>) -> Result<(), Memory> {
+    let token = given.literal.token();
+    asking.begin();
+    let answer = Literal::read(asking.alloc, &token);
+    asking.end();
+    match answer {
+        Ok(Some(literal)) => push_literal(&mut asking.text, &literal),
+        Ok(None) => Ok(()),
+        Err(Memory) => asking.lack(),
+    }
+}
+
+/// Asks for a copy of a kind.
+fn ask_kind(asking: &mut Asking, given: &Given<'_>) -> Result<(), Memory> {
+    asking.begin();
+    let answer: Result<VariantKind<'_>, AllocError> = VariantKind::clone(&given.kind);
+    asking.end();
+    match answer {
+        Ok(kind) => push_kind(asking.alloc, &mut asking.text, &kind),
+        Err(_) => asking.lack(),
+    }
+}
+
+/// Asks for a copy of a callback.
+fn ask_callback(asking: &mut Asking, given: &Given<'_>) -> Result<(), Memory> {
+    asking.begin();
+    let answer: Result<Callback<'_>, AllocError> = Callback::clone(&given.callback);
+    asking.end();
+    match answer {
+        Ok(callback) => push_callback(asking.alloc, &mut asking.text, &callback),
+        Err(_) => asking.lack(),
+    }
+}
+
+/// Asks for the enum that the source is.
+fn ask_enum(asking: &mut Asking, given: &Given<'_>) -> Result<(), Memory> {
+    asking.begin();
+    let answer = read_enum(asking.alloc, given.tokens.run());
+    asking.end();
+    match answer {
+        Ok(item) => push_item(asking.alloc, &mut asking.text, &item),
+        Err(ReadError::Memory) => asking.lack(),
+        Err(error) => asking.tell(&error),
+    }
+}
+
+/// Asks for the names of the parameters that hold themselves.
+fn ask_held(asking: &mut Asking, given: &Given<'_>) -> Result<(), Memory> {
+    asking.begin();
+    let answer = given.said.parser.types.held_names();
+    asking.end();
+    match answer {
+        Ok(names) => asking.tell(&names),
+        Err(Memory) => asking.lack(),
+    }
+}
+
+/// Asks for the graph of leaves, which goes with them.
+fn ask_graph(asking: &mut Asking, given: &Given<'_>) -> Result<(), Memory> {
+    let said = Box::into_inner(said_of(asking.alloc, given.source)?);
+    asking.begin();
+    let answer = Graph::new(asking.alloc, said.leaves, MODE);
+    asking.end();
+    match answer {
+        Ok(graph) => push_graph(&mut asking.text, &graph),
+        Err(BuildError::Memory) => asking.lack(),
+        Err(error) => asking.tell(&error),
+    }
+}
+
+/// Asks for the source without what belongs to the derive macro.
+fn ask_strip(asking: &mut Asking, given: &Given<'_>) -> Result<(), Memory> {
+    asking.begin();
+    let answer = strip_attributes(asking.alloc, given.source);
+    asking.end();
+    match answer {
+        Ok(stream) => push_run(asking.alloc, &mut asking.text, stream.run()),
+        Err(Refusal::Memory) => asking.lack(),
+        Err(Refusal::Errors(errors)) => asking.tell(&errors),
+    }
+}
+
+/// Asks for what the source gives.
+fn ask_generated(asking: &mut Asking, given: &Given<'_>) -> Result<(), Memory> {
+    asking.begin();
+    let answer = generate(asking.alloc, given.source, SHAPE);
+    asking.end();
+    match answer {
+        Ok(generated) => push_generated(asking.alloc, &mut asking.text, &generated),
+        Err(Refusal::Memory) => asking.lack(),
+        Err(Refusal::Errors(errors)) => asking.tell(&errors),
+    }
+}
+
+/// Asks for the items of the input.
+fn ask_items(asking: &mut Asking, given: &Given<'_>) -> Result<(), Memory> {
+    let emit = |_leaf, _slice: &[u8]| Action::Emit;
+    asking.begin();
+    let answer = lex_source(asking.alloc, given.source, SHAPE, given.input, emit);
+    asking.end();
+    match answer {
+        Ok(items) => asking.tell(&items),
+        Err(LexSourceError::Memory) => asking.lack(),
+        Err(error) => asking.tell(&error),
+    }
+}
+
+/// Asks for the tokenizer of expressions, which is told by the tokens of a text.
+fn ask_language(asking: &mut Asking) -> Result<(), Memory> {
+    asking.begin();
+    let answer = Language::new(asking.alloc);
+    asking.end();
+    match answer {
+        Ok(language) => asking.tell(&language.tokens(asking.alloc, EXPRESSION)),
+        Err(ExprError::Memory) => asking.lack(),
+        Err(error) => asking.tell(&error),
+    }
+}
+
+/// Asks for the tokens of an expression.
+fn ask_expression(asking: &mut Asking) -> Result<(), Memory> {
+    let Ok(language) = Language::new(asking.alloc) else {
+        return Err(Memory);
+    };
+    asking.begin();
+    let answer = language.tokens(asking.alloc, EXPRESSION);
+    asking.end();
+    match answer {
+        Ok(tokens) => asking.tell(&tokens),
+        Err(ExprError::Memory) => asking.lack(),
+        Err(error) => asking.tell(&error),
+    }
+}
+
+/// Asks a call.
+pub fn ask(asking: &mut Asking, call: Plain, given: &Given<'_>) -> Result<(), Memory> {
+    match call {
+        Plain::Text(call) => ask_text(asking, call, given),
+        Plain::Stream(call) => ask_stream(asking, call, given),
+        Plain::Pattern(call) => ask_pattern(asking, call, given),
+        Plain::Type(call) => ask_type(asking, call, given),
+        Plain::Tokenize => ask_tokens(asking, given),
+        Plain::Value => ask_value(asking, given),
+        Plain::Literal => ask_literal(asking, given),
+        Plain::Kind => ask_kind(asking, given),
+        Plain::Callback => ask_callback(asking, given),
+        Plain::Enum => ask_enum(asking, given),
+        Plain::Held => ask_held(asking, given),
+        Plain::Graph => ask_graph(asking, given),
+        Plain::Strip => ask_strip(asking, given),
+        Plain::Generate => ask_generated(asking, given),
+        Plain::Items => ask_items(asking, given),
+        Plain::Language => ask_language(asking),
+        Plain::Expression => ask_expression(asking),
+    }
+}
