@@ -2,8 +2,33 @@
 
 use crate::lent::{self, Change, GenericsCall, LiteralCall, UnitCall};
 use crate::made::{self, Made};
-use crate::plain::{self, PatternCall, Plain, StreamCall};
-use crate::round::Call;
+use crate::plain::{self, Plain, StreamCall};
+
+/// A call.
+#[derive(Clone, Copy)]
+pub enum Call {
+    Plain(Plain),
+    Change(Change),
+    Made(Made),
+}
+
+impl Call {
+    /// Whether the parser that is lent has failed where memory ran out.
+    pub fn fails(self) -> bool {
+        match self {
+            Call::Change(call) => call.fails(),
+            _ => false,
+        }
+    }
+
+    /// Whether what is lent is only to be dropped where memory ran out.
+    pub fn drops(self) -> bool {
+        match self {
+            Call::Change(call) => call.drops(),
+            _ => false,
+        }
+    }
+}
 
 /// All calls.
 pub const CALLS: &[(&str, Call)] = &[
@@ -35,18 +60,9 @@ pub const CALLS: &[(&str, Call)] = &[
         "Errors::err_also",
         Call::Change(Change::Unit(UnitCall::ErrAlso)),
     ),
-    (
-        "Errors::render",
-        Call::Plain(Plain::Text(plain::TextCall::Rendered)),
-    ),
-    (
-        "Pattern::compile",
-        Call::Plain(Plain::Pattern(PatternCall::Compile)),
-    ),
-    (
-        "Pattern::compile_lit",
-        Call::Plain(Plain::Pattern(PatternCall::CompileLiteral)),
-    ),
+    ("Errors::render", Call::Plain(Plain::Rendered)),
+    ("Pattern::compile", Call::Plain(Plain::Pattern)),
+    ("Pattern::compile_lit", Call::Plain(Plain::LiteralPattern)),
     ("Literal::read", Call::Plain(Plain::Literal)),
     (
         "Literal::escape",
@@ -58,10 +74,7 @@ pub const CALLS: &[(&str, Call)] = &[
         "TypeExpr::clone",
         Call::Plain(Plain::Type(plain::TypeCall::Clone)),
     ),
-    (
-        "print_type",
-        Call::Plain(Plain::Text(plain::TextCall::PrintType)),
-    ),
+    ("print_type", Call::Plain(Plain::TypeText)),
     (
         "replace_lifetimes",
         Call::Plain(Plain::Type(plain::TypeCall::ReplaceLifetimes)),

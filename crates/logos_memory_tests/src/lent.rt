@@ -1,21 +1,23 @@
 //! Calls to which something is lent that they may change: lists of faults, a parser, what is read beside it, and a set of bytes.
 
 use crate::asking::Asking;
-use crate::given::{Given, SPAN, class_of, last_text, said_of};
-use crate::telling::{push_definition, push_generics, push_literal, push_type};
+use crate::given::{Given, SPAN, last_literal, last_token, said_of};
+use crate::telling::{tell_definition, tell_generics, tell_literal, tell_type};
 use logos_graph::byte_class::ByteClass;
 use logos_item::{ItemEnum, read_enum, split_attribute};
 use logos_parser::parser::{
     AttributeParser, Definition, ErrorType, IgnoreFlags, Literal, Nested, NestedValue, Parser,
-    Subpatterns,
+    Subpatterns, TypeParams,
 };
+use logos_pattern::leaf::Leaf;
 use logos_source::said::Said;
 use logos_token::error::{Errors, FaultCode, Memory};
-use logos_token::token::{Ident, Tokens};
+use logos_token::token::{self, Ident, Tokens};
 use logos_token::util::ToIdent;
 use logos_type::{Part, TypeExpr};
 use logos_type_params::Generics;
 use std::alloc::Global;
+use std::ops::RangeInclusive;
 
 /// A call that may change what is lent to it.
 #[derive(Clone, Copy)]
@@ -134,15 +136,13 @@ fn item_of<'t, 's>(alloc: Global, run: Tokens<'t, 's>) -> Result<Box<ItemEnum<'t
     }
 }
 
-/// A definition with the literal that is given.
-fn definition_of<'s>(alloc: Global, given: &Given<'s>) -> Result<Box<Definition<'s>>, Memory> {
-    match Literal::read(alloc, &given.literal.token())? {
-        Some(literal) => Ok(Box::new(alloc, Definition::new(literal))?),
-        None => Err(Memory),
-    }
+/// A definition of the last leaf's literal.
+fn definition_of<'s>(alloc: Global, leaves: &[Leaf<'s>]) -> Result<Box<Definition<'s>>, Memory> {
+    let literal = Box::into_inner(last_literal(alloc, leaves)?);
+    Ok(Box::new(alloc, Definition::new(literal))?)
 }
 
-/// The faults of a parser; a list of four has no room for a fifth.
+/// Four faults; a list of so many has no room for a fifth.
 fn errors_of(alloc: Global, text: &str) -> Result<Errors, Memory> {
     let mut errors = Errors::new(alloc);
     for _ in 0..4 {
@@ -151,31 +151,57 @@ fn errors_of(alloc: Global, text: &str) -> Result<Errors, Memory> {
     Ok(errors)
 }
 
-/// What a source says, with three parameters more, of which one has a type, and with two lifetimes.
-fn widened<'s>(alloc: Global, given: &Given<'s>) -> Result<Box<Said<'s>>, Memory> {
-    let mut said = said_of(alloc, given.source)?;
-    let types = &mut said.parser.types;
+/// The bytes of a text.
+fn class_of(alloc: Global, text: &str) -> Result<ByteClass, Memory> {
+    let mut class = ByteClass {
+        ranges: Vec::new(alloc),
+    };
+    for byte in text.as_bytes() {
+        class.ranges.push(RangeInclusive::new(*byte, *byte))?;
+    }
+    Ok(class)
+}
+
+/// The bytes of a text, in order.
+fn ordered(alloc: Global, text: &str) -> Result<ByteClass, Memory> {
+    let mut class = ByteClass {
+        ranges: Vec::new(alloc),
+    };
+    class.merge(alloc, &class_of(alloc, text)?)?;
+    Ok(class)
+}
+
+/// Gives a parser three parameters more, of which two have a type, and two lifetimes.
+fn widen<'s>(alloc: Global, types: &mut TypeParams<'s>, run: Tokens<'_, 's>) -> Result<(), Memory> {
+    let mut errors = Errors::new(alloc);
     for name in ["A", "B", "C"] {
         types.add(name.to_ident())?;
     }
-    let mut errors = Errors::new(alloc);
-    types.set("A".to_ident(), given.type_tokens.run(), &mut errors)?;
-    types.explicit_lifetime(SPAN, &mut errors)?;
+    types.set("A".to_ident(), run, &mut errors)?;
+    types.set("B".to_ident(), run, &mut errors)?;
+    types.explicit_lifetime(SPAN, &mut errors)
+}
+
+/// What a source says, with more parameters.
+fn widened<'s>(alloc: Global, given: &Given<'s>) -> Result<Box<Said<'s>>, Memory> {
+    let mut said = said_of(alloc, given.source.text)?;
+    widen(alloc, &mut said.parser.types, given.type_tokens.run())?;
     Ok(said)
 }
 
 /// What is lent for one source.
-pub fn lent_of<'t, 's>(alloc: Global, given: &'t Given<'s>) -> Result<Lent<'t, 's>, Memory> {
-    Ok(Lent {
-        errors: errors_of(alloc, given.source)?,
+pub fn lent_of<'t, 's>(alloc: Global, given: &'t Given<'s>) -> Result<Box<Lent<'t, 's>>, Memory> {
+    let lent = Lent {
+        errors: errors_of(alloc, given.source.text)?,
         said: widened(alloc, given)?,
         item: item_of(alloc, given.tokens.run())?,
         pieces: AttributeParser::new(given.arguments.run()),
-        definition: definition_of(alloc, given)?,
+        definition: definition_of(alloc, given.said.leaves.as_slice())?,
         error_type: Box::new(alloc, ErrorType::default(alloc))?,
         flags: IgnoreFlags { ignore_case: false },
-        class: class_of(alloc, given.source)?,
-    })
+        class: ordered(alloc, given.source.text)?,
+    };
+    Ok(Box::new(alloc, lent)?)
 }
 
 /// Gives a parser all parameters of an enum.
@@ -247,13 +273,14 @@ fn unit_by<'s>(
     call: UnitCall,
     given: &Given<'s>,
     lent: &mut Lent<'_, 's>,
+    other: &ByteClass,
 ) -> Result<(), Memory> {
     let parser = &mut lent.said.parser;
     let (errors, arguments) = (&mut lent.errors, given.arguments.run());
     match call {
-        UnitCall::Err => errors.err(FaultCode::Regex, given.source, SPAN),
-        UnitCall::ErrAlso => errors.err_also(FaultCode::Regex, given.source, SPAN, SPAN),
-        UnitCall::ParserErr => parser.err(FaultCode::Regex, given.source, SPAN),
+        UnitCall::Err => errors.err(FaultCode::Regex, given.source.text, SPAN),
+        UnitCall::ErrAlso => errors.err_also(FaultCode::Regex, given.source.text, SPAN, SPAN),
+        UnitCall::ParserErr => parser.err(FaultCode::Regex, given.source.text, SPAN),
         UnitCall::ParseGeneric => parse_parameters(parser, &lent.item),
         UnitCall::TryParseLogos => parse_attributes(parser, &lent.item),
         UnitCall::DefinitionNamed => {
@@ -269,7 +296,7 @@ fn unit_by<'s>(
             .types
             .set("A".to_ident(), given.type_tokens.run(), errors),
         UnitCall::Check => parser.types.check(errors),
-        UnitCall::Merge => Ok(lent.class.merge(alloc, &given.class)?),
+        UnitCall::Merge => Ok(lent.class.merge(alloc, other)?),
     }
 }
 
@@ -277,11 +304,11 @@ fn unit_by<'s>(
 fn literal_by<'s>(
     alloc: Global,
     call: LiteralCall,
-    given: &Given<'s>,
+    token: token::Literal<'s>,
     lent: &mut Lent<'_, 's>,
 ) -> Result<Option<Literal<'s>>, Memory> {
     match call {
-        LiteralCall::Parse => lent.said.parser.parse_literal(given.literal.token()),
+        LiteralCall::Parse => lent.said.parser.parse_literal(token),
         LiteralCall::Parsed => lent.pieces.parsed::<Literal<'s>>(alloc, &mut lent.errors),
     }
 }
@@ -290,20 +317,20 @@ fn literal_by<'s>(
 fn type_by<'s>(
     alloc: Global,
     call: TypeCall,
-    given: &Given<'s>,
     lent: &mut Lent<'_, 's>,
 ) -> Result<Option<TypeExpr<'s>>, Memory> {
     let parser = &mut lent.said.parser;
+    let path = TypeExpr {
+        part: Part::Name("B"),
+    };
     match call {
         TypeCall::Parsed => lent.pieces.parsed::<TypeExpr<'s>>(alloc, &mut lent.errors),
-        TypeCall::Find => parser.types.find(&TypeExpr {
-            part: Part::Name("A"),
-        }),
+        TypeCall::Find => parser.types.find(&path),
         TypeCall::GetType => {
             let errors = &mut lent.errors;
-            Ok(Some(parser.types.get_type(&[], &given.written, SPAN, errors)?))
+            Ok(Some(parser.types.get_type(&[], &path, SPAN, errors)?))
         }
-        TypeCall::ParserGetType => Ok(Some(parser.get_type(&given.written, SPAN)?)),
+        TypeCall::ParserGetType => Ok(Some(parser.get_type(&path, SPAN)?)),
     }
 }
 
@@ -318,20 +345,12 @@ fn generics_by<'s>(
     }
 }
 
-/// The text that a call gives.
-fn text_by(
-    alloc: Global,
-    call: TextCall,
-    given: &Given<'_>,
-    errors: &mut Errors,
-) -> Result<Option<String>, Memory> {
-    let text = match call {
-        TextCall::Own => last_text(given.said.leaves.as_slice()),
+/// The text whose subpatterns a call puts in.
+fn text_for<'s>(call: TextCall, leaves: &[Leaf<'s>]) -> &'s str {
+    match call {
+        TextCall::Own => last_token(leaves).text,
         TextCall::Missing => "(?&h)(?&none)(?&nothing)",
-    };
-    given
-        .subpatterns
-        .subst_subpatterns(alloc, text, SPAN, errors)
+    }
 }
 
 /// Asks a call that gives nothing.
@@ -341,8 +360,9 @@ fn ask_unit<'s>(
     given: &Given<'s>,
     lent: &mut Lent<'_, 's>,
 ) -> Result<(), Memory> {
+    let other = class_of(asking.alloc, "~ 0123 \u{e9}")?;
     asking.begin();
-    let answer = unit_by(asking.alloc, call, given, lent);
+    let answer = unit_by(asking.alloc, call, given, lent, &other);
     asking.end();
     match answer {
         Ok(()) => Ok(()),
@@ -357,28 +377,24 @@ fn ask_literal<'s>(
     given: &Given<'s>,
     lent: &mut Lent<'_, 's>,
 ) -> Result<(), Memory> {
+    let token = last_token(given.said.leaves.as_slice());
     asking.begin();
-    let answer = literal_by(asking.alloc, call, given, lent);
+    let answer = literal_by(asking.alloc, call, token, lent);
     asking.end();
     match answer {
-        Ok(Some(literal)) => push_literal(&mut asking.text, &literal),
+        Ok(Some(literal)) => tell_literal(asking, &literal),
         Ok(None) => Ok(()),
         Err(Memory) => asking.lack(),
     }
 }
 
 /// Asks for a type.
-fn ask_type<'s>(
-    asking: &mut Asking,
-    call: TypeCall,
-    given: &Given<'s>,
-    lent: &mut Lent<'_, 's>,
-) -> Result<(), Memory> {
+fn ask_type(asking: &mut Asking, call: TypeCall, lent: &mut Lent<'_, '_>) -> Result<(), Memory> {
     asking.begin();
-    let answer = type_by(asking.alloc, call, given, lent);
+    let answer = type_by(asking.alloc, call, lent);
     asking.end();
     match answer {
-        Ok(Some(made)) => push_type(asking.alloc, &mut asking.text, &made),
+        Ok(Some(made)) => tell_type(asking, &made),
         Ok(None) => Ok(()),
         Err(Memory) => asking.lack(),
     }
@@ -394,21 +410,25 @@ fn ask_generics(
     let answer = generics_by(call, lent);
     asking.end();
     match answer {
-        Ok(Some(generics)) => push_generics(asking.alloc, &mut asking.text, &generics),
+        Ok(Some(generics)) => tell_generics(asking, &generics),
         Ok(None) => Ok(()),
         Err(Memory) => asking.lack(),
     }
 }
 
-/// Asks for a text.
+/// Asks for a text with the subpatterns of the source put in.
 fn ask_text(
     asking: &mut Asking,
     call: TextCall,
     given: &Given<'_>,
     lent: &mut Lent<'_, '_>,
 ) -> Result<(), Memory> {
+    let text = text_for(call, given.said.leaves.as_slice());
+    let list = given.said.parser.subpatterns.as_slice();
+    let mut errors = Errors::new(asking.alloc);
+    let subpatterns = Subpatterns::new(asking.alloc, list, true, &mut errors)?;
     asking.begin();
-    let answer = text_by(asking.alloc, call, given, &mut lent.errors);
+    let answer = subpatterns.subst_subpatterns(asking.alloc, text, SPAN, &mut lent.errors);
     asking.end();
     match answer {
         Ok(text) => asking.tell(&text),
@@ -428,7 +448,7 @@ fn ask_definition(asking: &mut Asking, lent: &mut Lent<'_, '_>) -> Result<(), Me
     let answer = lent.said.parser.parse_definition_attr(attribute);
     asking.end();
     match answer {
-        Ok(Some(definition)) => push_definition(asking.alloc, &mut asking.text, &definition),
+        Ok(Some(definition)) => tell_definition(asking, &definition),
         Ok(None) => Ok(()),
         Err(Memory) => asking.lack(),
     }
@@ -441,13 +461,13 @@ fn ask_subpatterns(asking: &mut Asking, lent: &mut Lent<'_, '_>) -> Result<(), M
     let answer = Subpatterns::new(asking.alloc, list, true, &mut lent.errors);
     asking.end();
     match answer {
-        Ok(subpatterns) => push_subpatterns(asking, list, &subpatterns),
+        Ok(subpatterns) => tell_subpatterns(asking, list, &subpatterns),
         Err(Memory) => asking.lack(),
     }
 }
 
 /// Adds what is put in for each name.
-fn push_subpatterns(
+fn tell_subpatterns(
     asking: &mut Asking,
     list: &[(Ident<'_>, Literal<'_>)],
     subpatterns: &Subpatterns<'_>,
@@ -485,7 +505,7 @@ pub fn ask<'s>(
     match call {
         Change::Unit(call) => ask_unit(asking, call, given, lent),
         Change::Literal(call) => ask_literal(asking, call, given, lent),
-        Change::Type(call) => ask_type(asking, call, given, lent),
+        Change::Type(call) => ask_type(asking, call, lent),
         Change::Generics(call) => ask_generics(asking, call, lent),
         Change::Text(call) => ask_text(asking, call, given, lent),
         Change::Definition => ask_definition(asking, lent),

@@ -1,8 +1,9 @@
 //! Calls on the graph and the code that a source gives, and on a generator.
 
+ghost use Rattle.std.specs.Prelude.{◌≡◌, []};
+
 use crate::asking::Asking;
-use crate::given::SHAPE;
-use crate::telling::{push_code_leaf, push_fork};
+use crate::telling::{tell_code, tell_code_leaf, tell_fork};
 use logos_codegen::Generated;
 use logos_codegen::generator::Generator;
 use logos_graph::graph::{Graph, State};
@@ -75,7 +76,7 @@ fn ask_text(asking: &mut Asking, call: TextCall, generated: &Generated<'_>) -> R
     let answer = text_by(asking.alloc, call, generated, state);
     asking.end();
     match answer {
-        Ok(text) => Ok(asking.text.push_str(text.as_str())?),
+        Ok(text) => asking.show(&text),
         Err(Memory) => asking.lack(),
     }
 }
@@ -102,10 +103,7 @@ fn ask_code(asking: &mut Asking, generator: &mut Generator<'_, '_>) -> Result<()
     let answer = generator.generate(asking.alloc);
     asking.end();
     match answer {
-        Ok(code) => {
-            let printed = text(asking.alloc, &code)?;
-            Ok(asking.text.push_str(printed.as_str())?)
-        }
+        Ok(code) => tell_code(asking, &code),
         Err(_) => asking.lack(),
     }
 }
@@ -115,8 +113,13 @@ fn ask_fork(
     asking: &mut Asking,
     graph: &Graph<'_>,
     generator: &mut Generator<'_, '_>,
-) -> Result<(), Memory> {
-    let (root, _) = first_states(graph)?;
+) -> Result<(), Memory>
+    requires { graph.now.faults ≡ [] }
+{
+    let mut states = graph.iter_states();
+    let Some(root) = states.next() else {
+        return Err(Memory);
+    };
     if !graph.contains(root) {
         return Err(Memory);
     }
@@ -125,7 +128,7 @@ fn ask_fork(
     let answer = generator.impl_fork(asking.alloc, root, data, true);
     asking.end();
     match answer {
-        Ok(fork) => push_fork(&mut asking.text, &fork),
+        Ok(fork) => tell_fork(asking, &fork),
         Err(_) => asking.lack(),
     }
 }
@@ -186,7 +189,7 @@ fn ask_callback(
     let answer = generator.generate_callback(leaf);
     asking.end();
     match answer {
-        Ok(leaf) => push_code_leaf(asking.alloc, &mut asking.text, &leaf),
+        Ok(leaf) => tell_code_leaf(asking, &leaf),
         Err(_) => asking.lack(),
     }
 }
@@ -219,7 +222,9 @@ pub fn ask(
     call: Made,
     generated: &Generated<'_>,
     generator: &mut Generator<'_, '_>,
-) -> Result<(), Memory> {
+) -> Result<(), Memory>
+    requires { generated.now.graph.faults ≡ [] }
+{
     let graph = &generated.graph;
     match call {
         Made::Text(call) => ask_text(asking, call, generated),

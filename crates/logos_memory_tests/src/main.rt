@@ -17,138 +17,51 @@ mod showing;
 mod sources;
 mod telling;
 
-use asking::is_refusing;
-use calls::CALLS;
+use asking::{Asking, is_refusing};
+use calls::{CALLS, Call};
 use given::{Given, given_of};
 use logos_token::error::Memory;
 use plain::Plain;
-use round::{Call, Round, round_of};
-use sources::{FIRST, SOURCES, Source};
+use sources::{NO_SOURCE, SOURCES, Source};
 use std::alloc::Global;
 use std::process::ExitCode;
 use std::{env, io};
 
-/// What came of the refusals of a call.
-#[derive(Drop)]
-struct Sum {
-    /// The requests that were refused.
-    refused: usize,
-    /// Those of them that ended in want of memory.
-    told: usize,
-    /// Those of the latter behind which what was lent has changed, and is only to be dropped.
-    changed: usize,
-    /// What is wrong, a line for each.
-    wrong: String,
-}
-
-/// What is wrong with a round of a call, if anything is, where this is the answer with ample memory.
-fn fault(call: Call, round: &Round, ample: &str) -> Option<&'static str> {
-    let is_ample = round.first.text.as_str() == ample;
-    let is_ample_again = !round.again.lacked & (round.again.text.as_str() == ample);
-    if !round.first.lacked {
-        return if is_ample {
-            None
-        } else {
-            Some("another answer")
-        };
-    }
-    if call.fails() {
-        return if round.again.lacked {
-            None
-        } else {
-            Some("a parser that has failed goes on")
-        };
-    }
-    if !round.kept {
-        return if call.drops() {
-            None
-        } else {
-            Some("what the caller holds has changed")
-        };
-    }
-    if is_ample_again {
-        None
-    } else {
-        Some("another answer when asked again")
-    }
-}
-
-/// Adds what came of a round.
-fn add(sum: &mut Sum, call: Call, round: &Round, ample: &str, place: &str) -> Result<(), Memory> {
-    if let Some(fault) = fault(call, round, ample) {
-        write!(sum.wrong, "{place}, request {}: {fault}\n", sum.refused)?;
-    }
-    sum.refused = sum.refused.saturating_add(1);
-    sum.told = sum.told.saturating_add(usize::from(round.first.lacked));
-    let is_dropped = call.drops() & !round.kept & round.first.lacked;
-    sum.changed = sum.changed.saturating_add(usize::from(is_dropped));
-    Ok(())
-}
-
 /// Refuses each request of a call for one source in turn, up to this number.
 fn refuse_each(
-    alloc: Global,
-    sum: &mut Sum,
+    asking: &mut Asking,
     call: Call,
     given: &Given<'_>,
-    place: &str,
     last: usize,
 ) -> Result<(), Memory> {
-    let Some(ample) = round_of(alloc, call, given, 0)? else {
-        return Ok(());
-    };
-    if ample.first.lacked {
-        write!(sum.wrong, "{place}: no answer with ample memory\n")?;
-    }
+    round::ask(asking, call, given, 0)?;
+    asking.keep_ample(given.source.name)?;
     for number in 0..last {
-        let Some(round) = round_of(alloc, call, given, number.saturating_add(1))? else {
-            return Ok(());
-        };
-        if !round.first.met {
+        round::ask(asking, call, given, number.saturating_add(1))?;
+        if !asking.met {
             return Ok(());
         }
-        add(sum, call, &round, ample.first.text.as_str(), place)?;
+        asking.judge(call, given.source.name)?;
     }
     Ok(())
 }
 
-/// The sources of which a call is asked. The tokenizer of expressions has one of its own, so it is asked once.
+/// The sources of which a call is asked.
 fn sources_of(call: Call) -> &'static [Source] {
     match call {
-        Call::Plain(Plain::Language | Plain::Expression) => FIRST,
+        Call::Plain(Plain::Language | Plain::Expression) => NO_SOURCE,
         _ => SOURCES,
     }
 }
 
-/// Refuses each request of a call for all its sources in turn.
-fn sum_of(alloc: Global, call: Call, last: usize) -> Result<Sum, Memory> {
-    let mut sum = Sum {
-        refused: 0,
-        told: 0,
-        changed: 0,
-        wrong: String::new(alloc),
-    };
-    for (place, source, input) in sources_of(call) {
-        let given = given_of(alloc, source, input)?;
-        refuse_each(alloc, &mut sum, call, &given, place, last)?;
-    }
-    Ok(sum)
-}
-
-/// What came of a call, as lines.
+/// Refuses each request of a call for all its sources in turn, and says what came of it.
 fn told(alloc: Global, name: &str, call: Call, last: usize) -> Result<String, Memory> {
-    let sum = sum_of(alloc, call, last)?;
-    let unchanged = sum.refused.saturating_sub(sum.told);
-    let mut text = String::new(alloc);
-    write!(
-        text,
-        "{name}: {} refused, {} told, {unchanged} as ever, {} to be dropped\n",
-        sum.refused, sum.told, sum.changed
-    )?;
-    if !sum.wrong.is_empty() {
-        write!(text, "wrong in {name}:\n{}", sum.wrong)?;
+    let mut asking = Asking::new(alloc);
+    for source in sources_of(call) {
+        let given = given_of(alloc, source)?;
+        refuse_each(&mut asking, call, &given, last)?;
     }
-    Ok(text)
+    asking.lines(name)
 }
 
 fn main(rt: HostRuntime) -> io::Result<ExitCode> {

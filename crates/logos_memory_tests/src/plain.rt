@@ -1,10 +1,10 @@
 //! Calls that change nothing that the caller holds.
 
 use crate::asking::Asking;
-use crate::given::{Given, SHAPE, last_text, said_of};
+use crate::given::{Given, SHAPE, first_type, last_literal, last_token, said_of};
 use crate::telling::{
-    push_callback, push_generated, push_graph, push_item, push_kind, push_literal, push_pattern,
-    push_run, push_type,
+    tell_callback, tell_generated, tell_graph, tell_item, tell_kind, tell_literal, tell_pattern,
+    tell_run, tell_type,
 };
 use logos_codegen::expr::{ExprError, Language};
 use logos_codegen::machine::Action;
@@ -25,7 +25,10 @@ use std::alloc::{AllocError, Global};
 pub enum Plain {
     Text(TextCall),
     Stream(StreamCall),
-    Pattern(PatternCall),
+    Pattern,
+    LiteralPattern,
+    Rendered,
+    TypeText,
     Type(TypeCall),
     Tokenize,
     Value,
@@ -47,9 +50,7 @@ pub enum Plain {
 pub enum TextCall {
     Print,
     PrintMaybe,
-    PrintType,
     Escape,
-    Rendered,
 }
 
 /// A call that gives tokens.
@@ -59,13 +60,6 @@ pub enum StreamCall {
     Clone,
     FromIdent,
     ToStream,
-}
-
-/// A call that gives a pattern.
-#[derive(Clone, Copy)]
-pub enum PatternCall {
-    Compile,
-    CompileLiteral,
 }
 
 /// A call that gives a type.
@@ -92,13 +86,16 @@ fn made_of<'s>(alloc: Global, run: Tokens<'_, 's>) -> Result<TokenStream<'s>, Me
 }
 
 /// The text that a call gives.
-fn text_by(alloc: Global, call: TextCall, given: &Given<'_>) -> Result<Option<String>, Memory> {
+fn text_by(
+    alloc: Global,
+    call: TextCall,
+    given: &Given<'_>,
+    literal: &Literal<'_>,
+) -> Result<String, Memory> {
     match call {
-        TextCall::Print => Ok(Some(print(alloc, given.tokens.run())?)),
-        TextCall::PrintMaybe => Ok(Some(given.maybe.print(alloc)?)),
-        TextCall::PrintType => Ok(Some(print_type(alloc, &given.written)?)),
-        TextCall::Escape => Ok(Some(given.literal.escape(alloc, true)?)),
-        TextCall::Rendered => given.said.parser.errors.render(),
+        TextCall::Print => print(alloc, given.tokens.run()),
+        TextCall::PrintMaybe => given.said.parser.extras.print(alloc),
+        TextCall::Escape => literal.escape(alloc, true),
     }
 }
 
@@ -110,41 +107,41 @@ fn stream_by<'s>(
 ) -> Result<TokenStream<'s>, Memory> {
     match call {
         StreamCall::WithTree => made_of(alloc, given.tokens.run()),
-        StreamCall::Clone => Ok(given.tokens.clone()?),
-        StreamCall::FromIdent => Ok(TokenStream::from_ident(alloc, given.source.to_ident())?),
+        StreamCall::Clone => Ok(TokenStream::clone(&given.tokens)?),
+        StreamCall::FromIdent => Ok(TokenStream::from_ident(alloc, given.source.text.to_ident())?),
         StreamCall::ToStream => given.tokens.run().to_stream(alloc),
     }
 }
 
 /// The type that a call gives.
-fn type_by<'s>(alloc: Global, call: TypeCall, given: &Given<'s>) -> Result<TypeExpr<'s>, Memory> {
-    match call {
-        TypeCall::Clone => Ok(TypeExpr::clone(&given.written)?),
-        TypeCall::ReplaceLifetimes => replace_lifetimes(alloc, &given.written),
-        TypeCall::ReplaceLifetime => replace_lifetime(alloc, &given.written),
-    }
-}
-
-/// The pattern that a call gives.
-fn pattern_by<'s>(
+fn type_by<'s>(
     alloc: Global,
-    call: PatternCall,
-    given: &Given<'s>,
-) -> Result<Pattern<'s>, PatternError> {
-    let text = last_text(given.said.leaves.as_slice());
+    call: TypeCall,
+    written: &TypeExpr<'s>,
+) -> Result<TypeExpr<'s>, Memory> {
     match call {
-        PatternCall::Compile => Pattern::compile(alloc, false, text, text, true, true),
-        PatternCall::CompileLiteral => match Pattern::compile_lit(alloc, &given.literal) {
-            Ok(pattern) => Ok(pattern),
-            Err(Memory) => Err(PatternError::Memory),
-        },
+        TypeCall::Clone => Ok(TypeExpr::clone(written)?),
+        TypeCall::ReplaceLifetimes => replace_lifetimes(alloc, written),
+        TypeCall::ReplaceLifetime => replace_lifetime(alloc, written),
     }
 }
 
 /// Asks for a text.
 fn ask_text(asking: &mut Asking, call: TextCall, given: &Given<'_>) -> Result<(), Memory> {
+    let literal = last_literal(asking.alloc, given.said.leaves.as_slice())?;
     asking.begin();
-    let answer = text_by(asking.alloc, call, given);
+    let answer = text_by(asking.alloc, call, given, &literal);
+    asking.end();
+    match answer {
+        Ok(text) => asking.tell(&text),
+        Err(Memory) => asking.lack(),
+    }
+}
+
+/// Asks for the text of the faults.
+fn ask_rendered(asking: &mut Asking, given: &Given<'_>) -> Result<(), Memory> {
+    asking.begin();
+    let answer = given.said.parser.errors.render();
     asking.end();
     match answer {
         Ok(text) => asking.tell(&text),
@@ -158,41 +155,71 @@ fn ask_stream(asking: &mut Asking, call: StreamCall, given: &Given<'_>) -> Resul
     let answer = stream_by(asking.alloc, call, given);
     asking.end();
     match answer {
-        Ok(stream) => push_run(asking.alloc, &mut asking.text, stream.run()),
+        Ok(stream) => tell_run(asking, stream.run()),
         Err(Memory) => asking.lack(),
     }
 }
 
-/// Asks for a type.
+/// Asks for a type, where the source has one.
 fn ask_type(asking: &mut Asking, call: TypeCall, given: &Given<'_>) -> Result<(), Memory> {
+    let Some(written) = first_type(given.said.leaves.as_slice()) else {
+        return Ok(());
+    };
     asking.begin();
-    let answer = type_by(asking.alloc, call, given);
+    let answer = type_by(asking.alloc, call, written);
     asking.end();
     match answer {
-        Ok(made) => push_type(asking.alloc, &mut asking.text, &made),
+        Ok(made) => tell_type(asking, &made),
         Err(Memory) => asking.lack(),
     }
 }
 
-/// Asks for a pattern.
-fn ask_pattern(asking: &mut Asking, call: PatternCall, given: &Given<'_>) -> Result<(), Memory> {
+/// Asks for the text of a type, where the source has one.
+fn ask_type_text(asking: &mut Asking, given: &Given<'_>) -> Result<(), Memory> {
+    let Some(written) = first_type(given.said.leaves.as_slice()) else {
+        return Ok(());
+    };
     asking.begin();
-    let answer = pattern_by(asking.alloc, call, given);
+    let answer = print_type(asking.alloc, written);
     asking.end();
     match answer {
-        Ok(pattern) => push_pattern(&mut asking.text, &pattern),
+        Ok(text) => asking.tell(&text),
+        Err(Memory) => asking.lack(),
+    }
+}
+
+/// Asks for the pattern that the text of a literal spells.
+fn ask_pattern(asking: &mut Asking, given: &Given<'_>) -> Result<(), Memory> {
+    let text = last_token(given.said.leaves.as_slice()).text;
+    asking.begin();
+    let answer = Pattern::compile(asking.alloc, false, text, text, true, true);
+    asking.end();
+    match answer {
+        Ok(pattern) => tell_pattern(asking, &pattern),
         Err(PatternError::Memory) => asking.lack(),
         Err(error) => asking.tell(&error),
+    }
+}
+
+/// Asks for the pattern of a literal's bytes.
+fn ask_literal_pattern(asking: &mut Asking, given: &Given<'_>) -> Result<(), Memory> {
+    let literal = last_literal(asking.alloc, given.said.leaves.as_slice())?;
+    asking.begin();
+    let answer = Pattern::compile_lit(asking.alloc, &literal);
+    asking.end();
+    match answer {
+        Ok(pattern) => tell_pattern(asking, &pattern),
+        Err(Memory) => asking.lack(),
     }
 }
 
 /// Asks for the tokens of the source.
 fn ask_tokens(asking: &mut Asking, given: &Given<'_>) -> Result<(), Memory> {
     asking.begin();
-    let answer = tokenize(asking.alloc, given.source);
+    let answer = tokenize(asking.alloc, given.source.text);
     asking.end();
     match answer {
-        Ok(stream) => push_run(asking.alloc, &mut asking.text, stream.run()),
+        Ok(stream) => tell_run(asking, stream.run()),
         Err(TokenError::Memory) => asking.lack(),
         Err(error) => asking.tell(&error),
     }
@@ -200,9 +227,9 @@ fn ask_tokens(asking: &mut Asking, given: &Given<'_>) -> Result<(), Memory> {
 
 /// Asks for the value of a literal.
 fn ask_value(asking: &mut Asking, given: &Given<'_>) -> Result<(), Memory> {
-    let literal = given.literal.token();
+    let token = last_token(given.said.leaves.as_slice());
     asking.begin();
-    let answer = literal.value(asking.alloc);
+    let answer = token.value(asking.alloc);
     asking.end();
     match answer {
         Ok(value) => asking.tell(&value),
@@ -212,35 +239,44 @@ fn ask_value(asking: &mut Asking, given: &Given<'_>) -> Result<(), Memory> {
 
 /// Asks for the literal that a token is.
 fn ask_literal(asking: &mut Asking, given: &Given<'_>) -> Result<(), Memory> {
-    let token = given.literal.token();
+    let token = last_token(given.said.leaves.as_slice());
     asking.begin();
     let answer = Literal::read(asking.alloc, &token);
     asking.end();
     match answer {
-        Ok(Some(literal)) => push_literal(&mut asking.text, &literal),
+        Ok(Some(literal)) => tell_literal(asking, &literal),
         Ok(None) => Ok(()),
         Err(Memory) => asking.lack(),
     }
 }
 
-/// Asks for a copy of a kind.
+/// Asks for a copy of the kind of the last leaf.
 fn ask_kind(asking: &mut Asking, given: &Given<'_>) -> Result<(), Memory> {
+    let [.., leaf] = given.said.leaves.as_slice() else {
+        return Ok(());
+    };
     asking.begin();
-    let answer: Result<VariantKind<'_>, AllocError> = VariantKind::clone(&given.kind);
+    let answer: Result<VariantKind<'_>, AllocError> = leaf.kind.clone();
     asking.end();
     match answer {
-        Ok(kind) => push_kind(asking.alloc, &mut asking.text, &kind),
+        Ok(kind) => tell_kind(asking, &kind),
         Err(_) => asking.lack(),
     }
 }
 
-/// Asks for a copy of a callback.
+/// Asks for a copy of the callback of the first leaf, if it has one.
 fn ask_callback(asking: &mut Asking, given: &Given<'_>) -> Result<(), Memory> {
+    let [leaf, ..] = given.said.leaves.as_slice() else {
+        return Ok(());
+    };
+    let Some(callback) = &leaf.callback else {
+        return Ok(());
+    };
     asking.begin();
-    let answer: Result<Callback<'_>, AllocError> = Callback::clone(&given.callback);
+    let answer: Result<Callback<'_>, AllocError> = callback.clone();
     asking.end();
     match answer {
-        Ok(callback) => push_callback(asking.alloc, &mut asking.text, &callback),
+        Ok(callback) => tell_callback(asking, &callback),
         Err(_) => asking.lack(),
     }
 }
@@ -251,7 +287,7 @@ fn ask_enum(asking: &mut Asking, given: &Given<'_>) -> Result<(), Memory> {
     let answer = read_enum(asking.alloc, given.tokens.run());
     asking.end();
     match answer {
-        Ok(item) => push_item(asking.alloc, &mut asking.text, &item),
+        Ok(item) => tell_item(asking, &item),
         Err(ReadError::Memory) => asking.lack(),
         Err(error) => asking.tell(&error),
     }
@@ -270,12 +306,12 @@ fn ask_held(asking: &mut Asking, given: &Given<'_>) -> Result<(), Memory> {
 
 /// Asks for the graph of leaves, which goes with them.
 fn ask_graph(asking: &mut Asking, given: &Given<'_>) -> Result<(), Memory> {
-    let said = Box::into_inner(said_of(asking.alloc, given.source)?);
+    let said = Box::into_inner(said_of(asking.alloc, given.source.text)?);
     asking.begin();
     let answer = Graph::new(asking.alloc, said.leaves, MODE);
     asking.end();
     match answer {
-        Ok(graph) => push_graph(&mut asking.text, &graph),
+        Ok(graph) => tell_graph(asking, &graph),
         Err(BuildError::Memory) => asking.lack(),
         Err(error) => asking.tell(&error),
     }
@@ -284,10 +320,10 @@ fn ask_graph(asking: &mut Asking, given: &Given<'_>) -> Result<(), Memory> {
 /// Asks for the source without what belongs to the derive macro.
 fn ask_strip(asking: &mut Asking, given: &Given<'_>) -> Result<(), Memory> {
     asking.begin();
-    let answer = strip_attributes(asking.alloc, given.source);
+    let answer = strip_attributes(asking.alloc, given.source.text);
     asking.end();
     match answer {
-        Ok(stream) => push_run(asking.alloc, &mut asking.text, stream.run()),
+        Ok(stream) => tell_run(asking, stream.run()),
         Err(Refusal::Memory) => asking.lack(),
         Err(Refusal::Errors(errors)) => asking.tell(&errors),
     }
@@ -296,10 +332,10 @@ fn ask_strip(asking: &mut Asking, given: &Given<'_>) -> Result<(), Memory> {
 /// Asks for what the source gives.
 fn ask_generated(asking: &mut Asking, given: &Given<'_>) -> Result<(), Memory> {
     asking.begin();
-    let answer = generate(asking.alloc, given.source, SHAPE);
+    let answer = generate(asking.alloc, given.source.text, SHAPE);
     asking.end();
     match answer {
-        Ok(generated) => push_generated(asking.alloc, &mut asking.text, &generated),
+        Ok(generated) => tell_generated(asking, &generated),
         Err(Refusal::Memory) => asking.lack(),
         Err(Refusal::Errors(errors)) => asking.tell(&errors),
     }
@@ -309,7 +345,13 @@ fn ask_generated(asking: &mut Asking, given: &Given<'_>) -> Result<(), Memory> {
 fn ask_items(asking: &mut Asking, given: &Given<'_>) -> Result<(), Memory> {
     let emit = |_leaf, _slice: &[u8]| Action::Emit;
     asking.begin();
-    let answer = lex_source(asking.alloc, given.source, SHAPE, given.input, emit);
+    let answer = lex_source(
+        asking.alloc,
+        given.source.text,
+        SHAPE,
+        given.source.input,
+        emit,
+    );
     asking.end();
     match answer {
         Ok(items) => asking.tell(&items),
@@ -350,7 +392,10 @@ pub fn ask(asking: &mut Asking, call: Plain, given: &Given<'_>) -> Result<(), Me
     match call {
         Plain::Text(call) => ask_text(asking, call, given),
         Plain::Stream(call) => ask_stream(asking, call, given),
-        Plain::Pattern(call) => ask_pattern(asking, call, given),
+        Plain::Pattern => ask_pattern(asking, given),
+        Plain::LiteralPattern => ask_literal_pattern(asking, given),
+        Plain::Rendered => ask_rendered(asking, given),
+        Plain::TypeText => ask_type_text(asking, given),
         Plain::Type(call) => ask_type(asking, call, given),
         Plain::Tokenize => ask_tokens(asking, given),
         Plain::Value => ask_value(asking, given),

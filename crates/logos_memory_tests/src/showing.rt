@@ -1,91 +1,105 @@
 //! What is lent to a call, as a text.
 
+use crate::asking::Asking;
 use crate::lent::Lent;
-use crate::telling::{push_callback, push_definition, push_generics, push_literal, push_run};
+use crate::telling::{tell_any, tell_definition, tell_generics, tell_literal, tell_run};
 use logos_definition::error_type::ErrorType;
 use logos_definition::parser::Parser;
+use logos_generator::generator::Generator;
 use logos_token::error::{Errors, Memory};
-use std::alloc::Global;
 
-/// Adds the type of errors.
-fn push_error_type(
-    alloc: Global,
-    out: &mut String,
-    error_type: &ErrorType<'_>,
-) -> Result<(), Memory> {
-    let printed = error_type.print(alloc)?;
-    out.push_str(printed.as_str())?;
-    match &error_type.callback {
-        Some(callback) => push_callback(alloc, out, callback),
-        None => Ok(()),
-    }
+/// Tells a type of errors.
+fn tell_error_type(asking: &mut Asking, error_type: &ErrorType<'_>) -> Result<(), Memory> {
+    let printed = error_type.print(asking.alloc)?;
+    asking.show(&printed)?;
+    tell_any(asking, &error_type.callback)
 }
 
-/// Adds the type of errors that a parser has, if it has one.
-fn push_error(alloc: Global, out: &mut String, parser: &Parser<'_>) -> Result<(), Memory> {
+/// Tells the type of errors that a parser has, if it has one.
+fn tell_error(asking: &mut Asking, parser: &Parser<'_>) -> Result<(), Memory> {
     match &parser.error_type {
-        Some(error_type) => push_error_type(alloc, out, error_type),
+        Some(error_type) => tell_error_type(asking, error_type),
         None => Ok(()),
     }
 }
 
-/// Adds the path of the library, if there is one.
-fn push_path(alloc: Global, out: &mut String, parser: &Parser<'_>) -> Result<(), Memory> {
+/// Tells the path of the library, if there is one.
+fn tell_path(asking: &mut Asking, parser: &Parser<'_>) -> Result<(), Memory> {
     match &parser.logos_path {
-        Some(path) => push_run(alloc, out, path.run()),
+        Some(path) => tell_run(asking, path.run()),
         None => Ok(()),
     }
 }
 
-/// Adds the skips.
-fn push_skips(alloc: Global, out: &mut String, parser: &Parser<'_>) -> Result<(), Memory> {
+/// Tells where the chart goes, if that is said.
+fn tell_export(asking: &mut Asking, parser: &Parser<'_>) -> Result<(), Memory> {
+    match &parser.export_path {
+        Some(export) => asking.show(&export.path),
+        None => Ok(()),
+    }
+}
+
+/// Tells which mode is said, if one is.
+fn tell_mode(asking: &mut Asking, parser: &Parser<'_>) -> Result<(), Memory> {
+    match parser.utf8_mode {
+        Some(mode) => asking.tell(&mode.value),
+        None => Ok(()),
+    }
+}
+
+/// Tells the skips.
+fn tell_skips(asking: &mut Asking, parser: &Parser<'_>) -> Result<(), Memory> {
     for skip in &parser.skips {
-        push_definition(alloc, out, skip)?;
+        tell_definition(asking, skip)?;
     }
     Ok(())
 }
 
-/// Adds the subpatterns.
-fn push_named(out: &mut String, parser: &Parser<'_>) -> Result<(), Memory> {
+/// Tells the subpatterns.
+fn tell_named(asking: &mut Asking, parser: &Parser<'_>) -> Result<(), Memory> {
     for (name, literal) in &parser.subpatterns {
-        write!(out, "{name:?} ")?;
-        push_literal(out, literal)?;
+        asking.tell(name)?;
+        tell_literal(asking, literal)?;
     }
     Ok(())
 }
 
-/// Adds the types of the parameters, and the faults of those without one.
-fn push_types(alloc: Global, out: &mut String, parser: &Parser<'_>) -> Result<(), Memory> {
-    let mut missing = Errors::new(alloc);
-    if let Some(generics) = parser.types.generics(&mut missing)? {
-        return push_generics(alloc, out, &generics);
+/// Tells the types of the parameters, or the faults of those without one.
+fn tell_types(asking: &mut Asking, parser: &Parser<'_>) -> Result<(), Memory> {
+    let mut missing = Errors::new(asking.alloc);
+    match parser.types.generics(&mut missing)? {
+        Some(generics) => tell_generics(asking, &generics),
+        None => asking.tell(&missing),
     }
-    Ok(write!(out, "{missing:?} ")?)
 }
 
-/// Adds what a parser holds.
-fn push_parser(alloc: Global, out: &mut String, parser: &Parser<'_>) -> Result<(), Memory> {
-    push_skips(alloc, out, parser)?;
-    push_named(out, parser)?;
-    push_error(alloc, out, parser)?;
-    push_path(alloc, out, parser)?;
-    push_types(alloc, out, parser)?;
-    let extras = parser.extras.print(alloc)?;
-    let mode = parser.utf8_mode.map(|mode| mode.value);
-    let export = parser
-        .export_path
-        .as_ref()
-        .map(|export| export.path.as_str());
-    Ok(write!(out, "{extras} {mode:?} {export:?} {:?} ", parser.errors)?)
+/// Tells what a parser holds.
+fn tell_parser(asking: &mut Asking, parser: &Parser<'_>) -> Result<(), Memory> {
+    tell_skips(asking, parser)?;
+    tell_named(asking, parser)?;
+    tell_error(asking, parser)?;
+    tell_path(asking, parser)?;
+    tell_export(asking, parser)?;
+    tell_mode(asking, parser)?;
+    tell_types(asking, parser)?;
+    let extras = parser.extras.print(asking.alloc)?;
+    asking.show(&extras)?;
+    asking.tell(&parser.errors)
 }
 
-/// What is lent, as a text.
-pub fn shown(alloc: Global, lent: &Lent<'_, '_>) -> Result<String, Memory> {
-    let mut out = String::new(alloc);
-    push_parser(alloc, &mut out, &lent.said.parser)?;
-    push_definition(alloc, &mut out, &lent.definition)?;
-    push_error_type(alloc, &mut out, &lent.error_type)?;
-    let (left, ignores) = (lent.pieces.count(), lent.flags.ignore_case);
-    write!(out, "{left} {ignores} {} {:?}", lent.class, lent.errors)?;
-    Ok(out)
+/// Tells what is lent.
+pub fn tell_lent(asking: &mut Asking, lent: &Lent<'_, '_>) -> Result<(), Memory> {
+    tell_parser(asking, &lent.said.parser)?;
+    tell_definition(asking, &lent.definition)?;
+    tell_error_type(asking, &lent.error_type)?;
+    asking.tell(&lent.pieces.count())?;
+    asking.tell(&lent.flags.ignore_case)?;
+    asking.show(&lent.class)?;
+    asking.tell(&lent.errors)
+}
+
+/// Tells the tables of a generator.
+pub fn tell_tables(asking: &mut Asking, generator: &Generator<'_, '_>) -> Result<(), Memory> {
+    let tables = generator.render_luts(asking.alloc)?;
+    asking.tell(&tables)
 }

@@ -17,9 +17,6 @@ enum Token {
 }
 "#;
 
-/// An input of it.
-const SENTENCE_INPUT: &[u8] = b"Create ridiculously fast Lexers.";
-
 /// Bytes that are no text.
 const BYTES: &str = "#[logos(utf8 = false)] enum T { #[regex(b\"\\xFF+\")] A }";
 
@@ -50,18 +47,51 @@ enum Whole<'a, N> {
 }
 "##;
 
-/// A source: its name, its text and an input.
-pub type Source = (&'static str, &'static str, &'static [u8]);
-
-/// The first source.
-pub const FIRST: &[Source] = &[("sentence", SENTENCE, SENTENCE_INPUT)];
+/// A source, of which calls are asked.
+pub struct Source {
+    pub name: &'static str,
+    pub text: &'static str,
+    /// An input of its lexer.
+    pub input: &'static [u8],
+}
 
 /// All sources.
 pub const SOURCES: &[Source] = &[
-    ("sentence", SENTENCE, SENTENCE_INPUT),
-    ("bytes", BYTES, b"\xFF\xFF\x00"),
-    ("held", HELD, b"xa"),
-    ("named", NAMED, b"#0f#0"),
-    ("missing", MISSING, b"y"),
-    ("whole", WHOLE, b"L x 12 ."),
+    Source {
+        name: "sentence",
+        text: SENTENCE,
+        input: b"Create ridiculously fast Lexers.",
+    },
+    Source {
+        name: "bytes",
+        text: BYTES,
+        input: b"\xFF\xFF\x00",
+    },
+    Source {
+        name: "held",
+        text: HELD,
+        input: b"xa",
+    },
+    Source {
+        name: "named",
+        text: NAMED,
+        input: b"#0f#0",
+    },
+    Source {
+        name: "missing",
+        text: MISSING,
+        input: b"y",
+    },
+    Source {
+        name: "whole",
+        text: WHOLE,
+        input: b"L x 12 .",
+    },
 ];
+
+/// A source for calls that take none.
+pub const NO_SOURCE: &[Source] = &[Source {
+    name: "none",
+    text: "enum None {}",
+    input: b"",
+}];
