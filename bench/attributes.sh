@@ -53,3 +53,7 @@ measure "100,000 attributes of one variant" attributes 100000
 measure "250 parameters with types" parameters 250
 measure "500 parameters with types" parameters 500
 measure "1,000 parameters with types" parameters 1000
+measure "10,000 parameters with types" parameters 10000
+measure "50,000 parameters with types" parameters 50000
+measure "10,000 parameters, each with a type twice" twice 10000
+measure "50,000 parameters, each with a type twice" twice 50000

@@ -39,6 +39,13 @@ def parameters(count):
     return f"#[logos({types})]\nenum E<{names}> {{ #[token(\"a\")] A(T0) }}\n"
 
 
+def twice(count):
+    """So many parameters, to each of which two types are given."""
+    names = ", ".join(f"T{number}" for number in range(count))
+    types = ", ".join(f"type T{number} = u8" for number in range(count))
+    return f"#[logos({types}, {types})]\nenum E<{names}> {{ #[token(\"a\")] A(T0) }}\n"
+
+
 KINDS = {
     "pieces": pieces,
     "skips": skips,
@@ -46,6 +53,7 @@ KINDS = {
     "subpatterns": subpatterns,
     "attributes": attributes,
     "parameters": parameters,
+    "twice": twice,
 }
 
 sys.stdout.write(KINDS[sys.argv[1]](int(sys.argv[2])))

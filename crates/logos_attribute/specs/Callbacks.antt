@@ -21,31 +21,31 @@ abbrev pub view_span : CallbackView → Span
 view_span (label tokens) = run_span tokens
 view_span (inline arg body span) = span
 
-abbrev pub closure_fault : Span → Fault
-closure_fault span = fault CallbackClosure (codes "Inline callbacks must use closure syntax with exactly one parameter") span
+abbrev pub callback_closure : Span → Fault
+callback_closure span = fault CallbackClosure (codes "Inline callbacks must use closure syntax with exactly one parameter") span
 
-abbrev pub body_fault : Span → Fault
-body_fault span = fault CallbackBody (codes "Callback missing a body") span
+abbrev pub callback_body : Span → Fault
+callback_body span = fault CallbackBody (codes "Callback missing a body") span
 
 -- behind the second `|`: the body, a group without its delimiters
 abbrev pub body_in : Span → Slice → TokenList → Result CallbackView Fault
-body_in span arg none = Err (body_fault span)
+body_in span arg none = Err (callback_body span)
 body_in span arg (also (group delimiter at inside) rest) = Ok (inline arg inside span)
 body_in span arg run = Ok (inline arg run span)
 
 -- behind the parameter: a lone `|`
 abbrev pub bar_in : Span → Slice → TokenList → Result CallbackView Fault
-bar_in span arg none = Err (body_fault span)
-bar_in span arg (also token rest) = if is_alone bar token then body_in span arg rest else Err (closure_fault span)
+bar_in span arg none = Err (callback_body span)
+bar_in span arg (also token rest) = if is_alone bar token then body_in span arg rest else Err (callback_closure span)
 
 -- behind the first `|`: the parameter
 abbrev pub parameter_in : Span → TokenList → Result CallbackView Fault
 parameter_in span (also (identifier text at) rest) = bar_in span (record { text = text; span = at }) rest
-parameter_in span run = Err (closure_fault span)
+parameter_in span run = Err (callback_closure span)
 
 -- a callback: a closure begins with a lone `|`, all else names a function
 abbrev pub callback_in : TokenList → Result CallbackView Fault
-callback_in none = Err (closure_fault (run_span none))
+callback_in none = Err (callback_closure (run_span none))
 callback_in (also first rest) =
     if is_alone bar first then parameter_in (run_span (also first rest)) rest
     else Ok (label (also first rest))
@@ -54,11 +54,18 @@ callback_in (also first rest) =
 abbrev pub callback_told : TokenList → Told (Option CallbackView)
 callback_told run = elim (callback_in run) [ Ok callback ↦ quiet (Some callback) | Err cause ↦ telling None (only cause) ]
 
+abbrev pub callback_twice : Slice → (here : Span) → Fault
+callback_twice name here = fault_also CallbackTwice (codes "Callback has been already set") here name.span
+
+abbrev pub previous_callback : Span → Fault
+previous_callback there = fault Previous (codes "Previous callback set here") there
+
+abbrev pub callback_value_fault : TokenList → Fault
+callback_value_fault run = fault CallbackValue (codes "Not a valid callback") (run_span run)
+
 -- the faults of a second `callback = ..`, with its value here and the former callback there
 abbrev pub twice_at : Slice → (here there : Span) → List Fault
-twice_at name here there =
-    fault_also CallbackTwice (codes "Callback has been already set") here name.span
-    ∷ fault Previous (codes "Previous callback set here") there ∷ []
+twice_at name here there = callback_twice name here ∷ previous_callback there ∷ []
 
 abbrev pub callback_again : Slice → TokenList → Option CallbackView → List Fault
 callback_again name run None = []
@@ -68,5 +75,5 @@ callback_again name run (Some former) = twice_at name (run_span run) (view_span 
 abbrev pub callback_set : Slice → TokenList → Option CallbackView → Told (Option CallbackView)
 callback_set name run former = elim (callback_in run) [
   | Ok callback ↦ telling (Some callback) (callback_again name run former)
-  | Err cause ↦ telling former (cause ∷ fault CallbackValue (codes "Not a valid callback") (run_span run) ∷ [])
+  | Err cause ↦ telling former (cause ∷ callback_value_fault run ∷ [])
 ]

@@ -11,33 +11,33 @@ use Rattle.logos_attribute.specs.Slices.{Slice}
 use Rattle.logos_attribute.specs.Pieces.{comma}
 use Rattle.logos_attribute.specs.Told.{Told, telling, quiet, fault, fault_about, only}
 
-abbrev pub unknown_flag : Slice → Fault
-unknown_flag flag = fault_about IgnoreUnknown (codes "Unknown flag: ") flag (codes "\n\nExpected one of: case")
+abbrev pub ignore_unknown : Slice → Fault
+ignore_unknown flag = fault_about IgnoreUnknown (codes "Unknown flag: ") flag (codes "\n\nExpected one of: case")
 
-abbrev pub ascii_flag : Slice → Fault
-ascii_flag flag = fault IgnoreAscii (codes "The flag \"ascii_case\" is no longer supported") flag.span
+abbrev pub ignore_ascii : Slice → Fault
+ignore_ascii flag = fault IgnoreAscii (codes "The flag \"ascii_case\" is no longer supported") flag.span
 
 -- a flag other than `case`
 abbrev pub other_flag : Slice → Fault
 other_flag flag =
-    if bytes_eq flag.text (codes "ascii_case") then ascii_flag flag else unknown_flag flag
+    if bytes_eq flag.text (codes "ascii_case") then ignore_ascii flag else ignore_unknown flag
 
-abbrev pub no_flag : Slice → Fault
-no_flag name = fault IgnoreEmpty (codes "Invalid ignore flag\n\nExpected one of: case") name.span
+abbrev pub ignore_empty : Slice → Fault
+ignore_empty name = fault IgnoreEmpty (codes "Invalid ignore flag\n\nExpected one of: case") name.span
 
-abbrev pub no_comma : Token → Fault
-no_comma token = fault IgnoreToken ((codes "Unexpected token: \"" ++ escaped (printed (also token none))) ++ codes "\"") (span_of token)
+abbrev pub ignore_token : Token → Fault
+ignore_token token = fault IgnoreToken ((codes "Unexpected token: \"" ++ escaped (printed (also token none))) ++ codes "\"") (span_of token)
 
 abbrev mutual
   -- The flags in `ignore(..)`, whose name is given, behind what was said before; they are read up to a fault. `found` says that a flag was.
   pub flags_told : Slice → (found ignore_case : Bool) → TokenList → Told Bool
-  flags_told name found ignore_case none = telling ignore_case (if found then [] else only (no_flag name))
+  flags_told name found ignore_case none = telling ignore_case (if found then [] else only (ignore_empty name))
   flags_told name found ignore_case (also (identifier text span) rest) =
       if bytes_eq text (codes "case") then behind_flag name rest
       else telling ignore_case (only (other_flag (record { text = text; span = span })))
-  flags_told name found ignore_case (also token rest) = telling ignore_case (only (no_flag name))
+  flags_told name found ignore_case (also token rest) = telling ignore_case (only (ignore_empty name))
 
   -- behind `case`: a lone comma, or nothing
   pub behind_flag : Slice → TokenList → Told Bool
   behind_flag name none = quiet true
-  behind_flag name (also token rest) = if is_alone comma token then flags_told name true true rest else telling true (only (no_comma token))
+  behind_flag name (also token rest) = if is_alone comma token then flags_told name true true rest else telling true (only (ignore_token token))

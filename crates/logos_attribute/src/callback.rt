@@ -6,7 +6,7 @@ ghost use Rattle.logos_attribute.specs.Slices.{ident_slice};
 ghost use Rattle.logos_attribute.specs.Told.{Tells, Lists};
 ghost use Rattle.logos_attribute.specs.Callbacks.{body_in, bar_in, parameter_in, callback_in};
 ghost use Rattle.logos_attribute.specs.Callbacks.{callback_told, callback_set, twice_at, view_span};
-ghost use Rattle.logos_attribute.specs.Callbacks.{closure_fault, body_fault};
+ghost use Rattle.logos_attribute.specs.Callbacks.{callback_closure, callback_body};
 ghost use Rattle.logos_attribute.specs.CallbackViews.{callback_view};
 ghost use Rattle.logos_attribute.specs.inside.CallbackRuns.{run_view, misfit_fault, read_view};
 
@@ -100,7 +100,7 @@ fn copied<'s>(alloc: Global, run: CallbackRun<'_, 's>, span: Span) -> Result<Cal
 
 /// Lists that tokens are no closure.
 fn list_closure(errors: &mut Errors, span: Span) -> Result<(), Memory>
-    ensures { OnOk result (Lists (closure_fault span) errors.old errors.new) }
+    ensures { OnOk result (Lists (callback_closure span) errors.old errors.new) }
 {
     errors.err(
         FaultCode::CallbackClosure,
@@ -112,7 +112,7 @@ fn list_closure(errors: &mut Errors, span: Span) -> Result<(), Memory>
 
 /// Lists that a closure has no body.
 fn list_body(errors: &mut Errors, span: Span) -> Result<(), Memory>
-    ensures { OnOk result (Lists (body_fault span) errors.old errors.new) }
+    ensures { OnOk result (Lists (callback_body span) errors.old errors.new) }
 {
     errors.err(FaultCode::CallbackBody, "Callback missing a body", span)?;
     Ok(())

@@ -6,8 +6,8 @@ ghost use Rattle.logos_token.specs.Printing.{printed};
 ghost use Rattle.logos_attribute.specs.Slices.{Slice, ident_slice};
 ghost use Rattle.logos_attribute.specs.Told.{Tells, Lists};
 ghost use Rattle.logos_attribute.specs.Nested.{IsSplit};
-ghost use Rattle.logos_attribute.specs.Flags.{flags_told, ascii_flag, other_flag};
-ghost use Rattle.logos_attribute.specs.Flags.{no_flag, no_comma};
+ghost use Rattle.logos_attribute.specs.Flags.{flags_told, ignore_ascii, other_flag};
+ghost use Rattle.logos_attribute.specs.Flags.{ignore_empty, ignore_token};
 ghost use Rattle.logos_attribute.specs.inside.FlagSteps.{GoesOn, HasCase};
 
 use crate::listing::{list_form, list_named};
@@ -40,7 +40,7 @@ fn list_no_comma(
     errors: &mut Errors,
 ) -> Result<(), Memory>
     requires { IsSplit tokens tree rest }
-    ensures { OnOk result (Lists (no_comma (tree_of tree.entry)) errors.old errors.new) }
+    ensures { OnOk result (Lists (ignore_token (tree_of tree.entry)) errors.old errors.new) }
 {
     let text = first_printed(alloc, tokens, tree, rest)?;
     let mut message = String::from_str(alloc, "Unexpected token: \"")?;
@@ -52,7 +52,7 @@ fn list_no_comma(
 
 /// Lists the flag `ascii_case`.
 fn list_ascii(flag: Ident<'_>, errors: &mut Errors) -> Result<(), Memory>
-    ensures { OnOk result (Lists (ascii_flag (ident_slice flag.entry)) errors.old errors.new) }
+    ensures { OnOk result (Lists (ignore_ascii (ident_slice flag.entry)) errors.old errors.new) }
 {
     list_form(
         errors,
@@ -81,7 +81,7 @@ fn list_other(alloc: Global, flag: Ident<'_>, errors: &mut Errors) -> Result<(),
 
 /// Lists that there is no flag.
 fn list_none(name: Ident<'_>, errors: &mut Errors) -> Result<(), Memory>
-    ensures { OnOk result (Lists (no_flag (ident_slice name.entry)) errors.old errors.new) }
+    ensures { OnOk result (Lists (ignore_empty (ident_slice name.entry)) errors.old errors.new) }
 {
     list_form(
         errors,

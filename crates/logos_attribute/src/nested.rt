@@ -213,6 +213,20 @@ fn mark_at<'t, 's>(
     unnamed_at(whole)
 }
 
+/// The pieces behind a name and a group. A comma there is taken at once, so that a run that is read
+/// next begins behind it.
+fn end_group<'t, 's>(tokens: Tokens<'t, 's>) -> AttributeParser<'t, 's>
+    ensures { pieces_left result ≡ behind_group (tokens_of tokens.entry) }
+{
+    match split(tokens) {
+        Some((tree, rest)) if is_punct(&tree, ',') => begin(rest),
+        _ => AttributeParser {
+            rest: tokens,
+            behind_group: true,
+        },
+    }
+}
+
 /// What stands behind a name, with which `whole` begins.
 fn name_at<'t, 's>(
     whole: Tokens<'t, 's>,
@@ -228,10 +242,7 @@ fn name_at<'t, 's>(
         Some((TokenTree::Literal(literal), rest)) => beside_at(name, literal, rest),
         Some((TokenTree::Group(group), rest)) => (
             Nested::Named(name, NestedValue::Group(group.run())),
-            AttributeParser {
-                rest,
-                behind_group: true,
-            },
+            end_group(rest),
         ),
         Some((TokenTree::Ident(second), rest)) => keyword_at(name, second, rest),
         Some((TokenTree::Punct(punct), rest)) => mark_at(
@@ -295,6 +306,7 @@ impl<'t, 's> AttributeParser<'t, 's> {
             (λ run. (tokens_of run ≡ up_to_comma (tokens_of self.old.rest))
             × (up_to_comma (tokens_of self.old.rest) ≢ none)) }
         ensures pieces { pieces_left self.new ≡ pieces (behind_comma (tokens_of self.old.rest)) }
+        ensures rest { tokens_of self.new.rest ≡ behind_comma (tokens_of self.old.rest) }
     {
         let (run, rest) = run_at(self.rest);
         *self = begin(rest);

@@ -81,6 +81,7 @@ impl<'t, 's> AttributeParser<'t, 's> {
             IfOk result (λ read. T.is_read
             (up_to_comma (tokens_of self.old.rest)) read errors.old errors.new) }
         ensures pieces { pieces_left self.new ≡ pieces (behind_comma (tokens_of self.old.rest)) }
+        ensures rest { tokens_of self.new.rest ≡ behind_comma (tokens_of self.old.rest) }
     {
         match self.run() {
             None => Ok(None),

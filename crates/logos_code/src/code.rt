@@ -1,7 +1,8 @@
 //! Code values: what a lexer does in each state.
 ghost use Rattle.std.specs.Prelude.{◌≡◌, ◌<◌, length, option_map, option_copied, IfOk};
 ghost use Rattle.logos_code.specs.Headline.{IsSound};
-ghost use Rattle.logos_code.specs.CodeView.{entry_of, state_at, asks_for, skips_over, code_of, IsKept};
+ghost use Rattle.logos_code.specs.CodeView.{entry_of, state_at, asks_for};
+ghost use Rattle.logos_code.specs.CodeView.{skips_over, code_of, IsKept};
 ghost use Rattle.logos_code.specs.Runs.{target};
 ghost use Rattle.logos_code.specs.Rows.{IsRow, SaysAtEnd};
 ghost use Rattle.logos_code.specs.Signs.{mark_by};
@@ -129,15 +130,13 @@ impl<'s> Model for Code<'s> {
 
     ghost coded = { Prim.hlevel (codes, (p.the_row (record { mir = named 1; lft = [] })).coded) };
 
-    ghost use Rattle.logos_code.specs.CodeView.{code_of, IsKept};
-    ghost use Rattle.logos_code.specs.Rows.{AreRows};
-    ghost use Rattle.logos_code.specs.Signs.{mark_by, AreSigns};
-    ghost use Rattle.logos_code.specs.Uses.{use_by};
-    ghost use Rattle.std.specs.Prelude.{◌≡◌, map};
+    ghost use Rattle.logos_code.specs.CodeView.{code_of};
+    ghost use Rattle.logos_code.specs.Uses.{IsWhole};
 
     ghost view = { λ code. code_of code.parts };
 
-    ghost invariant = { λ code. IsKept code.parts × AreRows (code_of code.parts) code.rows.items × AreSigns (code_of code.parts) (map mark_by code.signs.items) × (map use_by code.uses.items ≡ (code_of code.parts).leaves) };
+    ghost invariant = { λ code. IsWhole code.parts code.rows.items
+        code.signs.items code.uses.items };
 }
 
 impl<'s> Code<'s> {

@@ -17,17 +17,17 @@ abbrev pub once_again : FaultCode → List ℕ → (here : Span) → (former : O
 once_again code message here None = []
 once_again code message here (Some there) = once_only code message here there
 
-abbrev pub mode_again : Span → Option Span → List Fault
-mode_again here former = once_again Utf8Twice (codes "Utf8 mode can be defined only once") here former
+abbrev pub utf8_twice : Span → Option Span → List Fault
+utf8_twice here former = once_again Utf8Twice (codes "Utf8 mode can be defined only once") here former
 
-abbrev pub extras_again : Span → Option Span → List Fault
-extras_again here former = once_again ExtrasTwice (codes "Extras can be defined only once") here former
+abbrev pub extras_twice : Span → Option Span → List Fault
+extras_twice here former = once_again ExtrasTwice (codes "Extras can be defined only once") here former
 
-abbrev pub error_again : Span → Option Span → List Fault
-error_again here former = once_again ErrorTwice (codes "Error type can be defined only once") here former
+abbrev pub error_twice : Span → Option Span → List Fault
+error_twice here former = once_again ErrorTwice (codes "Error type can be defined only once") here former
 
-abbrev pub export_again : Span → Option Span → List Fault
-export_again here former = once_again ExportTwice (codes "Export path can be defined only once") here former
+abbrev pub export_twice : Span → Option Span → List Fault
+export_twice here former = once_again ExportTwice (codes "Export path can be defined only once") here former
 
 abbrev pub skip_form : Slice → Fault
 skip_form name = fault SkipForm (codes "Expected: #[logos(skip \"regex literal\")] or #[logos(skip(...))]") name.span

@@ -12,7 +12,7 @@ use Rattle.logos_attribute.specs.Literals.{LiteralView, NamedLiteral, literal_sy
 use Rattle.logos_type_params.specs.TypeParams.{Value}
 use Rattle.logos_definition.specs.Definitions.{DefinitionView, plain, definition_told}
 use Rattle.logos_definition.specs.ErrorTypes.{ErrorView, error_span, error_alone}
-use Rattle.logos_definition.specs.OptionFaults.{mode_again, extras_again, error_again, export_again, skip_form, skip_group, utf8_value, utf8_form, extras_form, crate_form, export_bytes, export_form, subpattern_form, error_form, source_old, unknown_logos}
+use Rattle.logos_definition.specs.OptionFaults.{utf8_twice, extras_twice, error_twice, export_twice, skip_form, skip_group, utf8_value, utf8_form, extras_form, crate_form, export_bytes, export_form, subpattern_form, error_form, source_old, unknown_logos}
 
 -- whether inputs are UTF-8, and where that is said
 pub record ModeView : Type 0 where
@@ -59,7 +59,7 @@ skip_told name value o = telling o (only (skip_form name))
 
 abbrev pub mode_set : TokenList → OptionsView → Told OptionsView
 mode_set run o = elim (boolean_in run) [
-  | Some value ↦ telling (record o { utf8 = Some (record { value = value; span = run_span run }) }) (mode_again (run_span run) (option_map (λ m. m.span) o.utf8))
+  | Some value ↦ telling (record o { utf8 = Some (record { value = value; span = run_span run }) }) (utf8_twice (run_span run) (option_map (λ m. m.span) o.utf8))
   | None ↦ telling o (only (utf8_value run))
 ]
 
@@ -68,7 +68,7 @@ utf8_told name (assigned run) o = mode_set run o
 utf8_told name value o = telling o (only (utf8_form name))
 
 abbrev pub extras_set : TokenList → OptionsView → Told OptionsView
-extras_set run o = telling (record o { extras = Some run }) (extras_again (run_span run) (option_map run_span o.extras))
+extras_set run o = telling (record o { extras = Some run }) (extras_twice (run_span run) (option_map run_span o.extras))
 
 abbrev pub extras_told : Slice → PieceValue → OptionsView → Told OptionsView
 extras_told name (assigned run) o = extras_set run o
@@ -80,7 +80,7 @@ crate_told name (assigned run) o = quiet (record o { logos_path = Some run })
 crate_told name value o = telling o (only (crate_form name))
 
 abbrev pub path_set : TokenList → List ℕ → OptionsView → Told OptionsView
-path_set run path o = telling (record o { export_path = Some (record { path = path; span = run_span run }) }) (export_again (run_span run) (option_map (λ e. e.span) o.export_path))
+path_set run path o = telling (record o { export_path = Some (record { path = path; span = run_span run }) }) (export_twice (run_span run) (option_map (λ e. e.span) o.export_path))
 
 -- what the literal of a path holds
 abbrev pub held_path : TokenList → OptionsView → Held → Told OptionsView
@@ -107,7 +107,7 @@ subpattern_told name value o = telling o (only (subpattern_form name))
 
 -- a type of errors that is said here, behind what was said before
 abbrev pub error_set : TokenList → ErrorView → OptionsView → Told OptionsView
-error_set run error o = telling (record o { error_type = Some error }) (error_again (run_span run) (option_map error_span o.error_type))
+error_set run error o = telling (record o { error_type = Some error }) (error_twice (run_span run) (option_map error_span o.error_type))
 
 -- `error = run`
 abbrev pub error_told : Slice → PieceValue → OptionsView → Told OptionsView

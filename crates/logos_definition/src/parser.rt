@@ -103,9 +103,9 @@ impl<'s> Parser<'s> {
         if self.failed {
             return Err(Memory);
         }
-        let ended = self.add_pieces(AttributeParser::new(tokens));
-        self.failed = ended.is_err();
-        ended
+        let outcome = self.add_pieces(AttributeParser::new(tokens));
+        self.failed = outcome.is_err();
+        outcome
     }
 
     /// Adds a fault behind the others. After `Memory` the parser has failed.
@@ -119,9 +119,9 @@ impl<'s> Parser<'s> {
         if self.failed {
             return Err(Memory);
         }
-        let ended = self.errors.err(code, message, span);
-        self.failed = ended.is_err();
-        ended
+        let outcome = self.errors.err(code, message, span);
+        self.failed = outcome.is_err();
+        outcome
     }
 
     /// The string or byte string that a literal is; `None` where it is another one, which was
@@ -140,9 +140,9 @@ impl<'s> Parser<'s> {
         if self.failed {
             return Err(Memory);
         }
-        let ended = read_text(self.alloc, literal, &mut self.errors);
-        self.failed = ended.is_err();
-        ended
+        let outcome = read_text(self.alloc, literal, &mut self.errors);
+        self.failed = outcome.is_err();
+        outcome
     }
 
     /// The definition in the parenthesis of a `token` or `regex`; `None` where it has no literal in
@@ -161,9 +161,9 @@ impl<'s> Parser<'s> {
         if self.failed {
             return Err(Memory);
         }
-        let ended = read_definition(self.alloc, tokens, &mut self.errors);
-        self.failed = ended.is_err();
-        ended
+        let outcome = read_definition(self.alloc, tokens, &mut self.errors);
+        self.failed = outcome.is_err();
+        outcome
     }
 }
 
@@ -195,9 +195,9 @@ impl<'s> Definition<'s> {
         if parser.failed {
             return Err(Memory);
         }
-        let ended = self.add_named(alloc, name, value, &mut parser.errors);
-        parser.failed = ended.is_err();
-        ended
+        let outcome = self.add_named(alloc, name, value, &mut parser.errors);
+        parser.failed = outcome.is_err();
+        outcome
     }
 }
 
@@ -229,9 +229,9 @@ impl<'s> ErrorType<'s> {
         if parser.failed {
             return Err(Memory);
         }
-        let ended = self.add_named(alloc, name, value, &mut parser.errors);
-        parser.failed = ended.is_err();
-        ended
+        let outcome = self.add_named(alloc, name, value, &mut parser.errors);
+        parser.failed = outcome.is_err();
+        outcome
     }
 }
 
@@ -264,14 +264,14 @@ impl IgnoreFlags {
         if parser.failed {
             return Err(Memory);
         }
-        let ended = read_flags(
+        let outcome = read_flags(
             alloc,
             &mut self.ignore_case,
             name,
             tokens,
             &mut parser.errors,
         );
-        parser.failed = ended.is_err();
-        ended
+        parser.failed = outcome.is_err();
+        outcome
     }
 }

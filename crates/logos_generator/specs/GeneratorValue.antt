@@ -1,5 +1,5 @@
 -- What contracts see of a generator, and what a code value keeps of it.
-use Rattle.std.specs.Prelude.{◌≡◌, ℕ, Bool, List, map, Option, option_map}
+use Rattle.std.specs.Prelude.{◌≡◌, ℕ, Bool, List, [], map, Option, option_map}
 use Rattle.logos_type.specs.TypeTrees.{type_tree}
 use Rattle.logos_pattern.specs.Leaf.{CallbackValue, callback_value, KindValue, kind_value}
 use Rattle.logos_pattern.specs.declared.leaf.Leaf.{Leaf}
@@ -14,6 +14,10 @@ pub record GeneratorValue : Type 0 where
   -- the byte sets that nodes test by bits, and the jump tables of nodes, each by its number
   pub tests : List (List Bool)
   pub jumps : List (List ℕ)
+
+-- a generator that was given this, and has made no node yet
+abbrev pub fresh : Kept → GraphValue → GeneratorValue
+fresh given graph = record { given = given; graph = graph; tests = []; jumps = [] }
 
 -- what becomes of the matches of a leaf, a type by its parts and its callback by its tokens
 pub record LeafValue : Type 0 where

@@ -4,3 +4,4 @@ pub mod Numbering
 pub mod StateView
 pub mod GeneratorValue
 pub mod NodeCalls
+pub mod Laws

@@ -1,16 +1,20 @@
 -- What contracts see of the states that a generator reads and makes.
-use Rattle.std.specs.Prelude.{◌≡◌, ℕ, ◌<◌, ◌≤◌, ◌*◌, Bool, List, length, IsSomeAnd, Some, slice_get}
+use Rattle.std.specs.Prelude.{◌≡◌, ℕ, ◌<◌, ◌≤◌, ◌*◌, ◌==◌, ◌++◌, ◌∷◌, [], Bool, List, length, IsSomeAnd, Some, slice_get, MatchBool}
 use Rattle.std.specs.List.{All}
 use Rattle.logos_pattern.specs.declared.leaf.Leaf.{Leaf}
 use Rattle.logos_graph.specs.Graph.{GraphState}
 use Rattle.logos_automaton.specs.Munch.{Use}
 use Rattle.logos_graph.specs.View.{rule_of}
 use Rattle.logos_graph.specs.Bytes.{AreSeparated}
+use Rattle.logos_graph.specs.GraphView.{edge_of, state_number}
+use Rattle.logos_graph.specs.declared.byte_class.ByteClass.{ByteClass}
+use Rattle.logos_graph.specs.declared.graph.State.{State}
+use Rattle.logos_code.specs.declared.code.Condition.{Condition as TheCondition}
 use Rattle.logos_code.specs.declared.code.CodeState.{CodeState as TheState}
-use Rattle.logos_code.specs.CodeView.{state_of, AreDifferent}
+use Rattle.logos_code.specs.CodeView.{branch_of, state_of, AreDifferent}
 use Rattle.logos_code.specs.Bytes.{passes_test}
 use Rattle.logos_generator.specs.Numbering.{tests_of, bit_tables_of}
-use Rattle.logos_generator.specs.Nodes.{tests_byte, IsStateOf}
+use Rattle.logos_generator.specs.Nodes.{tests_byte, IsBranchOf, IsStateOf}
 
 -- what becomes of the matches of a leaf
 abbrev pub leaf_use : Leaf → Use
@@ -20,6 +24,12 @@ leaf_use leaf = (rule_of leaf).use_of
 pub record IsCodable (state : GraphState) : Type 0 where
   pub separated : All (λ edge. AreSeparated edge.0) state.normal
   pub targets : All (λ edge. edge.1 < 4294967295) state.normal
+
+-- the branch of an edge comes behind the others; where the edge leads back to s, none comes
+abbrev pub AddsBranch : List (List Bool) → ℕ → ByteClass × State → (old new : List (TheCondition × ℕ)) → Type 0
+AddsBranch tests s edge old new = MatchBool (state_number edge.1 == s)
+    (new ≡ old)
+    ((branch : TheCondition × ℕ) × (new ≡ old ++ branch ∷ []) × IsBranchOf tests (edge_of edge) (branch_of branch))
 
 -- the states of a code are made of the graph's, one of each
 pub record AreStatesOf (tests : List (List Bool)) (jumps : List (List ℕ)) (graph : List GraphState) (states : List TheState) : Type 0 where

@@ -3,7 +3,8 @@
 ghost use Rattle.std.specs.Prelude.{◌≡◌, [], IfOk, OnOk, OnErr, map, option_copied};
 ghost use Rattle.logos_graph.specs.View.{rule_of};
 ghost use Rattle.logos_code.specs.Headline.{RunsAs};
-ghost use Rattle.logos_generator.specs.GeneratorValue.{code_leaf_value, leaf_value, IsCopy, KeepsGiven};
+ghost use Rattle.logos_generator.specs.GeneratorValue.{fresh, code_leaf_value, leaf_value};
+ghost use Rattle.logos_generator.specs.GeneratorValue.{IsCopy, KeepsGiven};
 ghost use Rattle.logos_generator.specs.Numbering.{HasNodesOf, tests_of};
 ghost use Rattle.logos_generator.specs.StateView.{leaf_use};
 
@@ -49,9 +50,23 @@ impl<'g, 's> Model for Generator<'g, 's> {
 
     ghost Value = { GeneratorValue };
 
-    ghost coded = { Prim.hlevel (codes, e.the_row.coded, (p.the_row (record { mir = named 1; lft = [] })).coded) };
+    ghost coded = { Prim.hlevel (
+      codes,
+      e.the_row.coded,
+      (p.the_row (record { mir = named 1; lft = [] })).coded,
+    ) };
 
-    ghost view = { λ g. record { given = record { shape = g.config; name = g.name; this = g.this.now; error_callback = option_copied g.error_callback }; graph = g.graph.now; tests = g.tests.keys; jumps = g.jumps.keys } };
+    ghost view = { λ g. record {
+      given = record {
+        shape = g.config;
+        name = g.name;
+        this = g.this.now;
+        error_callback = option_copied g.error_callback;
+      };
+      graph = g.graph.now;
+      tests = g.tests.keys;
+      jumps = g.jumps.keys;
+    } };
 
     ghost invariant = { λ g. g.graph.now.faults ≡ [] };
 }
@@ -68,7 +83,12 @@ impl<'g, 's> Generator<'g, 's> {
         error_callback: Option<&'g Callback<'s>>,
     ) -> Generator<'g, 's>
         requires { graph.now.faults ≡ [] }
-        ensures { result ≡ record { given = record { shape = config; name = name.entry; this = this.now; error_callback = option_copied error_callback.entry }; graph = graph.now; tests = []; jumps = [] } }
+        ensures { result ≡ fresh (record {
+          shape = config;
+          name = name.entry;
+          this = this.now;
+          error_callback = option_copied error_callback.entry;
+        }) graph.now }
     {
         Generator {
             config,
@@ -90,7 +110,8 @@ impl<'g, 's> Generator<'g, 's> {
     pub fn generate(&mut self, alloc: Global) -> Result<Code<'s>, AllocError>
         ensures runs { IfOk result (λ code. RunsAs self.old.graph.states self.old.graph.utf8 code) }
         ensures mode { IfOk result (λ code. code.utf8 ≡ self.old.graph.utf8) }
-        ensures uses { IfOk result (λ code. code.leaves ≡ map (λ leaf. (rule_of leaf).use_of) self.old.graph.leaves) }
+        ensures uses { IfOk result (λ code. code.leaves
+            ≡ map (λ leaf. (rule_of leaf).use_of) self.old.graph.leaves) }
         ensures keeps { IfOk result (KeepsGiven self.old.given self.old.graph) }
         ensures nodes { IfOk result (HasNodesOf self.old.graph.states) }
         ensures tests { OnOk result (self.new.tests ≡ tests_of self.old.graph.states) }
@@ -123,7 +144,8 @@ impl<'g, 's> Generator<'g, 's> {
         ensures nodes { IfOk result (HasNodesOf self.now.graph.states) }
         ensures tests { OnOk result (tests.new.keys ≡ tests_of self.now.graph.states) }
         ensures kept { IfOk result (λ code. IsCopy self.now.given code.kept) }
-        ensures kept_leaves { IfOk result (λ code. map code_leaf_value code.kept_leaves ≡ map leaf_value self.now.graph.leaves) }
+        ensures kept_leaves { IfOk result
+            (λ code. map code_leaf_value code.kept_leaves ≡ map leaf_value self.now.graph.leaves) }
     {
         match self.kept() {
             Ok(kept) => code_of(

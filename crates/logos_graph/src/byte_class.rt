@@ -1,7 +1,9 @@
 //! Sets of bytes, and the comparisons that test for them.
-ghost use Rattle.std.specs.Prelude.{◌≡◌, ℕ, ◌<◌, ◌≤◌, ◌↔◌, ◌||◌, not, IsTrue, IfOk, OnOk, OnErr, false, [], ◌∷◌, length, map, drop, slice_index_or};
+ghost use Rattle.std.specs.Prelude.{◌≡◌, ℕ, ◌<◌, ◌≤◌, ◌↔◌, ◌||◌, not, IsTrue, IfOk, OnOk};
+ghost use Rattle.std.specs.Prelude.{OnErr, false, [], ◌∷◌, length, map, drop, slice_index_or};
 ghost use Rattle.logos_places.specs.ByteRanges.{is_in};
-ghost use Rattle.logos_graph.specs.Bytes.{bounds, ranges_of, has_byte, AreSeparated, comparison_of, compares, some_compares, joined, operations};
+ghost use Rattle.logos_graph.specs.Bytes.{bounds, ranges_of, has_byte, AreSeparated, comparison_of};
+ghost use Rattle.logos_graph.specs.Bytes.{compares, some_compares, joined, operations};
 
 pub(crate) mod text;
 
@@ -60,7 +62,8 @@ impl ByteClass {
     /// Adds the bytes of the other class. The ranges ascend then, with at least one byte between each two, whatever they
     /// were. Where memory is wanted the class stays as it was.
     pub fn merge(&mut self, alloc: Global, other: &ByteClass) -> Result<(), AllocError>
-        ensures union { OnOk result ((b : ℕ) → b < 256 → has_byte self.new b ≡ (has_byte self.old b || has_byte other.now b)) }
+        ensures union { OnOk result ((b : ℕ) → b < 256 →
+            has_byte self.new b ≡ (has_byte self.old b || has_byte other.now b)) }
         ensures separated { OnOk result (AreSeparated (ranges_of self.new)) }
         ensures unchanged { OnErr result (self.new ≡ self.old) }
     {
@@ -72,7 +75,8 @@ impl ByteClass {
 
     /// For each byte, whether one of the classes holds it.
     fn table_with(&self, other: &ByteClass) -> [bool; 256]
-        ensures { (b : ℕ) → b < 256 → slice_index_or result b false ≡ (has_byte self.now b || has_byte other.now b) }
+        ensures { (b : ℕ) → b < 256 → slice_index_or result b false
+            ≡ (has_byte self.now b || has_byte other.now b) }
     {
         let mut table = [false; 256];
         for byte in 0..256 {
@@ -83,10 +87,13 @@ impl ByteClass {
 
     /// The comparisons that hold for the bytes of the class alone. Ranges with just one byte between them share a comparison,
     /// with that byte as an exception. The class has to be separated, as `is_separated` tests.
+    /// Only want of memory is an error.
     pub fn impl_with_cmp(&self, alloc: Global) -> Result<Vec<Comparisons>, AllocError>
         requires { AreSeparated (ranges_of self.now) }
-        ensures shape { IfOk result (λ made. map comparison_of made.items ≡ joined (ranges_of self.now)) }
-        ensures members { IfOk result (λ made. (b : ℕ) → b < 256 → some_compares (map comparison_of made.items) b ≡ has_byte self.now b) }
+        ensures shape { IfOk result (λ made. map comparison_of made.items
+            ≡ joined (ranges_of self.now)) }
+        ensures members { IfOk result (λ made. (b : ℕ) → b < 256 →
+            some_compares (map comparison_of made.items) b ≡ has_byte self.now b) }
     {
         let ranges = self.ranges.as_slice();
         let mut made = Vec::new(alloc);
@@ -106,7 +113,8 @@ fn first_where(table: &[bool], from: usize, wanted: bool) -> usize
     requires within { from ≤ 256 }
     ensures after { from ≤ result }
     ensures bound { result ≤ 256 }
-    ensures before { (b : ℕ) → from ≤ b → b < result → slice_index_or table.now b false ≡ not wanted }
+    ensures before { (b : ℕ) → from ≤ b → b < result →
+        slice_index_or table.now b false ≡ not wanted }
     ensures at { result < 256 → slice_index_or table.now result false ≡ wanted }
 {
     for i in from..256 {
@@ -120,7 +128,8 @@ fn first_where(table: &[bool], from: usize, wanted: bool) -> usize
 /// The ranges of the bytes that the table marks.
 fn ranges_of_table(alloc: Global, table: &[bool]) -> Result<Vec<RangeInclusive<u8>>, AllocError>
     requires { length table.now ≡ 256 }
-    ensures members { IfOk result (λ made. (b : ℕ) → b < 256 → is_in (map bounds made.items) b ≡ slice_index_or table.now b false) }
+    ensures members { IfOk result (λ made. (b : ℕ) → b < 256 →
+        is_in (map bounds made.items) b ≡ slice_index_or table.now b false) }
     ensures separated { IfOk result (λ made. AreSeparated (map bounds made.items)) }
 {
     let mut made = Vec::new(alloc);
@@ -140,7 +149,8 @@ fn first_comparison(
 ) -> Result<(Comparisons, usize), AllocError>
     requires { 0 < length ranges.now }
     ensures count { IfOk result (λ made. (0 < made.1) × (made.1 ≤ length ranges.now)) }
-    ensures shape { IfOk result (λ made. joined (map bounds ranges.now) ≡ comparison_of made.0 ∷ joined (map bounds (drop made.1 ranges.now))) }
+    ensures shape { IfOk result (λ made. joined (map bounds ranges.now)
+        ≡ comparison_of made.0 ∷ joined (map bounds (drop made.1 ranges.now))) }
 {
     let first = *ranges[0].start();
     let mut last = *ranges[0].end();

@@ -6,10 +6,13 @@ ghost use Rattle.logos_automaton.specs.Faults.{Fault, AreFaults};
 
 /// Maximal munch finds one thing at a place.
 pub fn one_is_found()
-    ensures { (rules : List Rule) (utf8 : Bool) (bytes : List ℕ) (from : ℕ) (f g : Found) → from ≤ length bytes → Finds rules utf8 bytes from f → Finds rules utf8 bytes from g → f ≡ g }
+    ensures { (rules : List Rule) (utf8 : Bool) (bytes : List ℕ) (from : ℕ) (f g : Found) →
+        from ≤ length bytes → Finds rules utf8 bytes from f →
+        Finds rules utf8 bytes from g → f ≡ g }
 {}
 
 /// A list of rules has one list of faults.
 pub fn one_list_of_faults()
-    ensures { (rules : List Rule) (faults others : List Fault) → AreFaults rules faults → AreFaults rules others → faults ≡ others }
+    ensures { (rules : List Rule) (faults others : List Fault) → AreFaults rules faults →
+        AreFaults rules others → faults ≡ others }
 {}

@@ -1,5 +1,6 @@
 //! The automaton of leaves as a table, with late marks alone.
-ghost use Rattle.std.specs.Prelude.{◌≡◌, ℕ, ◌+◌, ◌<◌, ◌^◌, Some, IfOk, IfSome, List, [], length, vec_len, slice_index, slice_get};
+ghost use Rattle.std.specs.Prelude.{◌≡◌, ℕ, ◌+◌, ◌<◌, ◌^◌, Some, IfOk, IfSome, List};
+ghost use Rattle.std.specs.Prelude.{[], length, vec_len, slice_index, slice_get};
 ghost use Rattle.std.specs.List.{All};
 ghost use Rattle.logos_automaton.specs.DfaView.{dfa_of};
 ghost use Rattle.logos_automaton.specs.Faults.{AreFaults};
@@ -77,7 +78,8 @@ fn raw_mark(leaves: &[Leaf<'_>], listed: &[usize]) -> Mark
 fn raw_marks(alloc: Global, leaves: &[Leaf<'_>], dfa: &Dfa) -> Result<Vec<Mark>, AllocError>
     ensures len { IfOk result (λ marks. vec_len marks ≡ length (dfa_of dfa.now).matches) }
     ensures marks { IfOk result (λ marks. (s : ℕ) → s < length (dfa_of dfa.now).matches →
-        IsMarkOf (rules_of leaves.now) (length leaves.now) (dfa_of dfa.now) s (mark_in marks.items s)) }
+        IsMarkOf (rules_of leaves.now) (length leaves.now) (dfa_of dfa.now) s
+        (mark_in marks.items s)) }
 {
     let mut marks = Vec::new(alloc);
     for state in 0..state_count(dfa) {
@@ -104,7 +106,8 @@ fn raw_row(row: &ByteRow, end: u32) -> Row
 fn raw_rows(alloc: Global, dfa: &Dfa) -> Result<Rows, AllocError>
     requires total { IsTotal (dfa_of dfa.now) }
     requires few { length (dfa_of dfa.now).matches + 1 < 2 ^ 32 }
-    ensures { IfOk result (λ rows. AreRawRows (dfa_of dfa.now) (rows_of rows) (length (dfa_of dfa.now).matches)) }
+    ensures { IfOk result (λ rows.
+        AreRawRows (dfa_of dfa.now) (rows_of rows) (length (dfa_of dfa.now).matches)) }
 {
     let mut rows = Rows::new(alloc);
     for state in 0..state_count(dfa) {
@@ -119,9 +122,11 @@ pub(crate) fn raw_table(alloc: Global, leaves: &[Leaf<'_>], dfa: &Dfa) -> Result
     requires total { IsTotal (dfa_of dfa.now) }
     requires few { length (dfa_of dfa.now).matches + 1 < 2 ^ 32 }
     ensures raw { IfOk result (λ table. IsRaw table 0) }
-    ensures late { IfOk result (λ table. ReadsOneByteLate (rules_of leaves.now) (dfa_of dfa.now) → AreFaults (rules_of leaves.now) [] →
+    ensures late { IfOk result (λ table. ReadsOneByteLate (rules_of leaves.now) (dfa_of dfa.now) →
+        AreFaults (rules_of leaves.now) [] →
         MarksOneByteLate (rules_of leaves.now) (edges table) 0) }
-    ensures named { IfOk result (λ table. (s : ℕ) → s < size table → NamesLeaves (length leaves.now) (type_of (mark table s))) }
+    ensures named { IfOk result (λ table. (s : ℕ) → s < size table →
+        NamesLeaves (length leaves.now) (type_of (mark table s))) }
     ensures size { IfOk result (λ table. size table ≡ length (dfa_of dfa.now).matches) }
 {
     let marks = raw_marks(alloc, leaves, dfa)?;

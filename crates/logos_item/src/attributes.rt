@@ -1,9 +1,14 @@
 //! Attributes, and a visibility.
-ghost use Rattle.std.specs.Prelude.{◌≡◌, ◌<◌, ◌≤◌, List, Ok, Err, Some, None, MatchOption, MatchResult, IfSome, IfOk, IfErr};
+ghost use Rattle.std.specs.Prelude.{◌≡◌, ◌<◌, ◌≤◌, List, Ok, Err, Some, None};
+ghost use Rattle.std.specs.Prelude.{MatchOption, MatchResult, IfSome, IfOk, IfErr};
 ghost use Rattle.logos_token.specs.Tokens.{none, also, punctuation, count_of, IsRestOf};
 ghost use Rattle.logos_token.specs.Views.{tokens_of, tree_of};
 ghost use Rattle.logos_item.specs.declared.error.ReadError.TheVariants.{Grammar};
-ghost use Rattle.logos_item.specs.Attributes.{is_path_mark, end_misfit, value_misfit, path_misfit, colon_misfit, segment_misfit, attribute_misfit, IsPathStep, behind_attributes, behind_hash, Attributes, behind_parenthesis, behind_visibility, behind_keyword};
+ghost use Rattle.logos_item.specs.Attributes.{is_path_mark, end_misfit, value_misfit};
+ghost use Rattle.logos_item.specs.Attributes.{path_misfit, colon_misfit, segment_misfit};
+ghost use Rattle.logos_item.specs.Attributes.{attribute_misfit, IsPathStep, behind_attributes};
+ghost use Rattle.logos_item.specs.Attributes.{behind_hash, Attributes, behind_parenthesis};
+ghost use Rattle.logos_item.specs.Attributes.{behind_visibility, behind_keyword};
 
 use crate::error::{Misfit, ReadError};
 use crate::tokens::{grammar_at, is_outer, misfit_at, split};
@@ -74,7 +79,8 @@ fn path_step_at<'t, 's>(
     punct: Punct,
     tokens: Tokens<'t, 's>,
 ) -> Result<Option<Tokens<'t, 's>>, Misfit>
-    ensures { IsPathStep (also (punctuation punct.character punct.spacing punct.span) (tokens_of tokens.entry)) result }
+    ensures { IsPathStep (also (punctuation punct.character punct.spacing punct.span)
+        (tokens_of tokens.entry)) result }
 {
     if is_path_mark(punct) {
         return Ok(Some(read_colon(tokens)?));
@@ -150,7 +156,8 @@ fn skip_brackets<'t, 's>(tokens: Tokens<'t, 's>) -> Result<Tokens<'t, 's>, ReadE
 /// What is behind an attribute that comes first; `None` where none comes first.
 fn skip_attribute<'t, 's>(tokens: Tokens<'t, 's>) -> Result<Option<Tokens<'t, 's>>, ReadError>
     ensures value { MatchResult result
-        (λ found. MatchOption found (behind_attributes (tokens_of tokens.entry) ≡ Ok (tokens_of tokens.entry))
+        (λ found. MatchOption found
+        (behind_attributes (tokens_of tokens.entry) ≡ Ok (tokens_of tokens.entry))
         (λ rest. (behind_attributes (tokens_of tokens.entry) ≡ behind_attributes (tokens_of rest))
         × (count_of (tokens_of rest) < count_of (tokens_of tokens.entry))))
         (λ error. behind_attributes (tokens_of tokens.entry) ≡ Err error) }

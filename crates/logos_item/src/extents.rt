@@ -1,8 +1,10 @@
 //! How far bounds, defaults and types reach.
 ghost use Rattle.std.specs.Prelude.{◌≡◌, ◌+◌, ◌<◌, ◌≤◌, MatchOption};
-ghost use Rattle.logos_token.specs.Tokens.{TokenList, also, punctuation, count_of, append, IsRestOf};
+ghost use Rattle.logos_token.specs.Tokens.{TokenList, also, punctuation};
+ghost use Rattle.logos_token.specs.Tokens.{count_of, append, IsRestOf};
 ghost use Rattle.logos_token.specs.Views.{tokens_of};
-ghost use Rattle.logos_item.specs.Extents.{ends, begins_arrow, depth_behind, is_end, behind_from, behind_extent, IsStep};
+ghost use Rattle.logos_item.specs.Extents.{ends, begins_arrow, depth_behind, is_end};
+ghost use Rattle.logos_item.specs.Extents.{behind_from, behind_extent, IsStep};
 
 use crate::tokens::split;
 use logos_token::token::{Punct, Spacing, TokenTree, Tokens};
@@ -75,8 +77,9 @@ fn skip_token<'t, 's>(
     tokens: Tokens<'t, 's>,
 ) -> Option<(Angles, Tokens<'t, 's>)>
     requires { angles.depth + count_of (tokens_of tokens) < 18446744073709551616 }
-    ensures { MatchOption result (behind_from end angles.arrow angles.depth (tokens_of tokens.entry) ≡
-        tokens_of tokens.entry)
+    ensures { MatchOption result
+        (behind_from end angles.arrow angles.depth (tokens_of tokens.entry)
+        ≡ tokens_of tokens.entry)
         (λ read. IsStep end angles (tokens_of tokens.entry) read.0 (tokens_of read.1)) }
 {
     match split(tokens)? {

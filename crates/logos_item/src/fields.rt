@@ -1,8 +1,10 @@
 //! Fields of variants.
-ghost use Rattle.std.specs.Prelude.{◌≡◌, ◌<◌, ◌≤◌, List, map, Ok, Err, None, MatchOption, IfSome, MatchResult, IfOk, IfErr};
+ghost use Rattle.std.specs.Prelude.{◌≡◌, ◌<◌, ◌≤◌, List, map, Ok, Err, None};
+ghost use Rattle.std.specs.Prelude.{MatchOption, IfSome, MatchResult, IfOk, IfErr};
 ghost use Rattle.logos_token.specs.Tokens.{none, count_of};
 ghost use Rattle.logos_token.specs.Views.{tokens_of};
-ghost use Rattle.logos_item.specs.Enum.{error_is, FieldType, colon_in, label, field, fields, Holding};
+ghost use Rattle.logos_item.specs.Enum.{error_is, FieldType, colon_in};
+ghost use Rattle.logos_item.specs.Enum.{label, field, fields, Holding};
 ghost use Rattle.logos_item.specs.EnumValues.{typed_value, field_value, fields_value};
 ghost use Rattle.logos_item.specs.Groups.{parenthesis_in};
 ghost use Rattle.logos_item.specs.Rules.{Stands};

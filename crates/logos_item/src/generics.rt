@@ -2,7 +2,9 @@
 ghost use Rattle.std.specs.Prelude.{◌≡◌, ◌<◌, ◌≤◌, List, map, Ok, Err, MatchResult, IfOk, IfErr};
 ghost use Rattle.logos_token.specs.Tokens.{also, identifier, count_of};
 ghost use Rattle.logos_token.specs.Views.{tokens_of};
-ghost use Rattle.logos_item.specs.Generics.{head_of, head_in, some_in, bounds_in, constant_in, default_in, tail, shape, OneParameter, closing_in, parameters, Generics};
+ghost use Rattle.logos_item.specs.Generics.{head_of, head_in, some_in, bounds_in};
+ghost use Rattle.logos_item.specs.Generics.{constant_in, default_in, tail, shape};
+ghost use Rattle.logos_item.specs.Generics.{OneParameter, closing_in, parameters, Generics};
 ghost use Rattle.logos_item.specs.Marks.{begins_with, greater};
 ghost use Rattle.logos_item.specs.Rules.{Listed, Stands};
 ghost use Rattle.logos_item.specs.Values.{ident_slice, head_value, parameter_value};
@@ -174,7 +176,8 @@ fn read_parameter<'t, 's>(
     tokens: Tokens<'t, 's>,
 ) -> Result<(Parameter<'t, 's>, Tokens<'t, 's>), ReadError>
     ensures ok { IfOk result
-        (λ read. OneParameter (tokens_of tokens.entry) (Ok (parameter_value read.0, tokens_of read.1))) }
+        (λ read. OneParameter (tokens_of tokens.entry)
+        (Ok (parameter_value read.0, tokens_of read.1))) }
     ensures shorter { IfOk result
         (λ read. count_of (tokens_of read.1) < count_of (tokens_of tokens.entry)) }
     ensures err { IfErr result (λ error. OneParameter (tokens_of tokens.entry) (Err error)) }
@@ -195,7 +198,8 @@ fn read_parameters<'t, 's>(
     tokens: Tokens<'t, 's>,
 ) -> Result<(Vec<Parameter<'t, 's>>, Tokens<'t, 's>), ReadError>
     ensures ok { IfOk result
-        (λ read. Listed (begins_with greater) OneParameter (tokens_of tokens.entry) (Ok (map parameter_value read.0.items, tokens_of read.1))) }
+        (λ read. Listed (begins_with greater) OneParameter (tokens_of tokens.entry)
+        (Ok (map parameter_value read.0.items, tokens_of read.1))) }
     ensures err { IfErr result (Stands
         (λ error. Listed (begins_with greater) OneParameter (tokens_of tokens.entry) (Err error))) }
 {
@@ -228,7 +232,8 @@ pub(crate) fn read_generics<'t, 's>(
     tokens: Tokens<'t, 's>,
 ) -> Result<(Vec<Parameter<'t, 's>>, Tokens<'t, 's>), ReadError>
     ensures ok { IfOk result
-        (λ read. Generics (tokens_of tokens.entry) (Ok (map parameter_value read.0.items, tokens_of read.1))) }
+        (λ read. Generics (tokens_of tokens.entry)
+        (Ok (map parameter_value read.0.items, tokens_of read.1))) }
     ensures err { IfErr result (Stands (λ error. Generics (tokens_of tokens.entry) (Err error))) }
 {
     let Some(inside) = behind_mark('<', tokens) else {

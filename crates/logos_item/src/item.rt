@@ -1,5 +1,6 @@
 //! The whole enum.
-ghost use Rattle.std.specs.Prelude.{◌≡◌, ◌<◌, ◌≤◌, List, map, Ok, Err, Result, Some, None, MatchOption, MatchResult, IfOk, IfErr};
+ghost use Rattle.std.specs.Prelude.{◌≡◌, ◌<◌, ◌≤◌, List, map, Ok, Err, Result, Some};
+ghost use Rattle.std.specs.Prelude.{None, MatchOption, MatchResult, IfOk, IfErr};
 ghost use Rattle.logos_token.specs.Tokens.{TokenList, none, count_of};
 ghost use Rattle.logos_token.specs.Views.{tokens_of};
 ghost use Rattle.logos_item.specs.declared.error.ReadError.{ReadError as ReadErrorValue};
@@ -69,7 +70,8 @@ fn read_body<'t, 's>(
     tokens: Tokens<'t, 's>,
 ) -> Result<(Vec<Variant<'t, 's>>, Tokens<'t, 's>), ReadError>
     ensures ok { IfOk result
-        (λ read. Body (tokens_of tokens.entry) (Ok (map variant_value read.0.items, tokens_of read.1))) }
+        (λ read. Body (tokens_of tokens.entry)
+        (Ok (map variant_value read.0.items, tokens_of read.1))) }
     ensures err { IfErr result (Stands (λ error. Body (tokens_of tokens.entry) (Err error))) }
 {
     let Some(braced) = open_brace(tokens) else {
@@ -122,7 +124,8 @@ fn read_item<'t, 's>(
     tokens: Tokens<'t, 's>,
 ) -> Result<ItemEnum<'t, 's>, ReadError>
     ensures ok { IfOk result
-        (λ read. item (tokens_of attributes.entry) (tokens_of tokens.entry) (Ok (enum_value read, none))) }
+        (λ read. item (tokens_of attributes.entry) (tokens_of tokens.entry)
+        (Ok (enum_value read, none))) }
     ensures err { IfErr result (Stands
         (λ error. item (tokens_of attributes.entry) (tokens_of tokens.entry) (Err error))) }
 {

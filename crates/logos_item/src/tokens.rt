@@ -1,5 +1,6 @@
 //! One token of a run, and what is behind it.
-ghost use Rattle.std.specs.Prelude.{◌≡◌, ◌<◌, ◌≤◌, true, false, List, Ok, Err, MatchOption, MatchResult};
+ghost use Rattle.std.specs.Prelude.{◌≡◌, ◌<◌, ◌≤◌, true, false, List};
+ghost use Rattle.std.specs.Prelude.{Ok, Err, MatchOption, MatchResult};
 ghost use Rattle.logos_lexeme.specs.declared.lexeme.Span.{Span};
 ghost use Rattle.logos_lexeme.specs.declared.lexeme.Spacing.{Spacing};
 ghost use Rattle.logos_token.specs.Tokens.{none, also, punctuation, count_of, rest_of};
@@ -116,7 +117,8 @@ pub(crate) fn skip_comma_or_angle<'t, 's>(
     tokens: Tokens<'t, 's>,
 ) -> Result<Tokens<'t, 's>, ReadError>
     ensures { MatchResult result
-        (λ rest. (behind_item (begins_with greater) (tokens_of tokens.entry) ≡ Ok (tt, tokens_of rest))
+        (λ rest. (behind_item (begins_with greater) (tokens_of tokens.entry)
+        ≡ Ok (tt, tokens_of rest))
         × (count_of (tokens_of rest) ≤ count_of (tokens_of tokens.entry)))
         (λ error. behind_item (begins_with greater) (tokens_of tokens.entry) ≡ Err error) }
 {

@@ -1,5 +1,6 @@
 //! Variants.
-ghost use Rattle.std.specs.Prelude.{◌≡◌, ◌<◌, ◌≤◌, List, map, Ok, Err, MatchOption, MatchResult, IfOk, IfErr};
+ghost use Rattle.std.specs.Prelude.{◌≡◌, ◌<◌, ◌≤◌, List, map, Ok, Err};
+ghost use Rattle.std.specs.Prelude.{MatchOption, MatchResult, IfOk, IfErr};
 ghost use Rattle.logos_token.specs.Tokens.{none, count_of};
 ghost use Rattle.logos_token.specs.Views.{tokens_of};
 ghost use Rattle.logos_item.specs.Enum.{from_comma, value_in, discriminant_in, variant, variants};

@@ -1,6 +1,7 @@
 -- Variants with fields in a parenthesis, and the types that are given in a parser.
 use Rattle.std.proofs.Common.{◌≡◌, ◌∙◌, ℕ, List, [], ◌∷◌, ◌++◌, length, map, ap, refl, sym}
 use Rattle.std.proofs.lemmas.List.{length-map}
+use denote.Ref.{Bor}
 use Rattle.logos_lexeme.specs.declared.lexeme.Span.{Span}
 use Rattle.logos_token.specs.Faults.{Fault}
 use Rattle.logos_token.specs.declared.token.Ident.{Ident}
@@ -26,12 +27,12 @@ kind_of_first params name span old mid new fields first others kind e m h =
     let counted : length fields ≡ length (map field_value (first ∷ others)) = sym (length-map fields field_value) ∙ ap (λ fs. length (map field_value fs)) e in
     rw e (with_first (m ∙ ap (λ k. old ++ count_faults k span) counted) h)
 
-pub param_values : (items : List TypeParam) → map param_of (map given_of items) ≡ map param_value items
+pub param_values : (entries : List (Bor (List ℕ) × TypeParam)) → map param_of (map given_of entries) ≡ map param_value entries
 param_values [] = refl
 param_values (x ∷ xs) = ap (λ values. param_value x ∷ values) (param_values xs)
 
 -- parsers with equal views give equal types
 pub params_kept : (p q : Parser) (held : List (List ℕ)) → parser_view p ≡ parser_view q → params_with p.types held ≡ params_with q.types held
 params_kept p q held e =
-    let same : map param_of (map given_of p.types.types.items) ≡ map param_of (map given_of q.types.types.items) = ap (λ (v : OptionsView). map param_of v.types.types) e in
-    ap (λ (types : List ParamValue). record { types = types; held = held }) (sym (param_values p.types.types.items) ∙ (same ∙ param_values q.types.types.items))
+    let same : map param_of (map given_of p.types.types.entries) ≡ map param_of (map given_of q.types.types.entries) = ap (λ (v : OptionsView). map param_of v.types.types) e in
+    ap (λ (types : List ParamValue). record { types = types; held = held }) (sym (param_values p.types.types.entries) ∙ (same ∙ param_values q.types.types.entries))

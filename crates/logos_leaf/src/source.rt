@@ -17,6 +17,7 @@ ghost use Rattle.logos_leaf.specs.inside.Readings.{AreMadeWith};
 
 use crate::leaf::regex_leaf;
 use crate::variant::{add_variants, push_leaf};
+use indexmap::IndexSet;
 use logos_definition::definition::Definition;
 use logos_definition::parser::Parser;
 use logos_item::{ItemEnum, Parameter, Variant, split_attribute};
@@ -97,12 +98,12 @@ pub fn utf8_mode(parser: &Parser<'_>) -> bool
 fn leaves_with<'s>(
     alloc: Global,
     variants: &[Variant<'_, 's>],
-    held: &[&'s str],
+    held: &IndexSet<&'s str>,
     subpatterns: &Subpatterns<'s>,
     parser: &mut Parser<'s>,
 ) -> Result<Vec<Leaf<'s>>, Memory>
     ensures made { IfOk result (λ leaves. AreMadeWith
-        (params_with parser.old.types (texts held.now)) (names_of subpatterns.now)
+        (params_with parser.old.types (texts held.now.keys)) (names_of subpatterns.now)
         (map definition_view parser.old.skips.items) (map variant_value variants.now)
         (map leaf_view leaves.items) parser.old.errors parser.new.errors) }
     ensures kept { OnOk result (IsWithoutSkips
@@ -132,7 +133,7 @@ fn read_leaves<'s>(
     let mode = utf8_mode(parser);
     let list = parser.subpatterns.as_slice();
     match Subpatterns::new(alloc, list, mode, &mut parser.errors) {
-        Ok(subpatterns) => leaves_with(alloc, variants, held.as_slice(), &subpatterns, parser),
+        Ok(subpatterns) => leaves_with(alloc, variants, &held, &subpatterns, parser),
         Err(Memory) => Err(Memory),
     }
 }

@@ -22,6 +22,7 @@ use crate::variant::fault::{
     list_count, list_error_variant, list_named_fields, list_regex_form, list_token_form,
     list_variant_fields,
 };
+use indexmap::IndexSet;
 use logos_definition::meta::meta_of;
 use logos_definition::parser::Parser;
 use logos_item::{Attribute, Field, Fields, Variant, split_attribute};
@@ -36,7 +37,7 @@ use std::alloc::{AllocError, Global};
 #[derive(Clone, Copy)]
 pub struct Types<'p, 's> {
     pub params: &'p TypeParams<'s>,
-    pub held: &'p [&'s str],
+    pub held: &'p IndexSet<&'s str>,
 }
 
 /// What a match gives of a variant with this field.
@@ -47,7 +48,7 @@ fn value_kind<'s>(
     errors: &mut Errors,
 ) -> Result<VariantKind<'s>, Memory>
     ensures { IfOk result (λ kind. HoldsType
-        (params_with types.entry.params.now (texts types.entry.held.now)) name.entry
+        (params_with types.entry.params.now (texts types.entry.held.now.keys)) name.entry
         (field_value field.now) errors.old errors.new (kind_value kind)) }
 {
     let span = field.run.span();
@@ -67,7 +68,7 @@ fn tuple_kind<'s>(
     errors: &mut Errors,
 ) -> Result<VariantKind<'s>, Memory>
     ensures { IfOk result (λ kind. KindIs
-        (params_with types.entry.params.now (texts types.entry.held.now)) name.entry
+        (params_with types.entry.params.now (texts types.entry.held.now.keys)) name.entry
         errors.old errors.new (in_parenthesis span (map field_value fields.now))
         (kind_value kind)) }
 {
@@ -88,7 +89,7 @@ fn kind_of<'s>(
     errors: &mut Errors,
 ) -> Result<VariantKind<'s>, Memory>
     ensures { IfOk result (λ kind. KindIs
-        (params_with types.entry.params.now (texts types.entry.held.now)) name.entry
+        (params_with types.entry.params.now (texts types.entry.held.now.keys)) name.entry
         errors.old errors.new (fields_value fields.now) (kind_value kind)) }
 {
     match fields {
@@ -212,12 +213,12 @@ fn add_attributes<'s>(
 fn add_variant<'s>(
     alloc: Global,
     variant: &Variant<'_, 's>,
-    held: &[&'s str],
+    held: &IndexSet<&'s str>,
     subpatterns: &Subpatterns<'s>,
     parser: &mut Parser<'s>,
     leaves: &mut Vec<Leaf<'s>>,
 ) -> Result<(), Memory>
-    ensures given { OnOk result (VariantAdds (params_with parser.old.types (texts held.now))
+    ensures given { OnOk result (VariantAdds (params_with parser.old.types (texts held.now.keys))
         (names_of subpatterns.now) (variant_value variant.now) (map leaf_view leaves.old.items)
         (map leaf_view leaves.new.items) parser.old.errors parser.new.errors) }
     ensures kept { OnOk result (parser_view parser.new ≡ parser_view parser.old) }
@@ -247,12 +248,12 @@ fn add_variant<'s>(
 pub(crate) fn add_variants<'s>(
     alloc: Global,
     variants: &[Variant<'_, 's>],
-    held: &[&'s str],
+    held: &IndexSet<&'s str>,
     subpatterns: &Subpatterns<'s>,
     parser: &mut Parser<'s>,
     leaves: &mut Vec<Leaf<'s>>,
 ) -> Result<(), Memory>
-    ensures given { OnOk result (VariantsAdd (params_with parser.old.types (texts held.now))
+    ensures given { OnOk result (VariantsAdd (params_with parser.old.types (texts held.now.keys))
         (names_of subpatterns.now) (map variant_value variants.now)
         (map leaf_view leaves.old.items) (map leaf_view leaves.new.items)
         parser.old.errors parser.new.errors) }

@@ -1,9 +1,11 @@
 //! What a run of a lexer gives.
 
-ghost use Rattle.std.specs.Prelude.{◌≡◌, ◌<◌, ◌≤◌, length, option_map, slice_range, MatchBool, MatchOption, IfOk, IfErr, IsTrue, IsUtf8, drop};
+ghost use Rattle.std.specs.Prelude.{◌≡◌, ◌<◌, ◌≤◌, length, option_map, slice_range, MatchBool};
+ghost use Rattle.std.specs.Prelude.{MatchOption, IfOk, IfErr, IsTrue, IsUtf8, drop};
 ghost use Rattle.std.specs.Str.{IsValidUpTo};
 ghost use Rattle.logos_code.specs.CodeView.{asks_for};
-ghost use Rattle.logos_machine.specs.LexerValue.{answers_of, begun, item_of, Gives, Ends, Keeps, MatchGives};
+ghost use Rattle.logos_machine.specs.LexerValue.{answers_of, begun, item_of};
+ghost use Rattle.logos_machine.specs.LexerValue.{Gives, Ends, Keeps, MatchGives};
 
 mod attempt;
 mod fast_loop;
@@ -61,7 +63,14 @@ impl<'c, 's, 'i, C> Model for Lexer<'c, 's, 'i, C> {
 
     ghost coded = { Prim.hlevel (codes, (p.the_row (record { mir = named 1; lft = [] })).coded) };
 
-    ghost view = { λ l. record { code = l.code.now; input = l.input.now; callback = l.callback; from = l.from; to = l.to; steps = l.steps } };
+    ghost view = { λ l. record {
+      code = l.code.now;
+      input = l.input.now;
+      callback = l.callback;
+      from = l.from;
+      to = l.to;
+      steps = l.steps;
+    } };
 
     ghost invariant = { λ l. (l.from ≤ l.to) × (l.to ≤ length l.input.now) };
 }
@@ -82,8 +91,10 @@ impl<'c, 's, 'i, C: Fn(LeafId, &[u8]) -> Action> Lexer<'c, 's, 'i, C> {
         callback: C,
     ) -> Result<Lexer<'c, 's, 'i, C>, NotUtf8>
         requires { C.IsAlwaysCallable callback }
-        ensures accepted { IfOk result (λ lexer. (lexer ≡ begun code.now input.now callback) × (IsTrue code.now.utf8 → IsUtf8 input.now)) }
-        ensures refused { IfErr result (λ refusal. IsTrue code.now.utf8 × ¬ IsUtf8 input.now × IsValidUpTo input.now refusal.valid_up_to) }
+        ensures accepted { IfOk result (λ lexer. (lexer ≡ begun code.now input.now callback)
+            × (IsTrue code.now.utf8 → IsUtf8 input.now)) }
+        ensures refused { IfErr result (λ refusal. IsTrue code.now.utf8 × ¬ IsUtf8 input.now
+            × IsValidUpTo input.now refusal.valid_up_to) }
     {
         if code.is_utf8() {
             check_utf8(input)?;
@@ -91,6 +102,7 @@ impl<'c, 's, 'i, C: Fn(LeafId, &[u8]) -> Action> Lexer<'c, 's, 'i, C> {
         Ok(Lexer::start(code, input, callback))
     }
 
+    /// A lexer in front of the first byte, which has made no step yet.
     fn start(code: &'c Code<'s>, input: &'i [u8], callback: C) -> Lexer<'c, 's, 'i, C>
         ensures { result ≡ begun code.now input.now callback }
     {
@@ -109,7 +121,9 @@ impl<'c, 's, 'i, C: Fn(LeafId, &[u8]) -> Action> Lexer<'c, 's, 'i, C> {
     pub fn next(&mut self) -> Option<Item<'i>>
         requires { C.IsAlwaysCallable self.old.callback }
         ensures keeps { Keeps self.old self.new }
-        ensures item { MatchOption result (Ends (answers_of C.Fn self.old.callback) self.old self.new) (λ i. Gives (answers_of C.Fn self.old.callback) self.old self.new (item_of i)) }
+        ensures item { MatchOption result
+            (Ends (answers_of C.Fn self.old.callback) self.old self.new)
+            (λ i. Gives (answers_of C.Fn self.old.callback) self.old self.new (item_of i)) }
     {
         loop {
             let from = self.to;
@@ -177,7 +191,8 @@ impl<'c, 's, 'i, C: Fn(LeafId, &[u8]) -> Action> Lexer<'c, 's, 'i, C> {
 /// Whether the bytes are UTF-8, and else how long their longest beginning is that is.
 fn check_utf8(input: &[u8]) -> Result<(), NotUtf8>
     ensures accepted { IfOk result (λ _. IsUtf8 input.now) }
-    ensures refused { IfErr result (λ refusal. ¬ IsUtf8 input.now × IsValidUpTo input.now refusal.valid_up_to) }
+    ensures refused { IfErr result
+        (λ refusal. ¬ IsUtf8 input.now × IsValidUpTo input.now refusal.valid_up_to) }
 {
     match str::from_utf8(input) {
         Ok(_) => Ok(()),
@@ -200,7 +215,8 @@ fn matched_item<'i, C: Fn(LeafId, &[u8]) -> Action>(
     requires leaf { leaf.0 < length code.now.leaves }
     requires order { span.from ≤ span.to }
     requires within { span.to ≤ length input.now }
-    ensures { MatchGives code.now (answers_of C.Fn callback.now) input.now leaf.0 span.from span.to (option_map item_of result) }
+    ensures { MatchGives code.now (answers_of C.Fn callback.now) input.now leaf.0 span.from span.to
+        (option_map item_of result) }
 {
     let slice = &input[span.from..span.to];
     match answer(code, callback, leaf, slice) {
@@ -224,7 +240,8 @@ fn answer<C: Fn(LeafId, &[u8]) -> Action>(
 ) -> Action
     requires callable { C.IsAlwaysCallable callback.now }
     requires leaf { leaf.0 < length code.now.leaves }
-    ensures { MatchBool (asks_for code.now leaf.0) (answers_of C.Fn callback.now leaf.0 slice.now result) (result ≡ Action.Emit) }
+    ensures { MatchBool (asks_for code.now leaf.0)
+        (answers_of C.Fn callback.now leaf.0 slice.now result) (result ≡ Action.Emit) }
 {
     if code.asks(leaf) {
         callback(leaf, slice)

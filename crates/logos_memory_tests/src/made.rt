@@ -1,6 +1,6 @@
 //! Calls on the graph and the code that a source gives, and on a generator.
 
-ghost use Rattle.std.specs.Prelude.{◌≡◌, []};
+ghost use Rattle.std.specs.Prelude.{◌≡◌, [], OnOk};
 
 use crate::asking::Asking;
 use crate::telling::{tell_code, tell_code_leaf, tell_fork};
@@ -98,7 +98,9 @@ fn ask_telling(asking: &mut Asking, graph: &Graph<'_>) -> Result<(), Memory> {
 }
 
 /// Asks for the code of the graph, which is told by its text.
-fn ask_code(asking: &mut Asking, generator: &mut Generator<'_, '_>) -> Result<(), Memory> {
+fn ask_code(asking: &mut Asking, generator: &mut Generator<'_, '_>) -> Result<(), Memory>
+    ensures { OnOk result (generator.new.graph ≡ generator.old.graph) }
+{
     asking.begin();
     let answer = generator.generate(asking.alloc);
     asking.end();
@@ -115,6 +117,7 @@ fn ask_fork(
     generator: &mut Generator<'_, '_>,
 ) -> Result<(), Memory>
     requires { graph.now.faults ≡ [] }
+    ensures { OnOk result (generator.new.graph ≡ generator.old.graph) }
 {
     let mut states = graph.iter_states();
     let Some(root) = states.next() else {
@@ -138,7 +141,10 @@ fn ask_maybe_loop(
     asking: &mut Asking,
     graph: &Graph<'_>,
     generator: &mut Generator<'_, '_>,
-) -> Result<(), Memory> {
+) -> Result<(), Memory>
+    requires { generator.old.graph ≡ graph.now }
+    ensures { OnOk result (generator.new.graph ≡ generator.old.graph) }
+{
     let Some(state) = graph.iter_states().last() else {
         return Err(Memory);
     };
@@ -159,7 +165,9 @@ fn ask_loop(
     asking: &mut Asking,
     graph: &Graph<'_>,
     generator: &mut Generator<'_, '_>,
-) -> Result<(), Memory> {
+) -> Result<(), Memory>
+    ensures { OnOk result (generator.new.graph ≡ generator.old.graph) }
+{
     let (root, _) = first_states(graph)?;
     if !graph.contains(root) {
         return Err(Memory);
@@ -206,7 +214,9 @@ fn ask_tables(asking: &mut Asking, generator: &Generator<'_, '_>) -> Result<(), 
 }
 
 /// Lets a generator that is asked for its tables make some first.
-pub fn prepare(alloc: Global, call: Made, generator: &mut Generator<'_, '_>) -> Result<(), Memory> {
+pub fn prepare(alloc: Global, call: Made, generator: &mut Generator<'_, '_>) -> Result<(), Memory>
+    ensures { OnOk result (generator.new.graph ≡ generator.old.graph) }
+{
     match call {
         Made::Tables => {
             generator.generate(alloc)?;
@@ -223,7 +233,9 @@ pub fn ask(
     generated: &Generated<'_>,
     generator: &mut Generator<'_, '_>,
 ) -> Result<(), Memory>
-    requires { generated.now.graph.faults ≡ [] }
+    requires faultless { generated.now.graph.faults ≡ [] }
+    requires same { generator.old.graph ≡ generated.now.graph }
+    ensures { OnOk result (generator.new.graph ≡ generator.old.graph) }
 {
     let graph = &generated.graph;
     match call {

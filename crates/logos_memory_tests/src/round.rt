@@ -41,7 +41,8 @@ fn ask_generator(
     generated: &Generated<'_>,
     generator: &mut Generator<'_, '_>,
 ) -> Result<(), Memory>
-    requires { generated.now.graph.faults ≡ [] }
+    requires faultless { generated.now.graph.faults ≡ [] }
+    requires same { generator.old.graph ≡ generated.now.graph }
 {
     made::prepare(asking.alloc, call, generator)?;
     tell_tables(asking, generator)?;

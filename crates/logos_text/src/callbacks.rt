@@ -22,6 +22,7 @@ pub(crate) fn push_call(
     }
 }
 
+/// Adds the call of a callback that is named.
 fn push_label(alloc: Global, text: &mut String, label: Tokens<'_, '_>) -> Result<(), Memory>
     ensures { OnOk result (Grows (string_bytes text.old) (string_bytes text.new)) }
 {
@@ -29,6 +30,7 @@ fn push_label(alloc: Global, text: &mut String, label: Tokens<'_, '_>) -> Result
     push(text, "( lex ) ")
 }
 
+/// Adds a callback that stands in the source, with its argument in front of its body.
 fn push_inline(
     alloc: Global,
     text: &mut String,
@@ -68,6 +70,7 @@ fn gap_behind(tokens: Tokens<'_, '_>) -> &'static str {
     if ends_line { "\n" } else { " " }
 }
 
+/// Whether the tree is a comment that ends with its line.
 fn is_line_comment(tree: TokenTree<'_, '_>) -> bool {
     matches!(tree, TokenTree::Doc(doc) if doc.text.starts_with("//"))
 }

@@ -51,7 +51,8 @@ fn push_code(
     parts: &CodeParts<'_>,
     names: Names<'_>,
 ) -> Result<(), Memory>
-    ensures { OnOk result (Adds (texts_in names.entry.shape (code_of parts.now)) (string_bytes text.old) (string_bytes text.new)) }
+    ensures { OnOk result (Adds (texts_in names.entry.shape (code_of parts.now))
+        (string_bytes text.old) (string_bytes text.new)) }
 {
     push_macros(text, parts.root, names)?;
     push_tables(text, &parts.bit_tables)?;

@@ -3,7 +3,9 @@ ghost use Rattle.std.specs.Prelude.{◌≡◌, ◌++◌, ◌∷◌, [], ◌==◌
 ghost use Rattle.std.specs.List.{flat_map, join_by};
 ghost use Rattle.logos_graph.specs.Bytes.{comparison_of};
 ghost use Rattle.logos_code.specs.CodeView.{condition_of};
-ghost use Rattle.logos_text.specs.Texts.{is_quoted, end_text, exception_text, single_text, between_text, comparison_text, bit_text, test_text, transition_text, condition_text};
+ghost use Rattle.logos_text.specs.Texts.{is_quoted, end_text, exception_text, single_text};
+ghost use Rattle.logos_text.specs.Texts.{between_text, comparison_text, bit_text};
+ghost use Rattle.logos_text.specs.Texts.{test_text, transition_text, condition_text};
 
 use crate::pieces::push_str;
 use logos_code::code::{Condition, Config};
@@ -36,7 +38,8 @@ fn push_end(text: &mut String, byte: u8) -> Result<(), Memory>
 /// Adds a character between quotes.
 fn push_quoted(text: &mut String, character: char) -> Result<(), Memory>
     requires { character < 128 }
-    ensures { OnOk result (string_bytes text.new ≡ string_bytes text.old ++ 98 ∷ 39 ∷ character ∷ 39 ∷ []) }
+    ensures { OnOk result (string_bytes text.new
+        ≡ string_bytes text.old ++ 98 ∷ 39 ∷ character ∷ 39 ∷ []) }
 {
     push_str(text, "b'")?;
     text.push(character)?;
@@ -44,6 +47,7 @@ fn push_quoted(text: &mut String, character: char) -> Result<(), Memory>
     Ok(())
 }
 
+/// Adds that the byte is not this one.
 fn push_exception(text: &mut String, byte: u8) -> Result<(), Memory>
     ensures { OnOk result (string_bytes text.new ≡ string_bytes text.old ++ exception_text byte) }
 {
@@ -51,8 +55,10 @@ fn push_exception(text: &mut String, byte: u8) -> Result<(), Memory>
     Ok(())
 }
 
+/// Adds that the byte is none of these.
 fn push_exceptions(text: &mut String, bytes: &[u8]) -> Result<(), Memory>
-    ensures { OnOk result (string_bytes text.new ≡ string_bytes text.old ++ flat_map exception_text bytes.now) }
+    ensures { OnOk result (string_bytes text.new
+        ≡ string_bytes text.old ++ flat_map exception_text bytes.now) }
 {
     for byte in bytes {
         push_exception(text, *byte)?;
@@ -60,8 +66,10 @@ fn push_exceptions(text: &mut String, bytes: &[u8]) -> Result<(), Memory>
     Ok(())
 }
 
+/// Adds a comparison: with one byte, or with the ends of a range.
 fn push_comparison(text: &mut String, comparison: &Comparisons) -> Result<(), Memory>
-    ensures { OnOk result (string_bytes text.new ≡ string_bytes text.old ++ comparison_text (comparison_of comparison.now)) }
+    ensures { OnOk result (string_bytes text.new
+        ≡ string_bytes text.old ++ comparison_text (comparison_of comparison.now)) }
 {
     let first = *comparison.range.start();
     let last = *comparison.range.end();
@@ -71,6 +79,7 @@ fn push_comparison(text: &mut String, comparison: &Comparisons) -> Result<(), Me
     push_between(text, first, last, &comparison.except)
 }
 
+/// Adds that the byte is this one.
 fn push_single(text: &mut String, byte: u8) -> Result<(), Memory>
     ensures { OnOk result (string_bytes text.new ≡ string_bytes text.old ++ single_text byte) }
 {
@@ -80,8 +89,10 @@ fn push_single(text: &mut String, byte: u8) -> Result<(), Memory>
     Ok(())
 }
 
+/// Adds that the byte lies between these, and is no exception.
 fn push_between(text: &mut String, first: u8, last: u8, except: &[u8]) -> Result<(), Memory>
-    ensures { OnOk result (string_bytes text.new ≡ string_bytes text.old ++ between_text first last except.now) }
+    ensures { OnOk result (string_bytes text.new
+        ≡ string_bytes text.old ++ between_text first last except.now) }
 {
     push_str(text, "( matches ! ( byte , ")?;
     push_end(text, first)?;
@@ -95,14 +106,17 @@ fn push_between(text: &mut String, first: u8, last: u8, except: &[u8]) -> Result
 
 /// Adds a comparison behind a former one.
 fn push_next_comparison(text: &mut String, comparison: &Comparisons) -> Result<(), Memory>
-    ensures { OnOk result (string_bytes text.new ≡ string_bytes text.old ++ codes " || " ++ comparison_text (comparison_of comparison.now)) }
+    ensures { OnOk result (string_bytes text.new
+        ≡ string_bytes text.old ++ codes " || " ++ comparison_text (comparison_of comparison.now)) }
 {
     push_str(text, " || ")?;
     push_comparison(text, comparison)
 }
 
+/// Adds comparisons behind a former one.
 fn push_next_comparisons(text: &mut String, comparisons: &[Comparisons]) -> Result<(), Memory>
-    ensures { OnOk result (string_bytes text.new ≡ string_bytes text.old ++ flat_map (λ c. codes " || " ++ comparison_text c) (map comparison_of comparisons.now)) }
+    ensures { OnOk result (string_bytes text.new ≡ string_bytes text.old
+        ++ flat_map (λ c. codes " || " ++ comparison_text c) (map comparison_of comparisons.now)) }
 {
     for comparison in comparisons {
         push_next_comparison(text, comparison)?;
@@ -110,8 +124,10 @@ fn push_next_comparisons(text: &mut String, comparisons: &[Comparisons]) -> Resu
     Ok(())
 }
 
+/// Adds the comparisons, with `||` between them.
 fn push_comparisons(text: &mut String, comparisons: &[Comparisons]) -> Result<(), Memory>
-    ensures { OnOk result (string_bytes text.new ≡ string_bytes text.old ++ join_by comparison_text (codes " || ") (map comparison_of comparisons.now)) }
+    ensures { OnOk result (string_bytes text.new ≡ string_bytes text.old
+        ++ join_by comparison_text (codes " || ") (map comparison_of comparisons.now)) }
 {
     let Some((first, rest)) = comparisons.split_first() else {
         return Ok(());
@@ -130,8 +146,10 @@ pub(crate) fn push_bit(text: &mut String, test: usize) -> Result<(), Memory>
     Ok(())
 }
 
+/// Adds what a byte is tested by, as an expression of type `bool`.
 fn push_test(text: &mut String, test: &Condition) -> Result<(), Memory>
-    ensures { OnOk result (string_bytes text.new ≡ string_bytes text.old ++ test_text (condition_of test.now)) }
+    ensures { OnOk result (string_bytes text.new
+        ≡ string_bytes text.old ++ test_text (condition_of test.now)) }
 {
     match test {
         Condition::Comparisons(all) => push_comparisons(text, all)?,
@@ -140,8 +158,10 @@ fn push_test(text: &mut String, test: &Condition) -> Result<(), Memory>
     Ok(())
 }
 
+/// Adds that the bit of the test with this number is set.
 fn push_bit_test(text: &mut String, test: usize) -> Result<(), Memory>
-    ensures { OnOk result (string_bytes text.new ≡ string_bytes text.old ++ bit_text test ++ codes " != 0") }
+    ensures { OnOk result (string_bytes text.new
+        ≡ string_bytes text.old ++ bit_text test ++ codes " != 0") }
 {
     push_bit(text, test)?;
     push_str(text, " != 0")?;
@@ -150,7 +170,8 @@ fn push_bit_test(text: &mut String, test: usize) -> Result<(), Memory>
 
 /// Adds the step to a state.
 pub(crate) fn push_transition(text: &mut String, target: usize, shape: Config) -> Result<(), Memory>
-    ensures { OnOk result (string_bytes text.new ≡ string_bytes text.old ++ transition_text target shape) }
+    ensures { OnOk result (string_bytes text.new
+        ≡ string_bytes text.old ++ transition_text target shape) }
 {
     if shape.use_state_machine_codegen {
         write!(text, "state = LogosState :: State{target} ; continue ;")?;
@@ -167,7 +188,8 @@ pub(crate) fn push_condition(
     target: usize,
     shape: Config,
 ) -> Result<(), Memory>
-    ensures { OnOk result (string_bytes text.new ≡ string_bytes text.old ++ condition_text (condition_of test.now) target shape) }
+    ensures { OnOk result (string_bytes text.new
+        ≡ string_bytes text.old ++ condition_text (condition_of test.now) target shape) }
 {
     push_str(text, "if ")?;
     push_test(text, test)?;

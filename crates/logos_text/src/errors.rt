@@ -57,6 +57,7 @@ fn push_error_call(alloc: Global, text: &mut String, callback: &Callback<'_>) ->
     }
 }
 
+/// Adds the call of an error callback that is named.
 fn push_error_label(alloc: Global, text: &mut String, label: Tokens<'_, '_>) -> Result<(), Memory>
     ensures { OnOk result (Grows (string_bytes text.old) (string_bytes text.new)) }
 {
@@ -65,6 +66,7 @@ fn push_error_label(alloc: Global, text: &mut String, label: Tokens<'_, '_>) -> 
     push(text, "( lex ) ; error . into ( ) ")
 }
 
+/// Adds an error callback that stands in the source, with its argument in front of its body.
 fn push_error_inline(
     alloc: Global,
     text: &mut String,

@@ -12,7 +12,8 @@ use std::alloc::Global;
 
 /// Adds a branch, and a space.
 fn push_branch(text: &mut String, branch: &(Condition, usize), shape: Config) -> Result<(), Memory>
-    ensures { OnOk result (Adds (branch_text shape (branch_of branch.now) ∷ []) (string_bytes text.old) (string_bytes text.new)) }
+    ensures { OnOk result (Adds (branch_text shape (branch_of branch.now) ∷ [])
+        (string_bytes text.old) (string_bytes text.new)) }
 {
     push_condition(text, &branch.0, branch.1, shape)?;
     push(text, " ")
@@ -24,7 +25,8 @@ fn push_branches(
     branches: &[(Condition, usize)],
     shape: Config,
 ) -> Result<(), Memory>
-    ensures { OnOk result (Adds (map (branch_text shape) (map branch_of branches.now)) (string_bytes text.old) (string_bytes text.new)) }
+    ensures { OnOk result (Adds (map (branch_text shape) (map branch_of branches.now))
+        (string_bytes text.old) (string_bytes text.new)) }
 {
     for branch in branches {
         push_branch(text, branch, shape)?;
@@ -92,6 +94,7 @@ fn targets_of(alloc: Global, table: &[u32; 256]) -> Result<Vec<u32>, Memory> {
     Ok(targets)
 }
 
+/// Adds the name of state `target`, with a comma in front of all but the first.
 fn push_next_name(text: &mut String, n: usize, target: u32) -> Result<(), Memory>
     ensures { OnOk result (Grows (string_bytes text.old) (string_bytes text.new)) }
 {
@@ -110,6 +113,7 @@ fn push_next_names(text: &mut String, targets: &[u32]) -> Result<(), Memory>
     Ok(())
 }
 
+/// Adds the call of state `target`, with a comma in front of all but the first.
 fn push_next_arm(text: &mut String, n: usize, target: u32, shape: Config) -> Result<(), Memory>
     ensures { OnOk result (Grows (string_bytes text.old) (string_bytes text.new)) }
 {
@@ -192,7 +196,8 @@ pub(crate) fn push_ways(
     parts: &CodeParts<'_>,
     shape: Config,
 ) -> Result<(), Memory>
-    ensures { OnOk result (Adds (fork_texts shape (fork_of parts.now.jump_tables.items fork.now)) (string_bytes text.old) (string_bytes text.new)) }
+    ensures { OnOk result (Adds (fork_texts shape (fork_of parts.now.jump_tables.items fork.now))
+        (string_bytes text.old) (string_bytes text.new)) }
 {
     match fork {
         Fork::Conditions(branches) => push_branches(text, branches, shape),

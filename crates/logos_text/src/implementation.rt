@@ -26,6 +26,7 @@ pub(crate) fn push_front(text: &mut String, around: Around<'_>, this: &str) -> R
     push_uses(text, around.logos, this)
 }
 
+/// Adds the head of the implementation, and its associated types.
 fn push_head(text: &mut String, around: Around<'_>, this: &str) -> Result<(), Memory>
     ensures { OnOk result (Grows (string_bytes text.old) (string_bytes text.new)) }
 {
@@ -40,6 +41,7 @@ fn push_head(text: &mut String, around: Around<'_>, this: &str) -> Result<(), Me
     Ok(())
 }
 
+/// Adds the signature of the function that lexes.
 fn push_signature(text: &mut String, logos: &str) -> Result<(), Memory>
     ensures { OnOk result (Grows (string_bytes text.old) (string_bytes text.new)) }
 {
@@ -50,6 +52,7 @@ fn push_signature(text: &mut String, logos: &str) -> Result<(), Memory>
     Ok(())
 }
 
+/// Adds the names that the body uses.
 fn push_uses(text: &mut String, logos: &str, this: &str) -> Result<(), Memory>
     ensures { OnOk result (Grows (string_bytes text.old) (string_bytes text.new)) }
 {

@@ -30,6 +30,7 @@ fn distance(late: bool) -> &'static str {
     if late { " - 1" } else { "" }
 }
 
+/// Adds that a match ends here, if the state marks one.
 fn push_mark(text: &mut String, mark: Option<Mark>) -> Result<(), Memory>
     ensures { OnOk result (Grows (string_bytes text.old) (string_bytes text.new)) }
 {
@@ -67,6 +68,7 @@ fn push_at_end(text: &mut String, at_end: Option<usize>, shape: Config) -> Resul
     push(text, " ")
 }
 
+/// Adds what state number s begins with: an arm of the loop, or the signature of a function.
 fn push_head(text: &mut String, s: usize, names: Names<'_>) -> Result<(), Memory>
     ensures { OnOk result (Grows (string_bytes text.old) (string_bytes text.new)) }
 {
@@ -127,7 +129,8 @@ fn push_state(
     parts: &CodeParts<'_>,
     names: Names<'_>,
 ) -> Result<(), Memory>
-    ensures { OnOk result (Adds (state_texts names.entry.shape (state_of parts.now.jump_tables.items state.now)) (string_bytes text.old) (string_bytes text.new)) }
+    ensures { OnOk result (Adds (state_texts names.entry.shape (state_of parts.now.jump_tables.items
+        state.now)) (string_bytes text.old) (string_bytes text.new)) }
 {
     push_before(text, s, state, names)?;
     push_ways(alloc, text, &state.fork, parts, names.shape)?;
@@ -142,7 +145,9 @@ pub(crate) fn push_states(
     parts: &CodeParts<'_>,
     names: Names<'_>,
 ) -> Result<(), Memory>
-    ensures { OnOk result (Adds (flat_map (state_texts names.entry.shape) (map (state_of parts.now.jump_tables.items) parts.now.states.items)) (string_bytes text.old) (string_bytes text.new)) }
+    ensures { OnOk result (Adds (flat_map (state_texts names.entry.shape)
+        (map (state_of parts.now.jump_tables.items) parts.now.states.items)) (string_bytes text.old)
+        (string_bytes text.new)) }
 {
     for s in 0..parts.states.len() {
         push_state(alloc, text, s, &parts.states[s], parts, names)?;
@@ -161,6 +166,7 @@ fn push_state_names(alloc: Global, text: &mut String, count: usize) -> Result<()
     Ok(())
 }
 
+/// Adds the name of a state, with a comma in front of all but the first.
 fn push_state_name(text: &mut String, n: usize, name: &str) -> Result<(), Memory>
     ensures { OnOk result (Grows (string_bytes text.old) (string_bytes text.new)) }
 {

@@ -7,6 +7,7 @@ ghost use Rattle.logos_text.specs.Standing.{Adds};
 use crate::pieces::{push, push_str};
 use logos_token::error::Memory;
 
+/// Adds an entry.
 fn push_entry(text: &mut String, entry: u8) -> Result<(), Memory>
     ensures { OnOk result (string_bytes text.new ≡ string_bytes text.old ++ entry_text entry) }
 {
@@ -16,14 +17,17 @@ fn push_entry(text: &mut String, entry: u8) -> Result<(), Memory>
 
 /// Adds an entry behind a former one.
 fn push_next_entry(text: &mut String, entry: u8) -> Result<(), Memory>
-    ensures { OnOk result (string_bytes text.new ≡ string_bytes text.old ++ codes " , " ++ entry_text entry) }
+    ensures { OnOk result (string_bytes text.new
+        ≡ string_bytes text.old ++ codes " , " ++ entry_text entry) }
 {
     push_str(text, " , ")?;
     push_entry(text, entry)
 }
 
+/// Adds entries behind a former one.
 fn push_next_entries(text: &mut String, entries: &[u8]) -> Result<(), Memory>
-    ensures { OnOk result (string_bytes text.new ≡ string_bytes text.old ++ flat_map (λ entry. codes " , " ++ entry_text entry) entries.now) }
+    ensures { OnOk result (string_bytes text.new ≡ string_bytes text.old
+        ++ flat_map (λ entry. codes " , " ++ entry_text entry) entries.now) }
 {
     for entry in entries {
         push_next_entry(text, *entry)?;
@@ -31,8 +35,10 @@ fn push_next_entries(text: &mut String, entries: &[u8]) -> Result<(), Memory>
     Ok(())
 }
 
+/// Adds the entries, with commas between them.
 fn push_entries(text: &mut String, entries: &[u8]) -> Result<(), Memory>
-    ensures { OnOk result (string_bytes text.new ≡ string_bytes text.old ++ join_by entry_text (codes " , ") entries.now) }
+    ensures { OnOk result (string_bytes text.new
+        ≡ string_bytes text.old ++ join_by entry_text (codes " , ") entries.now) }
 {
     let Some((first, rest)) = entries.split_first() else {
         return Ok(());
@@ -43,7 +49,8 @@ fn push_entries(text: &mut String, entries: &[u8]) -> Result<(), Memory>
 
 /// Adds the bit table with this number.
 fn push_table(text: &mut String, n: usize, entries: &[u8; 256]) -> Result<(), Memory>
-    ensures { OnOk result (string_bytes text.new ≡ string_bytes text.old ++ table_text n entries.now) }
+    ensures { OnOk result (string_bytes text.new
+        ≡ string_bytes text.old ++ table_text n entries.now) }
 {
     write!(text, "const _TABLE_{n} : [ u8 ; 256 ] = [ ")?;
     push_entries(text, entries)?;
@@ -53,7 +60,8 @@ fn push_table(text: &mut String, n: usize, entries: &[u8; 256]) -> Result<(), Me
 
 /// Adds a table, and a space.
 fn push_next_table(text: &mut String, n: usize, entries: &[u8; 256]) -> Result<(), Memory>
-    ensures { OnOk result (Adds (table_text n entries.now ∷ []) (string_bytes text.old) (string_bytes text.new)) }
+    ensures { OnOk result (Adds (table_text n entries.now ∷ []) (string_bytes text.old)
+        (string_bytes text.new)) }
 {
     push_table(text, n, entries)?;
     push(text, " ")?;
@@ -62,7 +70,8 @@ fn push_next_table(text: &mut String, n: usize, entries: &[u8; 256]) -> Result<(
 
 /// Adds the bit tables.
 pub(crate) fn push_tables(text: &mut String, tables: &[[u8; 256]]) -> Result<(), Memory>
-    ensures { OnOk result (Adds (table_texts 0 tables.now) (string_bytes text.old) (string_bytes text.new)) }
+    ensures { OnOk result (Adds (table_texts 0 tables.now) (string_bytes text.old)
+        (string_bytes text.new)) }
 {
     for n in 0..tables.len() {
         push_next_table(text, n, &tables[n])?;

@@ -1,5 +1,5 @@
 -- Chains of types, as they are followed.
-use Rattle.std.proofs.Common.{◌≡◌, ℕ, zero, suc, ◌+◌, ◌<◌, ◌≤◌, ◌⊎◌, inl, inr, ⊎_elim, List, [], ◌∷◌, ◌++◌, ◌||◌, map, length, drop, get_or, Bool, true, false, Some, None, is_some, slice_get, Bor, refl, sym, ap, ◌∙◌, arith, subst, append_assoc, append-nil, true≢false, if◌then◌else◌}
+use Rattle.std.proofs.Common.{◌≡◌, ℕ, zero, suc, ◌+◌, ◌<◌, ◌≤◌, ◌⊎◌, inl, inr, ⊎_elim, List, [], ◌∷◌, ◌++◌, ◌||◌, map, length, drop, get_or, Bool, true, false, Some, None, is_some, slice_get, Bor, refl, sym, ap, ◌∙◌, arith, subst, append_assoc, append-nil, true≢false}
 use Rattle.std.proofs.lemmas.List.{map_push, length-append, at_drop_more}
 use lib.ListN.{get_or-append}
 use Rattle.std.proofs.lemmas.List.Folds.{list_any-append}
@@ -7,20 +7,19 @@ use Rattle.std.proofs.lemmas.Slice.Eq.{bytes_eq-Decides}
 use Rattle.std.specs.Str.{bytes_eq}
 use Rattle.std.specs.List.{list_any}
 use Rattle.std.specs.Map.{lookup}
-use Rattle.indexmap.specs.IndexMap.{insert_entry}
 use Rattle.indexmap.specs.IndexSet.{insert_key}
 use Rattle.logos_type.specs.declared.type_expr.Part.{Part}
 use Rattle.logos_type.specs.Parts.{name, trees, also, tree_of}
 use Rattle.logos_type_params.specs.declared.substitution.TypeParam.{TypeParam}
 use Rattle.logos_type_params.specs.Substitution.{ParamValue, param_value}
 use Rattle.logos_type_params.specs.SelfReference.{names, some_names, holds, Leads, one, on, Has, texts}
-use Rattle.logos_type_params.specs.inside.Chains.{first_types, has_type, with_first, AreSame, AreFree, unreached, IsReached}
+use Rattle.logos_type_params.specs.inside.Chains.{has_type, AreFree, unreached, IsReached}
 
 abbrev pub Text : Type 0
 Text = List ℕ
 
-abbrev Entries : Type 0
-Entries = List (Bor Text × Bor Part)
+abbrev pub Entries : Type 0
+Entries = List (Bor Text × TypeParam)
 
 -- ---- lists of texts
 
@@ -99,69 +98,32 @@ with_key t keys = go (list_any (λ (k : Bor Text). bytes_eq t.now k.now) keys) r
     go true e = inl (any_has t.now (texts keys) (sym (any_texts t.now keys) ∙ e), rw e refl)
     go false e = inr (sym (any_texts t.now keys) ∙ e, rw e (map_push (λ (k : Bor Text). k.now) keys t))
 
--- ---- the first types of names
+-- ---- the types of names
 
-pub key_has_type : (t : Text) (es : Entries) → is_some (lookup (λ (k : Bor Text). bytes_eq t k.now) es) ≡ has_type (first_types es) t
+pub key_has_type : (t : Text) (es : Entries) → is_some (lookup (λ (k : Bor Text). bytes_eq t k.now) es) ≡ has_type (map param_value es) t
 key_has_type t [] = refl
 key_has_type t (e ∷ es) = go (bytes_eq t e.0.now) refl (key_has_type t es)
   where
-    go : (b : Bool) → bytes_eq t e.0.now ≡ b → is_some (lookup (λ (k : Bor Text). bytes_eq t k.now) es) ≡ has_type (first_types es) t → is_some (lookup (λ (k : Bor Text). bytes_eq t k.now) (e ∷ es)) ≡ has_type (first_types (e ∷ es)) t
+    go : (b : Bool) → bytes_eq t e.0.now ≡ b → is_some (lookup (λ (k : Bor Text). bytes_eq t k.now) es) ≡ has_type (map param_value es) t →
+        is_some (lookup (λ (k : Bor Text). bytes_eq t k.now) (e ∷ es)) ≡ has_type (map param_value (e ∷ es)) t
     go true q rest = rw q refl
     go false q rest = rw q rest
 
-pub added : (key : Bor Text) (part : Bor Part) (es : Entries) → has_type (first_types es) key.now ≡ false →
-    first_types (insert_entry (λ (a b : Bor Text). bytes_eq a.now b.now) es key part) ≡ first_types es ++ (record { name = key.now; type = tree_of part.now }) ∷ []
-added key part [] h = refl
-added key part (e ∷ es) h = go (bytes_eq key.now e.0.now) refl (added key part es)
-  where
-    go : (b : Bool) → bytes_eq key.now e.0.now ≡ b → (has_type (first_types es) key.now ≡ false → first_types (insert_entry (λ (a b : Bor Text). bytes_eq a.now b.now) es key part) ≡ first_types es ++ (record { name = key.now; type = tree_of part.now }) ∷ []) →
-        first_types (insert_entry (λ (a b : Bor Text). bytes_eq a.now b.now) (e ∷ es) key part) ≡ first_types (e ∷ es) ++ (record { name = key.now; type = tree_of part.now }) ∷ []
-    go true q rest = absurd (let k : true ≡ false = rw q at h in true≢false k)
-    go false q rest = rw q (ap (λ (ps : List ParamValue). (record { name = e.0.now; type = tree_of e.1.now }) ∷ ps) (rest (rw q at h)))
-
--- a type that is not the first of its name says nothing
-pass : (ps rest : List ParamValue) (p : ParamValue) (from to : Text) → bytes_eq p.name from ≡ false → holds (ps ++ rest) from to ≡ holds (ps ++ p ∷ rest) from to
-pass [] rest p from to f = rw f refl
-pass (q ∷ ps) rest p from to f = ap (λ b. if bytes_eq q.name from then names q.type to else b) (pass ps rest p from to f)
-
-skip : (ps rest : List ParamValue) (p : ParamValue) (from to : Text) → has_type ps p.name ≡ true → holds (ps ++ rest) from to ≡ holds (ps ++ p ∷ rest) from to
-skip [] rest p from to h = absurd (true≢false (sym h))
-skip (q ∷ ps) rest p from to h = go (bytes_eq p.name q.name) (bytes_eq q.name from) refl refl (skip ps rest p from to)
-  where
-    go : (b d : Bool) → bytes_eq p.name q.name ≡ b → bytes_eq q.name from ≡ d → (has_type ps p.name ≡ true → holds (ps ++ rest) from to ≡ holds (ps ++ p ∷ rest) from to) → holds ((q ∷ ps) ++ rest) from to ≡ holds ((q ∷ ps) ++ p ∷ rest) from to
-    go b true e f other = rw f refl
-    go true false e f other = rw f (pass ps rest p from to (rw (sym (same_text p.name q.name e)) at f))
-    go false false e f other = rw f (other (rw e at h))
-
-pub with_first_same : (ps rest all : List ParamValue) (p : ParamValue) → AreSame (ps ++ p ∷ rest) all → AreSame (with_first ps p ++ rest) all
-with_first_same ps rest all p same from to = go (has_type ps p.name) refl
-  where
-    go : (b : Bool) → has_type ps p.name ≡ b → holds (with_first ps p ++ rest) from to ≡ holds all from to
-    go true e = rw e (skip ps rest p from to e ∙ same from to)
-    go false e = rw e (ap (λ (l : List ParamValue). holds l from to) (append_assoc ps (p ∷ []) rest) ∙ same from to)
-
--- one type more of those that are given
-pub first_on : (all ps ps' : List ParamValue) (items : List TypeParam) (k : ℕ) (p : TypeParam) → AreSame (ps ++ map param_value (drop k items)) all → k < length items → p ≡ get_or items k p →
-    ps' ≡ with_first ps (param_value p) → AreSame (ps' ++ map param_value (drop (k + 1) items)) all
-first_on all ps ps' items k p same h e pushed =
-    let front : map param_value (drop k items) ≡ param_value p ∷ map param_value (drop (k + 1) items) =
-    at_drop_more (map param_value) items k p h ∙ ap (λ (q : TypeParam). param_value q ∷ map param_value (drop (k + 1) items)) (sym e) in
-    rw pushed (with_first_same ps (map param_value (drop (k + 1) items)) all (param_value p) (rw front at same))
-
 -- what is found by a name
-pub found_holds : (t : Text) (es : Entries) (part : Bor Part) → lookup (λ (k : Bor Text). bytes_eq t k.now) es ≡ Some part → (to : Text) → holds (first_types es) t to ≡ names (tree_of part.now) to
-found_holds t [] part h to = absurd cc
-found_holds t (e ∷ es) part h to = go (bytes_eq t e.0.now) refl (λ k. found_holds t es part k to)
+pub found_holds : (t : Text) (es : Entries) (p : TypeParam) → lookup (λ (k : Bor Text). bytes_eq t k.now) es ≡ Some p → (to : Text) → holds (map param_value es) t to ≡ names (tree_of p.part) to
+found_holds t [] p h to = absurd cc
+found_holds t (e ∷ es) p h to = go (bytes_eq t e.0.now) refl (λ k. found_holds t es p k to)
   where
-    go : (b : Bool) → bytes_eq t e.0.now ≡ b → (lookup (λ (k : Bor Text). bytes_eq t k.now) es ≡ Some part → holds (first_types es) t to ≡ names (tree_of part.now) to) → holds (first_types (e ∷ es)) t to ≡ names (tree_of part.now) to
-    go true q rest = rw (eq_sym e.0.now t, q) (let k : Some e.1 ≡ Some part = rw q at h in let s : e.1 ≡ part = cc in ap (λ (p : Bor Part). names (tree_of p.now) to) s)
+    go : (b : Bool) → bytes_eq t e.0.now ≡ b → (lookup (λ (k : Bor Text). bytes_eq t k.now) es ≡ Some p → holds (map param_value es) t to ≡ names (tree_of p.part) to) →
+        holds (map param_value (e ∷ es)) t to ≡ names (tree_of p.part) to
+    go true q rest = rw (eq_sym e.0.now t, q) (let k : Some e.1 ≡ Some p = rw q at h in let s : e.1 ≡ p = cc in ap (λ (x : TypeParam). names (tree_of x.part) to) s)
     go false q rest = rw (eq_sym e.0.now t, q) (rest (rw q at h))
 
-pub none_holds : (t : Text) (es : Entries) → lookup (λ (k : Bor Text). bytes_eq t k.now) es ≡ None → (to : Text) → holds (first_types es) t to ≡ false
+pub none_holds : (t : Text) (es : Entries) → lookup (λ (k : Bor Text). bytes_eq t k.now) es ≡ None → (to : Text) → holds (map param_value es) t to ≡ false
 none_holds t [] h to = refl
 none_holds t (e ∷ es) h to = go (bytes_eq t e.0.now) refl (λ k. none_holds t es k to)
   where
-    go : (b : Bool) → bytes_eq t e.0.now ≡ b → (lookup (λ (k : Bor Text). bytes_eq t k.now) es ≡ None → holds (first_types es) t to ≡ false) → holds (first_types (e ∷ es)) t to ≡ false
+    go : (b : Bool) → bytes_eq t e.0.now ≡ b → (lookup (λ (k : Bor Text). bytes_eq t k.now) es ≡ None → holds (map param_value es) t to ≡ false) → holds (map param_value (e ∷ es)) t to ≡ false
     go true q rest = let k : Some e.1 ≡ None = rw q at h in absurd cc
     go false q rest = rw (eq_sym e.0.now t, q) (rest (rw q at h))
 

@@ -1,11 +1,12 @@
 -- Names that are asked one by one whether they hold themselves.
-use Rattle.std.proofs.Common.{◌≡◌, ℕ, ◌+◌, ◌<◌, ◌⊎◌, inl, inr, ⊎_elim, List, [], ◌∷◌, ◌++◌, map, length, drop, get_or, subst, sym, ap, ◌∙◌}
+use Rattle.std.proofs.Common.{◌≡◌, ℕ, ◌+◌, ◌⊎◌, inl, inr, ⊎_elim, List, [], ◌∷◌, map, drop, slice_get, Some, Bor, subst, sym, ap, ◌∙◌}
 use Rattle.std.proofs.lemmas.List.{at_drop_more}
+use Rattle.std.proofs.lemmas.Option.{slice_get_within, get_or_from_slice_get}
 use Rattle.logos_type_params.specs.declared.substitution.TypeParam.{TypeParam}
 use Rattle.logos_type_params.specs.Substitution.{ParamValue, param_value}
 use Rattle.logos_type_params.specs.SelfReference.{Leads, one, on, Has}
 use Rattle.logos_type_params.specs.WrittenTypes.{given_names, IsAsked, is_held, is_free, AreHeld}
-use Rattle.logos_type_params.proofs.ChainLemmas.{has_left, has_last, has_cases, declares}
+use Rattle.logos_type_params.proofs.ChainLemmas.{declares}
 
 abbrev Text : Type 0
 Text = List ℕ
@@ -20,10 +21,10 @@ module _ (params : List ParamValue) where
   asking_begun = record { lead_back = λ text h. absurd h; all = λ text h l. inr h }
 
   pub asked_on : (text : Text) (all rest held held' : List Text) → Asking params all held → all ≡ text ∷ rest → IsAsked params text held held' → Asking params rest held'
-  asked_on text all rest held held' a e (is_held l pushed) = rw pushed (record {
-    lead_back = λ other h. ⊎_elim (λ k. a.lead_back other k) (λ (q : text ≡ other). subst (λ (x : Text). Leads params x x) q l) (has_cases held text other h);
-    all = λ other h k. ⊎_elim (λ p. inl (has_left held (text ∷ []) other p)) (λ r. ⊎_elim (λ (q : text ≡ other). inl (subst (λ (x : Text). Has (held ++ text ∷ []) x) q (has_last held text))) (λ s. inr s) (now other r)) (a.all other h k);
-  })
+  asked_on text all rest held held' a e (is_held l cases kept put) = record {
+    lead_back = λ other h. ⊎_elim (λ k. a.lead_back other k) (λ (q : text ≡ other). subst (λ (x : Text). Leads params x x) q l) (cases other h);
+    all = λ other h k. ⊎_elim (λ p. inl (kept other p)) (λ r. ⊎_elim (λ (q : text ≡ other). inl (subst (λ (x : Text). Has held' x) q put)) (λ s. inr s) (now other r)) (a.all other h k);
+  }
     where
       now : (other : Text) → Has all other → (text ≡ other) ⊎ Has rest other
       now other h = rw e at h
@@ -50,7 +51,8 @@ module _ (params : List ParamValue) where
       none_left text r = absurd (let n : ⊥ = rw e at r in n)
 
 -- the first of the names that are left
-pub names_front : (items : List TypeParam) (k : ℕ) (p : TypeParam) → k < length items → p ≡ get_or items k p →
-    given_names (map param_value (drop k items)) ≡ p.name.text.now ∷ given_names (map param_value (drop (k + 1) items))
-names_front items k p h e =
-    at_drop_more (λ ps. given_names (map param_value ps)) items k p h ∙ ap (λ (q : TypeParam). q.name.text.now ∷ given_names (map param_value (drop (k + 1) items))) (sym e)
+pub names_front : (entries : List (Bor Text × TypeParam)) (k : ℕ) (e : Bor Text × TypeParam) → slice_get entries k ≡ Some e →
+    given_names (map param_value (drop k entries)) ≡ e.0.now ∷ given_names (map param_value (drop (k + 1) entries))
+names_front entries k e h =
+    at_drop_more (λ es. given_names (map param_value es)) entries k e (slice_get_within entries k e h)
+    ∙ ap (λ (d : Bor Text × TypeParam). d.0.now ∷ given_names (map param_value (drop (k + 1) entries))) (get_or_from_slice_get entries k e e h)

@@ -1,24 +1,22 @@
 -- What is noted of names, and what follows for those that are asked.
-use Rattle.std.proofs.Common.{◌≡◌, ◌⊎◌, ◌↔◌, inl, ⊎_elim, List, [], ◌∷◌, ◌++◌, ◌||◌, Bool, true, false, not, Bor, refl, sym, ap, ◌∙◌, subst, true≢false, IsTrue, if◌then◌else◌, Result, Ok, Err}
-use Rattle.std.specs.Prelude.{IfOk, OnOk}
+use Rattle.std.proofs.Common.{◌≡◌, ◌⊎◌, ◌↔◌, inl, ⊎_elim, List, [], ◌∷◌, ◌++◌, ◌||◌, Bool, true, false, not, Option, Some, None, Bor, refl, sym, ap, ◌∙◌, subst, append_assoc, true≢false, IsTrue, if◌then◌else◌, Result, Ok, Err}
+use Rattle.std.specs.Prelude.{IfOk, OnOk, IsOk}
 use Rattle.std.specs.Str.{bytes_eq}
 use Rattle.std.specs.List.{list_any}
 use Rattle.indexmap.specs.IndexSet.{insert_key}
 use Rattle.logos_token.specs.Faults.{Fault}
 use Rattle.logos_type_params.specs.declared.self_reference.Chains.{Chains}
 use Rattle.logos_type_params.specs.Substitution.{ParamValue}
-use Rattle.logos_type_params.specs.SelfReference.{Leads, one, on, Has, texts}
-use Rattle.logos_type_params.specs.SelfFaults.{self_fault, declared_again, leads_on, leads_back, AreChecked, one_more}
-use Rattle.logos_type_params.specs.TypeParams.{Named, is_declared}
+use Rattle.logos_type_params.specs.SelfReference.{Leads, Has, texts}
+use Rattle.logos_type_params.specs.SelfFaults.{type_holds_itself, declared_again, leads_on, leads_back, AreChecked, one_more}
+use Rattle.logos_type.specs.Parts.{Tree}
+use Rattle.logos_type_params.specs.TypeParams.{Named, Given, is_declared}
+use Rattle.logos_type_params.specs.Generics.{type_of, and_type, and_fault, concrete_types, missing_types}
 use Rattle.logos_type_params.specs.WrittenTypes.{is_held, is_free}
-use Rattle.logos_type_params.specs.inside.Chains.{firsts_of, free_of, held_of, AreSame, AreFree, IsSettled, IsNoted, IsAnswered, StaySettled}
-use Rattle.logos_type_params.specs.inside.Checks.{AreInFront, ChecksName, AsksName}
-use Rattle.logos_type_params.proofs.ChainLemmas.{Text, has_cases, any_texts, any_has, any_from_has, any_push, with_key, eq_sym, same_text}
-
--- chains of types that hold the same are the same
-pub leads_same : (ps qs : List ParamValue) {from to : Text} → AreSame ps qs → Leads ps from to → Leads qs from to
-leads_same ps qs {from = from} {to = to} s (one h) = one (sym (s from to) ∙ h)
-leads_same ps qs {from = from} s (on {over = over} h l) = on (sym (s from over) ∙ h) (leads_same ps qs s l)
+use Rattle.logos_type_params.specs.inside.Chains.{params_in, free_of, held_of, AreFree, IsSettled, IsNoted, IsAnswered, StaySettled}
+use Rattle.logos_type_params.specs.inside.Fronts.{AreInFront}
+use Rattle.logos_type_params.specs.inside.Checks.{ChecksName, CopiesName, AsksName}
+use Rattle.logos_type_params.proofs.ChainLemmas.{Text, has_left, has_last, has_cases, any_texts, any_has, any_from_has, any_push, with_key, eq_sym, same_text}
 
 -- a text among those to which one was added
 has_key : (t : Bor Text) (keys keys' : List (Bor Text)) (x : Text) → keys' ≡ insert_key (λ (a b : Bor Text). bytes_eq a.now b.now) keys t → Has (texts keys') x → Has (texts keys) x ⊎ (t.now ≡ x)
@@ -27,18 +25,30 @@ has_key t keys keys' x e h = ⊎_elim
     (λ new. has_cases (texts keys) t.now x (let f = ap texts e ∙ new.1 in rw f at h))
     (with_key t keys)
 
-pub noted_held : (old new : Chains) (t : Bor Text) → firsts_of new ≡ firsts_of old → free_of new ≡ free_of old → new.held.keys ≡ insert_key (λ (a b : Bor Text). bytes_eq a.now b.now) old.held.keys t →
+key_has : (t : Bor Text) (keys keys' : List (Bor Text)) (x : Text) → keys' ≡ insert_key (λ (a b : Bor Text). bytes_eq a.now b.now) keys t → Has (texts keys) x → Has (texts keys') x
+key_has t keys keys' x e h = ⊎_elim
+    (λ there. let f = e ∙ there.1 in rw f h)
+    (λ new. let f = ap texts e ∙ new.1 in rw f (has_left (texts keys) (t.now ∷ []) x h))
+    (with_key t keys)
+
+key_put : (t : Bor Text) (keys keys' : List (Bor Text)) → keys' ≡ insert_key (λ (a b : Bor Text). bytes_eq a.now b.now) keys t → Has (texts keys') t.now
+key_put t keys keys' e = ⊎_elim
+    (λ there. let f = e ∙ there.1 in rw f there.0)
+    (λ new. let f = ap texts e ∙ new.1 in rw f (has_last (texts keys) t.now))
+    (with_key t keys)
+
+pub noted_held : (old new : Chains) (t : Bor Text) → params_in new ≡ params_in old → free_of new ≡ free_of old → new.held.keys ≡ insert_key (λ (a b : Bor Text). bytes_eq a.now b.now) old.held.keys t →
     IsNoted old t.now true new
-noted_held old new t firsts free e params s led = record {
-  same = rw firsts s.same;
+noted_held old new t types free e params s led = record {
+  same = types ∙ s.same;
   free = rw free s.free;
   held = λ x h. ⊎_elim (λ k. s.held x k) (λ (q : t.now ≡ x). subst (λ (y : Text). Leads params y y) q (led.0 refl)) (has_key t old.held.keys new.held.keys x e h);
 }
 
-pub noted_free : (old new : Chains) (t : Bor Text) → firsts_of new ≡ firsts_of old → held_of new ≡ held_of old → new.free.keys ≡ insert_key (λ (a b : Bor Text). bytes_eq a.now b.now) old.free.keys t →
+pub noted_free : (old new : Chains) (t : Bor Text) → params_in new ≡ params_in old → held_of new ≡ held_of old → new.free.keys ≡ insert_key (λ (a b : Bor Text). bytes_eq a.now b.now) old.free.keys t →
     IsNoted old t.now false new
-noted_free old new t firsts held e params s led = record {
-  same = rw firsts s.same;
+noted_free old new t types held e params s led = record {
+  same = types ∙ s.same;
   free = λ x h l. ⊎_elim (λ k. s.free x k l) (λ (q : t.now ≡ x). true≢false (sym (led.1 (subst (λ (y : Text). Leads params y y) (sym q) l)))) (has_key t old.free.keys new.free.keys x e h);
   held = rw held s.held;
 }
@@ -51,16 +61,10 @@ pub asked_held : (chains : Chains) (t : Text) → list_any (λ (k : Bor Text). b
 asked_held chains t h params s = ((λ e. s.held t (any_has t (held_of chains) (sym (any_texts t chains.held.keys) ∙ h)), λ l. refl), s)
 
 -- a name for which a search is made
-pub asked_new : (old new : Chains) (t : Text) (leads : Bool) → (AreFree (firsts_of old) (free_of old) → IsTrue leads ↔ Leads (firsts_of old) t t) → IsNoted old t leads new → IsAnswered old t leads new
+pub asked_new : (old new : Chains) (t : Text) (leads : Bool) → (AreFree (params_in old) (free_of old) → IsTrue leads ↔ Leads (params_in old) t t) → IsNoted old t leads new → IsAnswered old t leads new
 asked_new old new t leads searched noted params s =
-    let there = λ (l : Leads (firsts_of old) t t). leads_same (firsts_of old) params s.same l in
-    let back = λ (l : Leads params t t). leads_same params (firsts_of old) (λ from to. sym (s.same from to)) l in
-    let answer = searched (λ x h l. s.free x h (back_at x l)) in
-    let both : IsTrue leads ↔ Leads params t t = (λ e. there (answer.0 e), λ l. answer.1 (back l)) in
+    let both : IsTrue leads ↔ Leads params t t = rw s.same at (searched (λ x h l. s.free x h (rw s.same at l))) in
     (both, noted params s both)
-  where
-    back_at : (x : Text) → Leads (firsts_of old) x x → Leads params x x
-    back_at x l = leads_same (firsts_of old) params s.same l
 
 -- an answer where memory lasts
 pub answered : {E : Type 0} (r : Result Bool E) (params : List ParamValue) (old new : Chains) (t : Text) → IfOk r (λ leads. IsAnswered old t leads new) → IsSettled params old →
@@ -72,6 +76,11 @@ answered (Err e) params old new t h s = tt
 pub asked_on : {E : Type 0} (r : Result Bool E) (old mid new : Chains) (t : Text) → IfOk r (λ leads. IsAnswered old t leads mid) → StaySettled mid new → IfOk r (λ leads. IsAnswered old t leads new)
 asked_on (Ok leads) old mid new t h stay = λ params s. let a = h params s in (a.0, stay params a.1)
 asked_on (Err e) old mid new t h stay = tt
+
+-- what holds of a success that is one
+pub if_ok_is : {T E P : Type 0} (r : Result T E) → IsOk r → IfOk r (λ x. P) → P
+if_ok_is (Ok x) is p = p
+if_ok_is (Err e) is p = absurd (true≢false (sym is))
 
 -- ---- names in front
 
@@ -142,12 +151,64 @@ module _ (t : Bor Text) (named : Named) (is : named.text ≡ t.now) (keys keys' 
   }
 
   -- a name to which a chain leads back
-  pub checked_held : list_any (bytes_eq t.now) (texts keys) ≡ false → (leads : Bool) → leads ≡ true → IsAnswered old t.now leads new → after ≡ before ++ self_fault named ∷ [] → ChecksName keys old named before keys' new after
+  pub checked_held : list_any (bytes_eq t.now) (texts keys) ≡ false → (leads : Bool) → leads ≡ true → IsAnswered old t.now leads new → after ≡ before ++ type_holds_itself named ∷ [] → ChecksName keys old named before keys' new after
   checked_held e leads l asked listed = record {
     checked = λ params front s are. leads_back (declared_as front are false e) (rw is ((asked params s).0.0 l)) listed;
     settled = λ params s. (asked params s).1;
     fronts = λ front are. fronts_on t named keys keys' front is put are;
   }
+
+-- ---- types that are copied
+
+module _ (types : List Given) (t : Bor Text) (named : Named) (is : named.text ≡ t.now) (keys keys' : List (Bor Text)) (put : keys' ≡ insert_key (λ (a b : Bor Text). bytes_eq a.now b.now) keys t) where
+  chosen : (front : List Named) → AreInFront front keys → (b : Bool) → list_any (bytes_eq t.now) (texts keys) ≡ b → is_declared front named.text ≡ b
+  chosen front are b e = rw is (sym (are t.now) ∙ e)
+
+  -- a name that stands in front already
+  pub copies_none : list_any (bytes_eq t.now) (texts keys) ≡ true → CopiesName types keys named None keys'
+  copies_none e = record {
+    copied = λ front are. sym (ap (λ (b : Bool). if b then None else type_of types named.text) (chosen front are true e));
+    fronts = λ front are. fronts_on t named keys keys' front is put are;
+  }
+
+  -- a name that stands there for the first time
+  pub copies_type : (copy : Option Tree) → list_any (bytes_eq t.now) (texts keys) ≡ false → copy ≡ type_of types named.text → CopiesName types keys named copy keys'
+  copies_type copy e same = record {
+    copied = λ front are. same ∙ sym (ap (λ (b : Bool). if b then None else type_of types named.text) (chosen front are false e));
+    fronts = λ front are. fronts_on t named keys keys' front is put are;
+  }
+
+and_type_on : (found : Option Tree) (rest : List Tree) → and_type found [] ++ rest ≡ and_type found rest
+and_type_on None rest = refl
+and_type_on (Some tree) rest = refl
+
+and_fault_on : (found : Option Tree) (named : Named) (rest : List Fault) → and_fault found named [] ++ rest ≡ and_fault found named rest
+and_fault_on None named rest = refl
+and_fault_on (Some tree) named rest = refl
+
+-- types are copied one by one: what is left of the names completes the types and the faults of all
+pub record Copying (types : List Given) (all_types : List Tree) (all_faults : List Fault) (rest : List Named) (keys : List (Bor Text)) (copies : List Tree) (faults : List Fault) : Type 0 where
+  pub front : List Named
+  pub fronts : AreInFront front keys
+  pub types_left : copies ++ concrete_types types front rest ≡ all_types
+  pub faults_left : faults ++ missing_types types front rest ≡ all_faults
+
+pub copy_on : (types : List Given) (all_types : List Tree) (all_faults : List Fault) (all rest : List Named) (named : Named) (keys keys' : List (Bor Text)) (found : Option Tree) (old new : List Tree) (before after : List Fault) →
+    Copying types all_types all_faults all keys old before → all ≡ named ∷ rest → CopiesName types keys named found keys' → new ≡ old ++ and_type found [] → after ≡ before ++ and_fault found named [] →
+    Copying types all_types all_faults rest keys' new after
+copy_on types all_types all_faults all rest named keys keys' found old new before after c e h t f =
+    let is = h.copied c.front c.fronts in record {
+      front = c.front ++ named ∷ [];
+      fronts = h.fronts c.front c.fronts;
+      types_left =
+          ap (λ l. l ++ concrete_types types (c.front ++ named ∷ []) rest) t ∙ append_assoc old (and_type found []) (concrete_types types (c.front ++ named ∷ []) rest)
+          ∙ ap (λ l. old ++ l) (and_type_on found (concrete_types types (c.front ++ named ∷ []) rest) ∙ ap (λ o. and_type o (concrete_types types (c.front ++ named ∷ []) rest)) is)
+          ∙ sym (ap (λ names. old ++ concrete_types types c.front names) e) ∙ c.types_left;
+      faults_left =
+          ap (λ l. l ++ missing_types types (c.front ++ named ∷ []) rest) f ∙ append_assoc before (and_fault found named []) (missing_types types (c.front ++ named ∷ []) rest)
+          ∙ ap (λ l. before ++ l) (and_fault_on found named (missing_types types (c.front ++ named ∷ []) rest) ∙ ap (λ o. and_fault o named (missing_types types (c.front ++ named ∷ []) rest)) is)
+          ∙ sym (ap (λ names. before ++ missing_types types c.front names) e) ∙ c.faults_left;
+    }
 
 -- what follows from a fact about a success
 pub on_ok_one : {T E P Q : Type 0} (r : Result T E) → (P → Q) → OnOk r P → OnOk r Q
@@ -155,8 +216,11 @@ on_ok_one (Ok x) f p = f p
 on_ok_one (Err e) f p = tt
 
 -- a name that is asked is held or not
-pub asks_held : (old new : Chains) (t : Text) (leads : Bool) (held held' : List Text) → leads ≡ true → IsAnswered old t leads new → held' ≡ held ++ t ∷ [] → AsksName old t held new held'
-asks_held old new t leads held held' l asked pushed params s = let a = asked params s in (is_held (a.0.0 l) pushed, a.1)
+pub asks_held : (old new : Chains) (t : Bor Text) (leads : Bool) (keys keys' : List (Bor Text)) → leads ≡ true → IsAnswered old t.now leads new → keys' ≡ insert_key (λ (a b : Bor Text). bytes_eq a.now b.now) keys t →
+    AsksName old t.now (texts keys) new (texts keys')
+asks_held old new t leads keys keys' l asked put params s =
+    let a = asked params s in
+    (is_held (a.0.0 l) (λ other h. has_key t keys keys' other put h) (λ other h. key_has t keys keys' other put h) (key_put t keys keys' put), a.1)
 
 pub asks_free : (old new : Chains) (t : Text) (leads : Bool) (held : List Text) → leads ≡ false → IsAnswered old t leads new → AsksName old t held new held
 asks_free old new t leads held l asked params s = let a = asked params s in (is_free (λ back. true≢false (sym (a.0.1 back) ∙ l)) refl, a.1)

@@ -8,7 +8,7 @@ use Rattle.logos_type.specs.TypeTrees.{type_tree}
 use Rattle.logos_type_params.specs.declared.type_params.concrete.Generics.{Generics}
 use Rattle.logos_type_params.specs.TypeParams.{Named, Given, Value, about, is_declared}
 
--- the first type that is given to a name is meant
+-- the type that is given to a name
 abbrev pub type_of : List Given → List ℕ → Option Tree
 type_of [] text = None
 type_of (g ∷ types) text = if bytes_eq g.name.text text then Some g.type else type_of types text

@@ -1,3 +1,4 @@
+pub mod NameLists
 pub mod Substitution
 pub mod SubstitutionViews
 pub mod SelfFaults

@@ -7,14 +7,14 @@ use Rattle.logos_type_params.specs.SelfReference.{Leads}
 use Rattle.logos_type_params.specs.TypeParams.{Named, about, is_declared}
 
 -- a parameter that holds itself, where it is declared
-abbrev pub self_fault : Named → Fault
-self_fault named = about TypeHoldsItself (codes "Type parameter ") named (codes " holds itself")
+abbrev pub type_holds_itself : Named → Fault
+type_holds_itself named = about TypeHoldsItself (codes "Type parameter ") named (codes " holds itself")
 
 -- a declared name behind those in front adds its fault if a chain leads from it back to it; a name that stands in front already adds none
 pub data IsChecked (params : List ParamValue) (front : List Named) (named : Named) (old new : List Fault) : Type 0 where
   declared_again : is_declared front named.text ≡ true → new ≡ old → IsChecked params front named old new
   leads_on : (Leads params named.text named.text → ⊥) → new ≡ old → IsChecked params front named old new
-  leads_back : is_declared front named.text ≡ false → Leads params named.text named.text → new ≡ old ++ self_fault named ∷ [] → IsChecked params front named old new
+  leads_back : is_declared front named.text ≡ false → Leads params named.text named.text → new ≡ old ++ type_holds_itself named ∷ [] → IsChecked params front named old new
 
 -- all declared names behind those in front, in order
 pub data AreChecked (params : List ParamValue) : (front names : List Named) (old new : List Fault) → Type 0 where

@@ -1,6 +1,7 @@
 -- What becomes of a type: declared parameters are replaced, and lifetimes are set. The levels say how many types may stand inside one another.
 use Rattle.std.specs.Prelude.{◌≡◌, ℕ, ◌-◌, ◌<◌, List, [], ◌∷◌, Bool, true, false, if◌then◌else◌, Some, codes}
 use Rattle.std.specs.Str.{bytes_eq}
+use denote.Ref.{Bor}
 use Rattle.logos_type_params.specs.declared.substitution.TypeParam.{TypeParam}
 use Rattle.logos_type.specs.Parts.{Sign, reference, lifetime, Tree, sign, name, whole, still, Trees, none, also, tree_of}
 use Rattle.logos_type.specs.Depth.{some_exceed}
@@ -20,8 +21,8 @@ pub record ParamValue : Type 0 where
   pub name : List ℕ
   pub type : Tree
 
-abbrev pub param_value : TypeParam → ParamValue
-param_value param = record { name = param.name.text.now; type = tree_of param.part }
+abbrev pub param_value : Bor (List ℕ) × TypeParam → ParamValue
+param_value entry = record { name = entry.0.now; type = tree_of entry.1.part }
 
 -- the types that are given, and the names of those parameters that hold themselves
 pub record Params : Type 0 where

@@ -1,8 +1,9 @@
 -- The declared parameters of an enum, and the types that are given to them.
-use Rattle.std.specs.Prelude.{◌≡◌, ℕ, List, [], ◌∷◌, ◌++◌, map, Bool, true, false, if◌then◌else◌, Option, Some, None, codes}
+pub use Rattle.logos_type_params.specs.NameLists.{Named, named_of, is_declared}
+use Rattle.std.specs.Prelude.{◌≡◌, ◌⊎◌, ℕ, List, [], ◌∷◌, ◌++◌, map, Bool, true, false, if◌then◌else◌, Option, Some, None, codes}
 use Rattle.std.specs.Str.{bytes_eq}
+use denote.Ref.{Bor}
 use Rattle.logos_lexeme.specs.declared.lexeme.Span.{Span}
-use Rattle.logos_token.specs.declared.token.Ident.{Ident}
 use Rattle.logos_token.specs.declared.error.fault_code.FaultCode.{FaultCode}
 use Rattle.logos_token.specs.declared.error.fault_code.FaultCode.TheVariants.{ManyLifetimes, NotTypeParameter, TypeTwice, Previous, TypeSyntax, LimitTypeNesting}
 use Rattle.logos_token.specs.Tokens.{Token, TokenList, none, also, run_span}
@@ -14,31 +15,23 @@ use Rattle.logos_type_params.specs.declared.substitution.TypeParam.{TypeParam}
 use Rattle.logos_type_params.specs.declared.type_params.TypeParams.{TypeParams}
 use Rattle.logos_type_params.specs.Substitution.{set_sign}
 
--- a name where it stands
-pub record Named : Type 0 where
-  pub text : List ℕ
-  pub at : Span
-
-abbrev pub named_of : Ident → Named
-named_of ident = record { text = ident.text.now; at = ident.span }
-
 -- a type where it is written, and the name that it is given to
 pub record Given : Type 0 where
   pub name : Named
   pub type : Tree
   pub at : Span
 
-abbrev pub given_of : TypeParam → Given
-given_of param = record { name = named_of param.name; type = tree_of param.part; at = param.span }
+abbrev pub given_of : Bor (List ℕ) × TypeParam → Given
+given_of entry = record { name = record { text = entry.0.now; at = entry.1.at }; type = tree_of entry.1.part; at = entry.1.span }
 
--- The declared names, in order; the types, of which the first of a name is meant; and whether a lifetime is declared.
+-- The declared names, in order; the types, at most one of a name; and whether a lifetime is declared.
 pub record Value : Type 0 where
   pub names : List Named
   pub types : List Given
   pub lifetime : Bool
 
 abbrev pub value_of : TypeParams → Value
-value_of params = record { names = map named_of params.names.items; types = map given_of params.types.items; lifetime = params.lifetime }
+value_of params = record { names = map named_of params.names.list.items; types = map given_of params.types.entries; lifetime = params.lifetime }
 
 abbrev mutual
   -- with the lifetimes of references, and of the angle arguments of paths that are types, set to `'s`
@@ -80,8 +73,8 @@ about code before named behind = fault code ((before ++ named.text) ++ behind) n
 abbrev pub many_lifetimes : Span → Fault
 many_lifetimes span = fault ManyLifetimes (codes "Logos types can only have one lifetime") span
 
-abbrev pub not_a_parameter : Named → Fault
-not_a_parameter named = about NotTypeParameter [] named (codes " is not a declared type parameter")
+abbrev pub not_type_parameter : Named → Fault
+not_type_parameter named = about NotTypeParameter [] named (codes " is not a declared type parameter")
 
 abbrev pub type_twice : Named → Fault
 type_twice named = about TypeTwice [] named (codes " can only have one type assigned to it")
@@ -89,42 +82,48 @@ type_twice named = about TypeTwice [] named (codes " can only have one type assi
 abbrev pub previous : Span → Fault
 previous span = fault Previous (codes "Previously assigned here") span
 
+abbrev pub type_syntax : Span → Fault
+type_syntax at = fault TypeSyntax (codes "not a type") at
+
+-- more types stand inside one another than may
+abbrev pub limit_type_nesting : Span → Fault
+limit_type_nesting at = fault LimitTypeNesting (codes "limit LimitTypeNesting passed") at
+
 -- why a value is no type
 abbrev pub value_fault : Misfit → Span → Fault
-value_fault (unsupported span) at = fault TypeSyntax (codes "not a type") at
-value_fault (misfit span) at = fault TypeSyntax (codes "not a type") at
-value_fault too_deep at = fault LimitTypeNesting (codes "limit LimitTypeNesting passed") at
+value_fault (unsupported span) at = type_syntax at
+value_fault (misfit span) at = type_syntax at
+value_fault too_deep at = limit_type_nesting at
 
 -- the whole run is a type, or it is none and that is listed at this place
 pub data ReadsValue (run : TokenList) (at : Span) (old new : List Fault) : Option Tree → Type 0 where
   is_type : {tree : Tree} → IsTypeExpr run tree none → new ≡ old → ReadsValue run at old new (Some tree)
   goes_on : {tree : Tree} {token : Token} {rest : TokenList} → IsTypeExpr run tree (also token rest) →
-      new ≡ old ++ (fault TypeSyntax (codes "not a type") at) ∷ [] → ReadsValue run at old new None
+      new ≡ old ++ type_syntax at ∷ [] → ReadsValue run at old new None
   no_type : {why : Misfit} → NoTypeExpr run why → new ≡ old ++ (value_fault why at) ∷ [] → ReadsValue run at old new None
 
--- the name is declared
-abbrev pub is_declared : List Named → List ℕ → Bool
-is_declared [] text = false
-is_declared (n ∷ names) text = if bytes_eq n.text text then true else is_declared names text
-
--- where the type stands that is meant by a name
+-- where the type stands that a name has
 abbrev pub former : List Given → List ℕ → Option Span
 former [] text = None
 former (g ∷ types) text = if bytes_eq g.name.text text then Some g.at else former types text
 
--- one type more: it is meant from now on
-abbrev pub given_more : Option Span → Given → List Given → List Given
-given_more None type types = types ++ type ∷ []
-given_more (Some span) type types = type ∷ types
+-- one type more: it stands in place of the one that its name has, or behind all others
+abbrev pub given_more : Given → List Given → List Given
+given_more type [] = type ∷ []
+given_more type (g ∷ types) = if bytes_eq type.name.text g.name.text then type ∷ types else g ∷ given_more type types
 
 abbrev pub given_faults : Option Span → Named → List Fault
 given_faults None named = []
 given_faults (Some span) named = type_twice named ∷ previous span ∷ []
 
+-- nothing is listed, or the first of the faults of a name that has a type already
+abbrev pub ListsFirst : Named → (old new : List Fault) → Type 0
+ListsFirst named old new = (new ≡ old) ⊎ (new ≡ old ++ type_twice named ∷ [])
+
 -- a value is given to a name: it is no type, the name is not declared, or it has this type from now on
 pub data IsSet (old : Value) (named : Named) (run : TokenList) (before : List Fault) (new : Value) (after : List Fault) : Type 0 where
   no_value : ReadsValue run (run_span run) before after None → new ≡ old → IsSet old named run before new after
-  undeclared : {tree : Tree} → ReadsValue run (run_span run) before before (Some tree) → is_declared old.names named.text ≡ false → new ≡ old → after ≡ before ++ not_a_parameter named ∷ [] → IsSet old named run before new after
+  undeclared : {tree : Tree} → ReadsValue run (run_span run) before before (Some tree) → is_declared old.names named.text ≡ false → new ≡ old → after ≡ before ++ not_type_parameter named ∷ [] → IsSet old named run before new after
   is_given : {tree : Tree} → ReadsValue run (run_span run) before before (Some tree) → is_declared old.names named.text ≡ true → new.names ≡ old.names → new.lifetime ≡ old.lifetime →
-      new.types ≡ given_more (former old.types named.text) (record { name = named; type = with_lifetimes tree; at = run_span run }) old.types →
+      new.types ≡ given_more (record { name = named; type = with_lifetimes tree; at = run_span run }) old.types →
       after ≡ before ++ given_faults (former old.types named.text) named → IsSet old named run before new after

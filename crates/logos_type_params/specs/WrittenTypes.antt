@@ -1,18 +1,17 @@
 -- What becomes of a written type, and which names are left in place there.
-use Rattle.std.specs.Prelude.{◌≡◌, ℕ, List, [], ◌∷◌, ◌++◌, map, codes}
+use Rattle.std.specs.Prelude.{◌≡◌, ◌⊎◌, ℕ, List, [], ◌∷◌, ◌++◌, map}
 use Rattle.logos_lexeme.specs.declared.lexeme.Span.{Span}
-use Rattle.logos_token.specs.declared.error.fault_code.FaultCode.TheVariants.{LimitTypeNesting}
 use Rattle.logos_token.specs.Faults.{Fault}
 use Rattle.logos_type.specs.Parts.{Tree}
 use Rattle.logos_type_reader.specs.TypeExprs.{type_nesting}
 use Rattle.logos_type_params.specs.declared.type_params.TypeParams.{TypeParams}
 use Rattle.logos_type_params.specs.Substitution.{ParamValue, param_value, Params, After, Passes}
 use Rattle.logos_type_params.specs.SelfReference.{Leads, Has}
-use Rattle.logos_type_params.specs.TypeParams.{fault}
+use Rattle.logos_type_params.specs.TypeParams.{limit_type_nesting}
 
 -- the types that are given
 abbrev pub types_of : TypeParams → List ParamValue
-types_of params = map param_value params.types.items
+types_of params = map param_value params.types.entries
 
 -- the types that are given, and the names that are left in place
 abbrev pub params_with : TypeParams → List (List ℕ) → Params
@@ -24,7 +23,8 @@ given_names = map (λ (p : ParamValue). p.name)
 
 -- a name is added if a chain of types leads from it back to it
 pub data IsAsked (params : List ParamValue) (text : List ℕ) (held held' : List (List ℕ)) : Type 0 where
-  is_held : Leads params text text → held' ≡ held ++ text ∷ [] → IsAsked params text held held'
+  is_held : Leads params text text → ((other : List ℕ) → Has held' other → Has held other ⊎ (text ≡ other)) → ((other : List ℕ) → Has held other → Has held' other) → Has held' text →
+      IsAsked params text held held'
   is_free : (Leads params text text → ⊥) → held' ≡ held → IsAsked params text held held'
 
 -- Just the names that have a type whose chain leads back to them.
@@ -33,11 +33,7 @@ pub record AreHeld (params : List ParamValue) (held : List (List ℕ)) : Type 0 
   pub lead_back : (text : List ℕ) → Has held text → Leads params text text
   pub all : (text : List ℕ) → Has (given_names params) text → Leads params text text → Has held text
 
--- more types stand inside one another than may
-abbrev pub limit_passed : Span → Fault
-limit_passed at = fault LimitTypeNesting (codes "limit LimitTypeNesting passed") at
-
 -- A written type has its declared parameters replaced and its lifetimes set; where the limit is passed by that, this is listed, and the type stays as it was written.
 pub data GetsType (params : Params) (written : Tree) (at : Span) (old new : List Fault) (got : Tree) : Type 0 where
   replaced : After params type_nesting written got → new ≡ old → GetsType params written at old new got
-  as_written : Passes params type_nesting written → got ≡ written → new ≡ old ++ limit_passed at ∷ [] → GetsType params written at old new got
+  as_written : Passes params type_nesting written → got ≡ written → new ≡ old ++ limit_type_nesting at ∷ [] → GetsType params written at old new got

@@ -1,3 +1,4 @@
+pub mod Fronts
 pub mod Given
 pub mod Chains
 pub mod Checks

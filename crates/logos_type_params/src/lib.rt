@@ -4,6 +4,7 @@
 #![tactic(auto)]
 
 mod lifetimes;
+mod names;
 mod self_reference;
 mod substitution;
 mod type_params;

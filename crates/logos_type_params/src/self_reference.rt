@@ -3,8 +3,7 @@ ghost use Rattle.std.specs.Prelude.{◌≡◌, ◌∷◌, ◌⊎◌, [], ℕ, Li
 ghost use Rattle.logos_type.specs.Parts.{name, tree_of};
 ghost use Rattle.logos_type_params.specs.Substitution.{param_value};
 ghost use Rattle.logos_type_params.specs.SelfReference.{names, holds, Leads, texts};
-ghost use Rattle.logos_type_params.specs.inside.Chains.{first_types, with_first, firsts_of};
-ghost use Rattle.logos_type_params.specs.inside.Chains.{free_of, IsReached, AreFree, AreSame};
+ghost use Rattle.logos_type_params.specs.inside.Chains.{params_in, free_of, IsReached, AreFree};
 ghost use Rattle.logos_type_params.specs.inside.Chains.{IsNoted, IsAnswered, StaySettled, IsSettled};
 
 use crate::substitution::TypeParam;
@@ -15,8 +14,8 @@ use std::alloc::{AllocError, Global};
 /// Types that name one another.
 #[derive(Drop)]
 pub(crate) struct Chains<'p, 's> {
-    /// The first type that is given to each name.
-    firsts: IndexMap<&'s str, &'p Part<'s>>,
+    /// The type that is given to each name.
+    types: &'p IndexMap<&'s str, TypeParam<'s>>,
     /// Names to which no chain is known to lead back, so no chain that leads back passes them.
     free: IndexSet<&'s str>,
     /// Names to which a chain is known to lead back.
@@ -42,49 +41,19 @@ fn names(part: &Part<'_>, text: &str) -> bool
     }
 }
 
-/// Adds a type, unless one is given to its name already.
-fn add_first<'p, 's>(
-    firsts: &mut IndexMap<&'s str, &'p Part<'s>>,
-    param: &'p TypeParam<'s>,
-) -> Result<(), AllocError>
-    ensures { OnOk result (first_types firsts.new.entries
-        ≡ with_first (first_types firsts.old.entries) (param_value param.now)) }
-{
-    if firsts.contains_key(param.name.text) {
-        return Ok(());
-    }
-    firsts.insert(param.name.text, &param.part)?;
-    Ok(())
-}
-
-/// The first type that is given to each name.
-fn firsts<'p, 's>(
-    alloc: Global,
-    types: &'p [TypeParam<'s>],
-) -> Result<IndexMap<&'s str, &'p Part<'s>>, AllocError>
-    ensures { IfOk result (λ firsts.
-        AreSame (first_types firsts.entries) (map param_value types.now)) }
-{
-    let mut firsts = IndexMap::new(alloc);
-    for param in types {
-        add_first(&mut firsts, param)?;
-    }
-    Ok(firsts)
-}
-
 /// Adds a name to those that are reached, if it has a type from which a chain may lead on.
 fn reach_name<'s>(
     chains: &Chains<'_, 's>,
     text: &'s str,
     reached: &mut IndexSet<&'s str>,
 ) -> Result<(), AllocError>
-    ensures { OnOk result (IsReached (firsts_of chains.now) (free_of chains.now)
+    ensures { OnOk result (IsReached (params_in chains.now) (free_of chains.now)
         (names (name text.now)) (texts reached.old.keys) (texts reached.new.keys)) }
 {
     if chains.free.contains(text) {
         return Ok(());
     }
-    if !chains.firsts.contains_key(text) {
+    if !chains.types.contains_key(text) {
         return Ok(());
     }
     reached.insert(text)?;
@@ -97,7 +66,7 @@ fn reach<'s>(
     part: &Part<'s>,
     reached: &mut IndexSet<&'s str>,
 ) -> Result<(), AllocError>
-    ensures { OnOk result (IsReached (firsts_of chains.now) (free_of chains.now)
+    ensures { OnOk result (IsReached (params_in chains.now) (free_of chains.now)
         (names (tree_of part.now)) (texts reached.old.keys) (texts reached.new.keys)) }
 {
     match part {
@@ -119,16 +88,16 @@ fn follow<'s>(
     text: &str,
     reached: &mut IndexSet<&'s str>,
 ) -> Result<bool, AllocError>
-    ensures ends { IfOk result (λ ends. ends ≡ holds (firsts_of chains.now) from.now text.now) }
-    ensures reached { OnOk result (IsReached (firsts_of chains.now) (free_of chains.now)
-        (holds (firsts_of chains.now) from.now)
+    ensures ends { IfOk result (λ ends. ends ≡ holds (params_in chains.now) from.now text.now) }
+    ensures reached { OnOk result (IsReached (params_in chains.now) (free_of chains.now)
+        (holds (params_in chains.now) from.now)
         (texts reached.old.keys) (texts reached.new.keys)) }
 {
-    let Some(part) = chains.firsts.get(from) else {
+    let Some(param) = chains.types.get(from) else {
         return Ok(false);
     };
-    reach(chains, part, reached)?;
-    Ok(names(part, text))
+    reach(chains, &param.part, reached)?;
+    Ok(names(&param.part, text))
 }
 
 /// Whether a chain leads back to the name with which `reached` begins. What chains reach from there
@@ -139,8 +108,8 @@ fn search<'s>(
     reached: &mut IndexSet<&'s str>,
 ) -> Result<bool, AllocError>
     requires { texts reached.old.keys ≡ text.now ∷ [] }
-    ensures { IfOk result (λ leads. AreFree (firsts_of chains.now) (free_of chains.now) →
-        IsTrue leads ↔ Leads (firsts_of chains.now) text.now text.now) }
+    ensures { IfOk result (λ leads. AreFree (params_in chains.now) (free_of chains.now) →
+        IsTrue leads ↔ Leads (params_in chains.now) text.now text.now) }
 {
     let mut at = 0;
     while at < reached.len() {
@@ -206,19 +175,15 @@ impl<'p, 's> Chains<'p, 's> {
     ghost use Rattle.logos_type_params.specs.inside.Chains.{IsSettled, IsAnswered};
 
     /// The chains of these types.
-    pub(crate) fn new(
-        alloc: Global,
-        types: &'p [TypeParam<'s>],
-    ) -> Result<Chains<'p, 's>, AllocError>
-        ensures { IfOk result (λ chains. IsSettled (map param_value types.now) chains) }
+    pub(crate) fn new(alloc: Global, types: &'p IndexMap<&'s str, TypeParam<'s>>) -> Chains<'p, 's>
+        ensures { IsSettled (map param_value types.now.entries) result }
     {
-        let firsts = firsts(alloc, types)?;
-        Ok(Chains {
-            firsts,
+        Chains {
+            types,
             free: IndexSet::new(alloc),
             held: IndexSet::new(alloc),
             alloc,
-        })
+        }
     }
 
     /// Whether a chain leads back to this name. All names that are reached by that are asked, the
@@ -238,13 +203,13 @@ impl<'p, 's> Chains<'p, 's> {
 /// with the number of all types.
 pub fn holds_itself<'s>(
     alloc: Global,
-    params: &[TypeParam<'s>],
+    params: &IndexMap<&'s str, TypeParam<'s>>,
     text: &'s str,
 ) -> Result<bool, AllocError>
     ensures { IfOk result (λ holds.
-        IsTrue holds ↔ Leads (map param_value params.now) text.now text.now) }
+        IsTrue holds ↔ Leads (map param_value params.now.entries) text.now text.now) }
 {
-    let mut chains = Chains::new(alloc, params)?;
+    let mut chains = Chains::new(alloc, params);
     let mut reached = IndexSet::new(alloc);
     ask(&mut chains, text, &mut reached)
 }

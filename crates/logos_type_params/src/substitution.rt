@@ -3,13 +3,14 @@ ghost use Rattle.std.specs.Prelude.{◌≡◌, ◌<◌, ℕ, Bool, true, false, 
 ghost use Rattle.std.specs.Prelude.{MatchOption};
 ghost use Rattle.logos_type.specs.Parts.{Tree, name, whole, trees, tree_of, sign_of};
 ghost use Rattle.logos_type_params.specs.Substitution.{Params, given, given_first, given_type};
-ghost use Rattle.logos_type_params.specs.Substitution.{is_among, set_sign, param_value, After};
+ghost use Rattle.logos_type_params.specs.Substitution.{set_sign, param_value, After};
 ghost use Rattle.logos_type_params.specs.Substitution.{AllAfter, Passes, SomePasses};
 ghost use Rattle.logos_type_params.specs.SubstitutionViews.{IfDeep};
 ghost use Rattle.logos_type.specs.Depth.{exceeds};
 ghost use Rattle.logos_type_params.specs.inside.Given.{given_of, params_of};
 
-use logos_token::token::{Ident, Span};
+use indexmap::{IndexMap, IndexSet};
+use logos_token::token::Span;
 use logos_type::{Leaf, Part, exceeds};
 use logos_type_reader::TypeFault;
 use std::alloc::Global;
@@ -17,18 +18,18 @@ use std::alloc::Global;
 /// A type that is given to a declared parameter.
 #[derive(Drop)]
 pub struct TypeParam<'s> {
-    pub name: Ident<'s>,
+    /// Where the name stands that it is given to.
+    pub at: Span,
     pub part: Part<'s>,
     /// Where the type is written.
     pub span: Span,
 }
 
-/// The types that are given, of which the first of a name is meant, and the names of those
-/// parameters that hold themselves.
+/// The types that are given, by name, and the names of those parameters that hold themselves.
 #[derive(Clone, Copy)]
 pub struct Replacing<'p, 's> {
-    pub types: &'p [TypeParam<'s>],
-    pub held: &'p [&'s str],
+    pub types: &'p IndexMap<&'s str, TypeParam<'s>>,
+    pub held: &'p IndexSet<&'s str>,
 }
 
 /// What is put in for a name.
@@ -61,35 +62,21 @@ fn given_by<'p, 's>(part: &'p Part<'s>) -> Given<'p, 's>
     }
 }
 
-/// What the first type is that is given to this name.
-fn given_first<'p, 's>(types: &'p [TypeParam<'s>], text: &str) -> Given<'p, 's>
-    ensures { given_of result ≡ given_first (map param_value types.now) text.now }
+/// What the type is that is given to this name.
+fn given_first<'p, 's>(types: &'p IndexMap<&'s str, TypeParam<'s>>, text: &str) -> Given<'p, 's>
+    ensures { given_of result ≡ given_first (map param_value types.now.entries) text.now }
 {
-    for param in types {
-        if param.name.text == text {
-            return given_by(&param.part);
-        }
+    match types.get(text) {
+        Some(param) => given_by(&param.part),
+        None => Given::Nothing,
     }
-    Given::Nothing
-}
-
-/// Whether the text is one of these.
-pub(crate) fn is_among(texts: &[&str], text: &str) -> bool
-    ensures { result ≡ is_among (map (λ b. b.now) texts.now) text.now }
-{
-    for other in texts {
-        if *other == text {
-            return true;
-        }
-    }
-    false
 }
 
 /// What is put in for a name.
 fn find<'p, 's>(params: Replacing<'p, 's>, text: &str) -> Given<'p, 's>
     ensures { given_of result ≡ given (params_of params.entry) text.now }
 {
-    if is_among(params.held, text) {
+    if params.held.contains(text) {
         return Given::Nothing;
     }
     given_first(params.types, text)

@@ -1,28 +1,27 @@
 //! The declared parameters of an enum.
-ghost use Rattle.std.specs.Prelude.{◌≡◌, ◌++◌, ◌∷◌, [], Some, None, map, IfOk, OnOk, MatchOption};
-ghost use Rattle.std.specs.Prelude.{if◌then◌else◌, string_bytes, option_map, codes};
+ghost use Rattle.std.specs.Prelude.{◌≡◌, ◌++◌, ◌∷◌, [], Some, None, map, IfOk, OnOk, OnErr};
+ghost use Rattle.std.specs.Prelude.{if◌then◌else◌, string_bytes, option_map};
 ghost use Rattle.logos_token.specs.Views.{tokens_of};
 ghost use Rattle.logos_token.specs.Tokens.{run_span};
 ghost use Rattle.logos_type.specs.Parts.{tree_of};
 ghost use Rattle.logos_type_reader.specs.ReadingViews.{IfFault};
 ghost use Rattle.logos_type.specs.TypeTrees.{type_tree};
 ghost use Rattle.logos_type_reader.specs.TypeExprs.{IsTypeExpr, NoTypeExpr};
-ghost use Rattle.logos_token.specs.declared.error.fault_code.FaultCode.TheVariants.{TypeSyntax};
-ghost use Rattle.logos_token.specs.declared.error.fault_code.FaultCode.TheVariants.{LimitTypeNesting};
-ghost use Rattle.logos_type_params.specs.Substitution.{param_value};
 ghost use Rattle.logos_type_params.specs.inside.Checks.{ChecksName};
-ghost use Rattle.logos_type_params.specs.TypeParams.{named_of, given_of, with_lifetimes, fault};
-ghost use Rattle.logos_type_params.specs.TypeParams.{about, many_lifetimes, is_declared, former};
-ghost use Rattle.logos_type_params.specs.TypeParams.{given_more, given_faults, ReadsValue};
+ghost use Rattle.logos_type_params.specs.TypeParams.{named_of, given_of, type_syntax};
+ghost use Rattle.logos_type_params.specs.TypeParams.{limit_type_nesting, about, many_lifetimes};
+ghost use Rattle.logos_type_params.specs.TypeParams.{former, given_more, given_faults};
+ghost use Rattle.logos_type_params.specs.TypeParams.{ListsFirst, ReadsValue};
 
 mod concrete;
 mod written;
 
 use crate::lifetimes::set_lifetimes;
+use crate::names::Names;
 use crate::self_reference::Chains;
 use crate::substitution::TypeParam;
 pub use concrete::Generics;
-use indexmap::IndexSet;
+use indexmap::{IndexMap, IndexSet};
 use logos_token::error::{Errors, FaultCode, Memory};
 use logos_token::token::{Ident, Span, Tokens};
 use logos_type::TypeExpr;
@@ -32,8 +31,9 @@ use std::alloc::Global;
 /// The declared parameters of an enum, and the types that are given to them.
 #[derive(Drop)]
 pub struct TypeParams<'s> {
-    names: Vec<Ident<'s>>,
-    types: Vec<TypeParam<'s>>,
+    names: Names<'s>,
+    /// The types, by the names that they are given to.
+    types: IndexMap<&'s str, TypeParam<'s>>,
     lifetime: bool,
     alloc: Global,
 }
@@ -49,7 +49,8 @@ fn joined(alloc: Global, before: &str, text: &str, behind: &str) -> Result<Strin
     Ok(message)
 }
 
-/// Lists a fault of a name, which stands between two texts in the message.
+/// Lists a fault of a name, which stands between two texts in the message. After an error the
+/// faults are as before.
 fn list_about(
     alloc: Global,
     errors: &mut Errors,
@@ -58,8 +59,9 @@ fn list_about(
     name: Ident<'_>,
     behind: &str,
 ) -> Result<(), Memory>
-    ensures { OnOk result (errors.new
+    ensures ok { OnOk result (errors.new
         ≡ errors.old ++ (about code before.now (named_of name.entry) behind.now) ∷ []) }
+    ensures err { OnErr result (errors.new ≡ errors.old) }
 {
     let message = joined(alloc, before, name.text, behind)?;
     errors.err(code, message.as_str(), name.span)?;
@@ -68,16 +70,16 @@ fn list_about(
 
 /// Lists that the value at this span is no type.
 fn list_syntax(errors: &mut Errors, at: Span) -> Result<(), Memory>
-    ensures { OnOk result
-        (errors.new ≡ errors.old ++ (fault TypeSyntax (codes "not a type") at) ∷ []) }
+    ensures ok { OnOk result (errors.new ≡ errors.old ++ type_syntax at ∷ []) }
+    ensures err { OnErr result (errors.new ≡ errors.old) }
 {
     errors.err(FaultCode::TypeSyntax, "not a type", at)
 }
 
 /// Lists that more types stand inside one another in the value at this span than may.
 fn list_depth(errors: &mut Errors, at: Span) -> Result<(), Memory>
-    ensures { OnOk result (errors.new ≡ errors.old ++
-        (fault LimitTypeNesting (codes "limit LimitTypeNesting passed") at) ∷ []) }
+    ensures ok { OnOk result (errors.new ≡ errors.old ++ limit_type_nesting at ∷ []) }
+    ensures err { OnErr result (errors.new ≡ errors.old) }
 {
     errors.err(
         FaultCode::LimitTypeNesting,
@@ -94,7 +96,8 @@ fn list_no_type(
     errors: &mut Errors,
 ) -> Result<(), Memory>
     requires { IfFault (NoTypeExpr (tokens_of run)) fault }
-    ensures { OnOk result (ReadsValue (tokens_of run.entry) at errors.old errors.new None) }
+    ensures ok { OnOk result (ReadsValue (tokens_of run.entry) at errors.old errors.new None) }
+    ensures err { OnErr result (errors.new ≡ errors.old) }
 {
     match fault {
         TypeFault::Unsupported { .. } => list_syntax(errors, at),
@@ -114,8 +117,9 @@ fn whole_type<'s>(
     errors: &mut Errors,
 ) -> Result<Option<TypeExpr<'s>>, Memory>
     requires { IsTypeExpr (tokens_of run) (type_tree type_expr) (tokens_of rest) }
-    ensures { IfOk result (λ read. ReadsValue
+    ensures ok { IfOk result (λ read. ReadsValue
         (tokens_of run.entry) at errors.old errors.new (option_map type_tree read)) }
+    ensures err { OnErr result (errors.new ≡ errors.old) }
 {
     if rest.is_empty() {
         return Ok(Some(type_expr));
@@ -125,15 +129,17 @@ fn whole_type<'s>(
 }
 
 /// The type that the whole run is; where it is none, that is listed at this span, as `TypeSyntax`,
-/// or `LimitTypeNesting` where it nests deeper than types may.
+/// or `LimitTypeNesting` where it nests deeper than types may. After an error the faults are as
+/// before.
 pub fn read_value<'s>(
     alloc: Global,
     run: Tokens<'_, 's>,
     at: Span,
     errors: &mut Errors,
 ) -> Result<Option<TypeExpr<'s>>, Memory>
-    ensures { IfOk result (λ read. ReadsValue
+    ensures ok { IfOk result (λ read. ReadsValue
         (tokens_of run.entry) at errors.old errors.new (option_map type_tree read)) }
+    ensures err { OnErr result (errors.new ≡ errors.old) }
 {
     match read_type(alloc, run) {
         Ok((type_expr, rest)) => whole_type(type_expr, rest, run, at, errors),
@@ -146,8 +152,9 @@ pub fn read_value<'s>(
 
 /// Lists a lifetime where one is declared already.
 fn list_second_lifetime(is_declared: bool, span: Span, errors: &mut Errors) -> Result<(), Memory>
-    ensures { OnOk result (errors.new ≡ errors.old ++
+    ensures ok { OnOk result (errors.new ≡ errors.old ++
         (if is_declared then many_lifetimes span ∷ [] else [])) }
+    ensures err { OnErr result (errors.new ≡ errors.old) }
 {
     if !is_declared {
         return Ok(());
@@ -159,39 +166,27 @@ fn list_second_lifetime(is_declared: bool, span: Span, errors: &mut Errors) -> R
     )
 }
 
-/// Whether a name is declared.
-fn is_declared(names: &[Ident<'_>], text: &str) -> bool
-    ensures { result ≡ is_declared (map named_of names.now) text.now }
+/// Where the type stands that a name has.
+fn former<'s>(types: &IndexMap<&'s str, TypeParam<'s>>, text: &str) -> Option<Span>
+    ensures { result ≡ former (map given_of types.now.entries) text.now }
 {
-    for name in names {
-        if name.text == text {
-            return true;
-        }
+    match types.get(text) {
+        Some(param) => Some(param.span),
+        None => None,
     }
-    false
 }
 
-/// Where the type stands that is meant by a name.
-fn former(types: &[TypeParam<'_>], text: &str) -> Option<Span>
-    ensures { result ≡ former (map given_of types.now) text.now }
-{
-    for param in types {
-        if param.name.text == text {
-            return Some(param.span);
-        }
-    }
-    None
-}
-
-/// Lists that a name has a type already, which is written at this span.
+/// Lists that a name has a type already, which is written at this span. After an error the first
+/// of the two faults may be listed.
 fn list_twice(
     alloc: Global,
     name: Ident<'_>,
     former: Span,
     errors: &mut Errors,
 ) -> Result<(), Memory>
-    ensures { OnOk result (errors.new
+    ensures ok { OnOk result (errors.new
         ≡ errors.old ++ given_faults (Some former) (named_of name.entry)) }
+    ensures err { OnErr result (ListsFirst (named_of name.entry) errors.old errors.new) }
 {
     list_about(
         alloc,
@@ -204,26 +199,41 @@ fn list_twice(
     errors.err(FaultCode::Previous, "Previously assigned here", former)
 }
 
-/// Gives one type more to a name that is declared.
+/// Lists the faults of one type more for a name that has this one, if it has one.
+fn list_given(
+    alloc: Global,
+    name: Ident<'_>,
+    former: Option<Span>,
+    errors: &mut Errors,
+) -> Result<(), Memory>
+    ensures ok { OnOk result (errors.new
+        ≡ errors.old ++ given_faults former (named_of name.entry)) }
+    ensures err { OnErr result (ListsFirst (named_of name.entry) errors.old errors.new) }
+{
+    match former {
+        Some(span) => list_twice(alloc, name, span, errors),
+        None => Ok(()),
+    }
+}
+
+/// Gives one type more to a name that is declared. After an error it has the type that it had.
 fn give<'s>(
     alloc: Global,
-    types: &mut Vec<TypeParam<'s>>,
+    types: &mut IndexMap<&'s str, TypeParam<'s>>,
+    name: Ident<'s>,
     param: TypeParam<'s>,
     errors: &mut Errors,
 ) -> Result<(), Memory>
-    ensures types { OnOk result (map given_of types.new.items ≡ given_more
-        (former (map given_of types.old.items) param.entry.name.text.now)
-        (given_of param.entry) (map given_of types.old.items)) }
+    ensures types { OnOk result (map given_of types.new.entries
+        ≡ given_more (given_of (name.entry.text, param.entry)) (map given_of types.old.entries)) }
     ensures faults { OnOk result (errors.new ≡ errors.old ++ given_faults
-        (former (map given_of types.old.items) param.entry.name.text.now)
-        (named_of param.entry.name)) }
+        (former (map given_of types.old.entries) name.entry.text.now) (named_of name.entry)) }
+    ensures kept { OnErr result (types.new.entries ≡ types.old.entries) }
+    ensures listed { OnErr result (ListsFirst (named_of name.entry) errors.old errors.new) }
 {
-    let Some(span) = former(types.as_slice(), param.name.text) else {
-        types.push(param)?;
-        return Ok(());
-    };
-    list_twice(alloc, param.name, span, errors)?;
-    types.insert(0, param)?;
+    let span = former(types, name.text);
+    list_given(alloc, name, span, errors)?;
+    types.insert(name.text, param)?;
     Ok(())
 }
 
@@ -256,28 +266,27 @@ fn check_name<'s>(
 }
 
 impl<'s> TypeParams<'s> {
-    ghost use Rattle.std.specs.Prelude.{◌≡◌, ◌++◌, ◌∷◌, [], OnOk, IfOk, true, false, if◌then◌else◌};
-    ghost use Rattle.logos_token.specs.Tokens.{run_span};
+    ghost use Rattle.std.specs.Prelude.{◌≡◌, ◌++◌, ◌∷◌, [], OnOk, OnErr, true, false, if◌then◌else◌};
     ghost use Rattle.logos_token.specs.Views.{tokens_of};
-    ghost use Rattle.std.specs.Prelude.{map};
-    ghost use Rattle.logos_type_params.specs.Substitution.{param_value};
     ghost use Rattle.logos_type_params.specs.SelfFaults.{AreChecked};
     ghost use Rattle.logos_type_params.specs.TypeParams.{Value, value_of, named_of, many_lifetimes};
-    ghost use Rattle.logos_type_params.specs.TypeParams.{IsSet};
+    ghost use Rattle.logos_type_params.specs.TypeParams.{IsSet, ListsFirst};
+    ghost use Rattle.logos_type_params.specs.WrittenTypes.{types_of};
 
     /// Without a parameter. What is added later takes memory from `alloc`.
     pub fn new(alloc: Global) -> TypeParams<'s>
         ensures { value_of result ≡ record { names = []; types = []; lifetime = false } }
     {
         TypeParams {
-            names: Vec::new(alloc),
-            types: Vec::new(alloc),
+            names: Names::new(alloc),
+            types: IndexMap::new(alloc),
             lifetime: false,
             alloc,
         }
     }
 
-    /// Notes a lifetime parameter at this span; more than one is listed.
+    /// Notes a lifetime parameter at this span; more than one is listed. After an error all is as
+    /// before.
     pub fn explicit_lifetime(&mut self, span: Span, errors: &mut Errors) -> Result<(), Memory>
         ensures value { OnOk result (value_of self.new ≡ record {
           names = (value_of self.old).names;
@@ -286,19 +295,22 @@ impl<'s> TypeParams<'s> {
         }) }
         ensures faults { OnOk result (errors.new ≡ errors.old ++
             (if (value_of self.old).lifetime then many_lifetimes span ∷ [] else [])) }
+        ensures kept { OnErr result (value_of self.new ≡ value_of self.old) }
+        ensures unlisted { OnErr result (errors.new ≡ errors.old) }
     {
         list_second_lifetime(self.lifetime, span, errors)?;
         self.lifetime = true;
         Ok(())
     }
 
-    /// Declares a type parameter of this name.
+    /// Declares a type parameter of this name. After an error all is as before.
     pub fn add(&mut self, name: Ident<'s>) -> Result<(), Memory>
-        ensures { OnOk result (value_of self.new ≡ record {
+        ensures ok { OnOk result (value_of self.new ≡ record {
           names = (value_of self.old).names ++ named_of name.entry ∷ [];
           types = (value_of self.old).types;
           lifetime = (value_of self.old).lifetime;
         }) }
+        ensures kept { OnErr result (value_of self.new ≡ value_of self.old) }
     {
         self.names.push(name)?;
         Ok(())
@@ -306,22 +318,25 @@ impl<'s> TypeParams<'s> {
 
     /// Gives the type that the value is to a declared name. Where the value is no type, or the name
     /// is not declared, that is listed, and nothing is given; where it has a type, that is listed
-    /// with both places, and the new one is meant from now on.
+    /// with both places, and the new one is meant from now on. After an error nothing is given, and
+    /// of the two faults of a name that has a type the first one may be listed.
     pub fn set(
         &mut self,
         name: Ident<'s>,
         value: Tokens<'_, 's>,
         errors: &mut Errors,
     ) -> Result<(), Memory>
-        ensures { OnOk result (IsSet (value_of self.old)
+        ensures ok { OnOk result (IsSet (value_of self.old)
             (named_of name.entry) (tokens_of value.entry) errors.old
             (value_of self.new) errors.new) }
+        ensures kept { OnErr result (value_of self.new ≡ value_of self.old) }
+        ensures listed { OnErr result (ListsFirst (named_of name.entry) errors.old errors.new) }
     {
         let span = value.span();
         let Some(written) = read_value(self.alloc, value, span, errors)? else {
             return Ok(());
         };
-        if !is_declared(self.names.as_slice(), name.text) {
+        if !self.names.contains(name.text) {
             return list_about(
                 self.alloc,
                 errors,
@@ -335,7 +350,12 @@ impl<'s> TypeParams<'s> {
         give(
             self.alloc,
             &mut self.types,
-            TypeParam { name, part, span },
+            name,
+            TypeParam {
+                at: name.span,
+                part,
+                span,
+            },
             errors,
         )
     }
@@ -344,12 +364,12 @@ impl<'s> TypeParams<'s> {
     /// declared again is not listed again. The time grows with the sizes of all types, and where
     /// chains lead back, at most with their product with the number of types.
     pub fn check(&self, errors: &mut Errors) -> Result<(), Memory>
-        ensures { OnOk result (AreChecked (map param_value self.now.types.items) []
+        ensures { OnOk result (AreChecked (types_of self.now) []
             (value_of self.now).names errors.old errors.new) }
     {
-        let mut chains = Chains::new(self.alloc, self.types.as_slice())?;
+        let mut chains = Chains::new(self.alloc, &self.types);
         let mut front = IndexSet::new(self.alloc);
-        for name in &self.names {
+        for name in &self.names.list {
             check_name(self.alloc, &mut front, &mut chains, *name, errors)?;
         }
         Ok(())

@@ -8,7 +8,7 @@ use Rattle.logos_attribute.specs.declared.callback.CallbackRun.TheVariants.{Labe
 use Rattle.logos_attribute.specs.declared.callback.CallbackMisfit.{CallbackMisfit}
 use Rattle.logos_attribute.specs.declared.callback.CallbackMisfit.TheVariants.{Closure, Body}
 use Rattle.logos_attribute.specs.Slices.{ident_slice}
-use Rattle.logos_attribute.specs.Callbacks.{CallbackView, label, inline, closure_fault, body_fault}
+use Rattle.logos_attribute.specs.Callbacks.{CallbackView, label, inline, callback_closure, callback_body}
 
 -- a run that is a callback, of which the whole stands at the span
 abbrev pub run_view : Span → CallbackRun → CallbackView
@@ -16,8 +16,8 @@ run_view span (Label run) = label (tokens_of run)
 run_view span (Inline arg body) = inline (ident_slice arg) (tokens_of body) span
 
 abbrev pub misfit_fault : Span → CallbackMisfit → Fault
-misfit_fault span Closure = closure_fault span
-misfit_fault span Body = body_fault span
+misfit_fault span Closure = callback_closure span
+misfit_fault span Body = callback_body span
 
 -- what the reading of a callback gives
 abbrev pub read_view : Span → Result CallbackRun CallbackMisfit → Result CallbackView Fault

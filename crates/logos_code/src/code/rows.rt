@@ -1,11 +1,14 @@
 //! Rows: what each byte does in a state, found by one look.
-ghost use Rattle.std.specs.Prelude.{◌≡◌, ◌==◌, ◌<◌, ◌⊎◌, false, ℕ, List, length, map, None, Some, option_map, IfOk, IfSome, slice_index_or};
+ghost use Rattle.std.specs.Prelude.{◌≡◌, ◌==◌, ◌<◌, ◌⊎◌, false, ℕ, List, length, map};
+ghost use Rattle.std.specs.Prelude.{None, Some, option_map, IfOk, IfSome, slice_index_or};
 ghost use Rattle.logos_graph.specs.Bytes.{comparison_of, some_compares};
 ghost use Rattle.logos_code.specs.Bytes.{passes_test};
 ghost use Rattle.logos_code.specs.Code.{by_conditions};
-ghost use Rattle.logos_code.specs.Headline.{IsSound, NamesTest, NamesState, NamesCondition, NamesFork, NamesWhatIsThere};
+ghost use Rattle.logos_code.specs.Headline.{IsSound, NamesTest, NamesState};
+ghost use Rattle.logos_code.specs.Headline.{NamesCondition, NamesFork, NamesWhatIsThere};
 ghost use Rattle.logos_code.specs.Runs.{stays, target, passes};
-ghost use Rattle.logos_code.specs.CodeView.{mark_of, condition_of, branch_of, fork_of, jumps_of, state_of, has_mask, code_of};
+ghost use Rattle.logos_code.specs.CodeView.{mark_of, condition_of, branch_of, fork_of};
+ghost use Rattle.logos_code.specs.CodeView.{jumps_of, state_of, has_mask, code_of};
 ghost use Rattle.logos_code.specs.Rows.{closing, IsStepOf, Says, IsEntry, IsRow, AreRows};
 
 use super::{CodeParts, CodeState, Condition, Fork, Mark, target_of};
@@ -87,7 +90,8 @@ pub(super) fn rows_of(alloc: Global, parts: &CodeParts) -> Result<Vec<[u32; 256]
 
 /// What each byte does in the state.
 fn row_of(parts: &CodeParts, state: &CodeState) -> [u32; 256]
-    requires { NamesWhatIsThere (code_of parts.now) (state_of parts.now.jump_tables.items state.now) }
+    requires { NamesWhatIsThere (code_of parts.now)
+        (state_of parts.now.jump_tables.items state.now) }
     ensures { IsRow (code_of parts.now) (state_of parts.now.jump_tables.items state.now) result }
 {
     let mut row = [UNSAID; 256];
@@ -99,8 +103,10 @@ fn row_of(parts: &CodeParts, state: &CodeState) -> [u32; 256]
 
 /// What the byte does in the state.
 fn entry_at(parts: &CodeParts, state: &CodeState, byte: u8) -> u32
-    requires { NamesWhatIsThere (code_of parts.now) (state_of parts.now.jump_tables.items state.now) }
-    ensures { IsEntry (code_of parts.now) (state_of parts.now.jump_tables.items state.now) byte result }
+    requires { NamesWhatIsThere (code_of parts.now)
+        (state_of parts.now.jump_tables.items state.now) }
+    ensures { IsEntry (code_of parts.now)
+        (state_of parts.now.jump_tables.items state.now) byte result }
 {
     if parts.stays(state.fast_loop, byte) {
         return STAYS;
@@ -110,7 +116,8 @@ fn entry_at(parts: &CodeParts, state: &CodeState, byte: u8) -> u32
 
 /// The leaf of the match that the state marks, if it does nothing else.
 fn closing_leaf(state: &CodeState) -> Option<LeafId>
-    ensures { IfSome result (λ leaf. (tables : List (List ℕ)) → state_of tables state.now ≡ closing leaf.0) }
+    ensures { IfSome result (λ leaf. (tables : List (List ℕ)) →
+        state_of tables state.now ≡ closing leaf.0) }
 {
     let Fork::Conditions(branches) = &state.fork else {
         return None;
@@ -123,7 +130,8 @@ fn closing_leaf(state: &CodeState) -> Option<LeafId>
 
 /// The leaf of a mark that is not late.
 pub(super) fn early_leaf(mark: Option<Mark>) -> Option<LeafId>
-    ensures { IfSome result (λ leaf. option_map mark_of mark ≡ Some (record { leaf = leaf.0; late = false })) }
+    ensures { IfSome result (λ leaf. option_map mark_of mark
+        ≡ Some (record { leaf = leaf.0; late = false })) }
 {
     match mark {
         Some(mark) if !mark.late => Some(mark.leaf),
@@ -145,8 +153,10 @@ impl CodeParts<'_> {
 
     /// What the byte does in the state, where its fast loop does not take it.
     fn step(&self, state: &CodeState, byte: u8) -> Step
-        requires { NamesWhatIsThere (code_of self.now) (state_of self.now.jump_tables.items state.now) }
-        ensures { Says (code_of self.now) (state_of self.now.jump_tables.items state.now) byte result }
+        requires { NamesWhatIsThere (code_of self.now)
+            (state_of self.now.jump_tables.items state.now) }
+        ensures { Says (code_of self.now)
+            (state_of self.now.jump_tables.items state.now) byte result }
     {
         let Some(target) = self.target(&state.fork, byte) else {
             return match early_leaf(state.mark) {
@@ -163,7 +173,8 @@ impl CodeParts<'_> {
     /// Where the byte leads.
     pub(super) fn target(&self, fork: &Fork, byte: u8) -> Option<usize>
         requires { NamesFork (code_of self.now) (fork_of self.now.jump_tables.items fork.now) }
-        ensures is { result ≡ target (code_of self.now) (fork_of self.now.jump_tables.items fork.now) byte }
+        ensures is { result ≡ target (code_of self.now)
+            (fork_of self.now.jump_tables.items fork.now) byte }
         ensures there { IfSome result (NamesState (code_of self.now)) }
     {
         match fork {
@@ -175,7 +186,8 @@ impl CodeParts<'_> {
     /// The target of the first of the branches whose condition holds.
     fn first_target(&self, branches: &[(Condition, usize)], byte: u8) -> Option<usize>
         requires { NamesFork (code_of self.now) (by_conditions (map branch_of branches.now)) }
-        ensures { result ≡ target (code_of self.now) (by_conditions (map branch_of branches.now)) byte }
+        ensures { result ≡ target (code_of self.now)
+            (by_conditions (map branch_of branches.now)) byte }
     {
         for (condition, target) in branches {
             if self.passes(condition, byte) {
@@ -185,6 +197,7 @@ impl CodeParts<'_> {
         None
     }
 
+    /// Whether the condition holds for the byte.
     fn passes(&self, condition: &Condition, byte: u8) -> bool
         requires { NamesCondition (code_of self.now) (condition_of condition.now) }
         ensures { result ≡ passes (code_of self.now) (condition_of condition.now) byte }

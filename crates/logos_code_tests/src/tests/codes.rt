@@ -8,14 +8,14 @@ mod nodes;
 mod texts;
 
 use super::check;
-use codes::{Fate, Rules, generated, label, push_leaves, type_of};
+use codes::{Fate, Rules, generator, label, push_leaves, type_of};
 use lexers::{push_first, push_items, push_utf8, push_walk};
 use logos_generator::code::Code;
 use logos_graph::graph::{Config, Graph};
 use logos_pattern::leaf::Callback;
 use logos_token::error::Memory;
 use logos_type::TypeExpr;
-use nodes::{push_kept, push_nodes};
+use nodes::{push_kept, push_nodes, single_nodes};
 use std::alloc::Global;
 use std::process::Abort;
 use std::test::Fail;
@@ -39,6 +39,8 @@ enum Ask {
     Utf8,
     /// Its states, then its jump tables, its tests, and its leaves.
     Nodes,
+    /// The nodes that a generator makes one by one.
+    Single,
     /// What it keeps of what its generator was given.
     Kept,
     /// A part of its text.
@@ -96,7 +98,11 @@ fn answer_for(
 ) -> Result<String, Memory>
     requires { graph.now.faults ≡ [] }
 {
-    match generated(alloc, row.0, graph, this, failed) {
+    let mut generator = generator(alloc, row.0, graph, this, failed);
+    if matches!(row.3, Ask::Single) {
+        return single_nodes(alloc, &mut generator, graph);
+    }
+    match generator.generate(alloc) {
         Ok(code) => answer_by(alloc, row, &code),
         Err(_) => Err(Memory),
     }

@@ -72,9 +72,9 @@ impl<'s> Parser<'s> {
         if self.failed {
             return Err(Memory);
         }
-        let ended = self.add_parameter(parameter);
-        self.failed = ended.is_err();
-        ended
+        let outcome = self.add_parameter(parameter);
+        self.failed = outcome.is_err();
+        outcome
     }
 
     /// Adds the arguments of a `logos` attribute, or lists that it has none.
@@ -114,9 +114,9 @@ impl<'s> Parser<'s> {
         if self.failed {
             return Err(Memory);
         }
-        let ended = self.add_attribute(attribute);
-        self.failed = ended.is_err();
-        ended
+        let outcome = self.add_attribute(attribute);
+        self.failed = outcome.is_err();
+        outcome
     }
 
     /// The definition in the arguments of a `token` or `regex` attribute; `None` where it has no
@@ -136,9 +136,9 @@ impl<'s> Parser<'s> {
         if self.failed {
             return Err(Memory);
         }
-        let ended = self.definition_in(attribute);
-        self.failed = ended.is_err();
-        ended
+        let outcome = self.definition_in(attribute);
+        self.failed = outcome.is_err();
+        outcome
     }
 
     /// The definition in the arguments of an attribute, if there is one.

@@ -3,8 +3,8 @@ ghost use Rattle.std.specs.Prelude.{◌≡◌, ◌++◌, OnOk, Some};
 ghost use Rattle.logos_token.specs.Views.{tokens_of};
 ghost use Rattle.logos_attribute.specs.Slices.{ident_slice};
 ghost use Rattle.logos_attribute.specs.Told.{Lists};
-ghost use Rattle.logos_definition.specs.OptionFaults.{once_only, mode_again, extras_again};
-ghost use Rattle.logos_definition.specs.OptionFaults.{error_again, export_again, skip_form};
+ghost use Rattle.logos_definition.specs.OptionFaults.{once_only, utf8_twice, extras_twice};
+ghost use Rattle.logos_definition.specs.OptionFaults.{error_twice, export_twice, skip_form};
 ghost use Rattle.logos_definition.specs.OptionFaults.{skip_group, utf8_value, utf8_form};
 ghost use Rattle.logos_definition.specs.OptionFaults.{extras_form, crate_form, export_bytes};
 ghost use Rattle.logos_definition.specs.OptionFaults.{export_form, subpattern_form, error_form};
@@ -33,7 +33,7 @@ fn list_twice(
 
 /// Lists that the mode was said before, and where.
 pub(super) fn list_mode_twice(here: Span, there: Span, errors: &mut Errors) -> Result<(), Memory>
-    ensures { OnOk result (errors.new ≡ errors.old ++ mode_again here (Some there)) }
+    ensures { OnOk result (errors.new ≡ errors.old ++ utf8_twice here (Some there)) }
 {
     list_twice(
         errors,
@@ -46,7 +46,7 @@ pub(super) fn list_mode_twice(here: Span, there: Span, errors: &mut Errors) -> R
 
 /// Lists that extras were said before, and where.
 pub(super) fn list_extras_twice(here: Span, there: Span, errors: &mut Errors) -> Result<(), Memory>
-    ensures { OnOk result (errors.new ≡ errors.old ++ extras_again here (Some there)) }
+    ensures { OnOk result (errors.new ≡ errors.old ++ extras_twice here (Some there)) }
 {
     list_twice(
         errors,
@@ -59,7 +59,7 @@ pub(super) fn list_extras_twice(here: Span, there: Span, errors: &mut Errors) ->
 
 /// Lists that a type of errors was said before, and where.
 pub(super) fn list_error_twice(here: Span, there: Span, errors: &mut Errors) -> Result<(), Memory>
-    ensures { OnOk result (errors.new ≡ errors.old ++ error_again here (Some there)) }
+    ensures { OnOk result (errors.new ≡ errors.old ++ error_twice here (Some there)) }
 {
     list_twice(
         errors,
@@ -72,7 +72,7 @@ pub(super) fn list_error_twice(here: Span, there: Span, errors: &mut Errors) -> 
 
 /// Lists that a path was said before, and where.
 pub(super) fn list_export_twice(here: Span, there: Span, errors: &mut Errors) -> Result<(), Memory>
-    ensures { OnOk result (errors.new ≡ errors.old ++ export_again here (Some there)) }
+    ensures { OnOk result (errors.new ≡ errors.old ++ export_twice here (Some there)) }
 {
     list_twice(
         errors,

@@ -29,9 +29,9 @@ impl<'s> Parser<'s> {
         if self.failed {
             return Err(Memory);
         }
-        let ended = self.types.generics(&mut self.errors);
-        self.failed = ended.is_err();
-        ended
+        let outcome = self.types.generics(&mut self.errors);
+        self.failed = outcome.is_err();
+        outcome
     }
 
     /// What becomes of a written type, without asking whether the parser has failed.
@@ -44,7 +44,7 @@ impl<'s> Parser<'s> {
         let held = self.types.held_names()?;
         let got = self
             .types
-            .get_type(held.as_slice(), written, span, &mut self.errors)?;
+            .get_type(&held, written, span, &mut self.errors)?;
         Ok(got)
     }
 
@@ -63,8 +63,8 @@ impl<'s> Parser<'s> {
         if self.failed {
             return Err(Memory);
         }
-        let ended = self.written_type(written, span);
-        self.failed = ended.is_err();
-        ended
+        let outcome = self.written_type(written, span);
+        self.failed = outcome.is_err();
+        outcome
     }
 }

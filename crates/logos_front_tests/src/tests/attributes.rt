@@ -28,6 +28,7 @@ const LINES: &[(Ask, &str)] = &[
     (Ask::Attribute(Told::Given), types::GIVEN),
     (Ask::Attribute(Told::Replaced), types::REPLACED),
     (Ask::Attribute(Told::Lifetimes), types::LIFETIMES),
+    (Ask::Attribute(Told::Asked), types::ASKED),
     (Ask::Parsed, parsed::READ),
 ];
 

@@ -1,12 +1,17 @@
 //! Forks of states, and their fast loops.
-ghost use Rattle.std.specs.Prelude.{◌≡◌, ◌<◌, ◌≤◌, ◌↔◌, ◌&&◌, ◌==◌, ℕ, true, IfOk, OnOk, OnErr, IsTrue, MatchBool, [], ◌∷◌, ◌++◌, length, map, option_map, find, nat_le, slice_index, None};
+ghost use Rattle.std.specs.Prelude.{◌≡◌, ◌<◌, ◌≤◌, ◌↔◌, ◌&&◌, ◌==◌, ℕ, true, IfOk, OnOk};
+ghost use Rattle.std.specs.Prelude.{OnErr, IsTrue, [], ◌∷◌, length, map, option_map};
+ghost use Rattle.std.specs.Prelude.{find, nat_le, slice_index, None};
 ghost use Rattle.std.specs.List.{All, flat_map};
 ghost use Rattle.std.specs.Option.{option_or};
 ghost use Rattle.logos_graph.specs.Bytes.{ranges_of, has_byte, AreSeparated, comparison_of};
 ghost use Rattle.logos_code.specs.CodeView.{condition_of, branch_of, entry_of, fork_of};
 ghost use Rattle.logos_graph.specs.GraphView.{edge_of, state_number};
-ghost use Rattle.logos_generator.specs.Nodes.{hit, leads_beside, Extends, IsConditionOf, IsBranchOf, AreBranchesOf, IsForkOf, IsLoopOf, cost};
-ghost use Rattle.logos_generator.specs.Numbering.{numbered, loop_uses, condition_uses, branch_uses, fork_uses};
+ghost use Rattle.logos_generator.specs.Nodes.{hit, leads_beside, Extends, IsConditionOf};
+ghost use Rattle.logos_generator.specs.Nodes.{AreBranchesOf, IsForkOf, IsLoopOf, cost};
+ghost use Rattle.logos_generator.specs.Numbering.{numbered, loop_uses, condition_uses};
+ghost use Rattle.logos_generator.specs.Numbering.{branch_uses, fork_uses};
+ghost use Rattle.logos_generator.specs.StateView.{AddsBranch};
 
 use super::tests_by_bits::add_test;
 use indexmap::IndexSet;
@@ -23,7 +28,8 @@ pub(super) fn maybe_impl_fast_loop(
 ) -> Result<Option<usize>, AllocError>
     ensures grows { Extends tests.old.keys tests.new.keys }
     ensures is { IfOk result (IsLoopOf tests.new.keys state (map edge_of edges.now)) }
-    ensures numbers { OnOk result (tests.new.keys ≡ numbered tests.old.keys (loop_uses state (map edge_of edges.now))) }
+    ensures numbers { OnOk result (tests.new.keys
+        ≡ numbered tests.old.keys (loop_uses state (map edge_of edges.now))) }
     ensures error { OnErr result (tests.new.keys ≡ tests.old.keys) }
 {
     match edge_back(edges, state) {
@@ -34,7 +40,8 @@ pub(super) fn maybe_impl_fast_loop(
 
 /// The bytes of the first edge that leads back to the state.
 fn edge_back<'e>(edges: &'e [(ByteClass, State)], state: usize) -> Option<&'e ByteClass>
-    ensures { option_map (λ class. ranges_of class.now) result ≡ option_map (λ edge. edge.0) (find (λ edge. edge.1 == state) (map edge_of edges.now)) }
+    ensures { option_map (λ class. ranges_of class.now) result
+        ≡ option_map (λ edge. edge.0) (find (λ edge. edge.1 == state) (map edge_of edges.now)) }
 {
     for edge in edges {
         if edge.1.index() == state {
@@ -56,8 +63,10 @@ pub(super) fn impl_fork(
     requires targets { All (λ edge. state_number edge.1 < 4294967295) edges.now }
     ensures tests { Extends tests.old.keys tests.new.keys }
     ensures jumps { Extends jumps.old.keys jumps.new.keys }
-    ensures is { IfOk result (λ fork. IsForkOf tests.new.keys state (map edge_of edges.now) (fork_of jumps.new.keys fork)) }
-    ensures numbers { OnOk result (tests.new.keys ≡ numbered tests.old.keys (fork_uses state (map edge_of edges.now))) }
+    ensures is { IfOk result (λ fork.
+        IsForkOf tests.new.keys state (map edge_of edges.now) (fork_of jumps.new.keys fork)) }
+    ensures numbers { OnOk result (tests.new.keys
+        ≡ numbered tests.old.keys (fork_uses state (map edge_of edges.now))) }
 {
     if edges.len() > 2 {
         let (k, _) = jumps.insert_full(table_of(edges, state))?;
@@ -70,7 +79,8 @@ pub(super) fn impl_fork(
 fn table_of(edges: &[(ByteClass, State)], state: usize) -> [u32; 256]
     requires { All (λ edge. state_number edge.1 < 4294967295) edges.now }
     ensures long { length result ≡ 256 }
-    ensures leads { (b : ℕ) → b < 256 → entry_of (slice_index result b) ≡ leads_beside state (map edge_of edges.now) b }
+    ensures leads { (b : ℕ) → b < 256 →
+        entry_of (slice_index result b) ≡ leads_beside state (map edge_of edges.now) b }
 {
     let mut table = [NOWHERE; 256];
     for edge in edges {
@@ -82,7 +92,8 @@ fn table_of(edges: &[(ByteClass, State)], state: usize) -> [u32; 256]
 /// Writes an edge, if it leads elsewhere.
 fn fill_edge(table: &mut [u32; 256], edge: &(ByteClass, State), state: usize)
     requires { state_number edge.now.1 < 4294967295 }
-    ensures { (b : ℕ) → b < 256 → entry_of (slice_index table.new b) ≡ option_or (entry_of (slice_index table.old b)) (leads_beside state (edge_of edge.now ∷ []) b) }
+    ensures { (b : ℕ) → b < 256 → entry_of (slice_index table.new b) ≡ option_or
+        (entry_of (slice_index table.old b)) (leads_beside state (edge_of edge.now ∷ []) b) }
 {
     if edge.1.index() != state {
         fill_class(table, &edge.0, edge.1.index() as u32);
@@ -92,7 +103,8 @@ fn fill_edge(table: &mut [u32; 256], edge: &(ByteClass, State), state: usize)
 /// Writes the target at each byte of the class that has none.
 fn fill_class(table: &mut [u32; 256], class: &ByteClass, target: u32)
     requires { target < 4294967295 }
-    ensures { (b : ℕ) → b < 256 → entry_of (slice_index table.new b) ≡ hit (has_byte class.now b) target (entry_of (slice_index table.old b)) }
+    ensures { (b : ℕ) → b < 256 → entry_of (slice_index table.new b)
+        ≡ hit (has_byte class.now b) target (entry_of (slice_index table.old b)) }
 {
     for range in &class.ranges {
         fill_range(table, *range.start(), *range.end(), target);
@@ -102,7 +114,8 @@ fn fill_class(table: &mut [u32; 256], class: &ByteClass, target: u32)
 /// Writes the target at each byte of a range that has none.
 fn fill_range(table: &mut [u32; 256], first: u8, last: u8, target: u32)
     requires { target < 4294967295 }
-    ensures { (b : ℕ) → b < 256 → entry_of (slice_index table.new b) ≡ hit (nat_le first b && nat_le b last) target (entry_of (slice_index table.old b)) }
+    ensures { (b : ℕ) → b < 256 → entry_of (slice_index table.new b)
+        ≡ hit (nat_le first b && nat_le b last) target (entry_of (slice_index table.old b)) }
 {
     for b in first as usize..last as usize + 1 {
         table[b] = filled(table[b], target);
@@ -126,8 +139,10 @@ fn conditions_of(
 ) -> Result<Vec<(Condition, usize)>, AllocError>
     requires { All (λ edge. AreSeparated (ranges_of edge.0)) edges.now }
     ensures grows { Extends tests.old.keys tests.new.keys }
-    ensures are { IfOk result (λ made. AreBranchesOf tests.new.keys state (map edge_of edges.now) (map branch_of made.items)) }
-    ensures numbers { OnOk result (tests.new.keys ≡ numbered tests.old.keys (flat_map (branch_uses state) (map edge_of edges.now))) }
+    ensures are { IfOk result (λ made.
+        AreBranchesOf tests.new.keys state (map edge_of edges.now) (map branch_of made.items)) }
+    ensures numbers { OnOk result (tests.new.keys
+        ≡ numbered tests.old.keys (flat_map (branch_uses state) (map edge_of edges.now))) }
 {
     let mut made = Vec::new(alloc);
     for edge in edges {
@@ -146,8 +161,10 @@ fn add_branch(
 ) -> Result<(), AllocError>
     requires { AreSeparated (ranges_of edge.now.0) }
     ensures grows { Extends tests.old.keys tests.new.keys }
-    ensures adds { OnOk result (MatchBool (state_number edge.now.1 == state) (made.new.items ≡ made.old.items) ((branch : _) × (made.new.items ≡ made.old.items ++ branch ∷ []) × IsBranchOf tests.new.keys (edge_of edge.now) (branch_of branch))) }
-    ensures numbers { OnOk result (tests.new.keys ≡ numbered tests.old.keys (branch_uses state (edge_of edge.now))) }
+    ensures adds { OnOk result (AddsBranch
+        tests.new.keys state edge.now made.old.items made.new.items) }
+    ensures numbers { OnOk result (tests.new.keys
+        ≡ numbered tests.old.keys (branch_uses state (edge_of edge.now))) }
 {
     if edge.1.index() == state {
         return Ok(());
@@ -165,8 +182,10 @@ fn condition_of(
 ) -> Result<Condition, AllocError>
     requires { AreSeparated (ranges_of class.now) }
     ensures grows { Extends tests.old.keys tests.new.keys }
-    ensures is { IfOk result (λ condition. IsConditionOf tests.new.keys (ranges_of class.now) (condition_of condition)) }
-    ensures numbers { OnOk result (tests.new.keys ≡ numbered tests.old.keys (condition_uses (ranges_of class.now))) }
+    ensures is { IfOk result (λ condition.
+        IsConditionOf tests.new.keys (ranges_of class.now) (condition_of condition)) }
+    ensures numbers { OnOk result (tests.new.keys
+        ≡ numbered tests.old.keys (condition_uses (ranges_of class.now))) }
 {
     let comparisons = class.impl_with_cmp(alloc)?;
     if are_cheap(&comparisons) {

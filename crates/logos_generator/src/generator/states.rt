@@ -7,7 +7,8 @@ ghost use Rattle.logos_code.specs.CodeView.{mark_of, state_of};
 ghost use Rattle.logos_generator.specs.GeneratorValue.{code_leaf_value, leaf_value};
 ghost use Rattle.logos_graph.specs.FinishedGraph.{IsFinished};
 ghost use Rattle.logos_generator.specs.Nodes.{Extends, IsStateOf};
-ghost use Rattle.logos_generator.specs.Numbering.{HasNodesOf, numbered, state_uses, tests_of, uses_from};
+ghost use Rattle.logos_generator.specs.Numbering.{HasNodesOf, numbered};
+ghost use Rattle.logos_generator.specs.Numbering.{state_uses, tests_of, uses_from};
 ghost use Rattle.logos_graph.specs.GraphView.{state_number, state_type_of, graph_state_of};
 ghost use Rattle.logos_graph.specs.StatesView.{states_left};
 ghost use Rattle.logos_generator.specs.StateView.{leaf_use, AreStatesOf, AreTablesOf, IsCodable};
@@ -38,7 +39,8 @@ pub(super) fn code_of<'s>(
     ensures mode { IfOk result (λ code. code.utf8 ≡ graph.now.utf8) }
     ensures leaves { IfOk result (λ code. code.leaves ≡ map leaf_use graph.now.leaves) }
     ensures kept { IfOk result (λ code. code.kept ≡ kept.entry) }
-    ensures kept_leaves { IfOk result (λ code. map code_leaf_value code.kept_leaves ≡ map leaf_value graph.now.leaves) }
+    ensures kept_leaves { IfOk result
+        (λ code. map code_leaf_value code.kept_leaves ≡ map leaf_value graph.now.leaves) }
 {
     let tables = tables_made(alloc, tests, jumps, graph, states)?;
     let leaves = leaves_of(alloc, graph.leaves())?;
@@ -74,7 +76,8 @@ fn tables_made(
     requires states { states_left states ≡ range_with_len 0 (length graph.now.states) }
     requires tests { tests.old.keys ≡ [] }
     ensures tests { OnOk result (tests.new.keys ≡ tests_of graph.now.states) }
-    ensures tables { IfOk result (λ tables. AreTablesOf graph.now.states tables.states.items tables.bit_tables.items tables.jump_tables.items) }
+    ensures tables { IfOk result (λ tables. AreTablesOf graph.now.states tables.states.items
+        tables.bit_tables.items tables.jump_tables.items) }
 {
     let states = states_of(alloc, tests, jumps, graph, states)?;
     let bit_tables = tables_of(alloc, tests.as_slice())?;
@@ -96,8 +99,10 @@ fn states_of(
 ) -> Result<Vec<CodeState>, AllocError>
     requires codable { All IsCodable graph.now.states }
     requires states { states_left states ≡ range_with_len 0 (length graph.now.states) }
-    ensures are { IfOk result (λ made. AreStatesOf tests.new.keys jumps.new.keys graph.now.states made.items) }
-    ensures numbers { OnOk result (tests.new.keys ≡ numbered tests.old.keys (uses_from 0 graph.now.states)) }
+    ensures are { IfOk result (λ made.
+        AreStatesOf tests.new.keys jumps.new.keys graph.now.states made.items) }
+    ensures numbers { OnOk result (tests.new.keys
+        ≡ numbered tests.old.keys (uses_from 0 graph.now.states)) }
 {
     let mut made = Vec::new(alloc);
     for state in states {
@@ -117,8 +122,10 @@ fn state_made(
     requires { IsCodable (graph_state_of state.now) }
     ensures tests { OnOk result (Extends tests.old.keys tests.new.keys) }
     ensures jumps { OnOk result (Extends jumps.old.keys jumps.new.keys) }
-    ensures is { IfOk result (λ made. IsStateOf tests.new.keys s (graph_state_of state.now) (state_of jumps.new.keys made)) }
-    ensures numbers { OnOk result (tests.new.keys ≡ numbered tests.old.keys (state_uses s (graph_state_of state.now).normal)) }
+    ensures is { IfOk result (λ made.
+        IsStateOf tests.new.keys s (graph_state_of state.now) (state_of jumps.new.keys made)) }
+    ensures numbers { OnOk result (tests.new.keys
+        ≡ numbered tests.old.keys (state_uses s (graph_state_of state.now).normal)) }
 {
     let fast_loop = maybe_impl_fast_loop(tests, &state.normal, s)?;
     let fork = impl_fork(alloc, tests, jumps, &state.normal, s)?;

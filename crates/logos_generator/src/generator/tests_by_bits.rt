@@ -1,5 +1,6 @@
 //! Tests of bytes by bits of tables.
-ghost use Rattle.std.specs.Prelude.{◌≡◌, ◌+◌, ◌*◌, ◌<◌, ◌≤◌, ◌/◌, ◌∷◌, [], ℕ, Some, IfOk, OnOk, OnErr, length, slice_get, if◌then◌else◌};
+ghost use Rattle.std.specs.Prelude.{◌≡◌, ◌+◌, ◌*◌, ◌<◌, ◌≤◌, ◌/◌, ◌∷◌, [], ℕ, Some};
+ghost use Rattle.std.specs.Prelude.{IfOk, OnOk, OnErr, length, slice_get, if◌then◌else◌};
 ghost use Rattle.std.specs.Bool.{beq};
 ghost use Rattle.std.specs.Cmp.Lexicographic.{pointwise};
 ghost use Rattle.indexmap.specs.IndexSet.{insert_key};
@@ -20,7 +21,8 @@ pub(super) fn add_test(
     ensures grows { Extends tests.old.keys tests.new.keys }
     ensures error { OnErr result (tests.new.keys ≡ tests.old.keys) }
     ensures is { IfOk result (IsTest tests.new.keys (ranges_of class.now)) }
-    ensures numbers { OnOk result (tests.new.keys ≡ numbered tests.old.keys (ranges_of class.now ∷ [])) }
+    ensures numbers { OnOk result (tests.new.keys
+        ≡ numbered tests.old.keys (ranges_of class.now ∷ [])) }
 {
     let k = add_set(tests, class.to_table())?;
     Ok(k)
@@ -39,7 +41,8 @@ fn add_set(tests: &mut IndexSet<[bool; 256]>, set: [bool; 256]) -> Result<usize,
 
 /// The tables of all tests: test k is bit k mod 8 of table k / 8.
 pub(super) fn tables_of(alloc: Global, tests: &[[bool; 256]]) -> Result<Vec<[u8; 256]>, AllocError>
-    ensures tests { IfOk result (λ tables. (k b : ℕ) → b < 256 → passes_test tables.items k b ≡ tests_byte tests.now k b) }
+    ensures tests { IfOk result (λ tables. (k b : ℕ) → b < 256 →
+        passes_test tables.items k b ≡ tests_byte tests.now k b) }
     ensures long { IfOk result (λ tables. length tests.now ≤ 8 * length tables.items) }
     ensures are { IfOk result (λ tables. tables.items ≡ bit_tables_of tests.now) }
 {

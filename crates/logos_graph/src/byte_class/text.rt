@@ -1,7 +1,8 @@
-// How bytes and sets of bytes print.
+//! How bytes and sets of bytes print.
 ghost use Rattle.std.specs.Prelude.{◌≡◌, ◌<◌, ◌≤◌, ◌↔◌, IsTrue, IsFalse, IfSome, Some, codes, map};
 ghost use Rattle.logos_graph.specs.Bytes.{bounds, ranges_of};
-ghost use Rattle.logos_graph.specs.ClassText.{letter_of, lower_digit, byte_text, range_text, next_ranges_text, class_text};
+ghost use Rattle.logos_graph.specs.ClassText.{letter_of, lower_digit, byte_text};
+ghost use Rattle.logos_graph.specs.ClassText.{range_text, next_ranges_text, class_text};
 
 use super::ByteClass;
 use std::fmt;
@@ -89,7 +90,8 @@ struct NextRanges<'c> {
 }
 
 impl fmt::Display for NextRanges<'_> {
-    ghost output = { λ next. Some (next_ranges_text next.between.now (map bounds next.ranges.now)) };
+    ghost output = { λ next. Some (next_ranges_text next.between.now
+        (map bounds next.ranges.now)) };
 
     fn fmt<W: fmt::Write>(&self, f: &mut fmt::Formatter<W>) -> fmt::Result {
         let between = self.between;

@@ -1,4 +1,4 @@
-// What tells two states of a graph apart.
+//! What tells two states of a graph apart.
 ghost use Rattle.std.specs.Prelude.{◌≡◌, ◌≢◌, ◌<◌, ◌↔◌, [], IsTrue, IfOk, length};
 ghost use Rattle.logos_graph.specs.Graph.{TellsApart};
 ghost use Rattle.logos_graph.specs.Least.{IsEvidence};
@@ -26,7 +26,8 @@ impl Graph<'_> {
         requires s_in { s.0 < length self.now.states }
         requires t_in { t.0 < length self.now.states }
         requires different { s.0 ≢ t.0 }
-        ensures { IfOk result (λ telling. IsEvidence self.now.states s.0 t.0 telling.bytes.items telling.at_end) }
+        ensures { IfOk result (λ telling.
+            IsEvidence self.now.states s.0 t.0 telling.bytes.items telling.at_end) }
     {
         let (bytes, at_end) = self.reduced().telling(alloc, s.0, t.0)?;
         Ok(Telling { bytes, at_end })

@@ -1,4 +1,4 @@
-// From leaves to their graph.
+//! From leaves to their graph.
 ghost use Rattle.std.specs.Prelude.{◌≡◌, ◌^◌, ◌<◌, ◌≤◌, [], IfOk, IfErr, length, map};
 ghost use Rattle.logos_automaton.specs.DfaView.{dfa_of};
 ghost use Rattle.logos_automaton.specs.Faults.{AreFaults, AllStart};
@@ -36,7 +36,8 @@ fn automaton_of_none(alloc: Global) -> Result<Dfa, BuildError>
 /// The automaton of the rules, if each of their trees takes a byte before it looks or matches, and else of no rules.
 fn automaton(alloc: Global, rules: &[RuleView<'_>]) -> Result<Dfa, BuildError>
     requires { size_of (views.rules_of rules.now) ≤ 2 ^ 20 }
-    ensures late { IfOk result (λ dfa. AllStart (views.rules_of rules.now) → ReadsOneByteLate (views.rules_of rules.now) (dfa_of dfa)) }
+    ensures late { IfOk result (λ dfa. AllStart (views.rules_of rules.now) →
+        ReadsOneByteLate (views.rules_of rules.now) (dfa_of dfa)) }
     ensures total { IfOk result (λ dfa. IsTotal (dfa_of dfa)) }
     ensures few { IfOk result (λ dfa. length (dfa_of dfa).matches ≤ 65536) }
     ensures err { IfErr result (Refuses (views.rules_of rules.now)) }
@@ -60,7 +61,8 @@ struct Findings {
 /// The automaton and the faults of rules.
 fn rule_findings(alloc: Global, rules: &[RuleView<'_>]) -> Result<Findings, BuildError>
     requires { size_of (views.rules_of rules.now) ≤ 2 ^ 20 }
-    ensures found { IfOk result (λ made. AreFindings (views.rules_of rules.now) (dfa_of made.dfa) (map fault_of made.errors.items)) }
+    ensures found { IfOk result (λ made.
+        AreFindings (views.rules_of rules.now) (dfa_of made.dfa) (map fault_of made.errors.items)) }
     ensures err { IfErr result (Refuses (views.rules_of rules.now)) }
 {
     let dfa = automaton(alloc, rules)?;
@@ -71,7 +73,8 @@ fn rule_findings(alloc: Global, rules: &[RuleView<'_>]) -> Result<Findings, Buil
 /// The automaton and the faults of leaves.
 fn leaf_findings(alloc: Global, leaves: &[Leaf<'_>]) -> Result<Findings, BuildError>
     requires { size_of (rules_of leaves.now) ≤ 2 ^ 20 }
-    ensures found { IfOk result (λ made. AreFindings (rules_of leaves.now) (dfa_of made.dfa) (map fault_of made.errors.items)) }
+    ensures found { IfOk result (λ made.
+        AreFindings (rules_of leaves.now) (dfa_of made.dfa) (map fault_of made.errors.items)) }
     ensures err { IfErr result (Refuses (rules_of leaves.now)) }
 {
     let rules = rule_views(alloc, leaves)?;
@@ -114,7 +117,8 @@ impl<'s> Graph<'s> {
     ) -> Result<Graph<'s>, BuildError>
         ensures graph { IfOk result (IsGraphOf leaves.entry.items config.utf8_mode) }
         ensures err { IfErr result (Refuses (rules_of leaves.entry.items)) }
-        ensures too_large { 2 ^ 20 < size_of (rules_of leaves.entry.items) → IfOk result (λ graph. ⊥) × IfErr result (λ e. e ≡ LimitSize) }
+        ensures too_large { 2 ^ 20 < size_of (rules_of leaves.entry.items) →
+            IfOk result (λ graph. ⊥) × IfErr result (λ e. e ≡ LimitSize) }
     {
         if !is_size_within(&leaves) {
             return Err(BuildError::LimitSize);

@@ -1,11 +1,16 @@
-// Charts of graphs in Mermaid's language.
-ghost use Rattle.std.specs.Prelude.{◌≡◌, ◌<◌, ◌++◌, IfOk, OnOk, map, option_map, codes, string_bytes};
+//! Charts of graphs in Mermaid's language.
+ghost use Rattle.std.specs.Prelude.{◌≡◌, ◌<◌, ◌++◌, IfOk, OnOk, map};
+ghost use Rattle.std.specs.Prelude.{option_map, codes, string_bytes};
 ghost use Rattle.std.specs.Fmt.{decimal};
 ghost use Rattle.std.specs.List.{flat_map};
 ghost use Rattle.logos_graph.specs.Bytes.{bounds, ranges_of};
 ghost use Rattle.logos_graph.specs.ClassText.{byte_text};
 ghost use Rattle.logos_graph.specs.GraphView.{edge_of, graph_state_of, state_number, state_type_of};
-ghost use Rattle.logos_graph.specs.Mermaid.{label_character, label_text, range_label, next_label, class_label, state_label, state_colour, node_name, edge_name, style_line, link_line, node_lines, edge_lines, byte_edge_lines, end_edge_lines, state_lines, mermaid_of};
+ghost use Rattle.logos_graph.specs.Mermaid.{label_character, label_text, range_label};
+ghost use Rattle.logos_graph.specs.Mermaid.{next_label, class_label, state_label, state_colour};
+ghost use Rattle.logos_graph.specs.Mermaid.{node_name, edge_name, style_line, link_line};
+ghost use Rattle.logos_graph.specs.Mermaid.{node_lines, edge_lines, byte_edge_lines};
+ghost use Rattle.logos_graph.specs.Mermaid.{end_edge_lines, state_lines, mermaid_of};
 
 use super::{State, StateData, StateType};
 use crate::byte_class::ByteClass;
@@ -17,7 +22,8 @@ use std::ops::RangeInclusive;
 /// Adds a character of a label.
 fn push_character(text: &mut String, character: char) -> Result<(), AllocError>
     requires { character < 128 }
-    ensures { OnOk result (string_bytes text.new ≡ string_bytes text.old ++ label_character character) }
+    ensures { OnOk result (string_bytes text.new
+        ≡ string_bytes text.old ++ label_character character) }
 {
     match character {
         '"' => text.push_str("&quot"),
@@ -29,7 +35,8 @@ fn push_character(text: &mut String, character: char) -> Result<(), AllocError>
 
 /// Adds a byte to a label, as it prints.
 fn push_byte(text: &mut String, byte: u8) -> Result<(), AllocError>
-    ensures { OnOk result (string_bytes text.new ≡ string_bytes text.old ++ label_text (byte_text byte)) }
+    ensures { OnOk result (string_bytes text.new
+        ≡ string_bytes text.old ++ label_text (byte_text byte)) }
 {
     if let Some(letter) = letter_of(byte) {
         push_character(text, '\\')?;
@@ -46,7 +53,8 @@ fn push_byte(text: &mut String, byte: u8) -> Result<(), AllocError>
 
 /// Adds a range of bytes to a label.
 fn push_range(text: &mut String, range: &RangeInclusive<u8>) -> Result<(), AllocError>
-    ensures { OnOk result (string_bytes text.new ≡ string_bytes text.old ++ range_label (bounds range.now)) }
+    ensures { OnOk result (string_bytes text.new
+        ≡ string_bytes text.old ++ range_label (bounds range.now)) }
 {
     let first = *range.start();
     let last = *range.end();
@@ -60,7 +68,8 @@ fn push_range(text: &mut String, range: &RangeInclusive<u8>) -> Result<(), Alloc
 
 /// Adds a range of bytes to a label, below the former one.
 fn push_next_range(text: &mut String, range: &RangeInclusive<u8>) -> Result<(), AllocError>
-    ensures { OnOk result (string_bytes text.new ≡ string_bytes text.old ++ next_label (bounds range.now)) }
+    ensures { OnOk result (string_bytes text.new
+        ≡ string_bytes text.old ++ next_label (bounds range.now)) }
 {
     push_character(text, '\n')?;
     push_range(text, range)
@@ -68,7 +77,8 @@ fn push_next_range(text: &mut String, range: &RangeInclusive<u8>) -> Result<(), 
 
 /// Adds ranges of bytes to a label, below the former ones.
 fn push_next_ranges(text: &mut String, ranges: &[RangeInclusive<u8>]) -> Result<(), AllocError>
-    ensures { OnOk result (string_bytes text.new ≡ string_bytes text.old ++ flat_map next_label (map bounds ranges.now)) }
+    ensures { OnOk result (string_bytes text.new
+        ≡ string_bytes text.old ++ flat_map next_label (map bounds ranges.now)) }
 {
     for range in ranges {
         push_next_range(text, range)?;
@@ -78,7 +88,8 @@ fn push_next_ranges(text: &mut String, ranges: &[RangeInclusive<u8>]) -> Result<
 
 /// Adds the ranges of an edge, one below another.
 fn push_class(text: &mut String, class: &ByteClass) -> Result<(), AllocError>
-    ensures { OnOk result (string_bytes text.new ≡ string_bytes text.old ++ class_label (ranges_of class.now)) }
+    ensures { OnOk result (string_bytes text.new
+        ≡ string_bytes text.old ++ class_label (ranges_of class.now)) }
 {
     let Some((first, rest)) = class.ranges.split_first() else {
         return Ok(());
@@ -89,7 +100,8 @@ fn push_class(text: &mut String, class: &ByteClass) -> Result<(), AllocError>
 
 /// Adds a mark with its leaf.
 fn push_mark(text: &mut String, mark: &str, leaf: LeafId) -> Result<(), AllocError>
-    ensures { OnOk result (string_bytes text.new ≡ string_bytes text.old ++ mark.now ++ decimal leaf.0 ++ codes ")") }
+    ensures { OnOk result (string_bytes text.new
+        ≡ string_bytes text.old ++ mark.now ++ decimal leaf.0 ++ codes ")") }
 {
     let leaf = leaf.0;
     write!(text, "{mark}{leaf})")
@@ -97,7 +109,8 @@ fn push_mark(text: &mut String, mark: &str, leaf: LeafId) -> Result<(), AllocErr
 
 /// Adds what the node of a state says.
 fn push_state_label(text: &mut String, s: usize, state_type: StateType) -> Result<(), AllocError>
-    ensures { OnOk result (string_bytes text.new ≡ string_bytes text.old ++ state_label s (state_type_of state_type)) }
+    ensures { OnOk result (string_bytes text.new
+        ≡ string_bytes text.old ++ state_label s (state_type_of state_type)) }
 {
     write!(text, "State {s}")?;
     if let Some(leaf) = state_type.early {
@@ -128,14 +141,16 @@ fn name_of(alloc: Global, s: usize) -> Result<String, AllocError>
 
 /// Adds the colour of a node.
 fn push_style(text: &mut String, name: &str, colour: &str) -> Result<(), AllocError>
-    ensures { OnOk result (string_bytes text.new ≡ string_bytes text.old ++ style_line name.now colour.now) }
+    ensures { OnOk result (string_bytes text.new
+        ≡ string_bytes text.old ++ style_line name.now colour.now) }
 {
     write!(text, "style {name} stroke:{colour}\n")
 }
 
 /// Adds a link between nodes.
 fn push_link(text: &mut String, from: &str, to: &str) -> Result<(), AllocError>
-    ensures { OnOk result (string_bytes text.new ≡ string_bytes text.old ++ link_line from.now to.now) }
+    ensures { OnOk result (string_bytes text.new
+        ≡ string_bytes text.old ++ link_line from.now to.now) }
 {
     write!(text, "{from}-->{to}\n")
 }
@@ -148,7 +163,8 @@ fn push_edge(
     target: State,
     label: &str,
 ) -> Result<(), AllocError>
-    ensures { OnOk result (string_bytes text.new ≡ string_bytes text.old ++ edge_lines from.now (node_name (state_number target)) label.now) }
+    ensures { OnOk result (string_bytes text.new ≡ string_bytes text.old
+        ++ edge_lines from.now (node_name (state_number target)) label.now) }
 {
     let to = name_of(alloc, target.0)?;
     let name = format!(in alloc; "e{from}{to}")?;
@@ -165,7 +181,8 @@ fn push_byte_edge(
     from: &str,
     edge: &(ByteClass, State),
 ) -> Result<(), AllocError>
-    ensures { OnOk result (string_bytes text.new ≡ string_bytes text.old ++ byte_edge_lines from.now (edge_of edge.now)) }
+    ensures { OnOk result (string_bytes text.new
+        ≡ string_bytes text.old ++ byte_edge_lines from.now (edge_of edge.now)) }
 {
     let mut label = String::new(alloc);
     push_class(&mut label, &edge.0)?;
@@ -179,7 +196,8 @@ fn push_byte_edges(
     from: &str,
     edges: &[(ByteClass, State)],
 ) -> Result<(), AllocError>
-    ensures { OnOk result (string_bytes text.new ≡ string_bytes text.old ++ flat_map (byte_edge_lines from.now) (map edge_of edges.now)) }
+    ensures { OnOk result (string_bytes text.new
+        ≡ string_bytes text.old ++ flat_map (byte_edge_lines from.now) (map edge_of edges.now)) }
 {
     for edge in edges {
         push_byte_edge(alloc, text, from, edge)?;
@@ -194,7 +212,8 @@ fn push_end_edge(
     from: &str,
     end: Option<State>,
 ) -> Result<(), AllocError>
-    ensures { OnOk result (string_bytes text.new ≡ string_bytes text.old ++ end_edge_lines from.now (option_map state_number end)) }
+    ensures { OnOk result (string_bytes text.new
+        ≡ string_bytes text.old ++ end_edge_lines from.now (option_map state_number end)) }
 {
     let Some(target) = end else {
         return Ok(());
@@ -209,7 +228,8 @@ fn push_node(
     s: usize,
     state_type: StateType,
 ) -> Result<(), AllocError>
-    ensures { OnOk result (string_bytes text.new ≡ string_bytes text.old ++ node_lines name.now (state_label s (state_type_of state_type)) (state_colour (state_type_of state_type))) }
+    ensures { OnOk result (string_bytes text.new ≡ string_bytes text.old ++ node_lines name.now
+        (state_label s (state_type_of state_type)) (state_colour (state_type_of state_type))) }
 {
     write!(text, "{name}[\"")?;
     push_state_label(text, s, state_type)?;
@@ -224,7 +244,8 @@ fn push_state(
     s: usize,
     state: &StateData,
 ) -> Result<(), AllocError>
-    ensures { OnOk result (string_bytes text.new ≡ string_bytes text.old ++ state_lines s (graph_state_of state.now)) }
+    ensures { OnOk result (string_bytes text.new
+        ≡ string_bytes text.old ++ state_lines s (graph_state_of state.now)) }
 {
     let name = name_of(alloc, s)?;
     push_node(text, &name, s, state.state_type)?;

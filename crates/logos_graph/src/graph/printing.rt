@@ -1,4 +1,4 @@
-// How states and graphs print.
+//! How states and graphs print.
 ghost use Rattle.std.specs.Prelude.{◌≡◌, ◌++◌, Some, IfOk, codes, string_bytes};
 ghost use Rattle.std.specs.Fmt.{decimal};
 
@@ -8,7 +8,7 @@ use std::alloc::Global;
 use std::fmt;
 
 impl State {
-    /// `State` and the number.
+    /// `State` and the number. `Memory` where there is no memory for the text.
     pub fn pascal_case(self, alloc: Global) -> Result<String, Memory>
         ensures { IfOk result (λ text. string_bytes text ≡ codes "State" ++ decimal self.0) }
     {
@@ -16,7 +16,7 @@ impl State {
         Ok(format!(in alloc; "State{number}")?)
     }
 
-    /// `state` and the number.
+    /// `state` and the number. `Memory` where there is no memory for the text.
     pub fn snake_case(self, alloc: Global) -> Result<String, Memory>
         ensures { IfOk result (λ text. string_bytes text ≡ codes "state" ++ decimal self.0) }
     {

@@ -1,4 +1,4 @@
-// The least table of an automaton.
+//! The least table of an automaton.
 ghost use Rattle.std.specs.Prelude.{◌<◌, ℕ, IfOk, Bool, List};
 ghost use Rattle.logos_reduce.specs.Raw.{IsRaw};
 ghost use Rattle.logos_reduce.specs.Table.{size, mark, type_of, edges};

@@ -1,10 +1,12 @@
-// The states of a finished graph, from its table.
-ghost use Rattle.std.specs.Prelude.{◌≡◌, ◌≢◌, ℕ, ◌<◌, ◌≤◌, ◌++◌, ◌∷◌, [], IsTrue, IsFalse, IfOk, OnOk, length, map, option_map, slice_index};
+//! The states of a finished graph, from its table.
+ghost use Rattle.std.specs.Prelude.{◌≡◌, ◌≢◌, ℕ, ◌<◌, ◌≤◌, ◌++◌, ◌∷◌, [], IsTrue, IsFalse};
+ghost use Rattle.std.specs.Prelude.{IfOk, OnOk, length, map, option_map, slice_index};
 ghost use Rattle.std.specs.List.{All};
 ghost use Rattle.logos_graph.specs.Backward.{HaveBackward};
 ghost use Rattle.logos_graph.specs.Bytes.{bounds};
 ghost use Rattle.logos_graph.specs.FinishedGraph.{AreNeat, IsFit, IsFinished};
-ghost use Rattle.logos_graph.specs.GraphView.{edge_of, graph_state_of, leaf_number, state_number, state_type_of};
+ghost use Rattle.logos_graph.specs.GraphView.{edge_of, graph_state_of, leaf_number};
+ghost use Rattle.logos_graph.specs.GraphView.{state_number, state_type_of};
 ghost use Rattle.logos_places.specs.Marks.{IsRising, IsFirstFrom};
 ghost use Rattle.logos_graph.specs.ReduceShown.{Shows};
 ghost use Rattle.logos_graph.specs.States.{targets, with_range, with_run, AreEdgesOf, IsStateOf};
@@ -43,8 +45,10 @@ fn place_of(edges: &[Edge], target: usize) -> usize
 
 /// Whether the edge to a state is at a place.
 fn is_at(edges: &[Edge], place: usize, target: usize) -> bool
-    ensures hit { IsTrue result → (place < length edges.now) × (slice_index (targets (map edge_of edges.now)) place ≡ target) }
-    ensures miss { IsFalse result → place < length edges.now → slice_index (targets (map edge_of edges.now)) place ≢ target }
+    ensures hit { IsTrue result → (place < length edges.now)
+        × (slice_index (targets (map edge_of edges.now)) place ≡ target) }
+    ensures miss { IsFalse result → place < length edges.now →
+        slice_index (targets (map edge_of edges.now)) place ≢ target }
 {
     if place >= edges.len() {
         return false;
@@ -54,7 +58,8 @@ fn is_at(edges: &[Edge], place: usize, target: usize) -> bool
 
 /// Adds bytes to an edge.
 fn push_range(edge: &mut Edge, range: RangeInclusive<u8>) -> Result<(), AllocError>
-    ensures { OnOk result (edge_of edge.new ≡ ((edge_of edge.old).0 ++ bounds range ∷ [], (edge_of edge.old).1)) }
+    ensures { OnOk result (edge_of edge.new
+        ≡ ((edge_of edge.old).0 ++ bounds range ∷ [], (edge_of edge.old).1)) }
 {
     edge.0.ranges.push(range)?;
     Ok(())
@@ -77,7 +82,8 @@ fn add_range(
     target: usize,
 ) -> Result<(), AllocError>
     requires { IsRising (targets (map edge_of edges.old.items)) }
-    ensures { OnOk result (map edge_of edges.new.items ≡ with_range (map edge_of edges.old.items) (bounds range) target) }
+    ensures { OnOk result (map edge_of edges.new.items
+        ≡ with_range (map edge_of edges.old.items) (bounds range) target) }
 {
     let place = place_of(edges, target);
     if is_at(edges, place, target) {
@@ -93,7 +99,8 @@ fn run_end(row: &Row, from: usize) -> usize
     requires { from < 256 }
     ensures after { from < result }
     ensures bound { result ≤ 256 }
-    ensures same { (b : ℕ) → from ≤ b → b < result → slice_index row.now b ≡ slice_index row.now from }
+    ensures same { (b : ℕ) → from ≤ b → b < result →
+        slice_index row.now b ≡ slice_index row.now from }
     ensures changes { result < 256 → slice_index row.now result ≢ slice_index row.now from }
 {
     for i in from + 1..256 {
@@ -112,7 +119,8 @@ fn add_run(
     target: Option<usize>,
 ) -> Result<(), AllocError>
     requires { IsRising (targets (map edge_of edges.old.items)) }
-    ensures { OnOk result (map edge_of edges.new.items ≡ with_run (map edge_of edges.old.items) (bounds range) target) }
+    ensures { OnOk result (map edge_of edges.new.items
+        ≡ with_run (map edge_of edges.old.items) (bounds range) target) }
 {
     let Some(target) = target else {
         return Ok(());
@@ -194,8 +202,10 @@ fn state_of(
 /// The states of the graph that the table stands for.
 pub(crate) fn states_of(alloc: Global, table: &Table) -> Result<Vec<StateData>, AllocError>
     ensures shows { IfOk result (λ states. Shows table.now (map graph_state_of states.items)) }
-    ensures neat { IfOk result (λ states. All (λ state. AreNeat (graph_state_of state).normal) states.items) }
-    ensures finished { IfOk result (λ states. (leaves : ℕ) → IsFit table.now leaves → IsFinished (map graph_state_of states.items) leaves) }
+    ensures neat { IfOk result (λ states.
+        All (λ state. AreNeat (graph_state_of state).normal) states.items) }
+    ensures finished { IfOk result (λ states. (leaves : ℕ) → IsFit table.now leaves →
+        IsFinished (map graph_state_of states.items) leaves) }
     ensures backward { IfOk result (λ states. HaveBackward states.items) }
 {
     let before = predecessors(alloc, table, WIDTH)?;

@@ -1,5 +1,6 @@
-// A graph, and what it is asked for.
-ghost use Rattle.std.specs.Prelude.{◌≡◌, ◌≢◌, ℕ, ◌-◌, ◌<◌, ◌↔◌, [], IsTrue, IfOk, Some, length, map, slice_get, string_bytes};
+//! A graph, and what it is asked for.
+ghost use Rattle.std.specs.Prelude.{◌≡◌, ◌≢◌, ℕ, ◌-◌, ◌<◌, ◌↔◌, [], IsTrue, IfOk};
+ghost use Rattle.std.specs.Prelude.{Some, length, map, slice_get, string_bytes};
 ghost use Rattle.std.specs.List.{range_with_len};
 ghost use Rattle.logos_automaton.specs.DfaView.{dfa_of};
 ghost use Rattle.logos_automaton.specs.Errors.{fault_of};
@@ -51,7 +52,11 @@ impl<'s> Model for Graph<'s> {
 
     ghost Value = { GraphValue };
 
-    ghost coded = { Prim.hlevel (codes, e.the_row.coded, (p.the_row (record { mir = named 1; lft = [] })).coded) };
+    ghost coded = { Prim.hlevel (
+      codes,
+      e.the_row.coded,
+      (p.the_row (record { mir = named 1; lft = [] })).coded,
+    ) };
 
     ghost use Rattle.logos_graph.specs.GraphInside.{value_of, IsKept};
 
@@ -70,7 +75,13 @@ impl<'s> Graph<'s> {
         errors: Vec<GraphError>,
     ) -> Graph<'s>
         requires { map fault_of errors.items ≢ [] }
-        ensures { result ≡ record { leaves = leaves.entry.items; utf8 = config.utf8_mode; faults = map fault_of errors.items; states = []; automaton = dfa_of dfa } }
+        ensures { result ≡ record {
+          leaves = leaves.entry.items;
+          utf8 = config.utf8_mode;
+          faults = map fault_of errors.items;
+          states = [];
+          automaton = dfa_of dfa;
+        } }
     {
         Graph {
             leaves,
@@ -122,7 +133,8 @@ impl Graph<'_> {
     pub fn root(&self) -> State
         requires { 0 < length self.now.states }
         ensures root { result.0 ≡ 0 }
-        ensures finished { self.now.faults ≡ [] → IsFinished self.now.states (length self.now.leaves) }
+        ensures finished { self.now.faults ≡ [] →
+            IsFinished self.now.states (length self.now.leaves) }
     {
         let _ = &self.states;
         State(0)
@@ -131,7 +143,8 @@ impl Graph<'_> {
     /// All states, ascending. There are none where there are errors.
     pub fn iter_states(&self) -> States
         ensures states { states_left result ≡ range_with_len 0 (length self.now.states) }
-        ensures finished { self.now.faults ≡ [] → IsFinished self.now.states (length self.now.leaves) }
+        ensures finished { self.now.faults ≡ [] →
+            IsFinished self.now.states (length self.now.leaves) }
         ensures none { self.now.faults ≢ [] → self.now.states ≡ [] }
     {
         States {

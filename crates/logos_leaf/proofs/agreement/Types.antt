@@ -44,7 +44,7 @@ value_same v w n t l = λ i. record { names = n i; types = t i; lifetime = l i }
 
 module _ {v w w' : Value} {name : Named} {run : TokenList} {old new old' new' : List Fault} where
   given_once : {tree : Tree} → new ≡ [] → ReadsValue run (run_span run) old old (Some tree) → is_declared v.names name.text ≡ true → w.names ≡ v.names → w.lifetime ≡ v.lifetime →
-      w.types ≡ given_more (former v.types name.text) (record { name = name; type = with_lifetimes tree; at = run_span run }) v.types → new ≡ old ++ given_faults (former v.types name.text) name →
+      w.types ≡ given_more (record { name = name; type = with_lifetimes tree; at = run_span run }) v.types → new ≡ old ++ given_faults (former v.types name.text) name →
       IsSet v name run old' w' new' → Agree w w' old' new'
   given_once e r d n l t f (no_value s g) = absurd (no_some (read_once r s).1)
   given_once e r d n l t f (undeclared s c g h) = absurd (not_both d c)
@@ -52,7 +52,7 @@ module _ {v w w' : Value} {name : Named} {run : TokenList} {old new old' new' : 
       let same = the_same (read_once r s).1 in (
         added_none h (none_added _ f e),
         value_same w w' (n ∙ sym m)
-            (t ∙ (ap (λ (x : Tree). given_more (former v.types name.text) (record { name = name; type = with_lifetimes x; at = run_span run }) v.types) same ∙ sym u)) (l ∙ sym k),
+            (t ∙ (ap (λ (x : Tree). given_more (record { name = name; type = with_lifetimes x; at = run_span run }) v.types) same ∙ sym u)) (l ∙ sym k),
       )
 
   pub set_once : new ≡ [] → IsSet v name run old w new → IsSet v name run old' w' new' → Agree w w' old' new'

@@ -1,5 +1,6 @@
 //! One try: from a place of the input to a match, an error or the end.
-ghost use Rattle.std.specs.Prelude.{◌≡◌, ◌+◌, ◌-◌, ◌<◌, ◌≤◌, ℕ, max, length, slice_get, drop, option_map, IfSome, IsTrue, IsCharBoundary, ◌^◌, ◌↔◌};
+ghost use Rattle.std.specs.Prelude.{◌≡◌, ◌+◌, ◌-◌, ◌<◌, ◌≤◌, ℕ, max, length, slice_get, drop};
+ghost use Rattle.std.specs.Prelude.{option_map, IfSome, IsTrue, IsCharBoundary, ◌^◌, ◌↔◌};
 ghost use Rattle.logos_code.specs.CodeView.{state_at};
 ghost use Rattle.logos_code.specs.Signs.{mark_by};
 ghost use Rattle.logos_code.specs.Runs.{Does, Tries, EndsError, target, looped, marked};
@@ -77,8 +78,10 @@ fn run_state(code: &Code, input: &[u8], start: usize, at: Stand) -> Turn
 #[inline]
 fn stop_of(code: &Code, input: &[u8], state: usize, offset: usize) -> Stop
     requires { state < length code.now.states }
-    ensures offset { result.offset ≡ offset + looped code.now (state_at code.now state).fast_loop (drop offset input.now) }
-    ensures target { result.target ≡ option_map (target code.now (state_at code.now state).fork) (slice_get input.now result.offset) }
+    ensures offset { result.offset
+        ≡ offset + looped code.now (state_at code.now state).fast_loop (drop offset input.now) }
+    ensures target { result.target ≡ option_map (target code.now (state_at code.now state).fork)
+        (slice_get input.now result.offset) }
     ensures within { result.offset ≤ max offset (length input.now) }
 {
     if offset >= input.len() {

@@ -3,7 +3,8 @@ ghost use Rattle.logos_code.specs.Rows.{StopsIn};
 
 use logos_code::code::rows::is_staying;
 
-/// The same as `stop_in`. One byte is looked at by itself, since in most states the first one leads on.
+/// The first byte that does not stay in the state of the row: how many are in front of it, and its
+/// entry, as by `stop_in`. One byte is looked at by itself, since in most states it leads on.
 #[inline(always)]
 pub(super) fn first_stop(row: &[u32; 256], bytes: &[u8]) -> Option<(usize, u32)>
     ensures { StopsIn row.now bytes.now result }
@@ -38,7 +39,8 @@ pub(super) fn stop_in(row: &[u32; 256], bytes: &[u8]) -> Option<(usize, u32)>
     Some((at + i, entry))
 }
 
-/// The same for a few bytes. The compiler unrolls it where eight are handed over.
+/// What `stop_in` finds, for a few bytes that are looked at one by one. The compiler unrolls it where
+/// eight are handed over.
 #[inline(always)]
 fn stop_in_few(row: &[u32; 256], bytes: &[u8]) -> Option<(usize, u32)>
     ensures { StopsIn row.now bytes.now result }

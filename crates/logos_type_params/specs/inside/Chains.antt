@@ -2,19 +2,12 @@
 use Rattle.std.specs.Prelude.{◌≡◌, ℕ, ◌+◌, ◌≤◌, ◌⊎◌, List, [], ◌∷◌, ◌++◌, map, length, Bool, true, false, if◌then◌else◌, IsTrue, ◌↔◌}
 use Rattle.std.specs.Str.{bytes_eq}
 use Rattle.std.specs.List.{list_any}
-use denote.Ref.{Bor}
-use Rattle.logos_type.specs.declared.type_expr.Part.{Part}
-use Rattle.logos_type.specs.Parts.{tree_of}
 use Rattle.logos_type_params.specs.declared.self_reference.Chains.{Chains}
-use Rattle.logos_type_params.specs.Substitution.{ParamValue}
-use Rattle.logos_type_params.specs.SelfReference.{holds, Leads, Has, texts}
+use Rattle.logos_type_params.specs.Substitution.{ParamValue, param_value}
+use Rattle.logos_type_params.specs.SelfReference.{Leads, Has, texts}
 
--- types by name
-abbrev pub first_types : List (Bor (List ℕ) × Bor Part) → List ParamValue
-first_types = map (λ e. record { name = e.0.now; type = tree_of e.1.now })
-
-abbrev pub firsts_of : Chains → List ParamValue
-firsts_of chains = first_types chains.firsts.entries
+abbrev pub params_in : Chains → List ParamValue
+params_in chains = map param_value chains.types.now.entries
 
 -- the names from which no chain leads back
 abbrev pub free_of : Chains → List (List ℕ)
@@ -28,14 +21,6 @@ held_of chains = texts chains.held.keys
 abbrev pub has_type : List ParamValue → List ℕ → Bool
 has_type [] text = false
 has_type (p ∷ ps) text = if bytes_eq text p.name then true else has_type ps text
-
--- one type more, unless one is given to its name already
-abbrev pub with_first : List ParamValue → ParamValue → List ParamValue
-with_first params param = if has_type params param.name then params else params ++ param ∷ []
-
--- the same names are held by the types of each name
-abbrev pub AreSame : List ParamValue → List ParamValue → Type 0
-AreSame params others = (from to : List ℕ) → holds params from to ≡ holds others from to
 
 -- no chain leads back to one of these
 abbrev pub AreFree : List ParamValue → List (List ℕ) → Type 0
@@ -56,7 +41,7 @@ pub record IsReached (params : List ParamValue) (free : List (List ℕ)) (held :
 
 -- The types are these, and what is noted of names is so.
 pub record IsSettled (params : List ParamValue) (chains : Chains) : Type 0 where
-  pub same : AreSame (firsts_of chains) params
+  pub same : params_in chains ≡ params
   pub free : AreFree params (free_of chains)
   pub held : (text : List ℕ) → Has (held_of chains) text → Leads params text text
 

@@ -4,6 +4,7 @@ use Rattle.logos_type_params.specs.declared.substitution.Given.{Given as GivenVi
 use Rattle.logos_type_params.specs.declared.substitution.Given.TheVariants.{Nothing, Name, Parts}
 use Rattle.logos_type.specs.Parts.{trees, tree_of}
 use Rattle.logos_type_params.specs.declared.substitution.Replacing.{Replacing}
+use Rattle.logos_type_params.specs.SelfReference.{texts}
 use Rattle.logos_type_params.specs.Substitution.{Given, nothing, a_name, a_type, Params, param_value}
 
 abbrev pub given_of : GivenView → Given
@@ -13,4 +14,4 @@ given_of (Parts parts) = a_type (trees (map tree_of parts.now))
 
 -- the types that are given, and those that hold themselves, as the code has them
 abbrev pub params_of : Replacing → Params
-params_of replacing = record { types = map param_value replacing.types.now; held = map (λ b. b.now) replacing.held.now }
+params_of replacing = record { types = map param_value replacing.types.now.entries; held = texts replacing.held.now.keys }

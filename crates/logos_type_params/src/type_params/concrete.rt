@@ -1,12 +1,13 @@
 //! The types that declared parameters have, and what stands between the angle brackets behind the enum's name.
 ghost use Rattle.std.specs.Prelude.{◌≡◌, ◌++◌, ◌∷◌, [], map, IfOk, OnOk, option_map};
-ghost use Rattle.logos_type.specs.Parts.{tree_of};
 ghost use Rattle.logos_type.specs.TypeTrees.{type_tree};
 ghost use Rattle.logos_type_params.specs.TypeParams.{named_of, given_of};
-ghost use Rattle.logos_type_params.specs.Generics.{type_of, generics_of, no_concrete_type, concrete_type, and_type, and_fault, concrete_types, missing_types, between_brackets};
+ghost use Rattle.logos_type_params.specs.Generics.{type_of, generics_of, no_concrete_type, and_type, and_fault, concrete_types, missing_types, between_brackets};
+ghost use Rattle.logos_type_params.specs.inside.Checks.{CopiesName};
 
-use super::{TypeParams, is_declared, list_about};
+use super::{TypeParams, list_about};
 use crate::substitution::TypeParam;
+use indexmap::{IndexMap, IndexSet};
 use logos_token::error::{Errors, FaultCode, Memory};
 use logos_token::token::Ident;
 use logos_type::{Part, TypeExpr};
@@ -21,44 +22,34 @@ pub struct Generics<'s> {
     pub types: Vec<TypeExpr<'s>>,
 }
 
-/// The type that is meant by a name.
-fn first_type<'p, 's>(types: &'p [TypeParam<'s>], text: &str) -> Option<&'p Part<'s>>
-    ensures { option_map (λ part. tree_of part.now) result ≡
-        type_of (map given_of types.now) text.now }
-{
-    for param in types {
-        if param.name.text == text {
-            return Some(&param.part);
-        }
-    }
-    None
-}
-
-/// A copy of the type that is meant by a name.
-fn copy_first<'s>(types: &[TypeParam<'s>], text: &str) -> Result<Option<TypeExpr<'s>>, Memory>
-    ensures { IfOk result (λ copy. option_map type_tree copy ≡
-        type_of (map given_of types.now) text.now) }
-{
-    let Some(part) = first_type(types, text) else {
-        return Ok(None);
-    };
-    let part = part.clone()?;
-    Ok(Some(TypeExpr { part }))
-}
-
-/// A copy of the type of a declared name behind those in front.
-fn copy_concrete<'s>(
-    front: &[Ident<'_>],
-    types: &[TypeParam<'s>],
+/// A copy of the type that is given to a name.
+fn copy_given<'s>(
+    types: &IndexMap<&'s str, TypeParam<'s>>,
     text: &str,
 ) -> Result<Option<TypeExpr<'s>>, Memory>
     ensures { IfOk result (λ copy. option_map type_tree copy ≡
-        concrete_type (map given_of types.now) (map named_of front.now) text.now) }
+        type_of (map given_of types.now.entries) text.now) }
 {
-    if is_declared(front, text) {
+    let Some(param) = types.get(text) else {
+        return Ok(None);
+    };
+    let part = param.part.clone()?;
+    Ok(Some(TypeExpr { part }))
+}
+
+/// A copy of the type of a declared name behind those in front. It is one of these from now on.
+fn copy_concrete<'s>(
+    front: &mut IndexSet<&'s str>,
+    types: &IndexMap<&'s str, TypeParam<'s>>,
+    name: Ident<'s>,
+) -> Result<Option<TypeExpr<'s>>, Memory>
+    ensures { IfOk result (λ copy. CopiesName (map given_of types.now.entries) front.old.keys
+        (named_of name.entry) (option_map type_tree copy) front.new.keys) }
+{
+    if !front.insert(name.text)? {
         return Ok(None);
     }
-    copy_first(types, text)
+    copy_given(types, name.text)
 }
 
 /// Lists that a declared name has no type.
@@ -99,20 +90,19 @@ fn add_or_list<'s>(
 fn copy_types<'s>(
     alloc: Global,
     names: &[Ident<'s>],
-    types: &[TypeParam<'s>],
+    types: &IndexMap<&'s str, TypeParam<'s>>,
     errors: &mut Errors,
 ) -> Result<Vec<TypeExpr<'s>>, Memory>
     ensures types { IfOk result (λ copies. map type_tree copies.items ≡
-        concrete_types (map given_of types.now) [] (map named_of names.now)) }
-    ensures faults { OnOk result (errors.new ≡
-        errors.old ++ missing_types (map given_of types.now) [] (map named_of names.now)) }
+        concrete_types (map given_of types.now.entries) [] (map named_of names.now)) }
+    ensures faults { OnOk result (errors.new ≡ errors.old
+        ++ missing_types (map given_of types.now.entries) [] (map named_of names.now)) }
 {
-    let mut front = Vec::new(alloc);
+    let mut front = IndexSet::new(alloc);
     let mut copies = Vec::new(alloc);
     for name in names {
-        let found = copy_concrete(front.as_slice(), types, name.text)?;
+        let found = copy_concrete(&mut front, types, *name)?;
         add_or_list(alloc, found, *name, &mut copies, errors)?;
-        front.push(*name)?;
     }
     Ok(copies)
 }
@@ -135,34 +125,28 @@ impl<'s> TypeParams<'s> {
     ghost use Rattle.logos_type_params.specs.Generics.{type_at, generics, generics_of, missing_types};
 
     /// A copy of the type that is given to the parameter which this path just names. There is none where the path is more than a name, or where
-    /// no type is given to the name; where several are, the latest is meant, as `set` says. Only want of memory is an error.
+    /// no type is given to the name. Only want of memory is an error.
     pub fn find(&self, path: &TypeExpr<'s>) -> Result<Option<TypeExpr<'s>>, Memory>
         ensures { IfOk result (λ found. option_map type_tree found ≡
             type_at (value_of self.now).types (type_tree path.now)) }
     {
         match &path.part {
-            Part::Name(text) => copy_first(self.types.as_slice(), text),
+            Part::Name(text) => copy_given(&self.types, text),
             _ => Ok(None),
         }
     }
 
     /// What stands between the angle brackets behind the enum's name: `'s` if a lifetime is declared, and then the types that are given to the
     /// declared parameters, in order of declaration. There is nothing where there is neither. A declared name without a type is listed where it is
-    /// declared, as `NoConcreteType`, and stands for nothing; a name that is declared again has no type there. Each name is looked for among those
-    /// declared in front of it and among the given types, so the time grows with the product of their numbers. Only want of memory is an error;
-    /// some of the faults are listed then.
+    /// declared, as `NoConcreteType`, and stands for nothing; a name that is declared again has no type there. Only want of memory is an error;
+    /// some of the faults may be listed then.
     pub fn generics(&self, errors: &mut Errors) -> Result<Option<Generics<'s>>, Memory>
         ensures value { IfOk result (λ made. option_map generics_of made ≡
             generics (value_of self.now)) }
         ensures faults { OnOk result (errors.new ≡ errors.old ++ missing_types
             (value_of self.now).types [] (value_of self.now).names) }
     {
-        let types = copy_types(
-            self.alloc,
-            self.names.as_slice(),
-            self.types.as_slice(),
-            errors,
-        )?;
+        let types = copy_types(self.alloc, self.names.list.as_slice(), &self.types, errors)?;
         Ok(bracketed(self.lifetime, types))
     }
 }

@@ -2,12 +2,13 @@
 ghost use Rattle.std.specs.Prelude.{◌≡◌, ◌++◌, ◌∷◌, [], map, IfOk, OnOk};
 ghost use Rattle.logos_type.specs.TypeTrees.{type_tree};
 ghost use Rattle.logos_type_params.specs.SelfReference.{texts};
-ghost use Rattle.logos_type_params.specs.WrittenTypes.{limit_passed};
+ghost use Rattle.logos_type_params.specs.TypeParams.{limit_type_nesting};
 ghost use Rattle.logos_type_params.specs.inside.Checks.{AsksName};
 
 use super::{TypeParams, list_depth};
 use crate::self_reference::Chains;
 use crate::substitution::{Replacing, type_after};
+use indexmap::IndexSet;
 use logos_token::error::{Errors, Memory};
 use logos_token::token::Span;
 use logos_type::TypeExpr;
@@ -17,13 +18,13 @@ use logos_type_reader::{TYPE_NESTING, TypeFault};
 fn add_held<'s>(
     chains: &mut Chains<'_, 's>,
     text: &'s str,
-    held: &mut Vec<&'s str>,
+    held: &mut IndexSet<&'s str>,
 ) -> Result<(), Memory>
-    ensures { OnOk result (AsksName chains.old text.now (texts held.old.items)
-        chains.new (texts held.new.items)) }
+    ensures { OnOk result (AsksName chains.old text.now (texts held.old.keys)
+        chains.new (texts held.new.keys)) }
 {
     if chains.lead_back(text)? {
-        held.push(text)?;
+        held.insert(text)?;
     }
     Ok(())
 }
@@ -35,7 +36,7 @@ fn leave_written<'s>(
     errors: &mut Errors,
 ) -> Result<TypeExpr<'s>, Memory>
     ensures same { IfOk result (λ left. type_tree left ≡ type_tree written.now) }
-    ensures faults { OnOk result (errors.new ≡ errors.old ++ limit_passed span ∷ []) }
+    ensures faults { OnOk result (errors.new ≡ errors.old ++ limit_type_nesting span ∷ []) }
 {
     list_depth(errors, span)?;
     Ok(written.clone()?)
@@ -47,15 +48,18 @@ impl<'s> TypeParams<'s> {
     ghost use Rattle.logos_type_params.specs.SelfReference.{texts};
     ghost use Rattle.logos_type_params.specs.WrittenTypes.{types_of, params_with, AreHeld, GetsType};
 
-    /// The names of the given types whose chain leads back to them: `get_type` is to leave these in place. A name that several types are given to
-    /// stands there as often. The time grows as that of `check`. Only want of memory is an error.
-    pub fn held_names(&self) -> Result<Vec<&'s str>, Memory>
-        ensures { IfOk result (λ held. AreHeld (types_of self.now) (texts held.items)) }
+    /// The names of the given types whose chain leads back to them: `get_type` is to leave these in place. The time grows as that of `check`. Only
+    /// want of memory is an error.
+    pub fn held_names(&self) -> Result<IndexSet<&'s str>, Memory>
+        ensures { IfOk result (λ held. AreHeld (types_of self.now) (texts held.keys)) }
     {
-        let mut chains = Chains::new(self.alloc, self.types.as_slice())?;
-        let mut held = Vec::new(self.alloc);
-        for param in &self.types {
-            add_held(&mut chains, param.name.text, &mut held)?;
+        let mut chains = Chains::new(self.alloc, &self.types);
+        let mut held = IndexSet::new(self.alloc);
+        for at in 0..self.types.len() {
+            let Some((text, _)) = self.types.get_index(at) else {
+                unreachable!();
+            };
+            add_held(&mut chains, text, &mut held)?;
         }
         Ok(held)
     }
@@ -65,16 +69,16 @@ impl<'s> TypeParams<'s> {
     /// type stays as it is written. Only want of memory is an error; the fault may be listed then.
     pub fn get_type(
         &self,
-        held: &[&'s str],
+        held: &IndexSet<&'s str>,
         written: &TypeExpr<'s>,
         span: Span,
         errors: &mut Errors,
     ) -> Result<TypeExpr<'s>, Memory>
-        ensures { IfOk result (λ got. GetsType (params_with self.now (texts held.now))
+        ensures { IfOk result (λ got. GetsType (params_with self.now (texts held.now.keys))
             (type_tree written.now) span errors.old errors.new (type_tree got)) }
     {
         let params = Replacing {
-            types: self.types.as_slice(),
+            types: &self.types,
             held,
         };
         match type_after(self.alloc, TYPE_NESTING, params, &written.part) {

@@ -2,7 +2,6 @@
 
 ghost use Rattle.std.specs.Prelude.{◌≡◌, []};
 
-use logos_generator::code::Code;
 use logos_generator::generator::{Config, Generator};
 use logos_graph::graph::Graph;
 use logos_pattern::leaf::{Callback, InlineCallback, Leaf, VariantKind};
@@ -159,20 +158,20 @@ pub(super) fn type_of(alloc: Global, given: &'static str) -> Result<TypeExpr<'st
     Ok(TypeExpr { part })
 }
 
-/// The code of a graph without faults, for the enum that is this type, with this callback of errors: as one loop over a state
+/// A generator for a graph without faults, of the enum that is this type, with this callback of errors: as one loop over a state
 /// variable or not.
-pub(super) fn generated(
+pub(super) fn generator<'g>(
     alloc: Global,
     use_state_machine_codegen: bool,
-    graph: &Graph<'static>,
-    this: &TypeExpr<'static>,
-    failed: Option<&Callback<'static>>,
-) -> Result<Code<'static>, AllocError>
+    graph: &'g Graph<'static>,
+    this: &'g TypeExpr<'static>,
+    failed: Option<&'g Callback<'static>>,
+) -> Generator<'g, 'static>
     requires { graph.now.faults ≡ [] }
+    ensures { result.graph ≡ graph.now }
 {
     let config = Config {
         use_state_machine_codegen,
     };
-    let mut generator = Generator::new(alloc, config, NAME, this, graph, failed);
-    generator.generate(alloc)
+    Generator::new(alloc, config, NAME, this, graph, failed)
 }

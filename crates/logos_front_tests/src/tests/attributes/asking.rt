@@ -2,7 +2,7 @@
 
 use super::super::rows::push;
 use super::super::tokens::push_faults;
-use super::types::{push_given, push_lifetimes, push_replaced};
+use super::types::{push_asked, push_given, push_lifetimes, push_replaced};
 use logos_attribute::nested::{AttributeParser, Nested, NestedValue};
 use logos_definition::definition::Definition;
 use logos_definition::error_type::ErrorType;
@@ -35,6 +35,8 @@ pub(in crate::tests) enum Told {
     Replaced,
     /// The type with all its lifetimes set, and with its own ones.
     Lifetimes,
+    /// What a parser answers, call by call, where names are declared.
+    Asked,
 }
 
 /// Adds a callback: what it names, or its parameter, body and place.
@@ -196,6 +198,7 @@ pub(in crate::tests) fn push_attribute(
         Told::Given => push_given(rt, alloc, out, stream.run()),
         Told::Replaced => push_replaced(rt, alloc, out, stream.run()),
         Told::Lifetimes => push_lifetimes(rt, alloc, out, stream.run()),
+        Told::Asked => push_asked(rt, alloc, out, stream.run()),
         _ => push_read(rt, alloc, out, told, stream.run()),
     }
 }

@@ -2,7 +2,7 @@
 
 use super::super::rows::push;
 use super::super::tokens::push_faults;
-use logos_attribute::nested::AttributeParser;
+use logos_attribute::nested::{AttributeParser, Nested};
 use logos_pattern::pattern::Literal;
 use logos_token::error::{Errors, Memory};
 use logos_token::token::tokenize;
@@ -15,6 +15,10 @@ pub(super) const READ: &str = r#"lt : "a", Vec<u8> => literal type none
 lll : b"\xFF", , 'c', d => literal - - 11..14 NotText "Expected a &str or &[u8] slice";
 ltlt : 1 2, "a" => - - - - 0..3 LiteralSyntax "expected a literal";5..8 TypeSyntax "not a type";
 t : A<B, C> => - 0..3 TypeSyntax "not a type";
+tt : A<B, C> => - - 0..3 TypeSyntax "not a type";5..7 TypeSyntax "not a type";
+nlt : ignore(case), "a", u8 => ignore literal type none
+nlt : ignore(case) "a", u8 => ignore literal type none
+nnl : f, b(1), b"c" => - b literal none
 l :  => - none"#;
 
 /// Adds whether a value was read.
@@ -42,7 +46,8 @@ fn reads_type(
     Ok(read.is_some())
 }
 
-/// Adds what becomes of the runs behind ` : `, each read as a literal for `l` in front of it and as a type for `t`, and the faults.
+/// Adds what becomes of the runs behind ` : `, each read as a literal for `l` in front of it, as a type for `t`, and as a piece for `n`,
+/// of which the name is added, and the faults.
 pub(in crate::tests) fn push_parsed(rt: &impl Abort, alloc: Global, out: &mut String, text: &str) {
     let (ways, source) = text.split_once(" : ").expect(rt, "runs");
     let stream = tokenize(alloc, source).expect(rt, "tokens");
@@ -52,9 +57,14 @@ pub(in crate::tests) fn push_parsed(rt: &impl Abort, alloc: Global, out: &mut St
         if way == 'l' {
             let is_read = reads_literal(alloc, &mut parser, &mut errors).expect(rt, "memory");
             push_read(rt, out, "literal ", is_read);
-        } else {
+        } else if way == 't' {
             let is_read = reads_type(alloc, &mut parser, &mut errors).expect(rt, "memory");
             push_read(rt, out, "type ", is_read);
+        } else if let Some(Nested::Named(name, _)) = parser.next() {
+            push(rt, out, name.text);
+            push(rt, out, " ");
+        } else {
+            push(rt, out, "- ");
         }
     }
     push_faults(rt, out, &errors);

@@ -2,8 +2,10 @@
 
 use super::super::rows::push;
 use super::super::tokens::push_faults;
+use indexmap::{IndexMap, IndexSet};
 use logos_attribute::nested::{AttributeParser, Nested, NestedValue};
 use logos_definition::parser::Parser;
+use logos_token::error::FaultCode;
 use logos_token::token::{TokenTree, Tokens};
 use logos_type::{Part, TypeExpr, print_type};
 use logos_type_params::{
@@ -58,16 +60,23 @@ fn part_of<'s>(rt: &impl Abort, alloc: Global, run: Tokens<'_, 's>) -> Part<'s> 
     type_expr.part
 }
 
-/// The types that are assigned to names, one after another.
-fn given<'s>(rt: &impl Abort, alloc: Global, run: Tokens<'_, 's>) -> Vec<TypeParam<'s>> {
-    let mut types = Vec::new(alloc);
+/// The types that are assigned to names, by name: of each name the first one.
+fn given<'s>(
+    rt: &impl Abort,
+    alloc: Global,
+    run: Tokens<'_, 's>,
+) -> IndexMap<&'s str, TypeParam<'s>> {
+    let mut types = IndexMap::new(alloc);
     for nested in AttributeParser::new(run) {
         if let Nested::Named(name, NestedValue::Assign(run)) = nested {
-            let part = part_of(rt, alloc, run);
-            let span = run.span();
-            types
-                .push(TypeParam { name, part, span })
-                .expect(rt, "memory");
+            let param = TypeParam {
+                at: name.span,
+                part: part_of(rt, alloc, run),
+                span: run.span(),
+            };
+            if !types.contains_key(name.text) {
+                let _none = types.insert(name.text, param).expect(rt, "memory");
+            }
         }
     }
     types
@@ -78,13 +87,13 @@ fn push_held<'s>(
     rt: &impl Abort,
     alloc: Global,
     out: &mut String,
-    types: &[TypeParam<'s>],
-) -> Vec<&'s str> {
-    let mut held = Vec::new(alloc);
-    for param in types {
-        if holds_itself(alloc, types, param.name.text).expect(rt, "memory") {
-            held.push(param.name.text).expect(rt, "memory");
-            push(rt, out, param.name.text);
+    types: &IndexMap<&'s str, TypeParam<'s>>,
+) -> IndexSet<&'s str> {
+    let mut held = IndexSet::new(alloc);
+    for text in types.keys() {
+        if holds_itself(alloc, types, text).expect(rt, "memory") {
+            let _added = held.insert(*text).expect(rt, "memory");
+            push(rt, out, text);
             push(rt, out, " ");
         }
     }
@@ -140,6 +149,48 @@ pub(super) fn push_lifetimes(
     push_type(rt, alloc, out, &own);
 }
 
+/// Adds the type that a parameter just named has, what stands in angle brackets behind the enum's name, or `-` for none.
+fn push_concrete<'s>(
+    rt: &impl Abort,
+    alloc: Global,
+    out: &mut String,
+    parser: &mut Parser<'s>,
+    path: &TypeExpr<'s>,
+) {
+    match &parser.types.find(path).expect(rt, "memory") {
+        Some(found) => push_type(rt, alloc, out, found),
+        None => push(rt, out, "-"),
+    }
+    match &parser.generics().expect(rt, "memory") {
+        Some(generics) => {
+            push(rt, out, if generics.lifetime { "; 's" } else { ";" });
+            for type_expr in &generics.types {
+                push(rt, out, " ");
+                push_type(rt, alloc, out, type_expr);
+            }
+        }
+        None => push(rt, out, "; -"),
+    }
+}
+
+/// Adds what the type in the group in front is with its parameters replaced, the type of the parameter that it just names, all types of the
+/// names in the group behind it by the arguments behind that, and the faults, one by the parser's own call behind them.
+pub(super) fn push_asked(rt: &impl Abort, alloc: Global, out: &mut String, run: Tokens<'_, '_>) {
+    let mut parser = Parser::new(alloc);
+    read_given(rt, &mut parser, run.rest());
+    let run = group_of(rt, run);
+    let written = type_of(rt, alloc, run);
+    let got = parser.get_type(&written, run.span()).expect(rt, "memory");
+    push_type(rt, alloc, out, &got);
+    push(rt, out, "; ");
+    push_concrete(rt, alloc, out, &mut parser, &written);
+    parser
+        .err(FaultCode::InvalidNested, "last", run.span())
+        .expect(rt, "memory");
+    push(rt, out, "; ");
+    push_faults(rt, out, &parser.errors);
+}
+
 /// Names that are declared, arguments, and the faults of both.
 pub(super) const GIVEN: &str = r#"(T) type T = u8 => none
 (& &a) => 3..4 ManyLifetimes "Logos types can only have one lifetime";
@@ -185,3 +236,10 @@ A<B = &'a u8> => A < B = & 's u8 >; A < B = & 'a u8 >
 dyn A<'b, &'c u8> + 'd => dyn A < 'b , & 's u8 > + 'd; dyn A < 'b , & 'c u8 > + 'd
 for<'a> fn(&'a A<'b>) -> &u8 => for < 'a > fn ( & 's A < 's > ) -> & 's u8; for < 'a > fn ( & 'a A < 'b > ) -> & u8
 <&'a u8 as P<'b>>::X<'c, &'d u8> => < & 'a u8 as P < 's > > :: X < 's , & 's u8 >; < & 'a u8 as P < 's > > :: X < 's , & 'd u8 >"#;
+
+/// Types, names with the arguments of their types, and what a parser answers call by call.
+pub(super) const ASKED: &str = r#"(&'a T) (& T) type T = Vec<&str> => & 's Vec < & 's str >; -; 's Vec < & 's str >; 1..6 InvalidNested "last";
+(T) (T) type T = u8 => u8; u8; u8; 1..2 InvalidNested "last";
+(T) (T) => T; -; -; 5..6 NoConcreteType "Generic type parameter without a concrete type\n\nDefine a concrete type Logos can use: #[logos(type T = Type)]";1..2 InvalidNested "last";
+(T) () => T; -; -; 1..2 InvalidNested "last";
+(U) (T U) type T = Vec<U>, type U = &'b u8 => & 's u8; & 's u8; Vec < U > & 's u8; 1..2 InvalidNested "last";"#;

@@ -9,13 +9,13 @@ use Rattle.logos_leaf.proofs.source.read_leaves.Goals as goal
 pub returns-in-Ok-clause-said : goal.returns-in-Ok-clause-said
 returns-in-Ok-clause-said c =
     IfOk-weaker c.leaves_with.result _ _ (λ leaves made. record {
-      params = params_with c.args.parser.now.types (texts c.in_ok-held.held.items);
+      params = params_with c.args.parser.now.types (texts c.in_ok-held.held.keys);
       names = names_of c.in-Ok.subpatterns;
       skips = made.of_skips;
       of_held = c.check.new.errors;
       of_subpatterns = c.new.new.errors;
       of_skips = made.faults;
-      given = sym (param_values c.args.parser.now.types.types.items);
+      given = sym (param_values c.args.parser.now.types.types.entries);
       checked = c.in_ok-check.ensures;
       held = c.in_ok-held.ensures;
       subpatterns = rw (c.utf8_mode-mode.ensures, c.as_slice-list.ensures.value) at c.in-Ok.ensures;

@@ -12,7 +12,7 @@ loop-variant-preserved c =
     ≡ variant_value c.variant-item.result ∷ map variant_value (drop (c.loop-variant.variant-index + 1) c.args.variants.now) =
     at_drop_more (λ xs. map variant_value xs) c.args.variants.now c.loop-variant.variant-index c.variant-item.result c.loop-variant-test.true
     ∙ ap (λ x. variant_value x ∷ map variant_value (drop (c.loop-variant.variant-index + 1) c.args.variants.now)) (sym c.variant-item.is) in
-    let added = rw (params_kept c.loop-variant.parser c.args.parser.now (texts c.args.held.now) c.loop-variant.invariant.kept) at c.in_ok-add_variant.ensures.given in
+    let added = rw (params_kept c.loop-variant.parser c.args.parser.now (texts c.args.held.now.keys) c.loop-variant.invariant.kept) at c.in_ok-add_variant.ensures.given in
     record {
       kept = rw c.loop-variant.invariant.kept at c.in_ok-add_variant.ensures.kept;
       completes = λ behind new rest. c.loop-variant.invariant.completes behind new (rw left (one_variant added rest));

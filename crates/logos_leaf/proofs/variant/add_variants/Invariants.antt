@@ -15,7 +15,7 @@ abbrev pub invariant-loop-variant : goal.invariant-loop-variant
 invariant-loop-variant l = record {
   kept : parser_view l.parser ≡ parser_view l.fn.parser;
   completes : (behind : List LeafView) (new : List Fault) →
-      VariantsAdd (params_with l.fn.parser.types (texts l.held)) (names_of l.subpatterns) (map variant_value (drop l.variant-index l.variants)) (map leaf_view l.leaves.items) behind
+      VariantsAdd (params_with l.fn.parser.types (texts l.held.keys)) (names_of l.subpatterns) (map variant_value (drop l.variant-index l.variants)) (map leaf_view l.leaves.items) behind
       l.parser.errors new →
-      VariantsAdd (params_with l.fn.parser.types (texts l.held)) (names_of l.subpatterns) (map variant_value l.variants) (map leaf_view l.fn.leaves.items) behind l.fn.parser.errors new;
+      VariantsAdd (params_with l.fn.parser.types (texts l.held.keys)) (names_of l.subpatterns) (map variant_value l.variants) (map leaf_view l.fn.leaves.items) behind l.fn.parser.errors new;
 }

@@ -20,4 +20,4 @@ returns c =
     on_ok_one c.list_about.result
     (checked_held c.args.name.text (named_of c.args.name) refl c.args.front.now.keys c.insert.new.self.keys i.keys c.args.chains.now c.lead_back.new.self c.args.errors.now c.list_about.new.errors
     (among c.args.name.text c.args.front.now.keys c.in_ok-insert.field-0 true i.added c.if-not-branch.false) c.in_ok-lead_back.field-0 c.if-not-branch-2.false c.in_ok-lead_back.ensures)
-    c.list_about.ensures
+    c.list_about.ensures.ok

@@ -6,7 +6,7 @@ use Rattle.logos_type_params.specs.inside.Chains.{IsSettled}
 use Rattle.logos_type_params.proofs.HeldLemmas.{Asking}
 use Rattle.logos_type_params.proofs.type_params.TypeParams.held_names.Given as goal
 
-abbrev pub invariant-loop-param : goal.invariant-loop-param
-invariant-loop-param l =
-    Asking (map param_value l.fn.self.types.items) (given_names (map param_value (drop l.param-index l.param-items))) (texts l.held.items)
-    × IsSettled (map param_value l.fn.self.types.items) l.chains
+abbrev pub invariant-loop-at : goal.invariant-loop-at
+invariant-loop-at l =
+    Asking (map param_value l.fn.self.types.entries) (given_names (map param_value (drop l.at l.fn.self.types.entries))) (texts l.held.keys)
+    × IsSettled (map param_value l.fn.self.types.entries) l.chains

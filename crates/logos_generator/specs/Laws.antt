@@ -1,0 +1,44 @@
+-- What the laws of the definitions say.
+use Rattle.std.specs.Prelude.{◌≡◌, ℕ, ◌↔◌, Bool, true, IsCharBoundary, List, map}
+use Rattle.std.specs.List.{All}
+use Rattle.logos_hir.specs.Measure.{is_text}
+use Rattle.logos_automaton.specs.Munch.{Rule}
+use Rattle.logos_graph.specs.Found.{FindsTheLongest, IsInput}
+use Rattle.logos_graph.specs.View.{GraphValue, rule_of, rules_of}
+use Rattle.logos_code.specs.Code.{CodeValue}
+use Rattle.logos_code.specs.Headline.{IsCut, IsLexer, RunsAs}
+use Rattle.logos_code.specs.Items.{Callback, Item, Items, IsNext}
+use Rattle.logos_code.specs.Runs.{Runs, RunsOn}
+
+-- A code is a lexer of a graph's rules if it runs as the graph does, in its mode and with the uses of its leaves, and the graph
+-- finds what maximal munch finds.
+abbrev pub GraphsGiveLexers : Type 0
+GraphsGiveLexers = (graph : GraphValue) (code : CodeValue) →
+    FindsTheLongest (rules_of graph.leaves) graph.utf8 graph.states → RunsAs graph.states graph.utf8 code →
+    code.utf8 ≡ graph.utf8 → code.leaves ≡ map (λ leaf. (rule_of leaf).use_of) graph.leaves →
+    IsLexer (rules_of graph.leaves) graph.utf8 code
+
+-- The runs of a lexer's code over an input are the lists of items of maximal munch.
+abbrev pub RunsAreItems : Callback → Type 0
+RunsAreItems callback = (rules : List Rule) (utf8 : Bool) (code : CodeValue) (bytes : List ℕ) (from : ℕ) (items : List Item) →
+    IsLexer rules utf8 code → IsInput utf8 bytes →
+    Runs code callback bytes from items ↔ Items rules callback utf8 bytes from items
+
+-- The next item of a lexer's code, and the place behind it, are those of maximal munch.
+abbrev pub NextIsTheNext : Callback → Type 0
+NextIsTheNext callback = (rules : List Rule) (utf8 : Bool) (code : CodeValue) (bytes : List ℕ) (from : ℕ) (item : Item) (end : ℕ) →
+    IsLexer rules utf8 code → IsInput utf8 bytes →
+    RunsOn code callback bytes from item end ↔ IsNext rules callback utf8 bytes from item end
+
+-- Two lexers of the same rules and mode have the same runs over an input.
+abbrev pub LexersAgree : Callback → Type 0
+LexersAgree callback = (rules : List Rule) (utf8 : Bool) (code other : CodeValue) (bytes : List ℕ) (from : ℕ) (items : List Item) →
+    IsLexer rules utf8 code → IsLexer rules utf8 other → IsInput utf8 bytes →
+    Runs code callback bytes from items ↔ Runs other callback bytes from items
+
+-- Where all rules match text alone, each item of a run from between two characters of a text starts and ends between characters.
+abbrev pub RunsAreCut : Callback → Type 0
+RunsAreCut callback = (rules : List Rule) (code : CodeValue) (bytes : List ℕ) (from : ℕ) (items : List Item) →
+    IsLexer rules true code → All (λ rule. is_text rule.tree ≡ true) rules →
+    IsInput true bytes → IsCharBoundary bytes from →
+    Runs code callback bytes from items → All (IsCut bytes) items

@@ -1,0 +1,52 @@
+//! Names in the order in which they are declared.
+ghost use Rattle.std.specs.Prelude.{map};
+ghost use Rattle.logos_type_params.specs.NameLists.{named_of};
+ghost use Rattle.logos_type_params.specs.inside.Fronts.{AreInFront};
+
+use indexmap::IndexSet;
+use logos_token::error::Memory;
+use logos_token::token::Ident;
+use std::alloc::Global;
+
+/// Declared names, of which one may stand there more than once.
+#[derive(Drop)]
+pub(crate) struct Names<'s> {
+    /// The names, in order of declaration.
+    pub(crate) list: Vec<Ident<'s>>,
+    /// Their texts, each once.
+    pub(crate) texts: IndexSet<&'s str>,
+    ghost same: { AreInFront (map named_of list.items) texts.keys },
+}
+
+impl<'s> Names<'s> {
+    ghost use Rattle.std.specs.Prelude.{◌≡◌, ◌++◌, ◌∷◌, [], map, OnOk, OnErr};
+    ghost use Rattle.logos_type_params.specs.NameLists.{named_of, is_declared};
+
+    /// Without a name.
+    pub(crate) fn new(alloc: Global) -> Names<'s>
+        ensures { result.list.items ≡ [] }
+    {
+        Names {
+            list: Vec::new(alloc),
+            texts: IndexSet::new(alloc),
+        }
+    }
+
+    /// Whether a name is declared.
+    pub(crate) fn contains(&self, text: &str) -> bool
+        ensures { result ≡ is_declared (map named_of self.now.list.items) text.now }
+    {
+        self.texts.contains(text)
+    }
+
+    /// Declares a name, behind all others. After an error the names are as before.
+    pub(crate) fn push(&mut self, name: Ident<'s>) -> Result<(), Memory>
+        ensures ok { OnOk result (self.new.list.items ≡ self.old.list.items ++ name.entry ∷ []) }
+        ensures err { OnErr result (self.new.list.items ≡ self.old.list.items) }
+    {
+        self.texts.reserve(1)?;
+        self.list.push(name)?;
+        self.texts.insert(name.text)?;
+        Ok(())
+    }
+}
