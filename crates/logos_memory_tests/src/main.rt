@@ -9,13 +9,16 @@
 mod asking;
 mod calls;
 mod given;
+mod lending;
 mod lent;
 mod made;
+mod parsing;
 mod plain;
 mod round;
 mod showing;
 mod sources;
 mod telling;
+mod whole;
 
 use asking::{Asking, is_refusing};
 use calls::{CALLS, Call};

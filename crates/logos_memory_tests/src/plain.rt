@@ -1,15 +1,11 @@
 //! Calls that change nothing that the caller holds.
 
 use crate::asking::Asking;
-use crate::given::{Given, SHAPE, first_type, last_literal, last_token, said_of};
+use crate::given::{Given, first_type, last_literal, last_token};
 use crate::telling::{
-    tell_callback, tell_generated, tell_graph, tell_item, tell_kind, tell_literal, tell_pattern,
-    tell_run, tell_type,
+    tell_callback, tell_item, tell_kind, tell_literal, tell_pattern, tell_run, tell_type,
 };
-use logos_codegen::expr::{ExprError, Language};
-use logos_codegen::machine::Action;
-use logos_codegen::{LexSourceError, Refusal, generate, lex_source, strip_attributes};
-use logos_graph::graph::{BuildError, Config, Graph};
+use crate::whole::{ask_expression, ask_generated, ask_graph, ask_items, ask_language, ask_strip};
 use logos_item::{ReadError, read_enum};
 use logos_parser::parser::{replace_lifetime, replace_lifetimes};
 use logos_pattern::leaf::{Callback, VariantKind};
@@ -69,12 +65,6 @@ pub enum TypeCall {
     ReplaceLifetimes,
     ReplaceLifetime,
 }
-
-/// Inputs are bytes, whatever the source says, so that no leaf is refused.
-const MODE: Config = Config { utf8_mode: false };
-
-/// A text of the tokenizer of expressions.
-const EXPRESSION: &str = "let x1 = 40 + 2";
 
 /// A buffer that is made of a run, tree by tree.
 fn made_of<'s>(alloc: Global, run: Tokens<'_, 's>) -> Result<TokenStream<'s>, Memory> {
@@ -301,89 +291,6 @@ fn ask_held(asking: &mut Asking, given: &Given<'_>) -> Result<(), Memory> {
     match answer {
         Ok(names) => asking.tell(&names),
         Err(Memory) => asking.lack(),
-    }
-}
-
-/// Asks for the graph of leaves, which goes with them.
-fn ask_graph(asking: &mut Asking, given: &Given<'_>) -> Result<(), Memory> {
-    let said = Box::into_inner(said_of(asking.alloc, given.source.text)?);
-    asking.begin();
-    let answer = Graph::new(asking.alloc, said.leaves, MODE);
-    asking.end();
-    match answer {
-        Ok(graph) => tell_graph(asking, &graph),
-        Err(BuildError::Memory) => asking.lack(),
-        Err(error) => asking.tell(&error),
-    }
-}
-
-/// Asks for the source without what belongs to the derive macro.
-fn ask_strip(asking: &mut Asking, given: &Given<'_>) -> Result<(), Memory> {
-    asking.begin();
-    let answer = strip_attributes(asking.alloc, given.source.text);
-    asking.end();
-    match answer {
-        Ok(stream) => tell_run(asking, stream.run()),
-        Err(Refusal::Memory) => asking.lack(),
-        Err(Refusal::Errors(errors)) => asking.tell(&errors),
-    }
-}
-
-/// Asks for what the source gives.
-fn ask_generated(asking: &mut Asking, given: &Given<'_>) -> Result<(), Memory> {
-    asking.begin();
-    let answer = generate(asking.alloc, given.source.text, SHAPE);
-    asking.end();
-    match answer {
-        Ok(generated) => tell_generated(asking, &generated),
-        Err(Refusal::Memory) => asking.lack(),
-        Err(Refusal::Errors(errors)) => asking.tell(&errors),
-    }
-}
-
-/// Asks for the items of the input.
-fn ask_items(asking: &mut Asking, given: &Given<'_>) -> Result<(), Memory> {
-    let emit = |_leaf, _slice: &[u8]| Action::Emit;
-    asking.begin();
-    let answer = lex_source(
-        asking.alloc,
-        given.source.text,
-        SHAPE,
-        given.source.input,
-        emit,
-    );
-    asking.end();
-    match answer {
-        Ok(items) => asking.tell(&items),
-        Err(LexSourceError::Memory) => asking.lack(),
-        Err(error) => asking.tell(&error),
-    }
-}
-
-/// Asks for the tokenizer of expressions, which is told by the tokens of a text.
-fn ask_language(asking: &mut Asking) -> Result<(), Memory> {
-    asking.begin();
-    let answer = Language::new(asking.alloc);
-    asking.end();
-    match answer {
-        Ok(language) => asking.tell(&language.tokens(asking.alloc, EXPRESSION)),
-        Err(ExprError::Memory) => asking.lack(),
-        Err(error) => asking.tell(&error),
-    }
-}
-
-/// Asks for the tokens of an expression.
-fn ask_expression(asking: &mut Asking) -> Result<(), Memory> {
-    let Ok(language) = Language::new(asking.alloc) else {
-        return Err(Memory);
-    };
-    asking.begin();
-    let answer = language.tokens(asking.alloc, EXPRESSION);
-    asking.end();
-    match answer {
-        Ok(tokens) => asking.tell(&tokens),
-        Err(ExprError::Memory) => asking.lack(),
-        Err(error) => asking.tell(&error),
     }
 }
 

@@ -1,7 +1,7 @@
 //! What is lent to a call, as a text.
 
 use crate::asking::Asking;
-use crate::lent::Lent;
+use crate::lending::Lent;
 use crate::telling::{tell_any, tell_definition, tell_generics, tell_literal, tell_run};
 use logos_definition::error_type::ErrorType;
 use logos_definition::parser::Parser;
