@@ -17,7 +17,7 @@ for crate in "$bench"/../crates/*/out; do
     name=$(basename "$(dirname "$crate")")
     cp -R "$crate" "$copy/crates/$name/out"
 done
-echo "calls_bench: logos_codegen logos_generator logos_graph logos_parser logos_pattern logos_source logos_text logos_token logos_type" \
+echo "calls_bench: indexmap logos_codegen logos_generator logos_graph logos_parser logos_pattern logos_source logos_text logos_token logos_type" \
     >> "$copy/crates.txt"
 crate="$copy/crates/calls_bench"
 mkdir -p "$crate/src" "$crate/specs" "$crate/proofs"

@@ -7,6 +7,7 @@ use crate::parsing::{
     name_definition, name_error_type, parse_attributes, parse_groups, parse_parameters,
 };
 use crate::telling::{tell_definition, tell_generics, tell_literal, tell_type};
+use indexmap::IndexSet;
 use logos_graph::byte_class::ByteClass;
 use logos_item::split_attribute;
 use logos_parser::parser::{Literal, Subpatterns};
@@ -173,8 +174,8 @@ fn type_by<'s>(
         TypeCall::Parsed => lent.pieces.parsed::<TypeExpr<'s>>(alloc, &mut lent.errors),
         TypeCall::Find => parser.types.find(&path),
         TypeCall::GetType => {
-            let errors = &mut lent.errors;
-            Ok(Some(parser.types.get_type(&[], &path, SPAN, errors)?))
+            let (held, errors) = (IndexSet::new(alloc), &mut lent.errors);
+            Ok(Some(parser.types.get_type(&held, &path, SPAN, errors)?))
         }
         TypeCall::ParserGetType => Ok(Some(parser.get_type(&path, SPAN)?)),
     }
