@@ -109,7 +109,7 @@ accepted_once source rules rules' utf8 utf8' a b =
 -- a source without faults within the limits is not refused
 accepted_or_refused : (source : List ℕ) (rules : List Rule) (utf8 : Bool) (faults : List ListedFault) → IsAccepted source rules utf8 → IsWithinLimits source rules → IsRefused source faults → ⊥
 accepted_or_refused source rules utf8 faults a limits (unread ends is) = ends_excludes source rules a.enum a.item _ a.says limits ends
-accepted_or_refused source rules utf8 faults a limits (faulty {enum} {item} {leaves} says listed some) =
+accepted_or_refused source rules utf8 faults a limits (faulty {enum} {item} {leaves} short shallow says listed some) =
     let same = one_value source a.enum enum a.item item a.says says in
     let own : EnumSays enum a.leaves a.rest [] = rw same.0 at a.enum_says in
     let once = enum_once enum a.leaves leaves a.rest listed.rest listed.enum_faults own listed.says in

@@ -157,9 +157,9 @@ module _ (source : List ℕ) (enum : EnumValue) (item : Span) (leaves : List Lea
   }
 
   -- some faults up to those of the graph refuse the source
-  pub graph_refuses : (error : Refusal) → RefusesSource (AreGraphFaults leaves (utf8_mode rest) item before) error → RefusesSource (IsRefused source) error
-  graph_refuses error r =
-      refuses_by (AreGraphFaults leaves (utf8_mode rest) item before) (IsRefused source) (λ faults f. faulty says (all_listed faults f.1.0 f.1.1) f.0) error r
+  pub graph_refuses : length source ≤ 16777216 → IsShallow source → (error : Refusal) → RefusesSource (AreGraphFaults leaves (utf8_mode rest) item before) error → RefusesSource (IsRefused source) error
+  graph_refuses short shallow error r =
+      refuses_by (AreGraphFaults leaves (utf8_mode rest) item before) (IsRefused source) (λ faults f. faulty short shallow says (all_listed faults f.1.0 f.1.1) f.0) error r
 
   -- where nothing is listed, the graph is that of an accepted source
   pub graph_made : (name : Slice) (graph : GraphValue) → length source ≤ 16777216 → IsShallow source → enum.name ≡ name →

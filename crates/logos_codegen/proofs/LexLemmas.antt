@@ -26,6 +26,7 @@ use Rattle.logos_source.specs.Refusals.{IsMemory}
 use Rattle.logos_source.specs.Utf8Faults.{utf8_fault, utf8_faults}
 use Rattle.logos_codegen.specs.Rules.{rule_said, rules_said}
 use Rattle.logos_codegen.specs.Source.{IsAccepted}
+use Rattle.logos_codegen.specs.RunLaws.{anything, RunsAreCut}
 use Rattle.logos_codegen.specs.Refusals.{IsUnlexed, IsJust, IsNoRefusal, IsThatRefusal}
 use Rattle.logos_source.specs.declared.refusal.Refusal.{Refusal}
 use Rattle.logos_source.specs.declared.refusal.Refusal.TheVariants.{Errors, Memory}
@@ -115,6 +116,19 @@ module _ (source : List ℕ) (rules : List Rule) (utf8 : Bool) (code : CodeValue
         let items' : Items others callback true bytes 0 items = rw (same.0, same.1) at items_are in
         items_cut bytes is_utf8 others (accepted_texts source others a) callback (IsCharBoundary-start bytes is_utf8) items'
 
+    -- the items are those of a run of each code of the source
+    pub are_run : (others : List Rule) (other : Bool) (next : CodeValue) → IsAccepted source others other → IsLexer others other next → Runs next callback bytes 0 items
+    are_run others other next a l =
+        let same = accepted_once source rules others utf8 other accepted a in
+        let items' : Items others callback other bytes 0 items = rw (same.0, same.1) at items_are in
+        let input' : IsInput other bytes = rw same.1 at input in
+        (runs_iff others other next callback bytes 0 items l input').1 items'
+
+  -- in UTF-8 mode all runs are between characters
+  pub runs_are_cut : IsTrue utf8 → RunsAreCut code
+  runs_are_cut text bytes items are valid runs =
+      are_cut anything bytes items (are, λ t. valid) runs rules (rw text at accepted)
+
 -- what is not lexed by the code of an accepted source
 pub unlexed_just : (source : List ℕ) (rules : List Rule) (utf8 : Bool) (code : CodeValue) (input : List ℕ) → IsAccepted source rules utf8 → IsLexer rules utf8 code →
     {T : Type 0} (result : Result T LexSourceError) → IfErr result (IsUnlexed code input) → IfErr result (IsJust source input)
@@ -155,3 +169,8 @@ module _ (source : List ℕ) (rules : List Rule) (utf8 : Bool) (code : CodeValue
       (others : List Rule) → IsAccepted source others true → IfOk result (λ items. All (IsCut bytes) (map item_of items.items))
   cut_of_result (Ok items) r text others a = are_cut source rules utf8 code accepted lexer callback bytes (map item_of items.items) (input_of text) r others a
   cut_of_result (Err error) r text others a = tt
+
+  pub shapes_of_result : (result : Result (Vec TheItem Global) LexSourceError) → IfOk result (λ items. Runs code callback bytes 0 (map item_of items.items)) → IfOk result (λ items. IsTrue code.utf8 → IsUtf8 bytes) →
+      (others : List Rule) (other : Bool) (next : CodeValue) → IsAccepted source others other → IsLexer others other next → IfOk result (λ items. Runs next callback bytes 0 (map item_of items.items))
+  shapes_of_result (Ok items) r text others other next a l = are_run source rules utf8 code accepted lexer callback bytes (map item_of items.items) (input_of text) r others other next a l
+  shapes_of_result (Err error) r text others other next a l = tt

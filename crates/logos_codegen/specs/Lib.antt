@@ -4,5 +4,6 @@ pub mod Source
 pub mod Given
 pub mod Refusals
 pub mod Steps
+pub mod RunLaws
 pub mod Language
 pub mod Tokenizing

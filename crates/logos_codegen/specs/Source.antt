@@ -35,10 +35,10 @@ pub record IsAccepted (source : List ℕ) (rules : List Rule) (utf8 : Bool) : Ty
   pub same_rules : rules ≡ rules_said leaves
   pub same_mode : utf8 ≡ utf8_mode rest
 
--- Why a source is refused: one fault that ends the reading, or all faults of its enum, of which there are some.
+-- Why a source is refused: one fault that ends the reading; or, within the limits on length and nesting, all faults of its enum, of which there are some.
 pub data IsRefused (source : List ℕ) (faults : List ListedFault) : Type 0 where
   unread : {fault : ListedFault} → EndsReading source fault → faults ≡ fault ∷ [] → IsRefused source faults
-  faulty : {enum : EnumValue} {item : Span} {leaves : List LeafView} →
+  faulty : {enum : EnumValue} {item : Span} {leaves : List LeafView} → length source ≤ 16777216 → IsShallow source →
       Says source enum item → AreListed enum item faults leaves → faults ≢ [] → IsRefused source faults
 
 -- The length of the source and the nesting of its delimiters are within their limits, and so is the size of the trees of the rules.

@@ -20,6 +20,7 @@ ghost use Rattle.logos_text.specs.Standing.{StandInOrder};
 ghost use Rattle.logos_text.specs.Texts.{texts_of};
 ghost use Rattle.logos_codegen.specs.Texts.{named_leaf, listed_of};
 ghost use Rattle.logos_codegen.specs.Given.{IsGiven, KeepsSaid, error_callback};
+ghost use Rattle.logos_codegen.specs.RunLaws.{RunsAreCut};
 ghost use Rattle.logos_codegen.specs.Source.{IsAccepted, IsRefused};
 ghost use Rattle.logos_codegen.specs.Source.{IsWithinSizes, IsWithinLimits};
 ghost use Rattle.logos_codegen.specs.Steps.{IsLimit, ListsGraph, IsFaultless, AreGraphFaults};
@@ -361,6 +362,9 @@ pub fn generate<'s>(alloc: Global, src: &'s str, config: Config) -> Result<Gener
     // At each place of each input the code finds exactly what maximal munch finds there.
     ensures lexer { IfOk result (λ made. IsLexer
         (rules_of made.graph.leaves) made.graph.utf8 made.code) }
+    // In UTF-8 mode the items of each run of the code on a text start and end between characters,
+    // whatever callbacks answer.
+    ensures cut { IfOk result (λ made. IsTrue made.graph.utf8 → RunsAreCut made.code) }
     // What is refused has these faults.
     ensures refused { IfErr result (Refuses (IsRefused src.now)) }
     // A source that is longer than the limit has that one fault.

@@ -4,7 +4,8 @@ ghost use Rattle.std.specs.Prelude.{◌≡◌, ℕ, List, Bool, map, length, tru
 ghost use Rattle.std.specs.List.{All};
 ghost use Rattle.std.specs.Str.{IsUtf8, IsValidUpTo};
 ghost use Rattle.logos_automaton.specs.Munch.{Rule};
-ghost use Rattle.logos_code.specs.Headline.{IsCut};
+ghost use Rattle.logos_code.specs.Code.{CodeValue};
+ghost use Rattle.logos_code.specs.Headline.{IsCut, IsLexer};
 ghost use Rattle.logos_code.specs.Items.{Items};
 ghost use Rattle.logos_machine.specs.LexerValue.{answers_of, item_of};
 ghost use Rattle.logos_code.specs.Order.{AreInOrder, Parts, IsMatch};
@@ -134,6 +135,10 @@ pub fn lex_source<'i, C: Fn(LeafId, &[u8]) -> Action + Drop>(
     // In UTF-8 mode each item starts and ends between characters.
     ensures cut { (rules : List Rule) → IsAccepted src.now rules true →
         IfOk result (λ items. All (IsCut input.now) (map item_of items.items)) }
+    // Each code of the source, in either shape, has a run with the same items.
+    ensures shapes { (rules : List Rule) (utf8 : Bool) (code : CodeValue) →
+        IsAccepted src.now rules utf8 → IsLexer rules utf8 code → IfOk result (λ items.
+        Runs code (answers_of C.Fn callbacks) input.now 0 (map item_of items.items)) }
     ensures err { IfErr result (IsJust src.now input.now) }
     // A source without faults, within the limits, is not refused.
     ensures accepted { (rules : List Rule) (utf8 : Bool) → IsAccepted src.now rules utf8 →

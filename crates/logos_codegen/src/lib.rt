@@ -16,4 +16,5 @@ pub use logos_parser::{item, nested, parser};
 pub use logos_pattern::{leaf, pattern};
 pub use logos_source::refusal::Refusal;
 pub use logos_strip::stripping::strip_attributes;
+pub use logos_text::text;
 pub use logos_token::{error, token, util};

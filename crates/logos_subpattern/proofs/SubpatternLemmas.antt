@@ -11,6 +11,7 @@ use Rattle.logos_hir.specs.Tree.{Tree}
 use Rattle.logos_pattern_tokens.specs.declared.error.PatternError.{PatternError}
 use Rattle.logos_pattern_tokens.specs.declared.error.PatternError.TheVariants as errors
 use Rattle.logos_syntax.specs.Grammar.{Refuses, first_flags}
+use Rattle.logos_syntax.specs.Nesting.{IsTooDeep}
 use Rattle.logos_attribute.specs.Slices.{Slice}
 use Rattle.logos_subpattern.specs.declared.subpattern.Subpattern.{Subpattern}
 use Rattle.logos_subpattern.specs.PatternFaults.{IsRead, Reads, spelled, broken, too_deep}
@@ -92,7 +93,8 @@ put_once name entries found l f =
 pub read_tree : (unicode ignore_case : Bool) (text : List ℕ) (span : Span) (tree : Tree) (faults : List Fault) → Reads unicode ignore_case text (spelled tree) → IsRead unicode ignore_case text span (Some tree) faults faults
 read_tree unicode ignore_case text span tree faults r = record { reading = spelled tree; reads = r; is_tree = refl; lists = sym (append-nil faults) }
 
-pub read_error : (unicode ignore_case : Bool) (text : List ℕ) (span : Span) (error : PatternError) (old new : List Fault) → Refuses (first_flags unicode ignore_case) text error → ListsError error span old new → IsRead unicode ignore_case text span None old new
-read_error unicode ignore_case text span (errors.Syntax kind at) old new r l = record { reading = broken kind at; reads = r; is_tree = refl; lists = l }
-read_error unicode ignore_case text span errors.LimitPatternNesting old new r l = record { reading = too_deep; reads = r; is_tree = refl; lists = l }
-read_error unicode ignore_case text span errors.Memory old new r l = absurd l
+pub read_error : (unicode ignore_case : Bool) (text : List ℕ) (span : Span) (error : PatternError) (old new : List Fault) → Refuses (first_flags unicode ignore_case) text error →
+    (error ≡ errors.LimitPatternNesting → IsTooDeep (first_flags unicode ignore_case) text) → ListsError error span old new → IsRead unicode ignore_case text span None old new
+read_error unicode ignore_case text span (errors.Syntax kind at) old new r d l = record { reading = broken kind at; reads = r; is_tree = refl; lists = l }
+read_error unicode ignore_case text span errors.LimitPatternNesting old new r d l = record { reading = too_deep; reads = (r, d refl); is_tree = refl; lists = l }
+read_error unicode ignore_case text span errors.Memory old new r d l = absurd l

@@ -7,6 +7,7 @@ use Rattle.logos_token.specs.Faults.{Fault}
 use Rattle.logos_pattern_tokens.specs.declared.error.Kind.{Kind}
 use Rattle.logos_pattern_tokens.specs.declared.error.Kind.TheVariants as kinds
 use Rattle.logos_syntax.specs.Grammar.{IsFound, IsSpelled, first_flags}
+use Rattle.logos_syntax.specs.Nesting.{IsTooDeep}
 use Rattle.logos_pattern_tokens.specs.Token.{Text}
 use Rattle.logos_hir.specs.Tree.{Tree}
 use Rattle.logos_attribute.specs.Told.{fault, only}
@@ -17,14 +18,15 @@ pub data Reading : Type 0 where
   spelled : (tree : Tree) → Reading
   -- it spells none; what the fault says of it is left open
   broken : (kind : Kind) (at : ℕ) → Reading
-  -- it nests too deep
+  -- it spells none within the limit, and a beginning of it nests deeper
   too_deep : Reading
 
 -- a text is read so, where the flags `u` and `i` are as they are given
 abbrev pub Reads : (unicode ignore_case : Bool) → Text → Reading → Type 0
 Reads unicode ignore_case text (spelled tree) = IsFound (first_flags unicode ignore_case) text tree
 Reads unicode ignore_case text (broken kind at) = (depth : ℕ) → IsSpelled (first_flags unicode ignore_case) text depth → ⊥
-Reads unicode ignore_case text too_deep = (depth : ℕ) → IsSpelled (first_flags unicode ignore_case) text depth → 250 < depth
+Reads unicode ignore_case text too_deep =
+    ((depth : ℕ) → IsSpelled (first_flags unicode ignore_case) text depth → 250 < depth) × IsTooDeep (first_flags unicode ignore_case) text
 
 -- its tree, if it has one
 abbrev pub tree_in : Reading → Option Tree

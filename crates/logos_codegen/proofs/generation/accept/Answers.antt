@@ -18,4 +18,4 @@ pub returns-clause-err : goal.returns-clause-err
 returns-clause-err c =
     let said = c.in-Ok.ensures.ok in
     graph_refuses c.args.src.now said.enum c.in-Ok.said.span c.in-Ok.said.leaves.items (parser_view c.in-Ok.said.parser) c.in-Ok.said.parser.errors said.says said.enum_says
-    c.in-Err-graph_said.refusal c.in-Err-graph_said.ensures.err
+    c.in-Ok.ensures.short c.in-Ok.ensures.shallow c.in-Err-graph_said.refusal c.in-Err-graph_said.ensures.err

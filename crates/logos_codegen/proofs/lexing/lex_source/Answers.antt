@@ -1,6 +1,6 @@
 use Rattle.logos_graph.specs.View.{rules_of}
 use Rattle.logos_machine.specs.LexerValue.{answers_of}
-use Rattle.logos_codegen.proofs.LexLemmas.{memory_no_refusal, are_bytes, items_of_result, order_of_result, parts_of_result, cut_of_result, unlexed_just, unlexed_no_refusal}
+use Rattle.logos_codegen.proofs.LexLemmas.{memory_no_refusal, are_bytes, items_of_result, order_of_result, parts_of_result, cut_of_result, shapes_of_result, unlexed_just, unlexed_no_refusal}
 use Rattle.logos_codegen.proofs.lexing.lex_source.Goals as goal
 
 pub returns-in-Err-clause-accepted : goal.returns-in-Err-clause-accepted
@@ -28,6 +28,12 @@ pub returns-in-Ok-clause-cut : goal.returns-in-Ok-clause-cut
 returns-in-Ok-clause-cut g c =
     let made = c.in-Ok.ensures in
     cut_of_result c.args.src.now (rules_of c.in-Ok.generated.graph.leaves) c.in-Ok.generated.graph.utf8 c.in-Ok.generated.code made.accepted made.lexer
+    (answers_of g.C.Fn c.args.callbacks) c.args.input.now (are_bytes c.args.input.now c.type_inv.input) c.lex_input.result c.lex_input.ensures.items c.lex_input.ensures.text
+
+pub returns-in-Ok-clause-shapes : goal.returns-in-Ok-clause-shapes
+returns-in-Ok-clause-shapes g c =
+    let made = c.in-Ok.ensures in
+    shapes_of_result c.args.src.now (rules_of c.in-Ok.generated.graph.leaves) c.in-Ok.generated.graph.utf8 c.in-Ok.generated.code made.accepted made.lexer
     (answers_of g.C.Fn c.args.callbacks) c.args.input.now (are_bytes c.args.input.now c.type_inv.input) c.lex_input.result c.lex_input.ensures.items c.lex_input.ensures.text
 
 pub returns-in-Ok-clause-err : goal.returns-in-Ok-clause-err
