@@ -236,8 +236,8 @@ fn shapes_names_types_and_priorities_are_kept(rt: HostRuntime) -> Result<(), Fai
     answer_so(rt, alloc, true, Ask::Kept, &[(README, by_states)])?;
     answer_so(rt, alloc, false, Ask::Kept, &[(README, by_functions)])?;
     answer_so(rt, alloc, true, Ask::Priority, faults::PRIORITIES)?;
-    for (written, cases) in types::TYPES {
-        answer_so(rt, alloc, true, Ask::Type(written), cases)?;
+    for row in types::TYPES {
+        answer_so(rt, alloc, true, Ask::Type(row.0), row.1)?;
     }
     Ok(())
 }
