@@ -26,31 +26,32 @@ fail() {
 # Runs the program with the request of this number refused, 0 for none, and keeps what it writes, to the file of a chart too, and its
 # status.
 answer() {
-    local number=$1 to=$2 status=0
+    local number=$1 to=$2
     shift 2
-    rm -rf charts "$to.chart"
+    status=0
+    [ "$1" != export ] || rm -rf charts "$to.chart"
     LD_PRELOAD="$room/refuse.so" REFUSE=$number REQUESTS="$room/requests" \
         "$program" "$@" > "$to.out" 2> "$to.err" || status=$?
-    echo "$status" > "$to.status"
-    cat charts/*/*.mmd > "$to.chart" 2> /dev/null || true
+    [ "$1" != export ] || cat charts/*/*.mmd > "$to.chart" 2> /dev/null || true
 }
 
 # The words of a command, with each of its requests refused in turn.
 refuse_each() {
-    local number
+    local number requests wanted
+    rm -f "$room"/*.chart
+    touch "$room/ample.chart" "$room/one.chart"
     answer 0 "$room/ample" "$@"
-    local requests
-    requests=$(cat "$room/requests")
+    wanted=$status
+    requests=$(< "$room/requests")
     for ((number = 1; number <= requests; number++)); do
         answer "$number" "$room/one" "$@"
         refused=$((refused + 1))
-        if [ "$(cat "$room/one.status")" = 3 ] && [ ! -s "$room/one.out" ] && [ ! -s "$room/one.chart" ] \
-            && [ "$(cat "$room/one.err")" = "out of memory" ]; then
+        if [ "$status" = 3 ] && [ ! -s "$room/one.out" ] && [ ! -s "$room/one.chart" ] && [ "$(< "$room/one.err")" = "out of memory" ]; then
             told=$((told + 1))
-        elif ! cmp -s "$room/one.status" "$room/ample.status" || ! cmp -s "$room/one.out" "$room/ample.out" \
+        elif [ "$status" != "$wanted" ] || ! cmp -s "$room/one.out" "$room/ample.out" \
             || ! cmp -s "$room/one.err" "$room/ample.err" || ! cmp -s "$room/one.chart" "$room/ample.chart"; then
             cat "$room/one.out" "$room/one.err" >&2
-            fail "request $number of $* is answered with status $(cat "$room/one.status")"
+            fail "request $number of $* is answered with status $status"
         fi
     done
 }

@@ -1,12 +1,14 @@
 #!/usr/bin/env bash
 # Compiles the Rust texts that `logos gen` prints and compares what they find with `logos lex`.
 #
-# Each source of scripts/rust_text/sources is stripped, and printed in both shapes. rustc compiles all texts at once beside a small runtime,
-# and what comes of each input of scripts/rust_text/inputs is compared, item by item. A source has each attribute on a line of its own,
-# and at most one on a variant, so that a variant's place tells its leaf. A source with callbacks, values or parameters may have more;
+# Each source of scripts/rust_text/sources, and some from elsewhere in the repository, is stripped, and printed in both shapes. rustc compiles all
+# texts at once beside a small runtime, and what comes of each input of scripts/rust_text/inputs is compared, item by item; a source with
+# inputs of its own in scripts/rust_text/own, NAME or NAME.ANYTHING, reads these alone. The lines of scripts/rust_text/rows are small sources: a
+# name, an enum, and inputs, parted by tabs. A source has at most one attribute on a variant, so that a variant's place tells its leaf, and each
+# skip on a line of its own. A source with callbacks, values or parameters may have more;
 # beside it stands a file of this name in scripts/rust_text/beside, with the Rust items that it names, the type of its tokens and the
 # leaf of each. Its callbacks keep what they match, as `logos lex` does. Where an input is refused, since it is not UTF-8, nothing is
-# compared.
+# compared. Derives that rustc does not know do nothing.
 #
 # Callbacks of skips, callbacks that refuse what they match or leave it out, and the one that makes errors are told too. Of a source with a
 # file of its name in scripts/rust_text/told the skips stand in `skip(..)`, and `logos lex` is asked with each of them as a variant in front of the
@@ -45,12 +47,30 @@ wanted_lines() {
     sed -f "$root/scripts/rust_text/told/$name.sed" "$room/matches" > "$room/wanted"
 }
 
+# All sources and the inputs of each, in two folders.
+mkdir "$room/sources" "$room/inputs"
+cp "$root"/scripts/rust_text/sources/*.rs "$root"/bench/lexer/rules/*.rs "$root"/docs/guide/{color,expr}.rs "$room/sources"
+cp "$root/crates/logos_program/data/t.rs" "$room/sources/first_enum.rs"
+for source in "$room"/sources/*.rs; do
+    name=$(basename "$source" .rs)
+    mkdir "$room/inputs/$name"
+    cp "$root/scripts/rust_text/own/$name"{,.*} "$room/inputs/$name" 2> /dev/null \
+        || [ -n "$(ls "$room/inputs/$name")" ] || cp "$root"/scripts/rust_text/inputs/* "$room/inputs/$name"
+done
+while IFS=$'\t' read -r -a row; do
+    mkdir "$room/inputs/${row[0]}"
+    printf '%s\n' "${row[1]}" > "$room/sources/${row[0]}.rs"
+    for ((n = 2; n < ${#row[@]}; n++)); do
+        printf '%b' "${row[n]}" > "$room/inputs/${row[0]}/$n"
+    done
+done < "$root/scripts/rust_text/rows"
+
 # A module for each source and shape, and an arm for each in `main`.
 cp "$root/scripts/rust_text/main.rs.in" "$room/main.rs"
 arms=
-for source in "$root"/scripts/rust_text/sources/*.rs; do
+for source in "$room"/sources/*.rs; do
     name=$(basename "$source" .rs)
-    enum=$(sed -n 's/^enum \([A-Za-z]*\) {$/\1/p' "$source")
+    enum=$(sed -n 's/^\(.* \)\{0,1\}enum \([A-Za-z]*\) {.*/\2/p' "$source")
     skips=$(grep -c '^#\[logos(skip' "$source" || true)
     told='|_, _| ()'
     if [ -e "$root/scripts/rust_text/told/$name.sed" ]; then
@@ -65,7 +85,7 @@ for source in "$root"/scripts/rust_text/sources/*.rs; do
           if [ -e "$root/scripts/rust_text/beside/$name.rs" ]; then
               cat "$root/scripts/rust_text/beside/$name.rs"
               echo "pub fn lines(input: &[u8]) { super::lines::<Tokens>(super::Input::of(input), leaf, $told) }"
-          elif grep -q '^    [A-Z]' "$source"; then
+          elif [ "$name" != nothing ]; then
               echo "pub fn lines(input: &[u8]) { super::lines::<$enum>(super::Input::of(input), |_, token| token as usize + $skips, $told) }"
           else
               echo "pub fn lines(input: &[u8]) { super::lines::<$enum>(super::Input::of(input), |_, token| match token {}, $told) }"
@@ -80,12 +100,13 @@ done
   echo "match (words[1].as_str(), words[2].as_str()) { $arms _ => panic!(\"no such text\") }"
   echo "}"; } >> "$room/main.rs"
 rustc --edition 2021 --crate-type rlib --crate-name logos -o "$room/liblogos.rlib" "$root/scripts/rust_text/runtime.rs"
-rustc --edition 2021 --extern "logos=$room/liblogos.rlib" -o "$room/items" "$room/main.rs"
+rustc --edition 2021 --crate-type proc-macro --crate-name serde -o "$room/libserde.so" "$root/scripts/rust_text/serde.rs"
+rustc --edition 2021 --extern "logos=$room/liblogos.rlib" --extern "serde=$room/libserde.so" -o "$room/items" "$room/main.rs"
 
 compared=0
-for source in "$root"/scripts/rust_text/sources/*.rs; do
+for source in "$room"/sources/*.rs; do
     name=$(basename "$source" .rs)
-    for input in "$root"/scripts/rust_text/inputs/*; do
+    for input in "$room/inputs/$name"/*; do
         for shape in state_machine tailcall; do
             if ! wanted_lines "$source" "$input" "$shape"; then
                 grep -q '^NotUtf8 ' "$room/said" || { cat "$room/said" >&2; exit 1; }

@@ -202,11 +202,11 @@ pub(super) fn push_nodes(alloc: Global, text: &mut String, code: &Code<'_>) -> R
 fn push_loop_over(
     text: &mut String,
     generator: &mut Generator<'_, 'static>,
-    data: &StateData,
+    state_data: &StateData,
 ) -> Result<(), Memory>
     ensures { OnOk result (generator.new.graph ≡ generator.old.graph) }
 {
-    let Some(edge) = data.normal.first() else {
+    let Some(edge) = state_data.normal.first() else {
         return Ok(text.push_str("; ")?);
     };
     let node = generator.impl_fast_loop(&edge.0)?;
@@ -220,19 +220,19 @@ fn push_nodes_at(
     text: &mut String,
     generator: &mut Generator<'_, 'static>,
     state: State,
-    data: &StateData,
+    state_data: &StateData,
 ) -> Result<(), Memory>
-    requires codable { IsCodable (graph_state_of data.now) }
+    requires codable { IsCodable (graph_state_of state_data.now) }
     requires within { state_number state < length generator.old.graph.states }
     ensures { OnOk result (generator.new.graph ≡ generator.old.graph) }
 {
     if let Some(node) = generator.maybe_impl_fast_loop(state)? {
         write!(text, "loop {} ", node.test)?;
     }
-    push_fork(text, &generator.impl_fork(alloc, state, data, true)?)?;
+    push_fork(text, &generator.impl_fork(alloc, state, state_data, true)?)?;
     text.push_str("| ")?;
-    push_fork(text, &generator.impl_fork(alloc, state, data, false)?)?;
-    push_loop_over(text, generator, data)
+    push_fork(text, &generator.impl_fork(alloc, state, state_data, false)?)?;
+    push_loop_over(text, generator, state_data)
 }
 
 /// Adds the nodes of each state of the generator's graph.

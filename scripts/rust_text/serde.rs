@@ -1,0 +1,8 @@
+//! A derive that does nothing, under a name that sources use.
+
+use proc_macro::TokenStream;
+
+#[proc_macro_derive(Serialize)]
+pub fn serialize(_: TokenStream) -> TokenStream {
+    TokenStream::new()
+}
