@@ -20,5 +20,5 @@ returns-in-Ok-clause-said c =
       held = c.in_ok-held.ensures;
       subpatterns = rw (c.utf8_mode-mode.ensures, c.as_slice-list.ensures.value) at c.in-Ok.ensures;
       skips_add = made.skips_add;
-      variants_add = rw c.as_slice.ensures.value at made.variants_add;
+      variants_add = made.variants_add;
     }) c.leaves_with.ensures.made
