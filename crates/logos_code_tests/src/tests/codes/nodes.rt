@@ -1,6 +1,7 @@
 // The nodes of codes of patterns, and those that a generator makes one by one.
 
 ghost use Rattle.std.specs.Prelude.{◌≡◌, ◌<◌, [], OnOk, length};
+ghost use Rattle.logos_graph.specs.FinishedGraph.{IsFinished};
 ghost use Rattle.logos_graph.specs.GraphView.{graph_state_of, state_number};
 ghost use Rattle.logos_generator.specs.StateView.{IsCodable};
 
@@ -9,7 +10,7 @@ use super::{ALL_LETTERS, Ask, LETTERS, Row};
 use logos_generator::code::{Code, CodeLeaf, CodeState, Condition, Fork, Mark, NOWHERE};
 use logos_generator::generator::{Generator, fast_loop_macro};
 use logos_graph::byte_class::Comparisons;
-use logos_graph::graph::{Graph, State, StateData};
+use logos_graph::graph::{Graph, State, StateData, States};
 use logos_pattern::leaf::{Callback, VariantKind};
 use logos_token::error::Memory;
 use logos_token::token::{TokenStream, print};
@@ -235,17 +236,18 @@ fn push_nodes_at(
     push_loop_over(text, generator, state_data)
 }
 
-/// Adds the nodes of each state of the generator's graph.
+/// Adds the nodes of these states of the generator's graph.
 fn push_nodes_of(
     alloc: Global,
     text: &mut String,
     generator: &mut Generator<'_, 'static>,
     graph: &Graph<'static>,
+    states: States,
 ) -> Result<(), Memory>
-    requires faultless { graph.now.faults ≡ [] }
+    requires finished { IsFinished graph.now.states (length graph.now.leaves) }
     requires same { generator.old.graph ≡ graph.now }
 {
-    for state in graph.iter_states() {
+    for state in states {
         if graph.contains(state) {
             push_nodes_at(alloc, text, generator, state, graph.get_state(state))?;
         }
@@ -289,7 +291,7 @@ pub(super) fn single_nodes(
     requires same { generator.old.graph ≡ graph.now }
 {
     let mut text = String::new(alloc);
-    push_nodes_of(alloc, &mut text, generator, graph)?;
+    push_nodes_of(alloc, &mut text, generator, graph, graph.iter_states())?;
     push_luts(alloc, &mut text, generator)?;
     push_shared(alloc, &mut text, generator, graph)?;
     if generator.generate(alloc).is_err() {
