@@ -96,5 +96,5 @@ read_tree unicode ignore_case text span tree faults r = record { reading = spell
 pub read_error : (unicode ignore_case : Bool) (text : List ℕ) (span : Span) (error : PatternError) (old new : List Fault) → Refuses (first_flags unicode ignore_case) text error →
     (error ≡ errors.LimitPatternNesting → IsTooDeep (first_flags unicode ignore_case) text) → ListsError error span old new → IsRead unicode ignore_case text span None old new
 read_error unicode ignore_case text span (errors.Syntax kind at) old new r d l = record { reading = broken kind at; reads = r; is_tree = refl; lists = l }
-read_error unicode ignore_case text span errors.LimitPatternNesting old new r d l = record { reading = too_deep; reads = (r, d refl); is_tree = refl; lists = l }
+read_error unicode ignore_case text span errors.LimitPatternNesting old new r d l = record { reading = too_deep; reads = record { deeper = r; begins = d refl }; is_tree = refl; lists = l }
 read_error unicode ignore_case text span errors.Memory old new r d l = absurd l

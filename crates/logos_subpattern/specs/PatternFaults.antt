@@ -21,12 +21,16 @@ pub data Reading : Type 0 where
   -- it spells none within the limit, and a beginning of it nests deeper
   too_deep : Reading
 
+-- The text spells no tree within the nesting limit, and a beginning of it nests deeper.
+pub record PassesNesting (unicode ignore_case : Bool) (text : Text) : Type 0 where
+  pub deeper : (depth : ℕ) → IsSpelled (first_flags unicode ignore_case) text depth → 250 < depth
+  pub begins : IsTooDeep (first_flags unicode ignore_case) text
+
 -- a text is read so, where the flags `u` and `i` are as they are given
 abbrev pub Reads : (unicode ignore_case : Bool) → Text → Reading → Type 0
 Reads unicode ignore_case text (spelled tree) = IsFound (first_flags unicode ignore_case) text tree
 Reads unicode ignore_case text (broken kind at) = (depth : ℕ) → IsSpelled (first_flags unicode ignore_case) text depth → ⊥
-Reads unicode ignore_case text too_deep =
-    ((depth : ℕ) → IsSpelled (first_flags unicode ignore_case) text depth → 250 < depth) × IsTooDeep (first_flags unicode ignore_case) text
+Reads unicode ignore_case text too_deep = PassesNesting unicode ignore_case text
 
 -- its tree, if it has one
 abbrev pub tree_in : Reading → Option Tree

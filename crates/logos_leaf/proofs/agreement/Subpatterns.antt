@@ -15,7 +15,7 @@ use Rattle.logos_leaf.proofs.agreement.Told.{Grows, Agree, grows_same, grows_the
 pub reading_once : (unicode ignore_case : Bool) (text : List ℕ) (tree : Tree) (other : Reading) → Reads unicode ignore_case text (spelled tree) → Reads unicode ignore_case text other → spelled tree ≡ other
 reading_once unicode ignore_case text tree (spelled other) (d, l, s) (e, m, t) = ap (λ (x : Tree). spelled x) (one (first_flags unicode ignore_case) text tree other d e s t).0
 reading_once unicode ignore_case text tree (broken kind at) (d, l, s) h = absurd (h d (tree, s))
-reading_once unicode ignore_case text tree too_deep (d, l, s) h = absurd (let k = h.0 d (tree, s) in omega (arith, l, k))
+reading_once unicode ignore_case text tree too_deep (d, l, s) h = absurd (let k = h.deeper d (tree, s) in omega (arith, l, k))
 
 module _ (utf8_mode : Bool) (sub : NamedLiteral) (names : List Stored) where
   abbrev TestedAs : List ℕ → Reading → Type 0
