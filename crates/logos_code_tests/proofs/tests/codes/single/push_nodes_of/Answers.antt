@@ -3,7 +3,7 @@ use Rattle.std.proofs.lemmas.Option.{get_or_from_slice_get, slice_get_within}
 use Rattle.logos_graph.specs.Graph.{GraphState}
 use Rattle.logos_graph.specs.FinishedGraph.{IsFinished, IsFinishedState}
 use Rattle.logos_generator.specs.StateView.{IsCodable}
-use Rattle.logos_code_tests.proofs.tests.codes.nodes.push_nodes_of.Goals as goal
+use Rattle.logos_code_tests.proofs.tests.codes.single.push_nodes_of.Goals as goal
 
 -- what holds of all states of a finished graph holds of this one
 codable : (graph : List GraphState) (leaves k : ℕ) (state : GraphState) → IsFinished graph leaves → slice_get graph k ≡ Some state → IsCodable state

@@ -1,5 +1,5 @@
 use Rattle.std.proofs.Common.{◌≡◌}
-use Rattle.logos_code_tests.proofs.tests.codes.nodes.push_nodes_of.Given as goal
+use Rattle.logos_code_tests.proofs.tests.codes.single.push_nodes_of.Given as goal
 
 -- the generator keeps its graph
 abbrev pub invariant-loop-state : goal.invariant-loop-state
