@@ -1,5 +1,7 @@
 //! A derive that does nothing, under a name that sources use.
 
+extern crate proc_macro;
+
 use proc_macro::TokenStream;
 
 #[proc_macro_derive(Serialize)]

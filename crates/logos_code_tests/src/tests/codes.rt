@@ -5,6 +5,7 @@ ghost use Rattle.std.specs.Prelude.{◌≡◌, []};
 mod codes;
 mod lexers;
 mod nodes;
+mod single;
 mod texts;
 
 use super::check;
@@ -15,7 +16,8 @@ use logos_graph::graph::{Config, Graph};
 use logos_pattern::leaf::Callback;
 use logos_token::error::Memory;
 use logos_type::TypeExpr;
-use nodes::{push_kept, push_nodes, single_nodes};
+use nodes::{push_kept, push_nodes};
+use single::single_nodes;
 use std::alloc::Global;
 use std::process::Abort;
 use std::test::Fail;
@@ -168,5 +170,6 @@ fn codes_answer_as_the_rows_say(rt: HostRuntime) -> Result<(), Fail> {
     let alloc = rt.alloc();
     answer_so(&rt, alloc, lexers::ROWS)?;
     answer_so(&rt, alloc, nodes::ROWS)?;
+    answer_so(&rt, alloc, single::ROWS)?;
     answer_so(&rt, alloc, texts::ROWS)
 }
