@@ -6,6 +6,7 @@ use crate::telling::{tell_any, tell_definition, tell_generics, tell_literal, tel
 use logos_definition::error_type::ErrorType;
 use logos_definition::parser::Parser;
 use logos_generator::generator::Generator;
+use logos_parser::parser::AttributeParser;
 use logos_token::error::{Errors, Memory};
 
 /// Tells a type of errors.
@@ -87,12 +88,21 @@ fn tell_parser(asking: &mut Asking, parser: &Parser<'_>) -> Result<(), Memory> {
     asking.tell(&parser.errors)
 }
 
+/// How many pieces are still to come.
+fn count_pieces(pieces: AttributeParser<'_, '_>) -> usize {
+    let mut count: usize = 0;
+    for _ in pieces {
+        count = count.saturating_add(1);
+    }
+    count
+}
+
 /// Tells what is lent.
 pub fn tell_lent(asking: &mut Asking, lent: &Lent<'_, '_>) -> Result<(), Memory> {
     tell_parser(asking, &lent.said.parser)?;
     tell_definition(asking, &lent.definition)?;
     tell_error_type(asking, &lent.error_type)?;
-    asking.tell(&lent.pieces.count())?;
+    asking.tell(&count_pieces(lent.pieces))?;
     asking.tell(&lent.flags.ignore_case)?;
     asking.show(&lent.class)?;
     asking.tell(&lent.errors)
