@@ -1,6 +1,6 @@
 -- States of the automaton, by what they keep of the bytes read.
 use Rattle.std.specs.Prelude.{◌≡◌, ℕ, ◌+◌, ◌<◌, ◌≤◌, Bool, true, false, IsTrue, List, [], ◌∷◌, Some, None, length, map, slice_get, slice_index, slice_index_or}
-use Rattle.logos_automaton.specs.Alike.{AreFirstBytes}
+use Rattle.logos_automaton.specs.inside.Alike.{AreFirstBytes}
 use Rattle.logos_places.specs.Core.{Core}
 use Rattle.logos_places.specs.Kinds.{test_at, kind_of_byte}
 use Rattle.logos_places.specs.Marks.{Has, IsRising}

@@ -1,4 +1,3 @@
-pub mod Alike
 pub mod Ambiguity
 pub mod Automaton
 pub mod Building
@@ -12,6 +11,6 @@ pub mod Reach
 pub mod ReadKeys
 pub mod Rules
 pub mod Targets
-pub mod TopSets
 pub mod View
 pub mod Walks
+pub mod inside

@@ -1,6 +1,6 @@
 //! Bytes that no pattern tells apart.
 ghost use Rattle.std.specs.Prelude.{◌≡◌, ◌∷◌, ◌++◌, ◌<◌, ℕ, [], IsTrue, IsFalse, IfOk, OnOk, false, length, map, slice_index_or, if◌then◌else◌};
-ghost use Rattle.logos_automaton.specs.Alike.{IsAlike, IsTold, AreTold, AreKindBytes, AreFirstBytes};
+ghost use Rattle.logos_automaton.specs.inside.Alike.{IsAlike, IsTold, AreTold, AreKindBytes, AreFirstBytes};
 ghost use Rattle.logos_places.specs.Core as core;
 ghost use Rattle.logos_places.specs.Kinds.{kind_of_byte};
 ghost use Rattle.logos_places.specs.Marks.{IsRising, Has};

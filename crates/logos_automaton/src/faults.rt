@@ -4,7 +4,7 @@ ghost use Rattle.logos_automaton.specs.DfaView.{dfa_of};
 ghost use Rattle.logos_automaton.specs.Errors.{fault_of, numbers};
 ghost use Rattle.logos_automaton.specs.Faults.{AreFaults, ArePassable, AreAmbiguous, Ascends, empty_match, disambiguation, AllStart};
 ghost use Rattle.logos_automaton.specs.Munch.{priority_of};
-ghost use Rattle.logos_automaton.specs.TopSets.{highest_of, with_priority, top_of, IsTopSet, IsTopIn, AreTopSets};
+ghost use Rattle.logos_automaton.specs.inside.TopSets.{highest_of, with_priority, top_of, IsTopSet, IsTopIn, AreTopSets};
 ghost use Rattle.logos_automaton.specs.View.{rules_of};
 ghost use Rattle.logos_automaton.specs.Automaton.{IsTotal, ReadsOneByteLate};
 

@@ -1,6 +1,6 @@
 //! The targets of the states of an automaton, while it is built.
 ghost use Rattle.std.specs.Prelude.{Bool, ℕ, ◌≡◌, ◌^◌, ◌<◌, ◌≤◌, ◌+◌, IsFalse, IfOk, OnOk, length, map, slice_index};
-ghost use Rattle.logos_automaton.specs.Alike.{AreTold, AreKindBytes};
+ghost use Rattle.logos_automaton.specs.inside.Alike.{AreTold, AreKindBytes};
 ghost use Rattle.logos_automaton.specs.Keys.{AreRising, AreReached, AreFirstIn, Extends, LeadsTo, EndsIn, IsRow};
 ghost use Rattle.logos_places.specs.Node.{core_of, AreMeasured};
 ghost use Rattle.logos_places.specs.Run.{width_of};

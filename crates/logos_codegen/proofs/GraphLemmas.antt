@@ -29,7 +29,7 @@ use Rattle.logos_automaton.specs.declared.errors.BuildError.TheVariants.{LimitSi
 use Rattle.logos_codegen.specs.Texts.{named_leaf, listed_of}
 use Rattle.logos_codegen.specs.Rules.{NamedRule, named_rule, named_said, rule_said, rules_said, skips, rules_in, names_in, GraphLists, graph_faults, size_limit, states_limit}
 use Rattle.logos_codegen.specs.Source.{AreListed, IsAccepted, IsRefused, faulty}
-use Rattle.logos_codegen.specs.Steps.{IsLimit, ListsGraph, AreGraphFaults, IsGraphMade}
+use Rattle.logos_codegen.specs.inside.Steps.{IsLimit, ListsGraph, AreGraphFaults, IsGraphMade}
 use Rattle.logos_source.specs.declared.refusal.Refusal.{Refusal}
 use Rattle.logos_source.proofs.RefusalLemmas.{refuses_by}
 use Rattle.logos_codegen.proofs.Listing.{lists_some}

@@ -3,7 +3,7 @@ pub mod Rules
 pub mod Source
 pub mod Given
 pub mod Refusals
-pub mod Steps
 pub mod RunLaws
 pub mod Language
 pub mod Tokenizing
+pub mod inside

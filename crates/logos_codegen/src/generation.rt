@@ -23,8 +23,8 @@ ghost use Rattle.logos_codegen.specs.Given.{IsGiven, KeepsSaid, error_callback};
 ghost use Rattle.logos_codegen.specs.RunLaws.{RunsAreCut};
 ghost use Rattle.logos_codegen.specs.Source.{IsAccepted, IsRefused};
 ghost use Rattle.logos_codegen.specs.Source.{IsWithinSizes, IsWithinLimits};
-ghost use Rattle.logos_codegen.specs.Steps.{IsLimit, ListsGraph, IsFaultless, AreGraphFaults};
-ghost use Rattle.logos_codegen.specs.Steps.{IsGraphMade};
+ghost use Rattle.logos_codegen.specs.inside.Steps.{IsLimit, ListsGraph, IsFaultless, AreGraphFaults};
+ghost use Rattle.logos_codegen.specs.inside.Steps.{IsGraphMade};
 
 use crate::texts::list_fault;
 use logos_definition::error_type::ErrorType;

@@ -1,3 +1,3 @@
-pub mod Charts
 pub mod Commands
 pub mod Runs
+pub mod inside

@@ -2,15 +2,16 @@
 
 ghost use Rattle.std.specs.Prelude.{◌≡◌, IfErr, IfOk, option_copied, string_bytes};
 ghost use Rattle.std.specs.Path.{with_separator};
-ghost use Rattle.logos_commands.specs.Charts.{FailsAt, destination, extension, file_at, file_in};
-ghost use Rattle.logos_commands.specs.Charts.{file_name, refusal_by};
+ghost use Rattle.logos_commands.specs.inside.Charts.{FailsAt, destination, extension, file_at, file_in};
+ghost use Rattle.logos_commands.specs.inside.Charts.{file_name, refusal_by};
 
 use crate::failure::{Failure, Unexported};
 use std::alloc::{AllocError, Global};
 
 /// The path of the chart of an enum of this name, by the path of a file or of a folder: in a folder it is named by the enum.
 pub(super) fn chart_path(alloc: Global, path: &str, name: &str) -> Result<String, Failure<'static>>
-    ensures file { IfOk result (λ chart. file_at (string_bytes chart) ≡ destination path.now name.now) }
+    ensures file { IfOk result (λ chart.
+        file_at (string_bytes chart) ≡ destination path.now name.now) }
     ensures failure { IfErr result (FailsAt (destination path.now name.now)) }
 {
     let Some(extension) = extension_of(file_name(path)) else {

@@ -1,7 +1,7 @@
 //! What the commands give.
 
 ghost use Rattle.std.specs.Prelude.{◌≡◌, ◌≢◌, IfErr, IfOk, option_map, string_bytes};
-ghost use Rattle.logos_commands.specs.Charts.{FailsAt, IsChartAt, destination_said, file_at};
+ghost use Rattle.logos_commands.specs.inside.Charts.{FailsAt, IsChartAt, destination_said, file_at};
 ghost use Rattle.logos_commands.specs.Commands.{command_asked, status_of};
 ghost use Rattle.logos_commands.specs.Runs.{IsDone, IsDenied, IsFaultless, IsLexed, IsStrippable};
 ghost use Rattle.logos_commands.specs.Runs.{ReadsSome, ReadsBoth};
@@ -49,7 +49,8 @@ pub(super) fn outcome_of<'w, F: Files>(
     command: Command<'w>,
     files: &mut F,
 ) -> Result<Outcome, Failure<'w>>
-    ensures done { IfOk result (λ outcome. IsDone F.read_gives (command_asked command.entry) files.old) }
+    ensures done { IfOk result (λ outcome.
+        IsDone F.read_gives (command_asked command.entry) files.old) }
     ensures denied { IfErr result (λ failure. status_of failure ≡ 1 →
         IsDenied F.read_gives (command_asked command.entry) files.old failure) }
 {
@@ -80,7 +81,8 @@ fn read<'w, F: Files>(path: &'w str, files: &mut F) -> Result<Vec<u8>, Failure<'
 
 /// The text of a file.
 fn read_text<'w, F: Files>(path: &'w str, files: &mut F) -> Result<String, Failure<'w>>
-    ensures ok { IfOk result (λ text. F.read_gives files.old path.now (string_bytes text) files.new) }
+    ensures ok { IfOk result (λ text.
+        F.read_gives files.old path.now (string_bytes text) files.new) }
     ensures err { IfErr result (λ failure. status_of failure ≡ 3) }
 {
     let Ok(text) = String::from_utf8(read(path, files)?) else {
@@ -126,7 +128,8 @@ fn of_source(
 fn of_lexer(alloc: Global, made: &Generated<'_>, asked: Asked) -> Result<Outcome, Failure<'static>>
     ensures plain { asked ≢ Asked.Export → IfErr result (λ failure. status_of failure ≡ 3) }
     ensures export { IfErr result (λ failure. status_of failure ≡ 1 → RefusesExport
-        (destination_said (option_map string_bytes made.now.export_path) made.now.name.text.now) failure) }
+        (destination_said (option_map string_bytes made.now.export_path) made.now.name.text.now)
+        failure) }
 {
     match asked {
         Asked::Text => Ok(Outcome::Text(text_of_lexer(alloc, made)?)),
@@ -210,7 +213,8 @@ fn export_of_lexer(alloc: Global, made: &Generated<'_>) -> Result<Outcome, Failu
     ensures chart { IfOk result (IsChartAt
         (destination_said (option_map string_bytes made.now.export_path) made.now.name.text.now)) }
     ensures denied { IfErr result (λ failure. status_of failure ≡ 1 → RefusesExport
-        (destination_said (option_map string_bytes made.now.export_path) made.now.name.text.now) failure) }
+        (destination_said (option_map string_bytes made.now.export_path) made.now.name.text.now)
+        failure) }
 {
     let path = path_of_chart(alloc, made)?;
     let text = tested_chart(alloc, &made.graph)?;

@@ -6,7 +6,7 @@ use Rattle.logos_automaton.specs.Munch.{Rule, RuleMatches}
 use Rattle.logos_automaton.specs.Ambiguity.{IsAmbiguous}
 use Rattle.logos_automaton.specs.Faults.{no_universal_start, empty_match, disambiguation, some_leads, some_passable, ArePassable, AreAmbiguous, AreFaults, AllStart}
 use Rattle.logos_automaton.specs.Automaton.{Automaton, dfa_next, dfa_after, dfa_at_end, Lists, ReadsOneByteLate}
-use Rattle.logos_graph.specs.Walk.{MarksOneByteLate, IsLateMark, edges_of_automaton}
+use Rattle.logos_graph.specs.inside.Walk.{MarksOneByteLate, IsLateMark, edges_of_automaton}
 use Rattle.logos_graph.proofs.First.{first_marks, none_contained}
 use Rattle.logos_reduce.specs.Edges.{Edges, reach}
 

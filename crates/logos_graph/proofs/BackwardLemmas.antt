@@ -13,7 +13,7 @@ use Rattle.logos_graph.specs.FinishedGraph.{edge_leads}
 use Rattle.logos_graph.specs.Graph.{GraphState, next_by, next_at_end}
 use Rattle.logos_graph.specs.GraphView.{graph_state_of, state_number}
 use Rattle.logos_graph.specs.ReduceShown.{Shows}
-use Rattle.logos_graph.specs.States.{numbers_of, HaveNumbers}
+use Rattle.logos_graph.specs.inside.States.{numbers_of, HaveNumbers}
 use Rattle.logos_graph.specs.declared.graph.StateData.{StateData}
 use Rattle.logos_graph.proofs.StateLemmas.{got_pushed, there}
 

@@ -12,7 +12,7 @@ use Rattle.logos_graph.specs.FinishedGraph.{Edge, edge_leads, AreNeat}
 use Rattle.logos_places.specs.ByteRanges.{is_in}
 use Rattle.logos_graph.specs.GraphView.{edge_of, state_number}
 use Rattle.logos_places.specs.Marks.{IsRising, IsFirstFrom}
-use Rattle.logos_graph.specs.States.{targets, with_range, with_run, IsEdgeOf, AreEdgesOf}
+use Rattle.logos_graph.specs.inside.States.{targets, with_range, with_run, IsEdgeOf, AreEdgesOf}
 use Rattle.logos_graph.specs.declared.byte_class.ByteClass.{ByteClass}
 use Rattle.logos_graph.specs.declared.graph.State.{State}
 use Rattle.logos_reduce.specs.Rows.{target_of}

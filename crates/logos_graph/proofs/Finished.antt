@@ -7,7 +7,7 @@ use Rattle.logos_graph.specs.Graph.{GraphState}
 use Rattle.logos_automaton.specs.Munch.{Rule, Found, Finds}
 use Rattle.logos_graph.specs.ReduceShown.{Shows}
 use Rattle.logos_automaton.specs.Faults.{AllStart}
-use Rattle.logos_graph.specs.Walk.{MarksOneByteLate, WalkFinds, edges_of}
+use Rattle.logos_graph.specs.inside.Walk.{MarksOneByteLate, WalkFinds, edges_of}
 use Rattle.logos_graph.proofs.Longest.{finds_the_longest, late_root}
 use Rattle.logos_graph.proofs.Maps.{IsMap}
 use Rattle.logos_graph.proofs.Pruned.{IsPruned}

@@ -13,7 +13,7 @@ use Rattle.logos_automaton.specs.Munch.{Rule}
 use Rattle.logos_graph.specs.ReduceShown.{Shows}
 use Rattle.logos_graph.specs.Reduced as reduced
 use Rattle.logos_automaton.specs.Faults.{AllStart}
-use Rattle.logos_graph.specs.Walk.{MarksOneByteLate, edges_of}
+use Rattle.logos_graph.specs.inside.Walk.{MarksOneByteLate, edges_of}
 use Rattle.logos_graph.proofs.Finished as fin
 use Rattle.logos_graph.proofs.LeastLemmas.{type_here, evidence}
 use Rattle.logos_graph.proofs.Longest.{no_empty_match, late_root}

@@ -7,7 +7,7 @@ use Rattle.std.specs.List.Sorted.{IsStrictlyIncreasing}
 use Rattle.logos_hir.specs.Text.{IsBytes}
 use Rattle.logos_automaton.specs.Munch.{Rule, RuleMatches, IsFirst, priority_of}
 use Rattle.logos_automaton.specs.Ambiguity.{IsHighest, IsAmbiguous}
-use Rattle.logos_graph.specs.First.{first_of, higher}
+use Rattle.logos_graph.specs.inside.First.{first_of, higher}
 use Rattle.logos_graph.proofs.Raw.{FirstOrNone}
 
 contains_here : (x : ℕ) (xs : List ℕ) → Contains (x ∷ xs) x

@@ -8,7 +8,7 @@ use Rattle.logos_hir.proofs.tree.Laws.{passes}
 use Rattle.logos_hir.proofs.tree.Order.{InOrder, matches_order}
 use Rattle.logos_automaton.proofs.munch.Unique.{rule_within, finds_one}
 use Rattle.logos_automaton.specs.Faults.{some_passable, AllStart}
-use Rattle.logos_graph.specs.Walk.{last_mark, followed, MarksOneByteLate, MayEnd, IsUnmarked, WalkFinds}
+use Rattle.logos_graph.specs.inside.Walk.{last_mark, followed, MarksOneByteLate, MayEnd, IsUnmarked, WalkFinds}
 use Rattle.logos_graph.proofs.Raw.{BestBelow, FirstOrNone, raw_marks, raw_covers, GrowsUpTo}
 use Rattle.logos_graph.proofs.Settled.{AreSettled, Agree, settled_marks, settled_covers}
 use Rattle.logos_graph.proofs.Pruned.{IsPruned, pruned_marks, pruned_covers}

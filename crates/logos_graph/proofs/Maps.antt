@@ -4,7 +4,7 @@ use Rattle.logos_graph.proofs.Steps.{first_byte, other_bytes}
 use Rattle.std.specs.Option.{option_map_or}
 use Rattle.logos_hir.specs.Text.{IsBytes}
 use Rattle.logos_reduce.specs.Edges.{Edges, Leads, to_mark, onward, to_end}
-use Rattle.logos_graph.specs.Walk.{marked, last_mark, followed}
+use Rattle.logos_graph.specs.inside.Walk.{marked, last_mark, followed}
 
 -- on the states that are in, and to which their edges lead, f keeps types and commutes with edges
 pub record IsMap {S T : Type 0} (IsIn : S → Type 0) (f : S → T) (g : Edges S) (h : Edges T) : Type 0 where

@@ -3,7 +3,7 @@ use Rattle.std.proofs.Common.{◌≡◌, ◌↔◌, ℕ, ◌+◌, ◌<◌, ◌�
 use Rattle.std.specs.Option.{option_map_or}
 use Rattle.logos_hir.specs.Text.{IsBytes}
 use Rattle.logos_reduce.specs.Edges.{IsMarked, Edges, Leads, to_mark, onward, to_end}
-use Rattle.logos_graph.specs.Walk.{marked, last_mark, followed, Covers}
+use Rattle.logos_graph.specs.inside.Walk.{marked, last_mark, followed, Covers}
 use Rattle.logos_graph.proofs.Steps.{first_byte, other_bytes, none_before, skipped, no_mark, unmarked}
 
 -- a step is kept if it leads to a useful state, and else left out

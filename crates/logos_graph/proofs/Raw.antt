@@ -6,7 +6,7 @@ use Rattle.logos_hir.specs.Text.{IsBytes}
 use Rattle.logos_automaton.specs.Munch.{Rule, RuleMatches, IsFirst, Grows}
 use Rattle.logos_automaton.proofs.munch.Window.{rule_within_text}
 use Rattle.logos_automaton.specs.Faults.{some_leads}
-use Rattle.logos_graph.specs.Walk.{marked, last_mark, Covers, NoneMatches, IsLateMark, MarksOneByteLate}
+use Rattle.logos_graph.specs.inside.Walk.{marked, last_mark, Covers, NoneMatches, IsLateMark, MarksOneByteLate}
 use Rattle.logos_graph.proofs.Steps.{first_byte, other_bytes}
 use Rattle.logos_reduce.specs.Edges.{StateType, IsMarked, Edges, reach, Leads, to_mark, onward, to_end}
 

@@ -11,12 +11,12 @@ use Rattle.logos_hir.specs.Matches.{Matches}
 use Rattle.logos_hir.specs.Text.{IsBytes}
 use Rattle.logos_pattern.specs.declared.leaf.Leaf.{Leaf}
 use Rattle.logos_automaton.specs.Ambiguity.{IsAmbiguous}
-use Rattle.logos_graph.specs.First.{first_of, higher}
+use Rattle.logos_graph.specs.inside.First.{first_of, higher}
 use Rattle.logos_automaton.specs.Munch.{Rule, RuleMatches, IsFirst, priority_of}
-use Rattle.logos_graph.specs.RawTable.{best_with, IsMarkOf, AreRawRows}
+use Rattle.logos_graph.specs.inside.RawTable.{best_with, IsMarkOf, AreRawRows}
 use Rattle.logos_automaton.specs.Automaton.{Automaton, dfa_next, dfa_after, dfa_at_end, Lists, IsTotal, ReadsOneByteLate}
 use Rattle.logos_graph.specs.View.{rule_of, rules_of}
-use Rattle.logos_graph.specs.Walk.{NoneMatches, IsLateMark, MarksOneByteLate}
+use Rattle.logos_graph.specs.inside.Walk.{NoneMatches, IsLateMark, MarksOneByteLate}
 use Rattle.logos_graph.proofs.Automaton.{late_mark_of}
 use Rattle.logos_graph.proofs.Steps.{first_byte, other_bytes}
 use Rattle.logos_reduce.specs.Table.{size, to, mark, type_of, edges}

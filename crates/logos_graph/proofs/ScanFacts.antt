@@ -4,7 +4,7 @@ use Rattle.std.specs.Option.{option_map_or}
 use Rattle.logos_graph.specs.Found as found
 use Rattle.logos_graph.specs.Graph.{GraphState, next_by, next_at_end, walk, type_after}
 use Rattle.logos_automaton.specs.Munch.{Found, ended, matched, failed}
-use Rattle.logos_graph.specs.Walk.{marked, last_mark, followed, MayEnd, edges_of, GraphFindsByWalk}
+use Rattle.logos_graph.specs.inside.Walk.{marked, last_mark, followed, MayEnd, edges_of, GraphFindsByWalk}
 use Rattle.logos_reduce.specs.Edges.{StateType, Edges}
 
 -- a mark does not go by the one before

@@ -3,7 +3,7 @@ use Rattle.std.proofs.Common.{◌≡◌, ◌↔◌, ℕ, ◌+◌, ◌<◌, ◌�
 use Rattle.std.specs.Option.{option_map_or}
 use Rattle.logos_hir.specs.Text.{IsBytes}
 use Rattle.logos_reduce.specs.Edges.{StateType, IsMarked, Edges, Leads, to_mark, onward, to_end}
-use Rattle.logos_graph.specs.Walk.{marked, last_mark, Covers}
+use Rattle.logos_graph.specs.inside.Walk.{marked, last_mark, Covers}
 use Rattle.logos_graph.proofs.Steps.{first_byte, other_bytes, no_mark, none_before}
 
 module _ {S : Type 0} (next : S → ℕ → Option S) (at_end : S → Option S) where

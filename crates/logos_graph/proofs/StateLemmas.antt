@@ -10,7 +10,7 @@ use Rattle.logos_graph.specs.Graph.{GraphState}
 use Rattle.logos_graph.specs.GraphView.{graph_state_of}
 use Rattle.logos_reduce.specs.Table.{size, to, mark, type_of}
 use Rattle.logos_graph.specs.ReduceShown.{Shows}
-use Rattle.logos_graph.specs.States.{IsEdgeOf, AreEdgesOf, IsStateOf, AreStatesOf}
+use Rattle.logos_graph.specs.inside.States.{IsEdgeOf, AreEdgesOf, IsStateOf, AreStatesOf}
 use Rattle.logos_graph.specs.declared.graph.StateData.{StateData}
 use Rattle.logos_reduce.specs.declared.table.Table.{Table}
 use Rattle.logos_reduce.proofs.tables.EdgeLemmas.{edge_within}

@@ -4,7 +4,7 @@ use Rattle.std.proofs.lemmas.List.Elements.{All-head, All-tail}
 use Rattle.std.specs.Option.{option_map_or}
 use Rattle.logos_hir.specs.Text.{IsBytes}
 use Rattle.logos_reduce.specs.Edges.{StateType, IsMarked, Edges}
-use Rattle.logos_graph.specs.Walk.{marked, last_mark}
+use Rattle.logos_graph.specs.inside.Walk.{marked, last_mark}
 
 pub first_byte : (b : ℕ) (rest : List ℕ) → IsBytes (b ∷ rest) → b < 256
 first_byte b rest ok = All-head (λ b. b < 256) b rest ok

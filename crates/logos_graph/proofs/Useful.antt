@@ -5,7 +5,7 @@ use Rattle.std.specs.Option.{option_map_or}
 use Rattle.logos_hir.specs.Text.{IsBytes}
 use Rattle.logos_graph.specs.Graph.{GraphState, walk, type_after}
 use Rattle.logos_reduce.specs.Edges.{IsMarked, Leads, to_mark, onward, to_end}
-use Rattle.logos_graph.specs.Walk.{edges_of}
+use Rattle.logos_graph.specs.inside.Walk.{edges_of}
 
 module _ (graph : List GraphState) where
   abbrev LeadsTo : ℕ → Type 0

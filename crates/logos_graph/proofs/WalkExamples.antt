@@ -1,7 +1,7 @@
 -- What two worked graphs find, by computing.
 use Rattle.std.proofs.Common.{◌≡◌, List, [], ◌∷◌, Some, None, refl}
 use Rattle.logos_graph.specs.Graph.{GraphState}
-use Rattle.logos_graph.specs.Walk.{last_mark, followed, edges_of}
+use Rattle.logos_graph.specs.inside.Walk.{last_mark, followed, edges_of}
 
 -- `f(ee)?`: 0 (f to 1), 1 early(0) (e to 2), 2 (e to 3), 3 early(0)
 abbrev fee : List GraphState

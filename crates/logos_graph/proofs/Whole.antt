@@ -9,7 +9,7 @@ use Rattle.logos_graph.specs.Found.{IsInput}
 use Rattle.logos_graph.specs.Graph.{GraphState}
 use Rattle.logos_graph.specs.Reduced.{IsSettled}
 use Rattle.logos_automaton.specs.Automaton.{Automaton, ReadsOneByteLate}
-use Rattle.logos_graph.specs.Walk.{MarksOneByteLate, edges_of, edges_of_automaton, GraphFindsByWalk}
+use Rattle.logos_graph.specs.inside.Walk.{MarksOneByteLate, edges_of, edges_of_automaton, GraphFindsByWalk}
 use Rattle.logos_graph.proofs.Steps.{first_byte, other_bytes}
 use Rattle.logos_graph.proofs.Raw.{FirstOrNone, reach_next}
 use Rattle.logos_graph.proofs.Settled.{AreSettled, AllAccept}

@@ -70,7 +70,8 @@ fn push_shift(
     requires order { first ≤ last }
     requires small { last + to < 2 ^ 32 }
     ensures { OnOk result ((c : ℕ) → in_ranges (pairs out.new.items) c ≡
-        (in_ranges (pairs out.old.items) c || shift first last to (in_range (range.first, range.last)) c)) }
+        (in_ranges (pairs out.old.items) c ||
+        shift first last to (in_range (range.first, range.last)) c)) }
 {
     let start = range.first.max(first);
     let end = range.last.min(last);
@@ -87,7 +88,8 @@ fn push_shift(
 /// Adds the other case of each ASCII letter in the ranges.
 fn push_cases(out: &mut Vec<Range>, ranges: &[Range]) -> Result<(), AllocError>
     ensures { OnOk result (Adds (pairs out.old.items) (pairs out.new.items) (λ c.
-        shift 65 90 97 (in_ranges (pairs ranges.now)) c || shift 97 122 65 (in_ranges (pairs ranges.now)) c)) }
+        shift 65 90 97 (in_ranges (pairs ranges.now)) c ||
+        shift 97 122 65 (in_ranges (pairs ranges.now)) c)) }
 {
     for range in ranges {
         push_shift(out, *range, 65, 90, 97)?;

@@ -112,7 +112,8 @@ fn push_chars(out: &mut Vec<Range>, range: Range) -> Result<(), AllocError>
     requires { AreRanges (pairs out.old.items) }
     ensures ranges { OnOk result (AreRanges (pairs out.new.items)) }
     ensures members { OnOk result ((c : ℕ) → scalar c ≡ true →
-        in_ranges (pairs out.new.items) c ≡ (in_ranges (pairs out.old.items) c || in_range (range.first, range.last) c)) }
+        in_ranges (pairs out.new.items) c ≡
+        (in_ranges (pairs out.old.items) c || in_range (range.first, range.last) c)) }
 {
     let first = first_char(range.first);
     let last = last_char(range.last);

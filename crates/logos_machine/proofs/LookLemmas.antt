@@ -7,7 +7,7 @@ use Rattle.logos_code.specs.CodeView.{state_at, no_state}
 use Rattle.logos_code.specs.Headline.{IsSound}
 use Rattle.logos_code.specs.Rows.{closing, Says, SaysAtEnd}
 use Rattle.logos_code.specs.Runs.{acts, looped, marked, turn, Does}
-use Rattle.logos_machine.specs.Looks.{Sees}
+use Rattle.logos_machine.specs.inside.Looks.{Sees}
 use Rattle.logos_code.specs.declared.code.rows.Step.{Step}
 use Rattle.logos_code.specs.declared.code.rows.Step.TheVariants.{Leads, Closes, Halts, Unsaid}
 use Rattle.logos_machine.proofs.StandLemmas.{unmarked_root}

@@ -11,7 +11,7 @@ use Rattle.logos_code.specs.CodeView.{state_at, no_state}
 use Rattle.logos_code.specs.Headline.{IsSound, IsRoot, IsEnd, IsLate, NamesWhatIsThere}
 use Rattle.logos_code.specs.Runs.{Stand, enters, acts, returns, target, looped, marked, forked, Does}
 use Rattle.logos_code.proofs.TargetLemmas.{All-slice_get, target_there}
-use Rattle.logos_machine.specs.Stands.{IsMatch, IsContext, IsStand}
+use Rattle.logos_machine.specs.inside.Stands.{IsMatch, IsContext, IsStand}
 
 some_none : {A : Type 0} {a : A} → None ≡ Some a → ⊥
 some_none h = cc

@@ -1,4 +1,2 @@
-pub mod Stands
-pub mod Looks
-pub mod Attempts
 pub mod LexerValue
+pub mod inside

@@ -1,13 +1,10 @@
 pub mod ByteRanges
-pub mod Characters
 pub mod Core
 pub mod IsCore
 pub mod Kinds
 pub mod Marks
 pub mod Node
 pub mod Places
-pub mod Ranges
-pub mod Reader
 pub mod Repeat
 pub mod Run
 pub mod Several

@@ -2,10 +2,10 @@
 use Rattle.std.specs.Prelude.{◌≡◌, ℕ, zero, suc, ◌+◌, ◌-◌, min, drop, ◌*◌, ◌/◌, ◌%◌, ◌<◌, ◌≤◌, Bool, true, false, ◌&&◌, if◌then◌else◌, nat_lt, nat_le, List, Option, Some, None, slice_get, slice_index_or}
 use Rattle.std.specs.List.{sum_by}
 use Rattle.std.specs.Option.{MatchOption}
-use Rattle.logos_places.specs.Characters.{size, Lead, after_lead, after_byte, IsOpen}
+use Rattle.logos_places.specs.inside.Characters.{size, Lead, after_lead, after_byte, IsOpen}
 use Rattle.logos_places.specs.Core.{Reader}
-use Rattle.logos_places.specs.Reader.{IsShut, Remainder}
-use Rattle.logos_places.specs.Ranges.{in_ranges}
+use Rattle.logos_places.specs.inside.Reader.{IsShut, Remainder}
+use Rattle.logos_places.specs.inside.Ranges.{in_ranges}
 use Rattle.logos_places.specs.declared.characters.ranges.CharRange.{CharRange}
 use Rattle.logos_places.specs.declared.characters.build.Rest.{Rest}
 use Rattle.logos_places.specs.declared.characters.reader.Table.{Table}

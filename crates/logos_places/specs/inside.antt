@@ -1,2 +1,5 @@
 pub mod Joined
 pub mod Stepped
+pub mod Characters
+pub mod Ranges
+pub mod Reader

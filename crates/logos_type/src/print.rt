@@ -38,7 +38,8 @@ impl TypePrinter {
     /// Adds a lexeme of one character.
     fn add_character(&mut self, character: char, gap: &'static str) -> Result<(), Memory>
         ensures { OnOk result (printed_of self.new ≡
-            print_part (printed_of self.old) (record { text = encode_utf8 character; gap = gap.now })) }
+            print_part (printed_of self.old)
+            (record { text = encode_utf8 character; gap = gap.now })) }
     {
         self.text.push_str(self.gap)?;
         self.text.push(character)?;
@@ -58,7 +59,8 @@ impl TypePrinter {
     /// Adds `&`, and the lifetime behind it, if there is one.
     fn add_reference(&mut self, lifetime: Option<&str>) -> Result<(), Memory>
         ensures { OnOk result (printed_of self.new ≡
-            fold print_part (printed_of self.old) (sign_parts (sign_of (Leaf.Reference lifetime.entry)))) }
+            fold print_part (printed_of self.old)
+            (sign_parts (sign_of (Leaf.Reference lifetime.entry)))) }
     {
         self.add("&", " ")?;
         match lifetime {

@@ -1,7 +1,7 @@
 pub mod StillRuns
 pub mod Table
-pub mod Actions
 pub mod Reading
 pub mod ReadingViews
 pub mod TypeExprs
 pub mod Written
+pub mod inside

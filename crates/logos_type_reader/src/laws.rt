@@ -27,10 +27,12 @@ pub fn some_outcome()
 
 /// What is read with fewer or more levels is the same type, and where these are too few, the type is deeper.
 pub fn levels_only_limit()
-    ensures one_type { (levels others : ℕ) (plus : Bool) (run rest other : TokenList) (tree different : Tree) →
+    ensures one_type { (levels others : ℕ) (plus : Bool) (run rest other : TokenList)
+        (tree different : Tree) →
         IsType levels plus run tree rest → IsType others plus run different other →
         (tree ≡ different) × (rest ≡ other) }
-    ensures deeper { (levels others : ℕ) (plus : Bool) (run rest : TokenList) (tree : Tree) (fault : Fault) →
+    ensures deeper { (levels others : ℕ) (plus : Bool) (run rest : TokenList) (tree : Tree)
+        (fault : Fault) →
         NoType levels plus run fault → IsType others plus run tree rest → (fault ≡ too_deep)
         × (levels < others) }
 {}

@@ -189,7 +189,8 @@ fn move_past_kept<'t, 's>(
     parts: &mut Vec<Part<'s>>,
 ) -> Result<Option<(bool, Spot<'t, 's>)>, TypeFault>
     ensures { (levels : ℕ) (spot : SpotOfRuns) →
-        IsMove levels false spot (still (also (tree_of part.entry) none) ∷ []) (spot_of next.entry) →
+        IsMove levels false spot (still (also (tree_of part.entry) none) ∷ [])
+        (spot_of next.entry) →
         GivesMove levels spot (map tree_of parts.old.items) (map tree_of parts.new.items) result }
 {
     match begun_parts(alloc, part) {

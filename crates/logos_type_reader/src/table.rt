@@ -2,7 +2,7 @@
 ghost use Rattle.logos_token.specs.Views.{tokens_of};
 ghost use Rattle.logos_type_reader.specs.Table.{next_at};
 ghost use Rattle.logos_type_reader.specs.ReadingViews.{behind_of, spot_of, IsStep};
-ghost use Rattle.logos_type_reader.specs.Actions.{IsAction};
+ghost use Rattle.logos_type_reader.specs.inside.Actions.{IsAction};
 
 mod acting;
 mod bounds;

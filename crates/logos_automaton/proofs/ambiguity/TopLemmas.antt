@@ -11,7 +11,7 @@ use Rattle.logos_hir.specs.Text.{IsBytes}
 use Rattle.logos_automaton.specs.Munch.{Rule, RuleMatches, priority_of}
 use Rattle.logos_automaton.specs.Ambiguity.{IsHighest, IsAmbiguous}
 use Rattle.logos_automaton.specs.Faults.{Ascends, AreAmbiguous, AllStart}
-use Rattle.logos_automaton.specs.TopSets.{highest_of, top_of, IsTopSet, IsTopIn}
+use Rattle.logos_automaton.specs.inside.TopSets.{highest_of, top_of, IsTopSet, IsTopIn}
 use Rattle.logos_automaton.specs.Automaton.{Automaton, dfa_after, dfa_at_end, Lists, IsTotal, ReadsOneByteLate}
 use Rattle.logos_automaton.proofs.ambiguity.SameMembers.{Has, has_from_contains, contains_from_has, increasing_same}
 use Rattle.logos_automaton.proofs.munch.Outside.{rule_inside}

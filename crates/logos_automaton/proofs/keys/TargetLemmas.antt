@@ -2,7 +2,7 @@
 use Rattle.std.proofs.Common.{◌≡◌, ℕ, ◌+◌, ◌<◌, ◌⊎◌, Bool, true, false, IsTrue, Some, List, [], ◌∷◌, length, slice_index, set, refl, sym, ap, ◌∙◌, subst, ⊎_elim, arith}
 use Rattle.std.proofs.lemmas.List.{get_or-set_other}
 use Rattle.std.proofs.lemmas.Grind.{get_or-set_at}
-use Rattle.logos_automaton.specs.Alike.{AreReadAlike}
+use Rattle.logos_automaton.specs.inside.Alike.{AreReadAlike}
 use Rattle.logos_places.specs.Core.{Core}
 use Rattle.logos_automaton.specs.Keys.{State, Grows, Extends, LeadsTo, EndsIn, IsAt, IsNext, IsRow, kept_of, is_start, state_of}
 use Rattle.logos_places.specs.Kinds.{kind_of_byte}

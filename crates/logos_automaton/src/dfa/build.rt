@@ -1,6 +1,6 @@
 //! The automaton of leaves: one loop over its states, from the start on, until each has its targets.
 ghost use Rattle.std.specs.Prelude.{◌≡◌, ◌^◌, ◌<◌, ◌≤◌, ◌+◌, [], Bool, List, IfOk, IfErr, OnOk, length, map, vec_len};
-ghost use Rattle.logos_automaton.specs.Alike.{AreTold, AreKindBytes};
+ghost use Rattle.logos_automaton.specs.inside.Alike.{AreTold, AreKindBytes};
 ghost use Rattle.logos_automaton.specs.Building.{IsUnderway, FailsOn, FailsFor};
 ghost use Rattle.logos_places.specs.Core.{Core};
 ghost use Rattle.logos_automaton.specs.DfaView.{dfa_of};

@@ -11,7 +11,7 @@ ghost use Rattle.logos_automaton.specs.Munch.{Rule};
 ghost use Rattle.logos_graph.specs.ReduceShown.{Shows};
 ghost use Rattle.logos_graph.specs.Reduced.{IsReduced};
 ghost use Rattle.logos_automaton.specs.Faults.{AllStart};
-ghost use Rattle.logos_graph.specs.Walk.{MarksOneByteLate};
+ghost use Rattle.logos_graph.specs.inside.Walk.{MarksOneByteLate};
 
 use logos_reduce::reduction::{Reduction, reduce};
 use logos_reduce::table::Table;

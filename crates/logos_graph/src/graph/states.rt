@@ -9,7 +9,7 @@ ghost use Rattle.logos_graph.specs.GraphView.{edge_of, graph_state_of, leaf_numb
 ghost use Rattle.logos_graph.specs.GraphView.{state_number, state_type_of};
 ghost use Rattle.logos_places.specs.Marks.{IsRising, IsFirstFrom};
 ghost use Rattle.logos_graph.specs.ReduceShown.{Shows};
-ghost use Rattle.logos_graph.specs.States.{targets, with_range, with_run, AreEdgesOf, IsStateOf};
+ghost use Rattle.logos_graph.specs.inside.States.{targets, with_range, with_run, AreEdgesOf, IsStateOf};
 ghost use Rattle.logos_reduce.specs.Table.{size, to, mark, type_of};
 ghost use Rattle.logos_reduce.specs.Rows.{target_by};
 

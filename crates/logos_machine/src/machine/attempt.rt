@@ -4,9 +4,9 @@ ghost use Rattle.std.specs.Prelude.{option_map, IfSome, IsTrue, IsCharBoundary, 
 ghost use Rattle.logos_code.specs.CodeView.{state_at};
 ghost use Rattle.logos_code.specs.Signs.{mark_by};
 ghost use Rattle.logos_code.specs.Runs.{Does, Tries, EndsError, target, looped, marked};
-ghost use Rattle.logos_machine.specs.Stands.{IsStand, StaysWithin};
-ghost use Rattle.logos_machine.specs.Looks.{SeesBy, FindsSoon};
-ghost use Rattle.logos_machine.specs.Attempts.{context_of, stand_of, turn_of, found_of};
+ghost use Rattle.logos_machine.specs.inside.Stands.{IsStand, StaysWithin};
+ghost use Rattle.logos_machine.specs.inside.Looks.{SeesBy, FindsSoon};
+ghost use Rattle.logos_machine.specs.inside.Attempts.{context_of, stand_of, turn_of, found_of};
 
 use super::fast_loop::{first_stop, stop_in};
 use logos_code::code::Code;

@@ -4,9 +4,9 @@ use Rattle.std.proofs.lemmas.Bool.{and_from, and_left, and_right, cases_lt}
 use Rattle.std.proofs.lemmas.Bool.Decides.{nat_tests}
 use Rattle.std.proofs.lemmas.List.{get_or_past}
 use Rattle.std.proofs.lemmas.Option.{slice_get_within}
-use Rattle.logos_places.specs.Characters.{Lead, lead, after_lead, after_byte}
-use Rattle.logos_places.specs.Reader.{Remainder, LeadsTo, IsReaderOf}
-use Rattle.logos_places.specs.Ranges.{in_ranges}
+use Rattle.logos_places.specs.inside.Characters.{Lead, lead, after_lead, after_byte}
+use Rattle.logos_places.specs.inside.Reader.{Remainder, LeadsTo, IsReaderOf}
+use Rattle.logos_places.specs.inside.Ranges.{in_ranges}
 use Rattle.logos_places.specs.Table.{Row, row_of, IsAt, AreRests, Finds, FindsFirst, FindsNext, IsCell, rest_at, rest_of, reader_from}
 use Rattle.logos_places.specs.declared.characters.build.Rest.{Rest}
 use Rattle.logos_places.proofs.classes.CharacterLemmas.{at_leads}

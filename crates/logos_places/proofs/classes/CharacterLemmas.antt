@@ -4,7 +4,7 @@ use Rattle.std.proofs.lemmas.Bool.Decides.{nat_tests}
 use Rattle.std.proofs.lemmas.Bool.{cases_lt, cond-true, cond-false, and_parts, and_from}
 use Rattle.std.proofs.lemmas.Option.{same_Some, none-some}
 use Rattle.std.specs.Char.{encode_utf8, IsScalar}
-use Rattle.logos_places.specs.Characters.{size, Lead, lead, after_lead, after_byte, After, Reads, IsOpen, IsWhole, IsBegun, IsCharOf, IsBeginningOf, IsOfScalars}
+use Rattle.logos_places.specs.inside.Characters.{size, Lead, lead, after_lead, after_byte, After, Reads, IsOpen, IsWhole, IsBegun, IsCharOf, IsBeginningOf, IsOfScalars}
 
 -- the bytes that pick the offset o
 abbrev pub tail_of : ℕ → ℕ → List ℕ

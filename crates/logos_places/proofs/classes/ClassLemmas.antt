@@ -11,10 +11,10 @@ use Rattle.logos_hir.specs.Matches.{Matches}
 use Rattle.logos_hir.proofs.tree.Laws.{encoded}
 use Rattle.logos_places.specs.Core as core
 use Rattle.logos_places.specs.Core.{Core, At, Reader, Stands, width, IsFree}
-use Rattle.logos_places.specs.Characters.{IsOfScalars, IsCharOf}
+use Rattle.logos_places.specs.inside.Characters.{IsOfScalars, IsCharOf}
 use Rattle.logos_places.specs.ByteRanges.{is_in}
 use Rattle.logos_places.specs.Places.{Place, byte_of, member, within, Reads, begun}
-use Rattle.logos_places.specs.Reader.{is_char_in, Spells, IsReaderOf, IsBegunAt}
+use Rattle.logos_places.specs.inside.Reader.{is_char_in, Spells, IsReaderOf, IsBegunAt}
 use Rattle.logos_places.specs.IsCore.{IsCoreOf}
 use Rattle.logos_places.proofs.classes.ReaderLemmas.{leaf_matches, leaf_begins}
 use Rattle.logos_places.proofs.classes.TextLemmas.{StandsAt-of_Spells, Spells-of_StandsAt, Spells-end, InRanges-of_is_in, is_in-of_InRanges}

@@ -1,7 +1,7 @@
 -- Ranges, one after another.
 use Rattle.std.proofs.Common.{◌≡◌, ℕ, ◌<◌, Bool, true, false, ◌&&◌, ◌||◌, List, [], ◌∷◌, ◌++◌, refl, sym, ap, ◌∙◌, arith, nat_le, le-leb}
 use Rattle.std.proofs.lemmas.Bool.{and_from}
-use Rattle.logos_places.specs.Ranges.{in_range, in_ranges, IsPart, AreParts}
+use Rattle.logos_places.specs.inside.Ranges.{in_range, in_ranges, IsPart, AreParts}
 use Rattle.logos_places.specs.declared.characters.ranges.CharRange.{CharRange}
 
 or_assoc : (a b c : Bool) → ((a || b) || c) ≡ (a || (b || c))

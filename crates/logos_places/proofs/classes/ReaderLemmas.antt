@@ -3,9 +3,9 @@ use Rattle.std.proofs.Common.{◌≡◌, ℕ, zero, suc, ◌+◌, ◌-◌, ◌*�
 use Rattle.std.proofs.lemmas.Bool.{cases_lt}
 use Rattle.std.proofs.lemmas.Option.{same_Some, none-some, MatchOption-at_some, MatchOption-at_none}
 use Rattle.std.specs.Char.{encode_utf8}
-use Rattle.logos_places.specs.Characters.{size, Lead, lead, after_lead, after_byte, After, Reads, IsOpen, IsWhole, IsBegun, IsOfScalars}
+use Rattle.logos_places.specs.inside.Characters.{size, Lead, lead, after_lead, after_byte, After, Reads, IsOpen, IsWhole, IsBegun, IsOfScalars}
 use Rattle.logos_places.specs.Core.{Reader, Stands}
-use Rattle.logos_places.specs.Reader.{Spells, IsCharAt, IsBegunAt, Same, IsRest, IsShut, IsReaderOf}
+use Rattle.logos_places.specs.inside.Reader.{Spells, IsCharAt, IsBegunAt, Same, IsRest, IsShut, IsReaderOf}
 use Rattle.logos_places.proofs.classes.CharacterLemmas.{part_bound, left_bound, lead_middle, Picks-of_After, IsOpenWith, open_of_whole, left_known, Reads-map, chars_are_read, beginnings_are_read}
 
 option_cases : {A : Type 0} (o : Option A) → (o ≡ None) ⊎ ((x : A) × (o ≡ Some x))

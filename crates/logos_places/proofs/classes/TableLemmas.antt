@@ -9,8 +9,8 @@ use Rattle.std.proofs.Math.Seq.{get_or-append_seam}
 use lib.Pointwise.{pointwise, pointwise_decides}
 use lib.Dec.{eqb}
 use Rattle.std.proofs.lemmas.Bool.Decides.{nat_tests}
-use Rattle.logos_places.specs.Characters.{size, Lead, lead, after_lead, after_byte}
-use Rattle.logos_places.specs.Ranges.{in_ranges, AreParts, from_floor}
+use Rattle.logos_places.specs.inside.Characters.{size, Lead, lead, after_lead, after_byte}
+use Rattle.logos_places.specs.inside.Ranges.{in_ranges, AreParts, from_floor}
 use Rattle.logos_places.specs.Table.{Row, row_of, IsAt, Grows, AreRests, IsRowFor, Finds, FindsFirst, FindsNext, IsCell, weight, led_to}
 use Rattle.logos_places.specs.declared.characters.ranges.CharRange.{CharRange}
 use Rattle.logos_places.specs.declared.characters.build.Rest.{Rest}

@@ -7,7 +7,7 @@ use Rattle.std.proofs.lemmas.Bool.{and_parts, and_from}
 use Rattle.std.proofs.lemmas.Bool.Decides.{nat_tests}
 use Rattle.logos_hir.specs.Text.{StandsAt, InRanges}
 use Rattle.logos_places.specs.ByteRanges.{is_in}
-use Rattle.logos_places.specs.Reader.{Spells}
+use Rattle.logos_places.specs.inside.Reader.{Spells}
 
 -- a byte that is there stands in front of the rest
 pub drop_at : (bytes : List ℕ) (i b : ℕ) → slice_get bytes i ≡ Some b → drop i bytes ≡ b ∷ drop (suc i) bytes

@@ -11,7 +11,7 @@ use Rattle.logos_places.specs.Core as core
 use Rattle.logos_places.specs.Core.{Core, At, IsIn, Leaves, width, IsFree}
 use Rattle.logos_places.specs.ByteRanges.{is_in}
 use Rattle.logos_places.specs.Places.{Place, byte_of, member, within}
-use Rattle.logos_places.specs.Reader.{Spells}
+use Rattle.logos_places.specs.inside.Reader.{Spells}
 use Rattle.logos_places.specs.Repeat.{spelled}
 use Rattle.logos_places.specs.IsCore.{IsCoreOf}
 use Rattle.logos_places.proofs.trees.ReadLemmas.{Reads-start, Reads-from}

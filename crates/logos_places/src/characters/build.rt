@@ -1,9 +1,9 @@
 // The table of a reader that reads a character of a class.
 ghost use Rattle.std.specs.Prelude.{zero, min, ◌≡◌, ℕ, ◌+◌, ◌-◌, ◌*◌, ◌/◌, ◌%◌, ◌^◌, ◌<◌, ◌≤◌, ◌||◌, OnOk, IfOk, IfSome, Bool, None, slice_index_or, length, vec_len};
-ghost use Rattle.logos_places.specs.Characters.{size, lead, after_byte};
-ghost use Rattle.logos_places.specs.Ranges.{in_ranges, AreParts, from_floor};
+ghost use Rattle.logos_places.specs.inside.Characters.{size, lead, after_byte};
+ghost use Rattle.logos_places.specs.inside.Ranges.{in_ranges, AreParts, from_floor};
 ghost use Rattle.logos_places.specs.Table as table;
-ghost use Rattle.logos_places.specs.Reader.{is_char_in, IsReaderOf};
+ghost use Rattle.logos_places.specs.inside.Reader.{is_char_in, IsReaderOf};
 ghost use Rattle.logos_hir.specs.Hir.{pairs};
 
 use crate::characters::ranges::{CharRange, clip, scalars};
@@ -95,7 +95,8 @@ fn first_for(
     ensures grows { OnOk result (table.Grows rests.old.keys rests.new.keys) }
     ensures longer { OnOk result (length rests.old.keys ≤ length rests.new.keys) }
     ensures rests { OnOk result (table.AreRests rests.new.keys) }
-    ensures finds { IfOk result (table.FindsFirst rests.new.keys (in_ranges ranges.now) (lead byte)) }
+    ensures finds { IfOk result
+        (table.FindsFirst rests.new.keys (in_ranges ranges.now) (lead byte)) }
     ensures weight { OnOk result (table.weight 0 rests.new.keys + table.first_weight byte ≤
         table.weight 0 rests.old.keys + table.first_weight (byte + 1)) }
 {

@@ -3,8 +3,8 @@ ghost use Rattle.std.specs.Prelude.{◌&&◌, nat_le, ◌≡◌, ℕ, ◌+◌, �
 ghost use lib.Utf8.{scalar};
 ghost use Rattle.logos_hir.specs.Hir.{pairs};
 ghost use Rattle.logos_places.specs.ByteRanges.{is_in};
-ghost use Rattle.logos_places.specs.Reader.{is_char_in};
-ghost use Rattle.logos_places.specs.Ranges.{in_range, in_ranges, from_floor, ClipsTo, AreParts};
+ghost use Rattle.logos_places.specs.inside.Reader.{is_char_in};
+ghost use Rattle.logos_places.specs.inside.Ranges.{in_range, in_ranges, from_floor, ClipsTo, AreParts};
 
 use logos_hir::hir::Range;
 use std::alloc::{AllocError, Global};
@@ -91,7 +91,8 @@ fn push_range(out: &mut Vec<CharRange>, first: u32, last: u32) -> Result<(), All
 /// Adds the characters of one range.
 fn push_scalars(out: &mut Vec<CharRange>, range: Range) -> Result<(), AllocError>
     ensures { OnOk result ((c : ℕ) → in_ranges out.new.items c ≡
-        (in_ranges out.old.items c || (scalar c && (nat_le range.first c && nat_le c range.last)))) }
+        (in_ranges out.old.items c ||
+        (scalar c && (nat_le range.first c && nat_le c range.last)))) }
 {
     push_range(out, range.first, range.last.min(0xD7FF))?;
     push_range(out, range.first.max(0xE000), range.last.min(0x10_FFFF))

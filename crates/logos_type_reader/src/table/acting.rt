@@ -4,7 +4,7 @@ ghost use Rattle.logos_token.specs.Tokens.{none};
 ghost use Rattle.logos_token.specs.Views.{tokens_of, inside_of};
 ghost use Rattle.logos_type_reader.specs.Table.{opens, closes, keeps, to};
 ghost use Rattle.logos_type_reader.specs.ReadingViews.{behind_of, spot_of, IsFirst, IsStep};
-ghost use Rattle.logos_type_reader.specs.Actions.{lead_sign, behind_lead, opens_first, opens_type, acts, begun};
+ghost use Rattle.logos_type_reader.specs.inside.Actions.{lead_sign, behind_lead, opens_first, opens_type, acts, begun};
 ghost use Rattle.logos_type.specs.Parts.{sign_of};
 
 use crate::table::place::{Action, Behind, Lead, Opening, Place, Spot, Start, Step, Stop};

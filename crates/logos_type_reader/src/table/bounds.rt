@@ -5,7 +5,7 @@ ghost use Rattle.logos_token.specs.Views.{tokens_of};
 ghost use Rattle.logos_type_reader.specs.Table.{behind_bound, bound_lifetime_move, trait_move, question_move, bound_move, bound_end_move, further_move, enclosed_end_move, behind_for, for_move, for_lifetime_move, for_list_move, for_end_move, path_move};
 ghost use Rattle.logos_type_reader.specs.declared.table.place.PathKind.TheVariants.{OfBound};
 ghost use Rattle.logos_type_reader.specs.ReadingViews.{behind_of, spot_of};
-ghost use Rattle.logos_type_reader.specs.Actions.{IsAction};
+ghost use Rattle.logos_type_reader.specs.inside.Actions.{IsAction};
 
 use crate::table::paths::path_step;
 use crate::table::place::{Action, Binder, BoundKind, Lead, Look, Next, PathKind, Place, Spot};

@@ -2,7 +2,7 @@
 ghost use Rattle.logos_token.specs.Views.{tokens_of};
 ghost use Rattle.logos_type_reader.specs.Table.{referent_move, pointer_move, list_move, list_end_move, element_end_move, length_move, self_end_move, self_trait_end_move, self_closed_move};
 ghost use Rattle.logos_type_reader.specs.ReadingViews.{behind_of, spot_of};
-ghost use Rattle.logos_type_reader.specs.Actions.{IsAction};
+ghost use Rattle.logos_type_reader.specs.inside.Actions.{IsAction};
 
 use crate::table::place::{Action, Lead, Look, Next, PathKind, Place, Spot};
 use crate::table::tokens::{begins_colons, begins_word, look, misfit};

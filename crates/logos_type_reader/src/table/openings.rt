@@ -4,7 +4,7 @@ ghost use Rattle.logos_token.specs.Tokens.{rest_of};
 ghost use Rattle.logos_token.specs.Views.{tokens_of};
 ghost use Rattle.logos_type_reader.specs.Table.{first_span, reference_first, reference_lifetime_first, word_place, word_first, mark_first, begin, is_reserved, name_of};
 ghost use Rattle.logos_type_reader.specs.ReadingViews.{IsFirst};
-ghost use Rattle.logos_type_reader.specs.Actions.{first_text, IsStart};
+ghost use Rattle.logos_type_reader.specs.inside.Actions.{first_text, IsStart};
 
 use crate::table::acting::begin_by;
 use crate::table::place::{Binder, First, Lead, Look, Opening, PathKind, Place, Start, Stop};

@@ -4,7 +4,7 @@ ghost use Rattle.logos_token.specs.Tokens.{rest_of};
 ghost use Rattle.logos_token.specs.Views.{tokens_of};
 ghost use Rattle.logos_type_reader.specs.Table.{misfits, first_span, begins_colons, begins_mark, begins_arrow, begins_dots, begins_parenthesis, begins_bound, typing, goes_on};
 ghost use Rattle.logos_type_reader.specs.ReadingViews.{spot_of};
-ghost use Rattle.logos_type_reader.specs.Actions.{Looks, first_text, begins_word, IsAction};
+ghost use Rattle.logos_type_reader.specs.inside.Actions.{Looks, first_text, begins_word, IsAction};
 
 use crate::table::place::{Look, Next, Spot, Stop};
 use logos_token::token::{Delimiter, Spacing, Span, TokenTree, Tokens};

@@ -1,5 +1,5 @@
 use Rattle.std.proofs.Common.{◌≡◌, ℕ, ◌+◌, ◌-◌, ◌<◌, ◌≤◌, false, IsTrue, drop, length, map, slice_index, slice_index_or}
-use Rattle.logos_automaton.specs.Alike.{AreReadAlike}
+use Rattle.logos_automaton.specs.inside.Alike.{AreReadAlike}
 use Rattle.logos_places.specs.Kinds.{kind_of_byte}
 use Rattle.logos_places.specs.Marks.{Has}
 use Rattle.logos_places.specs.Node.{core_of}

@@ -1,5 +1,5 @@
 use Rattle.std.proofs.Common.{drop}
-use Rattle.logos_automaton.specs.Alike.{IsAlike}
+use Rattle.logos_automaton.specs.inside.Alike.{IsAlike}
 use Rattle.logos_places.specs.Repeat.{spelled}
 use Rattle.logos_automaton.proofs.alike.literal_tells.Given as goal
 

@@ -1,4 +1,4 @@
-use Rattle.logos_automaton.specs.Alike.{IsTold}
+use Rattle.logos_automaton.specs.inside.Alike.{IsTold}
 use Rattle.logos_places.specs.Node.{core_of}
 use Rattle.logos_automaton.proofs.alike.told_by.Given as goal
 

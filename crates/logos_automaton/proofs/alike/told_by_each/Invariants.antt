@@ -1,5 +1,5 @@
 use Rattle.std.proofs.Common.{◌-◌, ◌≤◌, length}
-use Rattle.logos_automaton.specs.Alike.{AreTold}
+use Rattle.logos_automaton.specs.inside.Alike.{AreTold}
 use Rattle.logos_automaton.proofs.alike.told_by_each.Given as goal
 
 abbrev pub invariant-loop-number : goal.invariant-loop-number

@@ -1,6 +1,6 @@
 use Rattle.std.proofs.Common.{◌≡◌, ◌↔◌, ◌⊎◌, inl, inr, ℕ, ◌<◌, ◌≤◌, List, map, length, Contains, Vec, Global, sym, ◌∙◌, subst, arith}
 use Rattle.std.proofs.lemmas.Result.{on_ok_weaker}
-use Rattle.logos_automaton.specs.TopSets.{top_of, IsTopSet}
+use Rattle.logos_automaton.specs.inside.TopSets.{top_of, IsTopSet}
 use Rattle.logos_automaton.specs.Munch.{Rule}
 use Rattle.logos_automaton.specs.View.{rules_of}
 use Rattle.logos_automaton.proofs.ambiguity.TopLemmas.{few_kept}

@@ -2,7 +2,7 @@ use Rattle.std.proofs.Common.{◌↔◌, ℕ, List, map, Contains, Vec, Global, 
 use Rattle.logos_hir.specs.declared.leaf.LeafId.{LeafId}
 use Rattle.logos_automaton.specs.DfaView.{dfa_of}
 use Rattle.logos_automaton.specs.Errors.{numbers}
-use Rattle.logos_automaton.specs.TopSets.{IsTopIn}
+use Rattle.logos_automaton.specs.inside.TopSets.{IsTopIn}
 use Rattle.logos_automaton.specs.View.{rules_of}
 use Rattle.logos_automaton.proofs.ambiguity.TopLemmas.{are_ambiguous}
 use Rattle.logos_automaton.proofs.faults.ambiguous_sets.Goals as goal

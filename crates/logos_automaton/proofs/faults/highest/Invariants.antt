@@ -1,5 +1,5 @@
 use Rattle.std.proofs.Common.{◌≡◌, max, drop}
-use Rattle.logos_automaton.specs.TopSets.{highest_of}
+use Rattle.logos_automaton.specs.inside.TopSets.{highest_of}
 use Rattle.logos_automaton.specs.View.{rules_of}
 use Rattle.logos_automaton.proofs.faults.highest.Given as goal
 

@@ -1,5 +1,5 @@
 use Rattle.std.proofs.Common.{◌≡◌, ◌++◌, drop}
-use Rattle.logos_automaton.specs.TopSets.{with_priority}
+use Rattle.logos_automaton.specs.inside.TopSets.{with_priority}
 use Rattle.logos_automaton.specs.View.{rules_of}
 use Rattle.logos_automaton.proofs.faults.with_priority.Given as goal
 

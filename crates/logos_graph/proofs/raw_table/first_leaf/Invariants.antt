@@ -1,5 +1,5 @@
 use Rattle.std.proofs.Common.{◌≡◌, drop}
-use Rattle.logos_graph.specs.First.{first_of}
+use Rattle.logos_graph.specs.inside.First.{first_of}
 use Rattle.logos_graph.specs.View.{rules_of}
 use Rattle.logos_graph.proofs.RawLemmas.{joined}
 use Rattle.logos_graph.proofs.raw_table.first_leaf.Given as goal

@@ -1,6 +1,6 @@
 use Rattle.std.proofs.Common.{None, length, arith}
 use Rattle.logos_automaton.specs.DfaView.{dfa_of}
-use Rattle.logos_graph.specs.RawTable.{IsMarkOf}
+use Rattle.logos_graph.specs.inside.RawTable.{IsMarkOf}
 use Rattle.logos_graph.specs.View.{rules_of}
 use Rattle.logos_reduce.proofs.tables.PushLemmas.{pushed}
 use Rattle.logos_graph.proofs.raw_table.raw_marks.Goals as goal

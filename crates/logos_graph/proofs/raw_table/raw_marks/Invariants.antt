@@ -1,6 +1,6 @@
 use Rattle.std.proofs.Common.{◌≡◌, ℕ, ◌<◌, length, vec_len}
 use Rattle.logos_automaton.specs.DfaView.{dfa_of}
-use Rattle.logos_graph.specs.RawTable.{IsMarkOf}
+use Rattle.logos_graph.specs.inside.RawTable.{IsMarkOf}
 use Rattle.logos_reduce.specs.Table.{mark_in}
 use Rattle.logos_graph.specs.View.{rules_of}
 use Rattle.logos_graph.proofs.raw_table.raw_marks.Given as goal

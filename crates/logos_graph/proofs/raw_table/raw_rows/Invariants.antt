@@ -1,5 +1,5 @@
 use Rattle.logos_automaton.specs.DfaView.{dfa_of}
-use Rattle.logos_graph.specs.RawTable.{AreRawRows}
+use Rattle.logos_graph.specs.inside.RawTable.{AreRawRows}
 use Rattle.logos_reduce.specs.RowsView.{rows_of}
 use Rattle.logos_graph.proofs.raw_table.raw_rows.Given as goal
 

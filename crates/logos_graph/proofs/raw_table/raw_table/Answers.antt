@@ -1,7 +1,7 @@
 use Rattle.std.proofs.Common.{◌≡◌, ℕ, ◌<◌, ◌≤◌, Option, None, IfSome, length, refl, sym, ◌∙◌, ap, subst, arith, List, Vec, Global, vec_len}
 use Rattle.std.proofs.lemmas.List.{get_or_past}
 use Rattle.logos_automaton.specs.DfaView.{dfa_of}
-use Rattle.logos_graph.specs.RawTable.{IsMarkOf, AreRawRows}
+use Rattle.logos_graph.specs.inside.RawTable.{IsMarkOf, AreRawRows}
 use Rattle.logos_pattern.specs.declared.leaf.Leaf.{Leaf}
 use Rattle.logos_graph.proofs.Automaton.{no_faults}
 use Rattle.logos_graph.proofs.RawLemmas.{raw_closed, is_raw, raw_late}

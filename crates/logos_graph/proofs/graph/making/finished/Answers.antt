@@ -5,7 +5,7 @@ use Rattle.logos_automaton.specs.Faults.{AreFaults}
 use Rattle.logos_graph.specs.FinishedGraph.{NamesLeaves}
 use Rattle.logos_graph.specs.View.{rules_of}
 use Rattle.logos_automaton.specs.Automaton.{ReadsOneByteLate}
-use Rattle.logos_graph.specs.Walk.{MarksOneByteLate}
+use Rattle.logos_graph.specs.inside.Walk.{MarksOneByteLate}
 use Rattle.logos_graph.proofs.Automaton.{no_faults}
 use Rattle.logos_graph.proofs.graph.making.finished.Goals as goal
 use Rattle.logos_reduce.specs.Table.{size, mark, type_of, edges}

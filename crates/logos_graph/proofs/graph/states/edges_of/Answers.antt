@@ -2,7 +2,7 @@ use Rattle.std.proofs.Common.{◌≡◌, ◌-◌, ◌<◌, ◌≤◌, ℕ, map, 
 use Rattle.logos_graph.specs.Bytes.{bounds}
 use Rattle.logos_graph.specs.GraphView.{edge_of}
 use Rattle.logos_reduce.specs.Rows.{target_by, target_of}
-use Rattle.logos_graph.specs.States.{with_run}
+use Rattle.logos_graph.specs.inside.States.{with_run}
 use Rattle.logos_graph.proofs.EdgeLemmas.{edges_none, edges_more, targets_differ}
 use Rattle.logos_graph.proofs.graph.states.edges_of.Goals as goal
 

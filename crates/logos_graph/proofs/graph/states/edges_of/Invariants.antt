@@ -1,7 +1,7 @@
 use Rattle.std.proofs.Common.{◌≢◌, ◌-◌, ◌<◌, ◌≤◌, map}
 use Rattle.logos_graph.specs.GraphView.{edge_of}
 use Rattle.logos_reduce.specs.Rows.{target_by}
-use Rattle.logos_graph.specs.States.{AreEdgesOf}
+use Rattle.logos_graph.specs.inside.States.{AreEdgesOf}
 use Rattle.logos_graph.proofs.graph.states.edges_of.Given as goal
 
 abbrev pub invariant-loop-start : goal.invariant-loop-start

@@ -1,6 +1,6 @@
 use Rattle.std.proofs.Common.{◌+◌, ◌-◌, ◌/◌, ◌<◌, map, length, arith}
 use Rattle.logos_graph.specs.GraphView.{edge_of}
-use Rattle.logos_graph.specs.States.{targets}
+use Rattle.logos_graph.specs.inside.States.{targets}
 use Rattle.logos_graph.proofs.EdgeLemmas.{all_below, all_above, length-targets, target_at}
 use Rattle.logos_graph.proofs.graph.states.place_of.Goals as goal
 

@@ -1,6 +1,6 @@
 use Rattle.std.proofs.Common.{◌-◌, ℕ, ◌<◌, ◌≤◌, length, map, get_or}
 use Rattle.logos_graph.specs.GraphView.{edge_of}
-use Rattle.logos_graph.specs.States.{targets}
+use Rattle.logos_graph.specs.inside.States.{targets}
 use Rattle.logos_graph.proofs.graph.states.place_of.Given as goal
 
 abbrev pub invariant-loop-low : goal.invariant-loop-low

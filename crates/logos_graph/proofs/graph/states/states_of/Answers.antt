@@ -1,7 +1,7 @@
 use Rattle.std.proofs.Common.{◌≡◌, ◌∷◌, [], map, length, ap, sym, subst, ◌∙◌, arith}
 use Rattle.std.proofs.lemmas.List.{map-append, length-map}
 use Rattle.logos_graph.specs.GraphView.{graph_state_of, state_number}
-use Rattle.logos_graph.specs.States.{HaveNumbers}
+use Rattle.logos_graph.specs.inside.States.{HaveNumbers}
 use Rattle.logos_reduce.specs.Table.{size}
 use Rattle.logos_graph.proofs.BackwardLemmas.{numbered_at, more_numbered, numbered_backward}
 use Rattle.logos_graph.proofs.StateLemmas.{states_more, program_neat, states_show, states_neat, states_finished}

@@ -2,7 +2,7 @@ use Rattle.std.proofs.Common.{◌≡◌, ◌≤◌, length, [], ◌∷◌, refl,
 use Rattle.logos_automaton.specs.Munch.{matched, failed, ended}
 use Rattle.logos_code.specs.Items.{items_of}
 use Rattle.logos_code.specs.Runs.{Tries}
-use Rattle.logos_machine.specs.Stands.{IsMatch}
+use Rattle.logos_machine.specs.inside.Stands.{IsMatch}
 use Rattle.logos_machine.specs.LexerValue.{LexerValue, item_of, answers_of}
 use Rattle.logos_machine.proofs.LexerLemmas.{item_span, none_of, match_runs, match_next, pass_next, fault_runs, fault_next, over_runs}
 use Rattle.logos_machine.proofs.machine.Lexer.next.Goals as goal

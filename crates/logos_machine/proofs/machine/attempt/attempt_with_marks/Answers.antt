@@ -1,7 +1,7 @@
 use Rattle.std.proofs.Common.{◌≡◌, ◌+◌, suc, Some, None, refl, arith}
 use Rattle.logos_automaton.specs.Munch.{matched, failed, ended}
 use Rattle.logos_code.specs.Runs.{Does, acts, goes_on, is_over, acts_on}
-use Rattle.logos_machine.specs.Attempts.{stand_of}
+use Rattle.logos_machine.specs.inside.Attempts.{stand_of}
 use Rattle.logos_machine.proofs.StandLemmas.{stands_next, stands_match, stands_fault, stands_over}
 use Rattle.logos_machine.proofs.machine.attempt.attempt_with_marks.Goals as goal
 

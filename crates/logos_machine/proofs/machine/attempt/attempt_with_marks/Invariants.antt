@@ -1,8 +1,8 @@
 use Rattle.std.proofs.Common.{ℕ, ◌+◌, ◌-◌, ◌≤◌, length}
 use Rattle.logos_automaton.specs.Munch.{Found}
 use Rattle.logos_code.specs.Runs.{Goes, Tries}
-use Rattle.logos_machine.specs.Stands.{IsStand}
-use Rattle.logos_machine.specs.Attempts.{stand_of}
+use Rattle.logos_machine.specs.inside.Stands.{IsStand}
+use Rattle.logos_machine.specs.inside.Attempts.{stand_of}
 use Rattle.logos_machine.proofs.machine.attempt.attempt_with_marks.Given as goal
 
 -- what goes on from here is the whole try

@@ -4,7 +4,7 @@ use Rattle.logos_automaton.specs.Munch.{matched}
 use Rattle.logos_code.specs.Rows.{IsStepOf, SaysAtEnd}
 use Rattle.logos_code.specs.CodeView.{state_at}
 use Rattle.logos_code.specs.Runs.{Stand, Goes, goes_on, acts_on}
-use Rattle.logos_machine.specs.Looks.{SeesBy}
+use Rattle.logos_machine.specs.inside.Looks.{SeesBy}
 use Rattle.logos_code.specs.declared.code.rows.Step.TheVariants.{Leads, Closes, Halts}
 use Rattle.logos_machine.proofs.StandLemmas.{stands_first, stands_next, stands_match}
 use Rattle.logos_machine.proofs.LookLemmas.{sees_end}

@@ -1,8 +1,8 @@
 use Rattle.std.proofs.Common.{ℕ, ◌+◌, ◌-◌, ◌≤◌, length, Option, Some}
 use Rattle.logos_automaton.specs.Munch.{Found}
 use Rattle.logos_code.specs.Runs.{Goes, Tries}
-use Rattle.logos_machine.specs.Stands.{IsStand}
-use Rattle.logos_machine.specs.Looks.{SeesBy}
+use Rattle.logos_machine.specs.inside.Stands.{IsStand}
+use Rattle.logos_machine.specs.inside.Looks.{SeesBy}
 use Rattle.logos_machine.proofs.machine.attempt.match_soon.Given as goal
 
 -- what goes on from here is the whole try

@@ -1,7 +1,7 @@
 use Rattle.std.proofs.Common.{◌≡◌, ◌≢◌, ◌⊎◌, inl, inr, Some, None, sym, ◌∙◌}
 use Rattle.std.proofs.lemmas.Option.{slice_get-get_or}
 use Rattle.logos_code.specs.CodeView.{state_at, no_state}
-use Rattle.logos_machine.specs.Attempts.{context_of, stand_of}
+use Rattle.logos_machine.specs.inside.Attempts.{context_of, stand_of}
 use Rattle.logos_machine.proofs.StepLemmas.{does_return, does_lead, late_behind}
 use Rattle.logos_machine.proofs.machine.attempt.run_state.Goals.{in-Some, in-None-2, then-at-root+else-stop-start, else-at-root}
 use Rattle.logos_machine.proofs.machine.attempt.run_state.Goals as goal

@@ -1,7 +1,7 @@
 use Rattle.std.proofs.Common.{None, slice_index_or, sym, ◌∙◌, subst, arith}
-use Rattle.logos_places.specs.Ranges.{in_ranges}
-use Rattle.logos_places.specs.Characters.{lead}
-use Rattle.logos_places.specs.Reader.{IsReaderOf}
+use Rattle.logos_places.specs.inside.Ranges.{in_ranges}
+use Rattle.logos_places.specs.inside.Characters.{lead}
+use Rattle.logos_places.specs.inside.Reader.{IsReaderOf}
 use Rattle.logos_places.specs.Table.{reader_from}
 use Rattle.logos_places.proofs.classes.BuildLemmas.{is_reader}
 use Rattle.logos_places.proofs.classes.TableLemmas.{FindsFirst-grows}

@@ -1,5 +1,5 @@
 use Rattle.std.proofs.Common.{sym, ◌∙◌, arith}
-use Rattle.logos_places.specs.Ranges.{in_ranges}
+use Rattle.logos_places.specs.inside.Ranges.{in_ranges}
 use Rattle.logos_places.proofs.classes.TableLemmas.{first_more}
 use Rattle.logos_places.proofs.characters.build.first_cells.Goals as goal
 

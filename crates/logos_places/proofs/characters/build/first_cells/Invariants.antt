@@ -1,6 +1,6 @@
 use Rattle.std.proofs.Common.{◌≡◌, ℕ, ◌+◌, ◌<◌, ◌≤◌, None, slice_index_or, vec_len}
-use Rattle.logos_places.specs.Characters.{lead}
-use Rattle.logos_places.specs.Ranges.{in_ranges}
+use Rattle.logos_places.specs.inside.Characters.{lead}
+use Rattle.logos_places.specs.inside.Ranges.{in_ranges}
 use Rattle.logos_places.specs.Table as table
 use Rattle.logos_places.proofs.characters.build.first_cells.Given as goal
 

@@ -1,8 +1,8 @@
 use Rattle.std.proofs.Common.{◌≡◌, ℕ, Bool, IfOk, subst}
 use Rattle.std.proofs.Math.Path.{fun_ext}
 use Rattle.logos_hir.specs.Hir.{pairs}
-use Rattle.logos_places.specs.Ranges.{in_ranges}
-use Rattle.logos_places.specs.Reader.{is_char_in, IsReaderOf}
+use Rattle.logos_places.specs.inside.Ranges.{in_ranges}
+use Rattle.logos_places.specs.inside.Reader.{is_char_in, IsReaderOf}
 use Rattle.logos_places.specs.Table.{reader_of}
 use Rattle.logos_places.specs.declared.characters.reader.Table.{Table}
 use Rattle.logos_places.proofs.characters.build.table_of.Goals as goal

@@ -1,5 +1,5 @@
 use Rattle.std.proofs.Common.{◌≡◌, ℕ, ◌<◌, ◌||◌, drop}
-use Rattle.logos_places.specs.Ranges.{in_ranges, from_floor, AreParts}
+use Rattle.logos_places.specs.inside.Ranges.{in_ranges, from_floor, AreParts}
 use Rattle.logos_places.proofs.characters.ranges.clip.Given as goal
 
 abbrev pub invariant-loop-i : goal.invariant-loop-i

@@ -1,5 +1,5 @@
 use Rattle.std.proofs.Common.{◌||◌, ap, ◌∙◌}
-use Rattle.logos_places.specs.Ranges.{in_ranges}
+use Rattle.logos_places.specs.inside.Ranges.{in_ranges}
 use Rattle.logos_places.proofs.classes.RangeLemmas.{in_ranges-push, AreParts-push}
 use Rattle.logos_places.proofs.characters.ranges.push_clip.Goals as goal
 

@@ -1,7 +1,7 @@
 use Rattle.std.proofs.Common.{◌≡◌, ℕ, ◌||◌, drop}
 use Rattle.logos_hir.specs.Hir.{pairs}
-use Rattle.logos_places.specs.Reader.{is_char_in}
-use Rattle.logos_places.specs.Ranges.{in_ranges}
+use Rattle.logos_places.specs.inside.Reader.{is_char_in}
+use Rattle.logos_places.specs.inside.Ranges.{in_ranges}
 use Rattle.logos_places.proofs.characters.ranges.scalars.Given as goal
 
 abbrev pub invariant-loop-range : goal.invariant-loop-range

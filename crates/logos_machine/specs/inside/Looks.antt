@@ -5,7 +5,7 @@ use Rattle.logos_code.specs.Code.{CodeValue}
 use Rattle.logos_code.specs.CodeView.{state_at}
 use Rattle.logos_code.specs.Rows.{IsStepOf}
 use Rattle.logos_code.specs.Runs.{enters, acts, looped, Does, Tries}
-use Rattle.logos_machine.specs.Stands.{IsMatch}
+use Rattle.logos_machine.specs.inside.Stands.{IsMatch}
 use Rattle.logos_code.specs.declared.code.rows.Step.{Step}
 use Rattle.logos_code.specs.declared.code.rows.Step.TheVariants.{Leads, Closes, Halts, Unsaid}
 

@@ -1,7 +1,7 @@
 -- The table of an automaton, with late marks alone.
 use Rattle.std.specs.Prelude.{◌≡◌, ℕ, ◌<◌, List, Option, None, IfSome, Some, length, slice_get}
 use Rattle.std.specs.List.{All}
-use Rattle.logos_graph.specs.First.{first_of, higher}
+use Rattle.logos_graph.specs.inside.First.{first_of, higher}
 use Rattle.logos_automaton.specs.Munch.{Rule}
 use Rattle.logos_automaton.specs.Automaton.{Automaton, dfa_next}
 use Rattle.logos_reduce.specs.Rows.{target_in}

@@ -4,7 +4,7 @@ use Rattle.std.specs.Option.{option_map_or}
 use Rattle.logos_hir.specs.Text.{IsBytes}
 use Rattle.logos_automaton.specs.Munch.{Rule, RuleMatches, IsFirst, Found, ended, matched, failed}
 use Rattle.logos_graph.specs.Graph.{GraphState, next_by, next_at_end}
-use Rattle.logos_graph.specs.First.{first_of}
+use Rattle.logos_graph.specs.inside.First.{first_of}
 use Rattle.logos_automaton.specs.Automaton.{Automaton, dfa_next}
 use Rattle.logos_reduce.specs.Edges.{StateType, Edges, reach, Leads}
 

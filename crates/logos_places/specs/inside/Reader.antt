@@ -5,7 +5,7 @@ use Rattle.std.specs.Option.{MatchOption}
 use lib.Utf8.{scalar}
 use Rattle.logos_places.specs.ByteRanges.{is_in}
 use Rattle.logos_places.specs.Core.{Reader}
-use Rattle.logos_places.specs.Characters.{size, Lead, lead, after_lead, after_byte, IsOpen, IsBeginningOf}
+use Rattle.logos_places.specs.inside.Characters.{size, Lead, lead, after_lead, after_byte, IsOpen, IsBeginningOf}
 
 -- the characters of the ranges
 abbrev pub is_char_in : List (ℕ × ℕ) → ℕ → Bool

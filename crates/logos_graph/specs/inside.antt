@@ -1,0 +1,4 @@
+pub mod First
+pub mod RawTable
+pub mod States
+pub mod Walk
