@@ -1,5 +1,5 @@
 -- The types that declared parameters have, and what stands between the angle brackets behind the enum's name.
-use Rattle.std.specs.Prelude.{ℕ, List, [], ◌∷◌, ◌++◌, map, Bool, true, false, if◌then◌else◌, Option, Some, None, codes}
+use Rattle.std.specs.Prelude.{◌≡◌, ℕ, List, [], ◌∷◌, ◌++◌, map, Bool, true, false, if◌then◌else◌, Option, Some, None, codes}
 use Rattle.std.specs.Str.{bytes_eq}
 use Rattle.logos_token.specs.declared.error.fault_code.FaultCode.TheVariants.{NoConcreteType}
 use Rattle.logos_token.specs.Faults.{Fault}
@@ -56,6 +56,12 @@ concrete_types types front (n ∷ names) = and_type (concrete_type types front n
 abbrev pub missing_types : List Given → List Named → List Named → List Fault
 missing_types types front [] = []
 missing_types types front (n ∷ names) = and_fault (concrete_type types front n.text) n (missing_types types (front ++ n ∷ []) names)
+
+-- the first of these faults are listed, behind the old ones, and no others
+pub record ListsSome (all old new : List Fault) : Type 0 where
+  pub first rest : List Fault
+  pub whole : all ≡ first ++ rest
+  pub listed : new ≡ old ++ first
 
 -- nothing stands between the angle brackets where there is neither a lifetime nor a type
 abbrev pub between_brackets : Bool → List Tree → Option GenericsValue

@@ -21,3 +21,9 @@ pub data AreChecked (params : List ParamValue) : (front names : List Named) (old
   no_name : {front : List Named} {faults : List Fault} → AreChecked params front [] faults faults
   one_more : {front names : List Named} {named : Named} {old mid new : List Fault} → IsChecked params front named old mid →
       AreChecked params (front ++ named ∷ []) names mid new → AreChecked params front (named ∷ names) old new
+
+-- the first of the declared names are checked, and what they add is all that is added
+pub record FirstAreChecked (params : List ParamValue) (names : List Named) (old new : List Fault) : Type 0 where
+  pub first rest : List Named
+  pub whole : names ≡ first ++ rest
+  pub checked : AreChecked params [] first old new

@@ -37,3 +37,7 @@ pub record AreHeld (params : List ParamValue) (held : List (List ℕ)) : Type 0 
 pub data GetsType (params : Params) (written : Tree) (at : Span) (old new : List Fault) (got : Tree) : Type 0 where
   replaced : After params type_nesting written got → new ≡ old → GetsType params written at old new got
   as_written : Passes params type_nesting written → got ≡ written → new ≡ old ++ limit_type_nesting at ∷ [] → GetsType params written at old new got
+
+-- nothing is listed, or that the limit is passed
+abbrev pub MayListDepth : Span → (old new : List Fault) → Type 0
+MayListDepth at old new = (new ≡ old) ⊎ (new ≡ old ++ limit_type_nesting at ∷ [])

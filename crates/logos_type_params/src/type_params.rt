@@ -7,6 +7,7 @@ ghost use Rattle.logos_type.specs.Parts.{tree_of};
 ghost use Rattle.logos_type_reader.specs.ReadingViews.{IfFault};
 ghost use Rattle.logos_type.specs.TypeTrees.{type_tree};
 ghost use Rattle.logos_type_reader.specs.TypeExprs.{IsTypeExpr, NoTypeExpr};
+ghost use Rattle.logos_type_params.specs.Substitution.{param_value};
 ghost use Rattle.logos_type_params.specs.inside.Checks.{ChecksName};
 ghost use Rattle.logos_type_params.specs.TypeParams.{named_of, given_of, type_syntax};
 ghost use Rattle.logos_type_params.specs.TypeParams.{limit_type_nesting, about, many_lifetimes};
@@ -238,21 +239,22 @@ fn give<'s>(
 }
 
 /// Lists a declared name that holds itself, unless it stands among those in front. It is one of
-/// these from now on.
+/// these from now on. After an error the faults are as before.
 fn check_name<'s>(
     alloc: Global,
     front: &mut IndexSet<&'s str>,
-    chains: &mut Chains<'_, 's>,
+    chains: &Chains<'_, 's>,
     name: Ident<'s>,
     errors: &mut Errors,
 ) -> Result<(), Memory>
-    ensures { OnOk result (ChecksName front.old.keys chains.old (named_of name.entry)
-        errors.old front.new.keys chains.new errors.new) }
+    ensures ok { OnOk result (ChecksName (map param_value chains.now.types.now.entries)
+        front.old.keys (named_of name.entry) errors.old front.new.keys errors.new) }
+    ensures err { OnErr result (errors.new ≡ errors.old) }
 {
     if !front.insert(name.text)? {
         return Ok(());
     }
-    if !chains.lead_back(name.text)? {
+    if !chains.lead_back(name.text) {
         return Ok(());
     }
     list_about(
@@ -268,7 +270,7 @@ fn check_name<'s>(
 impl<'s> TypeParams<'s> {
     ghost use Rattle.std.specs.Prelude.{◌≡◌, ◌++◌, ◌∷◌, [], OnOk, OnErr, true, false, if◌then◌else◌};
     ghost use Rattle.logos_token.specs.Views.{tokens_of};
-    ghost use Rattle.logos_type_params.specs.SelfFaults.{AreChecked};
+    ghost use Rattle.logos_type_params.specs.SelfFaults.{AreChecked, FirstAreChecked};
     ghost use Rattle.logos_type_params.specs.TypeParams.{Value, value_of, named_of, many_lifetimes};
     ghost use Rattle.logos_type_params.specs.TypeParams.{IsSet, ListsFirst};
     ghost use Rattle.logos_type_params.specs.WrittenTypes.{types_of};
@@ -361,16 +363,19 @@ impl<'s> TypeParams<'s> {
     }
 
     /// Lists each parameter whose types lead back to it, in order of declaration. A name that is
-    /// declared again is not listed again. The time grows with the sizes of all types, and where
-    /// chains lead back, at most with their product with the number of types.
+    /// declared again is not listed again. After an error only the names at the beginning are
+    /// checked, and what they list stands behind the faults from before. The time grows with the
+    /// sizes of all types.
     pub fn check(&self, errors: &mut Errors) -> Result<(), Memory>
-        ensures { OnOk result (AreChecked (types_of self.now) []
+        ensures ok { OnOk result (AreChecked (types_of self.now) []
+            (value_of self.now).names errors.old errors.new) }
+        ensures err { OnErr result (FirstAreChecked (types_of self.now)
             (value_of self.now).names errors.old errors.new) }
     {
-        let mut chains = Chains::new(self.alloc, &self.types);
+        let chains = Chains::new(self.alloc, &self.types)?;
         let mut front = IndexSet::new(self.alloc);
         for name in &self.names.list {
-            check_name(self.alloc, &mut front, &mut chains, *name, errors)?;
+            check_name(self.alloc, &mut front, &chains, *name, errors)?;
         }
         Ok(())
     }

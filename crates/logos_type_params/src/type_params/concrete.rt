@@ -1,8 +1,8 @@
 //! The types that declared parameters have, and what stands between the angle brackets behind the enum's name.
-ghost use Rattle.std.specs.Prelude.{◌≡◌, ◌++◌, ◌∷◌, [], map, IfOk, OnOk, option_map};
+ghost use Rattle.std.specs.Prelude.{◌≡◌, ◌++◌, ◌∷◌, [], map, IfOk, OnOk, OnErr, option_map};
 ghost use Rattle.logos_type.specs.TypeTrees.{type_tree};
 ghost use Rattle.logos_type_params.specs.TypeParams.{named_of, given_of};
-ghost use Rattle.logos_type_params.specs.Generics.{type_of, generics_of, no_concrete_type, and_type, and_fault, concrete_types, missing_types, between_brackets};
+ghost use Rattle.logos_type_params.specs.Generics.{type_of, generics_of, no_concrete_type, and_type, and_fault, concrete_types, missing_types, between_brackets, ListsSome};
 ghost use Rattle.logos_type_params.specs.inside.Checks.{CopiesName};
 
 use super::{TypeParams, list_about};
@@ -52,9 +52,10 @@ fn copy_concrete<'s>(
     copy_given(types, name.text)
 }
 
-/// Lists that a declared name has no type.
+/// Lists that a declared name has no type. After an error the faults are as before.
 fn list_missing(alloc: Global, name: Ident<'_>, errors: &mut Errors) -> Result<(), Memory>
-    ensures { OnOk result (errors.new ≡ errors.old ++ no_concrete_type (named_of name.entry) ∷ []) }
+    ensures ok { OnOk result (errors.new ≡ errors.old ++ no_concrete_type (named_of name.entry) ∷ []) }
+    ensures err { OnErr result (errors.new ≡ errors.old) }
 {
     list_about(
         alloc,
@@ -66,7 +67,8 @@ fn list_missing(alloc: Global, name: Ident<'_>, errors: &mut Errors) -> Result<(
     )
 }
 
-/// Adds the type of a declared name, or lists that it has none.
+/// Adds the type of a declared name, or lists that it has none. After an error the faults are as
+/// before.
 fn add_or_list<'s>(
     alloc: Global,
     found: Option<TypeExpr<'s>>,
@@ -78,6 +80,7 @@ fn add_or_list<'s>(
         map type_tree types.old.items ++ and_type (option_map type_tree found.entry) []) }
     ensures faults { OnOk result (errors.new ≡
         errors.old ++ and_fault (option_map type_tree found.entry) (named_of name.entry) []) }
+    ensures err { OnErr result (errors.new ≡ errors.old) }
 {
     let Some(type_expr) = found else {
         return list_missing(alloc, name, errors);
@@ -86,7 +89,8 @@ fn add_or_list<'s>(
     Ok(())
 }
 
-/// The types of declared names, in order; where one has none, that is listed.
+/// The types of declared names, in order; where one has none, that is listed. After an error the
+/// first of these faults are listed.
 fn copy_types<'s>(
     alloc: Global,
     names: &[Ident<'s>],
@@ -97,6 +101,8 @@ fn copy_types<'s>(
         concrete_types (map given_of types.now.entries) [] (map named_of names.now)) }
     ensures faults { OnOk result (errors.new ≡ errors.old
         ++ missing_types (map given_of types.now.entries) [] (map named_of names.now)) }
+    ensures err { OnErr result (ListsSome (missing_types (map given_of types.now.entries) []
+        (map named_of names.now)) errors.old errors.new) }
 {
     let mut front = IndexSet::new(alloc);
     let mut copies = Vec::new(alloc);
@@ -119,10 +125,11 @@ fn bracketed<'s>(lifetime: bool, types: Vec<TypeExpr<'s>>) -> Option<Generics<'s
 }
 
 impl<'s> TypeParams<'s> {
-    ghost use Rattle.std.specs.Prelude.{◌≡◌, ◌++◌, [], IfOk, OnOk, option_map};
+    ghost use Rattle.std.specs.Prelude.{◌≡◌, ◌++◌, [], IfOk, OnOk, OnErr, option_map};
     ghost use Rattle.logos_type.specs.TypeTrees.{type_tree};
     ghost use Rattle.logos_type_params.specs.TypeParams.{value_of};
     ghost use Rattle.logos_type_params.specs.Generics.{type_at, generics, generics_of, missing_types};
+    ghost use Rattle.logos_type_params.specs.Generics.{ListsSome};
 
     /// A copy of the type that is given to the parameter which this path just names. There is none where the path is more than a name, or where
     /// no type is given to the name. Only want of memory is an error.
@@ -139,12 +146,14 @@ impl<'s> TypeParams<'s> {
     /// What stands between the angle brackets behind the enum's name: `'s` if a lifetime is declared, and then the types that are given to the
     /// declared parameters, in order of declaration. There is nothing where there is neither. A declared name without a type is listed where it is
     /// declared, as `NoConcreteType`, and stands for nothing; a name that is declared again has no type there. Only want of memory is an error;
-    /// some of the faults may be listed then.
+    /// the first of these faults are listed then.
     pub fn generics(&self, errors: &mut Errors) -> Result<Option<Generics<'s>>, Memory>
         ensures value { IfOk result (λ made. option_map generics_of made ≡
             generics (value_of self.now)) }
         ensures faults { OnOk result (errors.new ≡ errors.old ++ missing_types
             (value_of self.now).types [] (value_of self.now).names) }
+        ensures err { OnErr result (ListsSome (missing_types
+            (value_of self.now).types [] (value_of self.now).names) errors.old errors.new) }
     {
         let types = copy_types(self.alloc, self.names.list.as_slice(), &self.types, errors)?;
         Ok(bracketed(self.lifetime, types))

@@ -1,9 +1,10 @@
 //! What becomes of a written type, and which names are left in place there.
-ghost use Rattle.std.specs.Prelude.{◌≡◌, ◌++◌, ◌∷◌, [], map, IfOk, OnOk};
+ghost use Rattle.std.specs.Prelude.{◌≡◌, ◌++◌, ◌∷◌, [], map, IfOk, OnOk, OnErr};
 ghost use Rattle.logos_type.specs.TypeTrees.{type_tree};
 ghost use Rattle.logos_type_params.specs.SelfReference.{texts};
 ghost use Rattle.logos_type_params.specs.TypeParams.{limit_type_nesting};
-ghost use Rattle.logos_type_params.specs.inside.Checks.{AsksName};
+ghost use Rattle.logos_type_params.specs.Substitution.{param_value};
+ghost use Rattle.logos_type_params.specs.WrittenTypes.{IsAsked, MayListDepth};
 
 use super::{TypeParams, list_depth};
 use crate::self_reference::Chains;
@@ -16,20 +17,21 @@ use logos_type_reader::{TYPE_NESTING, TypeFault};
 
 /// Adds a name if it holds itself.
 fn add_held<'s>(
-    chains: &mut Chains<'_, 's>,
+    chains: &Chains<'_, 's>,
     text: &'s str,
     held: &mut IndexSet<&'s str>,
 ) -> Result<(), Memory>
-    ensures { OnOk result (AsksName chains.old text.now (texts held.old.keys)
-        chains.new (texts held.new.keys)) }
+    ensures { OnOk result (IsAsked (map param_value chains.now.types.now.entries)
+        text.now (texts held.old.keys) (texts held.new.keys)) }
 {
-    if chains.lead_back(text)? {
+    if chains.lead_back(text) {
         held.insert(text)?;
     }
     Ok(())
 }
 
-/// The type as it is written; that the limit is passed is listed at this span.
+/// The type as it is written; that the limit is passed is listed at this span. After an error it
+/// may be listed.
 fn leave_written<'s>(
     written: &TypeExpr<'s>,
     span: Span,
@@ -37,36 +39,38 @@ fn leave_written<'s>(
 ) -> Result<TypeExpr<'s>, Memory>
     ensures same { IfOk result (λ left. type_tree left ≡ type_tree written.now) }
     ensures faults { OnOk result (errors.new ≡ errors.old ++ limit_type_nesting span ∷ []) }
+    ensures err { OnErr result (MayListDepth span errors.old errors.new) }
 {
     list_depth(errors, span)?;
     Ok(written.clone()?)
 }
 
 impl<'s> TypeParams<'s> {
-    ghost use Rattle.std.specs.Prelude.{IfOk};
+    ghost use Rattle.std.specs.Prelude.{IfOk, OnErr};
     ghost use Rattle.logos_type.specs.TypeTrees.{type_tree};
     ghost use Rattle.logos_type_params.specs.SelfReference.{texts};
     ghost use Rattle.logos_type_params.specs.WrittenTypes.{types_of, params_with, AreHeld, GetsType};
+    ghost use Rattle.logos_type_params.specs.WrittenTypes.{MayListDepth};
 
-    /// The names of the given types whose chain leads back to them: `get_type` is to leave these in place. The time grows as that of `check`. Only
+    /// The names of the given types whose chain leads back to them: `get_type` is to leave these in place. The time grows with the sizes of all types. Only
     /// want of memory is an error.
     pub fn held_names(&self) -> Result<IndexSet<&'s str>, Memory>
         ensures { IfOk result (λ held. AreHeld (types_of self.now) (texts held.keys)) }
     {
-        let mut chains = Chains::new(self.alloc, &self.types);
+        let chains = Chains::new(self.alloc, &self.types)?;
         let mut held = IndexSet::new(self.alloc);
         for at in 0..self.types.len() {
             let Some((text, _)) = self.types.get_index(at) else {
                 unreachable!();
             };
-            add_held(&mut chains, text, &mut held)?;
+            add_held(&chains, text, &mut held)?;
         }
         Ok(held)
     }
 
     /// What becomes of a written type: its declared parameters are replaced by the types given to them, but for the held names, and its lifetimes
     /// are set to `'s`. Where more types than may would stand inside one another then, that is listed at this span, as `LimitTypeNesting`, and the
-    /// type stays as it is written. Only want of memory is an error; the fault may be listed then.
+    /// type stays as it is written. Only want of memory is an error; nothing but this fault may be listed then.
     pub fn get_type(
         &self,
         held: &IndexSet<&'s str>,
@@ -74,8 +78,9 @@ impl<'s> TypeParams<'s> {
         span: Span,
         errors: &mut Errors,
     ) -> Result<TypeExpr<'s>, Memory>
-        ensures { IfOk result (λ got. GetsType (params_with self.now (texts held.now.keys))
+        ensures ok { IfOk result (λ got. GetsType (params_with self.now (texts held.now.keys))
             (type_tree written.now) span errors.old errors.new (type_tree got)) }
+        ensures err { OnErr result (MayListDepth span errors.old errors.new) }
     {
         let params = Replacing {
             types: &self.types,
