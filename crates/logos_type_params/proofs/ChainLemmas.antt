@@ -260,18 +260,20 @@ module _ (params : List ParamValue) (lists : List (List ℕ)) (reached : AreReac
   path_of (one {from = a} {to = b} h) i j s k = step ((targets params params lists reached a i s j).1 (b, (h, k)))
   path_of (on {from = a} {over = o} h l) i j s k = let p = start_of l in steps ((targets params params lists reached a i s p.0).1 (o, (h, p.1))) (path_of l p.0 j p.1 k)
 
-  marked : (marks : List Bool) → length marks ≡ length lists → ((i : ℕ) → i < length lists → IsTrue (slice_index_or marks i false) ↔ Path lists i i) → AreMarked params marks
-  marked marks e f = (
-    e ∙ same,
-    λ t i s. let g = f i (let w = stands_within params t i s in omega (arith, w, same)) in (λ m. chain_of (g.0 m) t t s s, λ l. g.1 (path_of l i i s s)),
-  )
-    where
-      same : length lists ≡ length params
-      same = reached_length params params lists reached
+  marked : (marks : List Bool) → ((i : ℕ) → i < length lists → IsTrue (slice_index_or marks i false) ↔ Path lists i i) → AreMarked params marks
+  marked marks f t i s =
+      let same = reached_length params params lists reached in
+      let g = f i (let w = stands_within params t i s in omega (arith, w, same)) in
+      (λ m. chain_of (g.0 m) t t s s, λ l. g.1 (path_of l i i s s))
 
 -- what is marked where the lists have more than their items
-pub marked_by : (params : List ParamValue) {L : Type 0} (items : L → List ℕ) (lists : List L) → AreReached params params (map items lists) → (marks : List Bool) → length marks ≡ length lists →
+pub marked_by : (params : List ParamValue) {L : Type 0} (items : L → List ℕ) (lists : List L) → AreReached params params (map items lists) → (marks : List Bool) →
     ((i : ℕ) → i < length lists → IsTrue (slice_index_or marks i false) ↔ Path (map items lists) i i) → AreMarked params marks
-marked_by params items lists reached marks e f =
+marked_by params items lists reached marks f =
     let same = length-map lists items in
-    marked params (map items lists) reached marks (e ∙ sym same) (λ i h. f i (let k = h in omega (arith, k, same)))
+    marked params (map items lists) reached marks (λ i h. f i (omega (arith, h, same)))
+
+-- there are as many lists as types
+pub as_many : (es : Entries) {L : Type 0} (items : L → List ℕ) (lists : List L) → AreReached (map param_value es) (map param_value es) (map items lists) → length lists ≡ length es
+as_many es items lists reached =
+    sym (length-map lists items) ∙ reached_length (map param_value es) (map param_value es) (map items lists) reached ∙ length-map es param_value

@@ -11,9 +11,10 @@ use Rattle.logos_type_params.specs.SelfFaults.{type_holds_itself, declared_again
 use Rattle.logos_type.specs.Parts.{Tree}
 use Rattle.logos_type_params.specs.TypeParams.{Named, Given, is_declared}
 use Rattle.logos_type_params.specs.Generics.{type_of, and_type, and_fault, concrete_types, missing_types, ListsSome}
-use Rattle.logos_type_params.specs.WrittenTypes.{IsAsked, is_held, is_free}
+use Rattle.logos_type_params.specs.WrittenTypes.{is_held, is_free}
+use Rattle.logos_type_params.specs.inside.Chains.{AreMarked}
 use Rattle.logos_type_params.specs.inside.Fronts.{AreInFront}
-use Rattle.logos_type_params.specs.inside.Checks.{ChecksName, CopiesName}
+use Rattle.logos_type_params.specs.inside.Checks.{ChecksName, AsksName, CopiesName}
 use Rattle.logos_type_params.proofs.ChainLemmas.{Text, has_left, has_last, has_cases, any_texts, any_has, any_from_has, any_push, with_key, eq_sym, same_text}
 
 -- a text among those to which one was added
@@ -88,28 +89,28 @@ among t keys added b e f = sym (any_texts t.now keys) ∙ go (list_any (λ (k : 
     go false true h = refl
     go false false h = absurd (true≢false (sym h))
 
-module _ (t : Bor Text) (named : Named) (is : named.text ≡ t.now) (keys keys' : List (Bor Text)) (put : keys' ≡ insert_key (λ (a b : Bor Text). bytes_eq a.now b.now) keys t) (params : List ParamValue) (before after : List Fault) where
+module _ (t : Bor Text) (named : Named) (is : named.text ≡ t.now) (keys keys' : List (Bor Text)) (put : keys' ≡ insert_key (λ (a b : Bor Text). bytes_eq a.now b.now) keys t) (params : List ParamValue) (marks : List Bool) (before after : List Fault) where
   declared_as : (front : List Named) → AreInFront front keys → (b : Bool) → list_any (bytes_eq t.now) (texts keys) ≡ b → is_declared front named.text ≡ b
   declared_as front are b e = rw is (sym (are t.now) ∙ e)
 
   -- a name that stands in front already
-  pub checked_again : list_any (bytes_eq t.now) (texts keys) ≡ true → after ≡ before → ChecksName params keys named before keys' after
+  pub checked_again : list_any (bytes_eq t.now) (texts keys) ≡ true → after ≡ before → ChecksName params marks keys named before keys' after
   checked_again e none = record {
-    checked = λ front are. declared_again (declared_as front are true e) none;
+    checked = λ are_marked front are. declared_again (declared_as front are true e) none;
     fronts = λ front are. fronts_on t named keys keys' front is put are;
   }
 
   -- a name to which no chain leads back
-  pub checked_free : (leads : Bool) → leads ≡ false → (IsTrue leads ↔ Leads params t.now t.now) → after ≡ before → ChecksName params keys named before keys' after
+  pub checked_free : (leads : Bool) → leads ≡ false → (AreMarked params marks → IsTrue leads ↔ Leads params t.now t.now) → after ≡ before → ChecksName params marks keys named before keys' after
   checked_free leads l asked none = record {
-    checked = λ front are. leads_on (λ back. true≢false (sym (asked.1 (rw is at back)) ∙ l)) none;
+    checked = λ are_marked front are. leads_on (λ back. true≢false (sym ((asked are_marked).1 (rw is at back)) ∙ l)) none;
     fronts = λ front are. fronts_on t named keys keys' front is put are;
   }
 
   -- a name to which a chain leads back
-  pub checked_held : list_any (bytes_eq t.now) (texts keys) ≡ false → (leads : Bool) → leads ≡ true → (IsTrue leads ↔ Leads params t.now t.now) → after ≡ before ++ type_holds_itself named ∷ [] → ChecksName params keys named before keys' after
+  pub checked_held : list_any (bytes_eq t.now) (texts keys) ≡ false → (leads : Bool) → leads ≡ true → (AreMarked params marks → IsTrue leads ↔ Leads params t.now t.now) → after ≡ before ++ type_holds_itself named ∷ [] → ChecksName params marks keys named before keys' after
   checked_held e leads l asked listed = record {
-    checked = λ front are. leads_back (declared_as front are false e) (rw is (asked.0 l)) listed;
+    checked = λ are_marked front are. leads_back (declared_as front are false e) (rw is ((asked are_marked).0 l)) listed;
     fronts = λ front are. fronts_on t named keys keys' front is put are;
   }
 
@@ -189,13 +190,13 @@ on_ok_one (Ok x) f p = f p
 on_ok_one (Err e) f p = tt
 
 -- a name that is asked is held or not
-pub asks_held : (params : List ParamValue) (t : Bor Text) (leads : Bool) (keys keys' : List (Bor Text)) → leads ≡ true → (IsTrue leads ↔ Leads params t.now t.now) → keys' ≡ insert_key (λ (a b : Bor Text). bytes_eq a.now b.now) keys t →
-    IsAsked params t.now (texts keys) (texts keys')
-asks_held params t leads keys keys' l asked put =
-    is_held (asked.0 l) (λ other h. has_key t keys keys' other put h) (λ other h. key_has t keys keys' other put h) (key_put t keys keys' put)
+pub asks_held : (params : List ParamValue) (marks : List Bool) (t : Bor Text) (leads : Bool) (keys keys' : List (Bor Text)) → leads ≡ true → (AreMarked params marks → IsTrue leads ↔ Leads params t.now t.now) → keys' ≡ insert_key (λ (a b : Bor Text). bytes_eq a.now b.now) keys t →
+    AsksName params marks t.now (texts keys) (texts keys')
+asks_held params marks t leads keys keys' l asked put are =
+    is_held ((asked are).0 l) (λ other h. has_key t keys keys' other put h) (λ other h. key_has t keys keys' other put h) (key_put t keys keys' put)
 
-pub asks_free : (params : List ParamValue) (t : Text) (leads : Bool) (held : List Text) → leads ≡ false → (IsTrue leads ↔ Leads params t t) → IsAsked params t held held
-asks_free params t leads held l asked = is_free (λ back. true≢false (sym (asked.1 back) ∙ l)) refl
+pub asks_free : (params : List ParamValue) (marks : List Bool) (t : Text) (leads : Bool) (held : List Text) → leads ≡ false → (AreMarked params marks → IsTrue leads ↔ Leads params t t) → AsksName params marks t held held
+asks_free params marks t leads held l asked are = is_free (λ back. true≢false (sym ((asked are).1 back) ∙ l)) refl
 
 -- names are checked one by one: those in front are checked
 pub record Checking (params : List ParamValue) (all rest : List Named) (keys : List (Bor (List ℕ))) (old now : List Fault) : Type 0 where
@@ -211,13 +212,14 @@ checked_more {params = params} {front = front} {named = named} {mid = mid} {new 
 checked_more {params = params} {front = front} {named = named} {mid = mid} {new = new} (one_more {names = names} {named = first} i r) h =
     one_more i (checked_more r (subst (λ (f : List Named). IsChecked params f named mid new) (sym (append_assoc front (first ∷ []) names)) h))
 
-pub check_on : (params : List ParamValue) (whole all rest : List Named) (named : Named) (keys keys' : List (Bor Text)) (old before after : List Fault) →
-    Checking params whole all keys old before → all ≡ named ∷ rest → ChecksName params keys named before keys' after → Checking params whole rest keys' old after
-check_on params whole all rest named keys keys' old before after c e h = record {
+pub check_on : (params : List ParamValue) (marks : List Bool) (whole all rest : List Named) (named : Named) (keys keys' : List (Bor Text)) (old before after : List Fault) →
+    Checking params whole all keys old before → all ≡ named ∷ rest → ChecksName params marks keys named before keys' after → AreMarked params marks →
+    Checking params whole rest keys' old after
+check_on params marks whole all rest named keys keys' old before after c e h are = record {
   front = c.front ++ named ∷ [];
   fronts = h.fronts c.front c.fronts;
   whole = c.whole ∙ ap (λ names. c.front ++ names) e ∙ sym (append_assoc c.front (named ∷ []) rest);
-  checked = checked_more c.checked (h.checked c.front c.fronts);
+  checked = checked_more c.checked (h.checked are c.front c.fronts);
 }
 
 -- where no name is left, all are checked

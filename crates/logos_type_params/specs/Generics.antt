@@ -59,7 +59,8 @@ missing_types types front (n ∷ names) = and_fault (concrete_type types front n
 
 -- the first of these faults are listed, behind the old ones, and no others
 pub record ListsSome (all old new : List Fault) : Type 0 where
-  pub first rest : List Fault
+  pub first : List Fault
+  pub rest : List Fault
   pub whole : all ≡ first ++ rest
   pub listed : new ≡ old ++ first
 

@@ -24,6 +24,7 @@ pub data AreChecked (params : List ParamValue) : (front names : List Named) (old
 
 -- the first of the declared names are checked, and what they add is all that is added
 pub record FirstAreChecked (params : List ParamValue) (names : List Named) (old new : List Fault) : Type 0 where
-  pub first rest : List Named
+  pub first : List Named
+  pub rest : List Named
   pub whole : names ≡ first ++ rest
   pub checked : AreChecked params [] first old new

@@ -1,9 +1,9 @@
 //! Which parameters hold themselves.
-ghost use Rattle.std.specs.Prelude.{◌≡◌, ℕ, List, map, IfOk, OnOk, IsTrue, ◌↔◌};
+ghost use Rattle.std.specs.Prelude.{◌≡◌, ◌↔◌, [], length, map, IfOk, OnOk, IsTrue};
 ghost use Rattle.logos_type.specs.Parts.{name, tree_of};
 ghost use Rattle.logos_type_params.specs.Substitution.{param_value};
 ghost use Rattle.logos_type_params.specs.SelfReference.{names, Leads};
-ghost use Rattle.logos_type_params.specs.inside.Chains.{Reaches, AreReached, AreMarked};
+ghost use Rattle.logos_type_params.specs.inside.Chains.{Reaches, AreReached};
 
 use crate::substitution::TypeParam;
 use indexmap::IndexMap;
@@ -18,7 +18,7 @@ pub(crate) struct Chains<'p, 's> {
     types: &'p IndexMap<&'s str, TypeParam<'s>>,
     /// Of each type whether a chain leads from its name back to it.
     held: Vec<bool>,
-    ghost marks: { AreMarked (map param_value types.now.entries) held.items },
+    ghost fits: { length held.items ≡ length types.now.entries },
 }
 
 /// Adds the place of the type that is given to a name, if there is one.
@@ -82,13 +82,16 @@ impl<'p, 's> Chains<'p, 's> {
     ghost use Rattle.std.specs.Prelude.{◌≡◌, ◌↔◌, map, IfOk, IsTrue};
     ghost use Rattle.logos_type_params.specs.Substitution.{param_value};
     ghost use Rattle.logos_type_params.specs.SelfReference.{Leads};
+    ghost use Rattle.logos_type_params.specs.inside.Chains.{AreMarked};
 
     /// The chains of these types. The time grows with the sizes of all types.
     pub(crate) fn new(
         alloc: Global,
         types: &'p IndexMap<&'s str, TypeParam<'s>>,
     ) -> Result<Chains<'p, 's>, AllocError>
-        ensures { IfOk result (λ chains. chains.types.now.entries ≡ types.now.entries) }
+        ensures types { IfOk result (λ chains. chains.types.now.entries ≡ types.now.entries) }
+        ensures marks { IfOk result (λ chains.
+            AreMarked (map param_value types.now.entries) chains.held.items) }
     {
         let lists = all_reached(alloc, types)?;
         let held = on_cycles(alloc, lists.as_slice())?;
@@ -97,8 +100,9 @@ impl<'p, 's> Chains<'p, 's> {
 
     /// Whether a chain leads back to this name.
     pub(crate) fn lead_back(&self, text: &str) -> bool
-        ensures { IsTrue result ↔
-            Leads (map param_value self.now.types.now.entries) text.now text.now }
+        ensures { AreMarked (map param_value self.now.types.now.entries) self.now.held.items →
+            IsTrue result ↔
+                Leads (map param_value self.now.types.now.entries) text.now text.now }
     {
         let Some(at) = self.types.get_index_of(text) else {
             return false;

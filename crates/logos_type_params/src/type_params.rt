@@ -248,7 +248,8 @@ fn check_name<'s>(
     errors: &mut Errors,
 ) -> Result<(), Memory>
     ensures ok { OnOk result (ChecksName (map param_value chains.now.types.now.entries)
-        front.old.keys (named_of name.entry) errors.old front.new.keys errors.new) }
+        chains.now.held.items front.old.keys (named_of name.entry) errors.old
+        front.new.keys errors.new) }
     ensures err { OnErr result (errors.new ≡ errors.old) }
 {
     if !front.insert(name.text)? {

@@ -1,5 +1,5 @@
 -- Types by their places, and which of them lead to which.
-use Rattle.std.specs.Prelude.{◌≡◌, ℕ, zero, suc, ◌<◌, ◌⊎◌, List, [], ◌∷◌, length, Bool, true, false, Contains, slice_index_or, IsTrue, ◌↔◌}
+use Rattle.std.specs.Prelude.{◌≡◌, ℕ, zero, suc, ◌⊎◌, List, [], ◌∷◌, Bool, true, false, Contains, slice_index_or, IsTrue, ◌↔◌, ⊤}
 use Rattle.std.specs.Str.{bytes_eq}
 use Rattle.logos_type_params.specs.Substitution.{ParamValue}
 use Rattle.logos_type_params.specs.SelfReference.{names, Leads}
@@ -27,4 +27,4 @@ AreReached params (p ∷ ps) (l ∷ lists) = Reaches params (names p.type) [] l 
 
 -- of each place it is marked whether a chain leads from the name of the type there back to it
 abbrev pub AreMarked : List ParamValue → List Bool → Type 0
-AreMarked params marks = (length marks ≡ length params) × ((text : List ℕ) (at : ℕ) → StandsAt params text at → IsTrue (slice_index_or marks at false) ↔ Leads params text text)
+AreMarked params marks = (text : List ℕ) (at : ℕ) → StandsAt params text at → IsTrue (slice_index_or marks at false) ↔ Leads params text text

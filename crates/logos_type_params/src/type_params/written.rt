@@ -4,7 +4,8 @@ ghost use Rattle.logos_type.specs.TypeTrees.{type_tree};
 ghost use Rattle.logos_type_params.specs.SelfReference.{texts};
 ghost use Rattle.logos_type_params.specs.TypeParams.{limit_type_nesting};
 ghost use Rattle.logos_type_params.specs.Substitution.{param_value};
-ghost use Rattle.logos_type_params.specs.WrittenTypes.{IsAsked, MayListDepth};
+ghost use Rattle.logos_type_params.specs.WrittenTypes.{MayListDepth};
+ghost use Rattle.logos_type_params.specs.inside.Checks.{AsksName};
 
 use super::{TypeParams, list_depth};
 use crate::self_reference::Chains;
@@ -21,8 +22,8 @@ fn add_held<'s>(
     text: &'s str,
     held: &mut IndexSet<&'s str>,
 ) -> Result<(), Memory>
-    ensures { OnOk result (IsAsked (map param_value chains.now.types.now.entries)
-        text.now (texts held.old.keys) (texts held.new.keys)) }
+    ensures { OnOk result (AsksName (map param_value chains.now.types.now.entries)
+        chains.now.held.items text.now (texts held.old.keys) (texts held.new.keys)) }
 {
     if chains.lead_back(text) {
         held.insert(text)?;

@@ -1,0 +1,12 @@
+use Rattle.std.proofs.Common.{sym, true≢false}
+use Rattle.logos_type_params.proofs.ChainLemmas.{placed, unplaced, start_of}
+use Rattle.logos_type_params.proofs.self_reference.Chains.lead_back.Goals as goal
+
+pub returns-in_default : goal.returns-in_default
+returns-in_default c = λ are. (
+  λ e. absurd (true≢false (sym e)),
+  λ l. let p = start_of l in absurd (unplaced c.args.text.now c.args.self.now.types.now.entries (sym c.in_default.ensures.found) p.0 p.1),
+)
+
+pub returns : goal.returns
+returns c = λ are. are c.args.text.now c.in-Some.at (placed c.args.text.now c.args.self.now.types.now.entries c.in-Some.at (sym c.in-Some.ensures.index))
