@@ -1,8 +1,9 @@
 //! Which nodes of a directed graph lie on a cycle.
-ghost use Rattle.std.specs.Prelude.{true, false, ◌≡◌, ℕ, ◌<◌, ◌↔◌, List, IfOk, IsTrue, length, map, vec_len, slice_index_or};
-ghost use Rattle.logos_cycles.specs.Cycles.{Leads};
 
 #![tactic(auto)]
+
+ghost use Rattle.std.specs.Prelude.{true, false, ◌≡◌, ℕ, ◌<◌, ◌↔◌, List, IfOk, IsTrue, length, map, vec_len, slice_index_or};
+ghost use Rattle.logos_cycles.specs.Cycles.{Leads};
 
 mod walk;
 #[cfg(test)]
