@@ -8,7 +8,7 @@ use logos_pattern::pattern::Literal;
 use logos_source::said::{Said, read_said};
 use logos_token::error::Memory;
 use logos_token::token::{self, Span, TokenStream, tokenize};
-use logos_type::TypeExpr;
+use logos_type::{Part, TypeExpr};
 use std::alloc::Global;
 
 /// A function for each state.
@@ -35,6 +35,8 @@ pub struct Given<'s> {
     pub said: Box<Said<'s>>,
     pub arguments: Box<TokenStream<'s>>,
     pub type_tokens: Box<TokenStream<'s>>,
+    /// The type of which a generator makes code.
+    pub this: TypeExpr<'s>,
     /// What the source gives, if it has no fault.
     pub generated: Option<Box<Generated<'s>>>,
 }
@@ -99,6 +101,9 @@ pub fn given_of(alloc: Global, source: &Source) -> Result<Box<Given<'_>>, Memory
         said: said_of(alloc, source.text)?,
         arguments: tokens_of(alloc, ARGUMENTS)?,
         type_tokens: tokens_of(alloc, TYPE)?,
+        this: TypeExpr {
+            part: Part::Name("E"),
+        },
         generated: generated_of(alloc, source.text)?,
     };
     Ok(Box::new(alloc, given)?)

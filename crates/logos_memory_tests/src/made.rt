@@ -185,10 +185,10 @@ fn ask_loop(
 }
 
 /// Asks for what becomes of the matches of the last leaf.
-fn ask_callback(
+fn ask_callback<'s>(
     asking: &mut Asking,
-    graph: &Graph<'_>,
-    generator: &Generator<'_, '_>,
+    graph: &Graph<'s>,
+    generator: &Generator<'_, 's>,
 ) -> Result<(), Memory> {
     let [.., leaf] = graph.leaves() else {
         return Err(Memory);
@@ -227,11 +227,11 @@ pub fn prepare(alloc: Global, call: Made, generator: &mut Generator<'_, '_>) -> 
 }
 
 /// Asks a call.
-pub fn ask(
+pub fn ask<'s>(
     asking: &mut Asking,
     call: Made,
-    generated: &Generated<'_>,
-    generator: &mut Generator<'_, '_>,
+    generated: &Generated<'s>,
+    generator: &mut Generator<'_, 's>,
 ) -> Result<(), Memory>
     requires faultless { generated.now.graph.faults ≡ [] }
     requires same { generator.old.graph ≡ generated.now.graph }

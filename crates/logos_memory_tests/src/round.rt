@@ -14,7 +14,7 @@ use logos_codegen::Generated;
 use logos_codegen::generator::Generator;
 use logos_token::error::Memory;
 use logos_token::util::ToIdent;
-use logos_type::{Part, TypeExpr};
+use logos_type::TypeExpr;
 
 /// Asks a call that changes nothing.
 fn ask_plain(asking: &mut Asking, call: Plain, given: &Given<'_>) -> Result<(), Memory> {
@@ -36,11 +36,11 @@ fn ask_change(asking: &mut Asking, call: Change, given: &Given<'_>) -> Result<()
 }
 
 /// Asks a call of a generator.
-fn ask_generator(
+fn ask_generator<'s>(
     asking: &mut Asking,
     call: Made,
-    generated: &Generated<'_>,
-    generator: &mut Generator<'_, '_>,
+    generated: &Generated<'s>,
+    generator: &mut Generator<'_, 's>,
 ) -> Result<(), Memory>
     requires faultless { generated.now.graph.faults ≡ [] }
     requires same { generator.old.graph ≡ generated.now.graph }
@@ -55,16 +55,18 @@ fn ask_generator(
     tell_tables(asking, generator)
 }
 
-/// Asks a call of a new generator.
-fn ask_made(asking: &mut Asking, call: Made, generated: &Generated<'_>) -> Result<(), Memory> {
+/// Asks a call of a new generator, which borrows the type and the graph alike.
+fn ask_made<'g, 's>(
+    asking: &mut Asking,
+    call: Made,
+    this: &'g TypeExpr<'s>,
+    generated: &'g Generated<'s>,
+) -> Result<(), Memory> {
     if !generated.graph.errors().is_empty() {
         return Err(Memory);
     }
-    let this = TypeExpr {
-        part: Part::Name("E"),
-    };
     let (name, graph) = ("E".to_ident(), &generated.graph);
-    let mut generator = Generator::new(asking.alloc, SHAPE, name, &this, graph, None);
+    let mut generator = Generator::new(asking.alloc, SHAPE, name, this, graph, None);
     ask_generator(asking, call, generated, &mut generator)
 }
 
@@ -80,7 +82,7 @@ pub fn ask(
         Call::Plain(call) => ask_plain(asking, call, given),
         Call::Change(call) => ask_change(asking, call, given),
         Call::Made(call) => match &given.generated {
-            Some(generated) => ask_made(asking, call, generated),
+            Some(generated) => ask_made(asking, call, &given.this, generated),
             None => Ok(()),
         },
     }
