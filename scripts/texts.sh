@@ -3,7 +3,7 @@
 #
 # Beside each source NAME.rs of scripts/texts stand its texts, NAME.state_machine.txt and NAME.tailcall.txt. They were put together from the
 # templates of the crate, by the graph of the source as it is worked out by hand, and not taken from the program. A stored text is laid out in
-# lines; the printed one has one space between its words, and ends its one line.
+# lines; the printed one has one space between its words, a line end where the stored one has `↵`, and ends its last line.
 #
 # The program `logos` is that which the gate has built, or the first argument.
 set -euo pipefail
@@ -17,7 +17,7 @@ for source in "$texts"/*.rs; do
     for shape in state_machine tailcall; do
         stored=${source%.rs}.$shape.txt
         "$program" gen "$source" --shape "$shape" > "$room/found"
-        words=$(tr -s '[:space:]' ' ' < "$stored")
+        words=$(tr -s '[:space:]' ' ' < "$stored" | sed 's/ ↵ /\n/g')
         printf '%s\n' "${words% }" > "$room/wanted"
         if ! cmp "$room/wanted" "$room/found" >&2; then
             echo "texts: the $shape text of $(basename "$source") is another than the stored one:" >&2

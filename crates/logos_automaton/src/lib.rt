@@ -11,3 +11,4 @@ pub mod measures;
 mod nodes;
 mod row;
 pub mod rule;
+mod trees;

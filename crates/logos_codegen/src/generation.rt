@@ -37,9 +37,10 @@ use logos_pattern::leaf::{Callback, Leaf};
 use logos_source::enum_type::enum_type;
 use logos_source::refusal::Refusal;
 use logos_source::said::{Said, read_said};
-use logos_text::{Around, text_in};
+use logos_text::{Around, gap_behind, text_in};
 use logos_token::error::{Errors, FaultCode, Memory};
 use logos_token::token::{Ident, Span, TokenStream, print};
+use logos_token::util::MaybeVoid;
 use logos_type::TypeExpr;
 use logos_type_params::Generics;
 use std::alloc::{AllocError, Global};
@@ -60,20 +61,40 @@ pub struct Generated<'s> {
     options: Parser<'s>,
 }
 
-/// The text of the path of the library.
-fn library_text(alloc: Global, path: Option<&TokenStream<'_>>) -> Result<String, Memory> {
-    match path {
-        Some(stream) => print(alloc, stream.run()),
-        None => Ok(String::from_str(alloc, ":: logos")?),
+/// A text with a gap behind it.
+fn with_gap(text: String, gap: &str) -> Result<String, Memory> {
+    let mut text = text;
+    text.push_str(gap)?;
+    Ok(text)
+}
+
+/// What parts tokens from the next one, and where there are none what parts `( )` from it.
+fn gap_behind_void(tokens: &MaybeVoid<'_>) -> &'static str {
+    match tokens {
+        MaybeVoid::Some(stream) => gap_behind(stream.run()),
+        MaybeVoid::Void => " ",
     }
 }
 
-/// The text of the type of errors.
+/// The text of the path of the library, with the gap behind it.
+fn library_text(alloc: Global, path: Option<&TokenStream<'_>>) -> Result<String, Memory> {
+    match path {
+        Some(stream) => with_gap(print(alloc, stream.run())?, gap_behind(stream.run())),
+        None => Ok(String::from_str(alloc, ":: logos ")?),
+    }
+}
+
+/// The text of the type of errors, with the gap behind it.
 fn error_text(alloc: Global, error: Option<&ErrorType<'_>>) -> Result<String, Memory> {
     match error {
-        Some(error) => error.print(alloc),
-        None => Ok(String::from_str(alloc, "( )")?),
+        Some(error) => with_gap(error.print(alloc)?, gap_behind_void(&error.ty)),
+        None => Ok(String::from_str(alloc, "( ) ")?),
     }
+}
+
+/// The text of the type of extras, with the gap behind it.
+fn extras_text(alloc: Global, extras: &MaybeVoid<'_>) -> Result<String, Memory> {
+    with_gap(extras.print(alloc)?, gap_behind_void(extras))
 }
 
 impl Generated<'_> {
@@ -85,13 +106,13 @@ impl Generated<'_> {
         ensures { IfOk result (λ text. StandInOrder (texts_of self.now.code) (string_bytes text)) }
     {
         let source = if self.graph.utf8_mode() {
-            "str"
+            "str "
         } else {
-            "[ u8 ]"
+            "[ u8 ] "
         };
         let logos = library_text(alloc, self.options.logos_path.as_ref())?;
         let error = error_text(alloc, self.options.error_type.as_ref())?;
-        let extras = self.options.extras.print(alloc)?;
+        let extras = extras_text(alloc, &self.options.extras)?;
         let around = Around {
             logos: logos.as_str(),
             error: error.as_str(),

@@ -61,8 +61,9 @@ pub(crate) fn push_tokens(
     Ok(())
 }
 
-/// What parts tokens from the next one: the end of the line where the last is a comment that ends with its line.
-fn gap_behind(tokens: Tokens<'_, '_>) -> &'static str {
+/// What parts tokens from the next one: the end of the line where the last of them is a comment that
+/// ends with its line, since what follows would belong to it; else a space.
+pub fn gap_behind(tokens: Tokens<'_, '_>) -> &'static str {
     let mut ends_line = false;
     for tree in tokens.iter() {
         ends_line = is_line_comment(tree);

@@ -4,7 +4,8 @@ ghost use Rattle.logos_text.specs.Standing.{Grows};
 
 use logos_token::error::Memory;
 
-/// What stands around the body of a lexer, each as printed tokens.
+/// What stands around the body of a lexer, each as printed tokens with what parts them from the next
+/// one behind them: a space, or the end of the line as `gap_behind` says.
 #[derive(Clone, Copy)]
 pub struct Around<'p> {
     /// The path of the library.
@@ -36,7 +37,7 @@ fn push_head(text: &mut String, around: Around<'_>, this: &str) -> Result<(), Me
     let source = around.source;
     write!(
         text,
-        "impl < 's > {logos} :: Logos < 's > for {this} {{ type Error = {error} ; type Extras = {extras} ; type Source = {source} ; "
+        "impl < 's > {logos}:: Logos < 's > for {this} {{ type Error = {error}; type Extras = {extras}; type Source = {source}; "
     )?;
     Ok(())
 }
@@ -47,7 +48,7 @@ fn push_signature(text: &mut String, logos: &str) -> Result<(), Memory>
 {
     write!(
         text,
-        "fn lex ( lex : & mut {logos} :: Lexer < 's , Self > ) -> core :: option :: Option < core :: result :: Result < Self , < Self as {logos} :: Logos < 's >> :: Error >> {{ "
+        "fn lex ( lex : & mut {logos}:: Lexer < 's , Self > ) -> core :: option :: Option < core :: result :: Result < Self , < Self as {logos}:: Logos < 's >> :: Error >> {{ "
     )?;
     Ok(())
 }
@@ -58,7 +59,7 @@ fn push_uses(text: &mut String, logos: &str, this: &str) -> Result<(), Memory>
 {
     write!(
         text,
-        "use {logos} :: internal :: {{ LexerInternal , CallbackRetVal , CallbackResult , SkipRetVal , SkipResult , }} ; use core :: result :: Result as _Result ; use core :: option :: Option as _Option ; use {logos} :: Logos ; type _Lexer < 's > = {logos} :: Lexer < 's , {this} > ; "
+        "use {logos}:: internal :: {{ LexerInternal , CallbackRetVal , CallbackResult , SkipRetVal , SkipResult , }} ; use core :: result :: Result as _Result ; use core :: option :: Option as _Option ; use {logos}:: Logos ; type _Lexer < 's > = {logos}:: Lexer < 's , {this} > ; "
     )?;
     Ok(())
 }

@@ -1,25 +1,25 @@
 //! The automaton of leaves: one loop over its states, from the start on, until each has its targets.
 ghost use Rattle.std.specs.Prelude.{◌≡◌, ◌^◌, ◌<◌, ◌≤◌, ◌+◌, [], Bool, List, IfOk, IfErr, OnOk, length, map, vec_len};
-ghost use Rattle.logos_automaton.specs.inside.Alike.{AreTold, AreKindBytes};
+ghost use Rattle.logos_automaton.specs.inside.Prepared.{IsPrepared, cores_of};
 ghost use Rattle.logos_automaton.specs.Building.{IsUnderway, FailsOn, FailsFor};
 ghost use Rattle.logos_places.specs.Core.{Core};
 ghost use Rattle.logos_automaton.specs.DfaView.{dfa_of};
 ghost use Rattle.logos_automaton.specs.Keys.{AreDistinct, AreReached, IsBuilt};
 ghost use Rattle.logos_places.specs.Node.{core_of, AreMeasured};
 ghost use Rattle.logos_places.specs.Run.{width_of};
-ghost use Rattle.logos_places.specs.Several.{AreStarts};
 ghost use Rattle.logos_automaton.specs.Measures.{size_of};
 ghost use Rattle.logos_automaton.specs.Faults.{AllStart};
 ghost use Rattle.logos_automaton.specs.Automaton.{IsTotal, ReadsOneByteLate};
 ghost use Rattle.logos_automaton.specs.View.{rules_of};
 
 use super::Dfa;
-use crate::alike::{Told, kind_bytes, told_by_each};
+use crate::alike::{kind_bytes, told_by_each};
 use crate::errors::BuildError;
 use crate::key::{Key, number_of, start_key};
 use crate::nodes::nodes_of;
 use crate::row::{Row, end_of, narrowed, row_of};
 use crate::rule::{RuleView, some_look};
+use crate::trees::Trees;
 use indexmap::IndexSet;
 use logos_places::node::Node;
 use logos_places::places::all::starts_of;
@@ -38,35 +38,26 @@ fn only_start(alloc: Global) -> Result<IndexSet<Key>, AllocError>
     Ok(states)
 }
 
-/// Adds the targets of the first state that has none yet, where `told` has the bytes that each tree tells apart, and `kinds` those
-/// that looks do.
+/// Adds the targets of the first state that has none yet.
 fn fill_next(
     alloc: Global,
-    nodes: &[Node],
-    starts: &[usize],
-    looks: bool,
-    told: &[Told],
-    kinds: &[bool; 256],
+    trees: &Trees<'_>,
     states: &mut IndexSet<Key>,
     rows: &mut Vec<Row>,
     ends: &mut Vec<u32>,
 ) -> Result<(), BuildError>
-    requires fits { width_of (map core_of nodes.now) < 2 ^ 64 }
-    requires measured { AreMeasured nodes.now }
-    requires starts { AreStarts nodes.now starts.now }
-    requires told { AreTold nodes.now told.now (length nodes.now) }
-    requires kinds { AreKindBytes kinds.now }
+    requires prepared { IsPrepared trees.now }
     requires left { vec_len rows.old < length states.old.keys }
-    requires underway { IsUnderway (map core_of nodes.now)
-        looks states.old.keys rows.old.items ends.old.items }
-    ensures underway { OnOk result (IsUnderway (map core_of nodes.now)
-        looks states.new.keys rows.new.items ends.new.items) }
+    requires underway { IsUnderway (cores_of trees.now)
+        trees.now.looks states.old.keys rows.old.items ends.old.items }
+    ensures underway { OnOk result (IsUnderway (cores_of trees.now)
+        trees.now.looks states.new.keys rows.new.items ends.new.items) }
     ensures next { OnOk result (vec_len rows.new ≡ vec_len rows.old + 1) }
-    ensures fails { IfErr result (FailsOn (map core_of nodes.now) looks) }
+    ensures fails { IfErr result (FailsOn (cores_of trees.now) trees.now.looks) }
 {
     let state = rows.len();
-    let row = row_of(alloc, nodes, starts, looks, told, kinds, states, state)?;
-    let end = end_of(alloc, nodes, starts, states, state)?;
+    let row = row_of(alloc, trees, states, state)?;
+    let end = end_of(alloc, trees, states, state)?;
     if states.len() > MAX_STATES {
         return Err(BuildError::LimitStates);
     }
@@ -90,21 +81,18 @@ fn build_nodes(alloc: Global, nodes: &[Node], looks: bool) -> Result<Dfa, BuildE
     let starts = starts_of(alloc, nodes)?;
     let told = told_by_each(alloc, nodes)?;
     let kinds = kind_bytes();
+    let trees = Trees {
+        nodes,
+        starts: &starts,
+        looks,
+        told: &told,
+        kinds: &kinds,
+    };
     let mut states = only_start(alloc)?;
     let mut rows = Vec::new(alloc);
     let mut ends = Vec::new(alloc);
     while rows.len() < states.len() {
-        fill_next(
-            alloc,
-            nodes,
-            &starts,
-            looks,
-            &told,
-            &kinds,
-            &mut states,
-            &mut rows,
-            &mut ends,
-        )?;
+        fill_next(alloc, &trees, &mut states, &mut rows, &mut ends)?;
     }
     Ok(Dfa { states, rows, ends })
 }

@@ -120,20 +120,28 @@ fn hits_of(
     Ok(hits)
 }
 
-/// Splits the blocks by the states that lead into a block by one symbol.
+/// What blocks are split by: a block, the states with an edge into it, perhaps with others, and the
+/// symbols by which one of these leads into it. Nothing that is proved depends on the symbols.
+#[derive(Drop)]
+struct Splitter {
+    block: usize,
+    sources: Vec<usize>,
+    used: [bool; 257],
+}
+
+/// Splits the blocks by the states that lead into a block by one symbol, if it is used.
 fn split_by_symbol(
     alloc: Global,
     table: &Table,
     work: Work,
-    sources: &Vec<usize>,
-    b: usize,
+    by: &Splitter,
     k: usize,
 ) -> Result<Work, AllocError>
     requires k_in { k < 257 }
     requires len { vec_len work.blocks ≡ size table.now }
-    requires b_in { b < vec_len work.splits }
+    requires block_in { by.now.block < vec_len work.splits }
     requires sources { AreSources (size table.now)
-        (target_block table.now (slice_index work.blocks.items)) sources.now.items b }
+        (target_block table.now (slice_index work.blocks.items)) by.now.sources.items by.now.block }
     requires sound { IsSound table.now work.splits.items (slice_index work.blocks.items) }
     ensures len { IfOk result (λ w. vec_len w.blocks ≡ vec_len work.blocks) }
     ensures lists_len { IfOk result (λ w. vec_len w.lists ≡ vec_len work.lists) }
@@ -144,53 +152,20 @@ fn split_by_symbol(
     ensures falls { IfOk result (λ w.
         2 * (vec_len w.lists - vec_len w.splits) + vec_len w.hints.todo
         ≤ 2 * (vec_len work.lists - vec_len work.splits) + vec_len work.hints.todo) }
-    ensures b_in { IfOk result (λ w. b < vec_len w.splits) }
+    ensures block_in { IfOk result (λ w. by.now.block < vec_len w.splits) }
     ensures sources { IfOk result
         (λ w. AreSources (size table.now)
-        (target_block table.now (slice_index w.blocks.items)) sources.now.items b) }
+        (target_block table.now (slice_index w.blocks.items)) by.now.sources.items by.now.block) }
 {
-    let hits = hits_of(alloc, table, &work.blocks, sources, b, k)?;
+    if !by.used[k] {
+        return Ok(work);
+    }
+    let hits = hits_of(alloc, table, &work.blocks, &by.sources, by.block, k)?;
     if hits.is_empty() {
         return Ok(work);
     }
     let split = split_on(alloc, work, &hits, k)?;
     Ok(split)
-}
-
-/// Splits the blocks by the states that lead into a block by one symbol, if it is used.
-fn split_if(
-    used: bool,
-    alloc: Global,
-    table: &Table,
-    work: Work,
-    sources: &Vec<usize>,
-    b: usize,
-    k: usize,
-) -> Result<Work, AllocError>
-    requires k_in { k < 257 }
-    requires len { vec_len work.blocks ≡ size table.now }
-    requires b_in { b < vec_len work.splits }
-    requires sources { AreSources (size table.now)
-        (target_block table.now (slice_index work.blocks.items)) sources.now.items b }
-    requires sound { IsSound table.now work.splits.items (slice_index work.blocks.items) }
-    ensures len { IfOk result (λ w. vec_len w.blocks ≡ vec_len work.blocks) }
-    ensures lists_len { IfOk result (λ w. vec_len w.lists ≡ vec_len work.lists) }
-    ensures sound { IfOk result (λ w.
-        IsSound table.now w.splits.items (slice_index w.blocks.items)) }
-    ensures finer { IfOk result (λ w.
-        IsFiner (size table.now) (slice_index w.blocks.items) (slice_index work.blocks.items)) }
-    ensures falls { IfOk result (λ w.
-        2 * (vec_len w.lists - vec_len w.splits) + vec_len w.hints.todo
-        ≤ 2 * (vec_len work.lists - vec_len work.splits) + vec_len work.hints.todo) }
-    ensures b_in { IfOk result (λ w. b < vec_len w.splits) }
-    ensures sources { IfOk result
-        (λ w. AreSources (size table.now)
-        (target_block table.now (slice_index w.blocks.items)) sources.now.items b) }
-{
-    if used {
-        return split_by_symbol(alloc, table, work, sources, b, k);
-    }
-    Ok(work)
 }
 
 /// Notes the symbols by which a row leads into a block.
@@ -224,13 +199,12 @@ fn split_by_block(
     alloc: Global,
     table: &Table,
     work: Work,
-    sources: &Vec<usize>,
-    b: usize,
+    by: &Splitter,
 ) -> Result<Work, AllocError>
     requires len { vec_len work.blocks ≡ size table.now }
-    requires b_in { b < vec_len work.splits }
+    requires block_in { by.now.block < vec_len work.splits }
     requires sources { AreSources (size table.now)
-        (target_block table.now (slice_index work.blocks.items)) sources.now.items b }
+        (target_block table.now (slice_index work.blocks.items)) by.now.sources.items by.now.block }
     requires sound { IsSound table.now work.splits.items (slice_index work.blocks.items) }
     ensures len { IfOk result (λ w. vec_len w.blocks ≡ vec_len work.blocks) }
     ensures lists_len { IfOk result (λ w. vec_len w.lists ≡ vec_len work.lists) }
@@ -243,9 +217,8 @@ fn split_by_block(
         ≤ 2 * (vec_len work.lists - vec_len work.splits) + vec_len work.hints.todo) }
 {
     let mut split = work;
-    let used = symbols_into(table, &split.blocks, sources, b);
     for k in 0..WIDTH {
-        split = split_if(used[k], alloc, table, split, sources, b, k)?;
+        split = split_by_symbol(alloc, table, split, by, k)?;
     }
     Ok(split)
 }
@@ -352,7 +325,13 @@ fn look_at(
         return Ok(work);
     }
     let sources = sources_of(alloc, &work, from, b)?;
-    let mut split = split_by_block(alloc, table, work, &sources, b)?;
+    let used = symbols_into(table, &work.blocks, &sources, b);
+    let by = Splitter {
+        block: b,
+        sources,
+        used,
+    };
+    let mut split = split_by_block(alloc, table, work, &by)?;
     split.finish(b);
     Ok(split)
 }

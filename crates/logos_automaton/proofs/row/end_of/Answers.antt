@@ -1,6 +1,6 @@
-use Rattle.std.proofs.Common.{map, refl, sym, arith}
+use Rattle.std.proofs.Common.{refl, sym, arith}
+use Rattle.logos_automaton.specs.inside.Prepared.{cores_of}
 use Rattle.logos_automaton.specs.Keys.{state_of, IsAt, by_end}
-use Rattle.logos_places.specs.Node.{core_of}
 use Rattle.logos_places.proofs.steps.SeveralLemmas.{no_places}
 use Rattle.logos_automaton.proofs.row.end_of.Goals as goal
 
@@ -14,7 +14,7 @@ overflow_cast-result c = omega (arith, c.in_ok-target.ensures.within, c.in_ok-ta
 pub returns-clause-extends : goal.returns-clause-extends
 returns-clause-extends c = λ looks.
     let n = c.in_ok-target.ensures in
-    let ts = map core_of c.args.nodes.now in
+    let ts = cores_of c.args.trees.now in
     let here : IsAt c.args.states.now.keys c.args.state (state_of c.in-Some.key.now) = record { key = c.in-Some.key.now; is = sym c.in-Some.ensures.key; same = refl } in
     record {
       grows = n.grows;

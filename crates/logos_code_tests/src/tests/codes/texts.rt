@@ -25,10 +25,10 @@ pub(super) fn push_again(alloc: Global, found: &mut String, code: &Code<'_>) -> 
 
 /// A path and types that are none of those taken where a source names none.
 const AROUND: Around<'static> = Around {
-    logos: "my :: path",
-    error: "Failure < 's , Vec < u8 > >",
-    extras: "( usize , bool )",
-    source: "[ u8 ]",
+    logos: "my :: path ",
+    error: "Failure < 's , Vec < u8 > > ",
+    extras: "( usize , bool ) ",
+    source: "[ u8 ] ",
 };
 
 /// What of an implementation does not stand around the body.

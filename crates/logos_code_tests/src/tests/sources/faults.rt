@@ -107,36 +107,46 @@ fn push_many(text: &mut String, part: &str, count: usize) -> Result<(), AllocErr
     Ok(())
 }
 
-/// The source of a regex in so many groups.
-fn in_groups(alloc: Global, depth: usize, regex: &str) -> Result<String, AllocError> {
+/// The source of a regex in so many groups, with other variants behind it.
+fn in_groups(alloc: Global, depth: usize, regex: &str, behind: &str) -> Result<String, AllocError> {
     let mut source = String::from_str(alloc, "enum E { #[regex(\"")?;
     push_many(&mut source, "(", depth)?;
     source.push_str(regex)?;
     push_many(&mut source, ")", depth)?;
-    source.push_str("\")] A }")?;
+    source.push_str("\")] A")?;
+    source.push_str(behind)?;
+    source.push_str(" }")?;
     Ok(source)
 }
 
-/// How many groups, what is in them, and what is said of it.
-const NESTED: &[(usize, &str, &str)] = &[
-    (250, "a", "0 at 0..1, "),
+/// How many groups, what is in them, the variants behind, and what is said of it.
+const NESTED: &[(usize, &str, &str, &str)] = &[
+    (250, "a", "", "0 at 0..1, "),
     (
         251,
         "a",
+        "",
         "17..522 LimitPatternNesting: limit LimitPatternNesting passed; ",
     ),
     (
         250,
         "a*",
+        "",
         "17..521 LimitPatternNesting: limit LimitPatternNesting passed; ",
+    ),
+    (
+        251,
+        "a",
+        ", #[regex(\"*\")] B",
+        "17..522 LimitPatternNesting: limit LimitPatternNesting passed; 536..539 Regex: regex fault at byte 0: NothingToRepeat; ",
     ),
 ];
 
 #[test]
 fn names_what_is_nested_too_deep(rt: HostRuntime) -> Result<(), Fail> {
     for row in NESTED {
-        let source = in_groups(rt.alloc(), row.0, row.1)?;
-        give_so(&rt, rt.alloc(), source.as_str(), b"a", row.2)?;
+        let source = in_groups(rt.alloc(), row.0, row.1, row.2)?;
+        give_so(&rt, rt.alloc(), source.as_str(), b"a", row.3)?;
     }
     Ok(())
 }

@@ -13,6 +13,22 @@ pub(super) const LEXES_A_SENTENCE: &[(&str, &[u8], &str)] = &[
 ];
 
 pub(super) const TAKES_THE_LONGEST_MATCH: &[(&str, &[u8], &str)] = &[
+    // the other case of what is read with its case ignored, in a regex, a skip and a token
+    (
+        r#"enum T { #[regex("[a-c]k", ignore(case))] A }"#,
+        b"ak BK C\xE2\x84\xAAck",
+        "0 at 0..2, error 2..3, 0 at 3..5, error 5..6, 0 at 6..10, 0 at 10..12, ",
+    ),
+    (
+        r#"#[logos(skip("x+", ignore(case)))] enum T { #[token("y")] Y }"#,
+        b"xXyXxY",
+        "1 at 2..3, error 5..6, ",
+    ),
+    (
+        r#"enum T { #[token("if", ignore(case))] If, #[token(b"if", priority = 9)] Low }"#,
+        b"iFIFif",
+        "0 at 0..2, 0 at 2..4, 1 at 4..6, ",
+    ),
     (
         r#"enum T { #[regex("f(ee)?")] A }"#,
         b"fe",

@@ -16,16 +16,16 @@ built ts looks ks rows ends u full = record {
   rows_are = subst (AreRows ts looks ks rows ends) full u.rows_are;
 }
 
-pub loop-alloc-init : goal.loop-alloc-init
-loop-alloc-init c = rw (c.new-rows.ensures.items, c.new-ends.ensures.items) (c.in_ok-states.ensures c.args.looks (map core_of c.args.nodes.now))
+pub loop-trees-init : goal.loop-trees-init
+loop-trees-init c = rw (c.new-rows.ensures.items, c.new-ends.ensures.items) (c.in_ok-states.ensures c.args.looks (map core_of c.args.nodes.now))
 
 pub invariant_of-result : goal.invariant_of-result
 invariant_of-result c =
     let ts = map core_of c.args.nodes.now in
-    let u = c.loop-alloc.invariant in
-    let ks = c.loop-alloc.states.keys in
-    let rows = c.loop-alloc.rows.items in
-    let ends = c.loop-alloc.ends.items in
+    let u = c.loop-trees.invariant in
+    let ks = c.loop-trees.states.keys in
+    let rows = c.loop-trees.rows.items in
+    let ends = c.loop-trees.ends.items in
     record {
       rows_there = omega (arith, u.within);
       ends_there = omega (arith, u.within, u.ends_count);

@@ -18,7 +18,7 @@ extension c =
     let moved : HaveMoved (size c.args.table.now) (length hits.items) (length w.splits.items) w.blocks.items x.blocks.items x.twins.items hits.items x.lists.items =
     rw (← states, ← many, ← first) c.in_ok-split.ensures.moved in
     let twins : AreTwins (length w.splits.items) c.args.k x.twins.items x.splits.items = rw (← first) c.in_ok-split.ensures.twins in
-    extension-hits c.args.table.now w.splits.items x.splits.items w.blocks.items x.blocks.items x.twins.items hits.items c.args.sources.now.items x.lists.items c.args.b c.args.k
+    extension-hits c.args.table.now w.splits.items x.splits.items w.blocks.items x.blocks.items x.twins.items hits.items c.args.by.now.sources.items x.lists.items c.args.by.now.block c.args.k
     moved twins c.in_ok-split.ensures.goes_on (λ s l. let b = w.within s (omega arith) in omega arith) (λ s l. let b = x.within s (omega (arith, c.in_ok-split.ensures.len)) in omega arith)
     c.in_ok-hits.ensures.hits c.requires.sources
 
@@ -29,4 +29,4 @@ pub returns-clause-finer : goal.returns-clause-finer
 returns-clause-finer c = finer-extended c.args.table.now _ _ _ _ (extension c)
 
 pub returns-clause-sources : goal.returns-clause-sources
-returns-clause-sources c = sources-kept c.args.table.now _ _ _ _ c.args.sources.now.items c.args.b (omega arith) (extension c) c.requires.sources
+returns-clause-sources c = sources-kept c.args.table.now _ _ _ _ c.args.by.now.sources.items c.args.by.now.block (omega arith) (extension c) c.requires.sources

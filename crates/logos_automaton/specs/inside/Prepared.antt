@@ -1,0 +1,20 @@
+-- What the building of states stands on.
+use Rattle.std.specs.Prelude.{◌<◌, ◌^◌, List, length, map}
+use Rattle.logos_automaton.specs.inside.Alike.{AreTold, AreKindBytes}
+use Rattle.logos_automaton.specs.declared.trees.Trees.{Trees}
+use Rattle.logos_places.specs.Core.{Core}
+use Rattle.logos_places.specs.Node.{core_of, AreMeasured}
+use Rattle.logos_places.specs.Run.{width_of}
+use Rattle.logos_places.specs.Several.{AreStarts}
+
+-- the patterns that the trees stand for
+abbrev pub cores_of : Trees → List Core
+cores_of trees = map core_of trees.nodes.now
+
+-- the trees' places have numbers, and what was found of the trees holds of them
+pub record IsPrepared (trees : Trees) : Type 0 where
+  pub fits : width_of (cores_of trees) < 2 ^ 64
+  pub measured : AreMeasured trees.nodes.now
+  pub starts : AreStarts trees.nodes.now trees.starts.now
+  pub told : AreTold trees.nodes.now trees.told.now (length trees.nodes.now)
+  pub kinds : AreKindBytes trees.kinds.now
