@@ -113,10 +113,10 @@ pub fn step_all(
     requires starts { AreStarts nodes.now starts.now }
     requires rising { IsRising by.marks.now }
     ensures places { IfOk result (λ reached.
-        ReadBy (map core_of nodes.now) (test_at by.at) by.byte (Has by.marks.now) (IsTrue entered)
+        ReadBy (map core_of nodes.now) (test_at by.entry.at) by.entry.byte (Has by.entry.marks.now) (IsTrue entered)
         reached.places.items) }
     ensures left { IfOk result (λ reached.
-        LeftBy (map core_of nodes.now) (test_at by.at) (Has by.marks.now) (IsTrue entered)
+        LeftBy (map core_of nodes.now) (test_at by.entry.at) (Has by.entry.marks.now) (IsTrue entered)
         reached.left.items) }
 {
     let mut places = Vec::new(alloc);

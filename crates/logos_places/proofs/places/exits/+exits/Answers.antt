@@ -52,7 +52,7 @@ exits-exits_repeat-requires t c =
     let n = c.new-copies.ensures in
     let room : c.args.base + c.in-Repeat.each * count_of c.in-Repeat.least c.in-Repeat.most < 2 ^ 64 = omega (arith, fits, w) in (
       search (rules, the_lemmas),
-      (rw (← n.base, ← n.each, ← n.count) at room, (rw (← n.count) at p.ordered, (rw (← n.each) at (rw c.deref-in-Repeat.ensures p.each_is), (rw c.deref-in-Repeat.ensures p.body_is, c.requires.rising)))),
+      (rw (← n.base, ← n.each, ← n.count) at room, (rw (← n.count) at p.ordered, (rw c.deref-in-Repeat.ensures (rw (← n.each) at p.each_is), (rw c.deref-in-Repeat.ensures p.body_is, c.requires.rising)))),
     )
 
 pub exits-returns-in-Literal : goal.exits-returns-in-Literal
