@@ -113,11 +113,11 @@ pub fn step_all(
     requires starts { AreStarts nodes.now starts.now }
     requires rising { IsRising by.marks.now }
     ensures places { IfOk result (λ reached.
-        ReadBy (map core_of nodes.now) (test_at by.entry.at) by.entry.byte (Has by.entry.marks.now) (IsTrue entered)
-        reached.places.items) }
+        ReadBy (map core_of nodes.now) (test_at by.entry.at) by.entry.byte
+        (Has by.entry.marks.now) (IsTrue entered) reached.places.items) }
     ensures left { IfOk result (λ reached.
-        LeftBy (map core_of nodes.now) (test_at by.entry.at) (Has by.entry.marks.now) (IsTrue entered)
-        reached.left.items) }
+        LeftBy (map core_of nodes.now) (test_at by.entry.at) (Has by.entry.marks.now)
+        (IsTrue entered) reached.left.items) }
 {
     let mut places = Vec::new(alloc);
     let mut left = Vec::new(alloc);
