@@ -11,6 +11,7 @@ use indexmap::IndexSet;
 use logos_places::node::Node;
 use logos_places::places::all::{exits_all, step_all};
 use logos_places::places::look::{Context, Kind, kind_of};
+use logos_places::places::step::Reading;
 use std::alloc::{AllocError, Global};
 
 /// What an automaton keeps of the bytes read so far.
@@ -73,15 +74,12 @@ pub fn step_key(
         before: key.kind,
         after: Some(byte),
     };
-    let reached = step_all(
-        alloc,
-        nodes,
-        starts,
-        &key.places,
-        is_start(key.kind),
-        at,
+    let by = Reading {
         byte,
-    )?;
+        marks: &key.places,
+        at,
+    };
+    let reached = step_all(alloc, nodes, starts, is_start(key.kind), by)?;
     Ok(Key {
         kind: kept_of(looks, &reached.places, byte),
         places: reached.places,

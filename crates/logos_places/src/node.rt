@@ -89,3 +89,14 @@ pub(crate) struct Copies {
     pub each: usize,
     pub count: usize,
 }
+
+impl Copies {
+    /// This many copies of a body with `each` places, from `base` on.
+    pub fn new(base: usize, each: usize, count: usize) -> Copies
+        ensures base { result.base ≡ base }
+        ensures each { result.each ≡ each }
+        ensures count { result.count ≡ count }
+    {
+        Copies { base, each, count }
+    }
+}

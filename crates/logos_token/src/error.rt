@@ -108,6 +108,16 @@ impl Errors {
         self.add(code, message, span, Some(also))
     }
 
+    /// Adds these faults at the end, in their order. After an error the faults are as before.
+    pub fn append(&mut self, more: Errors) -> Result<(), Memory>
+        ensures ok { OnOk result (self.new ≡ self.old ++ more.entry) }
+        ensures err { OnErr result (self.new ≡ self.old) }
+    {
+        let mut more = more;
+        self.collected.append(&mut more.collected)?;
+        Ok(())
+    }
+
     /// The faults, in order of collection.
     pub fn list(&self) -> &[SpannedError]
         ensures { faults_of result.now ≡ self.now }

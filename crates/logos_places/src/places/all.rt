@@ -105,31 +105,28 @@ pub fn step_all(
     alloc: Global,
     nodes: &[Node],
     starts: &[usize],
-    marks: &[usize],
     entered: bool,
-    at: Context,
-    byte: u8,
+    by: Reading<'_>,
 ) -> Result<Reached, AllocError>
     requires fits { width_of (map core_of nodes.now) < 2 ^ 64 }
     requires measured { AreMeasured nodes.now }
     requires starts { AreStarts nodes.now starts.now }
-    requires rising { IsRising marks.now }
+    requires rising { IsRising by.marks.now }
     ensures places { IfOk result (λ reached.
-        ReadBy (map core_of nodes.now) (test_at at) byte (Has marks.now) (IsTrue entered)
-        reached.places.items) }
+        ReadBy (map core_of nodes.now) (test_at by.entry.at) by.entry.byte
+        (Has by.entry.marks.now) (IsTrue entered) reached.places.items) }
     ensures left { IfOk result (λ reached.
-        LeftBy (map core_of nodes.now) (test_at at) (Has marks.now) (IsTrue entered)
-        reached.left.items) }
+        LeftBy (map core_of nodes.now) (test_at by.entry.at) (Has by.entry.marks.now)
+        (IsTrue entered) reached.left.items) }
 {
-    let by = Reading { byte, marks, at };
     let mut places = Vec::new(alloc);
     let mut left = Vec::new(alloc);
-    let mut number = next_tree(starts, marks, entered, 0);
+    let mut number = next_tree(starts, by.marks, entered, 0);
     while number < nodes.len() {
         let base = starts[number];
         let leaves = step(&nodes[number], by, base, entered, &mut places)?;
         note(&mut left, number, leaves)?;
-        number = next_tree(starts, marks, entered, number + 1);
+        number = next_tree(starts, by.marks, entered, number + 1);
     }
     Ok(Reached { places, left })
 }

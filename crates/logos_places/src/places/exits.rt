@@ -56,11 +56,7 @@ pub fn exits(node: &Node, marks: &[usize], base: usize, entered: bool, at: Conte
             each,
             body,
         } => {
-            let copies = Copies {
-                base,
-                each: *each,
-                count: *least,
-            };
+            let copies = Copies::new(base, *each, *least);
             exits_repeat(body, copies, *most, marks, entered, at)
         }
     }

@@ -20,11 +20,14 @@ use crate::places::set::{any_mark, first_from, has_mark, insert_mark, next_copy}
 use logos_hir::hir::Range;
 use std::alloc::AllocError;
 
-/// What a step reads: a byte, where `marks` are the places that read the one before.
+/// What a step reads.
 #[derive(Clone, Copy)]
-pub(crate) struct Reading<'m> {
+pub struct Reading<'m> {
+    /// The byte.
     pub byte: u8,
+    /// The places that read the byte before.
     pub marks: &'m [usize],
+    /// The place in front of the byte.
     pub at: Context,
 }
 
@@ -62,6 +65,25 @@ fn step_byte(
     }
     next.push(base)?;
     Ok(left)
+}
+
+/// The step on one byte of these ranges.
+fn step_bytes(
+    ranges: &[Range],
+    byte: u8,
+    marks: &[usize],
+    base: usize,
+    entered: bool,
+    next: &mut Vec<usize>,
+) -> Result<bool, AllocError>
+    requires rising { IsRising marks.now }
+    requires set { IsSet next.old.items base }
+    ensures { IfOk result (λ left. (test : Look → Bool) →
+        Stepped (core.byte_in (is_in (pairs ranges.now)))
+        test byte marks.now next.old.items next.new.items base entered left) }
+{
+    let fits = has_byte(ranges, byte);
+    step_byte(fits, byte, marks, base, entered, next)
 }
 
 /// The step on a literal.
@@ -162,10 +184,7 @@ pub(crate) fn step(
         Node::Void => Ok(false),
         Node::Empty => Ok(entered),
         Node::Literal(text) => step_literal(text, by.byte, by.marks, base, entered, next),
-        Node::Bytes(ranges) => {
-            let fits = has_byte(ranges, by.byte);
-            step_byte(fits, by.byte, by.marks, base, entered, next)
-        }
+        Node::Bytes(ranges) => step_bytes(ranges, by.byte, by.marks, base, entered, next),
         Node::Characters(table) => step_characters(table, by.byte, by.marks, base, entered, next),
         Node::Look(look) => Ok(entered && holds(*look, by.at)),
         Node::Cat {
@@ -193,11 +212,7 @@ pub(crate) fn step(
             each,
             body,
         } => {
-            let copies = Copies {
-                base,
-                each: *each,
-                count: *least,
-            };
+            let copies = Copies::new(base, *each, *least);
             step_repeat(body, copies, *most, by, entered, next)
         }
     }

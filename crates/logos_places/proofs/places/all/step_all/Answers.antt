@@ -15,10 +15,10 @@ loop-number-init c =
     let within : c.next_tree-number.result ≤ length nodes = omega (arith, n.bound, c.requires.starts.count) in
     record {
       within = within;
-      places = pass_places nodes starts c.requires.starts c.args.marks.now (test_at c.args.at) (map core_of nodes) c.args.byte c.args.entered _ 0 c.next_tree-number.result n.after within n.stays n.unmarked
-          (rw c.new-places.ensures.items (places_first nodes starts c.requires.starts c.args.marks.now (test_at c.args.at) (map core_of nodes) c.args.byte c.args.entered refl));
-      numbers = pass_numbers nodes starts c.requires.starts c.args.marks.now (test_at c.args.at) (map core_of nodes) c.args.entered _ 0 c.next_tree-number.result n.after within n.stays n.unmarked
-          (rw c.new-left.ensures.items (numbers_first nodes starts c.requires.starts c.args.marks.now (test_at c.args.at) (map core_of nodes) c.args.entered refl));
+      places = pass_places nodes starts c.requires.starts c.args.by.marks.now (test_at c.args.by.at) (map core_of nodes) c.args.by.byte c.args.entered _ 0 c.next_tree-number.result n.after within n.stays n.unmarked
+          (rw c.new-places.ensures.items (places_first nodes starts c.requires.starts c.args.by.marks.now (test_at c.args.by.at) (map core_of nodes) c.args.by.byte c.args.entered refl));
+      numbers = pass_numbers nodes starts c.requires.starts c.args.by.marks.now (test_at c.args.by.at) (map core_of nodes) c.args.entered _ 0 c.next_tree-number.result n.after within n.stays n.unmarked
+          (rw c.new-left.ensures.items (numbers_first nodes starts c.requires.starts c.args.by.marks.now (test_at c.args.by.at) (map core_of nodes) c.args.entered refl));
     }
 
 pub loop-number-preserved : goal.loop-number-preserved
@@ -29,10 +29,10 @@ loop-number-preserved c =
     let within : c.next_tree-number-in-loop-number.result ≤ length nodes = omega (arith, n.bound, c.requires.starts.count) in
     record {
       within = within;
-      places = pass_places nodes starts c.requires.starts c.args.marks.now (test_at c.args.at) (map core_of nodes) c.args.byte c.args.entered _ (c.loop-number.number + 1) c.next_tree-number-in-loop-number.result n.after within n.stays n.unmarked
-          (places_after nodes starts c.requires.starts c.args.marks.now (test_at c.args.at) (map core_of nodes) c.args.byte c.args.entered c.in_ok-leaves.leaves _ _ c.loop-number.number c.index-nodes-number.result
+      places = pass_places nodes starts c.requires.starts c.args.by.marks.now (test_at c.args.by.at) (map core_of nodes) c.args.by.byte c.args.entered _ (c.loop-number.number + 1) c.next_tree-number-in-loop-number.result n.after within n.stays n.unmarked
+          (places_after nodes starts c.requires.starts c.args.by.marks.now (test_at c.args.by.at) (map core_of nodes) c.args.by.byte c.args.entered c.in_ok-leaves.leaves _ _ c.loop-number.number c.index-nodes-number.result
           c.loop-number-test.true c.index-nodes-number.is c.in_ok-leaves.ensures c.loop-number.invariant.places);
-      numbers = pass_numbers nodes starts c.requires.starts c.args.marks.now (test_at c.args.at) (map core_of nodes) c.args.entered _ (c.loop-number.number + 1) c.next_tree-number-in-loop-number.result n.after within n.stays n.unmarked
-          (numbers_after nodes starts c.requires.starts c.args.marks.now (test_at c.args.at) (map core_of nodes) c.args.entered c.in_ok-leaves.leaves _ _ c.loop-number.number c.index-nodes-number.result
+      numbers = pass_numbers nodes starts c.requires.starts c.args.by.marks.now (test_at c.args.by.at) (map core_of nodes) c.args.entered _ (c.loop-number.number + 1) c.next_tree-number-in-loop-number.result n.after within n.stays n.unmarked
+          (numbers_after nodes starts c.requires.starts c.args.by.marks.now (test_at c.args.by.at) (map core_of nodes) c.args.entered c.in_ok-leaves.leaves _ _ c.loop-number.number c.index-nodes-number.result
           c.loop-number-test.true c.index-nodes-number.is c.in_ok-leaves.ensures.leaves c.in_ok-note.ensures c.loop-number.invariant.numbers);
     }

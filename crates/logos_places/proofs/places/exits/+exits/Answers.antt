@@ -1,9 +1,10 @@
-use Rattle.std.proofs.Common.{◌≡◌, ◌+◌, ◌-◌, ◌*◌, inr, ⊎_elim, IsTrue, false, true≢false, sym, ap, ◌∙◌, arith, rules, max, ◌≤◌}
+use Rattle.std.proofs.Common.{◌≡◌, ◌+◌, ◌-◌, ◌*◌, inr, ⊎_elim, IsTrue, false, true≢false, sym, ap, ◌∙◌, arith, rules, max, ◌≤◌, ◌<◌, ◌^◌}
 use Rattle.std.proofs.Math.Nat.{mul-le-mul_left}
 use Rattle.logos_places.specs.Core as core
 use Rattle.logos_places.specs.Core.{Core, width, Exits}
 use Rattle.logos_places.specs.Kinds.{test_at}
 use Rattle.logos_places.specs.Node.{core_of}
+use Rattle.logos_places.specs.Repeat.{count_of}
 use Rattle.logos_places.specs.declared.node.Node.{the_lemmas}
 use Rattle.logos_places.proofs.trees.NodeLemmas.{core-Void, core-Empty, core-Literal, core-Bytes, core-Characters, core-Look, core-Cat, core-Alt, core-Repeat, width-Literal, width-Cat, width-Alt, pair-Cat, pair-Alt, repeat-Repeat, width-Repeat}
 use Rattle.logos_places.proofs.steps.StepLemmas.{iff_trans, exits_cat, exits_alt}
@@ -47,9 +48,11 @@ exits-exits_repeat-requires t c =
     let h = rw c.in-Repeat.is at c.requires.measured in
     let p = repeat-Repeat _ _ _ c.in-Repeat.body h in
     let fits = rw c.in-Repeat.is at c.requires.fits in
-    let w = width-Repeat _ _ _ _ h in (
+    let w = width-Repeat _ _ _ _ h in
+    let n = c.new-copies.ensures in
+    let room : c.args.base + c.in-Repeat.each * count_of c.in-Repeat.least c.in-Repeat.most < 2 ^ 64 = omega (arith, fits, w) in (
       search (rules, the_lemmas),
-      (omega (arith, fits, w), (p.ordered, (rw c.deref-in-Repeat.ensures p.each_is, (rw c.deref-in-Repeat.ensures p.body_is, c.requires.rising)))),
+      (rw (← n.base, ← n.each, ← n.count) at room, (rw (← n.count) at p.ordered, (rw c.deref-in-Repeat.ensures (rw (← n.each) at p.each_is), (rw c.deref-in-Repeat.ensures p.body_is, c.requires.rising)))),
     )
 
 pub exits-returns-in-Literal : goal.exits-returns-in-Literal
@@ -76,7 +79,7 @@ exits-returns-in-Alt t c =
 
 pub exits-returns-in-Repeat : goal.exits-returns-in-Repeat
 exits-returns-in-Repeat t c =
-    rw (ap core_of c.in-Repeat.is ∙ core-Repeat _ _ _ _) (rw c.deref-in-Repeat.ensures at c.exits_repeat.ensures)
+    rw (ap core_of c.in-Repeat.is ∙ core-Repeat _ _ _ _) (rw (c.new-copies.ensures.base, c.new-copies.ensures.count) at (rw c.deref-in-Repeat.ensures at c.exits_repeat.ensures))
 
 pub exits_copies-loop-done-init : goal.exits_copies-loop-done-init
 exits_copies-loop-done-init t c =

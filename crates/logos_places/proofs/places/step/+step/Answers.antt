@@ -1,4 +1,4 @@
-use Rattle.std.proofs.Common.{Bool, ◌≡◌, ℕ, ◌+◌, ◌-◌, ◌*◌, ◌≤◌, false, true≢false, sym, ap, ◌∙◌, arith, rules, max}
+use Rattle.std.proofs.Common.{Bool, ◌≡◌, ◌+◌, ◌-◌, ◌*◌, ◌≤◌, ◌<◌, ◌^◌, false, true≢false, sym, ap, ◌∙◌, arith, rules, max}
 use Rattle.std.proofs.Math.Nat.{mul-le-mul_left}
 use Rattle.std.proofs.lemmas.Result.{IfOk-weaker}
 use Rattle.logos_hir.specs.Hir.{pairs}
@@ -8,7 +8,7 @@ use Rattle.logos_places.specs.Core as core
 use Rattle.logos_places.specs.Core.{Core, width}
 use Rattle.logos_places.specs.Kinds.{test_at}
 use Rattle.logos_places.specs.Node.{core_of}
-use Rattle.logos_places.specs.Repeat.{in_front, up_to, spelled}
+use Rattle.logos_places.specs.Repeat.{in_front, up_to, spelled, count_of}
 use Rattle.logos_places.specs.inside.Stepped.{Stepped}
 use Rattle.logos_places.specs.Table.{reader_of}
 use Rattle.logos_places.specs.declared.node.Node.{the_lemmas}
@@ -34,19 +34,20 @@ step-step_repeat-requires t c =
     let h = rw c.in-Repeat.is at c.requires.measured in
     let p = repeat-Repeat _ _ _ c.in-Repeat.body h in
     let fits = rw c.in-Repeat.is at c.requires.fits in
-    let w = width-Repeat _ _ _ _ h in (
+    let w = width-Repeat _ _ _ _ h in
+    let n = c.new-copies.ensures in
+    let room : c.args.base + c.in-Repeat.each * count_of c.in-Repeat.least c.in-Repeat.most < 2 ^ 64 = omega (arith, fits, w) in (
       search (rules, the_lemmas),
-      (omega (arith, fits, w), (p.ordered, (rw c.deref-in-Repeat.ensures p.each_is, (rw c.deref-in-Repeat.ensures p.body_is, (c.requires.rising, c.requires.set))))),
+      (rw (← n.base, ← n.each, ← n.count) at room, (rw (← n.count) at p.ordered, (rw c.deref-in-Repeat.ensures (rw (← n.each) at p.each_is), (rw c.deref-in-Repeat.ensures p.body_is, (c.requires.rising, rw (← n.base) at c.requires.set))))),
     )
 
 pub step-returns-in-Bytes : goal.step-returns-in-Bytes
 step-returns-in-Bytes t c =
     rw (ap core_of c.in-Bytes.is ∙ core-Bytes _)
     (IfOk-weaker _ _ _
-    (λ left (s : (k : ℕ → Bool) (test : Look → Bool) → k c.args.by.byte ≡ c.has_byte-fits.result → Stepped (core.byte_in k) test c.args.by.byte c.args.by.marks.now
-    c.args.next.now.items c.step_byte.new.next.items c.args.base c.args.entered left).
-    s (is_in (pairs c.in-Bytes.ranges.items)) (test_at c.args.by.at) (sym (rw c.deref-in-Bytes.ensures.value at c.has_byte-fits.ensures)))
-    c.step_byte.ensures)
+    (λ left (s : (test : Look → Bool) → Stepped (core.byte_in (is_in (pairs c.in-Bytes.ranges.items))) test c.args.by.byte c.args.by.marks.now
+    c.args.next.now.items c.step_bytes.new.next.items c.args.base c.args.entered left). s (test_at c.args.by.at))
+    (rw c.deref-in-Bytes.ensures.value at c.step_bytes.ensures))
 
 pub step-returns-in-Characters : goal.step-returns-in-Characters
 step-returns-in-Characters t c =
@@ -258,7 +259,7 @@ step-returns-in-Literal t c =
 
 pub step-returns-in-Repeat : goal.step-returns-in-Repeat
 step-returns-in-Repeat t c =
-    rw (ap core_of c.in-Repeat.is ∙ core-Repeat _ _ _ _) (rw c.deref-in-Repeat.ensures at c.step_repeat.ensures)
+    rw (ap core_of c.in-Repeat.is ∙ core-Repeat _ _ _ _) (rw (c.new-copies.ensures.base, c.new-copies.ensures.count) at (rw c.deref-in-Repeat.ensures at c.step_repeat.ensures))
 
 pub step_repeat-overflow_mul-rest : goal.step_repeat-overflow_mul-rest
 step_repeat-overflow_mul-rest t c =

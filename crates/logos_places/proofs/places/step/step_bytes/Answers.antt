@@ -1,0 +1,16 @@
+use Rattle.std.proofs.Common.{Bool, ◌≡◌, ℕ, sym}
+use Rattle.std.proofs.lemmas.Result.{IfOk-weaker}
+use Rattle.logos_hir.specs.Hir.{pairs}
+use Rattle.logos_hir.specs.declared.hir.Look.{Look}
+use Rattle.logos_places.specs.ByteRanges.{is_in}
+use Rattle.logos_places.specs.Core as core
+use Rattle.logos_places.specs.inside.Stepped.{Stepped}
+use Rattle.logos_places.proofs.places.step.step_bytes.Goals as goal
+
+pub returns : goal.returns
+returns c =
+    let tell : (left : Bool)
+    → ((k : ℕ → Bool) (test : Look → Bool) → k c.args.byte ≡ c.has_byte-fits.result → Stepped (core.byte_in k) test c.args.byte c.args.marks.now c.args.next.now.items c.step_byte.new.next.items c.args.base c.args.entered left)
+    → (test : Look → Bool) → Stepped (core.byte_in (is_in (pairs c.args.ranges.now))) test c.args.byte c.args.marks.now c.args.next.now.items c.step_byte.new.next.items c.args.base c.args.entered left =
+    λ left s test. s (is_in (pairs c.args.ranges.now)) test (sym c.has_byte-fits.ensures) in
+    IfOk-weaker _ _ _ tell c.step_byte.ensures
