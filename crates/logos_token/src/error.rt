@@ -109,11 +109,10 @@ impl Errors {
     }
 
     /// Adds these faults at the end, in their order. After an error the faults are as before.
-    pub fn append(&mut self, more: Errors) -> Result<(), Memory>
-        ensures ok { OnOk result (self.new ≡ self.old ++ more.entry) }
+    pub fn append(&mut self, mut more: Errors) -> Result<(), Memory>
+        ensures ok { OnOk result (self.new ≡ self.old ++ more) }
         ensures err { OnErr result (self.new ≡ self.old) }
     {
-        let mut more = more;
         self.collected.append(&mut more.collected)?;
         Ok(())
     }
