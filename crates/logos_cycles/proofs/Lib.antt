@@ -1,0 +1,5 @@
+pub mod ListLemmas
+pub mod PlaceLemmas
+pub mod MarkLemmas
+pub mod ReachedLemmas
+pub mod WalkLemmas
