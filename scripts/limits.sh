@@ -116,6 +116,20 @@ printf '#[logos(type T = Vec<U>, type U = Option<T>)] enum E<T, U> { #[token("a"
 gives "types that hold each other" 1 '' '53..54 TypeHoldsItself: Type parameter T holds itself
 56..57 TypeHoldsItself: Type parameter U holds itself'
 
+# Each of these subpatterns names the one in front of it twice, so that their texts outgrow any memory; the program has little of it here.
+{
+    printf '#[logos(subpattern s0 = "a")]\n'
+    for ((number = 1; number <= 64; number++)); do
+        printf '#[logos(subpattern s%d = "(?&s%d)(?&s%d)")]\n' "$number" $((number - 1)) $((number - 1))
+    done
+    printf 'enum E { #[regex("(?&s64)")] A }'
+} > source
+(
+    ulimit -v 400000
+    gives "subpatterns that double" 3 '' 'out of memory'
+)
+met=$((met + 2))
+
 whole='#[derive(Debug, Logos, serde::Serialize)] enum E { #[token("a")] A }'
 for ((length = 0; length < ${#whole}; length++)); do
     printf '%s' "${whole:0:length}" > source
