@@ -1,5 +1,5 @@
 //! Definitions: the literal of a `token`, `regex` or `skip(..)`, and the arguments behind it.
-ghost use Rattle.std.specs.Prelude.{◌≡◌, OnOk, IfOk, option_map};
+ghost use Rattle.std.specs.Prelude.{◌≡◌, OnOk, OnErr, IfOk, option_map};
 ghost use Rattle.logos_token.specs.Views.{tokens_of};
 ghost use Rattle.logos_attribute.specs.Slices.{ident_slice};
 ghost use Rattle.logos_attribute.specs.Told.{Tells};
@@ -36,48 +36,53 @@ pub struct Definition<'s> {
     pub ignore_flags: IgnoreFlags,
 }
 
-/// Sets a priority, in place of the former one.
+/// Sets a priority, in place of the former one. After an error that is as before.
 fn set_priority(
     priority: &mut Option<usize>,
     tokens: Tokens<'_, '_>,
     errors: &mut Errors,
 ) -> Result<(), Memory>
-    ensures { OnOk result (Tells
+    ensures ok { OnOk result (Tells
         (priority_set (tokens_of tokens.entry) priority.old)
         priority.new errors.old errors.new) }
+    ensures unchanged { OnErr result (priority.new ≡ priority.old) }
 {
     let Some(next) = number_in(tokens) else {
         list_priority_value(tokens, errors)?;
         return Ok(());
     };
-    if priority.replace(next).is_some() {
+    if priority.is_some() {
         list_priority_twice(tokens, errors)?;
     }
+    *priority = Some(next);
     Ok(())
 }
 
-/// Sets whether a greedy dot is allowed, in place of what was said before.
+/// Sets whether a greedy dot is allowed, in place of what was said before. After an error that is
+/// as before.
 fn set_greedy(
     allow: &mut Option<bool>,
     tokens: Tokens<'_, '_>,
     errors: &mut Errors,
 ) -> Result<(), Memory>
-    ensures { OnOk result (Tells
+    ensures ok { OnOk result (Tells
         (greedy_set (tokens_of tokens.entry) allow.old)
         allow.new errors.old errors.new) }
+    ensures unchanged { OnErr result (allow.new ≡ allow.old) }
 {
     let Some(next) = boolean_in(tokens) else {
         list_greedy_value(tokens, errors)?;
         return Ok(());
     };
-    if allow.replace(next).is_some() {
+    if allow.is_some() {
         list_greedy_twice(tokens, errors)?;
     }
+    *allow = Some(next);
     Ok(())
 }
 
 impl<'s> Definition<'s> {
-    ghost use Rattle.std.specs.Prelude.{◌≡◌, OnOk, true};
+    ghost use Rattle.std.specs.Prelude.{◌≡◌, OnOk, OnErr, true};
     ghost use Rattle.logos_attribute.specs.Slices.{ident_slice};
     ghost use Rattle.logos_attribute.specs.Told.{Tells};
     ghost use Rattle.logos_attribute.specs.Nested.{value_of, piece_of, pieces_left};
@@ -101,17 +106,18 @@ impl<'s> Definition<'s> {
         }
     }
 
-    /// Adds what `priority` says.
+    /// Adds what `priority` says. After an error the definition is as before.
     fn add_priority(
         &mut self,
         name: Ident<'s>,
         value: NestedValue<'_, 's>,
         errors: &mut Errors,
     ) -> Result<(), Memory>
-        ensures { OnOk result (Tells
+        ensures ok { OnOk result (Tells
             (priority_told (ident_slice name.entry) (value_of value.entry)
             (definition_view self.old))
             (definition_view self.new) errors.old errors.new) }
+        ensures unchanged { OnErr result (self.new ≡ self.old) }
     {
         match value {
             NestedValue::Assign(tokens) => set_priority(&mut self.priority, tokens, errors)?,
@@ -120,7 +126,7 @@ impl<'s> Definition<'s> {
         Ok(())
     }
 
-    /// Adds what `callback` says.
+    /// Adds what `callback` says. After an error the definition is as before.
     fn add_callback(
         &mut self,
         alloc: Global,
@@ -128,10 +134,11 @@ impl<'s> Definition<'s> {
         value: NestedValue<'_, 's>,
         errors: &mut Errors,
     ) -> Result<(), Memory>
-        ensures { OnOk result (Tells
+        ensures ok { OnOk result (Tells
             (named_callback_told (ident_slice name.entry) (value_of value.entry)
             (definition_view self.old))
             (definition_view self.new) errors.old errors.new) }
+        ensures unchanged { OnErr result (self.new ≡ self.old) }
     {
         match value {
             NestedValue::Assign(tokens) => {
@@ -142,7 +149,7 @@ impl<'s> Definition<'s> {
         Ok(())
     }
 
-    /// Adds the flags in `ignore(..)`.
+    /// Adds the flags in `ignore(..)`. After an error the definition is as before.
     fn add_ignore(
         &mut self,
         alloc: Global,
@@ -150,9 +157,10 @@ impl<'s> Definition<'s> {
         value: NestedValue<'_, 's>,
         errors: &mut Errors,
     ) -> Result<(), Memory>
-        ensures { OnOk result (Tells
+        ensures ok { OnOk result (Tells
             (ignore_told (ident_slice name.entry) (value_of value.entry) (definition_view self.old))
             (definition_view self.new) errors.old errors.new) }
+        ensures unchanged { OnErr result (self.new ≡ self.old) }
     {
         match value {
             NestedValue::Group(tokens) => {
@@ -169,16 +177,17 @@ impl<'s> Definition<'s> {
         Ok(())
     }
 
-    /// Adds what `allow_greedy` says.
+    /// Adds what `allow_greedy` says. After an error the definition is as before.
     fn add_greedy(
         &mut self,
         name: Ident<'s>,
         value: NestedValue<'_, 's>,
         errors: &mut Errors,
     ) -> Result<(), Memory>
-        ensures { OnOk result (Tells
+        ensures ok { OnOk result (Tells
             (greedy_told (ident_slice name.entry) (value_of value.entry) (definition_view self.old))
             (definition_view self.new) errors.old errors.new) }
+        ensures unchanged { OnErr result (self.new ≡ self.old) }
     {
         match value {
             NestedValue::Assign(tokens) => set_greedy(&mut self.allow_greedy, tokens, errors)?,
@@ -187,7 +196,7 @@ impl<'s> Definition<'s> {
         Ok(())
     }
 
-    /// Adds a named argument, and lists its faults.
+    /// Adds a named argument, and lists its faults. After an error the definition is as before.
     pub(crate) fn add_named(
         &mut self,
         alloc: Global,
@@ -195,9 +204,10 @@ impl<'s> Definition<'s> {
         value: NestedValue<'_, 's>,
         errors: &mut Errors,
     ) -> Result<(), Memory>
-        ensures { OnOk result (Tells
+        ensures ok { OnOk result (Tells
             (named_told (ident_slice name.entry) (value_of value.entry) (definition_view self.old))
             (definition_view self.new) errors.old errors.new) }
+        ensures unchanged { OnErr result (self.new ≡ self.old) }
     {
         if name.text == "priority" {
             return self.add_priority(name, value, errors);

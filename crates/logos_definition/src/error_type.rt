@@ -50,7 +50,7 @@ fn list_unknown(alloc: Global, name: Ident<'_>, errors: &mut Errors) -> Result<(
 }
 
 impl<'s> ErrorType<'s> {
-    ghost use Rattle.std.specs.Prelude.{◌≡◌, IfOk, OnOk, true, string_bytes};
+    ghost use Rattle.std.specs.Prelude.{◌≡◌, IfOk, OnOk, OnErr, true, string_bytes};
     ghost use Rattle.logos_token.specs.Views.{stream_tokens};
     ghost use Rattle.logos_attribute.specs.Slices.{ident_slice};
     ghost use Rattle.logos_attribute.specs.Told.{Tells};
@@ -106,7 +106,7 @@ impl<'s> ErrorType<'s> {
         }
     }
 
-    /// Adds what `callback` says.
+    /// Adds what `callback` says. After an error the type is as before.
     fn add_callback(
         &mut self,
         alloc: Global,
@@ -114,10 +114,11 @@ impl<'s> ErrorType<'s> {
         value: NestedValue<'_, 's>,
         errors: &mut Errors,
     ) -> Result<(), Memory>
-        ensures { OnOk result (Tells
+        ensures ok { OnOk result (Tells
             (error_callback_told (ident_slice name.entry) (value_of value.entry)
             (error_view self.old))
             (error_view self.new) errors.old errors.new) }
+        ensures unchanged { OnErr result (self.new ≡ self.old) }
     {
         match value {
             NestedValue::Assign(tokens) => {
@@ -128,7 +129,7 @@ impl<'s> ErrorType<'s> {
         Ok(())
     }
 
-    /// Adds a named argument, and lists its faults.
+    /// Adds a named argument, and lists its faults. After an error the type is as before.
     pub(crate) fn add_named(
         &mut self,
         alloc: Global,
@@ -136,9 +137,10 @@ impl<'s> ErrorType<'s> {
         value: NestedValue<'_, 's>,
         errors: &mut Errors,
     ) -> Result<(), Memory>
-        ensures { OnOk result (Tells
+        ensures ok { OnOk result (Tells
             (error_named_told (ident_slice name.entry) (value_of value.entry) (error_view self.old))
             (error_view self.new) errors.old errors.new) }
+        ensures unchanged { OnErr result (self.new ≡ self.old) }
     {
         if name.text == "callback" {
             return self.add_callback(alloc, name, value, errors);

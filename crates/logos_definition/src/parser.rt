@@ -177,7 +177,7 @@ impl<'s> Definition<'s> {
     ghost use Rattle.logos_definition.specs.ParserViews.{parser_view, HasNotFailed};
 
     /// Adds a named argument, and lists its faults in the parser, of which it changes nothing else.
-    /// After `Memory` the parser has failed, and the definition is only to be dropped.
+    /// After `Memory` the parser has failed, and the definition is as before.
     pub fn named_attr(
         &mut self,
         alloc: Global,
@@ -191,6 +191,7 @@ impl<'s> Definition<'s> {
         ensures kept { OnOk result (parser_view parser.new ≡ parser_view parser.old) }
         ensures going { OnOk result (HasNotFailed parser.old parser.new) }
         ensures err { OnErr result (parser.new.failed ≡ true) }
+        ensures unchanged { OnErr result (self.new ≡ self.old) }
     {
         if parser.failed {
             return Err(Memory);
@@ -211,7 +212,7 @@ impl<'s> ErrorType<'s> {
     ghost use Rattle.logos_definition.specs.ParserViews.{parser_view, HasNotFailed};
 
     /// Adds a named argument, and lists its faults in the parser, of which it changes nothing else.
-    /// After `Memory` the parser has failed, and the type is only to be dropped.
+    /// After `Memory` the parser has failed, and the type is as before.
     pub fn named_attr(
         &mut self,
         alloc: Global,
@@ -225,6 +226,7 @@ impl<'s> ErrorType<'s> {
         ensures kept { OnOk result (parser_view parser.new ≡ parser_view parser.old) }
         ensures going { OnOk result (HasNotFailed parser.old parser.new) }
         ensures err { OnErr result (parser.new.failed ≡ true) }
+        ensures unchanged { OnErr result (self.new ≡ self.old) }
     {
         if parser.failed {
             return Err(Memory);
@@ -245,7 +247,7 @@ impl IgnoreFlags {
 
     /// Sets the flags in the group behind `ignore`, whose name is given, and lists the first fault
     /// among them in the parser, of which it changes nothing else. After `Memory` the parser has
-    /// failed, and the flags are only to be dropped.
+    /// failed, and the flags are as before.
     pub fn parse_group<'s>(
         &mut self,
         alloc: Global,
@@ -260,6 +262,7 @@ impl IgnoreFlags {
         ensures kept { OnOk result (parser_view parser.new ≡ parser_view parser.old) }
         ensures going { OnOk result (HasNotFailed parser.old parser.new) }
         ensures err { OnErr result (parser.new.failed ≡ true) }
+        ensures unchanged { OnErr result (self.new ≡ self.old) }
     {
         if parser.failed {
             return Err(Memory);

@@ -1,5 +1,5 @@
 -- What a definition makes, by what its text is.
-use Rattle.std.proofs.Common.{◌≡◌, ◌∙◌, ℕ, List, ◌++◌, Option, Some, None, refl, sym, ap, append_assoc, append-nil}
+use Rattle.std.proofs.Common.{◌≡◌, ◌∙◌, ℕ, List, [], ◌++◌, Option, Some, None, refl, sym, ap, append-nil}
 use Rattle.std.specs.Str.{chars}
 use Rattle.logos_token.specs.Faults.{Fault}
 use Rattle.logos_hir.specs.Tree.{Tree}
@@ -10,10 +10,7 @@ use Rattle.logos_subpattern.specs.PatternFaults.{Reading, spelled, broken, too_d
 use Rattle.logos_subpattern.specs.Substitution.{Stored}
 use Rattle.logos_leaf.specs.Leaves.{LeafView, speaks_of_text, greedy_faults, fitted_told, tree_told, reading_told, regex_priority, text_told, whole_told, IsRegexLeaf}
 use Rattle.logos_leaf.specs.inside.Readings.{IsWholeLeaf}
-
--- faults that are listed in two steps
-adds : (old first more mid new : List Fault) → mid ≡ old ++ first → new ≡ mid ++ more → new ≡ old ++ (first ++ more)
-adds old first more mid new m n = n ∙ (ap (λ l. l ++ more) m ∙ append_assoc old first more)
+use Rattle.logos_attribute.proofs.ToldLemmas.{listed_then, told_alone}
 
 module _ (d : DefinitionView) (kind : KindValue) where
   -- a greedy dot is listed first
@@ -22,7 +19,7 @@ module _ (d : DefinitionView) (kind : KindValue) where
   fitted_is_told tree priority leaf old mid new same greedy told =
       let value : leaf ≡ (fitted_told d kind tree priority).value = told.0 in (
         value ∙ ap (λ p. (fitted_told d kind tree p).value) same,
-        adds old (greedy_faults d tree) (fitted_told d kind tree (regex_priority d tree)).faults mid new greedy
+        listed_then old mid new (greedy_faults d tree) (fitted_told d kind tree (regex_priority d tree)).faults greedy
             (told.1 ∙ ap (λ p. mid ++ (fitted_told d kind tree p).faults) same),
       )
 
@@ -72,7 +69,7 @@ module _ (d : DefinitionView) (kind : KindValue) where
             Tells (and_then told (text_told d kind whole.reading)) leaf old new
         by_told told e m is n = (
           is ∙ ap (λ t. (text_told d kind whole.reading t).value) e,
-          adds old told.faults (text_told d kind whole.reading told.value).faults mid new m
+          listed_then old mid new told.faults (text_told d kind whole.reading told.value).faults m
               (n ∙ ap (λ t. mid ++ (text_told d kind whole.reading t).faults) e),
         )
 
@@ -92,6 +89,11 @@ module _ (d : DefinitionView) (kind : KindValue) where
         by_told : (told : Told (Option (List ℕ))) → None ≡ told.value → new ≡ old ++ told.faults → Tells (and_then told (text_told d kind too_deep)) None old new
         by_told told e n = (
           ap (λ t. (text_told d kind too_deep t).value) e,
-          adds old told.faults (text_told d kind too_deep told.value).faults new new n
+          listed_then old new new told.faults (text_told d kind too_deep told.value).faults n
               (sym (append-nil new) ∙ ap (λ t. new ++ (text_told d kind too_deep t).faults) e),
         )
+
+-- faults that are found alone, and then stand behind others
+pub regex_alone : {d : DefinitionView} {kind : KindValue} {names : List Stored} {leaf : Option LeafView} (ahead none found all : List Fault) → none ≡ [] → IsRegexLeaf d kind names leaf none found →
+    all ≡ ahead ++ found → IsRegexLeaf d kind names leaf ahead all
+regex_alone ahead none found all n h e = record { reading = h.reading; reads = h.reads; tells = told_alone _ _ ahead none found all n h.tells e }

@@ -1,5 +1,5 @@
 //! The leaves that definitions make.
-ghost use Rattle.std.specs.Prelude.{◌≡◌, ◌++◌, IfOk, IfSome, OnOk, true, false, option_map};
+ghost use Rattle.std.specs.Prelude.{◌≡◌, ◌++◌, IfOk, IfSome, OnOk, OnErr, true, false, option_map};
 ghost use Rattle.std.specs.Prelude.{chars, string_bytes};
 ghost use Rattle.logos_hir.specs.Hir.{literal_tree};
 ghost use Rattle.logos_pattern.specs.Leaf.{KindValue};
@@ -24,7 +24,7 @@ use logos_definition::definition::Definition;
 use logos_pattern::leaf::{Leaf, VariantKind};
 use logos_pattern::pattern::{Literal, Pattern, token_priority};
 use logos_subpattern::fault::{ReadingMode, read_pattern};
-use logos_subpattern::subpattern::Subpatterns;
+use logos_subpattern::subpattern::{Subpatterns, regex_of};
 use logos_token::error::{Errors, Memory};
 use std::alloc::Global;
 
@@ -89,6 +89,7 @@ fn folded_pattern<'s>(
     ensures source { IfOk result (λ pattern. IfSome pattern (λ p.
         source_of p ≡ (token_of literal.now).text.now)) }
     ensures token { IfOk result (λ pattern. IfSome pattern (λ p. is_token p ≡ true)) }
+    ensures unlisted { OnErr result (errors.new ≡ errors.old) }
 {
     let text = escaped_of(alloc, literal)?;
     let mode = ReadingMode {
@@ -107,9 +108,10 @@ fn folded_leaf<'s>(
     kind: VariantKind<'s>,
     errors: &mut Errors,
 ) -> Result<Option<Leaf<'s>>, Memory>
-    ensures { IfOk result (λ leaf.
+    ensures ok { IfOk result (λ leaf.
         IsFoldedLeaf (definition_view definition.entry) (kind_value kind.entry)
         (option_map leaf_view leaf) errors.old errors.new) }
+    ensures unlisted { OnErr result (errors.new ≡ errors.old) }
 {
     let read = folded_pattern(alloc, &definition.literal, errors)?;
     let Some(pattern) = read else {
@@ -135,16 +137,17 @@ fn plain_leaf<'s>(
 }
 
 /// The leaf that a `token` makes; `None` where its text is no pattern, which was listed. After
-/// `Memory` nothing is told of the faults.
+/// `Memory` the faults are as before.
 pub fn token_leaf<'s>(
     alloc: Global,
     definition: Definition<'s>,
     kind: VariantKind<'s>,
     errors: &mut Errors,
 ) -> Result<Option<Leaf<'s>>, Memory>
-    ensures { IfOk result (λ leaf.
+    ensures ok { IfOk result (λ leaf.
         IsTokenLeaf (definition_view definition.entry) (kind_value kind.entry)
         (option_map leaf_view leaf) errors.old errors.new) }
+    ensures unlisted { OnErr result (errors.new ≡ errors.old) }
 {
     if definition.ignore_flags.ignore_case {
         return folded_leaf(alloc, definition, kind, errors);
@@ -240,16 +243,6 @@ fn whole_pattern<'s>(
     }
 }
 
-/// The value of a literal as the text of a pattern.
-fn regex_of(alloc: Global, literal: &Literal<'_>) -> Result<String, Memory>
-    ensures { IfOk result (λ text. string_bytes text ≡ regex_of (literal_view literal.now).held) }
-{
-    match literal {
-        Literal::Utf8(_) => literal.escape(alloc, false),
-        Literal::Bytes(_) => literal.escape(alloc, false),
-    }
-}
-
 /// The value of a literal as the text of a pattern, with all subpatterns put in; `None` where one is
 /// missing, which was listed.
 fn whole_text(
@@ -289,10 +282,9 @@ fn regex_pattern<'s>(
     }
 }
 
-/// The leaf that a `regex` or `skip` makes. `None` where a subpattern is missing, where its text is
-/// no pattern, or where its priority is too large, which was listed. A greedy dot is listed, and
-/// makes a leaf. After `Memory` nothing is told of the faults.
-pub fn regex_leaf<'s>(
+/// The leaf that a `regex` or `skip` makes, if it makes one. After `Memory` some of the faults may be
+/// listed.
+fn read_leaf<'s>(
     alloc: Global,
     definition: Definition<'s>,
     kind: VariantKind<'s>,
@@ -308,4 +300,25 @@ pub fn regex_leaf<'s>(
         Ok(None) => Ok(None),
         Err(Memory) => Err(Memory),
     }
+}
+
+/// The leaf that a `regex` or `skip` makes. `None` where a subpattern is missing, where its text is
+/// no pattern, or where its priority is too large, which was listed. A greedy dot is listed, and
+/// makes a leaf. After `Memory` the faults are as before.
+pub fn regex_leaf<'s>(
+    alloc: Global,
+    definition: Definition<'s>,
+    kind: VariantKind<'s>,
+    subpatterns: &Subpatterns<'s>,
+    errors: &mut Errors,
+) -> Result<Option<Leaf<'s>>, Memory>
+    ensures ok { IfOk result (λ leaf.
+        IsRegexLeaf (definition_view definition.entry) (kind_value kind.entry)
+        (names_of subpatterns.now) (option_map leaf_view leaf) errors.old errors.new) }
+    ensures unlisted { OnErr result (errors.new ≡ errors.old) }
+{
+    let mut found = Errors::new(alloc);
+    let leaf = read_leaf(alloc, definition, kind, subpatterns, &mut found)?;
+    errors.append(found)?;
+    Ok(leaf)
 }

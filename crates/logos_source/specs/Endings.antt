@@ -11,6 +11,7 @@ use Rattle.logos_item.specs.declared.error.ReadError.{ReadError}
 use Rattle.logos_item.specs.declared.error.ReadError.TheVariants.{NotAnEnum, Grammar, TypeUnsupported, LimitTypeNesting, Memory}
 use Rattle.logos_item.specs.Enum.{Reads}
 use Rattle.logos_item.specs.EnumValues.{EnumValue}
+use Rattle.logos_type_params.specs.TypeParams.{limit_type_nesting}
 use Rattle.logos_attribute.specs.Told.{fault, only}
 
 -- the source spells an enum, whose tokens reach over the span
@@ -31,7 +32,7 @@ abbrev pub IsMisread : ReadError → List Fault → Type 0
 IsMisread (NotAnEnum span) faults = faults ≡ only (fault codes_of.NotAnEnum (codes "Logos can be only be derived for enums") span)
 IsMisread (Grammar span) faults = faults ≡ only (fault codes_of.Grammar (codes "the enum is not well formed") span)
 IsMisread (TypeUnsupported span) faults = faults ≡ only (fault codes_of.TypeUnsupported (codes "type not supported") span)
-IsMisread (LimitTypeNesting span) faults = faults ≡ only (fault codes_of.LimitTypeNesting (codes "limit LimitTypeNesting passed") span)
+IsMisread (LimitTypeNesting span) faults = faults ≡ only (limit_type_nesting span)
 IsMisread Memory faults = ⊥
 
 -- the one fault of a source that is longer than the limit

@@ -11,6 +11,7 @@ use crate::refusal::Refusal;
 use logos_item::ReadError;
 use logos_token::error::{Errors, FaultCode};
 use logos_token::token::{LexicalKind, Span, TokenError};
+use logos_type_params::listing::type_nesting_text;
 use std::alloc::Global;
 
 /// The refusal with one fault.
@@ -62,7 +63,7 @@ pub fn misread(alloc: Global, error: ReadError) -> Refusal
         ReadError::LimitTypeNesting { span } => refused(
             alloc,
             FaultCode::LimitTypeNesting,
-            "limit LimitTypeNesting passed",
+            type_nesting_text(),
             span,
         ),
         ReadError::Memory => Refusal::Memory,

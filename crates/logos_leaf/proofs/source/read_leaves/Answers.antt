@@ -16,9 +16,9 @@ returns-in-Ok-clause-said c =
       of_subpatterns = c.new.new.errors;
       of_skips = made.faults;
       given = sym (param_values c.args.parser.now.types.types.entries);
-      checked = c.in_ok-check.ensures;
+      checked = c.in_ok-check.ensures.ok;
       held = c.in_ok-held.ensures;
-      subpatterns = rw (c.utf8_mode-mode.ensures, c.as_slice-list.ensures.value) at c.in-Ok.ensures;
+      subpatterns = rw (c.utf8_mode-mode.ensures, c.as_slice-list.ensures.value) at c.in-Ok.ensures.ok;
       skips_add = made.skips_add;
       variants_add = made.variants_add;
     }) c.leaves_with.ensures.made
