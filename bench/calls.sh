@@ -90,17 +90,20 @@ measure "\`Subpatterns::new\`, subpatterns in a chain" subpatterns chain 10000
 measure "\`Subpatterns::new\`, subpatterns of the first" subpatterns star 10000
 measure "\`subst_subpatterns\`, bytes of \`(?&p)\`" subst uses 100000
 for form in 'a' '.' 'é' '\.' '\n' '\x41' '\x{41}' '\u0041' '\d' '\p{Greek}' '[a-z]' '[^a]' '[[:alpha:]]' '[[a]b]' '[a&&b]' '[a~~b]' \
-    '(a)' '(?:a)' '(?i:a)' '(?i)' '(?u)' '^' '\b' '\B' '\b{start}' 'a?' 'a*?' 'a+' 'a{2}' 'a{2,}' 'a{2,3}?' 'a|' 'ab|'; do
+    '(a)' '(?:a)' '(?i:a)' '(?i)' '(?u)' '(?R)' '^' '\A' '(?m:$)' '(?-u:\b)' '(?-u:\B)' '(?-u:\xFF)' 'a?' 'a*?' 'a+' 'a{2}' 'a{2,}' 'a{2,3}?' 'a|' 'ab|'; do
     measure "\`Pattern::compile\`, bytes of \`${form/|/\\|}\`" compile "$form" 1048576
 done
+measure "\`Pattern::compile\`, named groups" compile captures 80000
 measure "\`Pattern::compile\`, bytes of \`\\W\`" compile '\W' 131072
 measure "\`Pattern::compile\`, bytes of \`\\pL\`" compile '\pL' 131072
 measure "\`Pattern::compile_lit\`, bytes of dots" compile_lit dots $bytes
 measure "\`ByteClass::merge\`, ranges" merge a 1000000
-measure "\`generate\`, bytes of one attribute" generate said $bytes
+measure "\`generate\`, skips in one attribute" generate said 60000
+measure "\`generate\`, skips in one attribute" generate said 800000
 measure "\`generate\`, bytes of commas" generate said_commas 5000000
 measure "\`generate\`, bytes of one literal" generate one_literal $bytes
-measure "\`generate\`, tokens \`a\`" generate equal_tokens 100000
+measure "\`generate\`, tokens that are all \`a\`" generate equal_tokens 4000
+measure "\`generate\`, parameters that each name the next one twice" generate doubling 18
 measure "\`strip_attributes\`, bytes of variants" strip variants $bytes
 measure "\`strip_attributes\`, bytes of \`Logos, \`" strip derive $bytes
 measure "\`lex_source\`, bytes of words" lex_source words $bytes

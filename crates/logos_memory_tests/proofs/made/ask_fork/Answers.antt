@@ -11,5 +11,5 @@ codable_at graph leaves k state finished e =
     let f = rw (get_or_from_slice_get graph k state state e) at (finished.states k state (slice_get_within graph k state e)) in
     record { separated = f.neat.separated; targets = λ i edge l. let t = f.targets i edge l in omega (arith, t, finished.few) }
 
-pub impl_fork-requires : goal.impl_fork-requires
-impl_fork-requires c = codable_at c.args.graph.now.states (length c.args.graph.now.leaves) _ _ (c.iter_states.ensures.finished c.requires) c.get_state.ensures.state
+pub impl_fork-answer-requires : goal.impl_fork-answer-requires
+impl_fork-answer-requires c = codable_at c.args.graph.now.states (length c.args.graph.now.leaves) _ _ (c.iter_states-states.ensures.finished c.requires) c.get_state-data.ensures.state
