@@ -1,14 +1,14 @@
 -- What literals that were read show.
-use Rattle.std.proofs.Common.{◌≡◌, ◌∙◌, List, ℕ, Option, Some, None, option_map, refl, ap, sym, rules}
+use Rattle.std.proofs.Common.{◌≡◌, Option, Some, None, option_map, refl, sym}
 use Rattle.std.specs.Prelude.{IfSome}
 use Rattle.logos_token.specs.LiteralValues.{IsValue}
-use Rattle.logos_token.specs.Held.{Held, held, held_value}
+use Rattle.logos_token.specs.Held.{held, held_value}
 use Rattle.logos_token.specs.declared.token.Literal.{Literal as LiteralToken}
 use Rattle.logos_token.proofs.values.HeldLaws.{held-value}
 use Rattle.logos_pattern.specs.declared.pattern.literal.Literal.{Literal}
 use Rattle.logos_pattern.specs.Literals.{token_of, held_value as value_of}
 use Rattle.logos_attribute.specs.Slices.{literal_slice}
-use Rattle.logos_attribute.specs.Literals.{LiteralView, text_by, text_in}
+use Rattle.logos_attribute.specs.Literals.{text_in}
 use Rattle.logos_attribute.specs.LiteralViews.{literal_view}
 
 by_held : (token : LiteralToken) (literal : Option Literal) → IfSome literal (λ l. token_of l ≡ token) → option_map held_value (option_map value_of literal) ≡ held token.text.now →

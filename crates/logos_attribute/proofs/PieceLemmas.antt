@@ -1,5 +1,5 @@
 -- Pieces, taken one at a time.
-use Rattle.std.proofs.Common.{◌≡◌, Bool, true, false, List, [], ◌∷◌, ◌∙◌, ap, sym, if◌then◌else◌, refl}
+use Rattle.std.proofs.Common.{◌≡◌, Bool, true, false, List, ◌∷◌, ◌∙◌, ap, sym, refl}
 use Rattle.logos_token.specs.Tokens.{Token, TokenList, none, also, append, rest_of, IsRestOf}
 use Rattle.logos_token.specs.Punctuation.{is_alone}
 use Rattle.logos_attribute.specs.Pieces.{comma, Piece, up_to_comma, behind_comma, pieces, through_comma, unnamed}

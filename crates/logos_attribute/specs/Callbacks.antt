@@ -1,9 +1,9 @@
 -- Callbacks, as arguments of attributes say them.
-use Rattle.std.specs.Prelude.{ℕ, List, [], ◌∷◌, ◌++◌, codes, Option, Some, None, Result, Ok, Err, if◌then◌else◌}
+use Rattle.std.specs.Prelude.{ℕ, List, [], ◌∷◌, codes, Option, Some, None, Result, Ok, Err, if◌then◌else◌}
 use Rattle.logos_lexeme.specs.declared.lexeme.Span.{Span}
 use Rattle.logos_token.specs.Faults.{Fault}
 use Rattle.logos_token.specs.declared.error.fault_code.FaultCode.TheVariants.{CallbackClosure, CallbackBody, CallbackValue, CallbackTwice, Previous}
-use Rattle.logos_token.specs.Tokens.{Token, TokenList, identifier, group, none, also, run_span}
+use Rattle.logos_token.specs.Tokens.{TokenList, identifier, group, none, also, run_span}
 use Rattle.logos_token.specs.Punctuation.{is_alone}
 use Rattle.logos_attribute.specs.Slices.{Slice}
 use Rattle.logos_attribute.specs.Told.{Told, telling, quiet, fault, fault_also, only}
@@ -60,8 +60,11 @@ callback_twice name here = fault_also CallbackTwice (codes "Callback has been al
 abbrev pub previous_callback : Span → Fault
 previous_callback there = fault Previous (codes "Previous callback set here") there
 
+abbrev pub callback_no_value : Span → Fault
+callback_no_value span = fault CallbackValue (codes "Not a valid callback") span
+
 abbrev pub callback_value_fault : TokenList → Fault
-callback_value_fault run = fault CallbackValue (codes "Not a valid callback") (run_span run)
+callback_value_fault run = callback_no_value (run_span run)
 
 -- the faults of a second `callback = ..`, with its value here and the former callback there
 abbrev pub twice_at : Slice → (here there : Span) → List Fault

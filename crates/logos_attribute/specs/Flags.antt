@@ -1,5 +1,5 @@
 -- The flags in `ignore(..)`.
-use Rattle.std.specs.Prelude.{Bool, true, false, List, [], ◌++◌, codes, if◌then◌else◌}
+use Rattle.std.specs.Prelude.{Bool, true, [], ◌++◌, codes, if◌then◌else◌}
 use Rattle.std.specs.Str.{bytes_eq}
 use Rattle.logos_token.specs.Faults.{Fault}
 use Rattle.logos_token.specs.declared.error.fault_code.FaultCode.TheVariants.{IgnoreAscii, IgnoreUnknown, IgnoreEmpty, IgnoreToken}

@@ -1,7 +1,7 @@
 -- What literals that were read show.
 use Rattle.logos_pattern.specs.declared.pattern.literal.Literal.{Literal}
 use Rattle.logos_pattern.specs.Literals.{token_of, held_value as value_of}
-use Rattle.logos_token.specs.Held.{Held, held_value}
+use Rattle.logos_token.specs.Held.{held_value}
 use Rattle.logos_token.specs.declared.token.Ident.{Ident}
 use Rattle.logos_attribute.specs.Slices.{ident_slice, literal_slice}
 use Rattle.logos_attribute.specs.Literals.{LiteralView, NamedLiteral}

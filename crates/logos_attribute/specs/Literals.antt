@@ -1,5 +1,5 @@
 -- The strings and byte strings in an attribute's argument.
-use Rattle.std.specs.Prelude.{ℕ, List, codes, Option, Some, None}
+use Rattle.std.specs.Prelude.{codes, Option, Some, None}
 use Rattle.logos_token.specs.Faults.{Fault}
 use Rattle.logos_token.specs.declared.error.fault_code.FaultCode.TheVariants.{LiteralSyntax, NotText}
 use Rattle.logos_token.specs.Tokens.{TokenList, literal, none, also, run_span}

@@ -1,6 +1,6 @@
 -- What the views of an attribute's pieces show.
 use Rattle.std.specs.Prelude.{◌≡◌, List, ◌∷◌, if◌then◌else◌}
-use Rattle.logos_token.specs.Tokens.{TokenList, also}
+use Rattle.logos_token.specs.Tokens.{also}
 use Rattle.logos_token.specs.Views.{tokens_of, tree_of}
 use Rattle.logos_token.specs.declared.token.views.Tokens.{Tokens}
 use Rattle.logos_token.specs.declared.token.views.TokenTree.{TokenTree}

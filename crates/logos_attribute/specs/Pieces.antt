@@ -1,7 +1,5 @@
 -- The pieces of an attribute's argument: runs of tokens between lone commas, each with its form.
-use Rattle.std.specs.Prelude.{ℕ, Bool, List, [], ◌∷◌, if◌then◌else◌}
-use Rattle.logos_lexeme.specs.declared.lexeme.Span.{Span}
-use Rattle.logos_lexeme.specs.declared.lexeme.Spacing.{Spacing}
+use Rattle.std.specs.Prelude.{ℕ, List, [], ◌∷◌, if◌then◌else◌}
 use Rattle.logos_token.specs.Tokens.{Token, TokenList, identifier, literal, group, none, also}
 use Rattle.logos_token.specs.Punctuation.{is_alone}
 use Rattle.logos_attribute.specs.Slices.{Slice}

@@ -1,5 +1,6 @@
 -- What a step of reading gives, and the faults that it lists.
-use Rattle.std.specs.Prelude.{◌≡◌, ℕ, List, [], ◌∷◌, ◌++◌, Option, Some, None}
+pub use Rattle.logos_type_params.specs.TypeParams.{fault}
+use Rattle.std.specs.Prelude.{◌≡◌, ℕ, List, [], ◌∷◌, ◌++◌, Some}
 use Rattle.logos_lexeme.specs.declared.lexeme.Span.{Span}
 use Rattle.logos_token.specs.declared.error.fault_code.FaultCode.{FaultCode}
 use Rattle.logos_token.specs.Faults.{Fault}
@@ -24,9 +25,6 @@ and_then told next = telling (next told.value).value (told.faults ++ (next told.
 -- the same faults, with a value made of the one that is told
 abbrev pub told_as : {A B : Type 0} → (A → B) → Told A → Told B
 told_as f told = telling (f told.value) told.faults
-
-abbrev pub fault : FaultCode → List ℕ → Span → Fault
-fault code message span = record { code = code; message = message; span = span; also = None }
 
 -- a fault that speaks of a second place
 abbrev pub fault_also : FaultCode → List ℕ → Span → Span → Fault

@@ -1,5 +1,5 @@
 //! Callbacks, as arguments of attributes say them.
-ghost use Rattle.std.specs.Prelude.{◌≡◌, ◌++◌, IfOk, OnOk, option_map};
+ghost use Rattle.std.specs.Prelude.{◌≡◌, ◌++◌, ◌∷◌, [], IfOk, OnOk, OnErr, option_map};
 ghost use Rattle.logos_token.specs.Tokens.{run_span};
 ghost use Rattle.logos_token.specs.Views.{tokens_of};
 ghost use Rattle.logos_attribute.specs.Slices.{ident_slice};
@@ -7,6 +7,7 @@ ghost use Rattle.logos_attribute.specs.Told.{Tells, Lists};
 ghost use Rattle.logos_attribute.specs.Callbacks.{body_in, bar_in, parameter_in, callback_in};
 ghost use Rattle.logos_attribute.specs.Callbacks.{callback_told, callback_set, twice_at, view_span};
 ghost use Rattle.logos_attribute.specs.Callbacks.{callback_closure, callback_body};
+ghost use Rattle.logos_attribute.specs.Callbacks.{callback_no_value};
 ghost use Rattle.logos_attribute.specs.CallbackViews.{callback_view};
 ghost use Rattle.logos_attribute.specs.inside.CallbackRuns.{run_view, misfit_fault, read_view};
 
@@ -100,7 +101,8 @@ fn copied<'s>(alloc: Global, run: CallbackRun<'_, 's>, span: Span) -> Result<Cal
 
 /// Lists that tokens are no closure.
 fn list_closure(errors: &mut Errors, span: Span) -> Result<(), Memory>
-    ensures { OnOk result (Lists (callback_closure span) errors.old errors.new) }
+    ensures ok { OnOk result (Lists (callback_closure span) errors.old errors.new) }
+    ensures unlisted { OnErr result (errors.new ≡ errors.old) }
 {
     errors.err(
         FaultCode::CallbackClosure,
@@ -112,7 +114,8 @@ fn list_closure(errors: &mut Errors, span: Span) -> Result<(), Memory>
 
 /// Lists that a closure has no body.
 fn list_body(errors: &mut Errors, span: Span) -> Result<(), Memory>
-    ensures { OnOk result (Lists (callback_body span) errors.old errors.new) }
+    ensures ok { OnOk result (Lists (callback_body span) errors.old errors.new) }
+    ensures unlisted { OnErr result (errors.new ≡ errors.old) }
 {
     errors.err(FaultCode::CallbackBody, "Callback missing a body", span)?;
     Ok(())
@@ -120,7 +123,8 @@ fn list_body(errors: &mut Errors, span: Span) -> Result<(), Memory>
 
 /// Lists why tokens are no callback.
 fn list_misfit(errors: &mut Errors, misfit: CallbackMisfit, span: Span) -> Result<(), Memory>
-    ensures { OnOk result (Lists (misfit_fault span misfit) errors.old errors.new) }
+    ensures ok { OnOk result (Lists (misfit_fault span misfit) errors.old errors.new) }
+    ensures unlisted { OnErr result (errors.new ≡ errors.old) }
 {
     match misfit {
         CallbackMisfit::Closure => list_closure(errors, span)?,
@@ -130,15 +134,16 @@ fn list_misfit(errors: &mut Errors, misfit: CallbackMisfit, span: Span) -> Resul
 }
 
 /// The callback that a run without a name is; `None` where it is none, which was listed. After
-/// `Memory` nothing is told of the faults.
+/// `Memory` the faults are as before.
 pub fn read_callback<'s>(
     alloc: Global,
     tokens: Tokens<'_, 's>,
     errors: &mut Errors,
 ) -> Result<Option<Callback<'s>>, Memory>
-    ensures { IfOk result (λ callback.
+    ensures ok { IfOk result (λ callback.
         Tells (callback_told (tokens_of tokens.entry))
         (option_map callback_view callback) errors.old errors.new) }
+    ensures unlisted { OnErr result (errors.new ≡ errors.old) }
 {
     let span = tokens.span();
     match callback_in(tokens) {
@@ -150,34 +155,55 @@ pub fn read_callback<'s>(
     }
 }
 
-/// Lists that a callback was set before, and where.
+/// Lists that a callback was set before, and where. After an error the faults are as before.
 fn list_again(
+    alloc: Global,
     errors: &mut Errors,
     name: Ident<'_>,
     span: Span,
     former: &Callback<'_>,
 ) -> Result<(), Memory>
-    ensures { OnOk result (errors.new
+    ensures ok { OnOk result (errors.new
         ≡ errors.old
         ++ twice_at (ident_slice name.entry) span (view_span (callback_view former.now))) }
+    ensures unlisted { OnErr result (errors.new ≡ errors.old) }
 {
-    errors.err_also(
+    let mut found = Errors::new(alloc);
+    found.err_also(
         FaultCode::CallbackTwice,
         "Callback has been already set",
         span,
         name.span,
     )?;
-    errors.err(
+    found.err(
         FaultCode::Previous,
         "Previous callback set here",
         former.span(),
     )?;
-    Ok(())
+    errors.append(found)
+}
+
+/// Lists why the tokens that are assigned to a name are no callback. After an error the faults are
+/// as before.
+fn list_no_callback(
+    alloc: Global,
+    errors: &mut Errors,
+    misfit: CallbackMisfit,
+    span: Span,
+) -> Result<(), Memory>
+    ensures ok { OnOk result (errors.new
+        ≡ errors.old ++ misfit_fault span misfit ∷ callback_no_value span ∷ []) }
+    ensures unlisted { OnErr result (errors.new ≡ errors.old) }
+{
+    let mut found = Errors::new(alloc);
+    list_misfit(&mut found, misfit, span)?;
+    found.err(FaultCode::CallbackValue, "Not a valid callback", span)?;
+    errors.append(found)
 }
 
 /// Sets the callback that is assigned to a name, in place of the former one, which is listed. A run
-/// that is no callback is listed and sets nothing. After `Memory` nothing is told of the callback
-/// and the faults.
+/// that is no callback is listed and sets nothing. After `Memory` the callback and the faults are
+/// as before.
 pub fn set_callback<'s>(
     alloc: Global,
     callback: &mut Option<Callback<'s>>,
@@ -185,25 +211,23 @@ pub fn set_callback<'s>(
     tokens: Tokens<'_, 's>,
     errors: &mut Errors,
 ) -> Result<(), Memory>
-    ensures { OnOk result (Tells
+    ensures ok { OnOk result (Tells
         (callback_set (ident_slice name.entry) (tokens_of tokens.entry)
         (option_map callback_view callback.old))
         (option_map callback_view callback.new) errors.old errors.new) }
+    ensures kept { OnErr result (callback.new ≡ callback.old) }
+    ensures unlisted { OnErr result (errors.new ≡ errors.old) }
 {
     let span = tokens.span();
     match callback_in(tokens) {
         Ok(run) => {
             let next = copied(alloc, run, span)?;
-            if let Some(former) = callback {
-                list_again(errors, name, span, former)?;
+            if let Some(former) = &*callback {
+                list_again(alloc, errors, name, span, former)?;
             }
             *callback = Some(next);
             Ok(())
         }
-        Err(misfit) => {
-            list_misfit(errors, misfit, span)?;
-            errors.err(FaultCode::CallbackValue, "Not a valid callback", span)?;
-            Ok(())
-        }
+        Err(misfit) => list_no_callback(alloc, errors, misfit, span),
     }
 }

@@ -1,5 +1,5 @@
 //! The flags in `ignore(..)`.
-ghost use Rattle.std.specs.Prelude.{◌≡◌, OnOk, IfOk, false, string_bytes};
+ghost use Rattle.std.specs.Prelude.{◌≡◌, OnOk, OnErr, IfOk, false, string_bytes};
 ghost use Rattle.logos_token.specs.Tokens.{also, none};
 ghost use Rattle.logos_token.specs.Views.{tokens_of, tree_of};
 ghost use Rattle.logos_token.specs.Printing.{printed};
@@ -144,10 +144,8 @@ fn read_case<'t, 's>(
     }
 }
 
-/// Sets what the flags in the group behind `ignore` say, whose name is given, and lists the first
-/// fault among them; the flags in front of it stay set. After `Memory` nothing is told of the flag
-/// and the faults.
-pub fn read_flags<'s>(
+/// Sets what flags say, and lists the first fault among them. After an error some may be set.
+fn set_flags<'s>(
     alloc: Global,
     ignore_case: &mut bool,
     name: Ident<'s>,
@@ -168,5 +166,29 @@ pub fn read_flags<'s>(
         found = true;
         rest = next;
     }
+    Ok(())
+}
+
+/// Sets what the flags in the group behind `ignore` say, whose name is given, and lists the first
+/// fault among them; the flags in front of it stay set. After `Memory` the flag and the faults are
+/// as before.
+pub fn read_flags<'s>(
+    alloc: Global,
+    ignore_case: &mut bool,
+    name: Ident<'s>,
+    tokens: Tokens<'_, 's>,
+    errors: &mut Errors,
+) -> Result<(), Memory>
+    ensures ok { OnOk result (Tells
+        (flags_told (ident_slice name.entry) false ignore_case.old (tokens_of tokens.entry))
+        ignore_case.new errors.old errors.new) }
+    ensures kept { OnErr result (ignore_case.new ≡ ignore_case.old) }
+    ensures unlisted { OnErr result (errors.new ≡ errors.old) }
+{
+    let mut set = *ignore_case;
+    let mut found = Errors::new(alloc);
+    set_flags(alloc, &mut set, name, tokens, &mut found)?;
+    errors.append(found)?;
+    *ignore_case = set;
     Ok(())
 }

@@ -1,5 +1,5 @@
 //! The strings and byte strings in an attribute's argument.
-ghost use Rattle.std.specs.Prelude.{◌≡◌, OnOk, IfOk, option_map};
+ghost use Rattle.std.specs.Prelude.{◌≡◌, OnOk, OnErr, IfOk, option_map};
 ghost use Rattle.logos_token.specs.Views.{tokens_of};
 ghost use Rattle.logos_attribute.specs.Slices.{literal_slice};
 ghost use Rattle.logos_attribute.specs.Told.{Tells, Lists};
@@ -17,7 +17,9 @@ use std::alloc::Global;
 
 /// Lists a literal that is neither a string nor a byte string.
 fn list_not_text(token: token::Literal<'_>, errors: &mut Errors) -> Result<(), Memory>
-    ensures { OnOk result (Lists (not_text (literal_slice token.entry)) errors.old errors.new) }
+    ensures ok { OnOk result
+        (Lists (not_text (literal_slice token.entry)) errors.old errors.new) }
+    ensures unlisted { OnErr result (errors.new ≡ errors.old) }
 {
     errors.err(
         FaultCode::NotText,
@@ -27,9 +29,11 @@ fn list_not_text(token: token::Literal<'_>, errors: &mut Errors) -> Result<(), M
     Ok(())
 }
 
-/// Lists that a run is no literal. After `Memory` nothing is told of the faults.
+/// Lists that a run is no literal. After `Memory` the faults are as before.
 pub fn list_syntax(tokens: Tokens<'_, '_>, errors: &mut Errors) -> Result<(), Memory>
-    ensures { OnOk result (Lists (literal_syntax (tokens_of tokens.entry)) errors.old errors.new) }
+    ensures ok { OnOk result
+        (Lists (literal_syntax (tokens_of tokens.entry)) errors.old errors.new) }
+    ensures unlisted { OnErr result (errors.new ≡ errors.old) }
 {
     list_run(
         errors,
@@ -48,15 +52,16 @@ fn text_in<'s>(alloc: Global, token: token::Literal<'s>) -> Result<Option<Litera
 }
 
 /// The string or byte string that a literal is; `None` where it is another one, which was listed.
-/// After `Memory` nothing is told of the faults.
+/// After `Memory` the faults are as before.
 pub fn read_text<'s>(
     alloc: Global,
     token: token::Literal<'s>,
     errors: &mut Errors,
 ) -> Result<Option<Literal<'s>>, Memory>
-    ensures { IfOk result (λ literal.
+    ensures ok { IfOk result (λ literal.
         Tells (text_told (literal_slice token.entry))
         (option_map literal_view literal) errors.old errors.new) }
+    ensures unlisted { OnErr result (errors.new ≡ errors.old) }
 {
     let Some(literal) = text_in(alloc, token)? else {
         list_not_text(token, errors)?;
@@ -66,15 +71,16 @@ pub fn read_text<'s>(
 }
 
 /// The string or byte string that a run is; `None` where it is none, which was listed, and where it
-/// has no token. After `Memory` nothing is told of the faults.
+/// has no token. After `Memory` the faults are as before.
 pub fn read_literal<'s>(
     alloc: Global,
     tokens: Tokens<'_, 's>,
     errors: &mut Errors,
 ) -> Result<Option<Literal<'s>>, Memory>
-    ensures { IfOk result (λ literal.
+    ensures ok { IfOk result (λ literal.
         Tells (literal_told (tokens_of tokens.entry))
         (option_map literal_view literal) errors.old errors.new) }
+    ensures unlisted { OnErr result (errors.new ≡ errors.old) }
 {
     match split(tokens) {
         None => Ok(None),

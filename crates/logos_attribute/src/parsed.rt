@@ -1,5 +1,5 @@
 //! Values that are read from an attribute's argument one after another.
-ghost use Rattle.std.specs.Prelude.{◌≡◌, ◌≢◌, List, Option, None, ◌⊎◌, IfOk, option_map};
+ghost use Rattle.std.specs.Prelude.{◌≡◌, ◌≢◌, List, Option, None, IfOk, OnOk, OnErr, option_map};
 ghost use Rattle.logos_token.specs.Faults.{Fault};
 ghost use Rattle.logos_token.specs.Tokens.{TokenList, none, run_span};
 ghost use Rattle.logos_token.specs.Views.{tokens_of};
@@ -26,14 +26,15 @@ pub trait FromRun<'s>: Sized {
     ghost is_read: { TokenList → Option Self → List Fault → List Fault → Type 0 };
 
     /// The value that the whole run is. `None` where it is none, which was listed. After `Memory`
-    /// nothing is told of the faults.
+    /// the faults are as before.
     fn from_run(
         alloc: Global,
         run: Tokens<'_, 's>,
         errors: &mut Errors,
     ) -> Result<Option<Self>, Memory>
-        ensures { IfOk result (λ read.
-            is_read (tokens_of run.entry) read errors.old errors.new) };
+        ensures read { IfOk result (λ read.
+            is_read (tokens_of run.entry) read errors.old errors.new) }
+        ensures unlisted { OnErr result (errors.new ≡ errors.old) };
 }
 
 /// A string or a byte string. Another literal is listed as `NotText` at the literal, another run as
@@ -69,7 +70,7 @@ impl<'s> FromRun<'s> for TypeExpr<'s> {
 impl<'t, 's> AttributeParser<'t, 's> {
     /// Reads the tokens up to the next comma that cuts, which is taken with them, as one value.
     /// `None` where no token is in front of that comma, and where they are no such value, which was
-    /// listed. After `Memory` nothing is told of the faults.
+    /// listed. After `Memory` nothing is taken, and the faults are as before.
     pub fn parsed<T: FromRun<'s>>(
         &mut self,
         alloc: Global,
@@ -80,12 +81,20 @@ impl<'t, 's> AttributeParser<'t, 's> {
         ensures value { up_to_comma (tokens_of self.old.rest) ≢ none →
             IfOk result (λ read. T.is_read
             (up_to_comma (tokens_of self.old.rest)) read errors.old errors.new) }
-        ensures pieces { pieces_left self.new ≡ pieces (behind_comma (tokens_of self.old.rest)) }
-        ensures rest { tokens_of self.new.rest ≡ behind_comma (tokens_of self.old.rest) }
+        ensures pieces { OnOk result
+            (pieces_left self.new ≡ pieces (behind_comma (tokens_of self.old.rest))) }
+        ensures rest { OnOk result
+            (tokens_of self.new.rest ≡ behind_comma (tokens_of self.old.rest)) }
+        ensures kept { OnErr result (self.new ≡ self.old) }
+        ensures unlisted { OnErr result (errors.new ≡ errors.old) }
     {
-        match self.run() {
-            None => Ok(None),
-            Some(run) => T::from_run(alloc, run, errors),
-        }
+        let mut behind = *self;
+        let Some(run) = behind.run() else {
+            *self = behind;
+            return Ok(None);
+        };
+        let read = T::from_run(alloc, run, errors)?;
+        *self = behind;
+        Ok(read)
     }
 }

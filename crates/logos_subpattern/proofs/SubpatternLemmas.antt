@@ -1,5 +1,5 @@
 -- Subpatterns among others.
-use Rattle.std.proofs.Common.{◌≡◌, ℕ, List, [], ◌∷◌, ◌++◌, map, Bool, true, false, Option, Some, None, option_map, refl, sym, ap, ◌∙◌, if◌then◌else◌, string_bytes, chars, slice_get}
+use Rattle.std.proofs.Common.{◌≡◌, ℕ, List, [], ◌∷◌, ◌++◌, map, Bool, true, false, Option, Some, None, option_map, refl, sym, ap, subst, append_assoc, ◌∙◌, string_bytes}
 use denote.Ref.{Bor}
 use Rattle.std.specs.Str.{bytes_eq}
 use Rattle.std.specs.Map.{lookup}
@@ -12,12 +12,14 @@ use Rattle.logos_pattern_tokens.specs.declared.error.PatternError.{PatternError}
 use Rattle.logos_pattern_tokens.specs.declared.error.PatternError.TheVariants as errors
 use Rattle.logos_syntax.specs.Grammar.{Refuses, first_flags}
 use Rattle.logos_syntax.specs.Nesting.{IsTooDeep}
+use Rattle.logos_type_params.specs.TypeParams.{previous}
 use Rattle.logos_attribute.specs.Slices.{Slice}
+use Rattle.logos_attribute.specs.Literals.{NamedLiteral}
 use Rattle.logos_subpattern.specs.declared.subpattern.Subpattern.{Subpattern}
 use Rattle.logos_subpattern.specs.PatternFaults.{IsRead, Reads, spelled, broken, too_deep}
 use Rattle.logos_subpattern.specs.Substitution.{Stored, stored_at, text_of}
 use Rattle.logos_subpattern.specs.SubpatternViews.{stored_of}
-use Rattle.logos_subpattern.specs.Subpatterns.{put_stored, twice_faults, subpattern_twice, assigned_before}
+use Rattle.logos_subpattern.specs.Subpatterns.{put_stored, twice_faults, subpattern_twice, subpattern_told, IsAdded, AreAdded, ended, further}
 use Rattle.logos_subpattern.specs.inside.Errors.{ListsError}
 use Rattle.indexmap.specs.IndexMap.{insert_entry}
 
@@ -68,7 +70,7 @@ pub put_entries : (key : Bor (List ℕ)) (s : Subpattern) (entries : Entries) �
 put_entries key s [] = refl
 put_entries key s (e ∷ rest) = put-one key s e rest (bytes_eq key.now e.0.now) refl (put_entries key s rest)
 
-spans_twice : (name : Slice) (there : Span) (former : Option Stored) → Some there ≡ option_map (λ (s : Stored). s.span) former → twice_faults name former ≡ subpattern_twice name ∷ assigned_before there ∷ []
+spans_twice : (name : Slice) (there : Span) (former : Option Stored) → Some there ≡ option_map (λ (s : Stored). s.span) former → twice_faults name former ≡ subpattern_twice name ∷ previous there ∷ []
 spans_twice name there None e = cc
 spans_twice name there (Some s) e = let same : there ≡ s.span = cc in rw same refl
 
@@ -78,7 +80,7 @@ spans_once name (Some s) e = cc
 
 -- a former one of this name is there
 pub put_twice : (name : Slice) (entries : Entries) (former : Subpattern) (found : Option Subpattern) → found ≡ lookup (λ (k : Bor (List ℕ)). bytes_eq name.text k.now) entries → found ≡ Some former →
-    twice_faults name (stored_at (map stored_of entries) name.text) ≡ subpattern_twice name ∷ assigned_before former.name.span ∷ []
+    twice_faults name (stored_at (map stored_of entries) name.text) ≡ subpattern_twice name ∷ previous former.name.span ∷ []
 put_twice name entries former found l f =
     spans_twice name former.name.span (stored_at (map stored_of entries) name.text) (ap (option_map (λ (s : Subpattern). s.name.span)) (sym f ∙ l) ∙ found_span name.text entries)
 
@@ -98,3 +100,25 @@ pub read_error : (unicode ignore_case : Bool) (text : List ℕ) (span : Span) (e
 read_error unicode ignore_case text span (errors.Syntax kind at) old new r d l = record { reading = broken kind at; reads = r; is_tree = refl; lists = l }
 read_error unicode ignore_case text span errors.LimitPatternNesting old new r d l = record { reading = too_deep; reads = record { deeper = r; begins = d refl }; is_tree = refl; lists = l }
 read_error unicode ignore_case text span errors.Memory old new r d l = absurd l
+
+-- ---- faults behind others
+
+added_behind : {utf8_mode : Bool} {sub : NamedLiteral} {before behind : List Stored} {old new : List Fault} (ahead : List Fault) → IsAdded utf8_mode sub before behind old new →
+    IsAdded utf8_mode sub before behind (ahead ++ old) (ahead ++ new)
+added_behind {utf8_mode = utf8_mode} {sub = sub} {before = before} {old = old} ahead h = record {
+  reading = h.reading;
+  reads = h.reads;
+  tells = (h.tells.0, ap (λ (l : List Fault). ahead ++ l) h.tells.1 ∙ sym (append_assoc ahead old (subpattern_told utf8_mode h.reading sub before).faults));
+}
+
+all_behind : {utf8_mode : Bool} {subs : List NamedLiteral} {before behind : List Stored} {old new : List Fault} (ahead : List Fault) → AreAdded utf8_mode subs before behind old new →
+    AreAdded utf8_mode subs before behind (ahead ++ old) (ahead ++ new)
+all_behind ahead ended = ended
+all_behind ahead (further first rest) = further (added_behind ahead first) (all_behind ahead rest)
+
+-- faults that are found alone, and then stand behind others
+pub added_alone : {utf8_mode : Bool} {subs : List NamedLiteral} {before behind : List Stored} (ahead none found all : List Fault) → none ≡ [] → AreAdded utf8_mode subs before behind none found →
+    all ≡ ahead ++ found → AreAdded utf8_mode subs before behind ahead all
+added_alone {utf8_mode = utf8_mode} {subs = subs} {before = before} {behind = behind} ahead none found all n added e =
+    subst (λ (l : List Fault). AreAdded utf8_mode subs before behind ahead l) (sym e)
+    (subst (λ (l : List Fault). AreAdded utf8_mode subs before behind l (ahead ++ found)) (ap (λ (l : List Fault). ahead ++ l) n ∙ append-nil ahead) (all_behind ahead added))

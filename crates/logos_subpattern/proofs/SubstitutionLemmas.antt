@@ -1,7 +1,7 @@
 -- Parts of a text.
-use Rattle.std.proofs.Common.{◌≡◌, ℕ, zero, suc, ◌+◌, ◌-◌, ◌<◌, List, [], ◌∷◌, ◌++◌, length, drop, Bool, true, false, Option, Some, None, ap, refl, ◌∙◌, sym, arith}
+use Rattle.std.proofs.Common.{◌≡◌, ℕ, zero, suc, ◌+◌, ◌-◌, ◌<◌, List, [], ◌∷◌, ◌++◌, length, drop, Bool, true, false, Some, ap, refl, ◌∙◌, sym, arith}
 use Rattle.std.proofs.lemmas.List.{length-drop}
-use Rattle.logos_subpattern.specs.Substitution.{is_word, word_front, word_rest, closed, reference, Part, used, kept, parts}
+use Rattle.logos_subpattern.specs.Substitution.{is_word, word_front, word_rest, closed, reference, Part, used, parts}
 
 split-one : (c : ℕ) (rest : List ℕ) (b : Bool) → is_word c ≡ b → rest ≡ word_front rest ++ word_rest rest → c ∷ rest ≡ word_front (c ∷ rest) ++ word_rest (c ∷ rest)
 split-one c rest true e h = rw e (ap (λ (xs : List ℕ). c ∷ xs) h)

@@ -2,13 +2,13 @@
 use Rattle.std.specs.Prelude.{◌≡◌, ℕ, Bool, true, false, not, ◌&&◌, List, [], ◌∷◌, ◌++◌, codes, Option, Some, None, if◌then◌else◌}
 use Rattle.std.specs.List.{list_all}
 use Rattle.std.specs.Str.{bytes_eq, chars}
-use Rattle.logos_lexeme.specs.declared.lexeme.Span.{Span}
-use Rattle.logos_token.specs.declared.error.fault_code.FaultCode.TheVariants.{SubpatternName, SubpatternTwice, Utf8Subpattern, Previous}
+use Rattle.logos_token.specs.declared.error.fault_code.FaultCode.TheVariants.{SubpatternName, SubpatternTwice, Utf8Subpattern}
 use Rattle.logos_token.specs.Faults.{Fault}
 use Rattle.logos_token.specs.Held.{Held, of_text, of_bytes}
 use Rattle.logos_pattern.specs.Escaping.{escaped_text, escaped_bytes}
 use Rattle.logos_hir.specs.Measure.{is_text}
 use Rattle.logos_hir.specs.Tree.{Tree}
+use Rattle.logos_type_params.specs.TypeParams.{previous}
 use Rattle.logos_attribute.specs.Slices.{Slice}
 use Rattle.logos_attribute.specs.Literals.{NamedLiteral}
 use Rattle.logos_attribute.specs.Told.{Told, telling, quiet, and_then, fault, fault_about, only, Tells}
@@ -40,13 +40,10 @@ subpattern_name name = fault_about SubpatternName (codes "Invalid subpattern nam
 abbrev pub subpattern_twice : Slice → Fault
 subpattern_twice name = fault_about SubpatternTwice (codes "Subpattern `") name (codes "` already exists")
 
-abbrev pub assigned_before : Span → Fault
-assigned_before span = fault Previous (codes "Previously assigned here") span
-
 -- a subpattern of this name behind others, of which one may have it
 abbrev pub twice_faults : Slice → Option Stored → List Fault
 twice_faults name None = []
-twice_faults name (Some former) = subpattern_twice name ∷ assigned_before former.span ∷ []
+twice_faults name (Some former) = subpattern_twice name ∷ previous former.span ∷ []
 
 abbrev pub utf8_text : NamedLiteral → List ℕ
 utf8_text sub =

@@ -1,5 +1,5 @@
 //! Texts that are read as patterns, and the faults that they list.
-ghost use Rattle.std.specs.Prelude.{◌≡◌, ◌++◌, chars, IfOk, IfSome, OnOk, option_map};
+ghost use Rattle.std.specs.Prelude.{◌≡◌, ◌++◌, chars, IfOk, IfSome, OnOk, OnErr, option_map};
 ghost use Rattle.std.specs.Prelude.{string_bytes};
 ghost use Rattle.logos_pattern.specs.Leaf.{pattern_tree, source_of, is_token};
 ghost use Rattle.logos_pattern.specs.Literals.{token_of};
@@ -66,8 +66,9 @@ fn list_regex(
     span: Span,
     errors: &mut Errors,
 ) -> Result<(), Memory>
-    ensures { OnOk result
+    ensures ok { OnOk result
         (Lists (fault FaultCode.Regex (regex_text at kind) span) errors.old errors.new) }
+    ensures unlisted { OnErr result (errors.new ≡ errors.old) }
 {
     let text = regex_text(alloc, kind, at)?;
     errors.err(FaultCode::Regex, text.as_str(), span)
@@ -80,7 +81,8 @@ fn list_error(
     span: Span,
     errors: &mut Errors,
 ) -> Result<(), Memory>
-    ensures { OnOk result (ListsError error span errors.old errors.new) }
+    ensures ok { OnOk result (ListsError error span errors.old errors.new) }
+    ensures unlisted { OnErr result (errors.new ≡ errors.old) }
 {
     match error {
         PatternError::Syntax { kind, at } => list_regex(alloc, kind, at, span, errors),
@@ -94,7 +96,7 @@ fn list_error(
 }
 
 /// Reads a text as the pattern of a literal. `None` where it is none, which was listed at the
-/// literal. After `Memory` nothing is told of the faults.
+/// literal. After `Memory` the faults are as before.
 pub fn read_pattern<'s>(
     alloc: Global,
     regex: &str,
@@ -108,6 +110,7 @@ pub fn read_pattern<'s>(
     ensures source { IfOk result (λ pattern. IfSome pattern (λ p.
         source_of p ≡ (token_of literal.now).text.now)) }
     ensures form { IfOk result (λ pattern. IfSome pattern (λ p. is_token p ≡ mode.is_literal)) }
+    ensures unlisted { OnErr result (errors.new ≡ errors.old) }
 {
     let token = literal.token();
     let ReadingMode {

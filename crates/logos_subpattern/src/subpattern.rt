@@ -1,13 +1,14 @@
 //! Subpatterns with their texts.
 ghost use Rattle.std.specs.Prelude.{◌≡◌, ◌++◌, ◌∷◌, [], IfOk, OnOk, string_bytes};
 ghost use Rattle.std.specs.List.{list_all};
+ghost use Rattle.logos_type_params.specs.TypeParams.{previous};
 ghost use Rattle.logos_attribute.specs.Slices.{ident_slice};
 ghost use Rattle.logos_attribute.specs.LiteralViews.{literal_view, named_literal_view};
 ghost use Rattle.logos_attribute.specs.Told.{Lists};
 ghost use Rattle.logos_subpattern.specs.Substitution.{is_word};
 ghost use Rattle.logos_subpattern.specs.Subpatterns.{is_name, flags_of, regex_of, wrapped};
 ghost use Rattle.logos_subpattern.specs.Subpatterns.{subpattern_name, subpattern_twice};
-ghost use Rattle.logos_subpattern.specs.Subpatterns.{assigned_before, utf8_subpattern, utf8_text};
+ghost use Rattle.logos_subpattern.specs.Subpatterns.{utf8_subpattern, utf8_text};
 
 use crate::fault::{ReadingMode, read_pattern};
 use crate::substitution::substituted;
@@ -16,6 +17,7 @@ use logos_attribute::listing::list_named;
 use logos_pattern::pattern::Literal;
 use logos_token::error::{Errors, FaultCode, Memory};
 use logos_token::token::{Ident, Span};
+use logos_type_params::listing::list_previous;
 use std::alloc::Global;
 
 /// A pattern with a name, which may stand for it in other patterns.
@@ -81,8 +83,8 @@ fn flags_of(literal: &Literal<'_>) -> &'static str
     }
 }
 
-/// The value of a literal as the text of a pattern.
-fn regex_of(alloc: Global, literal: &Literal<'_>) -> Result<String, Memory>
+/// The value of a literal as the text of a pattern. Only want of memory is an error.
+pub fn regex_of(alloc: Global, literal: &Literal<'_>) -> Result<String, Memory>
     ensures { IfOk result (λ text. string_bytes text ≡ regex_of (literal_view literal.now).held) }
 {
     match literal {
@@ -131,13 +133,6 @@ fn list_second(alloc: Global, name: Ident<'_>, errors: &mut Errors) -> Result<()
     )
 }
 
-/// Lists where the first subpattern of a name stands.
-fn list_former(span: Span, errors: &mut Errors) -> Result<(), Memory>
-    ensures { OnOk result (Lists (assigned_before span) errors.old errors.new) }
-{
-    errors.err(FaultCode::Previous, "Previously assigned here", span)
-}
-
 /// Lists a second subpattern of a name, and where the first one stands.
 fn list_twice(
     alloc: Global,
@@ -146,10 +141,10 @@ fn list_twice(
     errors: &mut Errors,
 ) -> Result<(), Memory>
     ensures { OnOk result (errors.new ≡ errors.old
-        ++ (subpattern_twice (ident_slice name.entry) ∷ assigned_before former ∷ [])) }
+        ++ (subpattern_twice (ident_slice name.entry) ∷ previous former ∷ [])) }
 {
     list_second(alloc, name, errors)?;
-    list_former(former, errors)?;
+    list_previous(errors, former)?;
     Ok(())
 }
 
@@ -179,7 +174,7 @@ fn list_utf8(
 }
 
 impl<'s> Subpatterns<'s> {
-    ghost use Rattle.std.specs.Prelude.{◌≡◌, ℕ, List, [], map, option_map, IfOk, OnOk};
+    ghost use Rattle.std.specs.Prelude.{◌≡◌, ℕ, List, [], map, option_map, IfOk, OnOk, OnErr};
     ghost use Rattle.std.specs.Prelude.{string_bytes, chars};
     ghost use denote.Ref.{Bor};
     ghost use Rattle.logos_attribute.specs.Slices.{ident_slice};
@@ -283,10 +278,9 @@ impl<'s> Subpatterns<'s> {
         self.test(alloc, utf8_mode, named, whole, errors)
     }
 
-    /// The subpatterns with these names and literals, in their order: each may use the ones in
-    /// front of it. A later one of a name stands in place of the earlier one. What has a fault is
-    /// left out, and the fault is listed. After `Memory` nothing is told of the faults.
-    pub fn new(
+    /// The subpatterns with these names and literals, each with the ones in front of it. After an
+    /// error some of the faults may be listed.
+    fn add_all(
         alloc: Global,
         list: &[(Ident<'s>, Literal<'s>)],
         utf8_mode: bool,
@@ -305,9 +299,29 @@ impl<'s> Subpatterns<'s> {
         Ok(subpatterns)
     }
 
+    /// The subpatterns with these names and literals, in their order: each may use the ones in
+    /// front of it. A later one of a name stands in place of the earlier one. What has a fault is
+    /// left out, and the fault is listed. After `Memory` the faults are as before.
+    pub fn new(
+        alloc: Global,
+        list: &[(Ident<'s>, Literal<'s>)],
+        utf8_mode: bool,
+        errors: &mut Errors,
+    ) -> Result<Subpatterns<'s>, Memory>
+        ensures ok { IfOk result (λ subpatterns.
+            AreAdded utf8_mode (map named_literal_view list.now) [] (names_of subpatterns)
+            errors.old errors.new) }
+        ensures unlisted { OnErr result (errors.new ≡ errors.old) }
+    {
+        let mut found = Errors::new(alloc);
+        let subpatterns = Subpatterns::add_all(alloc, list, utf8_mode, &mut found)?;
+        errors.append(found)?;
+        Ok(subpatterns)
+    }
+
     /// The text with each `(?&name)`, from the left, replaced by the text of that subpattern; what
     /// is put in is not looked into. `None` where a name has no subpattern, which was listed at the
-    /// span, once for each place. After `Memory` nothing is told of the faults.
+    /// span, once for each place. After `Memory` the faults are as before.
     pub fn subst_subpatterns(
         &self,
         alloc: Global,
@@ -315,10 +329,14 @@ impl<'s> Subpatterns<'s> {
         span: Span,
         errors: &mut Errors,
     ) -> Result<Option<String>, Memory>
-        ensures { IfOk result (λ text.
+        ensures ok { IfOk result (λ text.
             Tells (subst_told (names_of self.now) span (chars pattern.now))
             (option_map string_bytes text) errors.old errors.new) }
+        ensures unlisted { OnErr result (errors.new ≡ errors.old) }
     {
-        substituted(alloc, self, pattern, span, errors)
+        let mut missing = Errors::new(alloc);
+        let text = substituted(alloc, self, pattern, span, &mut missing)?;
+        errors.append(missing)?;
+        Ok(text)
     }
 }

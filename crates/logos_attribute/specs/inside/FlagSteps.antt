@@ -5,7 +5,7 @@ use Rattle.logos_token.specs.Tokens.{TokenList, count_of}
 use Rattle.logos_token.specs.Views.{tokens_of}
 use Rattle.logos_token.specs.declared.token.views.Tokens.{Tokens}
 use Rattle.logos_attribute.specs.Slices.{Slice}
-use Rattle.logos_attribute.specs.Told.{Told, Tells}
+use Rattle.logos_attribute.specs.Told.{Tells}
 use Rattle.logos_attribute.specs.Flags.{flags_told, behind_flag}
 
 -- behind `case`: the flags go on behind a comma, or they end here

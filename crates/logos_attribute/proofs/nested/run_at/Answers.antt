@@ -1,4 +1,3 @@
-use Rattle.std.proofs.Common.{rules}
 use Rattle.logos_attribute.proofs.PieceLemmas.{rest_by}
 use Rattle.logos_attribute.proofs.nested.run_at.Goals as goal
 

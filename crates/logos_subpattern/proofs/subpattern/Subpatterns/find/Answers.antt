@@ -1,4 +1,4 @@
-use Rattle.std.proofs.Common.{◌≡◌, ◌∙◌, List, ℕ, Some, option_map, ap, string_bytes}
+use Rattle.std.proofs.Common.{◌∙◌, List, ℕ, Some, option_map, ap, string_bytes}
 use Rattle.logos_subpattern.specs.declared.subpattern.Subpattern.{Subpattern}
 use Rattle.logos_subpattern.proofs.SubpatternLemmas.{found_text}
 use Rattle.logos_subpattern.proofs.subpattern.Subpatterns.find.Goals as goal

@@ -1,17 +1,5 @@
-use Rattle.std.proofs.Common.{◌≡◌, ◌∙◌, ◌∷◌, ◌+◌, map, drop, ap, sym}
-use Rattle.std.proofs.lemmas.List.{at_drop_more, at_drop_all}
-use Rattle.logos_attribute.specs.LiteralViews.{named_literal_view}
-use Rattle.logos_subpattern.specs.Subpatterns.AreAdded.{ended, further}
+use Rattle.logos_subpattern.proofs.SubpatternLemmas.{added_alone}
 use Rattle.logos_subpattern.proofs.subpattern.Subpatterns.new.Goals as goal
 
-pub loop-named-preserved : goal.loop-named-preserved
-loop-named-preserved c =
-    let left : map named_literal_view (drop c.loop-named.named-index c.args.list.now)
-    ≡ named_literal_view c.named-item.result ∷ map named_literal_view (drop (c.loop-named.named-index + 1) c.args.list.now) =
-    at_drop_more (λ xs. map named_literal_view xs) c.args.list.now c.loop-named.named-index c.named-item.result c.loop-named-test.true
-    ∙ ap (λ x. named_literal_view x ∷ map named_literal_view (drop (c.loop-named.named-index + 1) c.args.list.now)) (sym c.named-item.is) in
-    λ behind new rest. c.loop-named.invariant behind new (rw left (further c.in_ok-add.ensures rest))
-
-pub returns : goal.returns
-returns c =
-    c.loop-named.invariant _ _ (rw (at_drop_all (λ xs. map named_literal_view xs) c.args.list.now c.loop-named.named-index c.loop-named-test.false) ended)
+pub returns-clause-ok : goal.returns-clause-ok
+returns-clause-ok c = added_alone _ _ _ _ c.new-found.ensures c.in_ok-subpatterns.ensures c.in_ok-append.ensures.ok

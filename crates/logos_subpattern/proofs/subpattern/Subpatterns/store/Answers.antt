@@ -1,4 +1,4 @@
-use Rattle.std.proofs.Common.{◌≡◌, ◌∙◌, List, ◌++◌, map, ap, sym}
+use Rattle.std.proofs.Common.{◌∙◌, List, ◌++◌, map, ap, sym}
 use Rattle.std.proofs.lemmas.List.{append-nil}
 use Rattle.logos_token.specs.Faults.{Fault}
 use Rattle.logos_attribute.specs.Slices.{ident_slice}

@@ -3,7 +3,7 @@ use Rattle.logos_token.specs.Tokens.{count_of}
 use Rattle.logos_token.specs.Views.{tokens_of}
 use Rattle.logos_attribute.specs.Slices.{ident_slice}
 use Rattle.logos_attribute.specs.Flags.{flags_told}
-use Rattle.logos_attribute.proofs.flags.read_flags.Given as goal
+use Rattle.logos_attribute.proofs.flags.set_flags.Given as goal
 
 abbrev pub invariant-loop-behind : goal.invariant-loop-behind
 invariant-loop-behind l = record {

@@ -4,7 +4,7 @@ use Rattle.logos_attribute.specs.LiteralViews.{named_literal_view}
 use Rattle.logos_subpattern.specs.Substitution.{Stored}
 use Rattle.logos_subpattern.specs.Subpatterns.{AreAdded}
 use Rattle.logos_subpattern.specs.SubpatternViews.{names_of}
-use Rattle.logos_subpattern.proofs.subpattern.Subpatterns.new.Given as goal
+use Rattle.logos_subpattern.proofs.subpattern.Subpatterns.add_all.Given as goal
 
 abbrev pub invariant-loop-named : goal.invariant-loop-named
 invariant-loop-named l = (behind : List Stored) (new : List Fault) →
