@@ -1,0 +1,119 @@
+#!/usr/bin/env bash
+# Measures public calls that the other scripts do not, each on a large text and on one of half its size, and prints a table: the seconds
+# of the call alone, how much it gave (bytes, tokens, pieces, items, parts or tables), and the most memory that the program used, its text
+# included. Of three runs the fastest counts.
+#
+# It needs python3. The program of bench/calls is built in a copy of the repository as `rt run` builds it, so the crates are
+# proved first, where they are not already. Its sources do not end in .rt here, since the gate refuses such files
+# outside the crates.
+set -euo pipefail
+
+bench=$(cd "$(dirname "${BASH_SOURCE[0]}")" && pwd)
+copy=$(mktemp -d)
+trap 'rm -rf "$copy"' EXIT
+tar -C "$bench/.." --exclude=out -cf - crates crates.txt HANDLES | tar -C "$copy" -xf -
+for crate in "$bench"/../crates/*/out; do
+    [ -d "$crate" ] || continue
+    name=$(basename "$(dirname "$crate")")
+    cp -R "$crate" "$copy/crates/$name/out"
+done
+echo "calls_bench: indexmap logos_codegen logos_generator logos_graph logos_parser logos_pattern logos_source logos_text logos_token logos_type" \
+    >> "$copy/crates.txt"
+crate="$copy/crates/calls_bench"
+mkdir -p "$crate/src" "$crate/specs" "$crate/proofs"
+touch "$crate/specs/Lib.antt" "$crate/proofs/Lib.antt"
+for file in "$bench"/calls/*.rt.in; do
+    name=${file##*/}
+    cp "$file" "$crate/src/${name%.in}"
+done
+echo '+' > "$copy/text"
+if ! (cd "$crate" && rt run -- print "$copy/text") > "$copy/log" 2>&1; then
+    tail -n 30 "$copy/log" >&2
+    exit 1
+fi
+
+# WHAT CALL KIND SIZE: two rows of the table, for half the size and the whole.
+measure() {
+    local size
+    for size in $(($4 / 2)) "$4"; do
+        python3 "$bench/calls/source.py" "$3" "$size" > "$copy/text"
+        for _ in 1 2 3; do
+            "$crate/out/calls_bench" "$2" "$copy/text"
+        done | sort -n | head -n 1 | awk -v name="$1, $size" '{
+            printf "| %s | %.3f | %s | %.0f |\n", name, $1, $2, $3 / 1024
+        }'
+    done
+}
+
+bytes=16777216
+echo "$(nproc) cores, $(sed -n 's/^model name[^:]*: //p' /proc/cpuinfo | head -n 1)"
+echo
+echo "| Call and size | Seconds | Given | Memory in MiB |"
+echo "|---|---|---|---|"
+measure "\`print\`, bytes of punctuation" print punctuation $bytes
+measure "\`print\`, bytes of documentation lines" print docs $bytes
+measure "\`TokenStream::clone\`, bytes of punctuation" clone punctuation $bytes
+measure "\`Tokens::to_stream\`, bytes of punctuation" to_stream punctuation $bytes
+measure "\`TokenStream::with_tree\`, bytes of punctuation" with_tree punctuation $bytes
+measure "\`TokenStream::with_tree\`, bytes of \`()\`" with_tree "()" $bytes
+measure "\`push_escaped\`, bytes of quotes" push_escaped '"' $bytes
+measure "\`Errors::err\`, faults" err faults 2000000
+measure "\`Errors::append\`, faults" append faults 2000000
+measure "\`Errors::render\`, faults" render faults 2000000
+measure "\`Literal::read\`, bytes of escapes" value escapes $bytes
+measure "\`Literal::read\`, bytes of continued lines" value continued $bytes
+measure "\`Literal::escape\`, bytes of dots" escape dots $bytes
+measure "\`Literal::escape\`, bytes of \`\\xFF\`" escape bytes $bytes
+measure "\`AttributeParser\`, bytes of commas" pieces commas $bytes
+measure "\`AttributeParser\`, bytes of \`a,\`" pieces names $bytes
+measure "\`AttributeParser\`, bytes of \`a = b,\`" pieces values $bytes
+measure "\`AttributeParser\`, bytes of \`a = +,+\`" pieces joint $bytes
+measure "\`AttributeParser\`, bytes of \`a() b,\`" pieces groups $bytes
+measure "\`AttributeParser::parsed\`, bytes of \`Vec<u8>,\`" parsed "Vec<u8>, " $bytes
+measure "\`Parser::read_logos\`, bytes of \`skip\`" read_logos 'skip "a", ' $bytes
+measure "\`Parser::read_logos\`, bytes of commas" read_logos "," 5000000
+measure "\`Parser::parse_definition\`, bytes of priorities" parse_definition definition $bytes
+measure "\`IgnoreFlags::parse_group\`, bytes of \`case,\`" flags "case, " $bytes
+measure "\`print_type\`, bytes of \`&'a u8,\`" print_type tuple $bytes
+measure "\`print_type\`, bytes of 120 levels" print_type levels $bytes
+measure "\`TypeExpr::clone\`, bytes of 120 levels" type_clone levels $bytes
+measure "\`replace_lifetimes\`, bytes of 120 levels" lifetimes levels $bytes
+measure "\`replace_lifetime\`, bytes of 120 levels" lifetime levels $bytes
+measure "\`TypeParams::add\`, names" add named 100000
+measure "\`TypeParams::set\`, names" set named 100000
+measure "\`TypeParams::get_type\`, bytes of \`T,\`" get_type field 4000000
+measure "\`TypeParams::get_type\`, parameters of 60 levels" get_type deep 2000
+measure "\`TypeParams::generics\`, parameters" generics types 100000
+measure "\`TypeParams::check\`, parameters in a chain" check chain_of_types 100000
+measure "\`TypeParams::held_names\`, parameters in a chain" held_names chain_of_types 100000
+measure "\`Subpatterns::new\`, subpatterns in a chain" subpatterns chain 10000
+measure "\`Subpatterns::new\`, subpatterns of the first" subpatterns star 10000
+measure "\`subst_subpatterns\`, bytes of \`(?&p)\`" subst uses 100000
+for form in 'a' '.' 'é' '\.' '\n' '\x41' '\x{41}' '\u0041' '\d' '\p{Greek}' '[a-z]' '[^a]' '[[:alpha:]]' '[[a]b]' '[a&&b]' '[a~~b]' \
+    '(a)' '(?:a)' '(?i:a)' '(?i)' '(?u)' '(?R)' '^' '\A' '(?m:$)' '(?-u:\b)' '(?-u:\B)' '(?-u:\xFF)' 'a?' 'a*?' 'a+' 'a{2}' 'a{2,}' 'a{2,3}?' 'a|' 'ab|'; do
+    measure "\`Pattern::compile\`, bytes of \`${form/|/\\|}\`" compile "$form" 1048576
+done
+measure "\`Pattern::compile\`, named groups" compile captures 80000
+measure "\`Pattern::compile\`, bytes of \`\\W\`" compile '\W' 131072
+measure "\`Pattern::compile\`, bytes of \`\\pL\`" compile '\pL' 131072
+measure "\`Pattern::compile_lit\`, bytes of dots" compile_lit dots $bytes
+measure "\`ByteClass::merge\`, ranges" merge a 1000000
+measure "\`generate\`, skips in one attribute" generate said 60000
+measure "\`generate\`, skips in one attribute" generate said 800000
+measure "\`generate\`, bytes of commas" generate said_commas 5000000
+measure "\`generate\`, bytes of one literal" generate one_literal $bytes
+measure "\`generate\`, tokens that are all \`a\`" generate equal_tokens 4000
+measure "\`generate\`, parameters that each name the next one twice" generate doubling 18
+measure "\`strip_attributes\`, bytes of variants" strip variants $bytes
+measure "\`strip_attributes\`, bytes of \`Logos, \`" strip derive $bytes
+measure "\`lex_source\`, bytes of words" lex_source words $bytes
+measure "\`lex_source\`, bytes of errors" lex_source plus $bytes
+measure "\`Language::tokens\`, bytes of words" tokens words $bytes
+measure "\`Language::tokens\`, bytes of \`+\`" tokens plus $bytes
+measure "\`Generator::generate\`, states" code states 60000
+measure "\`text\`, states" text states 60000
+measure "\`text_in\`, states" text_in states 60000
+measure "\`Generated::text\`, states" whole states 60000
+measure "\`get_mermaid\`, states" mermaid states 60000
+measure "\`telling\` of all neighbours, states" telling states 8000
+measure "\`render_luts\`, states with sets of bytes" tables classes 8000
