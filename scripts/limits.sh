@@ -128,7 +128,23 @@ gives "types that hold each other" 1 '' '53..54 TypeHoldsItself: Type parameter 
     ulimit -v 400000
     gives "subpatterns that double" 3 '' 'out of memory'
 )
-met=$((met + 2))
+# Each of these types has the next one in it twice.
+{
+    printf '#[logos(type T60 = u8)]\n'
+    for ((number = 0; number < 60; number++)); do
+        printf '#[logos(type T%d = (T%d, T%d))]\n' "$number" $((number + 1)) $((number + 1))
+    done
+    printf 'enum E<T0'
+    for ((number = 1; number <= 60; number++)); do
+        printf ', T%d' "$number"
+    done
+    printf '> { #[token("a")] A(T0) }'
+} > source
+(
+    ulimit -v 400000
+    gives "types that double" 3 '' 'out of memory'
+)
+met=$((met + 4))
 
 whole='#[derive(Debug, Logos, serde::Serialize)] enum E { #[token("a")] A }'
 for ((length = 0; length < ${#whole}; length++)); do
