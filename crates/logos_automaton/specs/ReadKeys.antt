@@ -1,11 +1,8 @@
 -- The keys of byte strings, which bound the states of the automaton.
-use Rattle.std.specs.Prelude.{◌≡◌, ℕ, ◌+◌, ◌<◌, min, max, ◌↔◌, ◌⊎◌, Bool, ◌||◌, false, true, List, [], ◌∷◌, ◌++◌, length, take, Option, Some, None, if◌then◌else◌, ◌==◌, slice_get, IfSome, IsSomeAnd, encode_utf8, AllPairs}
+use Rattle.std.specs.Prelude.{◌≡◌, ℕ, ◌+◌, ◌<◌, ◌↔◌, List, [], ◌∷◌, ◌++◌, length, Some, if◌then◌else◌, ◌==◌, slice_get, IfSome, IsSomeAnd, AllPairs}
 use Rattle.std.specs.List.{list_any}
-use Rattle.std.specs.Char.{IsScalar}
-use Rattle.logos_hir.specs.Text.{IsBytes, InRanges, StandsAt}
-use Rattle.logos_hir.specs.Tree.{Tree, empty, literal, byte_class, char_class, look, repetition, capture, concat, alternation, Trees, none, also}
+use Rattle.logos_hir.specs.Text.{IsBytes}
 use Rattle.logos_hir.specs.Looks.{is_word}
-use Rattle.logos_hir.specs.Matches.{Matches, Pieces}
 use Rattle.logos_automaton.specs.Munch.{Rule, RuleMatches}
 use Rattle.logos_places.specs.Places.{Place, Reads, has_look}
 

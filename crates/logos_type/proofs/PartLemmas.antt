@@ -4,7 +4,7 @@ use Rattle.std.proofs.lemmas.List.{map_push, at_drop_more}
 use Rattle.logos_type.specs.declared.type_expr.Part.{Part}
 use Rattle.logos_type.specs.declared.type_expr.Leaf.{Leaf as LeafType}
 use Rattle.logos_type.specs.declared.type_expr.Part.TheVariants.{Leaf, Still}
-use Rattle.logos_type.specs.Parts.{Tree, Trees, none, also, sign, still, trees, sign_of, tree_of}
+use Rattle.logos_type.specs.Parts.{Tree, also, sign, still, trees, sign_of, tree_of}
 use Rattle.logos_type.proofs.PartTrees.{tree-Leaf, tree-Still}
 
 -- the first of the parts that are left

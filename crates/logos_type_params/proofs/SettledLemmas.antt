@@ -1,5 +1,5 @@
 -- What is noted of names, and what follows for those that are asked.
-use Rattle.std.proofs.Common.{◌≡◌, ◌⊎◌, ◌↔◌, inl, ⊎_elim, List, [], ◌∷◌, ◌++◌, ◌||◌, Bool, true, false, not, Option, Some, None, Bor, refl, sym, ap, ◌∙◌, subst, append_assoc, true≢false, IsTrue, if◌then◌else◌, Result, Ok, Err}
+use Rattle.std.proofs.Common.{◌≡◌, ◌⊎◌, ◌↔◌, inl, ⊎_elim, List, [], ◌∷◌, ◌++◌, ◌||◌, Bool, true, false, not, Option, Some, None, Bor, refl, sym, ap, ◌∙◌, subst, append_assoc, append-nil, true≢false, IsTrue, if◌then◌else◌, Result, Ok, Err}
 use Rattle.std.specs.Prelude.{IfOk, OnOk, IsOk}
 use Rattle.std.specs.Str.{bytes_eq}
 use Rattle.std.specs.List.{list_any}
@@ -8,7 +8,7 @@ use Rattle.logos_token.specs.Faults.{Fault}
 use Rattle.logos_type_params.specs.declared.self_reference.Chains.{Chains}
 use Rattle.logos_type_params.specs.Substitution.{ParamValue}
 use Rattle.logos_type_params.specs.SelfReference.{Leads, Has, texts}
-use Rattle.logos_type_params.specs.SelfFaults.{type_holds_itself, declared_again, leads_on, leads_back, AreChecked, one_more}
+use Rattle.logos_type_params.specs.SelfFaults.{type_holds_itself, IsChecked, declared_again, leads_on, leads_back, AreChecked, no_name, one_more}
 use Rattle.logos_type.specs.Parts.{Tree}
 use Rattle.logos_type_params.specs.TypeParams.{Named, Given, is_declared}
 use Rattle.logos_type_params.specs.Generics.{type_of, and_type, and_fault, concrete_types, missing_types}
@@ -240,3 +240,20 @@ check_on params Whole all rest named keys keys' old new before after c e h = rec
   settled = h.settled params c.settled;
   completes = λ faults r. c.completes faults (rw e (one_more (h.checked params c.front c.settled c.fronts) r));
 }
+
+-- faults behind those that stood in front already
+checked_behind : {params : List ParamValue} {front : List Named} {named : Named} {old new : List Fault} (ahead : List Fault) → IsChecked params front named old new → IsChecked params front named (ahead ++ old) (ahead ++ new)
+checked_behind ahead (declared_again d e) = declared_again d (ap (λ l. ahead ++ l) e)
+checked_behind ahead (leads_on n e) = leads_on n (ap (λ l. ahead ++ l) e)
+checked_behind {named = named} {old = old} ahead (leads_back d l e) = leads_back d l (ap (λ l. ahead ++ l) e ∙ sym (append_assoc ahead old (type_holds_itself named ∷ [])))
+
+pub all_checked_behind : {params : List ParamValue} {front names : List Named} {old new : List Fault} (ahead : List Fault) → AreChecked params front names old new → AreChecked params front names (ahead ++ old) (ahead ++ new)
+all_checked_behind ahead no_name = no_name
+all_checked_behind ahead (one_more first rest) = one_more (checked_behind ahead first) (all_checked_behind ahead rest)
+
+-- faults that are found alone, and then stand behind others
+pub checked_listed : {params : List ParamValue} {front names : List Named} (ahead none found all : List Fault) → none ≡ [] → AreChecked params front names none found → all ≡ ahead ++ found →
+    AreChecked params front names ahead all
+checked_listed {params = params} {front = front} {names = names} ahead none found all n checked e =
+    subst (λ (l : List Fault). AreChecked params front names ahead l) (sym e)
+    (subst (λ (l : List Fault). AreChecked params front names l (ahead ++ found)) (ap (λ (l : List Fault). ahead ++ l) n ∙ append-nil ahead) (all_checked_behind ahead checked))

@@ -1,6 +1,6 @@
 -- The declared parameters of an enum, and the types that are given to them.
 pub use Rattle.logos_type_params.specs.NameLists.{Named, named_of, is_declared}
-use Rattle.std.specs.Prelude.{◌≡◌, ◌⊎◌, ℕ, List, [], ◌∷◌, ◌++◌, map, Bool, true, false, if◌then◌else◌, Option, Some, None, codes}
+use Rattle.std.specs.Prelude.{◌≡◌, ℕ, List, [], ◌∷◌, ◌++◌, map, Bool, true, false, if◌then◌else◌, Option, Some, None, codes}
 use Rattle.std.specs.Str.{bytes_eq}
 use denote.Ref.{Bor}
 use Rattle.logos_lexeme.specs.declared.lexeme.Span.{Span}
@@ -85,9 +85,12 @@ previous span = fault Previous (codes "Previously assigned here") span
 abbrev pub type_syntax : Span → Fault
 type_syntax at = fault TypeSyntax (codes "not a type") at
 
+abbrev pub type_nesting_text : List ℕ
+type_nesting_text = codes "limit LimitTypeNesting passed"
+
 -- more types stand inside one another than may
 abbrev pub limit_type_nesting : Span → Fault
-limit_type_nesting at = fault LimitTypeNesting (codes "limit LimitTypeNesting passed") at
+limit_type_nesting at = fault LimitTypeNesting type_nesting_text at
 
 -- why a value is no type
 abbrev pub value_fault : Misfit → Span → Fault
@@ -115,10 +118,6 @@ given_more type (g ∷ types) = if bytes_eq type.name.text g.name.text then type
 abbrev pub given_faults : Option Span → Named → List Fault
 given_faults None named = []
 given_faults (Some span) named = type_twice named ∷ previous span ∷ []
-
--- nothing is listed, or the first of the faults of a name that has a type already
-abbrev pub ListsFirst : Named → (old new : List Fault) → Type 0
-ListsFirst named old new = (new ≡ old) ⊎ (new ≡ old ++ type_twice named ∷ [])
 
 -- a value is given to a name: it is no type, the name is not declared, or it has this type from now on
 pub data IsSet (old : Value) (named : Named) (run : TokenList) (before : List Fault) (new : Value) (after : List Fault) : Type 0 where

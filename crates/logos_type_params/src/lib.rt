@@ -4,6 +4,7 @@
 #![tactic(auto)]
 
 mod lifetimes;
+pub mod listing;
 mod names;
 mod self_reference;
 mod substitution;

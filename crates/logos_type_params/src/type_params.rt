@@ -1,6 +1,6 @@
 //! The declared parameters of an enum.
 ghost use Rattle.std.specs.Prelude.{◌≡◌, ◌++◌, ◌∷◌, [], Some, None, map, IfOk, OnOk, OnErr};
-ghost use Rattle.std.specs.Prelude.{if◌then◌else◌, string_bytes, option_map};
+ghost use Rattle.std.specs.Prelude.{if◌then◌else◌, option_map};
 ghost use Rattle.logos_token.specs.Views.{tokens_of};
 ghost use Rattle.logos_token.specs.Tokens.{run_span};
 ghost use Rattle.logos_type.specs.Parts.{tree_of};
@@ -9,14 +9,15 @@ ghost use Rattle.logos_type.specs.TypeTrees.{type_tree};
 ghost use Rattle.logos_type_reader.specs.TypeExprs.{IsTypeExpr, NoTypeExpr};
 ghost use Rattle.logos_type_params.specs.inside.Checks.{ChecksName};
 ghost use Rattle.logos_type_params.specs.TypeParams.{named_of, given_of, type_syntax};
-ghost use Rattle.logos_type_params.specs.TypeParams.{limit_type_nesting, about, many_lifetimes};
+ghost use Rattle.logos_type_params.specs.TypeParams.{many_lifetimes};
 ghost use Rattle.logos_type_params.specs.TypeParams.{former, given_more, given_faults};
-ghost use Rattle.logos_type_params.specs.TypeParams.{ListsFirst, ReadsValue};
+ghost use Rattle.logos_type_params.specs.TypeParams.{ReadsValue};
 
 mod concrete;
 mod written;
 
 use crate::lifetimes::set_lifetimes;
+use crate::listing::{list_about, list_depth, list_previous};
 use crate::names::Names;
 use crate::self_reference::Chains;
 use crate::substitution::TypeParam;
@@ -38,54 +39,12 @@ pub struct TypeParams<'s> {
     alloc: Global,
 }
 
-/// A text between two others.
-fn joined(alloc: Global, before: &str, text: &str, behind: &str) -> Result<String, Memory>
-    ensures { IfOk result (λ message.
-        string_bytes message ≡ (before.now ++ text.now) ++ behind.now) }
-{
-    let mut message = String::from_str(alloc, before)?;
-    message.push_str(text)?;
-    message.push_str(behind)?;
-    Ok(message)
-}
-
-/// Lists a fault of a name, which stands between two texts in the message. After an error the
-/// faults are as before.
-fn list_about(
-    alloc: Global,
-    errors: &mut Errors,
-    code: FaultCode,
-    before: &str,
-    name: Ident<'_>,
-    behind: &str,
-) -> Result<(), Memory>
-    ensures ok { OnOk result (errors.new
-        ≡ errors.old ++ (about code before.now (named_of name.entry) behind.now) ∷ []) }
-    ensures err { OnErr result (errors.new ≡ errors.old) }
-{
-    let message = joined(alloc, before, name.text, behind)?;
-    errors.err(code, message.as_str(), name.span)?;
-    Ok(())
-}
-
 /// Lists that the value at this span is no type.
 fn list_syntax(errors: &mut Errors, at: Span) -> Result<(), Memory>
     ensures ok { OnOk result (errors.new ≡ errors.old ++ type_syntax at ∷ []) }
     ensures err { OnErr result (errors.new ≡ errors.old) }
 {
     errors.err(FaultCode::TypeSyntax, "not a type", at)
-}
-
-/// Lists that more types stand inside one another in the value at this span than may.
-fn list_depth(errors: &mut Errors, at: Span) -> Result<(), Memory>
-    ensures ok { OnOk result (errors.new ≡ errors.old ++ limit_type_nesting at ∷ []) }
-    ensures err { OnErr result (errors.new ≡ errors.old) }
-{
-    errors.err(
-        FaultCode::LimitTypeNesting,
-        "limit LimitTypeNesting passed",
-        at,
-    )
 }
 
 /// Lists at this span why a run is no type.
@@ -176,8 +135,8 @@ fn former<'s>(types: &IndexMap<&'s str, TypeParam<'s>>, text: &str) -> Option<Sp
     }
 }
 
-/// Lists that a name has a type already, which is written at this span. After an error the first
-/// of the two faults may be listed.
+/// Lists that a name has a type already, which is written at this span. After an error the faults
+/// are as before.
 fn list_twice(
     alloc: Global,
     name: Ident<'_>,
@@ -186,20 +145,23 @@ fn list_twice(
 ) -> Result<(), Memory>
     ensures ok { OnOk result (errors.new
         ≡ errors.old ++ given_faults (Some former) (named_of name.entry)) }
-    ensures err { OnErr result (ListsFirst (named_of name.entry) errors.old errors.new) }
+    ensures err { OnErr result (errors.new ≡ errors.old) }
 {
+    let mut found = Errors::new(alloc);
     list_about(
         alloc,
-        errors,
+        &mut found,
         FaultCode::TypeTwice,
         "",
         name,
         " can only have one type assigned to it",
     )?;
-    errors.err(FaultCode::Previous, "Previously assigned here", former)
+    list_previous(&mut found, former)?;
+    errors.append(found)
 }
 
-/// Lists the faults of one type more for a name that has this one, if it has one.
+/// Lists the faults of one type more for a name that has this one, if it has one. After an error
+/// the faults are as before.
 fn list_given(
     alloc: Global,
     name: Ident<'_>,
@@ -208,7 +170,7 @@ fn list_given(
 ) -> Result<(), Memory>
     ensures ok { OnOk result (errors.new
         ≡ errors.old ++ given_faults former (named_of name.entry)) }
-    ensures err { OnErr result (ListsFirst (named_of name.entry) errors.old errors.new) }
+    ensures err { OnErr result (errors.new ≡ errors.old) }
 {
     match former {
         Some(span) => list_twice(alloc, name, span, errors),
@@ -216,7 +178,7 @@ fn list_given(
     }
 }
 
-/// Gives one type more to a name that is declared. After an error it has the type that it had.
+/// Gives one type more to a name that is declared. After an error all is as before.
 fn give<'s>(
     alloc: Global,
     types: &mut IndexMap<&'s str, TypeParam<'s>>,
@@ -229,7 +191,7 @@ fn give<'s>(
     ensures faults { OnOk result (errors.new ≡ errors.old ++ given_faults
         (former (map given_of types.old.entries) name.entry.text.now) (named_of name.entry)) }
     ensures kept { OnErr result (types.new.entries ≡ types.old.entries) }
-    ensures listed { OnErr result (ListsFirst (named_of name.entry) errors.old errors.new) }
+    ensures unlisted { OnErr result (errors.new ≡ errors.old) }
 {
     let span = former(types, name.text);
     list_given(alloc, name, span, errors)?;
@@ -270,7 +232,7 @@ impl<'s> TypeParams<'s> {
     ghost use Rattle.logos_token.specs.Views.{tokens_of};
     ghost use Rattle.logos_type_params.specs.SelfFaults.{AreChecked};
     ghost use Rattle.logos_type_params.specs.TypeParams.{Value, value_of, named_of, many_lifetimes};
-    ghost use Rattle.logos_type_params.specs.TypeParams.{IsSet, ListsFirst};
+    ghost use Rattle.logos_type_params.specs.TypeParams.{IsSet};
     ghost use Rattle.logos_type_params.specs.WrittenTypes.{types_of};
 
     /// Without a parameter. What is added later takes memory from `alloc`.
@@ -318,8 +280,7 @@ impl<'s> TypeParams<'s> {
 
     /// Gives the type that the value is to a declared name. Where the value is no type, or the name
     /// is not declared, that is listed, and nothing is given; where it has a type, that is listed
-    /// with both places, and the new one is meant from now on. After an error nothing is given, and
-    /// of the two faults of a name that has a type the first one may be listed.
+    /// with both places, and the new one is meant from now on. After an error all is as before.
     pub fn set(
         &mut self,
         name: Ident<'s>,
@@ -330,7 +291,7 @@ impl<'s> TypeParams<'s> {
             (named_of name.entry) (tokens_of value.entry) errors.old
             (value_of self.new) errors.new) }
         ensures kept { OnErr result (value_of self.new ≡ value_of self.old) }
-        ensures listed { OnErr result (ListsFirst (named_of name.entry) errors.old errors.new) }
+        ensures unlisted { OnErr result (errors.new ≡ errors.old) }
     {
         let span = value.span();
         let Some(written) = read_value(self.alloc, value, span, errors)? else {
@@ -362,8 +323,21 @@ impl<'s> TypeParams<'s> {
 
     /// Lists each parameter whose types lead back to it, in order of declaration. A name that is
     /// declared again is not listed again. The time grows with the sizes of all types, and where
-    /// chains lead back, at most with their product with the number of types.
+    /// chains lead back, at most with their product with the number of types. Only want of memory is
+    /// an error; after it the faults are as before.
     pub fn check(&self, errors: &mut Errors) -> Result<(), Memory>
+        ensures ok { OnOk result (AreChecked (types_of self.now) []
+            (value_of self.now).names errors.old errors.new) }
+        ensures unlisted { OnErr result (errors.new ≡ errors.old) }
+    {
+        let mut found = Errors::new(self.alloc);
+        self.check_all(&mut found)?;
+        errors.append(found)
+    }
+
+    /// Lists each parameter whose types lead back to it, in order of declaration. After an error
+    /// some of the faults may be listed.
+    fn check_all(&self, errors: &mut Errors) -> Result<(), Memory>
         ensures { OnOk result (AreChecked (types_of self.now) []
             (value_of self.now).names errors.old errors.new) }
     {

@@ -1,7 +1,7 @@
 -- What is read holds no more types inside one another than its levels, and is read with as many levels as it holds.
-use Rattle.std.proofs.Common.{◌≡◌, ℕ, ◌+◌, ◌-◌, ◌<◌, ◌≤◌, ◌⊎◌, inl, inr, max, Bool, true, List, [], ◌∷◌, ◌++◌, refl, sym, ap, ◌∙◌, subst, arith}
+use Rattle.std.proofs.Common.{◌≡◌, ℕ, ◌+◌, ◌-◌, ◌<◌, ◌≤◌, ◌⊎◌, inl, inr, max, Bool, List, [], ◌∷◌, ◌++◌, refl, sym, subst, arith}
 use Rattle.logos_token.specs.Tokens.{Token, identifier, punctuation, literal, doc, group, TokenList, none as no_token_left, also as and_token}
-use Rattle.logos_type.specs.Parts.{Tree, sign, name, whole, still, Trees, trees, none, also, opening, closing}
+use Rattle.logos_type.specs.Parts.{Tree, sign, trees, closing}
 use Rattle.logos_type_reader.specs.StillRuns.{still_token, still_run}
 use Rattle.logos_type.specs.Depth.{depth, depth_of}
 use Rattle.logos_type_reader.specs.Table.{Spot, Fault, too_deep}

@@ -1,13 +1,13 @@
 -- Each run begins with a type, or has a fault.
-use Rattle.std.proofs.Common.{◌≡◌, ℕ, zero, suc, ◌-◌, ◌+◌, ◌*◌, ◌<◌, ◌≤◌, ◌||◌, ◌⊎◌, inl, inr, List, [], ◌∷◌, ◌++◌, Bool, true, false, Option, Some, None, refl, sym, ap, ◌∙◌, subst, arith}
-use Rattle.logos_token.specs.Tokens.{TokenList, append, IsRestOf, count_of, rest_of, run_span}
+use Rattle.std.proofs.Common.{◌≡◌, ℕ, zero, suc, ◌-◌, ◌+◌, ◌*◌, ◌<◌, ◌≤◌, ◌||◌, ◌⊎◌, inl, inr, List, [], ◌∷◌, ◌++◌, Bool, true, false, Option, Some, None, refl, arith}
+use Rattle.logos_token.specs.Tokens.{TokenList, count_of, rest_of, run_span}
 use Rattle.logos_type_reader.specs.declared.table.place.Place.{Place}
 use Rattle.logos_type.specs.Parts.{Tree, Sign, sign, name, whole, trees}
 use Rattle.logos_type_reader.specs.Table.{Spot, outer, Move, First, ends, takes, bars, asks, keeps_type, keeps, nests, stops, starts, refused, Fault, too_deep, unsupported, begin, name_of}
-use Rattle.logos_type_reader.specs.Reading.{IsType, just_name, formed, IsMove, a_token, a_bar, a_type, a_still_type, still_tokens, a_nest, AreParts, ended, further, NoType, deep_name, deep, unbegun, unended, left_out, NoMove, no_token, no_type, no_still_type, no_nest, NoParts, here, later, next_of, behind_type}
+use Rattle.logos_type_reader.specs.Reading.{IsType, just_name, IsMove, a_token, a_bar, a_type, a_still_type, still_tokens, a_nest, AreParts, ended, further, NoType, deep_name, deep, unbegun, unended, left_out, no_token, no_type, no_still_type, no_nest, NoParts, here, later, next_of, behind_type}
 use Rattle.logos_type_reader.specs.ReadingViews.{left, spot_left}
 use Rattle.logos_type_reader.proofs.TableSteps.{Begins, first_steps}
-use Rattle.logos_type_reader.proofs.ReadingLemmas.{Behind, move_rest, formed_type, begun_rest, inner_left}
+use Rattle.logos_type_reader.proofs.ReadingLemmas.{move_rest, formed_type, begun_rest, inner_left}
 
 abbrev pub TypeOrFault : ℕ → Bool → TokenList → Type 0
 TypeOrFault n plus run = ((t : Tree) × (rest : TokenList) × IsType n plus run t rest) ⊎ ((f : Fault) × NoType n plus run f)

@@ -1,8 +1,8 @@
 -- Each move of the table goes on behind where it was, with less left.
-use Rattle.std.proofs.Common.{◌≡◌, ℕ, ◌<◌, ◌+◌, ◌*◌, ◌==◌, ◌&&◌, ◌||◌, Bool, true, false, bytes_eq, codes, if◌then◌else◌, Option, Some, None, List, refl, ap, subst, ◌≤◌, arith}
+use Rattle.std.proofs.Common.{◌≡◌, ℕ, ◌<◌, ◌*◌, ◌==◌, ◌&&◌, ◌||◌, Bool, true, false, bytes_eq, codes, if◌then◌else◌, Option, Some, None, List, refl, ap, subst, ◌≤◌, arith}
 use Rattle.logos_lexeme.specs.declared.lexeme.Span.{Span}
 use Rattle.logos_lexeme.specs.declared.lexeme.Spacing.{Spacing}
-use Rattle.logos_lexeme.specs.declared.lexeme.Spacing.TheVariants.{Joint, Alone}
+use Rattle.logos_lexeme.specs.declared.lexeme.Spacing.TheVariants.{Joint}
 use Rattle.logos_lexeme.specs.declared.lexeme.Delimiter.{Delimiter}
 use Rattle.logos_lexeme.specs.declared.lexeme.Delimiter.TheVariants.{Parenthesis, Bracket, Brace}
 use Rattle.logos_token.specs.Tokens.{Token, TokenList, identifier, punctuation, literal, doc, group, none, also, append, IsRestOf, count_of, token_count}
@@ -16,7 +16,7 @@ use Rattle.logos_type_reader.specs.declared.table.place.Place.{Place}
 use Rattle.logos_type_reader.specs.declared.table.place.Place.TheVariants as place
 use Rattle.logos_type.specs.Parts.{Sign}
 use Rattle.logos_type_reader.specs.Table as table
-use Rattle.logos_type_reader.specs.Table.{Spot, outer, Move, ends, takes, bars, asks, keeps_type, keeps, nests, stops, First, starts, refused, to, next_at, begin, begins_colons, begins_arrow, begins_dots, behind_two, behind_three, closes, opens}
+use Rattle.logos_type_reader.specs.Table.{Spot, outer, Move, takes, bars, keeps, nests, First, starts, refused, to, next_at, begin, begins_colons, begins_arrow, begins_dots, behind_two, behind_three, closes, opens}
 use Rattle.logos_type_reader.specs.ReadingViews.{left}
 
 -- a spot is behind the run

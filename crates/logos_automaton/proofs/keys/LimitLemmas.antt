@@ -8,7 +8,7 @@ use Rattle.logos_places.specs.Marks.{Has, IsRising}
 use Rattle.logos_automaton.specs.Munch.{Rule, RuleMatches}
 use Rattle.logos_automaton.specs.ReadKeys as reads
 use Rattle.logos_places.specs.Places.{Place}
-use Rattle.logos_automaton.specs.ReadKeys.{Read, nothing, upto, whole, IsRead, SameKey, SameAfter, HasRead, seen_kind, HasMoreKeys}
+use Rattle.logos_automaton.specs.ReadKeys.{Read, nothing, upto, whole, IsRead, SameKey, HasRead, seen_kind, HasMoreKeys}
 use Rattle.logos_automaton.specs.Rules.{AreRuleCores, AreFree, some_look}
 use Rattle.logos_automaton.specs.Faults.{AllStart}
 use Rattle.logos_automaton.specs.Faults.{some_passable}

@@ -10,7 +10,7 @@ use Rattle.logos_hir.specs.Text.{StandsAt}
 use Rattle.logos_hir.specs.Matches.{Matches}
 use Rattle.logos_hir.proofs.tree.Laws.{encoded}
 use Rattle.logos_places.specs.Core as core
-use Rattle.logos_places.specs.Core.{Core, At, Reader, Stands, width, IsFree}
+use Rattle.logos_places.specs.Core.{At, Reader, Stands}
 use Rattle.logos_places.specs.inside.Characters.{IsOfScalars, IsCharOf}
 use Rattle.logos_places.specs.ByteRanges.{is_in}
 use Rattle.logos_places.specs.Places.{Place, byte_of, member, within, Reads, begun}

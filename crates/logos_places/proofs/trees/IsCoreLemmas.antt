@@ -5,10 +5,10 @@ use Rattle.std.proofs.lemmas.Option.{same_Some}
 use Rattle.logos_hir.specs.declared.hir.Look.{Look}
 use Rattle.logos_hir.specs.Text.{StandsAt}
 use Rattle.logos_hir.specs.Tree as tree
-use Rattle.logos_hir.specs.Tree.{Tree, Trees, none, also}
+use Rattle.logos_hir.specs.Tree.{Tree}
 use Rattle.logos_hir.specs.Matches.{Matches}
 use Rattle.logos_places.specs.Core as core
-use Rattle.logos_places.specs.Core.{Core, At, IsIn, Leaves, width, IsFree}
+use Rattle.logos_places.specs.Core.{Core, At, Leaves, width, IsFree}
 use Rattle.logos_places.specs.ByteRanges.{is_in}
 use Rattle.logos_places.specs.Places.{Place, byte_of, member, within}
 use Rattle.logos_places.specs.inside.Reader.{Spells}

@@ -7,7 +7,7 @@ use Rattle.logos_hir.specs.declared.hir.Look as look_type
 use Rattle.logos_hir.specs.declared.hir.Range.{Range}
 use Rattle.logos_places.specs.ByteRanges.{is_in}
 use Rattle.logos_places.specs.Core as core
-use Rattle.logos_places.specs.Core.{Core, width}
+use Rattle.logos_places.specs.Core.{width}
 use Rattle.logos_places.specs.Repeat.{IsOrdered, count_of, spelled, repeated}
 use Rattle.logos_places.specs.Table.{reader_of}
 use Rattle.logos_places.specs.Node.{Sized, is_ordered, node_sized, sized_of, core_of, is_measured}

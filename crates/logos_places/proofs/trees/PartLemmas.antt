@@ -5,7 +5,7 @@ use Rattle.logos_hir.specs.Tree as tree
 use Rattle.logos_hir.specs.Tree.{Tree, Trees, none, also}
 use Rattle.logos_hir.specs.Matches.{Matches, MatchesInOrder, SomeMatches}
 use Rattle.logos_places.specs.Core as core
-use Rattle.logos_places.specs.Core.{Core, At, Leaves, width, IsFree}
+use Rattle.logos_places.specs.Core.{Core, At, Leaves, width}
 use Rattle.logos_places.specs.Places.{Place, byte_of, member, within, ReadsInOrder, SomeReads, has_look, some_has_look}
 use Rattle.logos_places.specs.Size.{sizes}
 use Rattle.logos_places.specs.IsCore.{IsCoreOf, IsCoreOfParts, IsCoreOfBranches}

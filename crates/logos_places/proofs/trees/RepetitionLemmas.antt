@@ -6,7 +6,7 @@ use Rattle.logos_hir.specs.Tree as tree
 use Rattle.logos_hir.specs.Tree.{Tree}
 use Rattle.logos_hir.specs.Matches.{Matches, Pieces}
 use Rattle.logos_places.specs.Core as core
-use Rattle.logos_places.specs.Core.{Core, At, width, IsFree}
+use Rattle.logos_places.specs.Core.{Core, width, IsFree}
 use Rattle.logos_places.specs.Places.{Place, byte_of, member, within, copies}
 use Rattle.logos_places.specs.Repeat.{IsOrdered, count_of, in_front, up_to, repeated}
 use Rattle.logos_places.specs.Size.{size}

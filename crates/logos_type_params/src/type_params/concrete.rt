@@ -5,7 +5,8 @@ ghost use Rattle.logos_type_params.specs.TypeParams.{named_of, given_of};
 ghost use Rattle.logos_type_params.specs.Generics.{type_of, generics_of, no_concrete_type, and_type, and_fault, concrete_types, missing_types, between_brackets};
 ghost use Rattle.logos_type_params.specs.inside.Checks.{CopiesName};
 
-use super::{TypeParams, list_about};
+use super::TypeParams;
+use crate::listing::list_about;
 use crate::substitution::TypeParam;
 use indexmap::{IndexMap, IndexSet};
 use logos_token::error::{Errors, FaultCode, Memory};
@@ -119,7 +120,7 @@ fn bracketed<'s>(lifetime: bool, types: Vec<TypeExpr<'s>>) -> Option<Generics<'s
 }
 
 impl<'s> TypeParams<'s> {
-    ghost use Rattle.std.specs.Prelude.{◌≡◌, ◌++◌, [], IfOk, OnOk, option_map};
+    ghost use Rattle.std.specs.Prelude.{◌≡◌, ◌++◌, [], IfOk, OnOk, OnErr, option_map};
     ghost use Rattle.logos_type.specs.TypeTrees.{type_tree};
     ghost use Rattle.logos_type_params.specs.TypeParams.{value_of};
     ghost use Rattle.logos_type_params.specs.Generics.{type_at, generics, generics_of, missing_types};
@@ -139,14 +140,18 @@ impl<'s> TypeParams<'s> {
     /// What stands between the angle brackets behind the enum's name: `'s` if a lifetime is declared, and then the types that are given to the
     /// declared parameters, in order of declaration. There is nothing where there is neither. A declared name without a type is listed where it is
     /// declared, as `NoConcreteType`, and stands for nothing; a name that is declared again has no type there. Only want of memory is an error;
-    /// some of the faults may be listed then.
+    /// after it the faults are as before.
     pub fn generics(&self, errors: &mut Errors) -> Result<Option<Generics<'s>>, Memory>
         ensures value { IfOk result (λ made. option_map generics_of made ≡
             generics (value_of self.now)) }
         ensures faults { OnOk result (errors.new ≡ errors.old ++ missing_types
             (value_of self.now).types [] (value_of self.now).names) }
+        ensures unlisted { OnErr result (errors.new ≡ errors.old) }
     {
-        let types = copy_types(self.alloc, self.names.list.as_slice(), &self.types, errors)?;
+        let mut missing = Errors::new(self.alloc);
+        let names = self.names.list.as_slice();
+        let types = copy_types(self.alloc, names, &self.types, &mut missing)?;
+        errors.append(missing)?;
         Ok(bracketed(self.lifetime, types))
     }
 }

@@ -1,11 +1,12 @@
 //! What becomes of a written type, and which names are left in place there.
-ghost use Rattle.std.specs.Prelude.{◌≡◌, ◌++◌, ◌∷◌, [], map, IfOk, OnOk};
+ghost use Rattle.std.specs.Prelude.{◌≡◌, ◌++◌, ◌∷◌, [], map, IfOk, OnOk, OnErr};
 ghost use Rattle.logos_type.specs.TypeTrees.{type_tree};
 ghost use Rattle.logos_type_params.specs.SelfReference.{texts};
 ghost use Rattle.logos_type_params.specs.TypeParams.{limit_type_nesting};
 ghost use Rattle.logos_type_params.specs.inside.Checks.{AsksName};
 
-use super::{TypeParams, list_depth};
+use super::TypeParams;
+use crate::listing::list_depth;
 use crate::self_reference::Chains;
 use crate::substitution::{Replacing, type_after};
 use indexmap::IndexSet;
@@ -29,7 +30,7 @@ fn add_held<'s>(
     Ok(())
 }
 
-/// The type as it is written; that the limit is passed is listed at this span.
+/// The type as it is written; that the limit is passed is listed at this span. After an error the faults are as before.
 fn leave_written<'s>(
     written: &TypeExpr<'s>,
     span: Span,
@@ -37,13 +38,15 @@ fn leave_written<'s>(
 ) -> Result<TypeExpr<'s>, Memory>
     ensures same { IfOk result (λ left. type_tree left ≡ type_tree written.now) }
     ensures faults { OnOk result (errors.new ≡ errors.old ++ limit_type_nesting span ∷ []) }
+    ensures unlisted { OnErr result (errors.new ≡ errors.old) }
 {
+    let left = written.clone()?;
     list_depth(errors, span)?;
-    Ok(written.clone()?)
+    Ok(left)
 }
 
 impl<'s> TypeParams<'s> {
-    ghost use Rattle.std.specs.Prelude.{IfOk};
+    ghost use Rattle.std.specs.Prelude.{◌≡◌, IfOk, OnErr};
     ghost use Rattle.logos_type.specs.TypeTrees.{type_tree};
     ghost use Rattle.logos_type_params.specs.SelfReference.{texts};
     ghost use Rattle.logos_type_params.specs.WrittenTypes.{types_of, params_with, AreHeld, GetsType};
@@ -66,7 +69,7 @@ impl<'s> TypeParams<'s> {
 
     /// What becomes of a written type: its declared parameters are replaced by the types given to them, but for the held names, and its lifetimes
     /// are set to `'s`. Where more types than may would stand inside one another then, that is listed at this span, as `LimitTypeNesting`, and the
-    /// type stays as it is written. Only want of memory is an error; the fault may be listed then.
+    /// type stays as it is written. Only want of memory is an error; after it the faults are as before.
     pub fn get_type(
         &self,
         held: &IndexSet<&'s str>,
@@ -74,8 +77,9 @@ impl<'s> TypeParams<'s> {
         span: Span,
         errors: &mut Errors,
     ) -> Result<TypeExpr<'s>, Memory>
-        ensures { IfOk result (λ got. GetsType (params_with self.now (texts held.now.keys))
+        ensures ok { IfOk result (λ got. GetsType (params_with self.now (texts held.now.keys))
             (type_tree written.now) span errors.old errors.new (type_tree got)) }
+        ensures unlisted { OnErr result (errors.new ≡ errors.old) }
     {
         let params = Replacing {
             types: &self.types,

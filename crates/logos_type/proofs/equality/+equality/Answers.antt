@@ -1,5 +1,4 @@
-use Rattle.std.proofs.Common.{◌≡◌, ◌<◌, ◌≤◌, ◌∙◌, ap, sym, length, map, arith, Bool, true, false, IsTrue, refl}
-use Rattle.logos_type.specs.Parts.{tree_of}
+use Rattle.std.proofs.Common.{◌≡◌, ◌≤◌, length, arith, true, false, refl}
 use Rattle.logos_type.proofs.EqualityLemmas.{next_differs, next_same, both_ended, same_whole, same_still}
 use Rattle.logos_type.proofs.equality.+equality.Goals as goal
 

@@ -1,4 +1,3 @@
-use Rattle.std.proofs.Common.{◌<◌, arith}
 use Rattle.logos_type_reader.proofs.ReadingLaws.{one_type, one_fault, refused_type, not_less}
 use Rattle.logos_type_reader.proofs.laws.one_outcome.Goals as goal
 

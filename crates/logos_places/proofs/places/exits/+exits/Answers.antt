@@ -1,7 +1,7 @@
 use Rattle.std.proofs.Common.{◌≡◌, ◌+◌, ◌-◌, ◌*◌, inr, ⊎_elim, IsTrue, false, true≢false, sym, ap, ◌∙◌, arith, rules, max, ◌≤◌, ◌<◌, ◌^◌}
 use Rattle.std.proofs.Math.Nat.{mul-le-mul_left}
 use Rattle.logos_places.specs.Core as core
-use Rattle.logos_places.specs.Core.{Core, width, Exits}
+use Rattle.logos_places.specs.Core.{width}
 use Rattle.logos_places.specs.Kinds.{test_at}
 use Rattle.logos_places.specs.Node.{core_of}
 use Rattle.logos_places.specs.Repeat.{count_of}

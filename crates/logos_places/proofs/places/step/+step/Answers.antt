@@ -5,7 +5,7 @@ use Rattle.logos_hir.specs.Hir.{pairs}
 use Rattle.logos_hir.specs.declared.hir.Look.{Look}
 use Rattle.logos_places.specs.ByteRanges.{is_in}
 use Rattle.logos_places.specs.Core as core
-use Rattle.logos_places.specs.Core.{Core, width}
+use Rattle.logos_places.specs.Core.{width}
 use Rattle.logos_places.specs.Kinds.{test_at}
 use Rattle.logos_places.specs.Node.{core_of}
 use Rattle.logos_places.specs.Repeat.{in_front, up_to, spelled, count_of}

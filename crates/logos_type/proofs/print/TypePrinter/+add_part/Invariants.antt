@@ -1,7 +1,7 @@
 use Rattle.std.proofs.Common.{◌≡◌, map, drop, fold}
 use Rattle.logos_token.specs.Printing.{print_part}
 use Rattle.logos_type.specs.Parts.{trees, tree_of}
-use Rattle.logos_type.specs.Printed.{type_parts, all_parts}
+use Rattle.logos_type.specs.Printed.{all_parts}
 use Rattle.logos_type.specs.inside.Printer.{printed_of}
 use Rattle.logos_type.proofs.print.TypePrinter.+add_part.Given as goal
 

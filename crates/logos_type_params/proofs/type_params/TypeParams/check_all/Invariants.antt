@@ -4,7 +4,7 @@ use Rattle.logos_type_params.specs.Substitution.{param_value}
 use Rattle.logos_type_params.specs.TypeParams.{named_of}
 use Rattle.logos_type_params.specs.SelfFaults.{AreChecked}
 use Rattle.logos_type_params.proofs.SettledLemmas.{Checking}
-use Rattle.logos_type_params.proofs.type_params.TypeParams.check.Given as goal
+use Rattle.logos_type_params.proofs.type_params.TypeParams.check_all.Given as goal
 
 abbrev pub invariant-loop-name : goal.invariant-loop-name
 invariant-loop-name l =

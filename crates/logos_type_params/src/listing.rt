@@ -1,0 +1,62 @@
+//! Faults of names and types: each function lists one.
+ghost use Rattle.std.specs.Prelude.{◌≡◌, ◌++◌, ◌∷◌, [], IfOk, OnOk, OnErr, string_bytes};
+ghost use Rattle.logos_type_params.specs.TypeParams.{named_of, about, previous};
+ghost use Rattle.logos_type_params.specs.TypeParams.{type_nesting_text, limit_type_nesting};
+
+use logos_token::error::{Errors, FaultCode, Memory};
+use logos_token::token::{Ident, Span};
+use std::alloc::Global;
+
+/// A text between two others.
+fn joined(alloc: Global, before: &str, text: &str, behind: &str) -> Result<String, Memory>
+    ensures { IfOk result (λ message.
+        string_bytes message ≡ (before.now ++ text.now) ++ behind.now) }
+{
+    let mut message = String::from_str(alloc, before)?;
+    message.push_str(text)?;
+    message.push_str(behind)?;
+    Ok(message)
+}
+
+/// Lists a fault of a name, which stands between two texts in the message. After an error the
+/// faults are as before.
+pub fn list_about(
+    alloc: Global,
+    errors: &mut Errors,
+    code: FaultCode,
+    before: &str,
+    name: Ident<'_>,
+    behind: &str,
+) -> Result<(), Memory>
+    ensures ok { OnOk result (errors.new
+        ≡ errors.old ++ (about code before.now (named_of name.entry) behind.now) ∷ []) }
+    ensures err { OnErr result (errors.new ≡ errors.old) }
+{
+    let message = joined(alloc, before, name.text, behind)?;
+    errors.err(code, message.as_str(), name.span)?;
+    Ok(())
+}
+
+/// Lists that something was given before, at this span. After an error the faults are as before.
+pub fn list_previous(errors: &mut Errors, at: Span) -> Result<(), Memory>
+    ensures ok { OnOk result (errors.new ≡ errors.old ++ previous at ∷ []) }
+    ensures err { OnErr result (errors.new ≡ errors.old) }
+{
+    errors.err(FaultCode::Previous, "Previously assigned here", at)
+}
+
+/// The message of the fault that more types stand inside one another than may.
+pub fn type_nesting_text() -> &'static str
+    ensures { result.now ≡ type_nesting_text }
+{
+    "limit LimitTypeNesting passed"
+}
+
+/// Lists that more types stand inside one another in the value at this span than may. After an error
+/// the faults are as before.
+pub(crate) fn list_depth(errors: &mut Errors, at: Span) -> Result<(), Memory>
+    ensures ok { OnOk result (errors.new ≡ errors.old ++ limit_type_nesting at ∷ []) }
+    ensures err { OnErr result (errors.new ≡ errors.old) }
+{
+    errors.err(FaultCode::LimitTypeNesting, type_nesting_text(), at)
+}
