@@ -1,19 +1,22 @@
--- Chains of types, as they are followed.
-use Rattle.std.proofs.Common.{◌≡◌, ℕ, zero, suc, ◌+◌, ◌<◌, ◌≤◌, ◌⊎◌, inl, inr, ⊎_elim, List, [], ◌∷◌, ◌++◌, ◌||◌, map, length, drop, get_or, Bool, true, false, Some, None, is_some, slice_get, Bor, refl, sym, ap, ◌∙◌, arith, subst, append_assoc, append-nil, true≢false}
-use Rattle.std.proofs.lemmas.List.{map_push, length-append, at_drop_more}
-use lib.ListN.{get_or-append}
+-- Chains of types, by the names and by the places of the types.
+use Rattle.std.proofs.Common.{◌≡◌, ℕ, zero, suc, ◌+◌, ◌<◌, ◌⊎◌, inl, inr, ⊎_elim, ◌↔◌, List, [], ◌∷◌, ◌++◌, ◌||◌, map, length, drop, get_or, Bool, true, false, IsTrue, Some, is_some, slice_get, slice_index_or, Contains, Bor, refl, sym, ap, ◌∙◌, arith, subst, append_assoc, true≢false}
+use Rattle.std.proofs.lemmas.List.{map_push, at_drop_more, length-map}
+use Rattle.std.proofs.lemmas.List.Quantifiers.{position-Some}
+use Rattle.std.proofs.lemmas.List.Elements.{Contains-push, Contains-push_cases, Contains-append_left}
 use Rattle.std.proofs.lemmas.List.Folds.{list_any-append}
+use Rattle.std.proofs.lemmas.Option.{slice_get_within, get_or_from_slice_get}
 use Rattle.std.proofs.lemmas.Slice.Eq.{bytes_eq-Decides}
 use Rattle.std.specs.Str.{bytes_eq}
-use Rattle.std.specs.List.{list_any}
-use Rattle.std.specs.Map.{lookup}
+use Rattle.std.specs.List.{list_any, position}
+use Rattle.std.specs.Map.{lookup, keys_of}
 use Rattle.indexmap.specs.IndexSet.{insert_key}
+use Rattle.logos_cycles.specs.Cycles.{targets_of, Leads as Path, one as step, on as steps}
 use Rattle.logos_type.specs.declared.type_expr.Part.{Part}
 use Rattle.logos_type.specs.Parts.{name, trees, also, tree_of}
 use Rattle.logos_type_params.specs.declared.substitution.TypeParam.{TypeParam}
 use Rattle.logos_type_params.specs.Substitution.{ParamValue, param_value}
 use Rattle.logos_type_params.specs.SelfReference.{names, some_names, holds, Leads, one, on, Has, texts}
-use Rattle.logos_type_params.specs.inside.Chains.{has_type, AreFree, unreached, IsReached}
+use Rattle.logos_type_params.specs.inside.Chains.{StandsAt, IsHeldAt, Reaches, AreReached, AreMarked}
 
 abbrev pub Text : Type 0
 Text = List ℕ
@@ -39,12 +42,6 @@ has_either (x ∷ a) b t (inr h) = ⊎_elim (λ k. inl (inr k)) (λ k. inr k) (h
 
 pub has_cases : (a : List Text) (x t : Text) → Has (a ++ x ∷ []) t → Has a t ⊎ (x ≡ t)
 has_cases a x t h = ⊎_elim (λ k. inl k) (⊎_elim (λ e. inr e) (λ k. absurd k)) (has_either a (x ∷ []) t h)
-
--- where it stands
-pub has_place : (a : List Text) (t : Text) → Has a t → (i : ℕ) × (i < length a) × (get_or a i [] ≡ t)
-has_place [] t h = absurd h
-has_place (x ∷ a) t (inl e) = (0, omega arith, e)
-has_place (x ∷ a) t (inr h) = let p = has_place a t h in (suc p.0, omega (arith, p.1), p.2)
 
 pub same_text : (a b : Text) → bytes_eq a b ≡ true → a ≡ b
 same_text a b e = (bytes_eq-Decides a b).0 e
@@ -98,140 +95,48 @@ with_key t keys = go (list_any (λ (k : Bor Text). bytes_eq t.now k.now) keys) r
     go true e = inl (any_has t.now (texts keys) (sym (any_texts t.now keys) ∙ e), rw e refl)
     go false e = inr (sym (any_texts t.now keys) ∙ e, rw e (map_push (λ (k : Bor Text). k.now) keys t))
 
--- ---- the types of names
+-- ---- names that are put behind others
 
-pub key_has_type : (t : Text) (es : Entries) → is_some (lookup (λ (k : Bor Text). bytes_eq t k.now) es) ≡ has_type (map param_value es) t
-key_has_type t [] = refl
-key_has_type t (e ∷ es) = go (bytes_eq t e.0.now) refl (key_has_type t es)
+pub any_push : (t : Text) (keys : List Text) (d : Text) → list_any (bytes_eq d) (keys ++ t ∷ []) ≡ (list_any (bytes_eq d) keys || list_any (bytes_eq d) (t ∷ []))
+any_push t keys d = list_any-append (bytes_eq d) keys (t ∷ [])
+
+-- ---- the places of names
+
+no_key : Bor Text
+no_key = record { ref_ptr = (0, 0); now = [] }
+
+pub placed : (t : Text) (es : Entries) (i : ℕ) → position (λ (k : Bor Text). bytes_eq t k.now) (keys_of es) ≡ Some i → StandsAt (map param_value es) t i
+placed t es i h = let p = position-Some (λ (k : Bor Text). bytes_eq t k.now) (keys_of es) i no_key h in go es i p.0 p.1 p.2
   where
-    go : (b : Bool) → bytes_eq t e.0.now ≡ b → is_some (lookup (λ (k : Bor Text). bytes_eq t k.now) es) ≡ has_type (map param_value es) t →
-        is_some (lookup (λ (k : Bor Text). bytes_eq t k.now) (e ∷ es)) ≡ has_type (map param_value (e ∷ es)) t
-    go true q rest = rw q refl
-    go false q rest = rw q rest
+    go : (xs : Entries) (k : ℕ) → k < length (keys_of xs) → bytes_eq t (get_or (keys_of xs) k no_key).now ≡ true → ((l : ℕ) → l < k → bytes_eq t (get_or (keys_of xs) l no_key).now ≡ false) →
+        StandsAt (map param_value xs) t k
+    go [] k lt e f = absurd (omega (arith, lt))
+    go (x ∷ xs) zero lt e f = eq_sym x.0.now t ∙ e
+    go (x ∷ xs) (suc k) lt e f = (eq_sym x.0.now t ∙ f 0 (omega arith), go xs k (omega (arith, lt)) e (λ l m. f (suc l) (omega (arith, m))))
 
--- what is found by a name
-pub found_holds : (t : Text) (es : Entries) (p : TypeParam) → lookup (λ (k : Bor Text). bytes_eq t k.now) es ≡ Some p → (to : Text) → holds (map param_value es) t to ≡ names (tree_of p.part) to
-found_holds t [] p h to = absurd cc
-found_holds t (e ∷ es) p h to = go (bytes_eq t e.0.now) refl (λ k. found_holds t es p k to)
-  where
-    go : (b : Bool) → bytes_eq t e.0.now ≡ b → (lookup (λ (k : Bor Text). bytes_eq t k.now) es ≡ Some p → holds (map param_value es) t to ≡ names (tree_of p.part) to) →
-        holds (map param_value (e ∷ es)) t to ≡ names (tree_of p.part) to
-    go true q rest = rw (eq_sym e.0.now t, q) (let k : Some e.1 ≡ Some p = rw q at h in let s : e.1 ≡ p = cc in ap (λ (x : TypeParam). names (tree_of x.part) to) s)
-    go false q rest = rw (eq_sym e.0.now t, q) (rest (rw q at h))
+pub unplaced : (t : Text) (es : Entries) → is_some (lookup (λ (k : Bor Text). bytes_eq t k.now) es) ≡ false → (i : ℕ) → StandsAt (map param_value es) t i → ⊥
+unplaced t [] h i s = s
+unplaced t (e ∷ es) h zero s = let q = eq_sym t e.0.now ∙ s in true≢false (rw q at h)
+unplaced t (e ∷ es) h (suc i) s = let q = eq_sym t e.0.now ∙ s.0 in unplaced t es (rw q at h) i s.1
 
-pub none_holds : (t : Text) (es : Entries) → lookup (λ (k : Bor Text). bytes_eq t k.now) es ≡ None → (to : Text) → holds (map param_value es) t to ≡ false
-none_holds t [] h to = refl
-none_holds t (e ∷ es) h to = go (bytes_eq t e.0.now) refl (λ k. none_holds t es k to)
-  where
-    go : (b : Bool) → bytes_eq t e.0.now ≡ b → (lookup (λ (k : Bor Text). bytes_eq t k.now) es ≡ None → holds (map param_value es) t to ≡ false) → holds (map param_value (e ∷ es)) t to ≡ false
-    go true q rest = let k : Some e.1 ≡ None = rw q at h in absurd cc
-    go false q rest = rw (eq_sym e.0.now t, q) (rest (rw q at h))
+once : (ps : List ParamValue) (t : Text) (i j : ℕ) → StandsAt ps t i → StandsAt ps t j → i ≡ j
+once [] t i j s k = absurd s
+once (p ∷ ps) t zero zero s k = refl
+once (p ∷ ps) t zero (suc j) s k = absurd (true≢false (sym s ∙ k.0))
+once (p ∷ ps) t (suc i) zero s k = absurd (true≢false (sym k ∙ s.0))
+once (p ∷ ps) t (suc i) (suc j) s k = ap suc (once ps t i j s.1 k.1)
 
--- ---- names that are reached
+one_name : (ps : List ParamValue) (a b : Text) (i : ℕ) → StandsAt ps a i → StandsAt ps b i → a ≡ b
+one_name [] a b i s k = absurd s
+one_name (p ∷ ps) a b zero s k = sym (same_text p.name a s) ∙ same_text p.name b k
+one_name (p ∷ ps) a b (suc i) s k = one_name ps a b i s.1 k.1
 
-module _ (t : Text) (keys : List Text) where
-  pub any_push : (d : Text) → list_any (bytes_eq d) (keys ++ t ∷ []) ≡ (list_any (bytes_eq d) keys || list_any (bytes_eq d) (t ∷ []))
-  any_push d = list_any-append (bytes_eq d) keys (t ∷ [])
+pub stands_within : (ps : List ParamValue) (t : Text) (i : ℕ) → StandsAt ps t i → i < length ps
+stands_within [] t i s = absurd s
+stands_within (p ∷ ps) t zero s = omega arith
+stands_within (p ∷ ps) t (suc i) s = let r = stands_within ps t i s.1 in omega (arith, r)
 
-  any_or : (d : Text) → list_any (bytes_eq d) keys ≡ true → list_any (bytes_eq d) (keys ++ t ∷ []) ≡ true
-  any_or d e = any_push d ∙ rw e refl
-
-  no_more_unreached : (ps : List ParamValue) → unreached ps (keys ++ t ∷ []) ≤ unreached ps keys
-  no_more_unreached [] = omega arith
-  no_more_unreached (p ∷ ps) = go (list_any (bytes_eq p.name) keys) (list_any (bytes_eq p.name) (keys ++ t ∷ [])) refl refl (no_more_unreached ps)
-    where
-      go : (b d : Bool) → list_any (bytes_eq p.name) keys ≡ b → list_any (bytes_eq p.name) (keys ++ t ∷ []) ≡ d → unreached ps (keys ++ t ∷ []) ≤ unreached ps keys → unreached (p ∷ ps) (keys ++ t ∷ []) ≤ unreached (p ∷ ps) keys
-      go true true e f h = rw (e, f) h
-      go true false e f h = absurd (true≢false (sym (any_or p.name e) ∙ f))
-      go false true e f h = rw (e, f) (omega (arith, h))
-      go false false e f h = rw (e, f) (omega (arith, h))
-
-  pub less_unreached : (ps : List ParamValue) → has_type ps t ≡ true → list_any (bytes_eq t) keys ≡ false → unreached ps (keys ++ t ∷ []) + 1 ≤ unreached ps keys
-  less_unreached [] h new = absurd (true≢false (sym h))
-  less_unreached (p ∷ ps) h new = at_first (bytes_eq t p.name) refl (λ k. less_unreached ps k new)
-    where
-      go : unreached ps (keys ++ t ∷ []) + 1 ≤ unreached ps keys → (b d : Bool) → list_any (bytes_eq p.name) keys ≡ b → list_any (bytes_eq p.name) (keys ++ t ∷ []) ≡ d → unreached (p ∷ ps) (keys ++ t ∷ []) + 1 ≤ unreached (p ∷ ps) keys
-      go less true true e f = rw (e, f) less
-      go less true false e f = absurd (true≢false (sym (any_or p.name e) ∙ f))
-      go less false true e f = rw (e, f) (omega (arith, less))
-      go less false false e f = rw (e, f) (omega (arith, less))
-
-      here : t ≡ p.name → unreached (p ∷ ps) (keys ++ t ∷ []) + 1 ≤ unreached (p ∷ ps) keys
-      here e =
-          let old : list_any (bytes_eq p.name) keys ≡ false = rw (sym e) new in
-          let now : list_any (bytes_eq p.name) (keys ++ t ∷ []) ≡ true = any_push p.name ∙ rw (old, eq_text p.name t (sym e)) refl in
-          rw (old, now) (let k = no_more_unreached ps in omega (arith, k))
-
-      at_first : (b : Bool) → bytes_eq t p.name ≡ b → (has_type ps t ≡ true → unreached ps (keys ++ t ∷ []) + 1 ≤ unreached ps keys) → unreached (p ∷ ps) (keys ++ t ∷ []) + 1 ≤ unreached (p ∷ ps) keys
-      at_first true e rest = here (same_text t p.name e)
-      at_first false e rest = go (rest (rw e at h)) (list_any (bytes_eq p.name) keys) (list_any (bytes_eq p.name) (keys ++ t ∷ [])) refl refl
-
-module _ (params : List ParamValue) (free : List Text) where
-  -- nothing is added
-  pub reached_none : (held : Text → Bool) (old : List Text) → ((t : Text) → held t ≡ true → has_type params t ≡ true → Has free t ⊎ Has old t) → IsReached params free held old old
-  reached_none held old all = record { more = []; behind = sym (append-nil old); named = λ t h. absurd h; all = all; count = omega arith }
-
-  -- one name is added
-  reached_new : (t : Text) (old new : List Text) → has_type params t ≡ true → list_any (bytes_eq t) old ≡ false → new ≡ old ++ t ∷ [] → IsReached params free (names (name t)) old new
-  reached_new t old new h f e = rw e (record {
-    more = t ∷ [];
-    behind = refl;
-    named = λ x k. ⊎_elim (λ (q : t ≡ x). eq_text t x q) (λ n. absurd n) k;
-    all = λ x k _. inr (subst (λ (y : Text). Has (old ++ t ∷ []) y) (same_text t x k) (has_last old t));
-    count = let l = less_unreached t old params h f in let n = length-append old (t ∷ []) in omega (arith, l, n);
-  })
-
-  reached_text : (t : Text) (old : List Text) → (has_type params t ≡ true → Has free t ⊎ Has old t) → IsReached params free (names (name t)) old old
-  reached_text t old h = reached_none (names (name t)) old (λ x k d. let e = same_text t x k in subst (λ (y : Text). Has free y ⊎ Has old y) e (h (rw (sym e) at d)))
-
-  pub reached_free : (t : Text) (old : List Text) → list_any (bytes_eq t) free ≡ true → IsReached params free (names (name t)) old old
-  reached_free t old h = reached_text t old (λ d. inl (any_has t free h))
-
-  pub reached_untyped : (t : Text) (old : List Text) → has_type params t ≡ false → IsReached params free (names (name t)) old old
-  reached_untyped t old h = reached_text t old (λ d. absurd (true≢false (sym d ∙ h)))
-
-  pub reached_name : (t : Bor Text) (keys keys' : List (Bor Text)) → has_type params t.now ≡ true → keys' ≡ insert_key (λ (a b : Bor Text). bytes_eq a.now b.now) keys t →
-      IsReached params free (names (name t.now)) (texts keys) (texts keys')
-  reached_name t keys keys' h e = ⊎_elim
-      (λ there. rw (e, there.1) (reached_none (names (name t.now)) (texts keys) (λ x k _. inr (subst (λ (y : Text). Has (texts keys) y) (same_text t.now x k) there.0))))
-      (λ new. reached_new t.now (texts keys) (texts keys') h new.0 (ap texts e ∙ new.1))
-      (with_key t keys)
-
-  pub reached_both : (f g : Text → Bool) (old mid new : List Text) → IsReached params free f old mid → IsReached params free g mid new → IsReached params free (λ t. f t || g t) old new
-  reached_both f g old mid new a b = record {
-    more = a.more ++ b.more;
-    behind = b.behind ∙ ap (λ (l : List Text). l ++ b.more) a.behind ∙ append_assoc old a.more b.more;
-    named = λ t h. ⊎_elim (λ k. rw (a.named t k) refl) (λ k. right t (f t) refl (b.named t k)) (has_either a.more b.more t h);
-    all = λ t h k. ⊎_elim (λ e. ⊎_elim (λ x. inl x) (λ x. inr (rw b.behind (has_left mid b.more t x))) (a.all t e k)) (λ e. b.all t e k) (either t (f t) refl h);
-    count = let x = a.count in let y = b.count in omega (arith, x, y);
-  }
-    where
-      right : (t : Text) (x : Bool) → f t ≡ x → g t ≡ true → (f t || g t) ≡ true
-      right t true e h = rw e refl
-      right t false e h = rw e h
-
-      either : (t : Text) (x : Bool) → f t ≡ x → (f t || g t) ≡ true → (f t ≡ true) ⊎ (g t ≡ true)
-      either t true e h = inl e
-      either t false e h = inr (rw e at h)
-
-  pub reached_alike : (f g : Text → Bool) (old new : List Text) → ((t : Text) → g t ≡ f t) → IsReached params free f old new → IsReached params free g old new
-  reached_alike f g old new same a = record { more = a.more; behind = a.behind; named = λ t h. same t ∙ a.named t h; all = λ t h k. a.all t (sym (same t) ∙ h) k; count = a.count }
-
--- the parts of a type, one after another, where what completes the rest completes the whole
-pub reached_on : (params : List ParamValue) (free : List Text) (Whole : List Text → Type 0) (items : List Part) (k : ℕ) (p : Part) (old mid : List Text) →
-    ((new : List Text) → IsReached params free (some_names (trees (map tree_of (drop k items)))) old new → Whole new) → k < length items → p ≡ get_or items k p →
-    IsReached params free (names (tree_of p)) old mid →
-    (new : List Text) → IsReached params free (some_names (trees (map tree_of (drop (k + 1) items)))) mid new → Whole new
-reached_on params free Whole items k p old mid completes h e first new rest =
-    let front : trees (map tree_of (drop k items)) ≡ also (tree_of p) (trees (map tree_of (drop (k + 1) items))) =
-    at_drop_more (λ ps. trees (map tree_of ps)) items k p h ∙ ap (λ (q : Part). also (tree_of q) (trees (map tree_of (drop (k + 1) items)))) (sym e) in
-    completes new (rw front (reached_both params free (names (tree_of p)) (some_names (trees (map tree_of (drop (k + 1) items)))) old mid new first rest))
-
--- ---- a search
-
-join : {params : List ParamValue} {from over to : Text} → Leads params from over → Leads params over to → Leads params from to
-join (one h) l = on h l
-join (on h k) l = on h (join k l)
+-- ---- names that lead on
 
 -- names that hold something have a type
 pub declares : (ps : List ParamValue) (from to : Text) → holds ps from to ≡ true → Has (map (λ (p : ParamValue). p.name) ps) from
@@ -242,94 +147,126 @@ declares (p ∷ ps) from to h = go (bytes_eq p.name from) refl (λ k. declares p
     go true e rest = inl (same_text p.name from e)
     go false e rest = inr (rest (rw e at h))
 
-typed : (ps : List ParamValue) (from to : Text) → holds ps from to ≡ true → has_type ps from ≡ true
-typed [] from to h = absurd cc
-typed (p ∷ ps) from to h = go (bytes_eq from p.name) refl (typed ps from to)
+place_of : (ps : List ParamValue) (from to : Text) → holds ps from to ≡ true → (i : ℕ) × StandsAt ps from i
+place_of [] from to h = absurd cc
+place_of (p ∷ ps) from to h = go (bytes_eq p.name from) refl (λ k. place_of ps from to k)
   where
-    go : (b : Bool) → bytes_eq from p.name ≡ b → (holds ps from to ≡ true → has_type ps from ≡ true) → has_type (p ∷ ps) from ≡ true
-    go true e rest = rw e refl
-    go false e rest = rw e (rest (rw (eq_sym p.name from, e) at h))
+    go : (b : Bool) → bytes_eq p.name from ≡ b → (holds ps from to ≡ true → (i : ℕ) × StandsAt ps from i) → (i : ℕ) × StandsAt (p ∷ ps) from i
+    go true e rest = (0, e)
+    go false e rest = let r = rest (rw e at h) in (suc r.0, (e, r.1))
 
-starts : (ps : List ParamValue) (from to : Text) → Leads ps from to → has_type ps from ≡ true
-starts ps from to (one h) = typed ps from to h
-starts ps from to (on {over = over} h l) = typed ps from over h
+pub start_of : {ps : List ParamValue} {from to : Text} → Leads ps from to → (i : ℕ) × StandsAt ps from i
+start_of {ps = ps} (one {from = from} {to = to} h) = place_of ps from to h
+start_of {ps = ps} (on {from = from} {over = over} h l) = place_of ps from over h
 
--- the names so far are reached, and those in front of a place are followed
-pub record Searching (params : List ParamValue) (free : List Text) (goal : Text) (keys : List Text) (at : ℕ) : Type 0 where
-  pub sound : (t : Text) → Has keys t → (t ≡ goal) ⊎ Leads params goal t
-  pub begun : Has keys goal
-  pub closed : (i : ℕ) → i < at → (t : Text) → holds params (get_or keys i []) t ≡ true → has_type params t ≡ true → Has free t ⊎ Has keys t
-  pub no_end : (i : ℕ) → i < at → holds params (get_or keys i []) goal ≡ false
-  pub within : at ≤ length keys
+-- ---- places that are added
 
--- a text that is read at a place
-pub read_at : (keys : List (Bor Text)) (at : ℕ) (b : Bor Text) → slice_get keys at ≡ Some b → (b.now ≡ get_or (texts keys) at []) × (at < length (texts keys))
-read_at [] at b h = absurd cc
-read_at (k ∷ keys) zero b h = let e : k ≡ b = cc in (sym (ap (λ (x : Bor Text). x.now) e), omega arith)
-read_at (k ∷ keys) (suc at) b h = let r = read_at keys at b h in (r.0, omega (arith, r.1))
+module _ (params : List ParamValue) where
+  -- none is added
+  pub reaches_none : (held : Text → Bool) (old : List ℕ) → ((t : Text) (i : ℕ) → held t ≡ true → StandsAt params t i → ⊥) → Reaches params held old old
+  reaches_none held old none = record { each = λ i. (λ c. inl c, ⊎_elim (λ c. c) (λ h. absurd (none h.0 i h.1 h.2))) }
 
-has_at : (a : List Text) (i : ℕ) → i < length a → Has a (get_or a i [])
-has_at [] i h = absurd (omega arith)
-has_at (x ∷ a) zero h = inl refl
-has_at (x ∷ a) (suc i) h = inr (has_at a i (omega arith))
+  pub reaches_untyped : (t : Text) (old : List ℕ) → ((i : ℕ) → StandsAt params t i → ⊥) → Reaches params (names (name t)) old old
+  reaches_untyped t old none = reaches_none (names (name t)) old (λ x i e s. none i (subst (λ (y : Text). StandsAt params y i) (sym (same_text t x e)) s))
 
-before_or_at : (i at : ℕ) → i < at + 1 → (i < at) ⊎ (i ≡ at)
-before_or_at i at h = grind (arith, h)
-
-module _ (params : List ParamValue) (free : List Text) (goal : Text) where
-  pub search_begun : Searching params free goal (goal ∷ []) 0
-  search_begun = record {
-    sound = λ t h. ⊎_elim (λ e. inl (sym e)) (λ k. absurd k) h;
-    begun = inl refl;
-    closed = λ i h. absurd (omega arith);
-    no_end = λ i h. absurd (omega arith);
-    within = omega arith;
+  -- the place of one name is added
+  pub reaches_place : (t : Text) (i : ℕ) (old new : List ℕ) → StandsAt params t i → new ≡ old ++ i ∷ [] → Reaches params (names (name t)) old new
+  reaches_place t i old new s e = record {
+    each = λ j. rw e (
+      λ c. ⊎_elim (λ k. inl k) (λ (q : i ≡ j). inr (t, eq_text t t refl, subst (λ (n : ℕ). StandsAt params t n) q s)) (Contains-push_cases old i j c),
+      ⊎_elim (λ k. Contains-append_left old (i ∷ []) j k)
+          (λ h. let q = once params t i j s (subst (λ (y : Text). StandsAt params y j) (sym (same_text t h.0 h.1)) h.2) in subst (λ (n : ℕ). Contains (old ++ i ∷ []) n) q (Contains-push old i)),
+    );
   }
 
-  -- from a name that is reached a chain leads to what it holds
-  led : (from t : Text) → (from ≡ goal) ⊎ Leads params goal from → holds params from t ≡ true → Leads params goal t
-  led from t s h = ⊎_elim (λ (e : from ≡ goal). one (subst (λ (x : Text). holds params x t ≡ true) e h)) (λ l. join l (one h)) s
+  pub reaches_both : (f g : Text → Bool) (old mid new : List ℕ) → Reaches params f old mid → Reaches params g mid new → Reaches params (λ t. f t || g t) old new
+  reaches_both f g old mid new a b = record {
+    each = λ i. (
+      λ c. ⊎_elim (λ k. ⊎_elim (λ o. inl o) (λ h. inr (h.0, rw h.1 refl, h.2)) ((a.each i).0 k)) (λ h. inr (h.0, right h.0 (f h.0) refl h.1, h.2)) ((b.each i).0 c),
+      ⊎_elim (λ o. (b.each i).1 (inl ((a.each i).1 (inl o))))
+          (λ h. ⊎_elim (λ e. (b.each i).1 (inl ((a.each i).1 (inr (h.0, e, h.2))))) (λ e. (b.each i).1 (inr (h.0, e, h.2))) (either h.0 (f h.0) refl h.1)),
+    );
+  }
+    where
+      right : (t : Text) (x : Bool) → f t ≡ x → g t ≡ true → (f t || g t) ≡ true
+      right t true e h = rw e refl
+      right t false e h = rw e h
 
-  module _ (keys keys' : List Text) (at : ℕ) (from : Text) (is : from ≡ get_or keys at []) (lt : at < length keys) (s : Searching params free goal keys at) where
-    reaches : (from ≡ goal) ⊎ Leads params goal from
-    reaches = s.sound from (rw is (has_at keys at lt))
+      either : (t : Text) (x : Bool) → f t ≡ x → (f t || g t) ≡ true → (f t ≡ true) ⊎ (g t ≡ true)
+      either t true e h = inl e
+      either t false e h = inr (rw e at h)
 
-    pub search_found : holds params from goal ≡ true → Leads params goal goal
-    search_found h = led from goal reaches h
+-- the parts of a type, one after another, where what completes the rest completes the whole
+pub reaches_on : (params : List ParamValue) (Whole : List ℕ → Type 0) (items : List Part) (k : ℕ) (p : Part) (old mid : List ℕ) →
+    ((new : List ℕ) → Reaches params (some_names (trees (map tree_of (drop k items)))) old new → Whole new) → k < length items → p ≡ get_or items k p →
+    Reaches params (names (tree_of p)) old mid →
+    (new : List ℕ) → Reaches params (some_names (trees (map tree_of (drop (k + 1) items)))) mid new → Whole new
+reaches_on params Whole items k p old mid completes h e first new rest =
+    let front : trees (map tree_of (drop k items)) ≡ also (tree_of p) (trees (map tree_of (drop (k + 1) items))) =
+    at_drop_more (λ ps. trees (map tree_of ps)) items k p h ∙ ap (λ (q : Part). also (tree_of q) (trees (map tree_of (drop (k + 1) items)))) (sym e) in
+    completes new (rw front (reaches_both params (names (tree_of p)) (some_names (trees (map tree_of (drop (k + 1) items)))) old mid new first rest))
 
-    pub search_on : holds params from goal ≡ false → IsReached params free (holds params from) keys keys' → Searching params free goal keys' (at + 1)
-    search_on stops r = record {
-      sound = λ t h. ⊎_elim (λ k. s.sound t k) (λ k. inr (led from t reaches (r.named t k))) (has_either keys r.more t (let e = r.behind in rw e at h));
-      begun = wider goal s.begun;
-      closed = λ i h t k d. ⊎_elim
-          (λ b. let g = same i (let w = s.within in omega (arith, b, w)) in ⊎_elim (λ f. inl f) (λ x. inr (wider t x)) (s.closed i b t (rw g at k) d))
-          (λ (e : i ≡ at). let g = same i (rw e lt) in let k2 : holds params (get_or keys i []) t ≡ true = rw g at k in r.all t (rw is (rw e at k2)) d)
-          (before_or_at i at h);
-      no_end = λ i h. ⊎_elim
-          (λ b. let g = same i (let w = s.within in omega (arith, b, w)) in rw g (s.no_end i b))
-          (λ (e : i ≡ at). let g = same i (rw e lt) in rw g (rw e (rw is at stops)))
-          (before_or_at i at h);
-      within = let e = ap length r.behind in let l = length-append keys r.more in omega (arith, e, l, lt);
-    }
-      where
-        wider : (t : Text) → Has keys t → Has keys' t
-        wider t h = rw r.behind (has_left keys r.more t h)
+-- ---- chains by places
 
-        same : (i : ℕ) → i < length keys → get_or keys' i [] ≡ get_or keys i []
-        same i h = ap (λ (l : List Text). get_or l i []) r.behind ∙ get_or-append keys r.more [] i h
+-- each type has the list of the places to which it leads, where what completes the rest completes the whole
+pub reached_on : (params : List ParamValue) {L : Type 0} (items : L → List ℕ) (es : Entries) (k : ℕ) (key : Bor Text) (p : TypeParam) (old new : List L) (list : L) →
+    ((left : List (List ℕ)) → AreReached params (map param_value (drop k es)) left → AreReached params params (map items old ++ left)) → slice_get es k ≡ Some (key, p) →
+    Reaches params (names (tree_of p.part)) [] (items list) → new ≡ old ++ list ∷ [] →
+    (left : List (List ℕ)) → AreReached params (map param_value (drop (k + 1) es)) left → AreReached params params (map items new ++ left)
+reached_on params items es k key p old new list completes at first e left rest =
+    let front : map param_value (drop k es) ≡ param_value (key, p) ∷ map param_value (drop (k + 1) es) =
+    at_drop_more (map param_value) es k (key, p) (slice_get_within es k (key, p) at)
+    ∙ ap (λ (d : Bor Text × TypeParam). param_value d ∷ map param_value (drop (k + 1) es)) (get_or_from_slice_get es k (key, p) (key, p) at) in
+    let whole = completes (items list ∷ left) (rw front (first, rest)) in
+    let same : map items new ++ left ≡ map items old ++ items list ∷ left =
+    ap (λ (l : List (List ℕ)). l ++ left) (ap (map items) e ∙ map_push items old list) ∙ append_assoc (map items old) (items list ∷ []) left in
+    rw same whole
 
-  -- where all that is reached is followed, no chain leads back
-  module _ (keys : List Text) (at : ℕ) (end : length keys ≤ at) (s : Searching params free goal keys at) (none : AreFree params free) where
-    never : (from : Text) → Has keys from → Leads params from goal → ⊥
-    never from h (one k) =
-        let p = has_place keys from h in
-        let o = s.no_end p.0 (let w = p.1 in omega (arith, w, end)) in
-        let e = p.2 in true≢false (sym k ∙ rw e at o)
-    never from h (on {over = over} k l) =
-        let p = has_place keys from h in
-        let e = p.2 in
-        ⊎_elim (λ f. none over f (join l (led from over (s.sound from h) k))) (λ x. never over x l)
-        (s.closed p.0 (let w = p.1 in omega (arith, w, end)) over (rw e k) (starts params over goal l))
+reached_length : (whole ps : List ParamValue) (lists : List (List ℕ)) → AreReached whole ps lists → length lists ≡ length ps
+reached_length whole [] [] r = refl
+reached_length whole [] (l ∷ lists) r = absurd r
+reached_length whole (p ∷ ps) [] r = absurd r
+reached_length whole (p ∷ ps) (l ∷ lists) r = ap suc (reached_length whole ps lists r.1)
 
-    pub search_ends : Leads params goal goal → ⊥
-    search_ends l = never goal s.begun l
+contains_none : (i : ℕ) → Contains [] i → ⊥
+contains_none i c = let lt = c.1 in omega (arith, lt)
+
+targets : (whole ps : List ParamValue) (lists : List (List ℕ)) → AreReached whole ps lists → (a : Text) (i : ℕ) → StandsAt ps a i → (j : ℕ) → Contains (targets_of lists i) j ↔ IsHeldAt whole (holds ps a) j
+targets whole [] lists r a i s j = absurd s
+targets whole (p ∷ ps) [] r a i s j = absurd r
+targets whole (p ∷ ps) (l ∷ lists) r a zero s j = (
+  λ c. ⊎_elim (λ n. absurd (contains_none j n)) (λ h. (h.0, rw s h.1, h.2)) ((r.0.each j).0 c),
+  λ h. (r.0.each j).1 (inr (h.0, (let e = h.1 in rw s at e), h.2)),
+)
+targets whole (p ∷ ps) (l ∷ lists) r a (suc i) s j =
+    let rest = targets whole ps lists r.1 a i s.1 j in
+    let off = s.0 in
+    (λ c. let h = rest.0 c in (h.0, rw off h.1, h.2), λ h. rest.1 (h.0, (let e = h.1 in rw off at e), h.2))
+
+module _ (params : List ParamValue) (lists : List (List ℕ)) (reached : AreReached params params lists) where
+  chain_of : {i j : ℕ} → Path lists i j → (a b : Text) → StandsAt params a i → StandsAt params b j → Leads params a b
+  chain_of (step {from = i} {to = j} c) a b s k =
+      let h = (targets params params lists reached a i s j).0 c in one (subst (λ (x : Text). holds params a x ≡ true) (one_name params h.0 b j h.2 k) h.1)
+  chain_of (steps {from = i} {over = o} c l) a b s k = let h = (targets params params lists reached a i s o).0 c in on h.1 (chain_of l h.0 b h.2 k)
+
+  path_of : {a b : Text} → Leads params a b → (i j : ℕ) → StandsAt params a i → StandsAt params b j → Path lists i j
+  path_of (one {from = a} {to = b} h) i j s k = step ((targets params params lists reached a i s j).1 (b, h, k))
+  path_of (on {from = a} {over = o} h l) i j s k = let p = start_of l in steps ((targets params params lists reached a i s p.0).1 (o, h, p.1)) (path_of l p.0 j p.1 k)
+
+  marked : (marks : List Bool) → ((i : ℕ) → i < length lists → IsTrue (slice_index_or marks i false) ↔ Path lists i i) → AreMarked params marks
+  marked marks f t i s =
+      let same = reached_length params params lists reached in
+      let g = f i (let w = stands_within params t i s in omega (arith, w, same)) in
+      (λ m. chain_of (g.0 m) t t s s, λ l. g.1 (path_of l i i s s))
+
+-- what is marked where the lists have more than their items
+pub marked_by : (params : List ParamValue) {L : Type 0} (items : L → List ℕ) (lists : List L) → AreReached params params (map items lists) → (marks : List Bool) →
+    ((i : ℕ) → i < length lists → IsTrue (slice_index_or marks i false) ↔ Path (map items lists) i i) → AreMarked params marks
+marked_by params items lists reached marks f =
+    let same = length-map lists items in
+    marked params (map items lists) reached marks (λ i h. f i (omega (arith, h, same)))
+
+-- there are as many lists as types
+pub as_many : (es : Entries) {L : Type 0} (items : L → List ℕ) (lists : List L) → AreReached (map param_value es) (map param_value es) (map items lists) → length lists ≡ length es
+as_many es items lists reached =
+    sym (length-map lists items) ∙ reached_length (map param_value es) (map param_value es) (map items lists) reached ∙ length-map es param_value

@@ -1,22 +1,21 @@
--- What is noted of names, and what follows for those that are asked.
-use Rattle.std.proofs.Common.{◌≡◌, ◌⊎◌, ◌↔◌, inl, ⊎_elim, List, [], ◌∷◌, ◌++◌, ◌||◌, Bool, true, false, not, Option, Some, None, Bor, refl, sym, ap, ◌∙◌, subst, append_assoc, append-nil, true≢false, IsTrue, if◌then◌else◌, Result, Ok, Err}
+-- Names in front of others, and what follows for those that are checked, copied and asked.
+use Rattle.std.proofs.Common.{◌≡◌, ℕ, ◌⊎◌, ◌↔◌, inl, ⊎_elim, List, [], ◌∷◌, ◌++◌, ◌||◌, Bool, true, false, not, Option, Some, None, Bor, refl, sym, ap, ◌∙◌, subst, append_assoc, append-nil, true≢false, IsTrue, if◌then◌else◌, Result, Ok, Err}
 use Rattle.std.specs.Prelude.{IfOk, OnOk, IsOk}
 use Rattle.std.specs.Str.{bytes_eq}
 use Rattle.std.specs.List.{list_any}
 use Rattle.indexmap.specs.IndexSet.{insert_key}
 use Rattle.logos_token.specs.Faults.{Fault}
-use Rattle.logos_type_params.specs.declared.self_reference.Chains.{Chains}
 use Rattle.logos_type_params.specs.Substitution.{ParamValue}
 use Rattle.logos_type_params.specs.SelfReference.{Leads, Has, texts}
-use Rattle.logos_type_params.specs.SelfFaults.{type_holds_itself, IsChecked, declared_again, leads_on, leads_back, AreChecked, no_name, one_more}
+use Rattle.logos_type_params.specs.SelfFaults.{type_holds_itself, declared_again, leads_on, leads_back, IsChecked, AreChecked, no_name, one_more}
 use Rattle.logos_type.specs.Parts.{Tree}
 use Rattle.logos_type_params.specs.TypeParams.{Named, Given, is_declared}
 use Rattle.logos_type_params.specs.Generics.{type_of, and_type, and_fault, concrete_types, missing_types}
 use Rattle.logos_type_params.specs.WrittenTypes.{is_held, is_free}
-use Rattle.logos_type_params.specs.inside.Chains.{params_in, free_of, held_of, AreFree, IsSettled, IsNoted, IsAnswered, StaySettled}
+use Rattle.logos_type_params.specs.inside.Chains.{AreMarked}
 use Rattle.logos_type_params.specs.inside.Fronts.{AreInFront}
-use Rattle.logos_type_params.specs.inside.Checks.{ChecksName, CopiesName, AsksName}
-use Rattle.logos_type_params.proofs.ChainLemmas.{Text, has_left, has_last, has_cases, any_texts, any_has, any_from_has, any_push, with_key, eq_sym, same_text}
+use Rattle.logos_type_params.specs.inside.Checks.{ChecksName, AsksName, CopiesName}
+use Rattle.logos_type_params.proofs.ChainLemmas.{Text, has_left, has_last, has_cases, any_texts, any_from_has, any_push, with_key, eq_sym, same_text}
 
 -- a text among those to which one was added
 has_key : (t : Bor Text) (keys keys' : List (Bor Text)) (x : Text) → keys' ≡ insert_key (λ (a b : Bor Text). bytes_eq a.now b.now) keys t → Has (texts keys') x → Has (texts keys) x ⊎ (t.now ≡ x)
@@ -36,46 +35,6 @@ key_put t keys keys' e = ⊎_elim
     (λ there. let f = e ∙ there.1 in rw f there.0)
     (λ new. let f = ap texts e ∙ new.1 in rw f (has_last (texts keys) t.now))
     (with_key t keys)
-
-pub noted_held : (old new : Chains) (t : Bor Text) → params_in new ≡ params_in old → free_of new ≡ free_of old → new.held.keys ≡ insert_key (λ (a b : Bor Text). bytes_eq a.now b.now) old.held.keys t →
-    IsNoted old t.now true new
-noted_held old new t types free e params s led = record {
-  same = types ∙ s.same;
-  free = rw free s.free;
-  held = λ x h. ⊎_elim (λ k. s.held x k) (λ (q : t.now ≡ x). subst (λ (y : Text). Leads params y y) q (led.0 refl)) (has_key t old.held.keys new.held.keys x e h);
-}
-
-pub noted_free : (old new : Chains) (t : Bor Text) → params_in new ≡ params_in old → held_of new ≡ held_of old → new.free.keys ≡ insert_key (λ (a b : Bor Text). bytes_eq a.now b.now) old.free.keys t →
-    IsNoted old t.now false new
-noted_free old new t types held e params s led = record {
-  same = types ∙ s.same;
-  free = λ x h l. ⊎_elim (λ k. s.free x k l) (λ (q : t.now ≡ x). true≢false (sym (led.1 (subst (λ (y : Text). Leads params y y) (sym q) l)))) (has_key t old.free.keys new.free.keys x e h);
-  held = rw held s.held;
-}
-
--- a name that is noted already
-pub asked_free : (chains : Chains) (t : Text) → list_any (λ (k : Bor Text). bytes_eq t k.now) chains.free.keys ≡ true → IsAnswered chains t false chains
-asked_free chains t h params s = ((λ e. absurd (true≢false (sym e)), λ l. absurd (s.free t (any_has t (free_of chains) (sym (any_texts t chains.free.keys) ∙ h)) l)), s)
-
-pub asked_held : (chains : Chains) (t : Text) → list_any (λ (k : Bor Text). bytes_eq t k.now) chains.held.keys ≡ true → IsAnswered chains t true chains
-asked_held chains t h params s = ((λ e. s.held t (any_has t (held_of chains) (sym (any_texts t chains.held.keys) ∙ h)), λ l. refl), s)
-
--- a name for which a search is made
-pub asked_new : (old new : Chains) (t : Text) (leads : Bool) → (AreFree (params_in old) (free_of old) → IsTrue leads ↔ Leads (params_in old) t t) → IsNoted old t leads new → IsAnswered old t leads new
-asked_new old new t leads searched noted params s =
-    let both : IsTrue leads ↔ Leads params t t = rw s.same at (searched (λ x h l. s.free x h (rw s.same at l))) in
-    (both, noted params s both)
-
--- an answer where memory lasts
-pub answered : {E : Type 0} (r : Result Bool E) (params : List ParamValue) (old new : Chains) (t : Text) → IfOk r (λ leads. IsAnswered old t leads new) → IsSettled params old →
-    IfOk r (λ leads. IsTrue leads ↔ Leads params t t)
-answered (Ok leads) params old new t h s = (h params s).0
-answered (Err e) params old new t h s = tt
-
--- an answer, and then others
-pub asked_on : {E : Type 0} (r : Result Bool E) (old mid new : Chains) (t : Text) → IfOk r (λ leads. IsAnswered old t leads mid) → StaySettled mid new → IfOk r (λ leads. IsAnswered old t leads new)
-asked_on (Ok leads) old mid new t h stay = λ params s. let a = h params s in (a.0, stay params a.1)
-asked_on (Err e) old mid new t h stay = tt
 
 -- what holds of a success that is one
 pub if_ok_is : {T E P : Type 0} (r : Result T E) → IsOk r → IfOk r (λ x. P) → P
@@ -130,31 +89,28 @@ among t keys added b e f = sym (any_texts t.now keys) ∙ go (list_any (λ (k : 
     go false true h = refl
     go false false h = absurd (true≢false (sym h))
 
-module _ (t : Bor Text) (named : Named) (is : named.text ≡ t.now) (keys keys' : List (Bor Text)) (put : keys' ≡ insert_key (λ (a b : Bor Text). bytes_eq a.now b.now) keys t) (old new : Chains) (before after : List Fault) where
+module _ (t : Bor Text) (named : Named) (is : named.text ≡ t.now) (keys keys' : List (Bor Text)) (put : keys' ≡ insert_key (λ (a b : Bor Text). bytes_eq a.now b.now) keys t) (params : List ParamValue) (marks : List Bool) (before after : List Fault) where
   declared_as : (front : List Named) → AreInFront front keys → (b : Bool) → list_any (bytes_eq t.now) (texts keys) ≡ b → is_declared front named.text ≡ b
   declared_as front are b e = rw is (sym (are t.now) ∙ e)
 
   -- a name that stands in front already
-  pub checked_again : list_any (bytes_eq t.now) (texts keys) ≡ true → new ≡ old → after ≡ before → ChecksName keys old named before keys' new after
-  checked_again e same none = record {
-    checked = λ params front s are. declared_again (declared_as front are true e) none;
-    settled = λ params s. rw same s;
+  pub checked_again : list_any (bytes_eq t.now) (texts keys) ≡ true → after ≡ before → ChecksName params marks keys named before keys' after
+  checked_again e none = record {
+    checked = λ are_marked front are. declared_again (declared_as front are true e) none;
     fronts = λ front are. fronts_on t named keys keys' front is put are;
   }
 
   -- a name to which no chain leads back
-  pub checked_free : (leads : Bool) → leads ≡ false → IsAnswered old t.now leads new → after ≡ before → ChecksName keys old named before keys' new after
+  pub checked_free : (leads : Bool) → leads ≡ false → (AreMarked params marks → IsTrue leads ↔ Leads params t.now t.now) → after ≡ before → ChecksName params marks keys named before keys' after
   checked_free leads l asked none = record {
-    checked = λ params front s are. leads_on (λ back. true≢false (sym ((asked params s).0.1 (rw is at back)) ∙ l)) none;
-    settled = λ params s. (asked params s).1;
+    checked = λ are_marked front are. leads_on (λ back. true≢false (sym ((asked are_marked).1 (rw is at back)) ∙ l)) none;
     fronts = λ front are. fronts_on t named keys keys' front is put are;
   }
 
   -- a name to which a chain leads back
-  pub checked_held : list_any (bytes_eq t.now) (texts keys) ≡ false → (leads : Bool) → leads ≡ true → IsAnswered old t.now leads new → after ≡ before ++ type_holds_itself named ∷ [] → ChecksName keys old named before keys' new after
+  pub checked_held : list_any (bytes_eq t.now) (texts keys) ≡ false → (leads : Bool) → leads ≡ true → (AreMarked params marks → IsTrue leads ↔ Leads params t.now t.now) → after ≡ before ++ type_holds_itself named ∷ [] → ChecksName params marks keys named before keys' after
   checked_held e leads l asked listed = record {
-    checked = λ params front s are. leads_back (declared_as front are false e) (rw is ((asked params s).0.0 l)) listed;
-    settled = λ params s. (asked params s).1;
+    checked = λ are_marked front are. leads_back (declared_as front are false e) (rw is ((asked are_marked).0 l)) listed;
     fronts = λ front are. fronts_on t named keys keys' front is put are;
   }
 
@@ -216,29 +172,26 @@ on_ok_one (Ok x) f p = f p
 on_ok_one (Err e) f p = tt
 
 -- a name that is asked is held or not
-pub asks_held : (old new : Chains) (t : Bor Text) (leads : Bool) (keys keys' : List (Bor Text)) → leads ≡ true → IsAnswered old t.now leads new → keys' ≡ insert_key (λ (a b : Bor Text). bytes_eq a.now b.now) keys t →
-    AsksName old t.now (texts keys) new (texts keys')
-asks_held old new t leads keys keys' l asked put params s =
-    let a = asked params s in
-    (is_held (a.0.0 l) (λ other h. has_key t keys keys' other put h) (λ other h. key_has t keys keys' other put h) (key_put t keys keys' put), a.1)
+pub asks_held : (params : List ParamValue) (marks : List Bool) (t : Bor Text) (leads : Bool) (keys keys' : List (Bor Text)) → leads ≡ true → (AreMarked params marks → IsTrue leads ↔ Leads params t.now t.now) → keys' ≡ insert_key (λ (a b : Bor Text). bytes_eq a.now b.now) keys t →
+    AsksName params marks t.now (texts keys) (texts keys')
+asks_held params marks t leads keys keys' l asked put are =
+    is_held ((asked are).0 l) (λ other h. has_key t keys keys' other put h) (λ other h. key_has t keys keys' other put h) (key_put t keys keys' put)
 
-pub asks_free : (old new : Chains) (t : Text) (leads : Bool) (held : List Text) → leads ≡ false → IsAnswered old t leads new → AsksName old t held new held
-asks_free old new t leads held l asked params s = let a = asked params s in (is_free (λ back. true≢false (sym (a.0.1 back) ∙ l)) refl, a.1)
+pub asks_free : (params : List ParamValue) (marks : List Bool) (t : Text) (leads : Bool) (held : List Text) → leads ≡ false → (AreMarked params marks → IsTrue leads ↔ Leads params t t) → AsksName params marks t held held
+asks_free params marks t leads held l asked are = is_free (λ back. true≢false (sym ((asked are).1 back) ∙ l)) refl
 
 -- names are checked one by one, where what completes the rest completes the whole
-pub record Checking (params : List ParamValue) (Whole : List Fault → Type 0) (rest : List Named) (keys : List (Bor Text)) (chains : Chains) (now : List Fault) : Type 0 where
+pub record Checking (params : List ParamValue) (Whole : List Fault → Type 0) (rest : List Named) (keys : List (Bor (List ℕ))) (now : List Fault) : Type 0 where
   pub front : List Named
   pub fronts : AreInFront front keys
-  pub settled : IsSettled params chains
   pub completes : (faults : List Fault) → AreChecked params front rest now faults → Whole faults
 
-pub check_on : (params : List ParamValue) (Whole : List Fault → Type 0) (all rest : List Named) (named : Named) (keys keys' : List (Bor Text)) (old new : Chains) (before after : List Fault) →
-    Checking params Whole all keys old before → all ≡ named ∷ rest → ChecksName keys old named before keys' new after → Checking params Whole rest keys' new after
-check_on params Whole all rest named keys keys' old new before after c e h = record {
+pub check_on : (params : List ParamValue) (marks : List Bool) (Whole : List Fault → Type 0) (all rest : List Named) (named : Named) (keys keys' : List (Bor Text)) (before after : List Fault) →
+    Checking params Whole all keys before → all ≡ named ∷ rest → ChecksName params marks keys named before keys' after → AreMarked params marks → Checking params Whole rest keys' after
+check_on params marks Whole all rest named keys keys' before after c e h are = record {
   front = c.front ++ named ∷ [];
   fronts = h.fronts c.front c.fronts;
-  settled = h.settled params c.settled;
-  completes = λ faults r. c.completes faults (rw e (one_more (h.checked params c.front c.settled c.fronts) r));
+  completes = λ faults r. c.completes faults (rw e (one_more (h.checked are c.front c.fronts) r));
 }
 
 -- faults behind those that stood in front already

@@ -7,6 +7,7 @@ ghost use Rattle.logos_type.specs.Parts.{tree_of};
 ghost use Rattle.logos_type_reader.specs.ReadingViews.{IfFault};
 ghost use Rattle.logos_type.specs.TypeTrees.{type_tree};
 ghost use Rattle.logos_type_reader.specs.TypeExprs.{IsTypeExpr, NoTypeExpr};
+ghost use Rattle.logos_type_params.specs.Substitution.{param_value};
 ghost use Rattle.logos_type_params.specs.inside.Checks.{ChecksName};
 ghost use Rattle.logos_type_params.specs.TypeParams.{named_of, given_of, type_syntax};
 ghost use Rattle.logos_type_params.specs.TypeParams.{many_lifetimes};
@@ -204,17 +205,18 @@ fn give<'s>(
 fn check_name<'s>(
     alloc: Global,
     front: &mut IndexSet<&'s str>,
-    chains: &mut Chains<'_, 's>,
+    chains: &Chains<'_, 's>,
     name: Ident<'s>,
     errors: &mut Errors,
 ) -> Result<(), Memory>
-    ensures { OnOk result (ChecksName front.old.keys chains.old (named_of name.entry)
-        errors.old front.new.keys chains.new errors.new) }
+    ensures { OnOk result (ChecksName (map param_value chains.now.types.now.entries)
+        chains.now.held.items front.old.keys (named_of name.entry) errors.old
+        front.new.keys errors.new) }
 {
     if !front.insert(name.text)? {
         return Ok(());
     }
-    if !chains.lead_back(name.text)? {
+    if !chains.lead_back(name.text) {
         return Ok(());
     }
     list_about(
@@ -322,9 +324,8 @@ impl<'s> TypeParams<'s> {
     }
 
     /// Lists each parameter whose types lead back to it, in order of declaration. A name that is
-    /// declared again is not listed again. The time grows with the sizes of all types, and where
-    /// chains lead back, at most with their product with the number of types. Only want of memory is
-    /// an error; after it the faults are as before.
+    /// declared again is not listed again. The time grows with the sizes of all types. Only want of
+    /// memory is an error; after it the faults are as before.
     pub fn check(&self, errors: &mut Errors) -> Result<(), Memory>
         ensures ok { OnOk result (AreChecked (types_of self.now) []
             (value_of self.now).names errors.old errors.new) }
@@ -341,10 +342,10 @@ impl<'s> TypeParams<'s> {
         ensures { OnOk result (AreChecked (types_of self.now) []
             (value_of self.now).names errors.old errors.new) }
     {
-        let mut chains = Chains::new(self.alloc, &self.types);
+        let chains = Chains::new(self.alloc, &self.types)?;
         let mut front = IndexSet::new(self.alloc);
         for name in &self.names.list {
-            check_name(self.alloc, &mut front, &mut chains, *name, errors)?;
+            check_name(self.alloc, &mut front, &chains, *name, errors)?;
         }
         Ok(())
     }

@@ -3,6 +3,7 @@ ghost use Rattle.std.specs.Prelude.{◌≡◌, ◌++◌, ◌∷◌, [], map, IfO
 ghost use Rattle.logos_type.specs.TypeTrees.{type_tree};
 ghost use Rattle.logos_type_params.specs.SelfReference.{texts};
 ghost use Rattle.logos_type_params.specs.TypeParams.{limit_type_nesting};
+ghost use Rattle.logos_type_params.specs.Substitution.{param_value};
 ghost use Rattle.logos_type_params.specs.inside.Checks.{AsksName};
 
 use super::TypeParams;
@@ -17,14 +18,14 @@ use logos_type_reader::{TYPE_NESTING, TypeFault};
 
 /// Adds a name if it holds itself.
 fn add_held<'s>(
-    chains: &mut Chains<'_, 's>,
+    chains: &Chains<'_, 's>,
     text: &'s str,
     held: &mut IndexSet<&'s str>,
 ) -> Result<(), Memory>
-    ensures { OnOk result (AsksName chains.old text.now (texts held.old.keys)
-        chains.new (texts held.new.keys)) }
+    ensures { OnOk result (AsksName (map param_value chains.now.types.now.entries)
+        chains.now.held.items text.now (texts held.old.keys) (texts held.new.keys)) }
 {
-    if chains.lead_back(text)? {
+    if chains.lead_back(text) {
         held.insert(text)?;
     }
     Ok(())
@@ -51,18 +52,18 @@ impl<'s> TypeParams<'s> {
     ghost use Rattle.logos_type_params.specs.SelfReference.{texts};
     ghost use Rattle.logos_type_params.specs.WrittenTypes.{types_of, params_with, AreHeld, GetsType};
 
-    /// The names of the given types whose chain leads back to them: `get_type` is to leave these in place. The time grows as that of `check`. Only
+    /// The names of the given types whose chain leads back to them: `get_type` is to leave these in place. The time grows with the sizes of all types. Only
     /// want of memory is an error.
     pub fn held_names(&self) -> Result<IndexSet<&'s str>, Memory>
         ensures { IfOk result (λ held. AreHeld (types_of self.now) (texts held.keys)) }
     {
-        let mut chains = Chains::new(self.alloc, &self.types);
+        let chains = Chains::new(self.alloc, &self.types)?;
         let mut held = IndexSet::new(self.alloc);
         for at in 0..self.types.len() {
             let Some((text, _)) = self.types.get_index(at) else {
                 unreachable!();
             };
-            add_held(&mut chains, text, &mut held)?;
+            add_held(&chains, text, &mut held)?;
         }
         Ok(held)
     }

@@ -1,12 +1,25 @@
-use Rattle.logos_type.specs.Parts.{tree_of}
-use Rattle.logos_type_params.specs.SelfReference.{names, texts}
-use Rattle.logos_type_params.specs.inside.Chains.{params_in, free_of, IsReached}
-use Rattle.logos_type_params.proofs.ChainLemmas.{reached_on}
+use Rattle.std.proofs.Common.{map, sym, true≢false}
+use Rattle.std.proofs.lemmas.List.{at_drop_all}
+use Rattle.logos_type.specs.Parts.{tree_of, trees, none}
+use Rattle.logos_type.proofs.PartTrees.{tree-Whole}
+use Rattle.logos_type_params.specs.Substitution.{param_value}
+use Rattle.logos_type_params.specs.SelfReference.{names, some_names}
+use Rattle.logos_type_params.specs.inside.Chains.{Reaches}
+use Rattle.logos_type_params.proofs.ChainLemmas.{reaches_on, reaches_none}
 use Rattle.logos_type_params.proofs.self_reference.+reach.Goals as goal
 
 pub loop-part-preserved : goal.loop-part-preserved
 loop-part-preserved t c =
-    reached_on (params_in c.args.chains.now) (free_of c.args.chains.now)
-    (λ new. IsReached (params_in c.args.chains.now) (free_of c.args.chains.now) (names (tree_of c.args.part.now)) (texts c.args.reached.now.keys) new)
-    c.deref-part-items.result.now c.loop-part.part-index c.part-item.result (texts c.loop-part.reached.keys) (texts c.reach.new.reached.keys)
+    reaches_on (map param_value c.args.types.now.entries)
+    (λ new. Reaches (map param_value c.args.types.now.entries) (names (tree_of c.args.part.now)) c.args.reached.now.items new)
+    c.deref-part-items.result.now c.loop-part.part-index c.part-item.result c.loop-part.reached.items c.reach.new.reached.items
     c.loop-part.invariant c.loop-part-test.true c.part-item.is c.in_ok-reach-in-Whole.ensures
+
+pub loop-part-init : goal.loop-part-init
+loop-part-init t c = λ new h. rw (c.in-Whole.is, tree-Whole c.in-Whole.parts) (rw c.deref-part-items.ensures.value at h)
+
+pub returns-after-loop-part : goal.returns-after-loop-part
+returns-after-loop-part t c =
+    let rest = at_drop_all (λ ps. trees (map tree_of ps)) c.deref-part-items.result.now c.loop-part.part-index c.loop-part-test.false in
+    c.loop-part.invariant c.loop-part.reached.items
+    (rw rest (reaches_none (map param_value c.args.types.now.entries) (some_names none) c.loop-part.reached.items (λ text at held stands. absurd (true≢false (sym held)))))

@@ -11,16 +11,15 @@ pub loop-name-init : goal.loop-name-init
 loop-name-init c = record {
   front = [];
   fronts = rw c.new-front.ensures.empty (λ text. refl);
-  settled = c.new-chains.ensures;
   completes = λ faults h. h;
 }
 
 pub loop-name-preserved : goal.loop-name-preserved
 loop-name-preserved c =
     let first = at_drop_more (map named_of) c.deref-name-items.result.now c.loop-name.name-index (record { text = record { ref_ptr = (0, 0); now = [] }; span = record { from = 0; to = 0 } }) c.loop-name-test.true in
-    check_on (map param_value c.args.self.now.types.entries) (λ (faults : List Fault). AreChecked (map param_value c.args.self.now.types.entries) [] (map named_of c.deref-name-items.result.now) c.args.errors.now faults)
-    _ _ _ c.loop-name.front.keys c.check_name.new.front.keys c.loop-name.chains c.check_name.new.chains c.loop-name.errors c.check_name.new.errors
-    c.loop-name.invariant first c.in_ok-check_name.ensures
+    check_on (map param_value c.args.self.now.types.entries) c.in_ok-chains.chains.held.items (λ (faults : List Fault). AreChecked (map param_value c.args.self.now.types.entries) [] (map named_of c.deref-name-items.result.now) c.args.errors.now faults)
+    _ _ _ c.loop-name.front.keys c.check_name.new.front.keys c.loop-name.errors c.check_name.new.errors
+    c.loop-name.invariant first (rw c.in_ok-chains.ensures.types at c.in_ok-check_name.ensures) c.in_ok-chains.ensures.marks
 
 pub returns : goal.returns
 returns c =

@@ -9,10 +9,10 @@ use Rattle.logos_type_params.proofs.type_params.TypeParams.held_names.Goals as g
 pub loop-at-preserved : goal.loop-at-preserved
 loop-at-preserved c =
     let first = names_front c.args.self.now.types.entries c.loop-at.at (c.in-Some.text.now, c.in-Some.field-0-1.now) (sym c.in-Some.ensures.entry) in
-    let asked = c.in_ok-add_held.ensures (map param_value c.args.self.now.types.entries) c.loop-at.invariant.1 in
-    (asked_on (map param_value c.args.self.now.types.entries) c.in-Some.text.now.now _ _ (texts c.loop-at.held.keys) (texts c.add_held.new.held.keys) c.loop-at.invariant.0 first asked.0, asked.1)
+    let asked = rw c.in_ok-chains.ensures.types at c.in_ok-add_held.ensures in
+    asked_on (map param_value c.args.self.now.types.entries) c.in-Some.text.now.now _ _ (texts c.loop-at.held.keys) (texts c.add_held.new.held.keys) c.loop-at.invariant first (asked c.in_ok-chains.ensures.marks)
 
 pub returns : goal.returns
 returns c =
     let none = at_drop_all (λ es. given_names (map param_value es)) c.args.self.now.types.entries c.loop-at.at (rw (sym c.len-at-end.ensures.len) c.loop-at-test.false) in
-    asked_all (map param_value c.args.self.now.types.entries) _ (texts c.loop-at.held.keys) c.loop-at.invariant.0 none
+    asked_all (map param_value c.args.self.now.types.entries) _ (texts c.loop-at.held.keys) c.loop-at.invariant none

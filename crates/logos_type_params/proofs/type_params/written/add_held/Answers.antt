@@ -1,11 +1,13 @@
+use Rattle.std.proofs.Common.{map}
+use Rattle.logos_type_params.specs.Substitution.{param_value}
 use Rattle.logos_type_params.specs.SelfReference.{texts}
 use Rattle.logos_type_params.proofs.SettledLemmas.{asks_held, asks_free}
 use Rattle.logos_type_params.proofs.type_params.written.add_held.Goals as goal
 
 pub returns-in_ok-insert : goal.returns-in_ok-insert
 returns-in_ok-insert c =
-    asks_held c.args.chains.now c.lead_back.new.self c.args.text c.in_ok-lead_back.field-0 c.args.held.now.keys c.insert.new.self.keys c.if-branch.true c.in_ok-lead_back.ensures c.in_ok-insert.ensures.keys
+    asks_held (map param_value c.args.chains.now.types.now.entries) c.args.chains.now.held.items c.args.text c.lead_back.result c.args.held.now.keys c.insert.new.self.keys c.if-lead_back.true c.lead_back.ensures c.in_ok-insert.ensures.keys
 
-pub returns-else-branch : goal.returns-else-branch
-returns-else-branch c =
-    asks_free c.args.chains.now c.lead_back.new.self c.args.text.now c.in_ok-lead_back.field-0 (texts c.args.held.now.keys) c.if-branch.false c.in_ok-lead_back.ensures
+pub returns-else-lead_back : goal.returns-else-lead_back
+returns-else-lead_back c =
+    asks_free (map param_value c.args.chains.now.types.now.entries) c.args.chains.now.held.items c.args.text.now c.lead_back.result (texts c.args.held.now.keys) c.if-lead_back.false c.lead_back.ensures
