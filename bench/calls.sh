@@ -1,7 +1,7 @@
 #!/usr/bin/env bash
 # Measures public calls that the other scripts do not, each on a large text and on one of half its size, and prints a table: the seconds
 # of the call alone, how much it gave (bytes, tokens, pieces, items, parts or tables), and the most memory that the program used, its text
-# included. Of three runs the fastest counts.
+# included. Each row is one run.
 #
 # It needs python3. The program of bench/calls is built in a copy of the repository as `rt run` builds it, so the crates are
 # proved first, where they are not already. Its sources do not end in .rt here, since the gate refuses such files
@@ -37,9 +37,7 @@ measure() {
     local size
     for size in $(($4 / 2)) "$4"; do
         python3 "$bench/calls/source.py" "$3" "$size" > "$copy/text"
-        for _ in 1 2 3; do
-            "$crate/out/calls_bench" "$2" "$copy/text"
-        done | sort -n | head -n 1 | awk -v name="$1, $size" '{
+        "$crate/out/calls_bench" "$2" "$copy/text" | awk -v name="$1, $size" '{
             printf "| %s | %.3f | %s | %.0f |\n", name, $1, $2, $3 / 1024
         }'
     done
@@ -74,6 +72,11 @@ measure "\`Parser::read_logos\`, bytes of \`skip\`" read_logos 'skip "a", ' $byt
 measure "\`Parser::read_logos\`, bytes of commas" read_logos "," 5000000
 measure "\`Parser::parse_definition\`, bytes of priorities" parse_definition definition $bytes
 measure "\`IgnoreFlags::parse_group\`, bytes of \`case,\`" flags "case, " $bytes
+measure "\`Definition::named_attr\`, bytes of priorities" definition_attr priorities $bytes
+measure "\`ErrorType::named_attr\`, bytes of callbacks" error_attr callbacks $bytes
+measure "\`Parser::parse_generic\`, parameters" parse_generic parameters 100000
+measure "\`TypeParams::explicit_lifetime\`, lifetimes" explicit_lifetime faults 2000000
+measure "\`TypeParams::find\`, bytes of \`u8,\`" find type 4000000
 measure "\`print_type\`, bytes of \`&'a u8,\`" print_type tuple $bytes
 measure "\`print_type\`, bytes of 120 levels" print_type levels $bytes
 measure "\`TypeExpr::clone\`, bytes of 120 levels" type_clone levels $bytes
