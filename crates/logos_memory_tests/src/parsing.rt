@@ -25,7 +25,10 @@ pub fn parse_attributes<'s>(
     item: &ItemEnum<'_, 's>,
 ) -> Result<(), Memory> {
     let mut rest = item.attributes;
-    while let Some((attribute, behind)) = split_attribute(rest) {
+    for _ in 0..u64::MAX {
+        let Some((attribute, behind)) = split_attribute(rest) else {
+            return Ok(());
+        };
         parser.try_parse_logos(attribute)?;
         rest = behind;
     }
