@@ -69,11 +69,17 @@ KINDS = {
     "parameters": lambda size: "enum E<" + ", ".join(f"T{k}" for k in range(size)) + "> {}",
     "type": lambda size: "(" + times("u8, ", size - 2) + ")",
     "tuple": lambda size: field(times("&'a u8, ", size)),
-    "levels": lambda size: field(times("&" * 120 + "u8, ", size)),
+    "levels": lambda size: field(times("&" * 126 + "u8, ", size)),
     "named": lambda size: " ".join(f"T{k}" for k in range(size)),
     "said": lambda size: "#[logos(" + ", ".join(f'skip "a{k}"' for k in range(size)) + ')] enum E { #[token("b")] A }',
     "said_commas": lambda size: "#[logos(" + times(",", size) + ')] enum E { #[token("b")] A }',
     "one_literal": lambda size: 'enum E { #[token("' + times("a", size) + '")] A }',
+    "logos_attributes": lambda size: times('#[logos(skip "a")] ', size) + "enum E {}",
+    "attribute": lambda size: 'enum E { #[token("a", ' + times("priority = 3, ", size) + ")] A }",
+    "leaf_levels": lambda size: 'enum E { #[token("a")] A((' + times("&" * 126 + "u8, ", size) + ")) }",
+    "label": lambda size: 'enum E { #[token("a", ' + times("a::", size) + "a)] A }",
+    "inline": lambda size: 'enum E { #[token("a", |x| { ' + times("+", size) + " })] A }",
+    "error_type": lambda size: "#[logos(error = (" + times("u8, ", size) + '))] enum E { #[token("a")] A }',
     "equal_tokens": lambda size: "enum E {" + '#[token("a")] A, ' * size + "}",
 }
 
