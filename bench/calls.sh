@@ -18,7 +18,7 @@ for crate in "$bench"/../crates/*/out; do
     cp -R "$crate" "$copy/crates/$name/out"
 done
 libraries=$(grep '^logos_[a-z_]*:' "$copy/crates.txt" | cut -d: -f1 | grep -v -e _tests -e _commands -e _program | tr '\n' ' ')
-echo "calls_bench: $libraries" >> "$copy/crates.txt"
+echo "calls_bench: indexmap $libraries" >> "$copy/crates.txt"
 crate="$copy/crates/calls_bench"
 mkdir -p "$crate/src" "$crate/specs" "$crate/proofs"
 touch "$crate/specs/Lib.antt" "$crate/proofs/Lib.antt"
