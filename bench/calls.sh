@@ -26,6 +26,8 @@ for file in "$bench"/calls/*.rt.in; do
     name=${file##*/}
     cp "$file" "$crate/src/${name%.in}"
 done
+mkdir -p "$crate/proofs/pieces/forked"
+cp "$bench/calls/forked.antt.in" "$crate/proofs/pieces/forked/Answers.antt"
 echo '+' > "$copy/text"
 if ! (cd "$crate" && rt run -- print "$copy/text") > "$copy/log" 2>&1; then
     tail -n 30 "$copy/log" >&2
@@ -146,7 +148,6 @@ measure "\`Generated::text\`, states" whole states 60000
 measure "\`get_mermaid\`, states" mermaid states 60000
 measure "\`telling\` of all neighbours, states" telling states 8000
 measure "\`render_luts\`, states with sets of bytes" tables classes 8000
-measure "\`dfa::build\`, states" build states 60000
 measure "\`Dfa::next_state\` by each byte, for each of the states" next_state states 60000
 measure "\`Dfa::next_eoi_state\`, for each of the states" next_eoi_state states 60000
 measure "\`Dfa::iter_matches\`, for each of the states" iter_matches states 60000
