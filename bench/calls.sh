@@ -39,8 +39,8 @@ measure() {
     local size
     for size in $(($4 / 2)) "$4"; do
         python3 "$bench/calls/source.py" "$3" "$size" > "$copy/text"
-        "$crate/out/calls_bench" "$2" "$copy/text" | awk -v name="$1, $size" '{
-            printf "| %s | %.3f | %s | %.0f |\n", name, $1, $2, $3 / 1024
+        "$crate/out/calls_bench" "$2" "$copy/text" | name="$1, $size" awk '{
+            printf "| %s | %.3f | %s | %.0f |\n", ENVIRON["name"], $1, $2, $3 / 1024
         }'
     done
 }

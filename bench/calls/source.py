@@ -9,6 +9,11 @@ def times(text, size):
     return text * (size // len(text))
 
 
+def around(before, text, behind, size):
+    """The text, again and again, with others around it, up to so many bytes."""
+    return before + times(text, size - len(before) - len(behind)) + behind
+
+
 def types(size, of):
     """An enum with so many parameters, with the type of each and a field with all of them."""
     given = ", ".join(f"type T{k} = {of(k)}" for k in range(size))
@@ -22,9 +27,9 @@ def subpatterns(size, of, leaf):
     return f'#[logos({said})] enum E {{ #[regex("{leaf}")] A }}'
 
 
-def field(text):
-    """An enum with one field of this type."""
-    return f"enum E {{ A(({text})) }}"
+def field(text, size):
+    """An enum with one field, a tuple of this type again and again."""
+    return around("enum E { A((", text, ")) }", size)
 
 
 def many_classes(size):
@@ -39,10 +44,10 @@ KINDS = {
     "punctuation": lambda size: times("+", size),
     "docs": lambda size: times("/// a\n", size),
     "faults": lambda size: times("x", size),
-    "escapes": lambda size: '"' + times("\\n", size - 2) + '"',
-    "continued": lambda size: '"' + times("\\\n  ", size - 2) + '"',
-    "dots": lambda size: '"' + times(".", size - 2) + '"',
-    "bytes": lambda size: 'b"' + times("\\xFF", size - 3) + '"',
+    "escapes": lambda size: around('"', "\\n", '"', size),
+    "continued": lambda size: around('"', "\\\n  ", '"', size),
+    "dots": lambda size: around('"', ".", '"', size),
+    "bytes": lambda size: around('b"', "\\xFF", '"', size),
     "commas": lambda size: times(", ", size),
     "names": lambda size: times("a,", size),
     "values": lambda size: times("a = b,", size),
@@ -52,34 +57,34 @@ KINDS = {
     "deep": lambda size: types(size, lambda k: "&" * 60 + "u8"),
     "chain_of_types": lambda size: types(size, lambda k: f"Vec<T{k + 1}>" if k + 1 < size else "u8"),
     "doubling": lambda size: types(size, lambda k: f"(T{k + 1}, T{k + 1})" if k + 1 < size else "u8"),
-    "field": lambda size: '#[logos(type T = Vec<u8>)] enum E<T> { #[token("a")] A((' + times("T,", size) + ")) }",
+    "field": lambda size: around('#[logos(type T = Vec<u8>)] enum E<T> { #[token("a")] A((', "T,", ")) }", size),
     "chain": lambda size: subpatterns(size, lambda k: f"(?&p{k - 1})" if k else "a", "a"),
     "star": lambda size: subpatterns(size, lambda k: "(?&p0)" if k else "a", "a"),
-    "uses": lambda size: '#[logos(subpattern p = "a")] enum E { #[regex("' + times("(?&p)", size) + '")] A }',
-    "variants": lambda size: "enum E {" + times('#[token("a")] A, ', size) + "}",
-    "derive": lambda size: "#[derive(" + times("Logos, ", size) + ")] enum E {}",
+    "uses": lambda size: around('#[logos(subpattern p = "a")] enum E { #[regex("', "(?&p)", '")] A }', size),
+    "variants": lambda size: around("enum E {", '#[token("a")] A, ', "}", size),
+    "derive": lambda size: around("#[derive(", "Logos, ", ")] enum E {}", size),
     "words": lambda size: times("abc de ", size),
     "plus": lambda size: times("+", size),
     "states": lambda size: f'enum E {{ #[regex("a{{{size}}}")] A }}',
     "classes": many_classes,
     "captures": lambda size: "".join(f"(?P<n{k}>a)" for k in range(size)),
-    "definition": lambda size: '"a", ' + times("priority = 3, ", size),
+    "definition": lambda size: around('"a", ', "priority = 3, ", "", size),
     "priorities": lambda size: times("priority = 3, ", size),
     "callbacks": lambda size: times("callback = f, ", size),
     "parameters": lambda size: "enum E<" + ", ".join(f"T{k}" for k in range(size)) + "> {}",
-    "type": lambda size: "(" + times("u8, ", size - 2) + ")",
-    "tuple": lambda size: field(times("&'a u8, ", size)),
-    "levels": lambda size: field(times("&" * 126 + "u8, ", size)),
+    "type": lambda size: around("(", "u8, ", ")", size),
+    "tuple": lambda size: field("&'a u8, ", size),
+    "levels": lambda size: field("&" * 126 + "u8, ", size),
     "named": lambda size: " ".join(f"T{k}" for k in range(size)),
     "said": lambda size: "#[logos(" + ", ".join(f'skip "a{k}"' for k in range(size)) + ')] enum E { #[token("b")] A }',
-    "said_commas": lambda size: "#[logos(" + times(",", size) + ')] enum E { #[token("b")] A }',
-    "one_literal": lambda size: 'enum E { #[token("' + times("a", size) + '")] A }',
-    "logos_attributes": lambda size: times('#[logos(skip "a")] ', size) + "enum E {}",
-    "attribute": lambda size: 'enum E { #[token("a", ' + times("priority = 3, ", size) + ")] A }",
-    "leaf_levels": lambda size: 'enum E { #[token("a")] A((' + times("&" * 126 + "u8, ", size) + ")) }",
-    "label": lambda size: 'enum E { #[token("a", ' + times("a::", size) + "a)] A }",
-    "inline": lambda size: 'enum E { #[token("a", |x| { ' + times("+", size) + " })] A }",
-    "error_type": lambda size: "#[logos(error = (" + times("u8, ", size) + '))] enum E { #[token("a")] A }',
+    "said_commas": lambda size: around("#[logos(", ",", ')] enum E { #[token("b")] A }', size),
+    "one_literal": lambda size: around('enum E { #[token("', "a", '")] A }', size),
+    "logos_attributes": lambda size: around("", '#[logos(skip "a")] ', "enum E {}", size),
+    "attribute": lambda size: around('enum E { #[token("a", ', "priority = 3, ", ")] A }", size),
+    "leaf_levels": lambda size: around('enum E { #[token("a")] A((', "&" * 126 + "u8, ", ")) }", size),
+    "label": lambda size: around('enum E { #[token("a", ', "a::", "a)] A }", size),
+    "inline": lambda size: around('enum E { #[token("a", |x| { ', "+", " })] A }", size),
+    "error_type": lambda size: around("#[logos(error = (", "u8, ", '))] enum E { #[token("a")] A }', size),
     "equal_tokens": lambda size: "enum E {" + '#[token("a")] A, ' * size + "}",
 }
 
