@@ -1,0 +1,91 @@
+"""Checks of a crate in a copy of the checkout."""
+
+import os
+import re
+import shutil
+import subprocess
+from dataclasses import dataclass, field
+from pathlib import Path
+
+PARTS = ('src', 'specs', 'proofs', 'c')
+FUNCTION = re.compile(r'fn (\S+): (.*)')
+PLACE = re.compile(r'(?:\./)?(src/\S+?):(\d+):\d+: (.*)')
+CALLS = re.compile(r'no proof: it calls .*, which (?:is|are) not proved')
+
+
+@dataclass
+class Outcome:
+    """What a check printed: of each function by its path whether it is proved, and the places in sources at which something was said."""
+
+    status: int
+    output: str
+    functions: dict = field(default_factory=dict)
+    places: list = field(default_factory=list)
+
+    @property
+    def has_judged(self):
+        return bool(self.functions)
+
+
+def outcome_of(status, output):
+    outcome = Outcome(status, output)
+    for line in output.split('\n'):
+        function, place = FUNCTION.fullmatch(line), PLACE.match(line.removeprefix('note: '))
+        if function:
+            outcome.functions[function[1]] = function[2]
+        if place:
+            outcome.places.append((place[1], int(place[2]), place[3]))
+    return outcome
+
+
+def link_or_copy(one, other):
+    """Gives kept work that a check replaces and does not change a second name, and copies the rest."""
+    try:
+        if one.endswith('.oantt'):
+            return os.link(one, other)
+    except OSError:
+        pass
+    return shutil.copy2(one, other)
+
+
+class Copy:
+    """A copy of the checkout's texts, in which one crate is checked with some of its texts changed."""
+
+    def __init__(self, root: Path, crate, room: Path):
+        self.crate, self.room = root / 'crates' / crate, room
+        self.folder, self.seed = room / 'crates' / crate, room / 'seed'
+        for name in ('crates.txt', 'HANDLES'):
+            if (root / name).is_file():
+                shutil.copy2(root / name, room / name)
+        for one in (root / 'crates').iterdir():
+            for part in PARTS:
+                if (one / part).is_dir():
+                    shutil.copytree(one / part, room / 'crates' / one.name / part)
+
+    def check(self):
+        words = ['rt', 'check', '--jobs', '1']
+        how = {'stdin': subprocess.DEVNULL, 'stdout': subprocess.PIPE, 'stderr': subprocess.STDOUT, 'text': True, 'errors': 'replace'}
+        done = subprocess.run(words, cwd=self.folder, check=False, **how)
+        return outcome_of(done.returncode, done.stdout)
+
+    def check_as_it_stands(self):
+        """Whether the crate is proved as it stands, and what its check printed. What that kept is where each later check begins."""
+        outcome = self.check()
+        kept = self.folder / 'out' / 'incremental'
+        if outcome.status == 0 and kept.is_dir():
+            shutil.copytree(kept, self.seed, symlinks=True, copy_function=link_or_copy)
+        return outcome.status == 0, outcome
+
+    def check_with(self, texts):
+        """What a check says of the crate with these texts."""
+        kept = self.folder / 'out' / 'incremental'
+        if self.seed.is_dir():
+            shutil.rmtree(kept, ignore_errors=True)
+            shutil.copytree(self.seed, kept, symlinks=True, copy_function=link_or_copy)
+        for path, text in texts.items():
+            (self.folder / path).write_text(text, encoding='utf-8')
+        try:
+            return self.check()
+        finally:
+            for path in texts:
+                shutil.copy2(self.crate / path, self.folder / path)

@@ -1,0 +1,112 @@
+"""The checks of a crate in which each of its bodies comes to a verdict."""
+
+from bodies import texts_with, together
+from checks import CALLS
+
+REFUSED, ACCEPTED, NOT_TRIED = 'refused', 'accepted', 'not tried'
+
+
+def of_function(outcome, function):
+    """What a check says of a function: a verdict and its words, or None where it says nothing of the function itself."""
+    said = [words for path, words in outcome.functions.items() if function.is_at(path)]
+    wrong = [it for it in said if it != 'proved' and not CALLS.fullmatch(it)]
+    errors = [words for file, line, words in outcome.places if function.has_line(file, line) and words.startswith('error')]
+    if wrong or (errors and outcome.has_judged):
+        return REFUSED, (wrong or errors)[0]
+    if said and all(it == 'proved' for it in said):
+        return ACCEPTED, 'its function is proved'
+    return None
+
+
+def of_body(outcome, body):
+    """What a check says of a body in it: the verdict on one of its functions, or None where it says nothing."""
+    found = [it for it in (of_function(outcome, function) for function in body.functions) if it]
+    refused = [it for it in found if it[0] == REFUSED]
+    if refused:
+        return refused[0]
+    return found[0] if found and len(found) == len(body.functions) else None
+
+
+def of_whole(outcome):
+    """What a check says of the one body in it, if that lies in no function: any goal that stays open refuses it."""
+    if outcome.status == 0:
+        return ACCEPTED, 'the crate is proved'
+    wrong = [words for words in outcome.functions.values() if words != 'proved' and not CALLS.fullmatch(words)]
+    return (REFUSED, wrong[0]) if wrong else None
+
+
+def last_words(outcome):
+    """The line of a check that says best why it came to nothing."""
+    lines = [it for it in outcome.output.split('\n') if it.strip()]
+    wrong = [it for it in lines if 'error' in it]
+    return (wrong or lines or [f'status {outcome.status}'])[0][:300]
+
+
+class Rounds:
+    """Tries the bodies of a crate, as many in a check as can be told apart, until each has a verdict."""
+
+    def __init__(self, copy, folder, bodies, keep):
+        self.copy, self.folder, self.bodies, self.keep = copy, folder, bodies, keep
+        self.count, self.verdicts = 0, {}
+
+    def run(self):
+        """The verdict on each body, by its label."""
+        for body in self.bodies:
+            if body.fault:
+                self.settle(body, (NOT_TRIED, body.fault))
+        is_proved, outcome = self.copy.check_as_it_stands()
+        if not is_proved:
+            for body in self.left(self.bodies):
+                self.settle(body, (NOT_TRIED, f'the crate is not proved as it stands: {last_words(outcome)}'))
+        self.try_many([it for it in self.left(self.bodies) if it.functions])
+        for body in self.left(self.bodies):
+            self.try_alone(body)
+        return self.verdicts
+
+    def left(self, bodies):
+        return [it for it in bodies if it.label not in self.verdicts]
+
+    def settle(self, body, verdict):
+        self.verdicts[body.label] = verdict
+
+    def check(self, bodies):
+        """What a check says of the crate with these bodies."""
+        outcome = self.copy.check_with(texts_with(self.folder, bodies))
+        self.count += 1
+        if self.keep:
+            names = ' '.join(it.name for it in bodies)
+            (self.keep / f'{self.folder.name}.{self.count}').write_text(f'{names}\n{outcome.output}', encoding='utf-8')
+        return outcome
+
+    def try_many(self, bodies):
+        """Tries bodies together as long as each check gives a verdict on one of them; those that do not compile are left."""
+        while len(bodies) > 1:
+            chosen = together(bodies)
+            outcome = self.check(chosen)
+            if outcome.has_judged:
+                settled = self.judge(outcome, chosen)
+            else:
+                settled = self.not_compiled(outcome, chosen)
+            if not settled:
+                return
+            bodies = [it for it in bodies if it not in settled]
+
+    def judge(self, outcome, bodies):
+        """Settles the bodies on which a check gives a verdict, and gives these."""
+        found = {it.label: of_body(outcome, it) for it in bodies}
+        settled = [it for it in bodies if found[it.label]]
+        for body in settled:
+            self.settle(body, found[body.label])
+        return settled
+
+    def not_compiled(self, outcome, bodies):
+        """The bodies in whose functions a check that proved nothing found an error."""
+        places = [(file, line) for file, line, _ in outcome.places]
+        return [it for it in bodies if any(function.has_line(*place) for function in it.functions for place in places)]
+
+    def try_alone(self, body):
+        outcome = self.check([body])
+        verdict = of_body(outcome, body) if body.functions else of_whole(outcome)
+        if not verdict and outcome.status == 0:
+            verdict = ACCEPTED, 'the crate is proved'
+        self.settle(body, verdict or (NOT_TRIED, last_words(outcome)))
