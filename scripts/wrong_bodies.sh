@@ -17,4 +17,4 @@ set -euo pipefail
 
 scripts=$(cd "$(dirname "${BASH_SOURCE[0]}")" && pwd)
 export PYTHONDONTWRITEBYTECODE=1
-exec python3 "$scripts/wrong_bodies/main.py" "$(dirname "$scripts")" "$@"
+exec python3 "$scripts/wrong_bodies/main.py" "$@"

@@ -13,6 +13,7 @@ from bodies import BadPage, bodies_of
 from checks import Copy
 from rounds import ACCEPTED, NOT_TRIED, REFUSED, Rounds
 
+ROOT = Path(__file__).resolve().parents[2]
 WRITING = threading.Lock()
 
 
@@ -27,16 +28,15 @@ def cores():
 
 def words_of(argv):
     parser = argparse.ArgumentParser(prog='wrong_bodies.sh', allow_abbrev=False)
-    parser.add_argument('root', type=Path)
     parser.add_argument('crates', nargs='*', metavar='CRATE')
     parser.add_argument('--jobs', type=int, default=min(3, cores()), help='how many crates are tried side by side')
     parser.add_argument('--keep', type=Path, help='a folder for what each check printed')
     return parser.parse_args(argv)
 
 
-def pages_of(root, names):
+def pages_of(names):
     """The folders of the crates that are named, or of all, that have a page of bodies, largest page first."""
-    folders = [it.parent.parent for it in (root / 'crates').glob('*/must-fail/others.md')]
+    folders = [it.parent.parent for it in (ROOT / 'crates').glob('*/must-fail/others.md')]
     lacking = [it for it in names if it not in [folder.name for folder in folders]]
     if lacking:
         raise BadPage(f'{lacking[0]} has no page must-fail/others.md')
@@ -44,11 +44,11 @@ def pages_of(root, names):
     return sorted(folders, key=lambda it: (it / 'must-fail' / 'others.md').stat().st_size, reverse=True)
 
 
-def try_crate(root, folder, bodies, keep):
+def try_crate(folder, bodies, keep):
     """The verdict on each body of a crate, with what is to be said of it."""
     begun = time.monotonic()
     with tempfile.TemporaryDirectory(prefix='wrong-bodies-') as room:
-        rounds = Rounds(Copy(root, folder.name, Path(room)), folder, bodies, keep)
+        rounds = Rounds(Copy(ROOT, folder.name, Path(room)), folder, bodies, keep)
         verdicts = rounds.run()
     count = sum(kind == REFUSED for kind, _ in verdicts.values())
     say(f'{folder.name}: {count} of {len(bodies)} refused, in {rounds.count} checks and {time.monotonic() - begun:.0f} s')
@@ -70,13 +70,13 @@ def main(argv):
     if given.keep:
         given.keep.mkdir(parents=True, exist_ok=True)
     try:
-        pages = [(folder, bodies_of(folder)) for folder in pages_of(given.root, given.crates)]
+        pages = [(folder, bodies_of(folder)) for folder in pages_of(given.crates)]
     except (BadPage, OSError) as error:
         print(f'wrong_bodies: {error}', file=sys.stderr)
         return 2
     verdicts = {}
     with ThreadPoolExecutor(max(1, given.jobs)) as pool:
-        tasks = [pool.submit(try_crate, given.root, folder, bodies, given.keep) for folder, bodies in pages]
+        tasks = [pool.submit(try_crate, folder, bodies, given.keep) for folder, bodies in pages]
         for task in tasks:
             verdicts.update(task.result())
     return tell(verdicts)
