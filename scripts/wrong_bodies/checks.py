@@ -9,32 +9,41 @@ from pathlib import Path
 
 PARTS = ('src', 'specs', 'proofs', 'c')
 FUNCTION = re.compile(r'fn (\S+): (.*)')
-PLACE = re.compile(r'(?:\./)?(src/\S+?):(\d+):\d+: (.*)')
-CALLS = re.compile(r'no proof: it calls .*, which (?:is|are) not proved')
+PLACE = re.compile(r'(?:note: )?(?:\./)?(src/\S+?):(\d+):\d+: (.*)')
+PROOF = re.compile(r'(?:\./)?(proofs/\S+?):\d+:\d+: error: (.*)')
 
 
 @dataclass
 class Outcome:
-    """What a check printed: of each function by its path whether it is proved, and the places in sources at which something was said."""
+    """What a check printed: of each function by its path whether it is proved, what was said at places in sources, and the errors in proofs."""
 
     status: int
     output: str
     functions: dict = field(default_factory=dict)
     places: list = field(default_factory=list)
+    proofs: list = field(default_factory=list)
 
     @property
     def has_judged(self):
         return bool(self.functions)
 
 
+    def errors_in_proof(self, path):
+        """The errors in the proof files of a function."""
+        folder = '/'.join(['proofs', *path.split('::')[1:], ''])
+        return [words for file, words in self.proofs if file.startswith(folder)]
+
+
 def outcome_of(status, output):
     outcome = Outcome(status, output)
     for line in output.split('\n'):
-        function, place = FUNCTION.fullmatch(line), PLACE.match(line.removeprefix('note: '))
+        function, place, proof = (it.match(line) for it in (FUNCTION, PLACE, PROOF))
         if function:
             outcome.functions[function[1]] = function[2]
         if place:
             outcome.places.append((place[1], int(place[2]), place[3]))
+        if proof:
+            outcome.proofs.append((proof[1], proof[2]))
     return outcome
 
 

@@ -1,19 +1,31 @@
 """The checks of a crate in which each of its bodies comes to a verdict."""
 
+import re
+
 from bodies import texts_with, together
-from checks import CALLS
 
 REFUSED, ACCEPTED, NOT_TRIED = 'refused', 'accepted', 'not tried'
+# A function that is not proved as another one is not.
+WAITS = re.compile(r'no proof: it (?:calls|passes)')
+
+
+def failure_of(outcome, path, words):
+    """Why a function is not proved, if that is by its own body; what is said of it where it only calls what is not proved is no such reason."""
+    if words == 'proved' or WAITS.match(words):
+        return None
+    if words != 'not proved':
+        return words
+    return next((it for it in outcome.errors_in_proof(path) if 'was not admitted' not in it), None)
 
 
 def of_function(outcome, function):
     """What a check says of a function: a verdict and its words, or None where it says nothing of the function itself."""
-    said = [words for path, words in outcome.functions.items() if function.is_at(path)]
-    wrong = [it for it in said if it != 'proved' and not CALLS.fullmatch(it)]
+    said = {path: words for path, words in outcome.functions.items() if function.is_at(path)}
+    wrong = [it for it in (failure_of(outcome, path, words) for path, words in said.items()) if it]
     errors = [words for file, line, words in outcome.places if function.has_line(file, line) and words.startswith('error')]
     if wrong or (errors and outcome.has_judged):
         return REFUSED, (wrong or errors)[0]
-    if said and all(it == 'proved' for it in said):
+    if said and all(it == 'proved' for it in said.values()):
         return ACCEPTED, 'its function is proved'
     return None
 
@@ -31,7 +43,7 @@ def of_whole(outcome):
     """What a check says of the one body in it, if that lies in no function: any goal that stays open refuses it."""
     if outcome.status == 0:
         return ACCEPTED, 'the crate is proved'
-    wrong = [words for words in outcome.functions.values() if words != 'proved' and not CALLS.fullmatch(words)]
+    wrong = [it for it in (failure_of(outcome, path, words) for path, words in outcome.functions.items()) if it]
     return (REFUSED, wrong[0]) if wrong else None
 
 
