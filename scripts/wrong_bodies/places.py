@@ -9,8 +9,9 @@ IMPL = re.compile(r'impl\b(.*)')
 
 @dataclass(frozen=True)
 class Function:
-    """A function, as it is named in what the prover prints: its module, the type and the trait of its `impl`, its name."""
+    """A function as it stands in a file: its crate and module, the type of its `impl`, with the trait if there is one, its name, and its lines."""
 
+    crate: str
     module: str
     owner: str
     name: str
@@ -19,10 +20,10 @@ class Function:
     last_line: int
 
     def is_at(self, path):
-        """Whether the prover's path names this function, or a closure in it."""
-        inner = rf'{self.owner}\w*::' if self.owner else ''
-        inside = re.escape(self.module)
-        return re.fullmatch(rf'{inside}::{inner}{self.name}|{inside}::fn::{inner}{self.name}::.*', path) is not None
+        """Whether the prover's path names this function, or a closure in it. A method is named by the module of its type."""
+        before = rf'{self.crate}::(?:\w+::)*' if self.owner else f'{self.module}::'
+        name = f'{self.owner}::{self.name}' if self.owner else self.name
+        return re.fullmatch(rf'{before}{name}|{before}fn::{name}::.*', path) is not None
 
     def has_line(self, file, line):
         return file == self.file and self.first_line <= line <= self.last_line
@@ -42,12 +43,12 @@ def without_angles(text):
 
 
 def owner_of(header):
-    """How the prover names what an `impl` is for: the type, and then the trait, if there is one."""
+    """How the prover names what an `impl` is for, as a pattern: the type, and then the trait, if there is one, with what that is given."""
     words = without_angles(header).split('{')[0].split()
     last = [it.split('::')[-1] for it in words]
     if 'for' in last:
         at = last.index('for')
-        return last[at + 1] + last[at - 1]
+        return rf'{last[at + 1]}{last[at - 1]}\w*'
     return last[0]
 
 
@@ -69,7 +70,6 @@ def function_at(folder, file, offset):
     if not file.startswith('src/'):
         return None
     lines, at, owner, found = text.split('\n'), text.count('\n', 0, offset), '', None
-    # A text that begins with a line's end belongs to the next line.
     for number, line in enumerate(lines[: at + 1]):
         begins, ends = IMPL.match(line), line.startswith('}')
         function = FUNCTION.match(line)
@@ -79,5 +79,5 @@ def function_at(folder, file, offset):
             owner = ''
         if function:
             last = last_line_of(lines, number, function[1])
-            found = Function(module_of(folder.name, file), owner if function[1] else '', function[2], file, number + 1, last + 1)
+            found = Function(folder.name, module_of(folder.name, file), owner if function[1] else '', function[2], file, number + 1, last + 1)
     return found if found and at < found.last_line else None
