@@ -1,7 +1,7 @@
 -- What the laws of the definitions say.
 use Rattle.std.specs.Prelude.{◌≡◌, ℕ, ◌↔◌, Bool, true, IsCharBoundary, List, map}
 use Rattle.std.specs.List.{All}
-use Rattle.logos_hir.specs.Measure.{is_text}
+use Rattle.logos_measures.specs.Measure.{is_text}
 use Rattle.logos_automaton.specs.Munch.{Rule}
 use Rattle.logos_graph.specs.Found.{FindsTheLongest, IsInput}
 use Rattle.logos_graph.specs.View.{GraphValue, rule_of, rules_of}
