@@ -3,10 +3,10 @@ use Rattle.std.proofs.Common.{true≢false, eqb-true, length, drop, get_or, add-
 use Rattle.std.proofs.lemmas.Bool.Decides.{nat_tests}
 use Rattle.std.proofs.Math.ListN.{drop_of_length-le}
 use Rattle.std.proofs.lemmas.List.{get_or_default}
-use Rattle.logos_places.specs.ByteRanges.{is_in}
+use Rattle.logos_hir.specs.ByteRanges.{is_in}
 use Rattle.std.specs.Range.{range_inclusive_start, range_inclusive_end}
 use Rattle.std.specs.declared.ops.RangeInclusive.{RangeInclusive}
-use Rattle.logos_graph.specs.Bytes.{bounds, AreSeparatedFrom, Comparison, compares, some_compares, is_among, join, joined}
+use Rattle.logos_byte_class.specs.Bytes.{bounds, AreSeparatedFrom, Comparison, compares, some_compares, is_among, join, joined}
 
 -- A comparison that is begun, in front of comparisons: the first one is joined to it if just one byte lies between them.
 abbrev pub join_to : ℕ → ℕ → List ℕ → List Comparison → List Comparison

@@ -3,9 +3,9 @@ use Rattle.std.specs.Prelude.{ℕ, ◌+◌, ◌≤◌, Bool, not, ◌&&◌, List
 use Rattle.std.specs.List.{list_any}
 use Rattle.std.specs.Range.{range_inclusive_start, range_inclusive_end}
 use Rattle.std.specs.declared.ops.RangeInclusive.{RangeInclusive}
-use Rattle.logos_places.specs.ByteRanges.{is_in}
-use Rattle.logos_graph.specs.declared.byte_class.ByteClass.{ByteClass}
-use Rattle.logos_graph.specs.declared.byte_class.Comparisons.{Comparisons}
+use Rattle.logos_hir.specs.ByteRanges.{is_in}
+use Rattle.logos_byte_class.specs.declared.byte_class.ByteClass.{ByteClass}
+use Rattle.logos_byte_class.specs.declared.byte_class.Comparisons.{Comparisons}
 
 -- the first and the last byte of a range
 abbrev pub bounds : RangeInclusive ℕ → ℕ × ℕ

@@ -2,7 +2,7 @@
 use Rattle.std.specs.Prelude.{ℕ, ◌+◌, ◌/◌, ◌%◌, ◌&&◌, Option, Some, None, ◌==◌, nat_le, nat_lt, List, [], ◌∷◌, ◌++◌, codes, if◌then◌else◌}
 use Rattle.std.specs.List.{flat_map, join_by}
 
--- what stands behind `\` for a byte that prints so: tab, CR, LF, and both quotes and `\` as themselves
+-- the letter that follows `\` for a byte that prints so: tab, CR, LF, and both quotes and `\` as themselves
 abbrev pub letter_of : ℕ → Option ℕ
 letter_of b =
     if b == 9 then Some 116
@@ -27,10 +27,10 @@ byte_text b = text_by (letter_of b) b
 abbrev pub range_text : ℕ × ℕ → List ℕ
 range_text range = if range.0 == range.1 then byte_text range.0 else byte_text range.0 ++ codes "..=" ++ byte_text range.1
 
--- ranges, each behind a text
+-- ranges, each after a text
 abbrev pub next_ranges_text : List ℕ → List (ℕ × ℕ) → List ℕ
 next_ranges_text between ranges = flat_map (λ range. between ++ range_text range) ranges
 
--- ranges, parted by a text
+-- ranges, with a text between them
 abbrev pub class_text : List ℕ → List (ℕ × ℕ) → List ℕ
 class_text between ranges = join_by range_text between ranges

@@ -1,12 +1,12 @@
 //! Sets of bytes, and the comparisons that test for them.
+
 ghost use Rattle.std.specs.Prelude.{◌≡◌, ℕ, ◌<◌, ◌≤◌, ◌↔◌, ◌||◌, not, IsTrue, IfOk, OnOk};
 ghost use Rattle.std.specs.Prelude.{OnErr, false, [], ◌∷◌, length, map, drop, slice_index_or};
-ghost use Rattle.logos_places.specs.ByteRanges.{is_in};
-ghost use Rattle.logos_graph.specs.Bytes.{bounds, ranges_of, has_byte, AreSeparated, comparison_of};
-ghost use Rattle.logos_graph.specs.Bytes.{compares, some_compares, joined, operations};
+ghost use Rattle.logos_hir.specs.ByteRanges.{is_in};
+ghost use Rattle.logos_byte_class.specs.Bytes.{bounds, ranges_of, has_byte, AreSeparated, comparison_of};
+ghost use Rattle.logos_byte_class.specs.Bytes.{compares, some_compares, joined, operations};
 
-pub(crate) mod text;
-
+use logos_token::error::Memory;
 use std::alloc::{AllocError, Global};
 use std::ops::RangeInclusive;
 
@@ -18,7 +18,7 @@ pub struct ByteClass {
 }
 
 impl ByteClass {
-    /// Whether the class holds the byte.
+    /// Returns whether the class holds the byte.
     fn has(&self, byte: u8) -> bool
         ensures { result ≡ has_byte self.now byte }
     {
@@ -30,7 +30,7 @@ impl ByteClass {
         false
     }
 
-    /// Whether each range holds a byte, and the ranges ascend with at least one byte between each two.
+    /// Returns whether each range holds a byte, and the ranges ascend with at least one byte between each two.
     pub fn is_separated(&self) -> bool
         ensures { IsTrue result ↔ AreSeparated (ranges_of self.now) }
     {
@@ -46,7 +46,7 @@ impl ByteClass {
         true
     }
 
-    /// For each byte, whether the class holds it.
+    /// Returns a table that says for each byte whether the class holds it.
     pub fn to_table(&self) -> [bool; 256]
         ensures { (b : ℕ) → b < 256 → slice_index_or result b false ≡ has_byte self.now b }
     {
@@ -59,9 +59,12 @@ impl ByteClass {
 }
 
 impl ByteClass {
-    /// Adds the bytes of the other class. The ranges ascend then, with at least one byte between each two, whatever they
-    /// were. Where memory is wanted the class stays as it was.
-    pub fn merge(&mut self, alloc: Global, other: &ByteClass) -> Result<(), AllocError>
+    /// Adds the bytes of the other class. Afterwards the ranges ascend with at least one byte between each two, whatever
+    /// they were before.
+    ///
+    /// # Errors
+    /// Returns `Memory` when memory runs out. The class is then as it was.
+    pub fn merge(&mut self, alloc: Global, other: &ByteClass) -> Result<(), Memory>
         ensures union { OnOk result ((b : ℕ) → b < 256 →
             has_byte self.new b ≡ (has_byte self.old b || has_byte other.now b)) }
         ensures separated { OnOk result (AreSeparated (ranges_of self.new)) }
@@ -73,7 +76,7 @@ impl ByteClass {
         Ok(())
     }
 
-    /// For each byte, whether one of the classes holds it.
+    /// Returns a table that says for each byte whether one of the two classes holds it.
     fn table_with(&self, other: &ByteClass) -> [bool; 256]
         ensures { (b : ℕ) → b < 256 → slice_index_or result b false
             ≡ (has_byte self.now b || has_byte other.now b) }
@@ -85,10 +88,12 @@ impl ByteClass {
         table
     }
 
-    /// The comparisons that hold for the bytes of the class alone. Ranges with just one byte between them share a comparison,
-    /// with that byte as an exception. The class has to be separated, as `is_separated` tests.
-    /// Only want of memory is an error.
-    pub fn impl_with_cmp(&self, alloc: Global) -> Result<Vec<Comparisons>, AllocError>
+    /// Returns comparisons that hold for exactly the bytes of the class. Ranges with just one byte between them share a
+    /// comparison, and that byte is one of its exceptions. The class must be separated, as `is_separated` tests.
+    ///
+    /// # Errors
+    /// Returns `Memory` when memory runs out.
+    pub fn impl_with_cmp(&self, alloc: Global) -> Result<Vec<Comparisons>, Memory>
         requires { AreSeparated (ranges_of self.now) }
         ensures shape { IfOk result (λ made. map comparison_of made.items
             ≡ joined (ranges_of self.now)) }
@@ -107,7 +112,7 @@ impl ByteClass {
     }
 }
 
-/// The first byte from `from` on that is marked, or not marked, as `wanted` says; 256 if there is none.
+/// Returns the first byte from `from` on whose mark is `wanted`, or 256 if there is none.
 fn first_where(table: &[bool], from: usize, wanted: bool) -> usize
     requires long { length table.now ≡ 256 }
     requires within { from ≤ 256 }
@@ -125,7 +130,7 @@ fn first_where(table: &[bool], from: usize, wanted: bool) -> usize
     256
 }
 
-/// The ranges of the bytes that the table marks.
+/// Returns the ranges of the bytes that the table marks.
 fn ranges_of_table(alloc: Global, table: &[bool]) -> Result<Vec<RangeInclusive<u8>>, AllocError>
     requires { length table.now ≡ 256 }
     ensures members { IfOk result (λ made. (b : ℕ) → b < 256 →
@@ -142,7 +147,7 @@ fn ranges_of_table(alloc: Global, table: &[bool]) -> Result<Vec<RangeInclusive<u
     Ok(made)
 }
 
-/// The comparison for the first ranges, as many as it takes in, and their number.
+/// Returns the comparison for as many of the first ranges as it can take in, and the number of these ranges.
 fn first_comparison(
     alloc: Global,
     ranges: &[RangeInclusive<u8>],
@@ -180,7 +185,8 @@ pub struct Comparisons {
 }
 
 impl Comparisons {
-    /// The whole range. This takes no memory yet.
+    /// Returns the comparison for the whole range, with no exceptions. The list of exceptions takes its memory from `alloc`
+    /// when it grows; this call takes none.
     pub fn new(alloc: Global, range: RangeInclusive<u8>) -> Comparisons
         ensures range { result.range ≡ range }
         ensures except { result.except.items ≡ [] }
@@ -191,8 +197,8 @@ impl Comparisons {
         }
     }
 
-    /// How many operations test a byte: one for a single byte, else one for a start above 0 and one for an end below 255; and
-    /// one for each exception.
+    /// Returns the number of operations that test a byte: one for a single byte, else one for a start above 0 and one for an
+    /// end below 255; and one for each exception.
     pub fn count_ops(&self) -> usize
         ensures { result ≡ operations (comparison_of self.now) }
     {
@@ -205,7 +211,7 @@ impl Comparisons {
         (first > 0) as usize + (last < 255) as usize + exceptions
     }
 
-    /// Whether the byte is in the range and is no exception.
+    /// Returns whether the byte is in the range and is not an exception.
     pub fn holds(&self, byte: u8) -> bool
         ensures { result ≡ compares (comparison_of self.now) byte }
     {

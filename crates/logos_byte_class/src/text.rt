@@ -1,15 +1,16 @@
 //! How bytes and sets of bytes print.
-ghost use Rattle.std.specs.Prelude.{◌≡◌, ◌<◌, ◌≤◌, ◌↔◌, IsTrue, IsFalse, IfSome, Some, codes, map};
-ghost use Rattle.logos_graph.specs.Bytes.{bounds, ranges_of};
-ghost use Rattle.logos_graph.specs.ClassText.{letter_of, lower_digit, byte_text};
-ghost use Rattle.logos_graph.specs.ClassText.{range_text, next_ranges_text, class_text};
 
-use super::ByteClass;
+ghost use Rattle.std.specs.Prelude.{◌≡◌, ◌<◌, ◌≤◌, ◌↔◌, IsTrue, IsFalse, IfSome, Some, codes, map};
+ghost use Rattle.logos_byte_class.specs.Bytes.{bounds, ranges_of};
+ghost use Rattle.logos_byte_class.specs.ClassText.{letter_of, lower_digit, byte_text};
+ghost use Rattle.logos_byte_class.specs.ClassText.{range_text, next_ranges_text, class_text};
+
+use crate::byte_class::ByteClass;
 use std::fmt;
 use std::ops::RangeInclusive;
 
-/// The letter behind `\`, for a byte that prints so.
-pub(crate) fn letter_of(byte: u8) -> Option<char>
+/// Returns the letter that follows `\` where the byte prints as an escape with a letter.
+pub fn letter_of(byte: u8) -> Option<char>
     ensures is { result ≡ letter_of byte }
     ensures ascii { IfSome result (λ letter. letter < 128) }
 {
@@ -24,15 +25,15 @@ pub(crate) fn letter_of(byte: u8) -> Option<char>
     }
 }
 
-/// Whether the byte prints as itself.
-pub(crate) fn is_printable(byte: u8) -> bool
+/// Returns whether the byte prints as itself.
+pub fn is_printable(byte: u8) -> bool
     ensures { IsTrue result ↔ ((32 ≤ byte) × (byte < 127)) }
 {
     (32..127).contains(&byte)
 }
 
-/// A hexadecimal digit in lower case.
-pub(crate) fn lower_digit(value: u8) -> char
+/// Returns a hexadecimal digit in lower case.
+pub fn lower_digit(value: u8) -> char
     requires { value < 16 }
     ensures is { result ≡ lower_digit value }
     ensures ascii { result < 128 }
@@ -43,11 +44,11 @@ pub(crate) fn lower_digit(value: u8) -> char
     char::from(b'a' + (value - 10))
 }
 
-/// A byte, as it prints.
+/// Prints a byte.
 #[derive(Clone, Copy)]
 struct ByteText(u8);
 
-/// A range of bytes, as it prints.
+/// Prints a range of bytes.
 #[derive(Clone, Copy)]
 struct RangeText(u8, u8);
 
@@ -82,7 +83,7 @@ impl fmt::Display for RangeText {
     }
 }
 
-/// Ranges of bytes, each behind a text.
+/// Prints ranges of bytes, each after a text.
 #[derive(Clone, Copy)]
 struct NextRanges<'c> {
     ranges: &'c [RangeInclusive<u8>],
@@ -103,14 +104,14 @@ impl fmt::Display for NextRanges<'_> {
     }
 }
 
-/// What parts ranges.
+/// Returns the text between two ranges.
 fn between(alternate: bool) -> &'static str
     ensures { IsFalse alternate → result.now ≡ codes "|" }
 {
     if alternate { "\n" } else { "|" }
 }
 
-/// The ranges, parted by `|`, or in the alternate form by line ends.
+/// Prints the ranges with `|` between them, or with line ends in the alternate form.
 impl fmt::Display for ByteClass {
     ghost output = { λ class. Some (class_text (codes "|") (ranges_of class)) };
 

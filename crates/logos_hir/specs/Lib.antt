@@ -1,4 +1,5 @@
 pub mod Text
+pub mod ByteRanges
 pub mod Tree
 pub mod Looks
 pub mod Matches

@@ -1,6 +1,6 @@
 use Rattle.std.proofs.Common.{◌∙◌, arith}
-use Rattle.logos_graph.proofs.JoinLemmas.{next_taken}
-use Rattle.logos_graph.proofs.byte_class.first_comparison.Goals as goal
+use Rattle.logos_byte_class.proofs.JoinLemmas.{next_taken}
+use Rattle.logos_byte_class.proofs.byte_class.first_comparison.Goals as goal
 
 pub loop-next-preserved : goal.loop-next-preserved
 loop-next-preserved c = record {

@@ -1,7 +1,7 @@
 use Rattle.std.proofs.Common.{◌≡◌, ◌-◌, ◌<◌, ◌≤◌, length, drop, map}
-use Rattle.logos_graph.specs.Bytes.{bounds, joined}
-use Rattle.logos_graph.proofs.JoinLemmas.{join_to}
-use Rattle.logos_graph.proofs.byte_class.first_comparison.Given as goal
+use Rattle.logos_byte_class.specs.Bytes.{bounds, joined}
+use Rattle.logos_byte_class.proofs.JoinLemmas.{join_to}
+use Rattle.logos_byte_class.proofs.byte_class.first_comparison.Given as goal
 
 abbrev pub invariant-loop-next : goal.invariant-loop-next
 invariant-loop-next l = record {

@@ -1,8 +1,8 @@
 use Rattle.std.proofs.Common.{◌≡◌, ℕ, ◌-◌, ◌<◌, ◌++◌, ◌∷◌, [], map, false, get_or, refl, sym, ap, ◌∙◌, subst, append-nil, arith}
 use Rattle.std.proofs.lemmas.List.{map-append}
-use Rattle.logos_graph.specs.Bytes.{bounds, AreSeparatedFrom}
-use Rattle.logos_graph.proofs.JoinLemmas.{members_more, no_others_more, separated_more, marks_differ, same_marks, AreSeparatedFrom-less}
-use Rattle.logos_graph.proofs.byte_class.ranges_of_table.Goals as goal
+use Rattle.logos_byte_class.specs.Bytes.{bounds, AreSeparatedFrom}
+use Rattle.logos_byte_class.proofs.JoinLemmas.{members_more, no_others_more, separated_more, marks_differ, same_marks, AreSeparatedFrom-less}
+use Rattle.logos_byte_class.proofs.byte_class.ranges_of_table.Goals as goal
 
 pub loop-start-init : goal.loop-start-init
 loop-start-init c =

@@ -1,7 +1,7 @@
 use Rattle.std.proofs.Common.{◌≡◌, ℕ, ◌-◌, ◌<◌, ◌≤◌, true, false, List, [], ◌++◌, map, slice_index_or}
-use Rattle.logos_places.specs.ByteRanges.{is_in}
-use Rattle.logos_graph.specs.Bytes.{bounds, AreSeparatedFrom}
-use Rattle.logos_graph.proofs.byte_class.ranges_of_table.Given as goal
+use Rattle.logos_hir.specs.ByteRanges.{is_in}
+use Rattle.logos_byte_class.specs.Bytes.{bounds, AreSeparatedFrom}
+use Rattle.logos_byte_class.proofs.byte_class.ranges_of_table.Given as goal
 
 abbrev pub invariant-loop-start : goal.invariant-loop-start
 invariant-loop-start l = record {

@@ -1,8 +1,8 @@
 use Rattle.std.proofs.Common.{◌≡◌, ap, map, ◌++◌, sym, ◌∙◌, append-nil}
 use Rattle.std.proofs.Math.ListN.{drop_of_length-le}
-use Rattle.logos_graph.specs.Bytes.{bounds, comparison_of, some_compares, joined, ranges_of}
-use Rattle.logos_graph.proofs.JoinLemmas.{joined_compares}
-use Rattle.logos_graph.proofs.byte_class.ByteClass.impl_with_cmp.Goals as goal
+use Rattle.logos_byte_class.specs.Bytes.{bounds, comparison_of, some_compares, joined, ranges_of}
+use Rattle.logos_byte_class.proofs.JoinLemmas.{joined_compares}
+use Rattle.logos_byte_class.proofs.byte_class.ByteClass.impl_with_cmp.Goals as goal
 
 pub returns-clause-members : goal.returns-clause-members
 returns-clause-members c = λ b lt.

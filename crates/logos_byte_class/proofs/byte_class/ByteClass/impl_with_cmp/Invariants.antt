@@ -1,6 +1,6 @@
 use Rattle.std.proofs.Common.{◌≡◌, ◌-◌, ◌≤◌, ◌++◌, length, drop, map}
-use Rattle.logos_graph.specs.Bytes.{bounds, comparison_of, joined}
-use Rattle.logos_graph.proofs.byte_class.ByteClass.impl_with_cmp.Given as goal
+use Rattle.logos_byte_class.specs.Bytes.{bounds, comparison_of, joined}
+use Rattle.logos_byte_class.proofs.byte_class.ByteClass.impl_with_cmp.Given as goal
 
 abbrev pub invariant-loop-next : goal.invariant-loop-next
 invariant-loop-next l = record {

@@ -1,6 +1,6 @@
 use Rattle.std.proofs.Common.{◌↔◌, map, drop}
-use Rattle.logos_graph.specs.Bytes.{bounds, AreSeparatedFrom}
-use Rattle.logos_graph.proofs.byte_class.ByteClass.is_separated.Given as goal
+use Rattle.logos_byte_class.specs.Bytes.{bounds, AreSeparatedFrom}
+use Rattle.logos_byte_class.proofs.byte_class.ByteClass.is_separated.Given as goal
 
 abbrev pub invariant-loop-range : goal.invariant-loop-range
 invariant-loop-range l =

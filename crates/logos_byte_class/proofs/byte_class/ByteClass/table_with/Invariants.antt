@@ -1,6 +1,6 @@
 use Rattle.std.proofs.Common.{◌≡◌, ℕ, ◌<◌, ◌||◌, length, false, slice_index_or}
-use Rattle.logos_graph.specs.Bytes.{has_byte}
-use Rattle.logos_graph.proofs.byte_class.ByteClass.table_with.Given as goal
+use Rattle.logos_byte_class.specs.Bytes.{has_byte}
+use Rattle.logos_byte_class.proofs.byte_class.ByteClass.table_with.Given as goal
 
 abbrev pub invariant-loop-byte : goal.invariant-loop-byte
 invariant-loop-byte l =

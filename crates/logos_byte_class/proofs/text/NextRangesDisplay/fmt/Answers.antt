@@ -1,7 +1,7 @@
 use Rattle.std.proofs.Common.{rules, arith}
 use Rattle.std.proofs.Output.{has_written_append, has_written_of_eq}
-use Rattle.logos_graph.proofs.ChartLemmas.{range_added}
-use Rattle.logos_graph.proofs.byte_class.text.NextRangesDisplay.fmt.Goals as goal
+use Rattle.logos_byte_class.proofs.TextLemmas.{range_added}
+use Rattle.logos_byte_class.proofs.text.NextRangesDisplay.fmt.Goals as goal
 
 pub loop-range-preserved : goal.loop-range-preserved
 loop-range-preserved g c = λ plain.

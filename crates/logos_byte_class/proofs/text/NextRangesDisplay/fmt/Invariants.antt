@@ -1,8 +1,8 @@
 use Rattle.std.proofs.Common.{map, take}
 use Rattle.std.specs.Fmt.{HasWritten, IsPlainFormatter}
-use Rattle.logos_graph.specs.Bytes.{bounds}
-use Rattle.logos_graph.specs.ClassText.{next_ranges_text}
-use Rattle.logos_graph.proofs.byte_class.text.NextRangesDisplay.fmt.Given as goal
+use Rattle.logos_byte_class.specs.Bytes.{bounds}
+use Rattle.logos_byte_class.specs.ClassText.{next_ranges_text}
+use Rattle.logos_byte_class.proofs.text.NextRangesDisplay.fmt.Given as goal
 
 abbrev pub invariant-loop-range : goal.invariant-loop-range
 invariant-loop-range g l =
