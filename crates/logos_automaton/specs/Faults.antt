@@ -2,7 +2,7 @@
 use Rattle.std.specs.Prelude.{◌≡◌, ℕ, ◌<◌, ◌↔◌, ◌⊎◌, Bool, List, [], ◌∷◌, map, Contains, IsSomeAnd, IsTrue, IsFalse, MatchBool, slice_get}
 use Rattle.std.specs.List.{list_any}
 use Rattle.std.specs.List.Sorted.{IsStrictlyIncreasing}
-use Rattle.logos_hir.specs.Priority.{passable, leads}
+use Rattle.logos_hir.specs.Passable.{passable, leads}
 use Rattle.logos_automaton.specs.Munch.{Rule}
 use Rattle.logos_automaton.specs.Ambiguity.{IsAmbiguous}
 

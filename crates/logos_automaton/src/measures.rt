@@ -1,7 +1,7 @@
 //! Measures of trees. None of them takes memory.
 ghost use Rattle.std.specs.Prelude.{◌≡◌, ℕ, ◌+◌, ◌*◌, ◌^◌, ◌≤◌, ◌↔◌, IsTrue, length, max, map};
 ghost use Rattle.logos_hir.specs.Hir.{class_tree, tree_of};
-ghost use Rattle.logos_hir.specs.Priority as tree;
+ghost use Rattle.logos_hir.specs.Passable as tree;
 ghost use Rattle.logos_hir.specs.Tree.{trees};
 ghost use Rattle.logos_automaton.specs.Measures.{IsWithinLimit};
 ghost use Rattle.logos_places.specs.Places as places;

@@ -1,7 +1,7 @@
 -- A code value: what a lexer does in each state.
 use Rattle.std.specs.Prelude.{ℕ, Bool, List, Option}
 use Rattle.logos_automaton.specs.Munch.{Use}
-use Rattle.logos_graph.specs.Bytes.{Comparison}
+use Rattle.logos_byte_class.specs.Bytes.{Comparison}
 use Rattle.logos_code.specs.declared.code.CodeLeaf.{CodeLeaf}
 use Rattle.logos_code.specs.declared.code.Kept.{Kept}
 

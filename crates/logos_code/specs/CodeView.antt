@@ -4,7 +4,7 @@ use Rattle.std.specs.Int.Bits.{bit_and}
 use Rattle.std.specs.Option.{option_map_or}
 use Rattle.logos_pattern.specs.Leaf.{is_skip}
 use Rattle.logos_automaton.specs.Munch.{Use}
-use Rattle.logos_graph.specs.Bytes.{comparison_of}
+use Rattle.logos_byte_class.specs.Bytes.{comparison_of}
 use Rattle.logos_code.specs.Code.{CodeValue, CodeState, Mark, Condition, by_comparisons, by_test, Fork, by_conditions, by_table}
 use Rattle.logos_code.specs.Headline.{IsSound}
 use Rattle.logos_code.specs.declared.code.Mark.{Mark as TheMark}

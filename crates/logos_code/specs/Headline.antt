@@ -2,18 +2,10 @@
 use Rattle.std.specs.Prelude.{◌≡◌, ℕ, ◌+◌, ◌-◌, ◌*◌, ◌<◌, ◌≤◌, ◌↔◌, Bool, List, map, length, Option, Some, None, IfSome, IsTrue, IsCharBoundary, IsSomeAnd, slice_get}
 use Rattle.std.specs.List.{All}
 use Rattle.logos_hir.specs.Text.{IsBytes}
-use Rattle.logos_automaton.specs.Munch.{Rule, Found, Finds}
+use Rattle.logos_automaton.specs.Munch.{Rule, IsInput, Found, Finds}
 use Rattle.logos_code.specs.Code.{CodeValue, CodeState, Condition, by_comparisons, by_test, Fork, by_conditions, by_table}
 use Rattle.logos_code.specs.Runs.{Tries, CodeFinds, target}
 use Rattle.logos_code.specs.Items.{Item, token, error}
-use Rattle.logos_graph.specs.Graph.{GraphState}
-use Rattle.logos_graph.specs.Found.{GraphFinds, IsInput}
-
--- the code does at each place of each input what the graph does, and a try enters at most two states
--- more than there are bytes left
-pub record RunsAs (graph : List GraphState) (utf8 : Bool) (code : CodeValue) : Type 0 where
-  pub same : (bytes : List ℕ) (from : ℕ) (found : Found) → IsBytes bytes → CodeFinds code bytes from found ↔ GraphFinds graph utf8 bytes from found
-  pub steps : (bytes : List ℕ) (from n : ℕ) (found : Found) → IsBytes bytes → from ≤ length bytes → Tries code bytes from found n → n ≤ (length bytes - from) + 2
 
 -- The headline: at each place of each input the code finds exactly what maximal munch finds there, and
 -- its leaves are used as the rules say.

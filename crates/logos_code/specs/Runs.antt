@@ -2,7 +2,7 @@
 use Rattle.std.specs.Prelude.{◌≡◌, ℕ, suc, ◌+◌, ◌-◌, ◌≤◌, max, Bool, ◌&&◌, List, length, drop, Option, Some, None, option_map, if◌then◌else◌, ◌==◌, slice_get, false, IsTrue, IsCharBoundary, find, slice_index_or}
 use Rattle.std.specs.List.{take_while}
 use Rattle.std.specs.Option.{option_map_or}
-use Rattle.logos_graph.specs.Bytes.{some_compares}
+use Rattle.logos_byte_class.specs.Bytes.{some_compares}
 use Rattle.logos_code.specs.Bytes.{passes_test}
 use Rattle.logos_code.specs.Code.{CodeValue, CodeState, Mark, Condition, by_comparisons, by_test, Fork, by_conditions, by_table}
 use Rattle.logos_automaton.specs.Munch.{Found, ended, matched, failed}

@@ -11,7 +11,7 @@ pub mod rows;
 pub mod signs;
 pub(crate) mod uses;
 
-use logos_graph::byte_class::Comparisons;
+use logos_byte_class::byte_class::Comparisons;
 use logos_hir::leaf::LeafId;
 use logos_pattern::leaf::{Callback, VariantKind};
 use logos_token::token::Ident;

@@ -1,8 +1,7 @@
 -- From a lexer's items to what the tokenizer of expressions makes of them.
 use Rattle.std.proofs.Common.{◌≡◌, ℕ, ◌≤◌, Bool, true, false, List, [], ◌∷◌, ◌++◌, length, map, slice_range, refl, sym, ap, ◌∙◌, append_assoc, append-nil, MatchBool, arith, None, IsUtf8}
-use Rattle.logos_automaton.specs.Munch.{Use, Rule, ended, matched, failed, Finds}
+use Rattle.logos_automaton.specs.Munch.{Use, Rule, IsInput, ended, matched, failed, Finds}
 use Rattle.logos_automaton.proofs.munch.Unique.{finds_one}
-use Rattle.logos_graph.specs.Found.{IsInput}
 use Rattle.logos_hir.specs.Text.{IsBytes}
 use Rattle.logos_code.specs.Code.{CodeValue}
 use Rattle.logos_code.specs.Headline.{IsLexer}

@@ -6,8 +6,7 @@ use Rattle.std.proofs.lemmas.Grind.{get_or_default_zero}
 use Rattle.std.proofs.lemmas.List.Elements.{All-nil, All-cons}
 use Rattle.std.specs.List.{All}
 use Rattle.logos_hir.specs.Text.{IsBytes}
-use Rattle.logos_automaton.specs.Munch.{Use, Rule}
-use Rattle.logos_graph.specs.Found.{IsInput}
+use Rattle.logos_automaton.specs.Munch.{Use, Rule, IsInput}
 use Rattle.logos_code.specs.Code.{CodeValue}
 use Rattle.logos_code.specs.Headline.{IsLexer, IsCut}
 use Rattle.logos_code.specs.Items.{Callback, Search, Item, asks, MayAnswer, Lexes, over, match, fault, Items}
@@ -15,7 +14,7 @@ use Rattle.logos_machine.specs.LexerValue.{LexerValue, Gives, Ends, item_of}
 use Rattle.logos_machine.specs.declared.machine.Item.{Item as TheItem}
 use Rattle.logos_code.specs.declared.action.Action.{Action}
 use Rattle.logos_code.specs.declared.action.Action.TheVariants.{Emit, Skip, Error}
-use Rattle.logos_hir.specs.Measure.{is_text}
+use Rattle.logos_measures.specs.Measure.{is_text}
 use Rattle.logos_attribute.specs.Told.{only}
 use Rattle.logos_leaf.specs.Leaves.{LeafView}
 use Rattle.logos_code.specs.Order.{AreInOrder, Parts, IsMatch}

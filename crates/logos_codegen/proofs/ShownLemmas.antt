@@ -3,7 +3,7 @@ use Rattle.std.proofs.Common.{◌≡◌, ℕ, Bool, true, false, not, List, [], 
 use Rattle.logos_token.specs.declared.error.fault_code.FaultCode.TheVariants.{Utf8Pattern}
 use Rattle.logos_token.specs.Faults.{Fault as ListedFault}
 use Rattle.logos_type.specs.Parts.{Tree as TypeTree}
-use Rattle.logos_hir.specs.Measure.{is_text}
+use Rattle.logos_measures.specs.Measure.{is_text}
 use Rattle.logos_item.specs.Values.{Slice}
 use Rattle.logos_pattern.specs.Leaf.{KindValue, plain, holding, skipped}
 use Rattle.logos_attribute.specs.Told.{fault, only}

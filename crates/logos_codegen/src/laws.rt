@@ -2,8 +2,7 @@
 
 ghost use Rattle.std.specs.Prelude.{◌≡◌, ℕ, ◌↔◌, Bool, true, List};
 ghost use Rattle.std.specs.List.{All};
-ghost use Rattle.logos_graph.specs.Found.{IsInput};
-ghost use Rattle.logos_automaton.specs.Munch.{Rule};
+ghost use Rattle.logos_automaton.specs.Munch.{Rule, IsInput};
 ghost use Rattle.logos_code.specs.Code.{CodeValue};
 ghost use Rattle.logos_code.specs.Headline.{IsCut, IsLexer};
 ghost use Rattle.logos_code.specs.Items.{Item};

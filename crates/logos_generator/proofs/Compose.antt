@@ -2,13 +2,14 @@
 use Rattle.std.proofs.Common.{◌≡◌, ◌↔◌, ℕ, Bool, List, [], ◌∷◌, map, refl, ap, ◌∙◌}
 use Rattle.logos_pattern.specs.declared.leaf.Leaf.{Leaf}
 use Rattle.logos_graph.specs.View.{GraphValue, rule_of, rules_of}
-use Rattle.logos_automaton.specs.Munch.{Use, Rule, Found, ended, matched, failed, Finds}
+use Rattle.logos_automaton.specs.Munch.{Use, Rule, IsInput, Found, ended, matched, failed, Finds}
 use Rattle.logos_code.specs.Code.{CodeValue}
 use Rattle.logos_code.specs.Runs.{CodeFinds, Runs, RunsOn}
 use Rattle.logos_code.specs.Items.{Callback, Search, Item, Items, IsNext, Lexes, over, match, fault, NextItem, passes, gives, fails}
 use Rattle.logos_graph.specs.Graph.{GraphState}
-use Rattle.logos_graph.specs.Found.{FindsTheLongest, IsInput}
-use Rattle.logos_code.specs.Headline.{RunsAs, IsLexer}
+use Rattle.logos_graph.specs.Found.{FindsTheLongest}
+use Rattle.logos_code.specs.Headline.{IsLexer}
+use Rattle.logos_generator.specs.Runs.{RunsAs}
 
 -- from the graph's and the generator's contracts to the headline
 pub is_lexer : (rules : List Rule) (utf8 : Bool) (graph : List GraphState) (code : CodeValue) →

@@ -3,9 +3,9 @@ use Rattle.std.proofs.Common.{◌≡◌, ℕ, zero, suc, ◌+◌, ◌<◌, Bool,
 use Rattle.std.specs.Option.{option_or}
 use Rattle.std.specs.declared.ops.RangeInclusive.{RangeInclusive}
 use Rattle.std.proofs.lemmas.List.{drop_more, map-append}
-use Rattle.logos_places.specs.ByteRanges.{is_in}
-use Rattle.logos_graph.specs.Bytes.{bounds}
-use Rattle.logos_graph.specs.declared.byte_class.ByteClass.{ByteClass}
+use Rattle.logos_hir.specs.ByteRanges.{is_in}
+use Rattle.logos_byte_class.specs.Bytes.{bounds}
+use Rattle.logos_byte_class.specs.declared.byte_class.ByteClass.{ByteClass}
 use Rattle.logos_graph.specs.declared.graph.State.{State}
 use Rattle.logos_code.specs.Code.{Condition, by_comparisons, by_test}
 use Rattle.logos_code.specs.declared.code.Condition.{Condition as TheCondition}

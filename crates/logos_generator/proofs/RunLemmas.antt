@@ -9,7 +9,7 @@ use Rattle.logos_code.specs.Code.{CodeValue, CodeState}
 use Rattle.logos_code.specs.Runs.{Stand, Turn, enters, acts, returns, looped, turn, Does, Acts, Goes, goes_on, is_over, acts_on, Tries, CodeFinds}
 use Rattle.logos_graph.specs.Graph.{GraphState}
 use Rattle.logos_graph.specs.Found.{GraphFinds}
-use Rattle.logos_code.specs.Headline.{RunsAs}
+use Rattle.logos_generator.specs.Runs.{RunsAs}
 use Rattle.logos_generator.specs.Makes.{Makes, IsMade}
 use Rattle.logos_generator.proofs.ScanLemmas.{mark_at, last_of, reach}
 use Rattle.logos_generator.proofs.FoundLemmas.{found_iff}

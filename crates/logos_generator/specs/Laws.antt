@@ -1,12 +1,13 @@
 -- What the laws of the definitions say.
 use Rattle.std.specs.Prelude.{◌≡◌, ℕ, ◌↔◌, Bool, true, IsCharBoundary, List, map}
 use Rattle.std.specs.List.{All}
-use Rattle.logos_hir.specs.Measure.{is_text}
-use Rattle.logos_automaton.specs.Munch.{Rule}
-use Rattle.logos_graph.specs.Found.{FindsTheLongest, IsInput}
+use Rattle.logos_measures.specs.Measure.{is_text}
+use Rattle.logos_automaton.specs.Munch.{Rule, IsInput}
+use Rattle.logos_graph.specs.Found.{FindsTheLongest}
 use Rattle.logos_graph.specs.View.{GraphValue, rule_of, rules_of}
 use Rattle.logos_code.specs.Code.{CodeValue}
-use Rattle.logos_code.specs.Headline.{IsCut, IsLexer, RunsAs}
+use Rattle.logos_code.specs.Headline.{IsCut, IsLexer}
+use Rattle.logos_generator.specs.Runs.{RunsAs}
 use Rattle.logos_code.specs.Items.{Callback, Item, Items, IsNext}
 use Rattle.logos_code.specs.Runs.{Runs, RunsOn}
 

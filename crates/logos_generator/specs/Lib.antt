@@ -1,3 +1,4 @@
+pub mod Runs
 pub mod Makes
 pub mod Nodes
 pub mod Numbering

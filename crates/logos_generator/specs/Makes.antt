@@ -4,7 +4,7 @@ use Rattle.logos_code.specs.Code.{CodeValue, CodeState, Mark}
 use Rattle.logos_code.specs.Runs.{stays, target}
 use Rattle.logos_reduce.specs.Edges.{StateType}
 use Rattle.logos_graph.specs.Graph.{GraphState}
-use Rattle.logos_places.specs.ByteRanges.{is_in}
+use Rattle.logos_hir.specs.ByteRanges.{is_in}
 
 -- an early mark wins over a late one
 abbrev pub mark_by : Option ℕ → Option ℕ → Option Mark

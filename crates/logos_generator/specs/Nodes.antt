@@ -2,9 +2,9 @@
 use Rattle.std.specs.Prelude.{◌≡◌, ℕ, ◌<◌, ◌≤◌, Bool, false, not, ◌&&◌, ◌==◌, List, [], ◌∷◌, ◌++◌, length, sum_by, Option, Some, None, option_map, MatchBool, MatchOption, IsSomeAnd, if◌then◌else◌, find, slice_get, slice_index_or}
 use Rattle.std.specs.Option.{option_map_or, option_or}
 use Rattle.logos_graph.specs.Graph.{GraphState}
-use Rattle.logos_places.specs.ByteRanges.{is_in}
+use Rattle.logos_hir.specs.ByteRanges.{is_in}
 use Rattle.logos_graph.specs.FinishedGraph.{Edge}
-use Rattle.logos_graph.specs.Bytes.{Comparison, operations, joined, some_compares}
+use Rattle.logos_byte_class.specs.Bytes.{Comparison, operations, joined, some_compares}
 use Rattle.logos_code.specs.Code.{CodeState, Condition, by_comparisons, by_test, Fork, by_conditions, by_table}
 use Rattle.logos_generator.specs.Makes.{mark_made}
 

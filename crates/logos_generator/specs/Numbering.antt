@@ -7,9 +7,9 @@ use Rattle.std.specs.Option.{option_to_list}
 use Rattle.std.specs.Cmp.Lexicographic.{pointwise}
 use Rattle.indexmap.specs.IndexSet.{insert_key}
 use Rattle.logos_graph.specs.Graph.{GraphState}
-use Rattle.logos_places.specs.ByteRanges.{is_in}
+use Rattle.logos_hir.specs.ByteRanges.{is_in}
 use Rattle.logos_graph.specs.FinishedGraph.{Edge}
-use Rattle.logos_graph.specs.Bytes.{joined}
+use Rattle.logos_byte_class.specs.Bytes.{joined}
 use Rattle.logos_code.specs.Code.{CodeValue}
 use Rattle.logos_generator.specs.Nodes.{cost, tests_byte, IsStateOf}
 

@@ -5,9 +5,9 @@ use Rattle.logos_pattern.specs.declared.leaf.Leaf.{Leaf}
 use Rattle.logos_graph.specs.Graph.{GraphState}
 use Rattle.logos_automaton.specs.Munch.{Use}
 use Rattle.logos_graph.specs.View.{rule_of}
-use Rattle.logos_graph.specs.Bytes.{AreSeparated}
+use Rattle.logos_byte_class.specs.Bytes.{AreSeparated}
 use Rattle.logos_graph.specs.GraphView.{edge_of, state_number}
-use Rattle.logos_graph.specs.declared.byte_class.ByteClass.{ByteClass}
+use Rattle.logos_byte_class.specs.declared.byte_class.ByteClass.{ByteClass}
 use Rattle.logos_graph.specs.declared.graph.State.{State}
 use Rattle.logos_code.specs.declared.code.Condition.{Condition as TheCondition}
 use Rattle.logos_code.specs.declared.code.CodeState.{CodeState as TheState}

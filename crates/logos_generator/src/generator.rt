@@ -2,7 +2,7 @@
 
 ghost use Rattle.std.specs.Prelude.{◌≡◌, [], IfOk, OnOk, OnErr, map, option_copied};
 ghost use Rattle.logos_graph.specs.View.{rule_of};
-ghost use Rattle.logos_code.specs.Headline.{RunsAs};
+ghost use Rattle.logos_generator.specs.Runs.{RunsAs};
 ghost use Rattle.logos_generator.specs.GeneratorValue.{fresh, code_leaf_value, leaf_value};
 ghost use Rattle.logos_generator.specs.GeneratorValue.{IsCopy, KeepsGiven};
 ghost use Rattle.logos_generator.specs.Numbering.{HasNodesOf, tests_of};

@@ -1,7 +1,7 @@
 -- An automaton that reads one byte late, without ambiguous sets, marks one byte late.
 use Rattle.std.proofs.Common.{◌≡◌, ℕ, suc, Bool, true, false, ◌||◌, List, [], ◌∷◌, ◌++◌, map, length, Contains, IsSomeAnd, IsTrue, MatchBool, slice_get, Option, Some, None, option_and_then, refl, sym, ◌∙◌, arith}
 use Rattle.logos_hir.specs.Text.{IsBytes}
-use Rattle.logos_hir.specs.Priority.{passable}
+use Rattle.logos_hir.specs.Passable.{passable}
 use Rattle.logos_automaton.specs.Munch.{Rule, RuleMatches}
 use Rattle.logos_automaton.specs.Ambiguity.{IsAmbiguous}
 use Rattle.logos_automaton.specs.Faults.{no_universal_start, empty_match, disambiguation, some_leads, some_passable, ArePassable, AreAmbiguous, AreFaults, AllStart}

@@ -1,13 +1,7 @@
 -- Texts that loops make, part by part.
-use Rattle.std.proofs.Common.{◌≡◌, ℕ, ◌+◌, ◌<◌, ◌≤◌, List, [], ◌∷◌, ◌++◌, length, map, take, drop, get_or, drop-cons, add-one, append-nil, append_assoc, refl, sym, ◌∙◌, ap}
+use Rattle.std.proofs.Common.{◌≡◌, ℕ, ◌+◌, ◌<◌, ◌≤◌, List, [], ◌∷◌, ◌++◌, length, map, drop, get_or, drop-cons, add-one, append-nil, append_assoc, refl, sym, ◌∙◌, ap}
 use Rattle.std.proofs.Math.ListN.{drop_of_length-le}
-use Rattle.std.proofs.lemmas.List.{get_or_default, map-append, take_more}
-use Rattle.std.proofs.lemmas.List.Concat.{flat_map-append}
 use Rattle.std.specs.List.{flat_map}
-use Rattle.std.specs.Range.{range_inclusive_start, range_inclusive_end}
-use Rattle.std.specs.declared.ops.RangeInclusive.{RangeInclusive}
-use Rattle.logos_graph.specs.Bytes.{bounds}
-use Rattle.logos_graph.specs.ClassText.{range_text, next_ranges_text}
 use Rattle.logos_graph.specs.Graph.{GraphState}
 use Rattle.logos_graph.specs.GraphView.{graph_state_of}
 use Rattle.logos_graph.specs.Mermaid.{state_lines, lines_from}
@@ -46,15 +40,3 @@ state_added states s state whole old new l is e all =
 pub states_added : (states : List StateData) (s : ℕ) (whole text : List ℕ) → length states ≤ s → text ++ lines_from s (map graph_state_of (drop s states)) ≡ whole → text ≡ whole
 states_added states s whole text l all =
     sym (append-nil text) ∙ ap (λ (rest : List StateData). text ++ lines_from s (map graph_state_of rest)) (sym (drop_of_length-le states l)) ∙ all
-
--- one more range behind a text
-pub range_added : (between : List ℕ) (ranges : List (RangeInclusive ℕ)) (i : ℕ) (d e : RangeInclusive ℕ) (first last : ℕ) → i < length ranges →
-    first ≡ range_inclusive_start (get_or ranges i d) → last ≡ range_inclusive_end (get_or ranges i e) →
-    next_ranges_text between (map bounds (take i ranges)) ++ (between ++ range_text (first, last)) ≡ next_ranges_text between (map bounds (take (i + 1) ranges))
-range_added between ranges i d e first last l start end =
-    let same : (first, last) ≡ bounds (get_or ranges i d) = rw (start, end, get_or_default ranges i e d l) refl in
-    ap (λ r. next_ranges_text between (map bounds (take i ranges)) ++ (between ++ range_text r)) same
-    ∙ sym (ap (λ rs. next_ranges_text between (map bounds rs)) (take_more ranges i d l)
-    ∙ ap (next_ranges_text between) (map-append bounds (take i ranges) (get_or ranges i d ∷ []))
-    ∙ flat_map-append (λ range. between ++ range_text range) (map bounds (take i ranges)) (bounds (get_or ranges i d) ∷ [])
-    ∙ ap (λ text. next_ranges_text between (map bounds (take i ranges)) ++ text) (append-nil (between ++ range_text (bounds (get_or ranges i d)))))

@@ -7,13 +7,13 @@ use Rattle.std.proofs.lemmas.List.Folds.{list_any-append}
 use Rattle.std.proofs.lemmas.List.Elements.{All-nil, All-cons, All-head, All-tail, All-weaker}
 use Rattle.std.specs.List.{All}
 use Rattle.std.specs.List.Sorted.{IsStrictlyIncreasing}
-use Rattle.logos_graph.specs.Bytes.{AreSeparated, AreSeparatedFrom}
+use Rattle.logos_byte_class.specs.Bytes.{AreSeparated, AreSeparatedFrom}
 use Rattle.logos_graph.specs.FinishedGraph.{Edge, edge_leads, AreNeat}
-use Rattle.logos_places.specs.ByteRanges.{is_in}
+use Rattle.logos_hir.specs.ByteRanges.{is_in}
 use Rattle.logos_graph.specs.GraphView.{edge_of, state_number}
 use Rattle.logos_places.specs.Marks.{IsRising, IsFirstFrom}
 use Rattle.logos_graph.specs.inside.States.{targets, with_range, with_run, IsEdgeOf, AreEdgesOf}
-use Rattle.logos_graph.specs.declared.byte_class.ByteClass.{ByteClass}
+use Rattle.logos_byte_class.specs.declared.byte_class.ByteClass.{ByteClass}
 use Rattle.logos_graph.specs.declared.graph.State.{State}
 use Rattle.logos_reduce.specs.Rows.{target_of}
 

@@ -7,7 +7,7 @@ use Rattle.std.specs.List.{find}
 use Rattle.logos_hir.specs.Text.{IsBytes}
 use Rattle.logos_graph.specs.FinishedGraph.{IsLate, IsUnmarked, NamesLeaves, IsFit}
 use Rattle.logos_graph.specs.Graph.{GraphState, next_by, next_at_end, walk, type_after}
-use Rattle.logos_places.specs.ByteRanges.{is_in}
+use Rattle.logos_hir.specs.ByteRanges.{is_in}
 use Rattle.logos_graph.specs.Least.{IsLeast, IsEvidence}
 use Rattle.logos_automaton.specs.Munch.{Rule}
 use Rattle.logos_graph.specs.ReduceShown.{Shows}

@@ -1,4 +1,3 @@
-pub mod JoinLemmas
 pub mod Automaton
 pub mod First
 pub mod Longest

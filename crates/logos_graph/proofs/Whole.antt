@@ -3,9 +3,8 @@ use Rattle.std.proofs.Common.{◌≡◌, ◌↔◌, ℕ, ◌<◌, ◌≤◌, ◌
 use Rattle.std.proofs.lemmas.Bool.{cases_lt}
 use Rattle.std.proofs.lemmas.List.Elements.{All-append, All-cons, All-nil}
 use Rattle.logos_hir.specs.Text.{IsBytes}
-use Rattle.logos_automaton.specs.Munch.{Rule, IsFirst, Found, Finds}
+use Rattle.logos_automaton.specs.Munch.{Rule, IsInput, IsFirst, Found, Finds}
 use Rattle.logos_automaton.specs.Faults.{AreFaults}
-use Rattle.logos_graph.specs.Found.{IsInput}
 use Rattle.logos_graph.specs.Graph.{GraphState}
 use Rattle.logos_graph.specs.Reduced.{IsSettled}
 use Rattle.logos_automaton.specs.Automaton.{Automaton, ReadsOneByteLate}

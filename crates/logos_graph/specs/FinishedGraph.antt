@@ -1,9 +1,9 @@
 -- What a generator asks of a graph.
 use Rattle.std.specs.Prelude.{◌≡◌, ◌≢◌, ℕ, ◌<◌, true, List, length, Option, None, Some, IsSome, IfSome, IsSomeAnd, option_map, find, slice_get}
 use Rattle.std.specs.List.{All, AllPairs}
-use Rattle.logos_graph.specs.Bytes.{AreSeparated}
+use Rattle.logos_byte_class.specs.Bytes.{AreSeparated}
 use Rattle.logos_graph.specs.Graph.{GraphState}
-use Rattle.logos_places.specs.ByteRanges.{is_in}
+use Rattle.logos_hir.specs.ByteRanges.{is_in}
 use Rattle.logos_reduce.specs.Edges.{StateType}
 use Rattle.logos_reduce.specs.Table.{size, to, mark, type_of}
 use Rattle.logos_reduce.specs.declared.table.Table.{Table}

@@ -1,7 +1,6 @@
 -- What a graph finds at a place of an input.
-use Rattle.std.specs.Prelude.{◌≡◌, ℕ, ◌+◌, ◌-◌, ◌<◌, ◌≤◌, ◌↔◌, Bool, false, List, length, take, drop, Option, Some, None, option_and_then, IsSome, IsTrue, IsUtf8, IsCharBoundary, nat_lt}
-use Rattle.logos_hir.specs.Text.{IsBytes}
-use Rattle.logos_automaton.specs.Munch.{Rule, Found, ended, matched, failed, Finds}
+use Rattle.std.specs.Prelude.{◌≡◌, ℕ, ◌+◌, ◌-◌, ◌<◌, ◌≤◌, ◌↔◌, Bool, false, List, length, take, drop, Option, Some, None, option_and_then, IsSome, IsTrue, IsCharBoundary, nat_lt}
+use Rattle.logos_automaton.specs.Munch.{Rule, IsInput, Found, ended, matched, failed, Finds}
 use Rattle.logos_graph.specs.Graph.{GraphState, walk, type_after}
 use Rattle.logos_reduce.specs.Edges.{StateType}
 
@@ -49,10 +48,6 @@ module _ (graph : List GraphState) (utf8 : Bool) (bytes : List ℕ) (from : ℕ)
   GraphFinds ended = length bytes ≤ from
   GraphFinds (matched leaf to) = (from < length bytes) × IsLastMark leaf to
   GraphFinds (failed to) = IsUnmarked to
-
--- an input that a lexer of this mode takes
-abbrev pub IsInput : Bool → List ℕ → Type 0
-IsInput utf8 bytes = IsBytes bytes × (IsTrue utf8 → IsUtf8 bytes)
 
 -- At each place of each input the graph finds what maximal munch finds there.
 abbrev pub FindsTheLongest : List Rule → Bool → List GraphState → Type 0

@@ -3,8 +3,8 @@ use Rattle.std.specs.Prelude.{ℕ, List, map, option_map}
 use Rattle.logos_hir.specs.declared.leaf.LeafId.{LeafId}
 use Rattle.logos_reduce.specs.Edges.{StateType}
 use Rattle.logos_graph.specs.Graph.{GraphState}
-use Rattle.logos_graph.specs.Bytes.{ranges_of}
-use Rattle.logos_graph.specs.declared.byte_class.ByteClass.{ByteClass}
+use Rattle.logos_byte_class.specs.Bytes.{ranges_of}
+use Rattle.logos_byte_class.specs.declared.byte_class.ByteClass.{ByteClass}
 use Rattle.logos_graph.specs.declared.graph.State.{State}
 use Rattle.logos_graph.specs.declared.graph.StateType.{StateType as TheStateType}
 use Rattle.logos_graph.specs.declared.graph.StateData.{StateData}

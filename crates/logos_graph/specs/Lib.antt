@@ -2,7 +2,6 @@ pub mod Graph
 pub mod Found
 pub mod Reduced
 pub mod Least
-pub mod Bytes
 pub mod View
 pub mod ReduceShown
 pub mod GraphView
@@ -11,7 +10,6 @@ pub mod FinishedGraph
 pub mod GraphOf
 pub mod GraphInside
 pub mod StatesView
-pub mod ClassText
 pub mod Mermaid
 pub mod StateEquality
 pub mod inside

@@ -4,13 +4,13 @@ use Rattle.std.specs.Cmp.{IsPartialEquivalence, on_per, and_per, partial_equiv_f
 use Rattle.std.specs.Cmp.Lexicographic.{pointwise, lists_per, options_equiv}
 use Rattle.std.specs.Option.{option_eq}
 use Rattle.std.specs.Ordering.{on, eq_of_both}
-use Rattle.logos_graph.specs.contracts.byte_class.ByteClassPartialEq.TheImpl as class_eq
-use Rattle.logos_graph.specs.contracts.byte_class.ByteClassPartialEq.TheImpl.Laws as class_laws
+use Rattle.logos_byte_class.specs.contracts.byte_class.ByteClassPartialEq.TheImpl as class_eq
+use Rattle.logos_byte_class.specs.contracts.byte_class.ByteClassPartialEq.TheImpl.Laws as class_laws
 use Rattle.logos_graph.specs.contracts.graph.StatePartialEq.TheImpl as number_eq
 use Rattle.logos_graph.specs.contracts.graph.StateEq.TheImpl.Laws as number_laws
 use Rattle.logos_graph.specs.contracts.graph.StateTypePartialEq.TheImpl as type_eq
 use Rattle.logos_graph.specs.contracts.graph.StateTypePartialEq.TheImpl.Laws as type_laws
-use Rattle.logos_graph.specs.declared.byte_class.ByteClass.{ByteClass}
+use Rattle.logos_byte_class.specs.declared.byte_class.ByteClass.{ByteClass}
 use Rattle.logos_graph.specs.declared.graph.State.{State}
 use Rattle.logos_graph.specs.declared.graph.StateData.{StateData}
 

@@ -10,10 +10,10 @@ mod reduction;
 mod states;
 mod value;
 
-pub use crate::byte_class::{ByteClass, Comparisons};
 pub use evidence::Telling;
 pub use logos_automaton::dfa::{Children, Dfa, Matches, StateId};
 pub use logos_automaton::errors::{BuildError, GraphError};
+pub use logos_byte_class::byte_class::{ByteClass, Comparisons};
 use logos_hir::leaf::LeafId;
 pub use value::{Graph, States};
 

@@ -2,10 +2,10 @@
 
 #![tactic(auto)]
 
-pub mod byte_class;
 pub mod graph;
 pub mod laws;
 mod leaves;
 mod raw_table;
 
 pub use logos_automaton::dfa;
+pub use logos_byte_class::byte_class;

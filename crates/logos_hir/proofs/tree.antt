@@ -3,6 +3,5 @@ pub mod Order
 pub mod Laws
 pub mod PassableRows
 pub mod TreeViews
-pub mod MeasureLemmas
 pub mod BuildLemmas
 pub mod SimplifyLemmas

@@ -1,10 +1,10 @@
 pub mod Text
+pub mod ByteRanges
 pub mod Tree
 pub mod Looks
 pub mod Matches
-pub mod Priority
+pub mod Passable
 pub mod Hir
-pub mod Measure
 pub mod Sets
 pub mod RangeSets
 pub mod inside

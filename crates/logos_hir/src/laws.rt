@@ -1,23 +1,10 @@
-//! Laws of trees.
+//! Laws of looks.
 
-ghost use Rattle.std.specs.Prelude.{◌≡◌, ◌≢◌, ℕ, ◌++◌, ◌∷◌, false, Bool, List, Option, Some, length};
+ghost use Rattle.std.specs.Prelude.{◌≡◌, ◌≢◌, ℕ, ◌++◌, ◌∷◌, false, List, Some, length};
 ghost use Rattle.logos_hir.specs.Looks.{is_word, Holds};
-ghost use Rattle.logos_hir.specs.Tree.{Tree, repetition};
 ghost use Rattle.logos_hir.specs.declared.hir.Look.{Look};
-ghost use Rattle.logos_hir.specs.Matches.{Matches};
-ghost use Rattle.logos_hir.specs.Priority.{value};
 
-/// A lazy and a greedy repetition have the same matches, and the same priority.
-pub fn lazy_and_greedy()
-    ensures matches { (least : ℕ) (most : Option ℕ) (lazy greedy : Bool) (body : Tree)
-        (bytes : List ℕ) (from to : ℕ) →
-        Matches (repetition least most lazy body) bytes from to →
-        Matches (repetition least most greedy body) bytes from to }
-    ensures priority { (least : ℕ) (most : Option ℕ) (lazy greedy : Bool) (body : Tree) →
-        value (repetition least most lazy body) ≡ value (repetition least most greedy body) }
-{}
-
-/// A look that holds between some bytes and a byte that is neither a word byte nor CR nor LF holds at the end of those bytes too.
+/// A look that holds in front of a byte that is neither a word byte nor CR nor LF also holds where the bytes end there.
 pub fn looks_hold_at_the_end()
     ensures { (look : Look) (bytes rest : List ℕ) (b : ℕ) →
         is_word (Some b) ≡ false → b ≢ 10 → b ≢ 13 →

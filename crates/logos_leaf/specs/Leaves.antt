@@ -8,8 +8,8 @@ use Rattle.logos_token.specs.Held.{Held, of_text, of_bytes}
 use Rattle.logos_pattern.specs.Leaf.{KindValue}
 use Rattle.logos_pattern.specs.Escaping.{escaped_text, escaped_bytes}
 use Rattle.logos_hir.specs.Hir.{literal_tree}
-use Rattle.logos_hir.specs.Measure.{fitted, has_greedy_dot}
-use Rattle.logos_hir.specs.Priority.{value}
+use Rattle.logos_measures.specs.Measure.{fitted, has_greedy_dot}
+use Rattle.logos_measures.specs.Priority.{value}
 use Rattle.logos_hir.specs.Tree.{Tree}
 use Rattle.logos_attribute.specs.Callbacks.{CallbackView}
 use Rattle.logos_attribute.specs.Told.{Told, telling, quiet, and_then, fault, only, Tells}

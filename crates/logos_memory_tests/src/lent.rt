@@ -147,7 +147,7 @@ fn unit_by<'s>(
             .types
             .set("A".to_ident(), given.type_tokens.run(), errors),
         UnitCall::Check => parser.types.check(errors),
-        UnitCall::Merge => Ok(lent.class.merge(alloc, other)?),
+        UnitCall::Merge => lent.class.merge(alloc, other),
     }
 }
 

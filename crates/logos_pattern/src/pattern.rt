@@ -2,8 +2,8 @@
 
 ghost use Rattle.std.specs.Prelude.{◌≡◌, ◌≤◌, ◌++◌, ℕ, chars, IfOk, IfErr, IsTrue, Some};
 ghost use Rattle.logos_hir.specs.Hir.{tree_of, literal_tree};
-ghost use Rattle.logos_hir.specs.Priority.{value};
-ghost use Rattle.logos_hir.specs.Measure.{fitted, is_text, has_greedy_dot};
+ghost use Rattle.logos_measures.specs.Priority.{value};
+ghost use Rattle.logos_measures.specs.Measure.{fitted, is_text, has_greedy_dot};
 ghost use Rattle.logos_pattern_tokens.specs.declared.error.PatternError.TheVariants as errors;
 ghost use Rattle.logos_syntax.specs.Nesting.{IsTooDeep};
 ghost use Rattle.logos_syntax.specs.Grammar.{IsSpelled, IsFound, Refuses, first_flags};
@@ -17,8 +17,9 @@ pub mod literal;
 pub use error::{Kind, PatternError};
 pub use hir::{Class, Hir, Look, Range};
 pub use literal::Literal;
-pub use logos_hir::laws::{lazy_and_greedy, looks_hold_at_the_end};
-use logos_hir::measure;
+pub use logos_hir::laws::looks_hold_at_the_end;
+pub use logos_measures::laws::lazy_and_greedy;
+use logos_measures::measure;
 use logos_pattern_tokens::token::Flags;
 pub use logos_syntax::parser::one_tree;
 use logos_syntax::parser::parse;

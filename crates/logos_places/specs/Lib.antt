@@ -1,4 +1,3 @@
-pub mod ByteRanges
 pub mod Core
 pub mod IsCore
 pub mod Kinds

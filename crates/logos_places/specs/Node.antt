@@ -1,7 +1,7 @@
 -- What a tree that was made ready stands for.
 use Rattle.std.specs.Prelude.{ℕ, ◌+◌, Bool, true, ◌&&◌, ◌==◌, nat_lt, nat_le, IsTrue, List, [], ◌∷◌, Option, Some, None}
 use Rattle.logos_hir.specs.Hir.{pairs}
-use Rattle.logos_places.specs.ByteRanges.{is_in}
+use Rattle.logos_hir.specs.ByteRanges.{is_in}
 use Rattle.logos_places.specs.Core as core
 use Rattle.logos_places.specs.Core.{Core, width}
 use Rattle.logos_places.specs.Repeat.{spelled, repeated}

@@ -2,7 +2,7 @@
 use Rattle.std.specs.Prelude.{ℕ, Bool, true, false, List, [], ◌++◌, flat_map, codes, if◌then◌else◌}
 use Rattle.logos_token.specs.declared.error.fault_code.FaultCode.TheVariants.{Utf8Pattern}
 use Rattle.logos_token.specs.Faults.{Fault}
-use Rattle.logos_hir.specs.Measure.{is_text}
+use Rattle.logos_measures.specs.Measure.{is_text}
 use Rattle.logos_pattern.specs.Leaf.{KindValue, plain, holding, skipped}
 use Rattle.logos_attribute.specs.Told.{fault, only}
 use Rattle.logos_leaf.specs.Leaves.{LeafView}

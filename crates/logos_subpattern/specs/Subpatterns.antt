@@ -6,7 +6,7 @@ use Rattle.logos_token.specs.declared.error.fault_code.FaultCode.TheVariants.{Su
 use Rattle.logos_token.specs.Faults.{Fault}
 use Rattle.logos_token.specs.Held.{Held, of_text, of_bytes}
 use Rattle.logos_pattern.specs.Escaping.{escaped_text, escaped_bytes}
-use Rattle.logos_hir.specs.Measure.{is_text}
+use Rattle.logos_measures.specs.Measure.{is_text}
 use Rattle.logos_hir.specs.Tree.{Tree}
 use Rattle.logos_type_params.specs.TypeParams.{previous}
 use Rattle.logos_attribute.specs.Slices.{Slice}

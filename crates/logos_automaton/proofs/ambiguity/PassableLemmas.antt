@@ -1,7 +1,7 @@
 -- The leaves whose trees can be passed.
 use Rattle.std.proofs.Common.{◌≡◌, ℕ, zero, suc, ◌+◌, ◌<◌, ◌≤◌, inl, inr, Bool, true, false, cond, List, [], ◌∷◌, get_or, IsSomeAnd, IsTrue, slice_get, refl, subst, arith}
 use Rattle.std.specs.List.Sorted.{IsStrictlyIncreasing}
-use Rattle.logos_hir.specs.Priority.{passable}
+use Rattle.logos_hir.specs.Passable.{passable}
 use Rattle.logos_automaton.specs.Munch.{Rule}
 use Rattle.logos_automaton.specs.Faults.{ArePassable}
 use Rattle.logos_automaton.proofs.ambiguity.SameMembers.{Has, has_from_contains, contains_from_has}

@@ -6,7 +6,7 @@ use Rattle.logos_hir.specs.Text.{StandsAt, IsBytes}
 use Rattle.logos_automaton.specs.Munch.{Rule, RuleMatches, priority_of, IsBest, Grows, IsStop}
 use Rattle.logos_places.specs.Places.{Reads, byte_of, within}
 use Rattle.logos_hir.proofs.tree.Bounds.{matches_within}
-use Rattle.logos_hir.specs.Priority.{passable}
+use Rattle.logos_hir.specs.Passable.{passable}
 
 -- `([a&&b])*`
 pub empty_class_star : passable (repetition 0 None true (capture (char_class []))) ≡ true

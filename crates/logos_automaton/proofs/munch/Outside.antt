@@ -6,7 +6,7 @@ use Rattle.std.specs.List.{list_any}
 use Rattle.logos_hir.specs.Text.{StandsAt}
 use Rattle.logos_hir.specs.Tree.{Tree, empty, literal, byte_class, char_class, look, repetition, capture, concat, alternation, Trees, none, also}
 use Rattle.logos_hir.specs.Matches.{Matches, MatchesInOrder, SomeMatches, Pieces}
-use Rattle.logos_hir.specs.Priority.{passable, all_passable, some_passable}
+use Rattle.logos_hir.specs.Passable.{passable, all_passable, some_passable}
 use Rattle.logos_hir.proofs.tree.Bounds.{matches_within}
 use Rattle.logos_hir.proofs.tree.Laws.{is_zero, encoded, either_true, both_true}
 use Rattle.logos_automaton.specs.Munch.{Rule, RuleMatches}

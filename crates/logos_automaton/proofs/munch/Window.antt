@@ -7,7 +7,7 @@ use Rattle.logos_hir.specs.Text.{StandsAt, byte_before, byte_after}
 use Rattle.logos_hir.specs.Tree.{Tree, empty, literal, byte_class, char_class, look, repetition, capture, concat, alternation, Trees, none, also}
 use Rattle.logos_hir.specs.Looks.{holds_between}
 use Rattle.logos_hir.specs.Matches.{Matches, MatchesInOrder, SomeMatches, Pieces}
-use Rattle.logos_hir.specs.Priority.{passable, leads, leads_in_order, some_leads}
+use Rattle.logos_hir.specs.Passable.{passable, leads, leads_in_order, some_leads}
 use Rattle.logos_hir.proofs.tree.Bounds.{Within, pieces_within, matches_within, parts_within}
 use Rattle.logos_hir.proofs.tree.Laws.{passes}
 use Rattle.logos_automaton.specs.Munch.{Rule, RuleMatches}

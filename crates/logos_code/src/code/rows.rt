@@ -1,7 +1,7 @@
 //! Rows: what each byte does in a state, found by one look.
 ghost use Rattle.std.specs.Prelude.{◌≡◌, ◌==◌, ◌<◌, ◌⊎◌, false, ℕ, List, length, map};
 ghost use Rattle.std.specs.Prelude.{None, Some, option_map, IfOk, IfSome, slice_index_or};
-ghost use Rattle.logos_graph.specs.Bytes.{comparison_of, some_compares};
+ghost use Rattle.logos_byte_class.specs.Bytes.{comparison_of, some_compares};
 ghost use Rattle.logos_code.specs.Bytes.{passes_test};
 ghost use Rattle.logos_code.specs.Code.{by_conditions};
 ghost use Rattle.logos_code.specs.Headline.{IsSound, NamesTest, NamesState};
@@ -12,7 +12,7 @@ ghost use Rattle.logos_code.specs.CodeView.{jumps_of, state_of, has_mask, code_o
 ghost use Rattle.logos_code.specs.Rows.{closing, IsStepOf, Says, IsEntry, IsRow, AreRows};
 
 use super::{CodeParts, CodeState, Condition, Fork, Mark, target_of};
-use logos_graph::byte_class::Comparisons;
+use logos_byte_class::byte_class::Comparisons;
 use logos_hir::leaf::LeafId;
 use std::alloc::{AllocError, Global};
 

@@ -4,7 +4,7 @@ ghost use Rattle.std.specs.Prelude.{OnErr, IsTrue, [], ◌∷◌, length, map, o
 ghost use Rattle.std.specs.Prelude.{find, nat_le, slice_index, None};
 ghost use Rattle.std.specs.List.{All, flat_map};
 ghost use Rattle.std.specs.Option.{option_or};
-ghost use Rattle.logos_graph.specs.Bytes.{ranges_of, has_byte, AreSeparated, comparison_of};
+ghost use Rattle.logos_byte_class.specs.Bytes.{ranges_of, has_byte, AreSeparated, comparison_of};
 ghost use Rattle.logos_code.specs.CodeView.{condition_of, branch_of, entry_of, fork_of};
 ghost use Rattle.logos_graph.specs.GraphView.{edge_of, state_number};
 ghost use Rattle.logos_generator.specs.Nodes.{hit, leads_beside, Extends, IsConditionOf};
@@ -15,8 +15,8 @@ ghost use Rattle.logos_generator.specs.StateView.{AddsBranch};
 
 use super::tests_by_bits::add_test;
 use indexmap::IndexSet;
+use logos_byte_class::byte_class::{ByteClass, Comparisons};
 use logos_code::code::{Condition, Fork, NOWHERE};
-use logos_graph::byte_class::{ByteClass, Comparisons};
 use logos_graph::graph::State;
 use std::alloc::{AllocError, Global};
 
@@ -187,7 +187,9 @@ fn condition_of(
     ensures numbers { OnOk result (tests.new.keys
         ≡ numbered tests.old.keys (condition_uses (ranges_of class.now))) }
 {
-    let comparisons = class.impl_with_cmp(alloc)?;
+    let Ok(comparisons) = class.impl_with_cmp(alloc) else {
+        return Err(AllocError);
+    };
     if are_cheap(&comparisons) {
         return Ok(Condition::Comparisons(comparisons));
     }

@@ -1,6 +1,6 @@
 //! The nodes of a code, one by one.
 ghost use Rattle.std.specs.Prelude.{◌≡◌, ◌≤◌, ◌<◌, OnOk, OnErr, IfOk, length};
-ghost use Rattle.logos_graph.specs.Bytes.{ranges_of};
+ghost use Rattle.logos_byte_class.specs.Bytes.{ranges_of};
 ghost use Rattle.logos_graph.specs.GraphView.{graph_state_of, state_number};
 ghost use Rattle.logos_generator.specs.GeneratorValue.{code_leaf_value, leaf_value};
 ghost use Rattle.logos_generator.specs.NodeCalls.{Continues, MakesFork, MakesLoop, MakesLoopOver};
@@ -12,8 +12,8 @@ use super::Generator;
 use super::fork::{impl_fork, maybe_impl_fast_loop};
 use super::leaves::leaf_made;
 use super::tests_by_bits::{add_test, tables_of};
+use logos_byte_class::byte_class::ByteClass;
 use logos_code::code::{CodeLeaf, Fork, NOWHERE};
-use logos_graph::byte_class::ByteClass;
 use logos_graph::graph::{State, StateData};
 use logos_pattern::leaf::Leaf;
 use std::alloc::{AllocError, Global};

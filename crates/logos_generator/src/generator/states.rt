@@ -1,7 +1,7 @@
 //! The states of a code, made of a graph's states.
 ghost use Rattle.std.specs.Prelude.{◌≡◌, ◌<◌, [], IfOk, OnOk, length, map, option_map};
 ghost use Rattle.std.specs.List.{All, range_with_len};
-ghost use Rattle.logos_code.specs.Headline.{RunsAs};
+ghost use Rattle.logos_generator.specs.Runs.{RunsAs};
 ghost use Rattle.logos_generator.specs.Makes.{mark_made};
 ghost use Rattle.logos_code.specs.CodeView.{mark_of, state_of};
 ghost use Rattle.logos_generator.specs.GeneratorValue.{code_leaf_value, leaf_value};

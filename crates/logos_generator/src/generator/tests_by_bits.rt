@@ -4,13 +4,13 @@ ghost use Rattle.std.specs.Prelude.{IfOk, OnOk, OnErr, length, slice_get, if◌t
 ghost use Rattle.std.specs.Bool.{beq};
 ghost use Rattle.std.specs.Cmp.Lexicographic.{pointwise};
 ghost use Rattle.indexmap.specs.IndexSet.{insert_key};
-ghost use Rattle.logos_graph.specs.Bytes.{ranges_of};
+ghost use Rattle.logos_byte_class.specs.Bytes.{ranges_of};
 ghost use Rattle.logos_code.specs.Bytes.{passes_test};
 ghost use Rattle.logos_generator.specs.Nodes.{Extends, IsTest, tests_byte};
 ghost use Rattle.logos_generator.specs.Numbering.{numbered, bits_from, bit_table, bit_tables_of};
 
 use indexmap::IndexSet;
-use logos_graph::byte_class::ByteClass;
+use logos_byte_class::byte_class::ByteClass;
 use std::alloc::{AllocError, Global};
 
 /// The number of the test for the bytes of the class. Classes with the same bytes share it.

@@ -2,12 +2,12 @@
 use Rattle.std.specs.Prelude.{◌≡◌, ◌≢◌, ℕ, ◌-◌, ◌<◌, ◌≤◌, true, List, [], ◌∷◌, ◌++◌, map, Option, Some, None, if◌then◌else◌, ◌==◌, nat_lt, Vec, slice_get, slice_index_or}
 use Rattle.std.specs.List.{All}
 use Rattle.std.specs.declared.alloc.Global.{Global}
-use Rattle.logos_graph.specs.Bytes.{AreSeparated}
+use Rattle.logos_byte_class.specs.Bytes.{AreSeparated}
 use Rattle.logos_graph.specs.FinishedGraph.{Edge, edge_leads}
 use Rattle.logos_graph.specs.Graph.{GraphState}
 use Rattle.logos_graph.specs.GraphView.{state_number}
 use Rattle.logos_graph.specs.declared.graph.StateData.{StateData}
-use Rattle.logos_places.specs.ByteRanges.{is_in}
+use Rattle.logos_hir.specs.ByteRanges.{is_in}
 use Rattle.logos_places.specs.Marks.{IsRising}
 use Rattle.logos_reduce.specs.Table.{to, mark, type_of}
 use Rattle.logos_reduce.specs.declared.table.Table.{Table}

@@ -3,8 +3,8 @@ ghost use Rattle.std.specs.Prelude.{◌≡◌, ◌<◌, ◌++◌, IfOk, OnOk, ma
 ghost use Rattle.std.specs.Prelude.{option_map, codes, string_bytes};
 ghost use Rattle.std.specs.Fmt.{decimal};
 ghost use Rattle.std.specs.List.{flat_map};
-ghost use Rattle.logos_graph.specs.Bytes.{bounds, ranges_of};
-ghost use Rattle.logos_graph.specs.ClassText.{byte_text};
+ghost use Rattle.logos_byte_class.specs.Bytes.{bounds, ranges_of};
+ghost use Rattle.logos_byte_class.specs.ClassText.{byte_text};
 ghost use Rattle.logos_graph.specs.GraphView.{edge_of, graph_state_of, state_number, state_type_of};
 ghost use Rattle.logos_graph.specs.Mermaid.{label_character, label_text, range_label};
 ghost use Rattle.logos_graph.specs.Mermaid.{next_label, class_label, state_label, state_colour};
@@ -13,8 +13,8 @@ ghost use Rattle.logos_graph.specs.Mermaid.{node_lines, edge_lines, byte_edge_li
 ghost use Rattle.logos_graph.specs.Mermaid.{end_edge_lines, state_lines, mermaid_of};
 
 use super::{State, StateData, StateType};
-use crate::byte_class::ByteClass;
-use crate::byte_class::text::{is_printable, letter_of, lower_digit};
+use logos_byte_class::byte_class::ByteClass;
+use logos_byte_class::text::{is_printable, letter_of, lower_digit};
 use logos_hir::leaf::LeafId;
 use std::alloc::{AllocError, Global};
 use std::ops::RangeInclusive;

@@ -3,7 +3,7 @@ ghost use Rattle.std.specs.Prelude.{◌≡◌, ◌≢◌, ℕ, ◌<◌, ◌≤�
 ghost use Rattle.std.specs.Prelude.{IfOk, OnOk, length, map, option_map, slice_index};
 ghost use Rattle.std.specs.List.{All};
 ghost use Rattle.logos_graph.specs.Backward.{HaveBackward};
-ghost use Rattle.logos_graph.specs.Bytes.{bounds};
+ghost use Rattle.logos_byte_class.specs.Bytes.{bounds};
 ghost use Rattle.logos_graph.specs.FinishedGraph.{AreNeat, IsFit, IsFinished};
 ghost use Rattle.logos_graph.specs.GraphView.{edge_of, graph_state_of, leaf_number};
 ghost use Rattle.logos_graph.specs.GraphView.{state_number, state_type_of};
@@ -14,7 +14,7 @@ ghost use Rattle.logos_reduce.specs.Table.{size, to, mark, type_of};
 ghost use Rattle.logos_reduce.specs.Rows.{target_by};
 
 use super::{State, StateData, StateType};
-use crate::byte_class::ByteClass;
+use logos_byte_class::byte_class::ByteClass;
 use logos_hir::leaf::LeafId;
 use logos_reduce::lists::predecessors;
 use logos_reduce::rows::{END, Row, WIDTH, target_at};

@@ -1,4 +1,4 @@
--- Laws of the definitions.
+-- Laws of looks, and of trees that match an empty span.
 use Rattle.std.proofs.Common.{◌≡◌, ◌≢◌, ℕ, zero, suc, ◌+◌, ◌≤◌, ◌<◌, ◌⊎◌, inl, inr, Bool, true, false, ◌&&◌, ◌||◌, List, [], ◌∷◌, ◌++◌, ◌-◌, length, slice_get, if◌then◌else◌, ◌==◌, Option, None, Some, IsTrue, refl, sym, ap, subst, ◌∙◌, arith, encode_utf8}
 use Rattle.std.proofs.lemmas.Bool.Decides.{nat_tests}
 use Rattle.std.proofs.lemmas.List.{length-append}
@@ -13,13 +13,7 @@ use Rattle.logos_hir.specs.declared.hir.Look.{Look}
 use Rattle.logos_hir.specs.declared.hir.Look.TheVariants.{Start, End, StartLF, EndLF, StartCRLF, EndCRLF, WordAscii, WordAsciiNegate}
 use Rattle.logos_hir.specs.Looks.{holds_between, is_word, Holds}
 use Rattle.logos_hir.specs.Matches.{Matches, MatchesInOrder, SomeMatches, Pieces}
-use Rattle.logos_hir.specs.Priority.{passable, all_passable, some_passable, value}
-
--- a lazy and a greedy repetition have the same matches and the same priority
-pub greed_is_nothing : (least : ℕ) (most : Option ℕ) (body : Tree) (bytes : List ℕ) (from to : ℕ) →
-    (Matches (repetition least most true body) bytes from to ≡ Matches (repetition least most false body) bytes from to)
-    × (value (repetition least most true body) ≡ value (repetition least most false body))
-greed_is_nothing least most body bytes from to = (refl, refl)
+use Rattle.logos_hir.specs.Passable.{passable, all_passable, some_passable}
 
 not_lf : (b : ℕ) → b ≢ 10 → (b == 10) ≡ false
 not_lf b lf = grind (arith, nat_tests)

@@ -12,7 +12,7 @@ use Rattle.logos_hir.proofs.tree.Laws.{encoded}
 use Rattle.logos_places.specs.Core as core
 use Rattle.logos_places.specs.Core.{At, Reader, Stands}
 use Rattle.logos_places.specs.inside.Characters.{IsOfScalars, IsCharOf}
-use Rattle.logos_places.specs.ByteRanges.{is_in}
+use Rattle.logos_hir.specs.ByteRanges.{is_in}
 use Rattle.logos_places.specs.Places.{Place, byte_of, member, within, Reads, begun}
 use Rattle.logos_places.specs.inside.Reader.{is_char_in, Spells, IsReaderOf, IsBegunAt}
 use Rattle.logos_places.specs.IsCore.{IsCoreOf}

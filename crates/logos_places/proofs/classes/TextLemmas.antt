@@ -6,7 +6,7 @@ use Rattle.std.proofs.lemmas.List.Folds.{Any-from_list_any, list_any-from_Any}
 use Rattle.std.proofs.lemmas.Bool.{and_parts, and_from}
 use Rattle.std.proofs.lemmas.Bool.Decides.{nat_tests}
 use Rattle.logos_hir.specs.Text.{StandsAt, InRanges}
-use Rattle.logos_places.specs.ByteRanges.{is_in}
+use Rattle.logos_hir.specs.ByteRanges.{is_in}
 use Rattle.logos_places.specs.inside.Reader.{Spells}
 
 -- a byte that is there stands in front of the rest

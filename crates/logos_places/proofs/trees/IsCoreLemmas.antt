@@ -9,7 +9,7 @@ use Rattle.logos_hir.specs.Tree.{Tree}
 use Rattle.logos_hir.specs.Matches.{Matches}
 use Rattle.logos_places.specs.Core as core
 use Rattle.logos_places.specs.Core.{Core, At, Leaves, width, IsFree}
-use Rattle.logos_places.specs.ByteRanges.{is_in}
+use Rattle.logos_hir.specs.ByteRanges.{is_in}
 use Rattle.logos_places.specs.Places.{Place, byte_of, member, within}
 use Rattle.logos_places.specs.inside.Reader.{Spells}
 use Rattle.logos_places.specs.Repeat.{spelled}

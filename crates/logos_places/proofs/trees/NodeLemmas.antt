@@ -5,7 +5,7 @@ use Rattle.std.proofs.lemmas.Bool.Decides.{nat_tests}
 use Rattle.logos_hir.specs.Hir.{pairs}
 use Rattle.logos_hir.specs.declared.hir.Look as look_type
 use Rattle.logos_hir.specs.declared.hir.Range.{Range}
-use Rattle.logos_places.specs.ByteRanges.{is_in}
+use Rattle.logos_hir.specs.ByteRanges.{is_in}
 use Rattle.logos_places.specs.Core as core
 use Rattle.logos_places.specs.Core.{width}
 use Rattle.logos_places.specs.Repeat.{IsOrdered, count_of, spelled, repeated}

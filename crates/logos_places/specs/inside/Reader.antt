@@ -3,7 +3,7 @@ use Rattle.std.specs.Prelude.{◌≡◌, ℕ, suc, ◌<◌, ◌≤◌, ◌⊎◌
 use Rattle.std.specs.Char.{encode_utf8, IsScalar}
 use Rattle.std.specs.Option.{MatchOption}
 use lib.Utf8.{scalar}
-use Rattle.logos_places.specs.ByteRanges.{is_in}
+use Rattle.logos_hir.specs.ByteRanges.{is_in}
 use Rattle.logos_places.specs.Core.{Reader}
 use Rattle.logos_places.specs.inside.Characters.{size, Lead, lead, after_lead, after_byte, IsOpen, IsBeginningOf}
 

@@ -8,7 +8,7 @@ ghost use Rattle.logos_places.specs.Node.{core_of, is_measured};
 ghost use Rattle.logos_places.specs.Repeat.{spelled, in_front, up_to, repeated, count_of, IsOrdered};
 ghost use Rattle.logos_places.specs.inside.Stepped.{Stepped, Owes};
 ghost use Rattle.logos_places.specs.Table.{reader_of};
-ghost use Rattle.logos_places.specs.ByteRanges.{is_in};
+ghost use Rattle.logos_hir.specs.ByteRanges.{is_in};
 ghost use Rattle.logos_hir.specs.Hir.{pairs};
 ghost use Rattle.logos_hir.specs.declared.hir.Look.{Look};
 

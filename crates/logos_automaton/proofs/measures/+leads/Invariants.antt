@@ -1,7 +1,7 @@
 use Rattle.std.proofs.Common.{◌≡◌, map, drop}
 use Rattle.logos_hir.specs.Tree.{trees}
 use Rattle.logos_hir.specs.Hir.{tree_of}
-use Rattle.logos_hir.specs.Priority.{leads_in_order, some_leads}
+use Rattle.logos_hir.specs.Passable.{leads_in_order, some_leads}
 use Rattle.logos_automaton.proofs.measures.+leads.Given as goal
 
 -- the list leads exactly if what is left does

@@ -1,7 +1,7 @@
 use Rattle.std.proofs.Common.{◌≡◌, map, drop}
 use Rattle.logos_hir.specs.Tree.{trees}
 use Rattle.logos_hir.specs.Hir.{tree_of}
-use Rattle.logos_hir.specs.Priority.{all_passable, some_passable}
+use Rattle.logos_hir.specs.Passable.{all_passable, some_passable}
 use Rattle.logos_automaton.proofs.measures.+passable.Given as goal
 
 -- all can be passed exactly if all that are left can

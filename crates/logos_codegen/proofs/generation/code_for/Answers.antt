@@ -1,7 +1,8 @@
 use Rattle.std.proofs.Common.{◌≡◌, map, Result, Ok, Err, IfOk}
 use Rattle.logos_graph.specs.View.{rule_of, rules_of}
 use Rattle.logos_code.specs.Code.{CodeValue}
-use Rattle.logos_code.specs.Headline.{IsLexer, RunsAs}
+use Rattle.logos_code.specs.Headline.{IsLexer}
+use Rattle.logos_generator.specs.Runs.{RunsAs}
 use Rattle.logos_generator.proofs.Compose.{is_lexer_of}
 use Rattle.logos_codegen.proofs.generation.code_for.Goals as goal
 

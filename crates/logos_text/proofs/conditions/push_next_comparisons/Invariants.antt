@@ -1,6 +1,6 @@
 use Rattle.std.proofs.Common.{◌≡◌, ◌++◌, codes, drop, map, string_bytes}
 use Rattle.std.specs.List.{flat_map}
-use Rattle.logos_graph.specs.Bytes.{comparison_of}
+use Rattle.logos_byte_class.specs.Bytes.{comparison_of}
 use Rattle.logos_text.specs.Texts.{comparison_text}
 use Rattle.logos_text.proofs.conditions.push_next_comparisons.Given as goal
 

@@ -1,5 +1,5 @@
 use Rattle.std.proofs.Common.{◌≡◌, map, drop}
-use Rattle.logos_graph.specs.Bytes.{comparison_of, some_compares}
+use Rattle.logos_byte_class.specs.Bytes.{comparison_of, some_compares}
 use Rattle.logos_code.proofs.code.rows.some_holds.Given as goal
 
 -- the comparisons that are left decide

@@ -1,5 +1,5 @@
 use Rattle.std.proofs.Common.{◌≡◌, ◌≤◌, ◌+◌, map, drop}
-use Rattle.logos_graph.specs.Bytes.{comparison_of}
+use Rattle.logos_byte_class.specs.Bytes.{comparison_of}
 use Rattle.logos_generator.specs.Nodes.{cost}
 use Rattle.logos_generator.proofs.generator.fork.are_cheap.Given as goal
 

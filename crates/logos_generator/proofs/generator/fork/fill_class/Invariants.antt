@@ -1,6 +1,6 @@
 use Rattle.std.proofs.Common.{◌≡◌, ℕ, ◌<◌, map, drop, slice_index}
-use Rattle.logos_places.specs.ByteRanges.{is_in}
-use Rattle.logos_graph.specs.Bytes.{bounds}
+use Rattle.logos_hir.specs.ByteRanges.{is_in}
+use Rattle.logos_byte_class.specs.Bytes.{bounds}
 use Rattle.logos_code.specs.CodeView.{entry_of}
 use Rattle.logos_generator.specs.Nodes.{hit}
 use Rattle.logos_generator.proofs.generator.fork.fill_class.Given as goal

@@ -4,7 +4,7 @@ use Rattle.std.proofs.lemmas.Result.{IfOk-weaker}
 use Rattle.logos_pattern.specs.declared.leaf.Leaf.{Leaf}
 use Rattle.logos_graph.specs.FinishedGraph.{IsFinished}
 use Rattle.logos_code.specs.CodeView.{code_of, use_of}
-use Rattle.logos_code.specs.Headline.{RunsAs}
+use Rattle.logos_generator.specs.Runs.{RunsAs}
 use Rattle.logos_generator.specs.Numbering.{HasNodesOf, tests_of}
 use Rattle.logos_generator.specs.StateView.{leaf_use}
 use Rattle.logos_code.specs.declared.code.CodeLeaf.{CodeLeaf}

@@ -1,5 +1,5 @@
 use Rattle.std.proofs.Common.{◌≡◌, ◌∙◌, ◌<◌, ap, sym, map}
-use Rattle.logos_graph.specs.Bytes.{AreSeparated}
+use Rattle.logos_byte_class.specs.Bytes.{AreSeparated}
 use Rattle.logos_graph.specs.FinishedGraph.{Edge}
 use Rattle.logos_graph.specs.GraphView.{edge_of}
 use Rattle.logos_generator.proofs.SoundLemmas.{All-map-iff}

@@ -1,4 +1,4 @@
-use Rattle.logos_graph.specs.Bytes.{ranges_of}
+use Rattle.logos_byte_class.specs.Bytes.{ranges_of}
 use Rattle.logos_generator.proofs.NumberLemmas.{set_is, insert_grows}
 use Rattle.logos_generator.proofs.generator.tests_by_bits.add_test.Goals as goal
 

@@ -1,6 +1,6 @@
 use Rattle.std.proofs.Common.{◌≡◌, ◌++◌, drop, map, string_bytes}
 use Rattle.std.specs.List.{flat_map}
-use Rattle.logos_graph.specs.Bytes.{bounds}
+use Rattle.logos_byte_class.specs.Bytes.{bounds}
 use Rattle.logos_graph.specs.Mermaid.{next_label}
 use Rattle.logos_graph.proofs.graph.mermaid.push_next_ranges.Given as goal
 

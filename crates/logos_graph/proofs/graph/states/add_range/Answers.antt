@@ -1,5 +1,5 @@
 use Rattle.std.proofs.Common.{map, ap, ◌∙◌}
-use Rattle.logos_graph.specs.Bytes.{bounds}
+use Rattle.logos_byte_class.specs.Bytes.{bounds}
 use Rattle.logos_graph.specs.GraphView.{edge_of}
 use Rattle.logos_graph.proofs.EdgeLemmas.{pushed_at, inserted_at}
 use Rattle.logos_graph.proofs.graph.states.add_range.Goals as goal

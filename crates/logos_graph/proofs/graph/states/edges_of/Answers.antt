@@ -1,5 +1,5 @@
 use Rattle.std.proofs.Common.{◌≡◌, ◌-◌, ◌<◌, ◌≤◌, ℕ, map, ◌∙◌, ap, refl, arith}
-use Rattle.logos_graph.specs.Bytes.{bounds}
+use Rattle.logos_byte_class.specs.Bytes.{bounds}
 use Rattle.logos_graph.specs.GraphView.{edge_of}
 use Rattle.logos_reduce.specs.Rows.{target_by, target_of}
 use Rattle.logos_graph.specs.inside.States.{with_run}

@@ -3,7 +3,7 @@ use Rattle.std.proofs.Math.Nat.{mul-le-mul_left}
 use Rattle.std.proofs.lemmas.Result.{IfOk-weaker}
 use Rattle.logos_hir.specs.Hir.{pairs}
 use Rattle.logos_hir.specs.declared.hir.Look.{Look}
-use Rattle.logos_places.specs.ByteRanges.{is_in}
+use Rattle.logos_hir.specs.ByteRanges.{is_in}
 use Rattle.logos_places.specs.Core as core
 use Rattle.logos_places.specs.Core.{width}
 use Rattle.logos_places.specs.Kinds.{test_at}

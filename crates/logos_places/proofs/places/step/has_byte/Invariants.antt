@@ -1,6 +1,6 @@
 use Rattle.std.proofs.Common.{◌≡◌, drop}
 use Rattle.logos_hir.specs.Hir.{pairs}
-use Rattle.logos_places.specs.ByteRanges.{is_in}
+use Rattle.logos_hir.specs.ByteRanges.{is_in}
 use Rattle.logos_places.proofs.places.step.has_byte.Given as goal
 
 abbrev pub invariant-loop-range : goal.invariant-loop-range

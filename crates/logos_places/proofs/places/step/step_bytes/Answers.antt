@@ -2,7 +2,7 @@ use Rattle.std.proofs.Common.{Bool, ◌≡◌, ℕ, sym}
 use Rattle.std.proofs.lemmas.Result.{IfOk-weaker}
 use Rattle.logos_hir.specs.Hir.{pairs}
 use Rattle.logos_hir.specs.declared.hir.Look.{Look}
-use Rattle.logos_places.specs.ByteRanges.{is_in}
+use Rattle.logos_hir.specs.ByteRanges.{is_in}
 use Rattle.logos_places.specs.Core as core
 use Rattle.logos_places.specs.inside.Stepped.{Stepped}
 use Rattle.logos_places.proofs.places.step.step_bytes.Goals as goal

@@ -1,0 +1,220 @@
+//! Sets of bytes, and the comparisons that test for them.
+
+ghost use Rattle.std.specs.Prelude.{◌≡◌, ℕ, ◌<◌, ◌≤◌, ◌↔◌, ◌||◌, not, IsTrue, IfOk, OnOk};
+ghost use Rattle.std.specs.Prelude.{OnErr, false, [], ◌∷◌, length, map, drop, slice_index_or};
+ghost use Rattle.logos_hir.specs.ByteRanges.{is_in};
+ghost use Rattle.logos_byte_class.specs.Bytes.{bounds, ranges_of, has_byte, AreSeparated, comparison_of};
+ghost use Rattle.logos_byte_class.specs.Bytes.{compares, some_compares, joined, operations};
+
+use logos_token::error::Memory;
+use std::alloc::{AllocError, Global};
+use std::ops::RangeInclusive;
+
+/// A set of bytes, as ranges.
+#[derive(Clone, Debug, PartialEq, Eq, Hash, Drop)]
+pub struct ByteClass {
+    /// The bytes from each range's start to its end, both included.
+    pub ranges: Vec<RangeInclusive<u8>>,
+}
+
+impl ByteClass {
+    /// Returns whether the class holds the byte.
+    fn has(&self, byte: u8) -> bool
+        ensures { result ≡ has_byte self.now byte }
+    {
+        for range in &self.ranges {
+            if *range.start() <= byte && byte <= *range.end() {
+                return true;
+            }
+        }
+        false
+    }
+
+    /// Returns whether each range holds a byte, and the ranges ascend with at least one byte between each two.
+    pub fn is_separated(&self) -> bool
+        ensures { IsTrue result ↔ AreSeparated (ranges_of self.now) }
+    {
+        let mut least: usize = 0;
+        for range in &self.ranges {
+            let first = *range.start() as usize;
+            let last = *range.end() as usize;
+            if first < least || last < first {
+                return false;
+            }
+            least = last + 2;
+        }
+        true
+    }
+
+    /// Returns a table that says for each byte whether the class holds it.
+    pub fn to_table(&self) -> [bool; 256]
+        ensures { (b : ℕ) → b < 256 → slice_index_or result b false ≡ has_byte self.now b }
+    {
+        let mut table = [false; 256];
+        for byte in 0..256 {
+            table[byte] = self.has(byte as u8);
+        }
+        table
+    }
+}
+
+impl ByteClass {
+    /// Adds the bytes of the other class. Afterwards the ranges ascend with at least one byte between each two, whatever
+    /// they were before.
+    ///
+    /// # Errors
+    /// Returns `Memory` when memory runs out. The class is then as it was.
+    pub fn merge(&mut self, alloc: Global, other: &ByteClass) -> Result<(), Memory>
+        ensures union { OnOk result ((b : ℕ) → b < 256 →
+            has_byte self.new b ≡ (has_byte self.old b || has_byte other.now b)) }
+        ensures separated { OnOk result (AreSeparated (ranges_of self.new)) }
+        ensures unchanged { OnErr result (self.new ≡ self.old) }
+    {
+        let table = self.table_with(other);
+        let ranges = ranges_of_table(alloc, &table)?;
+        self.ranges = ranges;
+        Ok(())
+    }
+
+    /// Returns a table that says for each byte whether one of the two classes holds it.
+    fn table_with(&self, other: &ByteClass) -> [bool; 256]
+        ensures { (b : ℕ) → b < 256 → slice_index_or result b false
+            ≡ (has_byte self.now b || has_byte other.now b) }
+    {
+        let mut table = [false; 256];
+        for byte in 0..256 {
+            table[byte] = self.has(byte as u8) | other.has(byte as u8);
+        }
+        table
+    }
+
+    /// Returns comparisons that hold for exactly the bytes of the class. Ranges with just one byte between them share a
+    /// comparison, and that byte is one of its exceptions. The class must be separated, as `is_separated` tests.
+    ///
+    /// # Errors
+    /// Returns `Memory` when memory runs out.
+    pub fn impl_with_cmp(&self, alloc: Global) -> Result<Vec<Comparisons>, Memory>
+        requires { AreSeparated (ranges_of self.now) }
+        ensures shape { IfOk result (λ made. map comparison_of made.items
+            ≡ joined (ranges_of self.now)) }
+        ensures members { IfOk result (λ made. (b : ℕ) → b < 256 →
+            some_compares (map comparison_of made.items) b ≡ has_byte self.now b) }
+    {
+        let ranges = self.ranges.as_slice();
+        let mut made = Vec::new(alloc);
+        let mut next = 0;
+        while next < ranges.len() {
+            let (comparison, count) = first_comparison(alloc, &ranges[next..])?;
+            made.push(comparison)?;
+            next += count;
+        }
+        Ok(made)
+    }
+}
+
+/// Returns the first byte from `from` on whose mark is `wanted`, or 256 if there is none.
+fn first_where(table: &[bool], from: usize, wanted: bool) -> usize
+    requires long { length table.now ≡ 256 }
+    requires within { from ≤ 256 }
+    ensures after { from ≤ result }
+    ensures bound { result ≤ 256 }
+    ensures before { (b : ℕ) → from ≤ b → b < result →
+        slice_index_or table.now b false ≡ not wanted }
+    ensures at { result < 256 → slice_index_or table.now result false ≡ wanted }
+{
+    for i in from..256 {
+        if table[i] == wanted {
+            return i;
+        }
+    }
+    256
+}
+
+/// Returns the ranges of the bytes that the table marks.
+fn ranges_of_table(alloc: Global, table: &[bool]) -> Result<Vec<RangeInclusive<u8>>, AllocError>
+    requires { length table.now ≡ 256 }
+    ensures members { IfOk result (λ made. (b : ℕ) → b < 256 →
+        is_in (map bounds made.items) b ≡ slice_index_or table.now b false) }
+    ensures separated { IfOk result (λ made. AreSeparated (map bounds made.items)) }
+{
+    let mut made = Vec::new(alloc);
+    let mut start = first_where(table, 0, true);
+    while start < 256 {
+        let end = first_where(table, start, false);
+        made.push(RangeInclusive::new(start as u8, (end - 1) as u8))?;
+        start = first_where(table, end, true);
+    }
+    Ok(made)
+}
+
+/// Returns the comparison for as many of the first ranges as it can take in, and the number of these ranges.
+fn first_comparison(
+    alloc: Global,
+    ranges: &[RangeInclusive<u8>],
+) -> Result<(Comparisons, usize), AllocError>
+    requires { 0 < length ranges.now }
+    ensures count { IfOk result (λ made. (0 < made.1) × (made.1 ≤ length ranges.now)) }
+    ensures shape { IfOk result (λ made. joined (map bounds ranges.now)
+        ≡ comparison_of made.0 ∷ joined (map bounds (drop made.1 ranges.now))) }
+{
+    let first = *ranges[0].start();
+    let mut last = *ranges[0].end();
+    let mut except = Vec::new(alloc);
+    let mut next = 1;
+    while next < ranges.len() && *ranges[next].start() as usize == last as usize + 2 {
+        except.push(last + 1)?;
+        last = *ranges[next].end();
+        next += 1;
+    }
+    Ok((
+        Comparisons {
+            range: RangeInclusive::new(first, last),
+            except,
+        },
+        next,
+    ))
+}
+
+/// A range of bytes without some of them.
+#[derive(Debug, Drop)]
+pub struct Comparisons {
+    /// The bytes from its start to its end, both included.
+    pub range: RangeInclusive<u8>,
+    /// The bytes of the range that are left out.
+    pub except: Vec<u8>,
+}
+
+impl Comparisons {
+    /// Returns the comparison for the whole range, with no exceptions. The list of exceptions takes its memory from `alloc`
+    /// when it grows; this call takes none.
+    pub fn new(alloc: Global, range: RangeInclusive<u8>) -> Comparisons
+        ensures range { result.range ≡ range }
+        ensures except { result.except.items ≡ [] }
+    {
+        Comparisons {
+            range,
+            except: Vec::new(alloc),
+        }
+    }
+
+    /// Returns the number of operations that test a byte: one for a single byte, else one for a start above 0 and one for an
+    /// end below 255; and one for each exception.
+    pub fn count_ops(&self) -> usize
+        ensures { result ≡ operations (comparison_of self.now) }
+    {
+        let first = *self.range.start();
+        let last = *self.range.end();
+        let exceptions = self.except.len();
+        if first == last {
+            return 1 + exceptions;
+        }
+        (first > 0) as usize + (last < 255) as usize + exceptions
+    }
+
+    /// Returns whether the byte is in the range and is not an exception.
+    pub fn holds(&self, byte: u8) -> bool
+        ensures { result ≡ compares (comparison_of self.now) byte }
+    {
+        *self.range.start() <= byte && byte <= *self.range.end() && !self.except.contains(&byte)
+    }
+}

@@ -1,0 +1,127 @@
+//! How bytes and sets of bytes print.
+
+ghost use Rattle.std.specs.Prelude.{◌≡◌, ◌<◌, ◌≤◌, ◌↔◌, IsTrue, IsFalse, IfSome, Some, codes, map};
+ghost use Rattle.logos_byte_class.specs.Bytes.{bounds, ranges_of};
+ghost use Rattle.logos_byte_class.specs.ClassText.{letter_of, lower_digit, byte_text};
+ghost use Rattle.logos_byte_class.specs.ClassText.{range_text, next_ranges_text, class_text};
+
+use crate::byte_class::ByteClass;
+use std::fmt;
+use std::ops::RangeInclusive;
+
+/// Returns the letter that follows `\` where the byte prints as an escape with a letter.
+pub fn letter_of(byte: u8) -> Option<char>
+    ensures is { result ≡ letter_of byte }
+    ensures ascii { IfSome result (λ letter. letter < 128) }
+{
+    match byte {
+        b'\t' => Some('t'),
+        b'\r' => Some('r'),
+        b'\n' => Some('n'),
+        b'\'' => Some('\''),
+        b'"' => Some('"'),
+        b'\\' => Some('\\'),
+        _ => None,
+    }
+}
+
+/// Returns whether the byte prints as itself.
+pub fn is_printable(byte: u8) -> bool
+    ensures { IsTrue result ↔ ((32 ≤ byte) × (byte < 127)) }
+{
+    (32..127).contains(&byte)
+}
+
+/// Returns a hexadecimal digit in lower case.
+pub fn lower_digit(value: u8) -> char
+    requires { value < 16 }
+    ensures is { result ≡ lower_digit value }
+    ensures ascii { result < 128 }
+{
+    if value < 10 {
+        return char::from(b'0' + value);
+    }
+    char::from(b'a' + (value - 10))
+}
+
+/// Prints a byte.
+#[derive(Clone, Copy)]
+struct ByteText(u8);
+
+/// Prints a range of bytes.
+#[derive(Clone, Copy)]
+struct RangeText(u8, u8);
+
+impl fmt::Display for ByteText {
+    ghost output = { λ byte. Some (byte_text byte.0) };
+
+    fn fmt<W: fmt::Write>(&self, f: &mut fmt::Formatter<W>) -> fmt::Result {
+        let byte = self.0;
+        if let Some(letter) = letter_of(byte) {
+            return write!(f, "\\{letter}");
+        }
+        if is_printable(byte) {
+            let character = char::from(byte);
+            return write!(f, "{character}");
+        }
+        let high = lower_digit(byte / 16);
+        let low = lower_digit(byte % 16);
+        write!(f, "\\x{high}{low}")
+    }
+}
+
+impl fmt::Display for RangeText {
+    ghost output = { λ range. Some (range_text (range.0, range.1)) };
+
+    fn fmt<W: fmt::Write>(&self, f: &mut fmt::Formatter<W>) -> fmt::Result {
+        let first = ByteText(self.0);
+        if self.0 == self.1 {
+            return write!(f, "{first}");
+        }
+        let last = ByteText(self.1);
+        write!(f, "{first}..={last}")
+    }
+}
+
+/// Prints ranges of bytes, each after a text.
+#[derive(Clone, Copy)]
+struct NextRanges<'c> {
+    ranges: &'c [RangeInclusive<u8>],
+    between: &'static str,
+}
+
+impl fmt::Display for NextRanges<'_> {
+    ghost output = { λ next. Some (next_ranges_text next.between.now
+        (map bounds next.ranges.now)) };
+
+    fn fmt<W: fmt::Write>(&self, f: &mut fmt::Formatter<W>) -> fmt::Result {
+        let between = self.between;
+        for range in self.ranges {
+            let text = RangeText(*range.start(), *range.end());
+            write!(f, "{between}{text}")?;
+        }
+        Ok(())
+    }
+}
+
+/// Returns the text between two ranges.
+fn between(alternate: bool) -> &'static str
+    ensures { IsFalse alternate → result.now ≡ codes "|" }
+{
+    if alternate { "\n" } else { "|" }
+}
+
+/// Prints the ranges with `|` between them, or with line ends in the alternate form.
+impl fmt::Display for ByteClass {
+    ghost output = { λ class. Some (class_text (codes "|") (ranges_of class)) };
+
+    fn fmt<W: fmt::Write>(&self, f: &mut fmt::Formatter<W>) -> fmt::Result {
+        let between = between(f.alternate());
+        let Some((first, ranges)) = self.ranges.split_first() else {
+            return Ok(());
+        };
+        let first = RangeText(*first.start(), *first.end());
+        let next = NextRanges { ranges, between };
+        write!(f, "{first}{next}")
+    }
+}

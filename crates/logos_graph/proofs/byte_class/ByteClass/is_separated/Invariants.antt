@@ -1,7 +1,0 @@
-use Rattle.std.proofs.Common.{◌↔◌, map, drop}
-use Rattle.logos_graph.specs.Bytes.{bounds, AreSeparatedFrom}
-use Rattle.logos_graph.proofs.byte_class.ByteClass.is_separated.Given as goal
-
-abbrev pub invariant-loop-range : goal.invariant-loop-range
-invariant-loop-range l =
-    AreSeparatedFrom 0 (map bounds l.range-items) ↔ AreSeparatedFrom l.least (map bounds (drop l.range-index l.range-items))

@@ -1,7 +1,0 @@
-use Rattle.std.proofs.Common.{◌≡◌, ℕ, ◌<◌, length, false, slice_index_or}
-use Rattle.logos_graph.specs.Bytes.{has_byte}
-use Rattle.logos_graph.proofs.byte_class.ByteClass.to_table.Given as goal
-
-abbrev pub invariant-loop-byte : goal.invariant-loop-byte
-invariant-loop-byte l =
-    (length l.table ≡ 256) × ((b : ℕ) → b < l.byte → slice_index_or l.table b false ≡ has_byte l.self b)

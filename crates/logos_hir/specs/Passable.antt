@@ -1,0 +1,46 @@
+-- Whether a tree can match nothing, and whether a look comes first.
+use Rattle.std.specs.Prelude.{Bool, true, false, ◌&&◌, ◌||◌, length, ◌==◌}
+use Rattle.logos_hir.specs.Tree.{Tree, empty, literal, byte_class, char_class, look, repetition, capture, concat, alternation, Trees, none, also}
+
+abbrev mutual
+  -- the tree can be passed without a byte
+  pub passable : Tree → Bool
+  passable empty = true
+  passable (literal text) = length text == 0
+  passable (byte_class ranges) = false
+  passable (char_class ranges) = false
+  passable (look l) = true
+  passable (repetition least most greedy body) = least == 0 || passable body
+  passable (capture body) = passable body
+  passable (concat parts) = all_passable parts
+  passable (alternation branches) = some_passable branches
+
+  pub all_passable : Trees → Bool
+  all_passable none = true
+  all_passable (also part parts) = passable part && all_passable parts
+
+  pub some_passable : Trees → Bool
+  some_passable none = false
+  some_passable (also branch branches) = passable branch || some_passable branches
+
+abbrev mutual
+  -- the tree can meet a look before its first byte
+  pub leads : Tree → Bool
+  leads empty = false
+  leads (literal text) = false
+  leads (byte_class ranges) = false
+  leads (char_class ranges) = false
+  leads (look l) = true
+  leads (repetition least most greedy body) = leads body
+  leads (capture body) = leads body
+  leads (concat parts) = leads_in_order parts
+  leads (alternation branches) = some_leads branches
+
+  -- some part leads, and all parts before it can be passed
+  pub leads_in_order : Trees → Bool
+  leads_in_order none = false
+  leads_in_order (also part parts) = leads part || (passable part && leads_in_order parts)
+
+  pub some_leads : Trees → Bool
+  some_leads none = false
+  some_leads (also branch branches) = leads branch || some_leads branches
