@@ -1,5 +1,5 @@
 -- What opens at a place of a source text.
-use Rattle.std.specs.Prelude.{ℕ, ◌+◌, ◌==◌, ◌&&◌, ◌||◌, not, nat_le, List, drop, slice_index, Option, Some, None, is_some, unwrap_or, option_map, if◌then◌else◌}
+use Rattle.std.specs.Prelude.{ℕ, ◌+◌, ◌-◌, ◌==◌, ◌&&◌, ◌||◌, Bool, not, nat_lt, nat_le, List, drop, slice_index, Option, Some, None, is_some, unwrap_or, option_map, if◌then◌else◌}
 use Rattle.std.specs.Char.{is_ascii_digit}
 use Rattle.std.specs.List.{prefix_len}
 use Rattle.logos_lexeme.specs.LexemeCharacters.{character, past, is_space, is_start, is_mark}
@@ -109,9 +109,23 @@ other_opening bytes at =
     else (if is_some (name_at bytes at) then Word
     else unwrap_or (option_map Single (single_kind bytes at)) Nothing)
 
+-- whether a `'` stands directly before a place
+unfoldable pub follows_apostrophe : List ℕ → ℕ → Bool
+follows_apostrophe bytes at = nat_lt 0 at && (slice_index bytes (at - 1) == 39)
+
+-- whether the name of a lifetime begins at a place: what can begin an identifier, directly after `'`.
+-- Where a lexeme begins there, that `'` is a lexeme: the `'` that closes a literal takes an identifier after it
+-- as its suffix, and a comment ends with `*/`, at a line's end or at the text's end.
+unfoldable pub is_lifetime_name : List ℕ → ℕ → Bool
+is_lifetime_name bytes at = follows_apostrophe bytes at && is_start (character bytes at)
+
+-- the literal that opens at a place; none opens where the name of a lifetime begins
+unfoldable pub literal_at : List ℕ → ℕ → Option Opening
+literal_at bytes at = if is_lifetime_name bytes at then None else literal_opening bytes at
+
 -- what opens at a place: a literal wherever one opens, else a comment, else what its character can begin
 unfoldable pub opening_at : List ℕ → ℕ → Opening
-opening_at bytes at = unwrap_or (literal_opening bytes at) (unwrap_or (comment_opening bytes at) (other_opening bytes at))
+opening_at bytes at = unwrap_or (literal_at bytes at) (unwrap_or (comment_opening bytes at) (other_opening bytes at))
 
 -- how many bytes stand in front of a literal's `r`, `'` or quote
 abbrev pub prefix_of : Content → ℕ

@@ -3,7 +3,7 @@
 ghost use Rattle.std.specs.Prelude.{◌≡◌, ◌+◌, ◌<◌, ◌≤◌, min, length, slice_index};
 ghost use Rattle.std.specs.Char.{is_ascii_digit};
 ghost use Rattle.std.specs.Str.{IsCharBoundary};
-ghost use Rattle.logos_lexeme.specs.LexemeOpenings.{hashes, raw_opening, string_opening, character_opening, bytes_opening, literal_opening, line_kind, block_kind, comment_opening, name_at, spacing, delimiter_kind, single_kind, other_opening, opening_at, kind_of};
+ghost use Rattle.logos_lexeme.specs.LexemeOpenings.{hashes, raw_opening, string_opening, character_opening, bytes_opening, literal_opening, line_kind, block_kind, comment_opening, name_at, spacing, delimiter_kind, single_kind, other_opening, follows_apostrophe, is_lifetime_name, literal_at, opening_at, kind_of};
 
 use crate::lexeme::characters::{byte_at, char_at, is_mark, is_space, is_start, past};
 use crate::lexeme::{Delimiter, Kind, Spacing};
@@ -290,6 +290,43 @@ fn other_opening(source: &str, at: usize) -> Opening
     Opening::Nothing
 }
 
+/// Returns whether a `'` stands directly before a place.
+#[tactic(auto, unfolding(crate::specs::LexemeOpenings::follows_apostrophe))]
+fn follows_apostrophe(source: &str, at: usize) -> bool
+    ensures { result ≡ follows_apostrophe source.now at }
+{
+    if at == 0 {
+        return false;
+    }
+    byte_at(source, at - 1) == b'\''
+}
+
+/// Returns whether the name of a lifetime begins at a place: what can begin an identifier,
+/// directly after `'`.
+#[tactic(auto, unfolding(crate::specs::LexemeOpenings::is_lifetime_name))]
+fn is_lifetime_name(source: &str, at: usize) -> bool
+    requires { IsCharBoundary source.now at }
+    ensures { result ≡ is_lifetime_name source.now at }
+{
+    if !follows_apostrophe(source, at) {
+        return false;
+    }
+    is_start(char_at(source, at))
+}
+
+/// Returns the literal that opens at a place; none opens where the name of a lifetime begins.
+#[tactic(auto, unfolding(crate::specs::LexemeOpenings::literal_at))]
+fn literal_at(source: &str, at: usize) -> Option<Opening>
+    requires inside { at < length source.now }
+    requires boundary { IsCharBoundary source.now at }
+    ensures { result ≡ literal_at source.now at }
+{
+    if is_lifetime_name(source, at) {
+        return None;
+    }
+    literal_opening(source, at)
+}
+
 /// What opens at a place: a literal wherever one opens, else a comment, else what the character
 /// can begin.
 #[tactic(auto, unfolding(crate::specs::LexemeOpenings::opening_at))]
@@ -298,7 +335,7 @@ pub fn opening_at(source: &str, at: usize) -> Opening
     requires boundary { IsCharBoundary source.now at }
     ensures { result ≡ opening_at source.now at }
 {
-    if let Some(literal) = literal_opening(source, at) {
+    if let Some(literal) = literal_at(source, at) {
         return literal;
     }
     if let Some(comment) = comment_opening(source, at) {
