@@ -17,27 +17,27 @@ use Rattle.logos_lexeme.specs.declared.lexeme.openings.Opening.TheVariants.{Spac
 unfoldable pub hashes : List ℕ → ℕ → ℕ
 hashes bytes at = prefix_len (λ c. c == 35) (drop at bytes)
 
--- behind `r`: up to 255 `#` and a quote
+-- after `r`: up to 255 `#` and a quote
 unfoldable pub raw_opening : Content → List ℕ → ℕ → Option Opening
 raw_opening content bytes at =
     let count = hashes bytes at in
     if nat_le count 255 && (slice_index bytes (at + count) == 34) then Some (Raw content count) else None
 
--- a string, behind its `b` or `c`
+-- a string, after its `b` or `c`
 unfoldable pub string_opening : Content → List ℕ → ℕ → Option Opening
 string_opening content bytes at =
     if slice_index bytes at == 34 then Some (Quotes content)
     else (if slice_index bytes at == 114 then raw_opening content bytes (at + 1)
     else None)
 
--- behind `'`: the next character is `\`, or the one after it is `'`
+-- after `'`: the next character is `\`, or the one after it is `'`
 unfoldable pub character_opening : List ℕ → ℕ → Option Opening
 character_opening bytes at =
     if slice_index bytes at == 92 then Some (Apostrophes Text)
     else (if slice_index bytes (past bytes at) == 39 then Some Character
     else None)
 
--- behind `b`
+-- after `b`
 unfoldable pub bytes_opening : List ℕ → ℕ → Option Opening
 bytes_opening bytes at =
     if slice_index bytes at == 39 then Some (Apostrophes Bytes)
@@ -52,12 +52,12 @@ literal_opening bytes at =
     else (if slice_index bytes at == 99 then string_opening C bytes (at + 1)
     else string_opening Text bytes at)))
 
--- `///` that no `/` follows, and `//!`, are documentation; `at` is behind `//`
+-- `///` that no `/` follows, and `//!`, are documentation; `at` is the place after `//`
 unfoldable pub line_kind : List ℕ → ℕ → Kind
 line_kind bytes at =
     if (slice_index bytes at == 33) || ((slice_index bytes at == 47) && not (slice_index bytes (at + 1) == 47)) then Doc else Gap
 
--- `/**` that neither `*` nor `/` follows, and `/*!`, are documentation; `at` is behind `/*`
+-- `/**` that neither `*` nor `/` follows, and `/*!`, are documentation; `at` is the place after `/*`
 unfoldable pub block_kind : List ℕ → ℕ → Kind
 block_kind bytes at =
     if (slice_index bytes at == 33) || ((slice_index bytes at == 42) && not ((slice_index bytes (at + 1) == 42) || (slice_index bytes (at + 1) == 47))) then Doc else Gap
@@ -70,7 +70,7 @@ comment_opening bytes at =
     else (if slice_index bytes (at + 1) == 42 then Some (Block (block_kind bytes (at + 2)))
     else None))
 
--- where the name of an identifier begins, if one stands there: behind `r#`, or at once
+-- where the name of an identifier begins, if one stands there: after `r#`, or at once
 unfoldable pub name_at : List ℕ → ℕ → Option ℕ
 name_at bytes at =
     if ((slice_index bytes at == 114) && (slice_index bytes (at + 1) == 35)) && is_start (character bytes (at + 2)) then Some (at + 2)
@@ -102,7 +102,7 @@ single_kind bytes at =
     else (if (c == 0xFEFF) && (at == 0) then Some Gap
     else delimiter_kind c))
 
--- what is no literal and no comment
+-- anything but a literal or a comment
 unfoldable pub other_opening : List ℕ → ℕ → Opening
 other_opening bytes at =
     if is_space (character bytes at) then Space
@@ -127,13 +127,13 @@ literal_at bytes at = if is_lifetime_name bytes at then None else literal_openin
 unfoldable pub opening_at : List ℕ → ℕ → Opening
 opening_at bytes at = unwrap_or (literal_at bytes at) (unwrap_or (comment_opening bytes at) (other_opening bytes at))
 
--- how many bytes stand in front of a literal's `r`, `'` or quote
+-- how many bytes stand before a literal's `r`, `'` or quote
 abbrev pub prefix_of : Content → ℕ
 prefix_of Text = 0
 prefix_of Bytes = 1
 prefix_of C = 1
 
--- what a lexeme is that opens so
+-- the kind of a lexeme that opens so
 abbrev pub kind_of : Opening → Kind
 kind_of Space = Gap
 kind_of (Line kind) = kind
