@@ -5,7 +5,7 @@ use Rattle.std.proofs.lemmas.Bool.{cases_lt, eqb-true, eq-eqb, false≢true, con
 use Rattle.std.proofs.lemmas.List.Sums.{prefix_len_passes, prefix_len_stops}
 use Rattle.std.specs.Char.{is_ascii_digit}
 use Rattle.logos_lexeme.specs.LexemeCharacters.{character, past, is_space}
-use Rattle.logos_lexeme.specs.LexemeOpenings.{hashes, raw_opening, string_opening, character_opening, bytes_opening, literal_opening, line_kind, block_kind, comment_opening, name_at, single_kind, other_opening, opening_at, prefix_of}
+use Rattle.logos_lexeme.specs.LexemeOpenings.{hashes, raw_opening, string_opening, character_opening, bytes_opening, literal_opening, line_kind, block_kind, comment_opening, name_at, single_kind, other_opening, is_lifetime_name, literal_at, opening_at, prefix_of}
 use Rattle.logos_lexeme.specs.declared.lexeme.Kind.{Kind}
 use Rattle.logos_lexeme.specs.declared.lexeme.openings.Content.{Content}
 use Rattle.logos_lexeme.specs.declared.lexeme.openings.Content.TheVariants.{Text, Bytes, C}
@@ -30,7 +30,7 @@ module _ (bytes : List ℕ) (from : ℕ) where
       ]
 
   -- and no further one, where another byte stands
-  at_most : (n : ℕ) → get_or bytes (from + n) 0 ≢ 35 → hashes bytes from ≤ n
+  pub at_most : (n : ℕ) → get_or bytes (from + n) 0 ≢ 35 → hashes bytes from ≤ n
   unfolding hashes
   at_most n other = elim (cases_lt n (prefix_len (λ c. c == 35) (drop from bytes))) [
     | inr l ↦ l
@@ -84,6 +84,10 @@ module _ (P : Opening → Type 0) (bytes : List ℕ) where
       cond_both (get_or bytes at 0 == 99) _ _ (Gives P) (λ _. string-gives C (at + 1) (quotes C) (raw C)) (λ _.
       string-gives Text at (λ e. quotes Text (rw add-zero e)) (λ count e. raw Text count (rw add-zero e))))))
 
+  literal_at-gives : (at : ℕ) → Gives P (literal_opening bytes at) → Gives P (literal_at bytes at)
+  unfolding literal_at
+  literal_at-gives at gives = cond_both (is_lifetime_name bytes at) _ _ (Gives P) (λ _. tt) (λ _. gives)
+
   comment-gives : (at : ℕ) → ((kind : Kind) → get_or bytes (at + 1) 0 ≡ 47 → P (Line kind)) → ((kind : Kind) → P (Block kind)) → Gives P (comment_opening bytes at)
   unfolding comment_opening
   comment-gives at line block =
@@ -104,7 +108,7 @@ module _ (P : Opening → Type 0) (bytes : List ℕ) where
       P Space → P Word → ((kind : Kind) → P (Single kind)) → P Nothing → P (opening_at bytes at)
   unfolding opening_at
   opening-gives at number quotes raw escaped character line block space word single nothing =
-      gives-or P (literal_opening bytes at) _ (literal-gives at number quotes raw escaped character)
+      gives-or P (literal_at bytes at) _ (literal_at-gives at (literal-gives at number quotes raw escaped character))
       (gives-or P (comment_opening bytes at) _ (comment-gives at line block)
       (other-gives at space word single nothing))
 

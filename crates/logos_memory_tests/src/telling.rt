@@ -64,7 +64,7 @@ pub fn tell_kind(asking: &mut Asking, kind: &VariantKind<'_>) -> Result<(), Memo
 
 /// Tells a literal: its token and its value.
 pub fn tell_literal(asking: &mut Asking, literal: &Literal<'_>) -> Result<(), Memory> {
-    asking.tell(&literal.token())?;
+    asking.tell(&literal.token().text)?;
     asking.tell(&literal.value())
 }
 
@@ -118,7 +118,7 @@ fn tell_trees(asking: &mut Asking, word: &str, trees: &[Hir]) -> Result<(), Memo
 
 /// Tells an enum: its name, its attributes, its parameters and its variants.
 pub fn tell_item(asking: &mut Asking, item: &ItemEnum<'_, '_>) -> Result<(), Memory> {
-    asking.tell(&item.name)?;
+    asking.tell(&item.name.text)?;
     tell_run(asking, item.attributes)?;
     for parameter in &item.parameters {
         tell_run(asking, parameter.run)?;
@@ -129,7 +129,7 @@ pub fn tell_item(asking: &mut Asking, item: &ItemEnum<'_, '_>) -> Result<(), Mem
 /// Tells the variants of an enum.
 fn tell_variants(asking: &mut Asking, item: &ItemEnum<'_, '_>) -> Result<(), Memory> {
     for variant in &item.variants {
-        asking.tell(&variant.name)?;
+        asking.tell(&variant.name.text)?;
         tell_run(asking, variant.attributes)?;
         tell_fields(asking, &variant.fields)?;
     }

@@ -10,7 +10,7 @@ use std::error::Error;
 use std::fmt;
 use std::marker::Model;
 
-/// Want of memory.
+/// Memory ran out.
 #[derive(Clone, Copy, Debug, PartialEq, Eq)]
 pub struct Memory;
 
@@ -40,7 +40,7 @@ pub struct SpannedError {
     pub code: FaultCode,
     pub message: String,
     pub span: Span,
-    /// A second place that the fault speaks of.
+    /// A second place that the fault names.
     pub also: Option<Span>,
 }
 
@@ -66,7 +66,7 @@ impl Errors {
     ghost use Rattle.std.specs.Prelude.{◌≡◌, ◌++◌, ◌∷◌, [], OnOk, OnErr, Some, None};
     ghost use Rattle.logos_token.specs.FaultView.{faults_of};
 
-    /// No faults. What is collected later takes memory from `alloc`.
+    /// Returns an empty list, which takes its memory from `alloc`.
     pub fn new(alloc: Global) -> Errors
         ensures { result ≡ [] }
     {
@@ -76,7 +76,11 @@ impl Errors {
         }
     }
 
-    /// Adds a fault at the end. After an error the faults are as before.
+    /// Adds a fault at the end.
+    ///
+    /// # Errors
+    ///
+    /// `Memory` where memory ran out. Then the faults are as before.
     pub fn err(&mut self, code: FaultCode, message: &str, span: Span) -> Result<(), Memory>
         ensures ok { OnOk result (self.new ≡ self.old ++ (record {
           code = code;
@@ -89,7 +93,11 @@ impl Errors {
         self.add(code, message, span, None)
     }
 
-    /// Adds a fault that speaks of two places, at the end. After an error the faults are as before.
+    /// Adds a fault that names two places, at the end.
+    ///
+    /// # Errors
+    ///
+    /// `Memory` where memory ran out. Then the faults are as before.
     pub fn err_also(
         &mut self,
         code: FaultCode,
@@ -108,7 +116,11 @@ impl Errors {
         self.add(code, message, span, Some(also))
     }
 
-    /// Adds these faults at the end, in their order. After an error the faults are as before.
+    /// Adds these faults at the end, in their order.
+    ///
+    /// # Errors
+    ///
+    /// `Memory` where memory ran out. Then the faults are as before.
     pub fn append(&mut self, mut more: Errors) -> Result<(), Memory>
         ensures ok { OnOk result (self.new ≡ self.old ++ more) }
         ensures err { OnErr result (self.new ≡ self.old) }
@@ -117,7 +129,12 @@ impl Errors {
         Ok(())
     }
 
-    /// The faults, in order of collection.
+    /// Returns the allocator from which the list takes its memory.
+    pub fn alloc(&self) -> Global {
+        self.alloc
+    }
+
+    /// Returns the faults, in order of collection.
     pub fn list(&self) -> &[SpannedError]
         ensures { faults_of result.now ≡ self.now }
     {

@@ -15,14 +15,14 @@ pub use value::LiteralValue;
 pub use views::{Group, TokenIter, TokenStream, TokenTree, Tokens};
 
 /// An identifier.
-#[derive(Clone, Copy, Debug)]
+#[derive(Clone, Copy)]
 pub struct Ident<'s> {
     pub text: &'s str,
     pub span: Span,
 }
 
 /// A character of punctuation.
-#[derive(Clone, Copy, Debug, PartialEq, Eq)]
+#[derive(Clone, Copy, PartialEq, Eq)]
 pub struct Punct {
     pub character: char,
     pub spacing: Spacing,
@@ -30,14 +30,14 @@ pub struct Punct {
 }
 
 /// A literal.
-#[derive(Clone, Copy, Debug)]
+#[derive(Clone, Copy)]
 pub struct Literal<'s> {
     pub text: &'s str,
     pub span: Span,
 }
 
 /// A documentation comment, as it stands in the source. A line comment is without its end.
-#[derive(Clone, Copy, Debug)]
+#[derive(Clone, Copy)]
 pub struct Doc<'s> {
     pub text: &'s str,
     pub span: Span,

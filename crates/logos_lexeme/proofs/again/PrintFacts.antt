@@ -10,12 +10,13 @@ use Rattle.unicode_ident.proofs.IdentLemmas.{is_xid_start-ascii}
 use Rattle.unicode_ident.proofs.Computing.{unicode_ident}
 use Rattle.unicode_ident.specs.Ident.{is_xid_start}
 use Rattle.logos_lexeme.specs.LexemeCharacters.{character, is_space, is_start, is_mark}
-use Rattle.logos_lexeme.specs.LexemeOpenings.{raw_opening, character_opening, bytes_opening, literal_opening, string_opening}
+use Rattle.logos_lexeme.specs.LexemeOpenings.{raw_opening, character_opening, bytes_opening, literal_opening, string_opening, literal_at}
 use Rattle.logos_lexeme.specs.declared.lexeme.openings.Content.{Content}
 use Rattle.logos_lexeme.specs.declared.lexeme.openings.Content.TheVariants.{Text, C}
 use Rattle.logos_lexeme.specs.declared.lexeme.openings.Opening.{Opening}
 use Rattle.logos_lexeme.specs.declared.lexeme.openings.Opening.TheVariants.{Quotes}
 use Rattle.logos_lexeme.proofs.CharacterLaws.{first_char}
+use Rattle.logos_lexeme.proofs.again.PrintLifetimes.{literal_at-some}
 
 -- white space is below `!` or above ASCII
 space_range : (c : ℕ) → is_space c ≡ true → (c < 33) ⊎ ((c ≡ 0x85) ⊎ (((0x200E ≤ c) × (c ≤ 0x200F)) ⊎ ((0x2028 ≤ c) × (c ≤ 0x2029))))
@@ -142,8 +143,8 @@ literal_shows a p =
     cond_both (c == 99) _ _ (Shows c) (λ e. shows_any c 99 e (omega arith, omega arith) (string_opening C a (p + 1))) (λ _.
     string_shows a p Text))))
 
-pub literal_visible : (a : List ℕ) (p : ℕ) (o : Opening) → literal_opening a p ≡ Some o → (33 ≤ get_or a p 0) × (get_or a p 0 < 128)
-literal_visible a p o e = subst (Shows (get_or a p 0)) e (literal_shows a p)
+pub literal_visible : (a : List ℕ) (p : ℕ) (o : Opening) → literal_at a p ≡ Some o → (33 ≤ get_or a p 0) × (get_or a p 0 < 128)
+literal_visible a p o e = subst (Shows (get_or a p 0)) (literal_at-some a p o e).1 (literal_shows a p)
 
 -- an ASCII character is one byte
 pub byte_of : (a : List ℕ) (p : ℕ) → IsUtf8 a → IsCharBoundary a p → p < length a → character a p < 128 → get_or a p 0 ≡ character a p

@@ -7,7 +7,7 @@ use Rattle.std.specs.Char.{is_ascii_digit}
 use Rattle.std.specs.Str.{IsCharBoundary}
 use Rattle.logos_lexeme.specs.LexemeCharacters.{character, past, is_space, is_start, is_continuing, is_mark}
 use Rattle.logos_lexeme.specs.LexemeRuns.{IsFirst, Run, Passes}
-use Rattle.logos_lexeme.specs.LexemeOpenings.{hashes, raw_opening, string_opening, character_opening, bytes_opening, literal_opening, line_kind, block_kind, comment_opening, name_at, spacing, delimiter_kind, single_kind, other_opening, opening_at, kind_of, prefix_of}
+use Rattle.logos_lexeme.specs.LexemeOpenings.{hashes, raw_opening, string_opening, character_opening, bytes_opening, literal_opening, line_kind, block_kind, comment_opening, name_at, spacing, delimiter_kind, single_kind, other_opening, follows_apostrophe, is_lifetime_name, literal_at, opening_at, kind_of, prefix_of}
 use Rattle.logos_lexeme.specs.LexemeEnds.{Ends, IsLineEnd, IsSuffix, IsName, GoesOn, has_base}
 use Rattle.logos_lexeme.specs.LiteralBodies.{IsSound}
 use Rattle.logos_lexeme.specs.Lexemes.{IsNext, IsSuffixed}
@@ -22,10 +22,11 @@ use Rattle.logos_lexeme.specs.declared.lexeme.openings.Opening.TheVariants.{Spac
 use Rattle.logos_lexeme.proofs.CharacterLaws.{past-boundary, past-ascii, past-moves, character-ascii}
 use Rattle.logos_lexeme.proofs.EndLaws.{Ends-after, Ends-boundary, IsQuoted-after, IsSuffix-le}
 use Rattle.logos_lexeme.proofs.LexemeLaws.{no_suffix}
-use Rattle.logos_lexeme.proofs.again.PrintWindows.{Window, same_character, same_past, past_within}
+use Rattle.logos_lexeme.proofs.again.PrintWindows.{Window, blank_byte, same_character, same_past, past_within}
 use Rattle.logos_lexeme.proofs.again.PrintOpenings.{head_end, literal_same}
 use Rattle.logos_lexeme.proofs.again.PrintEnds.{quoted_same, raw_same, closes_long, closes_same, line_same}
-use Rattle.logos_lexeme.proofs.again.PrintNames.{Names, raw, plain, nothing, names, raw_parts, start-39, mark-39, name_same, suffix_same, no_name, no_comment, line_doc, block_doc, joint_same, alone_blank}
+use Rattle.logos_lexeme.proofs.again.PrintNames.{Names, raw, plain, nothing, names, start-47, mark-39, name_same, suffix_same, no_name, no_comment, line_doc, block_doc, joint_same, alone_blank}
+use Rattle.logos_lexeme.proofs.again.PrintLifetimes.{no_lifetime, lifetime_parts, lifetime_from, literal_at-none, literal_at-plain, literal_at-some, name_no_literal}
 use Rattle.logos_lexeme.proofs.again.PrintBodies.{character_piece, raw_pieces, string_pieces, number_no_suffix, number_same, based_same}
 
 -- what a literal opens with
@@ -65,8 +66,8 @@ module _ (bytes : List ℕ) (at : ℕ) where
       cond_both (get_or bytes at 0 == 99) _ _ (Gives bytes at) (λ _. string-gives C (at + 1)) (λ _.
       string-gives Text at))))
 
-  pub is_literal : (o : Opening) → literal_opening bytes at ≡ Some o → IsLiteral bytes at o
-  is_literal o e = subst (Gives bytes at) e literal-gives
+  pub is_literal : (o : Opening) → literal_at bytes at ≡ Some o → IsLiteral bytes at o
+  is_literal o e = subst (Gives bytes at) (literal_at-some bytes at o e).1 literal-gives
 
   -- where one ends
 
@@ -86,28 +87,28 @@ module _ (bytes : List ℕ) (at : ℕ) where
 
 -- how what stands at a place opens
 pub data Opens (bytes : List ℕ) (at : ℕ) : Opening → Type 0 where
-  by_literal : (o : Opening) → literal_opening bytes at ≡ Some o → Opens bytes at o
-  by_comment : (o : Opening) → literal_opening bytes at ≡ None → comment_opening bytes at ≡ Some o → Opens bytes at o
-  by_other : literal_opening bytes at ≡ None → comment_opening bytes at ≡ None → Opens bytes at (other_opening bytes at)
+  by_literal : (o : Opening) → literal_at bytes at ≡ Some o → Opens bytes at o
+  by_comment : (o : Opening) → literal_at bytes at ≡ None → comment_opening bytes at ≡ Some o → Opens bytes at o
+  by_other : literal_at bytes at ≡ None → comment_opening bytes at ≡ None → Opens bytes at (other_opening bytes at)
 
-opens_by : (bytes : List ℕ) (at : ℕ) (l c : Option Opening) → literal_opening bytes at ≡ l → comment_opening bytes at ≡ c → Opens bytes at (unwrap_or l (unwrap_or c (other_opening bytes at)))
+opens_by : (bytes : List ℕ) (at : ℕ) (l c : Option Opening) → literal_at bytes at ≡ l → comment_opening bytes at ≡ c → Opens bytes at (unwrap_or l (unwrap_or c (other_opening bytes at)))
 opens_by bytes at (Some o) c e f = by_literal o e
 opens_by bytes at None (Some o) e f = by_comment o e f
 opens_by bytes at None None e f = by_other e f
 
 pub opens_at : (bytes : List ℕ) (at : ℕ) → Opens bytes at (opening_at bytes at)
 unfolding opening_at
-opens_at bytes at = opens_by bytes at (literal_opening bytes at) (comment_opening bytes at) refl refl
+opens_at bytes at = opens_by bytes at (literal_at bytes at) (comment_opening bytes at) refl refl
 
-opens_literal : (bytes : List ℕ) (at : ℕ) (o : Opening) → literal_opening bytes at ≡ Some o → opening_at bytes at ≡ o
+opens_literal : (bytes : List ℕ) (at : ℕ) (o : Opening) → literal_at bytes at ≡ Some o → opening_at bytes at ≡ o
 unfolding opening_at
 opens_literal bytes at o e = rw e refl
 
-opens_comment : (bytes : List ℕ) (at : ℕ) (o : Opening) → literal_opening bytes at ≡ None → comment_opening bytes at ≡ Some o → opening_at bytes at ≡ o
+opens_comment : (bytes : List ℕ) (at : ℕ) (o : Opening) → literal_at bytes at ≡ None → comment_opening bytes at ≡ Some o → opening_at bytes at ≡ o
 unfolding opening_at
 opens_comment bytes at o e f = rw (e, f) refl
 
-opens_other : (bytes : List ℕ) (at : ℕ) (o : Opening) → literal_opening bytes at ≡ None → comment_opening bytes at ≡ None → other_opening bytes at ≡ o → opening_at bytes at ≡ o
+opens_other : (bytes : List ℕ) (at : ℕ) (o : Opening) → literal_at bytes at ≡ None → comment_opening bytes at ≡ None → other_opening bytes at ≡ o → opening_at bytes at ≡ o
 unfolding opening_at
 opens_other bytes at o e f g = rw (e, f) g
 
@@ -129,18 +130,39 @@ module _ (a b : List ℕ) (p q k : ℕ) (w : Window a b p q k) (bound : IsCharBo
   ascii_next : get_or a p 0 ≡ 39 → IsCharBoundary a (p + 1)
   ascii_next e = IsCharBoundary-after_ascii a p w.utf8 inside_a (omega arith)
 
-  no_literal : (get_or a p 0 ≡ 39 → p + 1 < p + k) → literal_opening a p ≡ None → literal_opening b q ≡ None
-  no_literal quote e = literal_same a b p q k w (λ f. (ascii_next f, quote f)) (λ o f. absurd (let g = sym e ∙ f in cc)) ∙ e
+  no_literal : is_start (character a p) ≡ false → (get_or a p 0 ≡ 39 → p + 1 < p + k) → literal_at a p ≡ None → literal_at b q ≡ None
+  no_literal start quote none =
+      let e : literal_opening a p ≡ None = sym (literal_at-plain a p (no_lifetime a p start)) ∙ none in
+      literal_at-none b q (literal_same a b p q k w (λ f. (ascii_next f, quote f)) (λ o f. absurd (let g = sym e ∙ f in cc)) ∙ e)
 
-  literal_there : (o : Opening) (end : ℕ) → literal_opening a p ≡ Some o → Ends a p o end → end ≤ p + k → literal_opening b q ≡ Some o
-  literal_there o end e ends le =
-      let is = is_literal a p o e in
+  slash_start : get_or a p 0 ≡ 47 → is_start (character a p) ≡ false
+  slash_start e = ap is_start (character-ascii a p (omega arith) ∙ e) ∙ start-47
+
+  -- where no `'` stands directly before the window, or one does in the first text too
+  abbrev Before : Type 0
+  Before = follows_apostrophe b q ≡ true → follows_apostrophe a p ≡ true
+
+  same_lifetime : Before → is_lifetime_name a p ≡ false → is_lifetime_name b q ≡ false
+  same_lifetime before none = elim (cases_Bool (is_lifetime_name b q)) [
+    | inr e ↦ e
+    | inl e ↦
+        let parts = lifetime_parts b q e in
+        let start : is_start (character a p) ≡ true = ap is_start (sym (same_character a b p q k w p q (omega arith) (omega arith) (omega (arith, w.filled)) bound)) ∙ parts.1 in
+        absurd (false≢true (sym none ∙ lifetime_from a p (before parts.0) start))
+  ]
+
+  literal_there : Before → (o : Opening) (end : ℕ) → literal_at a p ≡ Some o → Ends a p o end → end ≤ p + k → literal_at b q ≡ Some o
+  literal_there before o end some ends le =
+      let is = is_literal a p o some in
+      let parts = literal_at-some a p o some in
+      let e = parts.1 in
+      literal_at-plain b q (same_lifetime before parts.0) ∙
       literal_same a b p q k w (λ f. (ascii_next f, let g = long a p o end is ends f in omega arith))
       (λ o' f. let g : Some o ≡ Some o' = sym e ∙ f in let h : o ≡ o' = cc in let i = head-le a p o end is ends in subst (λ x. head_end a p x ≤ p + k) h (omega (arith, i))) ∙ e
 
   -- literals
-  literal_next : (o : Opening) (end : ℕ) → IsLiteral a p o → literal_opening a p ≡ Some o → Ends a p o end → IsSound a p o end → IsSuffix a end (p + k) → IsNext b q Literal (q + k)
-  literal_next o end (number d) e ends sound suffix =
+  literal_next : Before → (o : Opening) (end : ℕ) → IsLiteral a p o → literal_at a p ≡ Some o → Ends a p o end → IsSound a p o end → IsSuffix a end (p + k) → IsNext b q Literal (q + k)
+  literal_next before o end (number d) e ends sound suffix =
       let le = IsSuffix-le a end (p + k) suffix in
       let is : p + k ≡ end = number_no_suffix (has_base a p) a end (p + k) ends.stop suffix in
       let ends' : Run (GoesOn (has_base a p) a) (past a p) (p + k) = subst (λ m. Run (GoesOn (has_base a p) a) (past a p) m) (sym is) ends in
@@ -149,40 +171,40 @@ module _ (a b : List ℕ) (p q k : ℕ) (w : Window a b p q k) (bound : IsCharBo
       let f = same_past a b p q k w p q (omega arith) (omega arith) (omega (arith, w.filled)) bound in
       let run = number_same a b p q k w (has_base a p) (past a p) (past b q) (f, omega arith) moves (past-boundary a p w.utf8 bound inside_a) ends' in
       let based = based_same a b p q k w ends'.stop in
-      made b q Literal Number (q + k) (q + k) (opens_literal b q Number (literal_there Number end e ends le)) (subst (λ t. Run (GoesOn t b) (past b q) (q + k)) (sym based) run) tt refl
+      made b q Literal Number (q + k) (q + k) (opens_literal b q Number (literal_there before Number end e ends le)) (subst (λ t. Run (GoesOn t b) (past b q) (q + k)) (sym based) run) tt refl
       (suffix_same a b p q k w (p + k) (q + k) (omega arith) (omega arith) w.ends suffix') w.holds
-  literal_next o end (quotes content) e ends sound suffix =
+  literal_next before o end (quotes content) e ends sound suffix =
       let le = IsSuffix-le a end (p + k) suffix in
       let after = IsQuoted-after 34 a (p + prefix_of content + 1) end ends in
       let n = end + q - p in
-      made b q Literal (Quotes content) n (q + k) (opens_literal b q (Quotes content) (literal_there (Quotes content) end e ends le))
+      made b q Literal (Quotes content) n (q + k) (opens_literal b q (Quotes content) (literal_there before (Quotes content) end e ends le))
       (quoted_same a b p q k w 34 (p + prefix_of content + 1) (q + prefix_of content + 1) end n (omega arith, omega arith) (omega arith, omega arith) le ends)
       (string_pieces a b p q k w content (p + prefix_of content + 1) (q + prefix_of content + 1) (end - 1) (n - 1) (omega arith, omega arith) (omega arith, omega arith) (omega arith) sound)
       refl (suffix_same a b p q k w end n (omega arith) (omega arith) (Ends-boundary a w.utf8 p inside_a bound (Quotes content) end ends) suffix) w.holds
-  literal_next o end (raw_quotes content count) e ends sound suffix =
+  literal_next before o end (raw_quotes content count) e ends sound suffix =
       let le = IsSuffix-le a end (p + k) suffix in
       let after = ends.first.begun in
       let behind = ends.behind in
       let n = end + q - p in
-      made b q Literal (Raw content count) n (q + k) (opens_literal b q (Raw content count) (literal_there (Raw content count) end e ends le))
+      made b q Literal (Raw content count) n (q + k) (opens_literal b q (Raw content count) (literal_there before (Raw content count) end e ends le))
       (raw_same a b p q k w count (p + prefix_of content + 1 + count + 1) (q + prefix_of content + 1 + count + 1) end n (omega arith, omega arith) (omega arith, omega arith) le ends)
       (raw_pieces a b p q k w content (p + prefix_of content + 1 + count + 1) (q + prefix_of content + 1 + count + 1) (end - 1 - count) (n - 1 - count) (omega arith, omega arith) (omega arith, omega arith) (omega arith) sound)
       refl (suffix_same a b p q k w end n (omega arith) (omega arith) (Ends-boundary a w.utf8 p inside_a bound (Raw content count) end ends) suffix) w.holds
-  literal_next o end (apostrophes content) e ends sound suffix =
+  literal_next before o end (apostrophes content) e ends sound suffix =
       let le = IsSuffix-le a end (p + k) suffix in
       let after = IsQuoted-after 39 a (p + prefix_of content + 1) end ends in
       let n = end + q - p in
-      made b q Literal (Apostrophes content) n (q + k) (opens_literal b q (Apostrophes content) (literal_there (Apostrophes content) end e ends le))
+      made b q Literal (Apostrophes content) n (q + k) (opens_literal b q (Apostrophes content) (literal_there before (Apostrophes content) end e ends le))
       (quoted_same a b p q k w 39 (p + prefix_of content + 1) (q + prefix_of content + 1) end n (omega arith, omega arith) (omega arith, omega arith) le ends)
       (character_piece a b p q k w content (p + prefix_of content + 1) (q + prefix_of content + 1) (end - 1) (n - 1) (omega arith, omega arith) (omega arith, omega arith) (omega arith) sound)
       refl (suffix_same a b p q k w end n (omega arith) (omega arith) (Ends-boundary a w.utf8 p inside_a bound (Apostrophes content) end ends) suffix) w.holds
-  literal_next o end (character_between d) e ends sound suffix =
+  literal_next before o end (character_between d) e ends sound suffix =
       let le = IsSuffix-le a end (p + k) suffix in
       let behind = ends.behind in
       let moves = past-moves a (p + 1) in
       let n = end + q - p in
       let places = same_past a b p q k w (p + 1) (q + 1) (omega arith) (omega arith) (omega arith) (ascii_next d) in
-      made b q Literal Character n (q + k) (opens_literal b q Character (literal_there Character end e ends le))
+      made b q Literal Character n (q + k) (opens_literal b q Character (literal_there before Character end e ends le))
       (record { quote = w.same (past a (p + 1)) (past b (q + 1)) places (omega arith) (omega arith) ∙ ends.quote; behind = omega arith })
       (λ f. sound (sym (w.same (p + 1) (q + 1) (omega arith) (omega arith) (omega arith)) ∙ f))
       refl (suffix_same a b p q k w end n (omega arith) (omega arith) (Ends-boundary a w.utf8 p inside_a bound Character end ends) suffix) w.holds
@@ -246,7 +268,7 @@ module _ (a b : List ℕ) (p q k : ℕ) (w : Window a b p q k) (bound : IsCharBo
   abbrev LineEnds : Type 0
   LineEnds = (get_or b (q + k) 0 ≡ 10) ⊎ (q + k ≡ length b)
 
-  line_next : literal_opening a p ≡ None → get_or a p 0 ≡ 47 → get_or a (p + 1) 0 ≡ 47 → line_kind a (p + 2) ≡ Doc → IsFirst (IsLineEnd a) (p + 2) (p + k) → LineEnds → IsNext b q Doc (q + k)
+  line_next : literal_at a p ≡ None → get_or a p 0 ≡ 47 → get_or a (p + 1) 0 ≡ 47 → line_kind a (p + 2) ≡ Doc → IsFirst (IsLineEnd a) (p + 2) (p + k) → LineEnds → IsNext b q Doc (q + k)
   line_next none e f is ends last =
       let begun = ends.begun in
       let l : p + 2 < p + k = elim (cases_lt (p + 2) (p + k)) [
@@ -256,13 +278,13 @@ module _ (a b : List ℕ) (p q k : ℕ) (w : Window a b p q k) (bound : IsCharBo
           | inr g ↦ no_line_end (p + 2) (λ h. omega arith) (λ h. omega arith) (omega arith) r
         ])
       ] in
-      made b q Doc (Line Doc) (q + k) (q + k) (opens_comment b q (Line Doc) (no_literal (λ g. omega arith) none) (line_there e f l is))
+      made b q Doc (Line Doc) (q + k) (q + k) (opens_comment b q (Line Doc) (no_literal (slash_start e) (λ g. omega arith) none) (line_there e f l is))
       (line_same a b p q k w (p + 2) (q + 2) (omega arith, omega arith) last ends) tt refl refl w.holds
 
-  block_next : literal_opening a p ≡ None → get_or a p 0 ≡ 47 → get_or a (p + 1) 0 ≡ 42 → block_kind a (p + 2) ≡ Doc → Ends a p (Block Doc) (p + k) → IsNext b q Doc (q + k)
+  block_next : literal_at a p ≡ None → get_or a p 0 ≡ 47 → get_or a (p + 1) 0 ≡ 42 → block_kind a (p + 2) ≡ Doc → Ends a p (Block Doc) (p + k) → IsNext b q Doc (q + k)
   block_next none e f is ends =
       let long = closes_long a b p q k w 1 (p + 2) (p + k) ends (omega arith) in
-      made b q Doc (Block Doc) (q + k) (q + k) (opens_comment b q (Block Doc) (no_literal (λ g. omega arith) none) (block_there e f (omega arith) is))
+      made b q Doc (Block Doc) (q + k) (q + k) (opens_comment b q (Block Doc) (no_literal (slash_start e) (λ g. omega arith) none) (block_there e f (omega arith) is))
       (closes_same a b p q k w 1 (p + 2) (q + 2) (p + k) (q + k) ends (omega arith, omega arith) (omega arith, omega arith) (omega arith)) tt refl refl w.holds
 
   -- identifiers
@@ -277,16 +299,11 @@ module _ (a b : List ℕ) (p q k : ℕ) (w : Window a b p q k) (bound : IsCharBo
       some None r = absurd r
       some (Some n) r = refl
 
-  no_quote_by : (o : Option ℕ) → Names a p o → MatchOption o ⊥ (λ n. Run (Passes is_continuing a) (past a n) (p + k)) → get_or a p 0 ≡ 39 → ⊥
-  no_quote_by o (raw t) r e = let f = (raw_parts a p t).0 in omega arith
-  no_quote_by o (plain t) r e = false≢true (sym start-39 ∙ ap is_start (sym (character-ascii a p (omega arith) ∙ e)) ∙ t)
-  no_quote_by o (nothing t) r e = r
-
-  word_next : literal_opening a p ≡ None → comment_opening a p ≡ None → is_space (character a p) ≡ false → IsName a p (p + k) → IsNext b q Identifier (q + k)
-  word_next none other space name =
+  word_next : comment_opening a p ≡ None → is_space (character a p) ≡ false → IsName a p (p + k) → IsNext b q Identifier (q + k)
+  word_next other space name =
       let name' = name_same a b p q k w p q (omega arith) (omega arith) bound name in
       made b q Identifier Word (q + k) (q + k)
-      (opens_other b q Word (no_literal (λ e. absurd (no_quote_by (name_at a p) (names a p) name e)) none) (no_comment a b p q k w p q (omega arith) (omega arith) (omega (arith, w.filled)) other) (word_there space name'))
+      (opens_other b q Word (literal_at-none b q (name_no_literal b (q + k) (blank_byte a b p q k w (q + k) refl) q name')) (no_comment a b p q k w p q (omega arith) (omega arith) (omega (arith, w.filled)) other) (word_there space name'))
       name' tt refl refl w.holds
 
   -- lexemes of one character
@@ -412,7 +429,7 @@ module _ (a b : List ℕ) (p q k : ℕ) (w : Window a b p q k) (bound : IsCharBo
   unfolding other_opening
   single_other kind s n e = rw (s, n, e) refl
 
-  single_next : (kind : Kind) → literal_opening a p ≡ None → comment_opening a p ≡ None → is_space (character a p) ≡ false → is_start (character a p) ≡ false → single_kind a p ≡ Some kind → kind ≢ Gap → IsPlaced kind → IsNext b q kind (past b q)
+  single_next : (kind : Kind) → literal_at a p ≡ None → comment_opening a p ≡ None → is_space (character a p) ≡ false → is_start (character a p) ≡ false → single_kind a p ≡ Some kind → kind ≢ Gap → IsPlaced kind → IsNext b q kind (past b q)
   single_next kind none other space start e no_gap placed =
       let same = same_character a b p q k w p q (omega arith) (omega arith) (omega (arith, w.filled)) bound in
       let places = same_past a b p q k w p q (omega arith) (omega arith) (omega (arith, w.filled)) bound in
@@ -420,7 +437,7 @@ module _ (a b : List ℕ) (p q k : ℕ) (w : Window a b p q k) (bound : IsCharBo
       let no_literal_kind : kind ≢ Literal = λ f. single_no_literal (e ∙ ap (λ (x : Kind). Some x) f) in
       let quote : get_or a p 0 ≡ 39 → p + 1 < p + k = λ f. let one = past-ascii a p (omega arith) in let l = placed.0 (quote_joint kind no_gap e f) in omega arith in
       made b q kind (Single kind) (past b q) (past b q)
-      (opens_other b q (Single kind) (no_literal quote none) (no_comment a b p q k w p q (omega arith) (omega arith) (omega (arith, w.filled)) other)
+      (opens_other b q (Single kind) (no_literal start quote none) (no_comment a b p q k w p q (omega arith) (omega arith) (omega (arith, w.filled)) other)
       (single_other kind (ap is_space same ∙ space) (no_name a b p q k w bound start) (single_there kind no_gap placed e)))
       refl tt refl (no_suffix b kind (past b q) no_literal_kind) (omega (arith, w.holds, places))
 
@@ -452,11 +469,11 @@ module _ (a b : List ℕ) (p q k : ℕ) (w : Window a b p q k) (bound : IsCharBo
   here : (kind : Kind) (to : ℕ) → to ≡ p + k → IsNext b q kind (q + k) → Result kind to
   here kind to e n = let f : to + q - p ≡ q + k = omega arith in rw f n
 
-  other_result : (o : Opening) → Others o → literal_opening a p ≡ None → comment_opening a p ≡ None → (end to : ℕ) → Ends a p o end → kind_of o ≢ Gap → IsSuffixed a (kind_of o) end to → IsAt (kind_of o) to → Result (kind_of o) to
+  other_result : (o : Opening) → Others o → literal_at a p ≡ None → comment_opening a p ≡ None → (end to : ℕ) → Ends a p o end → kind_of o ≢ Gap → IsSuffixed a (kind_of o) end to → IsAt (kind_of o) to → Result (kind_of o) to
   other_result o (space_there s) none other end to ends no_gap suffixed at = absurd (no_gap refl)
   other_result o (word_opens s) none other end to ends no_gap suffixed at =
       let is : to ≡ p + k = at.1 (λ e. absurd (cc)) in
-      here Identifier to is (word_next none other s (subst (IsName a p) (sym suffixed ∙ is) ends))
+      here Identifier to is (word_next other s (subst (IsName a p) (sym suffixed ∙ is) ends))
   other_result o (single_opens kind s t e) none other end to ends no_gap suffixed at =
       let is : to ≡ past a p = unsuffixed kind end to (λ f. single_no_literal (e ∙ ap (λ (x : Kind). Some x) f)) suffixed ∙ ends in
       let places = same_past a b p q k w p q (omega arith) (omega arith) (omega (arith, w.filled)) bound in
@@ -475,7 +492,7 @@ module _ (a b : List ℕ) (p q k : ℕ) (w : Window a b p q k) (bound : IsCharBo
         ],
       )
 
-  line_result : (kind : Kind) (to end : ℕ) → literal_opening a p ≡ None → get_or a p 0 ≡ 47 → get_or a (p + 1) 0 ≡ 47 → line_kind a (p + 2) ≡ kind → kind ≢ Gap → Ends a p (Line kind) end → IsSuffixed a kind end to → IsAt kind to → LineEnds → Result kind to
+  line_result : (kind : Kind) (to end : ℕ) → literal_at a p ≡ None → get_or a p 0 ≡ 47 → get_or a (p + 1) 0 ≡ 47 → line_kind a (p + 2) ≡ kind → kind ≢ Gap → Ends a p (Line kind) end → IsSuffixed a kind end to → IsAt kind to → LineEnds → Result kind to
   line_result kind to end none e f is no_gap ends suffixed at last = elim (line_kind_cases (p + 2)) [
     | inr g ↦ absurd (no_gap (sym is ∙ g))
     | inl g ↦
@@ -485,7 +502,7 @@ module _ (a b : List ℕ) (p q k : ℕ) (w : Window a b p q k) (bound : IsCharBo
         here kind to there (subst (λ x. IsNext b q x (q + k)) (sym doc) (line_next none e f g (subst (IsFirst (IsLineEnd a) (p + 2)) (sym same ∙ there) ends) last))
   ]
 
-  block_result : (kind : Kind) (to end : ℕ) → literal_opening a p ≡ None → get_or a p 0 ≡ 47 → get_or a (p + 1) 0 ≡ 42 → block_kind a (p + 2) ≡ kind → kind ≢ Gap → Ends a p (Block kind) end → IsSuffixed a kind end to → IsAt kind to → Result kind to
+  block_result : (kind : Kind) (to end : ℕ) → literal_at a p ≡ None → get_or a p 0 ≡ 47 → get_or a (p + 1) 0 ≡ 42 → block_kind a (p + 2) ≡ kind → kind ≢ Gap → Ends a p (Block kind) end → IsSuffixed a kind end to → IsAt kind to → Result kind to
   block_result kind to end none e f is no_gap ends suffixed at = elim (block_kind_cases (p + 2)) [
     | inr g ↦ absurd (no_gap (sym is ∙ g))
     | inl g ↦
@@ -502,15 +519,15 @@ module _ (a b : List ℕ) (p q k : ℕ) (w : Window a b p q k) (bound : IsCharBo
   literal_kind o (apostrophes content) = refl
   literal_kind o (character_between e) = refl
 
-  result : (o : Opening) → Opens a p o → (end to : ℕ) → Ends a p o end → IsSound a p o end → kind_of o ≢ Gap → IsSuffixed a (kind_of o) end to → IsAt (kind_of o) to → (get_or a (p + 1) 0 ≡ 47 → kind_of o ≡ Doc → LineEnds) → Result (kind_of o) to
-  result o (by_other none other) end to ends sound no_gap suffixed at last = other_result (other_opening a p) others none other end to ends no_gap suffixed at
-  result o (by_literal _ e) end to ends sound no_gap suffixed at last =
+  result : Before → (o : Opening) → Opens a p o → (end to : ℕ) → Ends a p o end → IsSound a p o end → kind_of o ≢ Gap → IsSuffixed a (kind_of o) end to → IsAt (kind_of o) to → (get_or a (p + 1) 0 ≡ 47 → kind_of o ≡ Doc → LineEnds) → Result (kind_of o) to
+  result before o (by_other none other) end to ends sound no_gap suffixed at last = other_result (other_opening a p) others none other end to ends no_gap suffixed at
+  result before o (by_literal _ e) end to ends sound no_gap suffixed at last =
       let is = is_literal a p o e in
       let lit = literal_kind o is in
       let there : to ≡ p + k = at.1 (λ h. absurd (let i : Literal ≡ Punctuation Joint = sym lit ∙ h in cc)) in
       let suffix : IsSuffix a end (p + k) = subst (IsSuffix a end) there (subst (λ x. IsSuffixed a x end to) lit suffixed) in
-      here (kind_of o) to there (subst (λ x. IsNext b q x (q + k)) (sym lit) (literal_next o end is e ends sound suffix))
-  result o (by_comment _ none e) end to ends sound no_gap suffixed at last =
+      here (kind_of o) to there (subst (λ x. IsNext b q x (q + k)) (sym lit) (literal_next before o end is e ends sound suffix))
+  result before o (by_comment _ none e) end to ends sound no_gap suffixed at last =
       let r = comment_cases o e in
       elim r.1 [
         | inl s ↦
@@ -525,8 +542,8 @@ module _ (a b : List ℕ) (p q k : ℕ) (w : Window a b p q k) (bound : IsCharBo
       ]
 
   -- a lexeme that ends in the window stands in the second text
-  pub next_same : (kind : Kind) (to : ℕ) → IsNext a p kind to → kind ≢ Gap → IsAt kind to → (get_or a (p + 1) 0 ≡ 47 → kind ≡ Doc → LineEnds) → IsNext b q kind (to + q - p)
-  next_same kind to n no_gap at last =
+  pub next_same : (follows_apostrophe b q ≡ true → follows_apostrophe a p ≡ true) → (kind : Kind) (to : ℕ) → IsNext a p kind to → kind ≢ Gap → IsAt kind to → (get_or a (p + 1) 0 ≡ 47 → kind ≡ Doc → LineEnds) → IsNext b q kind (to + q - p)
+  next_same before kind to n no_gap at last =
       let o = opening_at a p in
       let e = n.is_kind in
-      subst (λ x. Result x to) (sym e) (result o (opens_at a p) n.end to n.ends n.sound (λ f. no_gap (e ∙ f)) (subst (λ x. IsSuffixed a x n.end to) e n.suffixed) (subst (λ x. IsAt x to) e at) (λ f g. last f (e ∙ g)))
+      subst (λ x. Result x to) (sym e) (result before o (opens_at a p) n.end to n.ends n.sound (λ f. no_gap (e ∙ f)) (subst (λ x. IsSuffixed a x n.end to) e n.suffixed) (subst (λ x. IsAt x to) e at) (λ f g. last f (e ∙ g)))

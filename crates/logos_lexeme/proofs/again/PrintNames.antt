@@ -32,6 +32,18 @@ pub start-0 : is_start 0 ≡ false
 unfolding is_start
 start-0 = rw (is_xid_start-ascii 0 (omega arith)) refl
 
+pub start-34 : is_start 34 ≡ false
+unfolding is_start
+start-34 = rw (is_xid_start-ascii 34 (omega arith)) refl
+
+pub start-35 : is_start 35 ≡ false
+unfolding is_start
+start-35 = rw (is_xid_start-ascii 35 (omega arith)) refl
+
+pub start-47 : is_start 47 ≡ false
+unfolding is_start
+start-47 = rw (is_xid_start-ascii 47 (omega arith)) refl
+
 pub start-39 : is_start 39 ≡ false
 unfolding is_start
 start-39 = rw (is_xid_start-ascii 39 (omega arith)) refl
@@ -52,9 +64,17 @@ pub continuing-0 : is_continuing 0 ≡ false
 unfolding is_continuing
 continuing-0 = rw (is_xid_continue-ascii 0 (omega arith)) refl
 
-continuing-35 : is_continuing 35 ≡ false
+pub continuing-34 : is_continuing 34 ≡ false
+unfolding is_continuing
+continuing-34 = rw (is_xid_continue-ascii 34 (omega arith)) refl
+
+pub continuing-35 : is_continuing 35 ≡ false
 unfolding is_continuing
 continuing-35 = rw (is_xid_continue-ascii 35 (omega arith)) refl
+
+pub continuing-39 : is_continuing 39 ≡ false
+unfolding is_continuing
+continuing-39 = rw (is_xid_continue-ascii 39 (omega arith)) refl
 
 pub mark-32 : is_mark 32 ≡ false
 unfolding is_mark

@@ -3,7 +3,7 @@
 ghost use Rattle.std.specs.Prelude.{◌≡◌, ◌+◌, ◌<◌, ◌≤◌, min, length, slice_index};
 ghost use Rattle.std.specs.Char.{is_ascii_digit};
 ghost use Rattle.std.specs.Str.{IsCharBoundary};
-ghost use Rattle.logos_lexeme.specs.LexemeOpenings.{hashes, raw_opening, string_opening, character_opening, bytes_opening, literal_opening, line_kind, block_kind, comment_opening, name_at, spacing, delimiter_kind, single_kind, other_opening, opening_at, kind_of};
+ghost use Rattle.logos_lexeme.specs.LexemeOpenings.{hashes, raw_opening, string_opening, character_opening, bytes_opening, literal_opening, line_kind, block_kind, comment_opening, name_at, spacing, delimiter_kind, single_kind, other_opening, follows_apostrophe, is_lifetime_name, literal_at, opening_at, kind_of};
 
 use crate::lexeme::characters::{byte_at, char_at, is_mark, is_space, is_start, past};
 use crate::lexeme::{Delimiter, Kind, Spacing};
@@ -13,9 +13,9 @@ use crate::lexeme::{Delimiter, Kind, Spacing};
 pub enum Content {
     /// Characters.
     Text,
-    /// Bytes, behind `b`.
+    /// Bytes, after `b`.
     Bytes,
-    /// Characters and bytes, behind `c`.
+    /// Characters and bytes, after `c`.
     C,
 }
 
@@ -34,9 +34,9 @@ pub enum Opening {
     Number,
     /// A string that has escapes.
     Quotes(Content),
-    /// A raw string, with so many `#` before its quote.
+    /// A raw string, with the number of `#` before its quote.
     Raw(Content, u8),
-    /// What is escaped or a byte, between apostrophes.
+    /// An escaped character, or a byte, between apostrophes.
     Apostrophes(Content),
     /// A character between apostrophes.
     Character,
@@ -46,7 +46,7 @@ pub enum Opening {
     Nothing,
 }
 
-/// How many `#` stand in a row, counted up to 256.
+/// Counts the `#` that stand in a row, up to 256.
 fn count_hashes(source: &str, from: usize) -> usize
     requires { from ≤ length source.now + 2 }
     ensures { result ≡ min 256 (hashes source.now from) }
@@ -58,7 +58,7 @@ fn count_hashes(source: &str, from: usize) -> usize
     count
 }
 
-/// A raw string, from behind its `r` on.
+/// Returns the raw string that opens after an `r`.
 #[tactic(auto, unfolding(crate::specs::LexemeOpenings::raw_opening))]
 fn raw_opening(content: Content, source: &str, at: usize) -> Option<Opening>
     requires { at ≤ length source.now + 2 }
@@ -74,7 +74,7 @@ fn raw_opening(content: Content, source: &str, at: usize) -> Option<Opening>
     Some(Opening::Raw(content, count as u8))
 }
 
-/// A string, from behind its `b` or `c` on.
+/// Returns the string that opens after a `b` or `c`, or at once.
 #[tactic(auto, unfolding(crate::specs::LexemeOpenings::string_opening))]
 fn string_opening(content: Content, source: &str, at: usize) -> Option<Opening>
     requires { at ≤ length source.now + 1 }
@@ -90,7 +90,7 @@ fn string_opening(content: Content, source: &str, at: usize) -> Option<Opening>
     None
 }
 
-/// A character literal, from behind its `'` on.
+/// Returns the character literal that opens after a `'`.
 #[tactic(auto, unfolding(crate::specs::LexemeOpenings::character_opening))]
 fn character_opening(source: &str, at: usize) -> Option<Opening>
     requires { IsCharBoundary source.now at }
@@ -106,7 +106,7 @@ fn character_opening(source: &str, at: usize) -> Option<Opening>
     None
 }
 
-/// A literal of bytes, from behind its `b` on.
+/// Returns the literal of bytes that opens after a `b`.
 #[tactic(auto, unfolding(crate::specs::LexemeOpenings::bytes_opening))]
 fn bytes_opening(source: &str, at: usize) -> Option<Opening>
     requires { at ≤ length source.now }
@@ -118,7 +118,7 @@ fn bytes_opening(source: &str, at: usize) -> Option<Opening>
     string_opening(Content::Bytes, source, at)
 }
 
-/// A literal.
+/// Returns the literal that opens at a place.
 #[tactic(auto, unfolding(crate::specs::LexemeOpenings::literal_opening))]
 fn literal_opening(source: &str, at: usize) -> Option<Opening>
     requires inside { at < length source.now }
@@ -141,7 +141,7 @@ fn literal_opening(source: &str, at: usize) -> Option<Opening>
     string_opening(Content::Text, source, at)
 }
 
-/// What a line comment is, from behind its `//` on.
+/// Returns whether a line comment is documentation, by what follows its `//`.
 #[tactic(auto, unfolding(crate::specs::LexemeOpenings::line_kind))]
 fn line_kind(source: &str, at: usize) -> Kind
     requires { at ≤ length source.now + 2 }
@@ -156,7 +156,7 @@ fn line_kind(source: &str, at: usize) -> Kind
     }
 }
 
-/// What a block comment is, from behind its `/*` on.
+/// Returns whether a block comment is documentation, by what follows its `/*`.
 #[tactic(auto, unfolding(crate::specs::LexemeOpenings::block_kind))]
 fn block_kind(source: &str, at: usize) -> Kind
     requires { at ≤ length source.now + 2 }
@@ -171,7 +171,7 @@ fn block_kind(source: &str, at: usize) -> Kind
     }
 }
 
-/// A comment.
+/// Returns the comment that opens at a place.
 #[tactic(auto, unfolding(crate::specs::LexemeOpenings::comment_opening))]
 fn comment_opening(source: &str, at: usize) -> Option<Opening>
     requires { at ≤ length source.now }
@@ -190,7 +190,7 @@ fn comment_opening(source: &str, at: usize) -> Option<Opening>
     None
 }
 
-/// Where the name of an identifier begins, if one stands here: behind its `r#`, or at once.
+/// Returns where the name of an identifier begins, if one stands here: after its `r#`, or at once.
 #[tactic(auto, unfolding(crate::specs::LexemeOpenings::name_at))]
 pub(crate) fn name_at(source: &str, at: usize) -> Option<usize>
     requires { IsCharBoundary source.now at }
@@ -208,7 +208,7 @@ pub(crate) fn name_at(source: &str, at: usize) -> Option<usize>
     None
 }
 
-/// Whether a punctuation is joint that ends here.
+/// Returns whether punctuation that ends here is joint.
 #[tactic(auto, unfolding(crate::specs::LexemeOpenings::spacing))]
 fn spacing(source: &str, at: usize) -> Spacing
     requires { IsCharBoundary source.now at }
@@ -224,7 +224,7 @@ fn spacing(source: &str, at: usize) -> Spacing
     Spacing::Joint
 }
 
-/// What a delimiter is.
+/// Returns what kind of delimiter a character is, if it is one.
 #[tactic(auto, unfolding(crate::specs::LexemeOpenings::delimiter_kind))]
 fn delimiter_kind(c: char) -> Option<Kind>
     ensures { result ≡ delimiter_kind c }
@@ -250,7 +250,7 @@ fn delimiter_kind(c: char) -> Option<Kind>
     None
 }
 
-/// What a lexeme of one character is.
+/// Returns the kind of the lexeme of one character that stands here, if one does.
 #[tactic(auto, unfolding(crate::specs::LexemeOpenings::single_kind))]
 fn single_kind(source: &str, at: usize) -> Option<Kind>
     requires inside { at < length source.now }
@@ -271,7 +271,7 @@ fn single_kind(source: &str, at: usize) -> Option<Kind>
     delimiter_kind(c)
 }
 
-/// What opens where no literal and no comment does.
+/// Returns what opens where no literal and no comment does.
 #[tactic(auto, unfolding(crate::specs::LexemeOpenings::other_opening))]
 fn other_opening(source: &str, at: usize) -> Opening
     requires inside { at < length source.now }
@@ -290,15 +290,52 @@ fn other_opening(source: &str, at: usize) -> Opening
     Opening::Nothing
 }
 
-/// What opens at a place: a literal wherever one opens, else a comment, else what the character
-/// can begin.
+/// Returns whether a `'` stands directly before a place.
+#[tactic(auto, unfolding(crate::specs::LexemeOpenings::follows_apostrophe))]
+fn follows_apostrophe(source: &str, at: usize) -> bool
+    ensures { result ≡ follows_apostrophe source.now at }
+{
+    if at == 0 {
+        return false;
+    }
+    byte_at(source, at - 1) == b'\''
+}
+
+/// Returns whether the name of a lifetime begins at a place: what can begin an identifier,
+/// directly after `'`.
+#[tactic(auto, unfolding(crate::specs::LexemeOpenings::is_lifetime_name))]
+fn is_lifetime_name(source: &str, at: usize) -> bool
+    requires { IsCharBoundary source.now at }
+    ensures { result ≡ is_lifetime_name source.now at }
+{
+    if !follows_apostrophe(source, at) {
+        return false;
+    }
+    is_start(char_at(source, at))
+}
+
+/// Returns the literal that opens at a place; none opens where the name of a lifetime begins.
+#[tactic(auto, unfolding(crate::specs::LexemeOpenings::literal_at))]
+fn literal_at(source: &str, at: usize) -> Option<Opening>
+    requires inside { at < length source.now }
+    requires boundary { IsCharBoundary source.now at }
+    ensures { result ≡ literal_at source.now at }
+{
+    if is_lifetime_name(source, at) {
+        return None;
+    }
+    literal_opening(source, at)
+}
+
+/// Returns what opens at a place: a literal wherever one opens, else a comment, else what the
+/// character can begin.
 #[tactic(auto, unfolding(crate::specs::LexemeOpenings::opening_at))]
 pub fn opening_at(source: &str, at: usize) -> Opening
     requires inside { at < length source.now }
     requires boundary { IsCharBoundary source.now at }
     ensures { result ≡ opening_at source.now at }
 {
-    if let Some(literal) = literal_opening(source, at) {
+    if let Some(literal) = literal_at(source, at) {
         return literal;
     }
     if let Some(comment) = comment_opening(source, at) {
@@ -307,7 +344,7 @@ pub fn opening_at(source: &str, at: usize) -> Opening
     other_opening(source, at)
 }
 
-/// What a lexeme is that opens so.
+/// Returns the kind of the lexeme that opens so.
 pub(crate) fn kind_of(opens: Opening) -> Kind
     ensures { result ≡ kind_of opens }
 {

@@ -21,7 +21,7 @@ use Rattle.logos_item.specs.Marks.{comma}
 use Rattle.logos_strip.specs.declared.places.Scope.TheVariants.{Enum}
 use Rattle.logos_strip.specs.declared.places.Place.TheVariants.{Open}
 use Rattle.logos_strip.specs.Stripping.{stripped}
-use Rattle.logos_strip.proofs.again.SiteLemmas.{Site, same, loose, Continues, sites_lexemes, Linked, remake}
+use Rattle.logos_strip.proofs.again.SiteLemmas.{Site, same, loose, Continues, sites_lexemes, Linked, first_after, remake}
 use Rattle.logos_strip.proofs.again.ThinningLemmas.{is_joint, Thins, ended, drops, keeps, loosens, first_stays, thins-run}
 
 gap_or_not : (kind : Kind) → (kind ≡ Gap) ⊎ (kind ≢ Gap)
@@ -170,6 +170,6 @@ stripped-back source utf8 tokens s =
     let r = seat source utf8 text s.pieces 0 (length source) s.filled joined start (first_stays Enum Open tokens) (lexemes tokens) (lexemes (stripped tokens)) (thins-run Enum Open tokens) s.nested in
     let b = printed (stripped tokens) in
     let e : drop 0 b ≡ after [] (parts (sites_lexemes source r.sites)) = printed-lexemes (stripped tokens) ∙ ap (λ ls. after [] (parts ls)) (sym r.lexemes_are) in
-    let m = remake source utf8 text (has_docs source utf8) (has_no_space source utf8) b r.sites 0 [] r.linked (inl refl) (omega arith) e in
+    let m = remake source utf8 text (has_docs source utf8) (has_no_space source utf8) b r.sites 0 [] r.linked (inl refl) (λ none. first_after source utf8 text (has_docs source utf8) (has_no_space source utf8) b r.sites) (omega arith) e in
     let w = rebuilt-whole (stripped tokens) (seen b m.news) (m.same_lexemes ∙ ap (map bare_lexeme) r.lexemes_are) in
     record { again = w.0; spelled = record { pieces = m.news; filled = m.filled; nested = w.1 }; same = w.2 }

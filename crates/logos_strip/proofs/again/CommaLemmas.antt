@@ -10,6 +10,7 @@ use Rattle.logos_lexeme.specs.LexemeOpenings.{string_opening, literal_opening, c
 use Rattle.logos_lexeme.specs.Lexemes.{IsNext}
 use Rattle.logos_lexeme.proofs.CharacterLaws.{character-ascii, past-ascii, inside_from_byte}
 use Rattle.logos_lexeme.proofs.again.PrintFacts.{start_large}
+use Rattle.logos_lexeme.proofs.again.PrintLifetimes.{literal_at-none}
 
 comma_start : is_start 44 ≡ false
 comma_start = elim (cases_Bool (is_start 44)) [ inl e ↦ absurd (let l = start_large 44 e in omega arith) | inr e ↦ e ]
@@ -56,7 +57,7 @@ module _ (b : List ℕ) (q : ℕ) (e : get_or b q 0 ≡ 44) where
 
   comma_opens : IsBlank b (q + 1) → opening_at b q ≡ Single (Punctuation Alone)
   unfolding opening_at
-  comma_opens blank = rw (comma_literal, comma_comment) (comma_other blank)
+  comma_opens blank = rw (literal_at-none b q comma_literal, comma_comment) (comma_other blank)
 
   pub comma_next : IsBlank b (q + 1) → IsNext b q (Punctuation Alone) (q + 1)
   comma_next blank =

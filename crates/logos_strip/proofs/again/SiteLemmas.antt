@@ -14,17 +14,18 @@ use Rattle.logos_lexeme.specs.declared.lexeme.Kind.TheVariants.{Gap, Identifier,
 use Rattle.logos_lexeme.specs.declared.lexeme.openings.Opening.TheVariants.{Space}
 use Rattle.logos_lexeme.specs.LexemeCharacters.{character, past, is_space}
 use Rattle.logos_lexeme.specs.LexemeRuns.{here}
-use Rattle.logos_lexeme.specs.LexemeOpenings.{literal_opening, string_opening, comment_opening, other_opening, opening_at}
+use Rattle.logos_lexeme.specs.LexemeOpenings.{literal_opening, string_opening, comment_opening, other_opening, follows_apostrophe, opening_at}
 use Rattle.logos_lexeme.specs.Lexemes.{IsNext}
 use Rattle.logos_lexeme.proofs.CharacterLaws.{character-ascii, past-ascii, inside_from_byte}
 use Rattle.logos_lexeme.proofs.again.PrintWindows.{Window, same_character, same_slice}
+use Rattle.logos_lexeme.proofs.again.PrintLifetimes.{follows-none, follows-other, follows-same, literal_at-none}
 use Rattle.logos_lexeme.proofs.again.PrintLexemes.{next_same}
 use Rattle.logos_token.specs.Tokens.{punctuation}
 use Rattle.logos_token.specs.Spelling.{Piece, Pieces, Lexeme, leaf, lexeme_of, seen}
 use Rattle.logos_token.specs.Printing.{Part, is_line_comment}
 use Rattle.logos_token.proofs.reading.PieceLemmas.{piece-advances, piece-boundary}
 use Rattle.logos_token.proofs.printing.PrintParts.{parts, parts-append, after, bare_lexeme}
-use Rattle.logos_token.proofs.printing.PrintPieces.{gap_of, IsSeparator, joint_or_not, separates, whole_length, drop_on, byte_behind, Shown, HasText, HasDocs}
+use Rattle.logos_token.proofs.printing.PrintPieces.{gap_of, IsSeparator, joint_or_not, joint_from, separates, whole_length, drop_on, byte_behind, Shown, HasText, HasDocs}
 use Rattle.logos_token.proofs.printing.PrintAgain.{HasNoSpace}
 use Rattle.logos_item.specs.Marks.{comma}
 use Rattle.logos_strip.proofs.again.CommaLemmas.{comma_space, comma_next}
@@ -56,7 +57,7 @@ module _ (b : List ℕ) (q : ℕ) where
 
   blank_opens : IsBlankByte (get_or b q 0) → opening_at b q ≡ Space
   unfolding opening_at
-  blank_opens e = rw (blank_string e, blank_comment e) (blank_other e)
+  blank_opens e = rw (literal_at-none b q (blank_string e), blank_comment e) (blank_other e)
 
   blank_small : IsBlankByte (get_or b q 0) → (0 < get_or b q 0) × (get_or b q 0 < 128)
   blank_small (inl e) = (omega arith, omega arith)
@@ -304,8 +305,18 @@ module _ (a : List ℕ) (utf8 : IsUtf8 a) (text : HasText a) (docs : HasDocs a) 
             ∙ sym (map-append bare_lexeme (site_lexemes a s) (sites_lexemes a ss));
       }
 
-  site_step : (s : Site) (ss : List Site) (q : ℕ) → Linked a (s ∷ ss) → q ≤ length b → IsPrinted s q ss → Remade (q + (site_to s - site_from s)) ss → Begins q (s ∷ ss)
-  site_step (same kind p to) ss q l inside e r =
+  -- where a `'` stands directly before a place of the printed text, one stands directly before the site in the source
+  abbrev pub IsAfter : ℕ → List Site → Type 0
+  IsAfter q [] = Unit {0}
+  IsAfter q (s ∷ ss) = follows_apostrophe b q ≡ true → follows_apostrophe a (site_from s) ≡ true
+
+  -- none stands before the text
+  pub first_after : (ss : List Site) → IsAfter 0 ss
+  first_after [] = tt
+  first_after (s ∷ ss) = λ found. absurd (false≢true (sym (follows-none b) ∙ found))
+
+  site_step : (s : Site) (ss : List Site) (q : ℕ) → Linked a (s ∷ ss) → q ≤ length b → IsAfter q (s ∷ ss) → IsPrinted s q ss → Remade (q + (site_to s - site_from s)) ss → Begins q (s ∷ ss)
+  site_step (same kind p to) ss q l inside before e r =
       let s = show (same kind p to) ss q l inside e in
       let next = l.0.1 in
       let bound = l.0.0 in
@@ -315,7 +326,7 @@ module _ (a : List ℕ) (utf8 : IsUtf8 a) (text : HasText a) (docs : HasDocs a) 
       let ahead = adv.0 in
       let positive = w.filled in
       let is : to + q - p ≡ q + (to - p) = omega arith in
-      let there : IsNext b q kind (q + (to - p)) = subst (IsNext b q kind) is (next_same a b p q s.size w bound kind to next no_gap s.at s.line) in
+      let there : IsNext b q kind (q + (to - p)) = subst (IsNext b q kind) is (next_same a b p q s.size w bound before kind to next no_gap s.at s.line) in
       let le : to ≤ p + s.size = elim (joint_or_not kind) [ inl j ↦ omega (arith, s.at.0 j) | inr j ↦ omega (arith, s.at.1 j) ] in
       let old : Span = record { from = p; to = to } in
       let new : Span = record { from = q; to = q + (to - p) } in
@@ -324,7 +335,7 @@ module _ (a : List ℕ) (utf8 : IsUtf8 a) (text : HasText a) (docs : HasDocs a) 
         remade = one_more (same kind p to) ss kind q (q + (to - p)) there same_one r;
         no_space = ap is_space (same_character a b p q s.size w p q (omega arith) (omega arith) (omega arith) bound) ∙ spaces kind p to bound next no_gap;
       }
-  site_step (loose spacing p to) ss q l inside e r =
+  site_step (loose spacing p to) ss q l inside before e r =
       let w = show (loose spacing p to) ss q l inside e in
       let adv = piece-advances a p (Punctuation spacing) to l.0.1 in
       let fits = adv.1 in
@@ -360,22 +371,34 @@ module _ (a : List ℕ) (utf8 : IsUtf8 a) (text : HasText a) (docs : HasDocs a) 
   joint_gap (same kind from to) = elim (joint_or_not kind) [ inl j ↦ inl (ap (λ x. gap_of a x from to) j) | inr j ↦ inr (separates a kind from to j) ]
   joint_gap (loose spacing from to) = inr (inl refl)
 
-  pub remake : (ss : List Site) (q : ℕ) (gap : List ℕ) → Linked a ss → (gap ≡ []) ⊎ IsSeparator gap → q ≤ length b → drop q b ≡ after gap (parts (sites_lexemes a ss)) → Remade q ss
-  remake [] q gap l parted inside e = record { news = []; filled = omega (arith, ap length e, length-drop q b); same_lexemes = refl }
-  remake (s ∷ ss) q gap l parted inside e =
+  -- behind a site with no gap the next one is directly after it in both texts
+  after_site : (s : Site) (ss : List Site) (q : ℕ) → Linked a (s ∷ ss) → IsPrinted s q ss → site_gap a s ≡ [] → IsAfter (q + (site_to s - site_from s)) ss
+  after_site s [] q l e none = tt
+  after_site (loose spacing p to) (t ∷ ts) q l e none = absurd (let f : [] ≡ 32 ∷ [] = sym none in cc)
+  after_site (same kind p to) (t ∷ ts) q l e none = λ found.
+      let joint = joint_from a kind p to none in
+      let adv = piece-advances a p kind to l.0.1 in
+      let tail = after (site_gap a (same kind p to)) (parts (sites_lexemes a (t ∷ ts))) in
+      let places : to - 1 + q ≡ q + (to - p) - 1 + p = omega (arith, adv.0) in
+      let byte : get_or b (q + (to - p) - 1) 0 ≡ get_or a (to - 1) 0 = slice_same p to q tail (omega (arith, adv.0)) adv.1 e (to - 1) (q + (to - p) - 1) places (omega (arith, adv.0)) (omega (arith, adv.0)) in
+      ap (follows_apostrophe a) (l.1 joint) ∙ follows-same a b to (q + (to - p)) (omega (arith, adv.0)) byte found
+
+  pub remake : (ss : List Site) (q : ℕ) (gap : List ℕ) → Linked a ss → (gap ≡ []) ⊎ IsSeparator gap → (gap ≡ [] → IsAfter q ss) → q ≤ length b → drop q b ≡ after gap (parts (sites_lexemes a ss)) → Remade q ss
+  remake [] q gap l parted after_mark inside e = record { news = []; filled = omega (arith, ap length e, length-drop q b); same_lexemes = refl }
+  remake (s ∷ ss) q gap l parted after_mark inside e =
       let from = site_from s in
       let to = site_to s in
       let fits = (piece-advances a from (site_kind s) to l.0.1).1 in
       let long = length-between a from to fits in
       let tail = after (site_gap a s) (parts (sites_lexemes a ss)) in
       let whole = printed_site s ss q gap l e in
-      let go : (i : ℕ) → i ≤ length b → drop i b ≡ slice_range a from to ++ tail → Begins i (s ∷ ss) = λ i le f.
-      site_step s ss i l le f
-      (remake ss (i + (to - from)) (site_gap a s) l.2 (joint_gap s) (omega (arith, whole_length b (slice_range a from to) tail i (to - from) long le f)) (drop_on b (slice_range a from to) tail i (to - from) long le f)) in
+      let go : (i : ℕ) → i ≤ length b → IsAfter i (s ∷ ss) → drop i b ≡ slice_range a from to ++ tail → Begins i (s ∷ ss) = λ i le before f.
+      site_step s ss i l le before f
+      (remake ss (i + (to - from)) (site_gap a s) l.2 (joint_gap s) (after_site s ss i l f) (omega (arith, whole_length b (slice_range a from to) tail i (to - from) long le f)) (drop_on b (slice_range a from to) tail i (to - from) long le f)) in
       elim parted [
-        | inl none ↦ (go q inside (whole ∙ ap (λ xs. xs ++ (slice_range a from to ++ tail)) none)).remade
+        | inl none ↦ (go q inside (after_mark none) (whole ∙ ap (λ xs. xs ++ (slice_range a from to ++ tail)) none)).remade
         | inr some ↦ elim some [
-          | inl s ↦ let f = at_gap 32 q gap (slice_range a from to ++ tail) s inside whole in with_gap 32 q _ (inl refl) f.0 (go (q + 1) f.2 f.1)
-          | inr s ↦ let f = at_gap 10 q gap (slice_range a from to ++ tail) s inside whole in with_gap 10 q _ (inr refl) f.0 (go (q + 1) f.2 f.1)
+          | inl s ↦ let f = at_gap 32 q gap (slice_range a from to ++ tail) s inside whole in with_gap 32 q _ (inl refl) f.0 (go (q + 1) f.2 (λ found. absurd (false≢true (sym (follows-other b q 32 f.0 refl) ∙ found))) f.1)
+          | inr s ↦ let f = at_gap 10 q gap (slice_range a from to ++ tail) s inside whole in with_gap 10 q _ (inr refl) f.0 (go (q + 1) f.2 (λ found. absurd (false≢true (sym (follows-other b q 10 f.0 refl) ∙ found))) f.1)
         ]
       ]

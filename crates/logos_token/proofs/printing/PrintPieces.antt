@@ -49,6 +49,13 @@ separates bytes Doc from to other = separator_if (is_line_comment (slice_range b
 separates bytes (Opening d) from to other = inl refl
 separates bytes (Closing d) from to other = inl refl
 
+-- where nothing parts a lexeme from the next one, it is joint
+pub joint_from : (bytes : List ℕ) (kind : Kind) (from to : ℕ) → gap_of bytes kind from to ≡ [] → kind ≡ Punctuation Joint
+joint_from bytes kind from to none = elim (joint_or_not kind) [
+  | inl j ↦ j
+  | inr j ↦ absurd (elim (separates bytes kind from to j) [ inl e ↦ let f : [] ≡ 32 ∷ [] = sym none ∙ e in cc | inr e ↦ let f : [] ≡ 10 ∷ [] = sym none ∙ e in cc ])
+]
+
 second_slash : (text : List ℕ) → get_or text 1 0 ≡ 47 → is_line_comment text ≡ true
 second_slash [] e = absurd (omega arith)
 second_slash (x ∷ []) e = absurd (omega arith)
@@ -102,7 +109,7 @@ module _ (a : List ℕ) (utf8 : IsUtf8 a) (text : HasText a) (docs : HasDocs a) 
   abbrev IsPrinted : ℕ → ℕ → ℕ → Kind → List Piece → Type 0
   IsPrinted q p to kind rest = drop q b ≡ slice_range a p to ++ after (gap_of a kind p to) (parts (seen a rest))
 
-  slice_same : (p to q : ℕ) (rest : List ℕ) → p ≤ to → to ≤ length a → drop q b ≡ slice_range a p to ++ rest → (x y : ℕ) → x + q ≡ y + p → p ≤ x → x < to → get_or b y 0 ≡ get_or a x 0
+  pub slice_same : (p to q : ℕ) (rest : List ℕ) → p ≤ to → to ≤ length a → drop q b ≡ slice_range a p to ++ rest → (x y : ℕ) → x + q ≡ y + p → p ≤ x → x < to → get_or b y 0 ≡ get_or a x 0
   slice_same p to q rest le fits e x y places low high =
       let i = x - p in
       let long = length-between a p to fits in

@@ -1,5 +1,5 @@
 -- How many entries a run of tokens has.
-use Rattle.std.proofs.Common.{◌≡◌, ◌+◌, List, length, map, arith, refl, sym, ◌∙◌, ap, length-append}
+use Rattle.std.proofs.Common.{◌≡◌, List, length, arith, refl, sym, ◌∙◌, ap, length-append}
 use Rattle.std.proofs.lemmas.List.{length-map}
 use Rattle.logos_token.specs.declared.token.entry.Entry.{Entry}
 use Rattle.logos_token.specs.Tokens.{Token, identifier, punctuation, literal, doc, group, TokenList, none, also, token_count, count_of}

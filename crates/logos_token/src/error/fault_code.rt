@@ -7,15 +7,15 @@ use std::fmt;
 /// What is wrong.
 #[derive(Clone, Copy, PartialEq, Eq)]
 pub enum FaultCode {
-    /// The source has no tokens here.
+    /// The source cannot be cut into tokens here.
     Lexical,
-    /// The source is no enum.
+    /// The source is not an enum.
     NotAnEnum,
     /// The enum is not well formed.
     Grammar,
     /// A type that Rust has and a lexer cannot hold.
     TypeUnsupported,
-    /// No type.
+    /// Tokens that are not a type.
     TypeSyntax,
     /// The source has more bytes than the limit.
     LimitSource,
@@ -33,7 +33,7 @@ pub enum FaultCode {
     ManyLifetimes,
     /// A constant parameter.
     ConstGeneric,
-    /// A type is given to what is no type parameter.
+    /// A type is given to a name that is not a type parameter.
     NotTypeParameter,
     /// A second type for a type parameter.
     TypeTwice,
@@ -61,7 +61,7 @@ pub enum FaultCode {
     ErrorEmpty,
     /// `error` in an unknown form.
     ErrorForm,
-    /// The export path is no text.
+    /// The export path is not a text.
     ExportBytes,
     /// `export_dir` in an unknown form.
     ExportForm,
@@ -69,7 +69,7 @@ pub enum FaultCode {
     ExtrasForm,
     /// `skip` in an unknown form.
     SkipForm,
-    /// `skip(..)` without a literal in front.
+    /// `skip(..)` that does not begin with a literal.
     SkipGroup,
     /// The attribute `source`, which is no longer supported.
     SourceOld,
@@ -85,11 +85,11 @@ pub enum FaultCode {
     LiteralSyntax,
     /// A literal that is neither a text nor a byte string.
     NotText,
-    /// Tokens behind an argument.
+    /// Tokens after an argument.
     UnexpectedToken,
     /// An argument without a name where only named ones may stand.
     NamedExpected,
-    /// The priority is no number that fits.
+    /// The priority is not a number that fits.
     PriorityValue,
     /// A second priority.
     PriorityTwice,
@@ -119,7 +119,7 @@ pub enum FaultCode {
     IgnoreUnknown,
     /// `ignore()` without a flag.
     IgnoreEmpty,
-    /// A token between flags that is no comma.
+    /// A token other than a comma between flags.
     IgnoreToken,
     /// An unknown name among the arguments.
     UnknownNested,
@@ -133,19 +133,19 @@ pub enum FaultCode {
     TokenForm,
     /// `regex` in an unknown form.
     RegexForm,
-    /// A text that is no pattern.
+    /// A text that is not a pattern.
     Regex,
     /// The default priority does not fit.
     PriorityOverflow,
-    /// A text that is no name of a subpattern.
+    /// A text that is not the name of a subpattern.
     SubpatternName,
     /// A subpattern that is not defined before its use.
     SubpatternMissing,
     /// A second subpattern of one name.
     SubpatternTwice,
-    /// A pattern that matches what is no UTF-8, in UTF-8 mode.
+    /// A pattern that can match invalid UTF-8, in UTF-8 mode.
     Utf8Pattern,
-    /// A subpattern that matches what is no UTF-8, in UTF-8 mode.
+    /// A subpattern that can match invalid UTF-8, in UTF-8 mode.
     Utf8Subpattern,
     /// A pattern that matches without a byte.
     EmptyMatch,
@@ -155,92 +155,95 @@ pub enum FaultCode {
     NoUniversalStart,
     /// A pattern that repeats any character without a bound, greedily.
     GreedyDot,
-    /// The former place that another fault speaks of.
+    /// The former place that another fault names.
     Previous,
 }
 
+/// The names of the codes, in the order of the codes.
+const NAMES: [&str; 75] = [
+    "Lexical",
+    "NotAnEnum",
+    "Grammar",
+    "TypeUnsupported",
+    "TypeSyntax",
+    "LimitSource",
+    "LimitTokenNesting",
+    "LimitTypeNesting",
+    "LimitPatternNesting",
+    "LimitSize",
+    "LimitStates",
+    "ManyLifetimes",
+    "ConstGeneric",
+    "NotTypeParameter",
+    "TypeTwice",
+    "NoConcreteType",
+    "TypeHoldsItself",
+    "LogosForm",
+    "InvalidNested",
+    "UnknownLogos",
+    "CrateForm",
+    "ErrorTwice",
+    "ExportTwice",
+    "ExtrasTwice",
+    "Utf8Twice",
+    "ErrorEmpty",
+    "ErrorForm",
+    "ExportBytes",
+    "ExportForm",
+    "ExtrasForm",
+    "SkipForm",
+    "SkipGroup",
+    "SourceOld",
+    "SubpatternForm",
+    "TypeForm",
+    "Utf8Value",
+    "Utf8Form",
+    "LiteralSyntax",
+    "NotText",
+    "UnexpectedToken",
+    "NamedExpected",
+    "PriorityValue",
+    "PriorityTwice",
+    "GreedyTwice",
+    "PriorityForm",
+    "GreedyValue",
+    "GreedyForm",
+    "CallbackValue",
+    "CallbackClosure",
+    "CallbackBody",
+    "CallbackTwice",
+    "CallbackForm",
+    "IgnoreForm",
+    "IgnoreAscii",
+    "IgnoreUnknown",
+    "IgnoreEmpty",
+    "IgnoreToken",
+    "UnknownNested",
+    "VariantFields",
+    "NamedFields",
+    "ErrorVariant",
+    "TokenForm",
+    "RegexForm",
+    "Regex",
+    "PriorityOverflow",
+    "SubpatternName",
+    "SubpatternMissing",
+    "SubpatternTwice",
+    "Utf8Pattern",
+    "Utf8Subpattern",
+    "EmptyMatch",
+    "Disambiguation",
+    "NoUniversalStart",
+    "GreedyDot",
+    "Previous",
+];
+
 impl FaultCode {
-    /// The name of the code, as it is printed.
+    /// Returns the name of the code, as it is printed.
     pub fn name(self) -> &'static str
         ensures { result.now ≡ name_of self }
     {
-        match self {
-            FaultCode::Lexical => "Lexical",
-            FaultCode::NotAnEnum => "NotAnEnum",
-            FaultCode::Grammar => "Grammar",
-            FaultCode::TypeUnsupported => "TypeUnsupported",
-            FaultCode::TypeSyntax => "TypeSyntax",
-            FaultCode::LimitSource => "LimitSource",
-            FaultCode::LimitTokenNesting => "LimitTokenNesting",
-            FaultCode::LimitTypeNesting => "LimitTypeNesting",
-            FaultCode::LimitPatternNesting => "LimitPatternNesting",
-            FaultCode::LimitSize => "LimitSize",
-            FaultCode::LimitStates => "LimitStates",
-            FaultCode::ManyLifetimes => "ManyLifetimes",
-            FaultCode::ConstGeneric => "ConstGeneric",
-            FaultCode::NotTypeParameter => "NotTypeParameter",
-            FaultCode::TypeTwice => "TypeTwice",
-            FaultCode::NoConcreteType => "NoConcreteType",
-            FaultCode::TypeHoldsItself => "TypeHoldsItself",
-            FaultCode::LogosForm => "LogosForm",
-            FaultCode::InvalidNested => "InvalidNested",
-            FaultCode::UnknownLogos => "UnknownLogos",
-            FaultCode::CrateForm => "CrateForm",
-            FaultCode::ErrorTwice => "ErrorTwice",
-            FaultCode::ExportTwice => "ExportTwice",
-            FaultCode::ExtrasTwice => "ExtrasTwice",
-            FaultCode::Utf8Twice => "Utf8Twice",
-            FaultCode::ErrorEmpty => "ErrorEmpty",
-            FaultCode::ErrorForm => "ErrorForm",
-            FaultCode::ExportBytes => "ExportBytes",
-            FaultCode::ExportForm => "ExportForm",
-            FaultCode::ExtrasForm => "ExtrasForm",
-            FaultCode::SkipForm => "SkipForm",
-            FaultCode::SkipGroup => "SkipGroup",
-            FaultCode::SourceOld => "SourceOld",
-            FaultCode::SubpatternForm => "SubpatternForm",
-            FaultCode::TypeForm => "TypeForm",
-            FaultCode::Utf8Value => "Utf8Value",
-            FaultCode::Utf8Form => "Utf8Form",
-            FaultCode::LiteralSyntax => "LiteralSyntax",
-            FaultCode::NotText => "NotText",
-            FaultCode::UnexpectedToken => "UnexpectedToken",
-            FaultCode::NamedExpected => "NamedExpected",
-            FaultCode::PriorityValue => "PriorityValue",
-            FaultCode::PriorityTwice => "PriorityTwice",
-            FaultCode::GreedyTwice => "GreedyTwice",
-            FaultCode::PriorityForm => "PriorityForm",
-            FaultCode::GreedyValue => "GreedyValue",
-            FaultCode::GreedyForm => "GreedyForm",
-            FaultCode::CallbackValue => "CallbackValue",
-            FaultCode::CallbackClosure => "CallbackClosure",
-            FaultCode::CallbackBody => "CallbackBody",
-            FaultCode::CallbackTwice => "CallbackTwice",
-            FaultCode::CallbackForm => "CallbackForm",
-            FaultCode::IgnoreForm => "IgnoreForm",
-            FaultCode::IgnoreAscii => "IgnoreAscii",
-            FaultCode::IgnoreUnknown => "IgnoreUnknown",
-            FaultCode::IgnoreEmpty => "IgnoreEmpty",
-            FaultCode::IgnoreToken => "IgnoreToken",
-            FaultCode::UnknownNested => "UnknownNested",
-            FaultCode::VariantFields => "VariantFields",
-            FaultCode::NamedFields => "NamedFields",
-            FaultCode::ErrorVariant => "ErrorVariant",
-            FaultCode::TokenForm => "TokenForm",
-            FaultCode::RegexForm => "RegexForm",
-            FaultCode::Regex => "Regex",
-            FaultCode::PriorityOverflow => "PriorityOverflow",
-            FaultCode::SubpatternName => "SubpatternName",
-            FaultCode::SubpatternMissing => "SubpatternMissing",
-            FaultCode::SubpatternTwice => "SubpatternTwice",
-            FaultCode::Utf8Pattern => "Utf8Pattern",
-            FaultCode::Utf8Subpattern => "Utf8Subpattern",
-            FaultCode::EmptyMatch => "EmptyMatch",
-            FaultCode::Disambiguation => "Disambiguation",
-            FaultCode::NoUniversalStart => "NoUniversalStart",
-            FaultCode::GreedyDot => "GreedyDot",
-            FaultCode::Previous => "Previous",
-        }
+        NAMES[self as usize]
     }
 }
 
