@@ -20,7 +20,7 @@ from tokens import Lexical
 SOURCES = 600
 # The share of pieces that are wrong, by turns.
 WRONG = [0, 0.1, 0.25, 0, 0.5]
-# Where the repository has sources, and how many.
+# Where the repository has sources, and how many at least.
 ROOT = os.path.join(os.path.dirname(os.path.abspath(__file__)), '..', '..')
 FOLDERS = ['scripts/rust_text/sources', 'scripts/texts', 'scripts/refused_memory', 'bench/lexer/rules', 'docs/guide', 'crates/logos_program/data']
 FILES = 43
@@ -78,8 +78,8 @@ def main(program):
     """Compares all, prints the differences and the counts, and returns the status."""
     kept = list(sources_of_repository())
     wrong, compared = [], 0
-    if len(kept) != FILES:
-        wrong.append(f'{len(kept)} sources in {", ".join(FOLDERS)}, where {FILES} are stated')
+    if len(kept) < FILES:
+        wrong.append(f'{len(kept)} sources in {", ".join(FOLDERS)}, wanted at least {FILES}')
     with ThreadPoolExecutor(len(os.sched_getaffinity(0))) as workers:
         for count, found in workers.map(lambda pair: differences(program, *pair), [*kept, *made_sources()]):
             compared += count
