@@ -18,10 +18,12 @@ wanted="$of_tokens $of_enums $of_pieces"
 scripts=$(cd "$(dirname "${BASH_SOURCE[0]}")" && pwd)
 copy=$(mktemp -d)
 trap 'rm -rf "$copy"' EXIT
+shown=0
 
 fail() {
     [ ! -e "$copy/log" ] || cat "$copy/log" >&2
     echo "borrows: $1" >&2
+    echo "$shown passed, 1 failed"
     exit 1
 }
 
@@ -56,6 +58,7 @@ try_in() {
         grep -v "^src/$name.rt:[0-9:]* error\[$error\]" "$copy/log" > "$copy/rest" || true
         mv "$copy/rest" "$copy/log"
         echo "borrows: $name meets $error"
+        shown=$((shown + 1))
     done
     if grep -q 'error' "$copy/log"; then
         fail "another error is met"
@@ -65,4 +68,5 @@ try_in() {
 try_in logos_token $of_tokens
 try_in logos_item $of_enums
 try_in logos_attribute $of_pieces
-echo "borrows: none of $(echo $wanted | wc -w) views that outlive their buffers compiles, and the same code without the fault does"
+echo "borrows: none of $shown views that outlive their buffers compiles, and the same code without the fault does"
+echo "$shown passed, 0 failed"

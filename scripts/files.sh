@@ -1,8 +1,8 @@
 #!/usr/bin/env bash
-# Meets for real what the tests of the commands meet with files in memory: files that are missing, folders or no text, words that are
-# no text, an input that comes piece by piece, a standard output that is full, closed, read slowly or read no more, or that takes the
-# beginning alone, and charts whose folders are missing or whose files cannot be made, or not whole. Each time the status and all that is
-# written must be as said here.
+# Runs the program where files and outputs fail: files that are missing, folders, or not UTF-8; words that are not UTF-8; an input that
+# comes piece by piece; a standard output that is full, closed, read slowly or read no more, or that takes the beginning alone; and
+# charts whose folders are missing or whose files cannot be made, or not whole. Each time the status and every byte that is written
+# must be as stated here.
 #
 # It needs the program as `rt ci` or `rt run` leaves it in crates/logos_program/out, or the first argument.
 set -euo pipefail
@@ -26,18 +26,29 @@ ln -s /dev/full full.mmd
 usage='usage: logos gen|lex|strip|mermaid|export FILE ..'
 met=0
 
+fail() {
+    echo "files: $1" >&2
+    echo "$met passed, 1 failed"
+    exit 1
+}
+
+# Whether a file holds these lines, each with its end; or nothing.
+holds() {
+    { [ -z "$2" ] || printf '%s\n' "$2"; } | cmp -s - "$1"
+}
+
 # Fails unless the command that just ran with this status wrote these lines.
 wants() {
     local status=$1 wanted=$2 out=$3 err=$4
-    if [ "$status" != "$wanted" ] || [ "$(cat out)" != "$out" ] || [ "$(cat err)" != "$err" ]; then
-        echo "files: status $status in place of $wanted, with:" >&2
-        cat out err >&2
-        exit 1
+    if [ "$status" != "$wanted" ] || ! holds out "$out" || ! holds err "$err"; then
+        od -c out >&2
+        od -c err >&2
+        fail "run $((met + 1)) ends with status $status and these outputs, wanted status $wanted, '$out' and '$err'"
     fi
     met=$((met + 1))
 }
 
-# Runs the program with the words behind the status, the output and the complaint that it must give.
+# Runs the program with the words after the status and the lines of output and of complaint that it must give.
 gives() {
     local wanted=$1 out=$2 err=$3 status=0
     shift 3
@@ -73,10 +84,7 @@ gives 2 '' "$usage" gen source --shape $'\xff'
 
 # Fails unless this file is the chart of this source.
 charts() {
-    if ! "$program" mermaid "$2" | cmp - "$1"; then
-        echo "files: $1 is another chart" >&2
-        exit 1
-    fi
+    "$program" mermaid "$2" | cmp - "$1" || fail "$1 is another chart"
 }
 
 # A chart goes to its file, in place of what stood there, and makes the folders that are missing.
@@ -93,8 +101,7 @@ gives 1 '' 'DOT export is left out' export to_a.dot
 gives 1 '' "Export path must end in '.dot' or '.mmd', or it must be a directory." export to_a.txt
 gives 1 '' 'no export path' export source
 if [ -e a.dot ] || [ -e a.txt ] || [ -e my.mmd ]; then
-    echo "files: a chart that was refused was written" >&2
-    exit 1
+    fail "a chart that was refused was written"
 fi
 
 # It needs no standard output.
@@ -167,4 +174,5 @@ for case in '1 gen alike' '3 gen none' '2 gen' '1 export source' '3 export to_so
     "$program" ${case#* } > out 2> /dev/full || status=$?
     wants "$status" "${case%% *}" '' ''
 done
-echo "files: $met runs end as said"
+echo "files: $met runs end as they have to"
+echo "$met passed, 0 failed"

@@ -1,38 +1,62 @@
 #!/usr/bin/env bash
 # Runs each command of docs/GUIDE.md at the top of the repository, and compares what it prints with what stands below it.
 #
-# `logos` is the program as `rt ci` or `rt run` leaves it in crates/logos_program/out, or the first argument. The guide's enum has to be
-# that of the tokenizer.
+# A command stands after `$ ` in a block of the kind `console`. The script fails where the page has a block of another kind, a block
+# without a command, or a command outside blocks; and where fewer commands ran than are stated here. The enum of the guide has to be that
+# of the tokenizer.
+#
+# `logos` is the program as `rt ci` or `rt run` leaves it in crates/logos_program/out, or the first argument.
 set -euo pipefail
 
+page=docs/GUIDE.md
+blocks=12
+commands=20
 root=$(cd "$(dirname "${BASH_SOURCE[0]}")/.." && pwd)
 program=$(realpath "${1:-$root/crates/logos_program/out/logos_program}")
+room=$(mktemp -d)
+trap 'rm -rf "$room"' EXIT
 cd "$root"
+exec 3>&1
+ran=0
+
+fail() {
+    echo "guide: $1" >&2
+    echo "$ran passed, 1 failed" >&3
+    exit 1
+}
 
 logos() {
     "$program" "$@"
 }
 
-# The page with each output as it comes.
-shown() {
-    local line wanted=no
+# Reads the page, runs its commands, and writes the page with what they print in place of what it shows. Counts blocks and commands.
+# Each line is looked at together with whether it is inside of a block.
+run_page() {
+    local line inside=no begun=0 ran_before=0
+    opened=0
     while IFS= read -r line; do
-        case $line in
-            '```console') wanted=yes; printf '%s\n' "$line" ;;
-            '```') wanted=no; printf '%s\n' "$line" ;;
-            '$ '*) printf '%s\n' "$line"
-                [ "$wanted" = no ] || eval "${line#'$ '}" 2>&1 < /dev/null || echo "status $?" ;;
-            *) [ "$wanted" = yes ] || printf '%s\n' "$line" ;;
+        case $inside$line in
+            'no```console') inside=yes opened=$((opened + 1)) ran_before=$ran ;;
+            'yes```') inside=no
+                [ "$ran" -gt "$ran_before" ] || fail "block $opened has no command" ;;
+            'no```'* | 'yes```'*) fail "a block of another kind: $line" ;;
+            'no$ '*) fail "a command outside blocks: $line" ;;
+            'yes$ '*) begun=1 ;;
+            yes*) continue ;;
         esac
-    done < docs/GUIDE.md
+        printf '%s\n' "$line"
+        if [ "$begun" = 1 ]; then
+            eval "${line#'$ '}" 2>&1 < /dev/null || echo "status $?"
+            ran=$((ran + 1)) begun=0
+        fi
+    done < "$page" > "$room/page"
 }
 
-if ! difference=$(shown | diff docs/GUIDE.md -); then
-    printf 'guide: other output\n%s\n' "$difference" >&2
-    exit 1
-fi
-if ! sed -n '/^pub const SOURCE/,/^"#;$/p' crates/logos_codegen/src/expr.rt | sed -e '1s/^[^"]*"//' -e '$d' | diff - docs/guide/expr.rs > /dev/null; then
-    echo "guide: another enum than the tokenizer's" >&2
-    exit 1
-fi
-echo "guide: $(grep -c '^\$ ' docs/GUIDE.md) commands print what the guide says"
+run_page
+diff "$page" "$room/page" >&2 || fail "other output"
+[ "$opened" = "$blocks" ] || fail "$opened blocks, where $blocks are stated"
+[ "$ran" = "$commands" ] || fail "$ran commands ran, where $commands are stated"
+sed -n '/^pub const SOURCE/,/^"#;$/p' crates/logos_codegen/src/expr.rt | sed -e '1s/^[^"]*"//' -e '$d' | cmp -s - docs/guide/expr.rs \
+    || fail "another enum than that of the tokenizer"
+echo "guide: $ran commands print what the guide shows"
+echo "$ran passed, 0 failed"

@@ -4,22 +4,26 @@
 # For each source and input in scripts/refused_memory each command, `export` in place of `mermaid` where the source says where its chart
 # goes, runs once with ample memory, and then once for each of its requests with just that one refused. Each time it must answer as it
 # did, or with `out of memory`, status 3, and nothing on standard output. A chart that is exported is written as it was, or not at all.
-# The script fails where another answer comes, where nothing was refused, or where no refusal was told.
-# Then it does the same with the tokenizer that stands on the library, by a test that takes its tokens or `Memory` alone.
+# The script fails where another answer comes, where of a command nothing was refused or no refusal ended in want of memory, and where
+# other sources stand than those of the list. The sources are tried side by side.
 #
-# It needs gcc, and the program and the tests as `rt ci` leaves them in crates/logos_program/out and
-# crates/logos_code_tests/out, or the first and the second argument.
+# It needs gcc, and the program as `rt ci` leaves it in crates/logos_program/out, or the first argument.
 set -euo pipefail
 
+sources=(alike bytes faults letters sentence subpatterns)
+exported=whole
 scripts=$(cd "$(dirname "${BASH_SOURCE[0]}")" && pwd)
 program=$(realpath "${1:-$scripts/../crates/logos_program/out/logos_program}")
-tests=$(realpath "${2:-$scripts/../crates/logos_code_tests/out/logos_code_tests_tests}")
 room=$(mktemp -d)
 trap 'rm -rf "$room"' EXIT
 gcc -O1 -shared -fPIC -o "$room/refuse.so" "$scripts/refused_memory/refuse.c"
+refused=0
+told=0
 
+# Reports what is wrong, and notes the counts of this source.
 fail() {
     echo "refused_memory: $1" >&2
+    echo "$refused $told" > counts
     exit 1
 }
 
@@ -30,60 +34,78 @@ answer() {
     shift 2
     status=0
     [ "$1" != export ] || rm -rf charts "$to.chart"
-    LD_PRELOAD="$room/refuse.so" REFUSE=$number REQUESTS="$room/requests" \
-        "$program" "$@" > "$to.out" 2> "$to.err" || status=$?
+    LD_PRELOAD="$room/refuse.so" REFUSE=$number REQUESTS=requests "$program" "$@" > "$to.out" 2> "$to.err" || status=$?
     [ "$1" != export ] || cat charts/*/*.mmd > "$to.chart" 2> /dev/null || true
 }
 
-# The words of a command, with each of its requests refused in turn.
-refuse_each() {
-    local number requests wanted
-    rm -f "$room"/*.chart
-    touch "$room/ample.chart" "$room/one.chart"
-    answer 0 "$room/ample" "$@"
-    wanted=$status
-    requests=$(< "$room/requests")
-    for ((number = 1; number <= requests; number++)); do
-        answer "$number" "$room/one" "$@"
-        refused=$((refused + 1))
-        if [ "$status" = 3 ] && [ ! -s "$room/one.out" ] && [ ! -s "$room/one.chart" ] && [ "$(< "$room/one.err")" = "out of memory" ]; then
-            told=$((told + 1))
-        elif [ "$status" != "$wanted" ] || ! cmp -s "$room/one.out" "$room/ample.out" \
-            || ! cmp -s "$room/one.err" "$room/ample.err" || ! cmp -s "$room/one.chart" "$room/ample.chart"; then
-            cat "$room/one.out" "$room/one.err" >&2
-            fail "request $number of $* is answered with status $status"
-        fi
-    done
+# Whether the last answer is want of memory.
+is_want() {
+    [ "$status" = 3 ] && [ ! -s one.out ] && [ ! -s one.chart ] && cmp -s one.err want
 }
 
-# Charts go to folders in here.
-cd "$room"
-refused=0
-told=0
-exported=0
-for source in "$scripts"/refused_memory/*.rs; do
+# Whether the last answer is that with ample memory, whose status is given.
+is_ample() {
+    [ "$status" = "$1" ] && cmp -s one.out ample.out && cmp -s one.err ample.err && cmp -s one.chart ample.chart
+}
+
+# Runs a command with each of its requests refused in turn.
+refuse_each() {
+    local number requests wanted told_before=$told
+    : > ample.chart
+    : > one.chart
+    answer 0 ample "$@"
+    wanted=$status
+    requests=$(< requests)
+    [ "$requests" -gt 0 ] || fail "$* asks for no memory"
+    for ((number = 1; number <= requests; number++)); do
+        answer "$number" one "$@"
+        if is_want; then
+            told=$((told + 1))
+        elif ! is_ample "$wanted"; then
+            cat one.out one.err >&2
+            fail "request $number of $* is answered with status $status"
+        fi
+        refused=$((refused + 1))
+    done
+    [ "$told" -gt "$told_before" ] || fail "no refusal of $* ends in out of memory"
+}
+
+# Tries all commands on the source with this name, in a folder of its own, where its chart goes to.
+try_source() {
+    local source=$scripts/refused_memory/$1.rs
+    mkdir "$room/$1"
+    cd "$room/$1"
+    echo "out of memory" > want
     refuse_each lex "$source" "${source%.rs}.txt"
     refuse_each gen "$source" --shape tailcall
     refuse_each strip "$source"
-    if ! grep -q export_dir "$source"; then
+    if [ "$1" = "$exported" ]; then
+        refuse_each export "$source"
+        [ -s ample.chart ] || fail "no chart was exported"
+    else
         refuse_each mermaid "$source"
-        continue
     fi
-    refuse_each export "$source"
-    [ -s "$room/ample.chart" ] || fail "no chart was exported"
-    exported=$((exported + 1))
-done
-[ "$exported" -gt 0 ] || fail "no source says where its chart goes"
-[ "$refused" -gt 0 ] || fail "nothing was refused"
-[ "$told" -gt 0 ] || fail "no refusal was told"
-echo "refused_memory: of $refused refused requests $told end in out of memory, and $((refused - told)) change nothing"
+    echo "$refused $told" > counts
+}
 
-test=tests::sources::expr::gives_tokens_or_lacks_memory
-LD_PRELOAD="$room/refuse.so" REFUSE=0 REQUESTS="$room/requests" "$tests" "$test" > "$room/said" || fail "$test fails with ample memory"
-requests=$(cat "$room/requests")
-[ "$requests" -gt 0 ] || fail "$test asks for no memory"
-for ((number = 1; number <= requests; number++)); do
-    LD_PRELOAD="$room/refuse.so" REFUSE=$number REQUESTS="$room/requests" "$tests" "$test" > "$room/said" 2>&1 \
-        || fail "$test fails with request $number refused: $(cat "$room/said")"
+cd "$scripts/refused_memory"
+found=$(echo *.rs)
+wanted=$(printf '%s.rs ' "${sources[@]}")$exported.rs
+if [ "$found" != "$wanted" ]; then
+    echo "refused_memory: the sources are $found, where $wanted are stated" >&2
+    echo "0 passed, 1 failed"
+    exit 1
+fi
+tries=()
+for name in "${sources[@]}" "$exported"; do
+    try_source "$name" &
+    tries+=($!)
 done
-echo "refused_memory: each of the $requests requests of $test refused, it gives its tokens or Memory"
+failed=0
+for try in "${tries[@]}"; do
+    wait "$try" || failed=$((failed + 1))
+done
+read -r refused told < <(cat "$room"/*/counts | awk '{ refused += $1; told += $2 } END { print refused + 0, told + 0 }')
+echo "refused_memory: of $refused refused requests $told end in out of memory, and $((refused - told)) change nothing"
+echo "$refused passed, $failed failed"
+[ "$failed" = 0 ]

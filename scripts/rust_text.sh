@@ -4,123 +4,158 @@
 # Each source of scripts/rust_text/sources, and some from elsewhere in the repository, is stripped, and printed in both shapes. rustc compiles all
 # texts at once beside a small runtime, and what comes of each input of scripts/rust_text/inputs is compared, item by item; a source with
 # inputs of its own in scripts/rust_text/own, NAME or NAME.ANYTHING, reads these alone. The lines of scripts/rust_text/rows are small sources: a
-# name, an enum, and inputs, parted by tabs. A source has at most one attribute on a variant, so that a variant's place tells its leaf, and each
+# name, an enum, and inputs, parted by tabs. A source has at most one attribute on a variant, so that a variant's place gives its leaf, and each
 # skip on a line of its own. A source with callbacks, values or parameters may have more;
 # beside it stands a file of this name in scripts/rust_text/beside, with the Rust items that it names, the type of its tokens and the
-# leaf of each. Its callbacks keep what they match, as `logos lex` does. Where an input is refused, since it is not UTF-8, nothing is
-# compared. Derives that rustc does not know do nothing.
+# leaf of each. Its callbacks keep what they match, as `logos lex` does. Derives that rustc does not know do nothing.
 #
-# Callbacks of skips, callbacks that refuse what they match or leave it out, and the one that makes errors are told too. Of a source with a
+# Callbacks of skips, callbacks that refuse what they match or leave it out, and the one that makes errors are shown too. Of a source with a
 # file of its name in scripts/rust_text/told the skips stand in `skip(..)`, and `logos lex` is asked with each of them as a variant in front of the
-# others, so that it tells all matches in order, by the same leaves. The file, in sed's language, says what becomes of these lines: `token`
+# others, so that it gives all matches in order, by the same leaves. The file, in sed's language, says what becomes of these lines: `token`
 # where a skip's callback has to say that it was called, `made` in front of `error` where the callback that makes errors has to say so. Each prints
 # where the lexer stands, and `told`, in the file beside, looks at the value of each error.
 #
-# The program `logos` is that which the gate has built, or the first argument. Where there is no rustc, it says so and ends well.
+# An input that is not UTF-8 has to be refused by each source that does not read bytes, and is then compared no further. Which inputs and
+# sources these are, and how many comparisons and refusals there have to be, is stated here.
+#
+# It needs rustc, and the program as `rt ci` leaves it in crates/logos_program/out, or the first argument.
 set -euo pipefail
 
+comparisons=384
+refusals=60
+# The inputs that are not UTF-8, with the length of their longest beginning that is, and the sources that read bytes.
+declare -A not_utf8=([bytes]=2 [marks]=31 [records]=0 [program]=97)
+of_bytes=' bytes marks program records '
 root=$(cd "$(dirname "${BASH_SOURCE[0]}")/.." && pwd)
-logos=${1:-$root/crates/logos_program/out/logos_program}
+here=$root/scripts/rust_text
+logos=$(realpath "${1:-$root/crates/logos_program/out/logos_program}")
 room=$(mktemp -d)
 trap 'rm -rf "$room"' EXIT
-if ! command -v rustc > /dev/null; then
-    echo "rust_text: there is no rustc here, so no printed text was compiled"
-    exit 0
-fi
+exec 3>&1
+compared=0
+refused=0
 
-# The source with each skip as a variant, in front of the others.
+fail() {
+    echo "rust_text: $1" >&2
+    echo "$((compared + refused)) passed, 1 failed" >&3
+    exit 1
+}
+
+# Lays out all sources, and the inputs of each, in two folders.
+lay_out() {
+    local source name row n
+    mkdir "$room/sources" "$room/inputs"
+    cp "$here"/sources/*.rs "$root"/bench/lexer/rules/*.rs "$root"/docs/guide/{color,expr}.rs "$room/sources"
+    cp "$root/crates/logos_program/data/t.rs" "$room/sources/first_enum.rs"
+    for source in "$room"/sources/*.rs; do
+        name=$(basename "$source" .rs)
+        mkdir "$room/inputs/$name"
+        cp "$here/own/$name"{,.*} "$room/inputs/$name" 2> /dev/null \
+            || [ -n "$(ls "$room/inputs/$name")" ] || cp "$here"/inputs/* "$room/inputs/$name"
+    done
+    while IFS=$'\t' read -r -a row; do
+        mkdir "$room/inputs/${row[0]}"
+        printf '%s\n' "${row[1]}" > "$room/sources/${row[0]}.rs"
+        for ((n = 2; n < ${#row[@]}; n++)); do
+            printf '%b' "${row[n]}" > "$room/inputs/${row[0]}/$n"
+        done
+    done < "$here/rows"
+}
+
+# Prints the source with each skip as a variant, in front of the others.
 with_skips_shown() {
     awk '/^#\[logos\(skip\(/ { sub(/^#\[logos\(skip/, "#[regex"); sub(/\)\)\]$/, ")]"); shown = shown "    " $0 " Skip" count++ ",\n"; next }
          { print }
          /^enum / { printf "%s", shown }' "$1"
 }
 
-# The lines that an input has to give by a source, in a shape.
-wanted_lines() {
-    local source=$1 input=$2 shape=$3 name
-    name=$(basename "$source" .rs)
-    if [ ! -e "$root/scripts/rust_text/told/$name.sed" ]; then
-        "$logos" lex "$source" "$input" --shape "$shape" > "$room/wanted" 2> "$room/said"
+# Prints the function that lexes an input by the text of a source.
+lines_function() {
+    local name=$1 source=$room/sources/$1.rs enum skips told='|_, _| ()'
+    [ ! -e "$here/told/$name.sed" ] || told=told
+    if [ -e "$here/beside/$name.rs" ]; then
+        cat "$here/beside/$name.rs"
+        echo "pub fn lines(input: &[u8]) { super::lines::<Tokens>(super::Input::of(input), leaf, $told) }"
+        return
+    fi
+    enum=$(sed -n 's/^\(.* \)\{0,1\}enum \([A-Za-z]*\) {.*/\2/p' "$source")
+    skips=$(grep -c '^#\[logos(skip' "$source" || true)
+    if [ "$name" = nothing ]; then
+        echo "pub fn lines(input: &[u8]) { super::lines::<$enum>(super::Input::of(input), |_, token| match token {}, $told) }"
+    else
+        echo "pub fn lines(input: &[u8]) { super::lines::<$enum>(super::Input::of(input), |_, token| token as usize + $skips, $told) }"
+    fi
+}
+
+# Writes a program with a module for each source and shape, and an arm for each in `main`, and compiles it.
+compile() {
+    local source name shape arms=
+    cp "$here/main.rs.in" "$room/main.rs"
+    for source in "$room"/sources/*.rs; do
+        name=$(basename "$source" .rs)
+        [ ! -e "$here/told/$name.sed" ] || with_skips_shown "$source" > "$room/$name.shown.rs"
+        for shape in state_machine tailcall; do
+            { echo "mod ${name}_$shape {"
+              "$logos" strip "$source" || fail "$name is not stripped"
+              "$logos" gen "$source" --shape "$shape" || fail "$name is not printed in the shape $shape"
+              lines_function "$name"
+              echo "}"; } >> "$room/main.rs"
+            arms+="(\"$name\", \"$shape\") => ${name}_$shape::lines(&input), "
+        done
+    done
+    { echo "fn main() {"
+      echo "let words: Vec<String> = std::env::args().collect();"
+      echo "let input = std::fs::read(&words[3]).expect(\"an input\");"
+      echo "match (words[1].as_str(), words[2].as_str()) { $arms _ => panic!(\"no such text\") }"
+      echo "}"; } >> "$room/main.rs"
+    rustc --edition 2021 --crate-type rlib --crate-name logos -o "$room/liblogos.rlib" "$here/runtime.rs"
+    rustc --edition 2021 --crate-type proc-macro --crate-name serde -o "$room/libserde.so" "$here/serde.rs"
+    rustc --edition 2021 --extern "logos=$room/liblogos.rlib" --extern "serde=$room/libserde.so" -o "$room/items" "$room/main.rs"
+}
+
+# Runs `logos lex`, and makes of its output the lines that an input has to give.
+ask_lexer() {
+    local name=$1 input=$2 shape=$3
+    if [ ! -e "$here/told/$name.sed" ]; then
+        "$logos" lex "$room/sources/$name.rs" "$input" --shape "$shape" > "$room/wanted" 2> "$room/said"
         return
     fi
     "$logos" lex "$room/$name.shown.rs" "$input" --shape "$shape" > "$room/matches" 2> "$room/said" || return
-    sed -f "$root/scripts/rust_text/told/$name.sed" "$room/matches" > "$room/wanted"
+    sed -f "$here/told/$name.sed" "$room/matches" > "$room/wanted"
 }
 
-# All sources and the inputs of each, in two folders.
-mkdir "$room/sources" "$room/inputs"
-cp "$root"/scripts/rust_text/sources/*.rs "$root"/bench/lexer/rules/*.rs "$root"/docs/guide/{color,expr}.rs "$room/sources"
-cp "$root/crates/logos_program/data/t.rs" "$room/sources/first_enum.rs"
-for source in "$room"/sources/*.rs; do
-    name=$(basename "$source" .rs)
-    mkdir "$room/inputs/$name"
-    cp "$root/scripts/rust_text/own/$name"{,.*} "$room/inputs/$name" 2> /dev/null \
-        || [ -n "$(ls "$room/inputs/$name")" ] || cp "$root"/scripts/rust_text/inputs/* "$room/inputs/$name"
-done
-while IFS=$'\t' read -r -a row; do
-    mkdir "$room/inputs/${row[0]}"
-    printf '%s\n' "${row[1]}" > "$room/sources/${row[0]}.rs"
-    for ((n = 2; n < ${#row[@]}; n++)); do
-        printf '%b' "${row[n]}" > "$room/inputs/${row[0]}/$n"
-    done
-done < "$root/scripts/rust_text/rows"
-
-# A module for each source and shape, and an arm for each in `main`.
-cp "$root/scripts/rust_text/main.rs.in" "$room/main.rs"
-arms=
-for source in "$room"/sources/*.rs; do
-    name=$(basename "$source" .rs)
-    enum=$(sed -n 's/^\(.* \)\{0,1\}enum \([A-Za-z]*\) {.*/\2/p' "$source")
-    skips=$(grep -c '^#\[logos(skip' "$source" || true)
-    told='|_, _| ()'
-    if [ -e "$root/scripts/rust_text/told/$name.sed" ]; then
-        told=told
-        with_skips_shown "$source" > "$room/$name.shown.rs"
+# Compares what the text of a source in a shape finds in an input with the lines of the lexer.
+compare() {
+    local name=$1 input=$2 shape=$3 what status=0
+    what="the $shape text of $name on $(basename "$input")"
+    ask_lexer "$name" "$input" "$shape" || status=$?
+    if [ -n "${not_utf8[$(basename "$input")]:-}" ] && [[ $of_bytes != *" $name "* ]]; then
+        if [ "$status" != 1 ] || [ "$(< "$room/said")" != "NotUtf8 ${not_utf8[$(basename "$input")]}" ]; then
+            fail "$what: status $status and $(< "$room/said"), where bytes that are not UTF-8 have to be refused"
+        fi
+        refused=$((refused + 1))
+        return
     fi
-    for shape in state_machine tailcall; do
-        "$logos" gen "$source" --shape "$shape" > "$room/$name.$shape.rs"
-        { echo "mod ${name}_$shape {"
-          "$logos" strip "$source"
-          cat "$room/$name.$shape.rs"
-          if [ -e "$root/scripts/rust_text/beside/$name.rs" ]; then
-              cat "$root/scripts/rust_text/beside/$name.rs"
-              echo "pub fn lines(input: &[u8]) { super::lines::<Tokens>(super::Input::of(input), leaf, $told) }"
-          elif [ "$name" != nothing ]; then
-              echo "pub fn lines(input: &[u8]) { super::lines::<$enum>(super::Input::of(input), |_, token| token as usize + $skips, $told) }"
-          else
-              echo "pub fn lines(input: &[u8]) { super::lines::<$enum>(super::Input::of(input), |_, token| match token {}, $told) }"
-          fi
-          echo "}"; } >> "$room/main.rs"
-        arms+="(\"$name\", \"$shape\") => ${name}_$shape::lines(&input), "
-    done
-done
-{ echo "fn main() {"
-  echo "let words: Vec<String> = std::env::args().collect();"
-  echo "let input = std::fs::read(&words[3]).expect(\"an input\");"
-  echo "match (words[1].as_str(), words[2].as_str()) { $arms _ => panic!(\"no such text\") }"
-  echo "}"; } >> "$room/main.rs"
-rustc --edition 2021 --crate-type rlib --crate-name logos -o "$room/liblogos.rlib" "$root/scripts/rust_text/runtime.rs"
-rustc --edition 2021 --crate-type proc-macro --crate-name serde -o "$room/libserde.so" "$root/scripts/rust_text/serde.rs"
-rustc --edition 2021 --extern "logos=$room/liblogos.rlib" --extern "serde=$room/libserde.so" -o "$room/items" "$room/main.rs"
+    [ "$status" = 0 ] || fail "$what: the lexer ends with status $status and $(< "$room/said")"
+    "$room/items" "$name" "$shape" "$input" > "$room/found" || fail "$what: the compiled text does not end well"
+    if ! cmp -s "$room/wanted" "$room/found"; then
+        diff "$room/wanted" "$room/found" >&2 || true
+        fail "$what finds other items"
+    fi
+    compared=$((compared + 1))
+}
 
-compared=0
-for source in "$room"/sources/*.rs; do
-    name=$(basename "$source" .rs)
-    for input in "$room/inputs/$name"/*; do
+command -v rustc > /dev/null || fail "rustc is missing"
+lay_out
+compile
+for inputs in "$room"/inputs/*; do
+    for input in "$inputs"/*; do
         for shape in state_machine tailcall; do
-            if ! wanted_lines "$source" "$input" "$shape"; then
-                grep -q '^NotUtf8 ' "$room/said" || { cat "$room/said" >&2; exit 1; }
-                continue
-            fi
-            "$room/items" "$name" "$shape" "$input" > "$room/found"
-            if ! cmp -s "$room/wanted" "$room/found"; then
-                echo "rust_text: the $shape text of $name finds other items in $(basename "$input"):" >&2
-                diff "$room/wanted" "$room/found" >&2 || true
-                exit 1
-            fi
-            compared=$((compared + 1))
+            compare "$(basename "$inputs")" "$input" "$shape"
         done
     done
 done
-[ "$compared" -gt 0 ] || { echo "rust_text: nothing was compared" >&2; exit 1; }
-echo "rust_text: the compiled texts find what the lexer finds, in $compared comparisons"
+[ "$compared $refused" = "$comparisons $refusals" ] \
+    || fail "$compared comparisons and $refused refusals, where $comparisons and $refusals are stated"
+echo "rust_text: the compiled texts find what the lexer finds, in $compared comparisons, and $refused inputs are refused"
+echo "$((compared + refused)) passed, 0 failed"
