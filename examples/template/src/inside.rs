@@ -1,0 +1,40 @@
+/// What stands inside a tag.
+#[derive(Logos, Clone, Copy, Debug, PartialEq)]
+#[logos(skip r"[ \t\r\n]+")]
+pub enum Inside {
+    #[regex(r"[a-zA-Z_][a-zA-Z0-9_\-]*")]
+    Name,
+    #[regex("[0-9]+")]
+    Index,
+    #[regex(r#""[^"\n]*""#)]
+    Default,
+    #[regex(r#""[^"\n]*"#)]
+    UnclosedText,
+    #[token(".")]
+    Point,
+    #[token("#")]
+    Section,
+    #[token("^")]
+    Inverted,
+    #[token("/")]
+    End,
+    #[token("&")]
+    Raw,
+    #[token("??")]
+    Else,
+    #[token("|")]
+    Filter,
+    #[token("upper", ignore(case), priority = 30)]
+    Upper,
+    #[token("lower", ignore(case), priority = 30)]
+    Lower,
+    #[token("length", ignore(case), priority = 30)]
+    Length,
+    #[token("}}")]
+    Close,
+    #[token("}}}")]
+    CloseRaw,
+    #[token("=")]
+    #[token(">")]
+    Unsupported,
+}

@@ -1,0 +1,227 @@
+//! What printed texts call. Programs have no need of it.
+
+use crate::{Filter, FilterResult, Lexer, Logos, Skip, Source};
+
+/// What a text reads at once: a byte, or a block of bytes.
+pub trait Chunk<'source>: Sized {
+    /// Returns the bytes at the offset, if so many are there.
+    fn read(bytes: &'source [u8], offset: usize) -> Option<Self>;
+}
+
+impl<'source> Chunk<'source> for u8 {
+    #[inline]
+    fn read(bytes: &'source [u8], offset: usize) -> Option<u8> {
+        bytes.get(offset).copied()
+    }
+}
+
+impl<'source, const N: usize> Chunk<'source> for &'source [u8; N] {
+    #[inline]
+    fn read(bytes: &'source [u8], offset: usize) -> Option<Self> {
+        bytes.get(offset..)?.first_chunk()
+    }
+}
+
+/// What a text calls on its lexer.
+pub trait LexerInternal<'source> {
+    /// Returns what stands at the byte offset.
+    fn read<C: Chunk<'source>>(&self, offset: usize) -> Option<C>;
+
+    /// Returns where the token begins.
+    fn offset(&self) -> usize;
+
+    /// Ends the token at the byte offset.
+    fn end(&mut self, offset: usize);
+
+    /// Ends the token at the first boundary from the byte offset on.
+    fn end_to_boundary(&mut self, offset: usize);
+
+    /// Leaves the token out: the next one begins where it ends.
+    fn trivia(&mut self);
+}
+
+impl<'source, Token: Logos<'source>> LexerInternal<'source> for Lexer<'source, Token> {
+    #[inline]
+    fn read<C: Chunk<'source>>(&self, offset: usize) -> Option<C> {
+        C::read(self.source().as_bytes(), offset)
+    }
+
+    #[inline]
+    fn offset(&self) -> usize {
+        self.start()
+    }
+
+    #[inline]
+    fn end(&mut self, offset: usize) {
+        self.set_end(offset);
+    }
+
+    #[inline]
+    fn end_to_boundary(&mut self, offset: usize) {
+        let end = self.source().find_boundary(offset);
+        self.set_end(end);
+    }
+
+    #[inline]
+    fn trivia(&mut self) {
+        self.begin();
+    }
+}
+
+/// What becomes of a match.
+pub enum CallbackResult<'source, Token: Logos<'source>> {
+    Emit(Token),
+    Error(Token::Error),
+    DefaultError,
+    Skip,
+}
+
+/// What becomes of a match of a skip.
+pub enum SkipResult<'source, Token: Logos<'source>> {
+    Skip,
+    Error(Token::Error),
+}
+
+impl<'source, Token: Logos<'source>> From<SkipResult<'source, Token>> for CallbackResult<'source, Token> {
+    fn from(result: SkipResult<'source, Token>) -> Self {
+        match result {
+            SkipResult::Skip => CallbackResult::Skip,
+            SkipResult::Error(error) => CallbackResult::Error(error),
+        }
+    }
+}
+
+/// What a callback may return whose token has such a value.
+pub trait CallbackRetVal<'source, Value, Token: Logos<'source>> {
+    /// Returns what becomes of the match; `constructor` makes the token of its value.
+    fn construct<Constructor: FnOnce(Value) -> Token>(self, constructor: Constructor) -> CallbackResult<'source, Token>;
+}
+
+impl<'source, Value, Token: Logos<'source>> CallbackRetVal<'source, Value, Token> for Value {
+    #[inline]
+    fn construct<C: FnOnce(Value) -> Token>(self, constructor: C) -> CallbackResult<'source, Token> {
+        CallbackResult::Emit(constructor(self))
+    }
+}
+
+impl<'source, Token: Logos<'source>> CallbackRetVal<'source, (), Token> for bool {
+    #[inline]
+    fn construct<C: FnOnce(()) -> Token>(self, constructor: C) -> CallbackResult<'source, Token> {
+        self.then_some(()).construct(constructor)
+    }
+}
+
+impl<'source, Value, Token: Logos<'source>> CallbackRetVal<'source, Value, Token> for Option<Value> {
+    #[inline]
+    fn construct<C: FnOnce(Value) -> Token>(self, constructor: C) -> CallbackResult<'source, Token> {
+        match self {
+            Some(value) => CallbackResult::Emit(constructor(value)),
+            None => CallbackResult::DefaultError,
+        }
+    }
+}
+
+impl<'source, Value, Error, Token> CallbackRetVal<'source, Value, Token> for Result<Value, Error>
+where
+    Error: Into<Token::Error>,
+    Token: Logos<'source>,
+{
+    #[inline]
+    fn construct<C: FnOnce(Value) -> Token>(self, constructor: C) -> CallbackResult<'source, Token> {
+        match self {
+            Ok(value) => CallbackResult::Emit(constructor(value)),
+            Err(error) => CallbackResult::Error(error.into()),
+        }
+    }
+}
+
+impl<'source, Token: Logos<'source>> CallbackRetVal<'source, (), Token> for Skip {
+    #[inline]
+    fn construct<C: FnOnce(()) -> Token>(self, _constructor: C) -> CallbackResult<'source, Token> {
+        CallbackResult::Skip
+    }
+}
+
+impl<'source, Error, Token> CallbackRetVal<'source, (), Token> for Result<Skip, Error>
+where
+    Error: Into<Token::Error>,
+    Token: Logos<'source>,
+{
+    #[inline]
+    fn construct<C: FnOnce(()) -> Token>(self, _constructor: C) -> CallbackResult<'source, Token> {
+        match self {
+            Ok(Skip) => CallbackResult::Skip,
+            Err(error) => CallbackResult::Error(error.into()),
+        }
+    }
+}
+
+impl<'source, Value, Token: Logos<'source>> CallbackRetVal<'source, Value, Token> for Filter<Value> {
+    #[inline]
+    fn construct<C: FnOnce(Value) -> Token>(self, constructor: C) -> CallbackResult<'source, Token> {
+        match self {
+            Filter::Emit(value) => CallbackResult::Emit(constructor(value)),
+            Filter::Skip => CallbackResult::Skip,
+        }
+    }
+}
+
+impl<'source, Value, Error, Token> CallbackRetVal<'source, Value, Token> for FilterResult<Value, Error>
+where
+    Error: Into<Token::Error>,
+    Token: Logos<'source>,
+{
+    #[inline]
+    fn construct<C: FnOnce(Value) -> Token>(self, constructor: C) -> CallbackResult<'source, Token> {
+        match self {
+            FilterResult::Emit(value) => CallbackResult::Emit(constructor(value)),
+            FilterResult::Skip => CallbackResult::Skip,
+            FilterResult::Error(error) => CallbackResult::Error(error.into()),
+        }
+    }
+}
+
+/// What a callback of a skip may return.
+pub trait SkipRetVal<'source, Token: Logos<'source>> {
+    /// Returns what becomes of the match.
+    fn construct(self) -> SkipResult<'source, Token>;
+}
+
+impl<'source, Token: Logos<'source>> SkipRetVal<'source, Token> for () {
+    #[inline]
+    fn construct(self) -> SkipResult<'source, Token> {
+        SkipResult::Skip
+    }
+}
+
+impl<'source, Token: Logos<'source>> SkipRetVal<'source, Token> for Skip {
+    #[inline]
+    fn construct(self) -> SkipResult<'source, Token> {
+        SkipResult::Skip
+    }
+}
+
+impl<'source, Error, Token> SkipRetVal<'source, Token> for Result<(), Error>
+where
+    Error: Into<Token::Error>,
+    Token: Logos<'source>,
+{
+    #[inline]
+    fn construct(self) -> SkipResult<'source, Token> {
+        match self {
+            Ok(()) => SkipResult::Skip,
+            Err(error) => SkipResult::Error(error.into()),
+        }
+    }
+}
+
+impl<'source, Error, Token> SkipRetVal<'source, Token> for Result<Skip, Error>
+where
+    Error: Into<Token::Error>,
+    Token: Logos<'source>,
+{
+    #[inline]
+    fn construct(self) -> SkipResult<'source, Token> {
+        SkipRetVal::construct(self.map(|Skip| ()))
+    }
+}

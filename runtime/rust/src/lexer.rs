@@ -1,0 +1,149 @@
+//! Lexers: runs of a printed text over an input.
+
+use crate::{Logos, Source};
+use core::fmt;
+use core::ops::{Deref, DerefMut, Range};
+
+/// A part of an input, in byte offsets.
+pub type Span = Range<usize>;
+
+/// A run of a lexer over an input. As an iterator it yields each token, or the error that stands in its place.
+pub struct Lexer<'source, Token: Logos<'source>> {
+    source: &'source Token::Source,
+    start: usize,
+    end: usize,
+    /// The state that callbacks can read and change.
+    pub extras: Token::Extras,
+}
+
+impl<'source, Token: Logos<'source>> Lexer<'source, Token> {
+    /// Returns a lexer at the start of an input, with extras of their default value.
+    pub fn new(source: &'source Token::Source) -> Self
+    where
+        Token::Extras: Default,
+    {
+        Self::with_extras(source, Token::Extras::default())
+    }
+
+    /// Returns a lexer at the start of an input, with these extras.
+    pub fn with_extras(source: &'source Token::Source, extras: Token::Extras) -> Self {
+        Lexer { source, start: 0, end: 0, extras }
+    }
+
+    /// Returns the whole input.
+    pub fn source(&self) -> &'source Token::Source {
+        self.source
+    }
+
+    /// Returns the place of the last token.
+    pub fn span(&self) -> Span {
+        self.start..self.end
+    }
+
+    /// Returns the text of the last token.
+    pub fn slice(&self) -> <Token::Source as Source>::Slice<'source> {
+        self.part(self.span())
+    }
+
+    /// Returns the input after the last token.
+    pub fn remainder(&self) -> <Token::Source as Source>::Slice<'source> {
+        self.part(self.end..self.source.len())
+    }
+
+    /// Takes so many more bytes into the last token.
+    ///
+    /// # Panics
+    ///
+    /// Panics where the token would end after the input, or inside a character.
+    pub fn bump(&mut self, n: usize) {
+        self.end += n;
+        assert!(self.source.is_boundary(self.end), "a bump to a place that ends no token");
+    }
+
+    /// Returns a lexer for another enum at the same place of the same input.
+    pub fn morph<Other>(self) -> Lexer<'source, Other>
+    where
+        Other: Logos<'source, Source = Token::Source>,
+        Token::Extras: Into<Other::Extras>,
+    {
+        Lexer { source: self.source, start: self.start, end: self.end, extras: self.extras.into() }
+    }
+
+    /// Returns an iterator over tokens with their places.
+    pub fn spanned(self) -> SpannedIter<'source, Token> {
+        SpannedIter { lexer: self }
+    }
+
+    /// Sets where the token begins to where the last one ended.
+    pub(crate) fn begin(&mut self) {
+        self.start = self.end;
+    }
+
+    pub(crate) fn start(&self) -> usize {
+        self.start
+    }
+
+    pub(crate) fn set_end(&mut self, end: usize) {
+        self.end = end;
+    }
+
+    fn part(&self, range: Span) -> <Token::Source as Source>::Slice<'source> {
+        let source: &'source Token::Source = self.source;
+        source.slice(range).expect("tokens end where a part of the input can")
+    }
+}
+
+impl<'source, Token: Logos<'source>> Iterator for Lexer<'source, Token> {
+    type Item = Result<Token, Token::Error>;
+
+    fn next(&mut self) -> Option<Self::Item> {
+        self.begin();
+        Token::lex(self)
+    }
+}
+
+impl<'source, Token: Logos<'source>> Clone for Lexer<'source, Token>
+where
+    Token::Extras: Clone,
+{
+    fn clone(&self) -> Self {
+        Lexer { source: self.source, start: self.start, end: self.end, extras: self.extras.clone() }
+    }
+}
+
+impl<'source, Token: Logos<'source>> fmt::Debug for Lexer<'source, Token>
+where
+    Token::Extras: fmt::Debug,
+{
+    fn fmt(&self, f: &mut fmt::Formatter<'_>) -> fmt::Result {
+        f.debug_struct("Lexer").field("span", &self.span()).field("extras", &self.extras).finish_non_exhaustive()
+    }
+}
+
+/// An iterator over tokens with their places.
+pub struct SpannedIter<'source, Token: Logos<'source>> {
+    lexer: Lexer<'source, Token>,
+}
+
+impl<'source, Token: Logos<'source>> Iterator for SpannedIter<'source, Token> {
+    type Item = (Result<Token, Token::Error>, Span);
+
+    fn next(&mut self) -> Option<Self::Item> {
+        let item = self.lexer.next()?;
+        Some((item, self.lexer.span()))
+    }
+}
+
+impl<'source, Token: Logos<'source>> Deref for SpannedIter<'source, Token> {
+    type Target = Lexer<'source, Token>;
+
+    fn deref(&self) -> &Self::Target {
+        &self.lexer
+    }
+}
+
+impl<'source, Token: Logos<'source>> DerefMut for SpannedIter<'source, Token> {
+    fn deref_mut(&mut self) -> &mut Self::Target {
+        &mut self.lexer
+    }
+}

@@ -1,0 +1,31 @@
+#!/usr/bin/env bash
+# Runs the examples: `cargo test` in each Cargo package of examples/, and of runtime/rust, without a network.
+#
+# The program `logos` is the one that the gate has built, or the first argument. Where cargo is missing, that is printed, and nothing is
+# tested. The last line is `examples: N passed, M failed`.
+set -uo pipefail
+
+root=$(cd "$(dirname "${BASH_SOURCE[0]}")/.." && pwd)
+LOGOS=$(realpath "${1:-$root/crates/logos_program/out/logos_program}")
+export LOGOS
+packages=(runtime/rust examples/json examples/template examples/highlight)
+room=$(mktemp -d)
+trap 'rm -rf "$room"' EXIT
+passed=0
+failed=0
+
+if ! command -v cargo > /dev/null; then
+    echo "examples: there is no cargo here, so ${#packages[@]} packages were not tested"
+    exit 0
+fi
+for package in "${packages[@]}"; do
+    if CARGO_TARGET_DIR="$room/target" cargo test --quiet --offline --manifest-path "$root/$package/Cargo.toml" > "$room/output" 2>&1; then
+        passed=$((passed + 1))
+    else
+        failed=$((failed + 1))
+        printf 'examples: %s failed\n' "$package"
+        tail -40 "$room/output"
+    fi
+done
+echo "examples: $passed passed, $failed failed"
+[ "$failed" -eq 0 ]
