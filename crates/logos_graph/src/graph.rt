@@ -12,7 +12,7 @@ mod value;
 
 pub use crate::byte_class::{ByteClass, Comparisons};
 pub use evidence::Telling;
-pub use logos_automaton::dfa::{Children, Dfa, Matches, StateId};
+pub use logos_automaton::dfa::{Children, Dfa, Matches, StateId, States as DfaStates};
 pub use logos_automaton::errors::{BuildError, GraphError};
 use logos_hir::leaf::LeafId;
 pub use value::{Graph, States};

@@ -7,5 +7,3 @@ pub mod graph;
 pub mod laws;
 mod leaves;
 mod raw_table;
-
-pub use logos_automaton::dfa;
