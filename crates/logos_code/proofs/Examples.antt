@@ -22,6 +22,7 @@ star_b_code kept = record {
   leaves = record { skips = false; asks = false } ∷ [];
   root = 0;
   utf8 = true;
+  jump_tables = [];
   kept = kept;
   kept_leaves = [];
 }

@@ -38,6 +38,7 @@ pub record CodeValue : Type 0 where
   pub leaves : List Use
   pub root : ℕ
   pub utf8 : Bool
-  -- no run reads these
+  -- no run reads these; a fork by a table holds the entries of its table
+  pub jump_tables : List (List ℕ)
   pub kept : Kept
   pub kept_leaves : List CodeLeaf

@@ -56,6 +56,7 @@ code_of code = record {
   leaves = map use_of code.leaves.items;
   root = code.root;
   utf8 = code.utf8;
+  jump_tables = code.jump_tables.items;
   kept = code.kept;
   kept_leaves = code.leaves.items;
 }

@@ -1,7 +1,8 @@
 -- The order of items.
-use Rattle.std.specs.Prelude.{ℕ, ◌<◌, ◌≤◌, List, [], ◌∷◌, Option}
-use Rattle.logos_automaton.specs.Munch.{Rule, IsBest}
-use Rattle.logos_code.specs.Items.{Item, token, error}
+use Rattle.std.specs.Prelude.{◌≡◌, ℕ, ◌<◌, ◌≤◌, List, [], ◌∷◌, map, Option, slice_range}
+use Rattle.logos_automaton.specs.Munch.{Use, Rule, IsBest}
+use Rattle.logos_code.specs.declared.action.Action.{Action}
+use Rattle.logos_code.specs.Items.{Callback, Item, token, error, MayAnswer, items_of}
 
 -- The spans lie between the place and the end, none is empty, and each starts no earlier than the one before it ends.
 abbrev pub AreInOrder : (end : ℕ) → (at : ℕ) → List Item → Type 0
@@ -20,6 +21,14 @@ pub data Parts (IsLeftOut : (from to : ℕ) → Type 0) (end : ℕ) : ℕ → Li
   part_left_out : (from to : ℕ) (rest : List Item) → from < to → IsLeftOut from to →
       Parts IsLeftOut end to rest → Parts IsLeftOut end from rest
 
--- a rule has its longest match here, the one that is found
-abbrev pub IsMatch : List Rule → List ℕ → (from to : ℕ) → Type 0
-IsMatch rules bytes from to = (leaf : ℕ) × IsBest rules bytes from to leaf
+-- the uses of the leaves of these rules
+abbrev pub uses_of : List Rule → List Use
+uses_of rules = map (λ rule. rule.use_of) rules
+
+-- The match that is found here gives no item: its leaf skips, or the answer to it leaves it out.
+pub record IsLeftOut (rules : List Rule) (callback : Callback) (bytes : List ℕ) (from to : ℕ) : Type 0 where
+  pub leaf : ℕ
+  pub answer : Action
+  pub best : IsBest rules bytes from to leaf
+  pub answered : MayAnswer (uses_of rules) callback bytes leaf (slice_range bytes from to) answer
+  pub no_item : items_of (uses_of rules) callback bytes answer leaf from to ≡ []

@@ -1,5 +1,5 @@
 //! Code values: what a lexer does in each state.
-ghost use Rattle.std.specs.Prelude.{◌≡◌, ◌<◌, length, option_map, option_copied, IfOk};
+ghost use Rattle.std.specs.Prelude.{◌≡◌, ◌<◌, length, option_map, option_copied};
 ghost use Rattle.logos_code.specs.Headline.{IsSound};
 ghost use Rattle.logos_code.specs.CodeView.{entry_of, state_at, asks_for};
 ghost use Rattle.logos_code.specs.CodeView.{skips_over, code_of, IsKept};
@@ -7,6 +7,7 @@ ghost use Rattle.logos_code.specs.Runs.{target};
 ghost use Rattle.logos_code.specs.Rows.{IsRow, SaysAtEnd};
 ghost use Rattle.logos_code.specs.Signs.{mark_by};
 
+pub(crate) mod making;
 pub mod rows;
 pub mod signs;
 pub(crate) mod uses;
@@ -16,11 +17,10 @@ use logos_hir::leaf::LeafId;
 use logos_pattern::leaf::{Callback, VariantKind};
 use logos_token::token::Ident;
 use logos_type::TypeExpr;
-use rows::{Step, rows_of};
-use signs::{Sign, signs_of};
-use std::alloc::{AllocError, Global};
+use rows::Step;
+use signs::Sign;
 use std::marker::Model;
-use uses::{LeafUse, uses_of};
+use uses::LeafUse;
 
 /// A match of this leaf ends where the state is, or one byte before where it is late.
 #[derive(Clone, Copy, Debug, PartialEq, Eq)]
@@ -107,7 +107,8 @@ pub struct CodeParts<'s> {
     pub utf8: bool,
 }
 
-/// The code of a lexer. Each state, table, test and leaf that it names is there, and each jump table is there once.
+/// The code of a lexer. Each state, table, test and leaf that it names is there, and each jump table is there once. `Generator::generate`
+/// makes one.
 #[derive(Drop)]
 pub struct Code<'s> {
     parts: CodeParts<'s>,
@@ -137,25 +138,6 @@ impl<'s> Model for Code<'s> {
 
     ghost invariant = { λ code. IsWhole code.parts code.rows.items
         code.signs.items code.uses.items };
-}
-
-impl<'s> Code<'s> {
-    /// The code of these parts. All that they name has to be there, and no two of their jump tables equal. Only want of memory is an
-    /// error.
-    pub fn new(alloc: Global, parts: CodeParts<'s>) -> Result<Code<'s>, AllocError>
-        requires { IsKept parts }
-        ensures { IfOk result (λ code. code ≡ code_of parts.entry) }
-    {
-        let rows = rows_of(alloc, &parts)?;
-        let signs = signs_of(alloc, &parts)?;
-        let uses = uses_of(alloc, &parts)?;
-        Ok(Code {
-            parts,
-            rows,
-            signs,
-            uses,
-        })
-    }
 }
 
 impl<'s> Code<'s> {

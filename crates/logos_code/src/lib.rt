@@ -4,3 +4,5 @@
 
 pub mod action;
 pub mod code;
+
+pub use code::making::make_code;

@@ -7,5 +7,4 @@ pub mod laws;
 mod leaves;
 mod raw_table;
 
-pub use logos_automaton::dfa;
 pub use logos_byte_class::byte_class;

@@ -3,11 +3,11 @@
 use crate::asking::Asking;
 use crate::given::{Given, SHAPE, said_of};
 use crate::telling::{tell_generated, tell_graph, tell_run};
+use logos_automaton::dfa::build::build;
+use logos_automaton::dfa::parts::state_count;
 use logos_codegen::expr::{ExprError, Language};
 use logos_codegen::machine::Action;
 use logos_codegen::{LexSourceError, Refusal, generate, lex_source, strip_attributes};
-use logos_graph::dfa::build::build;
-use logos_graph::dfa::parts::state_count;
 use logos_graph::graph::{BuildError, Config, Graph};
 use logos_token::error::Memory;
 

@@ -1,0 +1,28 @@
+//! Making code values. This module is for the generator of codes alone: it is not handed on with `code`.
+ghost use Rattle.std.specs.Prelude.{◌≡◌, IfOk};
+ghost use Rattle.logos_code.specs.CodeView.{code_of, IsKept};
+
+use super::rows::rows_of;
+use super::signs::signs_of;
+use super::uses::uses_of;
+use super::{Code, CodeParts};
+use std::alloc::{AllocError, Global};
+
+/// Makes the code of these parts. Everything that they name must exist, and no two of their jump tables may be equal.
+///
+/// # Errors
+/// Returns an error when memory runs out.
+pub fn make_code<'s>(alloc: Global, parts: CodeParts<'s>) -> Result<Code<'s>, AllocError>
+    requires { IsKept parts }
+    ensures { IfOk result (λ code. code ≡ code_of parts.entry) }
+{
+    let rows = rows_of(alloc, &parts)?;
+    let signs = signs_of(alloc, &parts)?;
+    let uses = uses_of(alloc, &parts)?;
+    Ok(Code {
+        parts,
+        rows,
+        signs,
+        uses,
+    })
+}
