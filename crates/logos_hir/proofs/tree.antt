@@ -5,3 +5,4 @@ pub mod PassableRows
 pub mod TreeViews
 pub mod BuildLemmas
 pub mod SimplifyLemmas
+pub mod BranchLemmas

@@ -1,5 +1,5 @@
 -- The tree that the builders make of a tree.
-use Rattle.std.specs.Prelude.{List, [], ◌∷◌}
+use Rattle.std.specs.Prelude.{◌≡◌, List, [], ◌∷◌}
 use Rattle.logos_hir.specs.declared.hir.Hir.{Hir}
 use Rattle.logos_hir.specs.Hir.{tree_of}
 use Rattle.logos_hir.specs.Tree.{Tree, empty, literal, byte_class, char_class, look, repetition, capture, concat, alternation, Trees, none, also}
@@ -25,3 +25,7 @@ abbrev mutual
 -- the tree that the builders make of what a `Hir` holds
 abbrev pub simplest_tree : Hir → Tree
 simplest_tree hir = simplest (tree_of hir)
+
+-- the tree is one that the builders make
+abbrev pub IsSimplest : Tree → Type 0
+IsSimplest t = (u : Tree) × (simplest u ≡ t)

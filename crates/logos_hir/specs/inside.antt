@@ -1,4 +1,5 @@
 pub mod SetSteps
 pub mod BuildSteps
+pub mod Fits
 pub mod FoldSteps
 pub mod Effects

@@ -1,18 +1,22 @@
 //! Builders of trees, which simplify as they build.
 
-ghost use Rattle.std.specs.Prelude.{◌≡◌, false, map, ◌++◌, Option, Some, option_map, IfOk, OnOk};
-ghost use Rattle.std.specs.Str.{chars};
+ghost use Rattle.std.specs.Prelude.{◌≡◌, false, map, ◌++◌, Option, Some, IfOk, OnOk};
 ghost use Rattle.logos_hir.specs.Tree.{look, capture};
-ghost use Rattle.logos_hir.specs.Hir.{pairs, tree_of};
+ghost use Rattle.logos_hir.specs.Hir.{tree_of};
 ghost use Rattle.logos_hir.specs.RangeSets.{set_of};
-ghost use Rattle.logos_hir.specs.Build.{literal_of, one_char_of, one_byte_of, is_byteless, is_most, cut, times, repetition_of, parts_of, in_a_row, sole_char, char_ranges_of, byte_ranges_of, all_ranges, branches_of, bytes_or, chars_or, choice_of, alternation_of};
-ghost use Rattle.logos_hir.specs.inside.BuildSteps.{part_text, add_text, add_part, add_parts, is_literal_tree, are_apart, IsAdded};
+ghost use Rattle.logos_hir.specs.Build.{literal_of, one_char_of, one_byte_of, is_byteless, is_most};
+ghost use Rattle.logos_hir.specs.Build.{cut, times, repetition_of, parts_of, in_a_row};
+ghost use Rattle.logos_hir.specs.inside.BuildSteps.{part_text, add_text, add_part, add_parts};
+ghost use Rattle.logos_hir.specs.inside.BuildSteps.{is_literal_tree, are_apart};
 
-use crate::hir::{Class, Hir, Look, Range};
+pub(crate) mod branches;
+
+use crate::hir::{Class, Hir, Look};
 use crate::sets::RangeSet;
+pub use branches::alternation;
 use std::alloc::{AllocError, Global};
 
-/// These bytes, in order; none of them is `Empty`.
+/// Makes the tree that matches these bytes in order. No bytes make `Empty`.
 pub fn literal(bytes: Vec<u8>) -> Hir
     ensures { tree_of result ≡ literal_of bytes.items }
 {
@@ -22,21 +26,27 @@ pub fn literal(bytes: Vec<u8>) -> Hir
     Hir::Literal(bytes)
 }
 
-/// A condition on the place.
+/// Makes the tree of a look.
 pub fn look(kind: Look) -> Hir
     ensures { tree_of result ≡ look kind }
 {
     Hir::Look(kind)
 }
 
-/// A capture group.
+/// Makes a capture group.
+///
+/// # Errors
+/// Returns `AllocError` when memory runs out.
 pub fn capture(alloc: Global, body: Hir) -> Result<Hir, AllocError>
     ensures { IfOk result (λ hir. tree_of hir ≡ capture (tree_of body)) }
 {
     Ok(Hir::Capture(Box::new(alloc, body)?))
 }
 
-/// One character of the set; of one member a literal.
+/// Makes the class of the characters of the set. A set of one character makes a literal.
+///
+/// # Errors
+/// Returns `AllocError` when memory runs out.
 pub fn char_class(alloc: Global, set: RangeSet) -> Result<Hir, AllocError>
     ensures { IfOk result (λ hir. tree_of hir ≡ one_char_of (set_of set)) }
 {
@@ -50,7 +60,10 @@ pub fn char_class(alloc: Global, set: RangeSet) -> Result<Hir, AllocError>
     }
 }
 
-/// One byte of the set; of one member a literal. Members above U+00FF are left out.
+/// Makes the class of the bytes of the set, which leaves out members above U+00FF. A set of one byte makes a literal.
+///
+/// # Errors
+/// Returns `AllocError` when memory runs out.
 pub fn byte_class(alloc: Global, set: RangeSet) -> Result<Hir, AllocError>
     ensures { IfOk result (λ hir. tree_of hir ≡ one_byte_of (set_of set)) }
 {
@@ -61,7 +74,7 @@ pub fn byte_class(alloc: Global, set: RangeSet) -> Result<Hir, AllocError>
     }
 }
 
-/// The tree matches no byte, whatever it stands in.
+/// Returns whether the tree matches no byte, whatever it stands in.
 pub fn is_byteless(hir: &Hir) -> bool
     ensures { result ≡ is_byteless (tree_of hir.now) }
 {
@@ -80,14 +93,14 @@ pub fn is_byteless(hir: &Hir) -> bool
     }
 }
 
-/// Whether the greatest count is this one.
+/// Returns whether the greatest count is this one.
 fn is_most(n: u32, max: Option<u32>) -> bool
     ensures { result ≡ is_most n max }
 {
     max == Some(n)
 }
 
-/// A greatest count cut to at most 1.
+/// Returns the greatest count, cut to at most 1.
 fn cut(max: Option<u32>) -> u32
     ensures { Some result ≡ cut max }
 {
@@ -97,7 +110,7 @@ fn cut(max: Option<u32>) -> u32
     }
 }
 
-/// A repetition; once is the body itself.
+/// Makes a repetition. Exactly once is the body itself.
 fn times(
     alloc: Global,
     min: u32,
@@ -118,8 +131,11 @@ fn times(
     })
 }
 
-/// A repetition. Never is `Empty`, of a tree that matches no byte both counts are cut to at most 1,
-/// and then once is the body itself.
+/// Makes a repetition in its simplest form. Never is `Empty`. Both counts of a tree that matches no byte
+/// are cut to at most 1, and exactly once is the body itself.
+///
+/// # Errors
+/// Returns `AllocError` when memory runs out.
 pub fn repetition(
     alloc: Global,
     min: u32,
@@ -138,7 +154,7 @@ pub fn repetition(
     times(alloc, min, max, greedy, body)
 }
 
-/// Adds bytes behind a part, which comes first; a literal takes them in.
+/// Adds a part, and bytes after it. A literal takes the bytes in.
 fn push_behind(parts: &mut Vec<Hir>, last: Hir, bytes: Vec<u8>) -> Result<(), AllocError>
     ensures { OnOk result (map tree_of parts.new.items ≡
         map tree_of parts.old.items ++ part_text (tree_of last) bytes.items) }
@@ -155,7 +171,7 @@ fn push_behind(parts: &mut Vec<Hir>, last: Hir, bytes: Vec<u8>) -> Result<(), Al
     }
 }
 
-/// Adds bytes behind all parts.
+/// Adds bytes after all parts.
 fn push_literal(parts: &mut Vec<Hir>, bytes: Vec<u8>) -> Result<(), AllocError>
     ensures { OnOk result (map tree_of parts.new.items ≡
         add_text (map tree_of parts.old.items) bytes.items) }
@@ -166,7 +182,7 @@ fn push_literal(parts: &mut Vec<Hir>, bytes: Vec<u8>) -> Result<(), AllocError>
     }
 }
 
-/// Adds a part behind the others.
+/// Adds a part after the others. Neighbouring literals become one.
 fn push_part(parts: &mut Vec<Hir>, part: Hir) -> Result<(), AllocError>
     ensures { OnOk result (map tree_of parts.new.items ≡
         add_part (map tree_of parts.old.items) (tree_of part)) }
@@ -177,7 +193,7 @@ fn push_part(parts: &mut Vec<Hir>, part: Hir) -> Result<(), AllocError>
     }
 }
 
-/// Adds parts one by one behind the others.
+/// Adds parts one by one after the others.
 fn push_parts(parts: &mut Vec<Hir>, inner: Vec<Hir>) -> Result<(), AllocError>
     ensures { OnOk result (map tree_of parts.new.items ≡
         add_parts (map tree_of parts.old.items) (map tree_of inner.items)) }
@@ -188,14 +204,14 @@ fn push_parts(parts: &mut Vec<Hir>, inner: Vec<Hir>) -> Result<(), AllocError>
     Ok(())
 }
 
-/// Whether the tree is a literal.
+/// Returns whether the tree is a literal.
 fn is_literal(hir: &Hir) -> bool
     ensures { result ≡ is_literal_tree (tree_of hir.now) }
 {
     matches!(hir, Hir::Literal(_))
 }
 
-/// No two literals stand side by side.
+/// Returns whether no two literals stand side by side.
 fn are_apart(parts: &[Hir]) -> bool
     ensures { result ≡ are_apart false (map tree_of parts.now) }
 {
@@ -210,7 +226,8 @@ fn are_apart(parts: &[Hir]) -> bool
     true
 }
 
-/// Adds parts behind the others. The first ones are taken over as they are, if none of them join.
+/// Adds parts after the others. Where there are no others yet and no two literals stand side by side, the vector of the parts is
+/// taken over as it is.
 fn push_all(parts: &mut Vec<Hir>, inner: Vec<Hir>) -> Result<(), AllocError>
     ensures { OnOk result (map tree_of parts.new.items ≡
         add_parts (map tree_of parts.old.items) (map tree_of inner.items)) }
@@ -234,7 +251,7 @@ pub(crate) fn push_flat(parts: &mut Vec<Hir>, part: Hir) -> Result<(), AllocErro
     }
 }
 
-/// Parts in a row, as they stand. One part is itself, and none is `Empty`.
+/// Puts parts in a row, as they stand. One part is itself, and no part is `Empty`.
 pub(crate) fn in_a_row(mut parts: Vec<Hir>) -> Hir
     ensures { tree_of result ≡ in_a_row (map tree_of parts.items) }
 {
@@ -245,168 +262,4 @@ pub(crate) fn in_a_row(mut parts: Vec<Hir>) -> Hir
         Some(only) => only,
         None => Hir::Empty,
     }
-}
-
-/// The character that is the whole text, if it is one.
-fn sole_char(alloc: Global, bytes: &[u8]) -> Result<Option<char>, AllocError>
-    ensures { IfOk result (λ c. c ≡ sole_char bytes.now) }
-{
-    let Ok(text) = str::from_utf8(bytes) else {
-        return Ok(None);
-    };
-    let chars = characters(alloc, text)?;
-    match chars.as_slice() {
-        [c] => Ok(Some(*c)),
-        _ => Ok(None),
-    }
-}
-
-/// The characters of a text.
-fn characters(alloc: Global, text: &str) -> Result<Vec<char>, AllocError>
-    ensures { IfOk result (λ v. v.items ≡ chars text.now) }
-{
-    text.chars().collect(alloc)
-}
-
-/// Adds the ranges of a class of characters, or of a literal of one character.
-fn push_char_ranges(out: &mut Vec<Range>, branch: &Hir) -> Result<bool, AllocError>
-    ensures { IfOk result (λ done. IsAdded (char_ranges_of (tree_of branch.now)) done
-        (pairs out.old.items) (pairs out.new.items)) }
-{
-    match branch {
-        Hir::Class(Class::Characters(ranges)) => {
-            out.extend_from_slice(ranges)?;
-            Ok(true)
-        }
-        Hir::Literal(bytes) => match sole_char(*out.allocator(), bytes)? {
-            Some(c) => {
-                out.push(Range::new(c as u32, c as u32))?;
-                Ok(true)
-            }
-            None => Ok(false),
-        },
-        _ => Ok(false),
-    }
-}
-
-/// Adds the ranges of a class of bytes, or of a literal of one byte.
-fn push_byte_ranges(out: &mut Vec<Range>, branch: &Hir) -> Result<bool, AllocError>
-    ensures { IfOk result (λ done. IsAdded (byte_ranges_of (tree_of branch.now)) done
-        (pairs out.old.items) (pairs out.new.items)) }
-{
-    match branch {
-        Hir::Class(Class::Bytes(ranges)) => {
-            out.extend_from_slice(ranges)?;
-            Ok(true)
-        }
-        Hir::Literal(bytes) => match bytes.as_slice() {
-            [b] => {
-                out.push(Range::new(*b as u32, *b as u32))?;
-                Ok(true)
-            }
-            _ => Ok(false),
-        },
-        _ => Ok(false),
-    }
-}
-
-/// The ranges of all branches, if each is of characters.
-fn char_ranges(alloc: Global, branches: &[Hir]) -> Result<Option<Vec<Range>>, AllocError>
-    ensures { IfOk result (λ o. option_map (λ v. pairs v.items) o ≡
-        all_ranges char_ranges_of (map tree_of branches.now)) }
-{
-    let mut out = Vec::new(alloc);
-    for branch in branches {
-        if !push_char_ranges(&mut out, branch)? {
-            return Ok(None);
-        }
-    }
-    Ok(Some(out))
-}
-
-/// The ranges of all branches, if each is of bytes.
-fn byte_ranges(alloc: Global, branches: &[Hir]) -> Result<Option<Vec<Range>>, AllocError>
-    ensures { IfOk result (λ o. option_map (λ v. pairs v.items) o ≡
-        all_ranges byte_ranges_of (map tree_of branches.now)) }
-{
-    let mut out = Vec::new(alloc);
-    for branch in branches {
-        if !push_byte_ranges(&mut out, branch)? {
-            return Ok(None);
-        }
-    }
-    Ok(Some(out))
-}
-
-/// Adds branches behind the others. The first ones are taken over as they are.
-fn push_branches(branches: &mut Vec<Hir>, mut inner: Vec<Hir>) -> Result<(), AllocError>
-    ensures { OnOk result (map tree_of branches.new.items ≡
-        map tree_of branches.old.items ++ map tree_of inner.items) }
-{
-    if branches.is_empty() {
-        *branches = inner;
-        return Ok(());
-    }
-    Ok(branches.append(&mut inner)?)
-}
-
-/// Adds the branches that a tree brings into an alternation.
-fn push_branch(branches: &mut Vec<Hir>, branch: Hir) -> Result<(), AllocError>
-    ensures { OnOk result (map tree_of branches.new.items ≡
-        map tree_of branches.old.items ++ branches_of (tree_of branch)) }
-{
-    match branch {
-        Hir::Alternation(inner) => push_branches(branches, inner),
-        other => Ok(branches.push(other)?),
-    }
-}
-
-/// One byte if each branch is of bytes, else one of the branches.
-fn bytes_or(alloc: Global, branches: Vec<Hir>) -> Result<Hir, AllocError>
-    ensures { IfOk result (λ hir. tree_of hir ≡
-        bytes_or (map tree_of branches.items)
-        (all_ranges byte_ranges_of (map tree_of branches.items))) }
-{
-    match byte_ranges(alloc, &branches)? {
-        Some(ranges) => byte_class(alloc, RangeSet::from_ranges(alloc, &ranges)?),
-        None => Ok(Hir::Alternation(branches)),
-    }
-}
-
-/// One character if each branch is of characters, else bytes or branches.
-fn chars_or(alloc: Global, branches: Vec<Hir>) -> Result<Hir, AllocError>
-    ensures { IfOk result (λ hir. tree_of hir ≡
-        chars_or (map tree_of branches.items)
-        (all_ranges char_ranges_of (map tree_of branches.items))) }
-{
-    match char_ranges(alloc, &branches)? {
-        Some(ranges) => char_class(alloc, RangeSet::from_ranges(alloc, &ranges)?),
-        None => bytes_or(alloc, branches),
-    }
-}
-
-/// An alternation whose branches are no alternations.
-fn choice(mut branches: Vec<Hir>) -> Result<Hir, AllocError>
-    ensures { IfOk result (λ hir. tree_of hir ≡ choice_of (map tree_of branches.items)) }
-{
-    let alloc = *branches.allocator();
-    if branches.len() != 1 {
-        return chars_or(alloc, branches);
-    }
-    match branches.pop() {
-        Some(only) => Ok(only),
-        None => chars_or(alloc, branches),
-    }
-}
-
-/// An alternation: flattened. One branch is itself, characters alone make a class of characters, and
-/// bytes alone one of bytes.
-pub fn alternation(all: Vec<Hir>) -> Result<Hir, AllocError>
-    ensures { IfOk result (λ hir. tree_of hir ≡ alternation_of (map tree_of all.items)) }
-{
-    let mut branches = Vec::new(*all.allocator());
-    for branch in all {
-        push_branch(&mut branches, branch)?;
-    }
-    choice(branches)
 }

@@ -1,25 +1,28 @@
-//! Trees that are put together at first as they stand, and simplified at the end, so that each node is
-//! moved once, however many groups are around it.
+//! Trees that are first put together as they stand and simplified at the end, so that each node is moved
+//! and looked at once, however many groups are around it.
 
-ghost use Rattle.std.specs.Prelude.{◌≡◌, map, flat_map, IfOk, OnOk};
+ghost use Rattle.std.specs.Prelude.{◌≡◌, ◌++◌, map, flat_map, IfOk, OnOk};
 ghost use Rattle.logos_hir.specs.Tree.{trees, capture as capture_of};
 ghost use Rattle.logos_hir.specs.Hir.{tree_of};
-ghost use Rattle.logos_hir.specs.Build.{parts_of, concat_of, alternation_of, repetition_of};
+ghost use Rattle.logos_hir.specs.Build.{parts_of, branches_of, concat_of, alternation_of};
+ghost use Rattle.logos_hir.specs.Build.{repetition_of};
 ghost use Rattle.logos_hir.specs.Simplest.{simplest, all_simplest, simplest_tree};
 ghost use Rattle.logos_hir.specs.inside.BuildSteps.{add_parts};
+ghost use Rattle.logos_hir.specs.inside.Fits.{fits_of};
 
-use crate::build::{alternation, capture, in_a_row, push_flat, repetition};
+use crate::build::branches::{Fits, choice, join_class, push_fitting};
+use crate::build::{capture, in_a_row, push_flat, repetition};
 use crate::hir::Hir;
 use std::alloc::{AllocError, Global};
 
-/// All parts, one after another.
+/// Puts all parts in a row, as they stand.
 pub fn row(parts: Vec<Hir>) -> Hir
     ensures { simplest_tree result ≡ concat_of (map simplest_tree parts.items) }
 {
     in_a_row(parts)
 }
 
-/// One of the branches.
+/// Makes an alternation of the branches, as they stand. One branch is itself.
 pub fn either(mut branches: Vec<Hir>) -> Hir
     ensures { simplest_tree result ≡ alternation_of (map simplest_tree branches.items) }
 {
@@ -32,7 +35,10 @@ pub fn either(mut branches: Vec<Hir>) -> Hir
     }
 }
 
-/// A repetition.
+/// Makes a repetition, as it stands.
+///
+/// # Errors
+/// Returns `AllocError` when memory runs out.
 pub fn repeated(
     alloc: Global,
     min: u32,
@@ -51,14 +57,17 @@ pub fn repeated(
     })
 }
 
-/// A capture group.
+/// Makes a capture group, as it stands.
+///
+/// # Errors
+/// Returns `AllocError` when memory runs out.
 pub fn captured(alloc: Global, body: Hir) -> Result<Hir, AllocError>
     ensures { IfOk result (λ hir. simplest_tree hir ≡ capture_of (simplest_tree body)) }
 {
     Ok(Hir::Capture(Box::new(alloc, body)?))
 }
 
-/// Adds the parts that a tree brings into a concatenation, once it is simplified.
+/// Simplifies a tree and adds the parts that it brings into a concatenation.
 #[cycle(simplify)]
 fn push_simplified(alloc: Global, tree: Hir, parts: &mut Vec<Hir>) -> Result<(), AllocError>
     ensures { OnOk result (map tree_of parts.new.items ≡
@@ -70,7 +79,7 @@ fn push_simplified(alloc: Global, tree: Hir, parts: &mut Vec<Hir>) -> Result<(),
     }
 }
 
-/// Adds the parts that trees bring into a concatenation, once they are simplified.
+/// Simplifies trees and adds the parts that they bring into a concatenation.
 #[cycle(simplify)]
 fn push_all_simplified(
     alloc: Global,
@@ -87,20 +96,52 @@ fn push_all_simplified(
     Ok(())
 }
 
-/// Each tree as the builders make it.
+/// Simplifies a tree and adds the branches that it brings into an alternation. Returns which classes these fit.
 #[cycle(simplify)]
-fn simplify_all(alloc: Global, all: Vec<Hir>) -> Result<Vec<Hir>, AllocError>
-    ensures { IfOk result (λ out. map tree_of out.items ≡
-        all_simplest (trees (map tree_of all.items))) }
+fn push_simplified_branch(
+    alloc: Global,
+    tree: Hir,
+    branches: &mut Vec<Hir>,
+) -> Result<Fits, AllocError>
+    ensures items { OnOk result (map tree_of branches.new.items ≡
+        map tree_of branches.old.items ++ branches_of (simplest (tree_of tree))) }
+    ensures fits { IfOk result (λ fits. fits ≡
+        fits_of (branches_of (simplest (tree_of tree)))) }
 {
-    let mut out = Vec::new(alloc);
-    for tree in all {
-        out.push(simplify(alloc, tree)?)?;
+    match tree {
+        Hir::Alternation(inner) => {
+            let from = branches.len();
+            let fits = push_all_branches(alloc, inner, branches)?;
+            join_class(alloc, branches, from, fits)
+        }
+        other => push_fitting(branches, simplify(alloc, other)?),
     }
-    Ok(out)
 }
 
-/// The tree as the builders make it.
+/// Simplifies trees and adds the branches that they bring into an alternation. Returns which classes these fit.
+#[cycle(simplify)]
+fn push_all_branches(
+    alloc: Global,
+    all: Vec<Hir>,
+    branches: &mut Vec<Hir>,
+) -> Result<Fits, AllocError>
+    ensures items { OnOk result (map tree_of branches.new.items ≡ map tree_of branches.old.items
+        ++ flat_map branches_of (all_simplest (trees (map tree_of all.items)))) }
+    ensures fits { IfOk result (λ fits. fits ≡
+        fits_of (flat_map branches_of (all_simplest (trees (map tree_of all.items))))) }
+{
+    let mut fits = Fits::all();
+    for tree in all {
+        let here = push_simplified_branch(alloc, tree, branches)?;
+        fits = fits.both(here);
+    }
+    Ok(fits)
+}
+
+/// Simplifies a tree: makes it again with the builders, from the innermost part on.
+///
+/// # Errors
+/// Returns `AllocError` when memory runs out.
 #[cycle(simplify)]
 pub fn simplify(alloc: Global, tree: Hir) -> Result<Hir, AllocError>
     ensures { IfOk result (λ hir. tree_of hir ≡ simplest (tree_of tree)) }
@@ -125,8 +166,9 @@ pub fn simplify(alloc: Global, tree: Hir) -> Result<Hir, AllocError>
             Ok(in_a_row(parts))
         }
         Hir::Alternation(all) => {
-            let branches = simplify_all(alloc, all)?;
-            alternation(branches)
+            let mut branches = Vec::new(alloc);
+            push_all_branches(alloc, all, &mut branches)?;
+            choice(branches)
         }
         leaf => Ok(leaf),
     }

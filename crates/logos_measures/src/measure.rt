@@ -13,14 +13,14 @@ ghost use Rattle.logos_measures.specs.Measure.{has_greedy_dot, some_greedy_dot};
 use logos_hir::hir::{Class, Hir, Range};
 use logos_hir::sets::LAST_CHAR;
 
-/// The number of characters of a text.
+/// Returns the number of characters of a text.
 fn char_count(text: &str) -> usize
     ensures { result ≡ length (chars text.now) }
 {
     text.chars().count()
 }
 
-/// The number of characters if the bytes are UTF-8, else the number of bytes.
+/// Returns the number of characters if the bytes are UTF-8, else the number of bytes.
 fn text_size(bytes: &[u8]) -> usize
     ensures { result ≡ text_size bytes.now }
 {
@@ -30,9 +30,9 @@ fn text_size(bytes: &[u8]) -> usize
     }
 }
 
-// Below, `None` stands for a number that passes `usize`.
+// From here on `None` stands for a number that does not fit `usize`.
 
-/// A value so many times.
+/// Returns the value times the count.
 fn times(count: u32, value: Option<usize>) -> Option<usize>
     ensures { (n : ℕ) → value ≡ fitted n → result ≡ fitted (count * n) }
 {
@@ -42,14 +42,14 @@ fn times(count: u32, value: Option<usize>) -> Option<usize>
     (count as usize).checked_mul(value?)
 }
 
-/// The sum of two values.
+/// Returns the sum of two values.
 fn plus(a: Option<usize>, b: Option<usize>) -> Option<usize>
     ensures { (m n : ℕ) → a ≡ fitted m → b ≡ fitted n → result ≡ fitted (m + n) }
 {
     a?.checked_add(b?)
 }
 
-/// The least of two values.
+/// Returns the lesser of two values.
 fn least(a: Option<usize>, b: Option<usize>) -> Option<usize>
     ensures { (m n : ℕ) → a ≡ fitted m → b ≡ fitted n → result ≡ fitted (min m n) }
 {
@@ -60,7 +60,7 @@ fn least(a: Option<usize>, b: Option<usize>) -> Option<usize>
     }
 }
 
-/// The priority that a tree has by default, or `None` where it passes `usize`.
+/// Returns the priority that a tree has by default, or `None` if it does not fit `usize`.
 #[cycle(priority)]
 pub fn priority(hir: &Hir) -> Option<usize>
     ensures { result ≡ fitted (value (tree_of hir.now)) }
@@ -76,7 +76,7 @@ pub fn priority(hir: &Hir) -> Option<usize>
     }
 }
 
-/// The priority of a concatenation.
+/// Returns the priority of a concatenation: the sum of those of its parts.
 #[cycle(priority)]
 fn sum_of_priorities(parts: &[Hir]) -> Option<usize>
     ensures { result ≡ fitted (sum_of_values (trees (map tree_of parts.now))) }
@@ -88,7 +88,7 @@ fn sum_of_priorities(parts: &[Hir]) -> Option<usize>
     sum
 }
 
-/// The priority of an alternation.
+/// Returns the priority of an alternation: the least of those of its branches.
 #[cycle(priority)]
 fn least_priority(branches: &[Hir]) -> Option<usize>
     ensures { result ≡ fitted (least_value (trees (map tree_of branches.now))) }
@@ -103,7 +103,7 @@ fn least_priority(branches: &[Hir]) -> Option<usize>
     best
 }
 
-/// Each literal is UTF-8, and each class of bytes holds ASCII only.
+/// Returns whether each literal is UTF-8 and each class of bytes holds ASCII only.
 pub fn is_utf8(hir: &Hir) -> bool
     ensures { result ≡ is_text (tree_of hir.now) }
 {
@@ -123,7 +123,7 @@ pub fn is_utf8(hir: &Hir) -> bool
     }
 }
 
-/// Whether the bytes are UTF-8.
+/// Returns whether the bytes are UTF-8.
 fn are_utf8(bytes: &[u8]) -> bool
     ensures { result ≡ is_utf8 bytes.now }
 {
@@ -133,7 +133,7 @@ fn are_utf8(bytes: &[u8]) -> bool
     }
 }
 
-/// Whether all numbers in the ranges are ASCII.
+/// Returns whether all numbers in the ranges are ASCII.
 fn are_ascii(ranges: &[Range]) -> bool
     ensures { result ≡ list_all (λ r. nat_lt r.1 128) (pairs ranges.now) }
 {
@@ -145,14 +145,14 @@ fn are_ascii(ranges: &[Range]) -> bool
     true
 }
 
-/// Whether the ranges are the same.
+/// Returns whether the ranges are the same.
 fn same(a: &[Range], b: &[Range]) -> bool
     ensures { result ≡ pointwise is_same (pairs a.now) (pairs b.now) }
 {
     a == b
 }
 
-/// All numbers up to `last`, perhaps without LF, or without CR and LF.
+/// Returns whether the ranges hold all numbers up to `last`, all but LF, or all but CR and LF.
 fn is_all(last: u32, ranges: &[Range]) -> bool
     ensures { result ≡ is_all last (pairs ranges.now) }
 {
@@ -162,7 +162,7 @@ fn is_all(last: u32, ranges: &[Range]) -> bool
     same(ranges, &all) | same(ranges, &but_lf) | same(ranges, &but_line_ends)
 }
 
-/// Whether the tree is a class that a dot can stand for.
+/// Returns whether the tree is a class that a dot can stand for.
 fn is_dot(hir: &Hir) -> bool
     ensures { result ≡ is_dot (tree_of hir.now) }
 {
@@ -173,8 +173,8 @@ fn is_dot(hir: &Hir) -> bool
     }
 }
 
-/// Whether a greedy repetition without an upper bound repeats a dot: a class of all characters or of
-/// all bytes, perhaps without LF, or without CR and LF. Looks through captures, concatenations and
+/// Returns whether a greedy repetition without an upper bound repeats a dot: a class of all characters or of
+/// all bytes, of all but LF, or of all but CR and LF. Looks through captures, concatenations and
 /// alternations, and not into the body of a repetition.
 pub fn check_for_greedy_all(hir: &Hir) -> bool
     ensures { result ≡ has_greedy_dot (tree_of hir.now) }

@@ -58,26 +58,26 @@ junction-twice xs = sym (junction-is (junction xs)) ∙ add_joined [] xs ∙ jun
 -- ---- trees that the builders leave as they are
 
 -- a part of a concatenation
-abbrev is_part : Tree → Bool
+abbrev pub is_part : Tree → Bool
 is_part empty = false
 is_part (concat parts) = false
 is_part t = true
 
 -- no alternation, or one of several branches that the builder leaves as it is
-data IsChoice (t : Tree) : Type 0 where
+pub data IsChoice (t : Tree) : Type 0 where
   is_single : branches_of t ≡ t ∷ [] → IsChoice t
   is_several : (u v : Tree) (rest : List Tree) → branches_of t ≡ u ∷ v ∷ rest → choice_of (u ∷ v ∷ rest) ≡ t → IsChoice t
 
-abbrev AreParts : List Tree → Type 0
+abbrev pub AreParts : List Tree → Type 0
 AreParts [] = Unit {0}
 AreParts (t ∷ ts) = ((is_part t ≡ true) × IsChoice t) × AreParts ts
 
-record IsMade (t : Tree) : Type 0 where
-  choice : IsChoice t
-  parts : AreParts (parts_of t)
-  row : in_a_row (junction (parts_of t)) ≡ t
+pub record IsMade (t : Tree) : Type 0 where
+  pub choice : IsChoice t
+  pub parts : AreParts (parts_of t)
+  pub row : in_a_row (junction (parts_of t)) ≡ t
 
-abbrev AreMade : List Tree → Type 0
+abbrev pub AreMade : List Tree → Type 0
 AreMade [] = Unit {0}
 AreMade (t ∷ ts) = IsMade t × AreMade ts
 
@@ -214,7 +214,7 @@ repetition_made least most greedy body h =
 -- ---- all trees
 
 mutual
-  simplest_made : (t : Tree) → IsMade (simplest t)
+  pub simplest_made : (t : Tree) → IsMade (simplest t)
   simplest_made empty = empty_made
   simplest_made (literal text) = part_made (literal text) refl (is_single refl)
   simplest_made (byte_class ranges) = part_made (byte_class ranges) refl (is_single refl)
@@ -225,7 +225,7 @@ mutual
   simplest_made (concat parts) = concat_made (all_simplest parts) (all_made parts)
   simplest_made (alternation branches) = alternation_made (all_simplest branches) (all_made branches)
 
-  all_made : (ts : Trees) → AreMade (all_simplest ts)
+  pub all_made : (ts : Trees) → AreMade (all_simplest ts)
   all_made none = tt
   all_made (also t ts) = (simplest_made t, all_made ts)
 

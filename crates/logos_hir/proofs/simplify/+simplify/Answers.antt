@@ -1,12 +1,15 @@
-use Rattle.std.proofs.Common.{◌≡◌, OnOk, List, [], ◌∷◌, ◌++◌, map, ap, ap₂, sym, subst, ◌∙◌, flat_map}
+use Rattle.std.proofs.Common.{arith, ◌≡◌, OnOk, IfOk, ◌&&◌, append-nil, append_assoc, drop, List, ◌++◌, map, ap, ap₂, sym, subst, ◌∙◌, flat_map}
 use Rattle.std.proofs.lemmas.List.{map_push}
 use Rattle.logos_hir.specs.Tree.{trees, Tree}
 use Rattle.logos_hir.specs.Hir.{tree_of}
-use Rattle.logos_hir.specs.Build.{parts_of, in_a_row}
+use Rattle.logos_hir.specs.Build.{parts_of, in_a_row, branches_of, choice_of}
 use Rattle.logos_hir.specs.Simplest.{simplest, all_simplest}
 use Rattle.logos_hir.specs.inside.BuildSteps.{add_parts}
-use Rattle.logos_hir.proofs.tree.TreeViews.{tree-Concat}
-use Rattle.logos_hir.proofs.tree.SimplifyLemmas.{inner_parts, junction-is, all_simplest-push, flat_simplest-push}
+use Rattle.logos_hir.specs.inside.Fits.{fits_of}
+use Rattle.logos_hir.specs.declared.build.branches.Fits.{Fits}
+use Rattle.logos_hir.proofs.tree.BranchLemmas.{fits-append, branches-push, added_apart, flat_simplest_alone}
+use Rattle.logos_hir.proofs.tree.TreeViews.{tree-Concat, tree-Alternation}
+use Rattle.logos_hir.proofs.tree.SimplifyLemmas.{inner_parts, junction-is, flat_simplest-push}
 use Rattle.logos_hir.proofs.tree.BuildLemmas.{add_parts-append}
 use Rattle.logos_hir.proofs.simplify.+simplify.Goals as goal
 
@@ -35,10 +38,66 @@ push_all_simplified-loop-tree-preserved t c =
     ∙ ap (add_parts old) (flat_simplest-push parts_of (map tree_of yielded) (tree_of next))
     ∙ add_parts-append old (flat_map parts_of (all_simplest (trees (map tree_of yielded)))) (parts_of (simplest (tree_of next))))
 
-pub simplify_all-loop-tree-preserved : goal.simplify_all-loop-tree-preserved
-simplify_all-loop-tree-preserved t c =
+pub push_simplified_branch-push_fitting-requires : goal.push_simplified_branch-push_fitting-requires
+push_simplified_branch-push_fitting-requires t c = (tree_of c.args.tree, sym c.in_ok-simplify-in_default.ensures)
+
+pub push_simplified_branch-join_class-requires : goal.push_simplified_branch-join_class-requires
+push_simplified_branch-join_class-requires t c =
+    let inner = c.in-Alternation.inner in
+    let made = c.in_ok-fits-in-Alternation.ensures in
+    let added = flat_map branches_of (all_simplest (trees (map tree_of inner.items))) in
+    let at = added_apart c.len-from.result c.args.branches.now.items c.push_all_branches.new.branches.items added (omega (arith, c.args.branches.now.ok.0, c.len-from.ensures)) made.items in
+    record {
+      within = at.0;
+      fits = made.fits ∙ ap fits_of (sym at.2);
+      alone = λ t' e. flat_simplest_alone (trees (map tree_of inner.items)) t' (sym at.2 ∙ e);
+    }
+
+pub push_simplified_branch-returns-in_ok-fits-in-Alternation-clause-items : goal.push_simplified_branch-returns-in_ok-fits-in-Alternation-clause-items
+push_simplified_branch-returns-in_ok-fits-in-Alternation-clause-items t c =
+    let old = map tree_of c.args.branches.now.items in
+    let inner = c.in-Alternation.inner in
+    let made = c.in_ok-fits-in-Alternation.ensures in
+    let added = flat_map branches_of (all_simplest (trees (map tree_of inner.items))) in
+    let at = added_apart c.len-from.result c.args.branches.now.items c.push_all_branches.new.branches.items added (omega (arith, c.args.branches.now.ok.0, c.len-from.ensures)) made.items in
+    let e : choice_of (map tree_of (drop c.len-from.result c.push_all_branches.new.branches.items)) ≡ simplest (tree_of c.args.tree) =
+    ap choice_of at.2 ∙ ap simplest (sym (ap tree_of c.in-Alternation.is ∙ tree-Alternation inner)) in
+    subst (λ (ts : List Tree). OnOk c.join_class.result (map tree_of c.join_class.new.branches.items ≡ ts))
+    (ap₂ (λ (ts : List Tree) (t : Tree). ts ++ branches_of t) at.1 e) c.join_class.ensures.items
+
+pub push_simplified_branch-returns-in_ok-fits-in-Alternation-clause-fits : goal.push_simplified_branch-returns-in_ok-fits-in-Alternation-clause-fits
+push_simplified_branch-returns-in_ok-fits-in-Alternation-clause-fits t c =
+    let inner = c.in-Alternation.inner in
+    let made = c.in_ok-fits-in-Alternation.ensures in
+    let added = flat_map branches_of (all_simplest (trees (map tree_of inner.items))) in
+    let at = added_apart c.len-from.result c.args.branches.now.items c.push_all_branches.new.branches.items added (omega (arith, c.args.branches.now.ok.0, c.len-from.ensures)) made.items in
+    let e : choice_of (map tree_of (drop c.len-from.result c.push_all_branches.new.branches.items)) ≡ simplest (tree_of c.args.tree) =
+    ap choice_of at.2 ∙ ap simplest (sym (ap tree_of c.in-Alternation.is ∙ tree-Alternation inner)) in
+    subst (λ (t : Tree). IfOk c.join_class.result (λ fits. fits ≡ fits_of (branches_of t))) e c.join_class.ensures.fits
+
+pub push_all_branches-loop-tree-init : goal.push_all_branches-loop-tree-init
+push_all_branches-loop-tree-init t c = record { items = sym (append-nil _); fits = c.all-fits.ensures }
+
+pub push_all_branches-loop-tree-preserved : goal.push_all_branches-loop-tree-preserved
+push_all_branches-loop-tree-preserved t c =
+    let old = map tree_of c.args.branches.now.items in
     let yielded = c.loop-tree.yielded in
     let next = c.in-Some.tree in
-    ap (map tree_of) c.in_ok-push.ensures.items ∙ map_push tree_of c.loop-tree.out.items c.in_ok-simplify.field-0
-    ∙ ap₂ (λ (xs : List Tree) (x : Tree). xs ++ x ∷ []) c.loop-tree.invariant c.in_ok-simplify.ensures
-    ∙ sym (ap (λ ts. all_simplest (trees ts)) (map_push tree_of yielded next) ∙ all_simplest-push (map tree_of yielded) (tree_of next))
+    let before = flat_map branches_of (all_simplest (trees (map tree_of yielded))) in
+    let more = branches_of (simplest (tree_of next)) in
+    let e = branches-push yielded next in
+    record {
+      items = c.in_ok-here.ensures.items ∙ ap (λ (xs : List Tree). xs ++ more) c.loop-tree.invariant.items ∙ append_assoc old before more
+          ∙ ap (λ (xs : List Tree). old ++ xs) (sym e);
+      fits = c.both-fits.ensures
+          ∙ ap₂ (λ (f g : Fits). record { chars = f.chars && g.chars; bytes = f.bytes && g.bytes }) c.loop-tree.invariant.fits c.in_ok-here.ensures.fits
+          ∙ sym (fits-append before more) ∙ ap fits_of (sym e);
+    }
+
+pub simplify-returns-in_ok-push_all_branches-in-Alternation : goal.simplify-returns-in_ok-push_all_branches-in-Alternation
+simplify-returns-in_ok-push_all_branches-in-Alternation t c =
+    let all = c.in-Alternation.all in
+    let e : map tree_of c.push_all_branches.new.branches.items ≡ flat_map branches_of (all_simplest (trees (map tree_of all.items))) =
+    c.in_ok-push_all_branches-in-Alternation.ensures.items ∙ ap (λ hs. map tree_of hs ++ flat_map branches_of (all_simplest (trees (map tree_of all.items)))) c.new-branches.ensures.items in
+    subst (λ (x : Tree). IfOk c.choice.result (λ hir. tree_of hir ≡ x))
+    (ap choice_of e ∙ ap simplest (sym (ap tree_of c.in-Alternation.is ∙ tree-Alternation all))) c.choice.ensures

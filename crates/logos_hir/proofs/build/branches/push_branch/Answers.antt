@@ -4,7 +4,7 @@ use Rattle.logos_hir.specs.Hir.{tree_of}
 use Rattle.logos_hir.specs.Build.{branches_of}
 use Rattle.logos_hir.proofs.tree.TreeViews.{tree-Alternation}
 use Rattle.logos_hir.proofs.tree.BuildLemmas.{list_of-trees, branches-other}
-use Rattle.logos_hir.proofs.build.push_branch.Goals as goal
+use Rattle.logos_hir.proofs.build.branches.push_branch.Goals as goal
 
 pub returns-in-Alternation : goal.returns-in-Alternation
 returns-in-Alternation c =

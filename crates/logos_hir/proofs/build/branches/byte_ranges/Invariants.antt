@@ -1,7 +1,7 @@
 use Rattle.std.proofs.Common.{◌≡◌, ◌++◌, map, drop, option_map}
 use Rattle.logos_hir.specs.Hir.{pairs, tree_of}
 use Rattle.logos_hir.specs.Build.{byte_ranges_of, all_ranges}
-use Rattle.logos_hir.proofs.build.byte_ranges.Given as goal
+use Rattle.logos_hir.proofs.build.branches.byte_ranges.Given as goal
 
 -- the ranges so far, with those of the branches that are left, are those of all
 abbrev pub invariant-loop-branch : goal.invariant-loop-branch

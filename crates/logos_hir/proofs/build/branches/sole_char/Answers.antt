@@ -2,7 +2,7 @@ use Rattle.logos_hir.proofs.tree.BuildLemmas.{no_text, of_text, sole_item-one}
 use Rattle.std.proofs.Common.{Some, ap, ◌∙◌, arith, length, ◌≡◌}
 use Rattle.std.specs.Str.{chars}
 use Rattle.logos_hir.specs.Build.{sole_item}
-use Rattle.logos_hir.proofs.build.sole_char.Goals as goal
+use Rattle.logos_hir.proofs.build.branches.sole_char.Goals as goal
 
 pub returns-in_default : goal.returns-in_default
 returns-in_default c = no_text c.args.bytes.now c.in_default.ensures.cases.0

@@ -1,6 +1,6 @@
 use Rattle.std.proofs.Common.{rules, arith}
 use Rattle.std.proofs.lemmas.Grind.{common_steps}
-use Rattle.logos_hir.proofs.build.char_ranges.Goals as goal
+use Rattle.logos_hir.proofs.build.branches.byte_ranges.Goals as goal
 
 pub loop-branch-init : goal.loop-branch-init
 loop-branch-init c = search rules
@@ -11,8 +11,8 @@ offset_bounds-branches-branch-index c = search rules
 pub bounds-branches-branch-index : goal.bounds-branches-branch-index
 bounds-branches-branch-index c = search rules
 
-pub returns-in_err-push_char_ranges : goal.returns-in_err-push_char_ranges
-returns-in_err-push_char_ranges c = search rules
+pub returns-in_err-push_byte_ranges : goal.returns-in_err-push_byte_ranges
+returns-in_err-push_byte_ranges c = search rules
 
 pub returns-then-not-branch : goal.returns-then-not-branch
 returns-then-not-branch c = grind (arith, common_steps)
