@@ -1,6 +1,6 @@
 -- What the views of an attribute's pieces show.
 use Rattle.std.specs.Prelude.{◌≡◌, List, ◌∷◌, if◌then◌else◌}
-use Rattle.logos_token.specs.Tokens.{also}
+use Rattle.logos_token.specs.Tokens.{TokenList, also}
 use Rattle.logos_token.specs.Views.{tokens_of, tree_of}
 use Rattle.logos_token.specs.declared.token.views.Tokens.{Tokens}
 use Rattle.logos_token.specs.declared.token.views.TokenTree.{TokenTree}
@@ -10,7 +10,7 @@ use Rattle.logos_attribute.specs.declared.nested.Nested.{Nested}
 use Rattle.logos_attribute.specs.declared.nested.Nested.TheVariants.{Unnamed, Named, Unexpected}
 use Rattle.logos_attribute.specs.declared.nested.AttributeParser.{AttributeParser}
 use Rattle.logos_attribute.specs.Slices.{ident_slice, literal_slice}
-use Rattle.logos_attribute.specs.Pieces.{PieceValue, assigned, beside, grouped, keyed, Piece, unnamed, named, unexpected, pieces, behind_group}
+use Rattle.logos_attribute.specs.Pieces.{PieceValue, assigned, beside, grouped, keyed, Piece, unnamed, named, unexpected, pieces, behind_group, rest_after_piece, rest_after_group}
 
 abbrev pub value_of : NestedValue → PieceValue
 value_of (Assign run) = assigned (tokens_of run)
@@ -27,10 +27,14 @@ piece_of (Unexpected run) = unexpected (tokens_of run)
 abbrev pub pieces_left : AttributeParser → List Piece
 pieces_left parser = if parser.behind_group then behind_group (tokens_of parser.rest) else pieces (tokens_of parser.rest)
 
--- these pieces are one, and those that are still to come
-abbrev pub Cuts : List Piece → Nested → AttributeParser → Type 0
-Cuts pieces piece behind = pieces ≡ piece_of piece ∷ pieces_left behind
+-- the tokens that are left after the next piece
+abbrev pub rest_after : AttributeParser → TokenList
+rest_after parser = if parser.behind_group then rest_after_group (tokens_of parser.rest) else rest_after_piece (tokens_of parser.rest)
 
--- a run is a tree, and the trees behind it
+-- the pieces are this one and those that the parser has still to give, and these are the tokens that it has left
+abbrev pub Cuts : List Piece → TokenList → Nested → AttributeParser → Type 0
+Cuts pieces rest piece parser = (pieces ≡ piece_of piece ∷ pieces_left parser) × (tokens_of parser.rest ≡ rest)
+
+-- a run is a tree and the trees after it
 abbrev pub IsSplit : Tokens → TokenTree → Tokens → Type 0
 IsSplit run first rest = tokens_of run ≡ also (tree_of first) (tokens_of rest)

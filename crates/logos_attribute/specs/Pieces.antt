@@ -1,6 +1,6 @@
 -- The pieces of an attribute's argument: runs of tokens between lone commas, each with its form.
 use Rattle.std.specs.Prelude.{ℕ, List, [], ◌∷◌, if◌then◌else◌}
-use Rattle.logos_token.specs.Tokens.{Token, TokenList, identifier, literal, group, none, also}
+use Rattle.logos_token.specs.Tokens.{Token, TokenList, identifier, literal, group, none, also, rest_of}
 use Rattle.logos_token.specs.Punctuation.{is_alone}
 use Rattle.logos_attribute.specs.Slices.{Slice}
 
@@ -12,7 +12,7 @@ comma = 44
 abbrev pub equals : ℕ
 equals = 61
 
--- what stands behind a name
+-- what follows a name
 pub data PieceValue : Type 0 where
   -- `= run`
   assigned : (run : TokenList) → PieceValue
@@ -29,12 +29,12 @@ pub data Piece : Type 0 where
   named : (name : Slice) (value : PieceValue) → Piece
   unexpected : (run : TokenList) → Piece
 
--- the tokens in front of the first lone comma
+-- the tokens before the first lone comma
 abbrev pub up_to_comma : TokenList → TokenList
 up_to_comma none = none
 up_to_comma (also token rest) = if is_alone comma token then none else also token (up_to_comma rest)
 
--- the tokens behind the first lone comma
+-- the tokens after the first lone comma
 abbrev pub behind_comma : TokenList → TokenList
 behind_comma none = none
 behind_comma (also token rest) = if is_alone comma token then rest else behind_comma rest
@@ -49,7 +49,7 @@ abbrev mutual
   pieces (also (identifier text span) rest) = behind_name (record { text = text; span = span }) rest
   pieces (also token rest) = through_comma (λ run. unnamed (also token run)) rest
 
-  -- Behind a name. Tokens between a literal and the comma are left out.
+  -- After a name. Tokens between a literal and the comma are left out.
   pub behind_name : Slice → TokenList → List Piece
   behind_name name none = unnamed (also (name_token name) none) ∷ []
   behind_name name (also (literal text span) rest) = through_comma (λ run. named name (beside (record { text = text; span = span }))) rest
@@ -60,14 +60,14 @@ abbrev mutual
       else (if is_alone comma token then unnamed (also (name_token name) none) ∷ pieces rest
       else through_comma (λ run. unnamed (also (name_token name) (also token run))) rest)
 
-  -- behind a name and a group: tokens that are no comma are a piece of their own
+  -- after a name and a group: tokens other than a comma are a piece of their own
   pub behind_group : TokenList → List Piece
   behind_group none = []
   behind_group (also token rest) =
       if is_alone comma token then pieces rest
       else through_comma (λ run. unexpected (also token run)) rest
 
-  -- behind two names: `=`; a comma in its place, or nothing, counts as one
+  -- after two names: `=`; a comma in its place, or nothing, counts as one
   pub behind_keyword : Slice → Slice → TokenList → List Piece
   behind_keyword keyword name none = named keyword (keyed name none) ∷ []
   behind_keyword keyword name (also token rest) =
@@ -75,9 +75,33 @@ abbrev mutual
       else (if is_alone comma token then through_comma (λ run. named keyword (keyed name run)) rest
       else through_comma (λ run. unexpected (also token run)) rest)
 
-  -- a piece made of the tokens up to the next lone comma, and the pieces behind that comma
+  -- a piece made of the tokens up to the next lone comma, and the pieces after that comma
   pub through_comma : (TokenList → Piece) → TokenList → List Piece
   through_comma piece none = piece none ∷ []
   through_comma piece (also token rest) =
       if is_alone comma token then piece none ∷ pieces rest
       else through_comma (λ run. piece (also token run)) rest
+
+-- the tokens without the lone comma that stands first, if one does
+abbrev pub without_comma : TokenList → TokenList
+without_comma none = none
+without_comma (also token rest) = if is_alone comma token then rest else also token rest
+
+-- What is left after a piece that begins with a name: the tokens after the comma that ends the piece. After a group that is the lone comma that
+-- follows directly, if one does; the comma that stands in place of `=` after two names does not end the piece. `rest` follows the name.
+abbrev pub rest_after_name : TokenList → TokenList
+rest_after_name none = none
+rest_after_name (also (group delimiter span inside) rest) = without_comma rest
+rest_after_name (also (identifier text span) rest) = behind_comma (rest_of rest)
+rest_after_name (also token rest) = behind_comma (also token rest)
+
+-- What is left after the first piece: the tokens after the comma that ends it. A comma that is its first token does not end it.
+abbrev pub rest_after_piece : TokenList → TokenList
+rest_after_piece none = none
+rest_after_piece (also (identifier text span) rest) = rest_after_name rest
+rest_after_piece (also token rest) = behind_comma rest
+
+-- the same where the first piece follows a name and a group
+abbrev pub rest_after_group : TokenList → TokenList
+rest_after_group none = none
+rest_after_group (also token rest) = if is_alone comma token then rest_after_piece rest else behind_comma rest

@@ -5,6 +5,8 @@ ghost use Rattle.logos_token.specs.Views.{tokens_of, tree_of};
 ghost use Rattle.logos_attribute.specs.Slices.{ident_slice, literal_slice};
 ghost use Rattle.logos_attribute.specs.Pieces.{up_to_comma, behind_comma, pieces, behind_name};
 ghost use Rattle.logos_attribute.specs.Pieces.{behind_group, behind_keyword, through_comma};
+ghost use Rattle.logos_attribute.specs.Pieces.{without_comma, rest_after_name};
+ghost use Rattle.logos_attribute.specs.Pieces.{rest_after_piece, rest_after_group};
 ghost use Rattle.logos_attribute.specs.Pieces.{name_token, named, assigned, beside, keyed};
 ghost use Rattle.logos_attribute.specs.Pieces.{unnamed, unexpected};
 ghost use Rattle.logos_attribute.specs.inside.Cutting.{first_run, behind_mark};
@@ -13,7 +15,7 @@ ghost use Rattle.logos_attribute.specs.Nested.{Cuts, IsSplit, piece_of, pieces_l
 use logos_token::token::{Ident, Literal, TokenTree, Tokens};
 use logos_token::util::is_punct;
 
-/// What stands behind the name of a piece.
+/// What follows the name of a piece.
 #[derive(Clone, Copy)]
 pub enum NestedValue<'t, 's> {
     /// `name = ..`
@@ -29,7 +31,7 @@ pub enum NestedValue<'t, 's> {
 /// A piece of an attribute's argument: a view, which copies nothing.
 #[derive(Clone, Copy)]
 pub enum Nested<'t, 's> {
-    /// What begins with no name, or with a name and nothing that belongs to it.
+    /// Tokens that begin with no name, or with a name and nothing that belongs to it.
     Unnamed(Tokens<'t, 's>),
     /// A name and its value.
     Named(Ident<'s>, NestedValue<'t, 's>),
@@ -41,11 +43,11 @@ pub enum Nested<'t, 's> {
 #[derive(Clone, Copy)]
 pub struct AttributeParser<'t, 's> {
     rest: Tokens<'t, 's>,
-    /// Whether the last piece was a name with a group.
+    /// Whether the last piece was a name with a group, and no comma has followed it yet.
     behind_group: bool,
 }
 
-/// The first tree, and the trees behind it.
+/// Returns the first tree and the trees after it.
 pub fn split<'t, 's>(tokens: Tokens<'t, 's>) -> Option<(TokenTree<'t, 's>, Tokens<'t, 's>)>
     ensures { MatchOption result
         (tokens_of tokens.entry ≡ none)
@@ -55,7 +57,7 @@ pub fn split<'t, 's>(tokens: Tokens<'t, 's>) -> Option<(TokenTree<'t, 's>, Token
     Some((tree, tokens.rest()))
 }
 
-/// The first lone comma and what is behind it; nothing where there is no such comma.
+/// Returns the first lone comma and what follows it; nothing where there is no such comma.
 fn comma_in<'t, 's>(tokens: Tokens<'t, 's>) -> Tokens<'t, 's>
     ensures parts { tokens_of tokens.entry
         ≡ append (up_to_comma (tokens_of tokens.entry)) (tokens_of result) }
@@ -71,7 +73,7 @@ fn comma_in<'t, 's>(tokens: Tokens<'t, 's>) -> Tokens<'t, 's>
     rest
 }
 
-/// The run up to the first lone comma, and what is behind that comma.
+/// Returns the run up to the first lone comma, and what follows that comma.
 fn run_at<'t, 's>(tokens: Tokens<'t, 's>) -> (Tokens<'t, 's>, Tokens<'t, 's>)
     ensures run { tokens_of result.0 ≡ up_to_comma (tokens_of tokens.entry) }
     ensures behind { tokens_of result.1 ≡ behind_comma (tokens_of tokens.entry) }
@@ -80,8 +82,8 @@ fn run_at<'t, 's>(tokens: Tokens<'t, 's>) -> (Tokens<'t, 's>, Tokens<'t, 's>)
     (tokens.before(end), end.rest())
 }
 
-/// The first tree, whatever it is, with the run up to the next lone comma; and what is behind that
-/// comma.
+/// Returns the first tree, whatever it is, with the run up to the next lone comma; and what follows
+/// that comma.
 fn run_from<'t, 's>(tokens: Tokens<'t, 's>) -> (Tokens<'t, 's>, Tokens<'t, 's>)
     ensures run { tokens_of result.0 ≡ first_run (tokens_of tokens.entry) }
     ensures behind { tokens_of result.1 ≡ behind_comma (rest_of (tokens_of tokens.entry)) }
@@ -90,7 +92,7 @@ fn run_from<'t, 's>(tokens: Tokens<'t, 's>) -> (Tokens<'t, 's>, Tokens<'t, 's>)
     (tokens.before(end), end.rest())
 }
 
-/// The pieces that begin here.
+/// Returns a parser of the pieces that begin here.
 fn begin<'t, 's>(tokens: Tokens<'t, 's>) -> AttributeParser<'t, 's>
     ensures pieces { pieces_left result ≡ pieces (tokens_of tokens.entry) }
     ensures rest { result.rest ≡ tokens.entry }
@@ -101,7 +103,7 @@ fn begin<'t, 's>(tokens: Tokens<'t, 's>) -> AttributeParser<'t, 's>
     }
 }
 
-/// What is assigned to a name.
+/// Reads what is assigned to a name.
 fn assigned_at<'t, 's>(
     name: Ident<'s>,
     tokens: Tokens<'t, 's>,
@@ -109,13 +111,14 @@ fn assigned_at<'t, 's>(
     ensures { Cuts
         (through_comma (λ run. named (ident_slice name.entry) (assigned run))
         (tokens_of tokens.entry))
+        (behind_comma (tokens_of tokens.entry))
         result.0 result.1 }
 {
     let (run, rest) = run_at(tokens);
     (Nested::Named(name, NestedValue::Assign(run)), begin(rest))
 }
 
-/// What is assigned to a second name.
+/// Reads what is assigned to a second name.
 fn keyed_at<'t, 's>(
     keyword: Ident<'s>,
     name: Ident<'s>,
@@ -125,6 +128,7 @@ fn keyed_at<'t, 's>(
         (through_comma
         (λ run. named (ident_slice keyword.entry) (keyed (ident_slice name.entry) run))
         (tokens_of tokens.entry))
+        (behind_comma (tokens_of tokens.entry))
         result.0 result.1 }
 {
     let (run, rest) = run_at(tokens);
@@ -134,7 +138,7 @@ fn keyed_at<'t, 's>(
     )
 }
 
-/// A name and a literal, and tokens up to the comma.
+/// Reads a name and a literal, and leaves out the tokens up to the comma.
 fn beside_at<'t, 's>(
     name: Ident<'s>,
     literal: Literal<'s>,
@@ -144,6 +148,7 @@ fn beside_at<'t, 's>(
         (through_comma
         (λ run. named (ident_slice name.entry) (beside (literal_slice literal.entry)))
         (tokens_of tokens.entry))
+        (behind_comma (tokens_of tokens.entry))
         result.0 result.1 }
 {
     let (_, rest) = run_at(tokens);
@@ -153,25 +158,26 @@ fn beside_at<'t, 's>(
     )
 }
 
-/// Tokens that belong to no piece.
+/// Reads tokens that belong to no piece.
 fn unexpected_at<'t, 's>(tokens: Tokens<'t, 's>) -> (Nested<'t, 's>, AttributeParser<'t, 's>)
     ensures { Cuts (through_comma (λ run. unexpected run) (tokens_of tokens.entry))
-        result.0 result.1 }
+        (behind_comma (tokens_of tokens.entry)) result.0 result.1 }
 {
     let (run, rest) = run_at(tokens);
     (Nested::Unexpected(run), begin(rest))
 }
 
-/// The first tree, whatever it is, and tokens up to the comma.
+/// Reads the first tree, whatever it is, and the tokens up to the comma.
 fn unnamed_at<'t, 's>(tokens: Tokens<'t, 's>) -> (Nested<'t, 's>, AttributeParser<'t, 's>)
     ensures { (first : Token) (rest : TokenList) → tokens_of tokens.entry ≡ also first rest →
-        Cuts (through_comma (λ run. unnamed (also first run)) rest) result.0 result.1 }
+        Cuts (through_comma (λ run. unnamed (also first run)) rest) (behind_comma rest)
+        result.0 result.1 }
 {
     let (run, rest) = run_from(tokens);
     (Nested::Unnamed(run), begin(rest))
 }
 
-/// What stands behind two names.
+/// Reads what follows two names.
 fn keyword_at<'t, 's>(
     keyword: Ident<'s>,
     name: Ident<'s>,
@@ -180,6 +186,7 @@ fn keyword_at<'t, 's>(
     ensures { Cuts
         (behind_keyword (ident_slice keyword.entry) (ident_slice name.entry)
         (tokens_of tokens.entry))
+        (behind_comma (rest_of (tokens_of tokens.entry)))
         result.0 result.1 }
 {
     let Some((tree, rest)) = split(tokens) else {
@@ -194,7 +201,7 @@ fn keyword_at<'t, 's>(
     unexpected_at(tokens)
 }
 
-/// What stands behind a name, with which `whole` begins, where that is no name, literal or group.
+/// Reads what follows a name, with which `whole` begins, where that is no name, literal or group.
 fn mark_at<'t, 's>(
     whole: Tokens<'t, 's>,
     name: Ident<'s>,
@@ -205,6 +212,7 @@ fn mark_at<'t, 's>(
         ≡ also (name_token (ident_slice name)) (also (tree_of tree) (tokens_of tokens)) }
     ensures { Cuts
         (behind_mark (ident_slice name.entry) (tree_of tree.entry) (tokens_of tokens.entry))
+        (behind_comma (also (tree_of tree.entry) (tokens_of tokens.entry)))
         result.0 result.1 }
 {
     if is_punct(&tree, '=') {
@@ -213,10 +221,11 @@ fn mark_at<'t, 's>(
     unnamed_at(whole)
 }
 
-/// The pieces behind a name and a group. A comma there is taken at once, so that a run that is read
-/// next begins behind it.
+/// Returns a parser of the pieces after a name and a group. A comma there is taken at once, so that
+/// a run that is read next begins after it.
 fn end_group<'t, 's>(tokens: Tokens<'t, 's>) -> AttributeParser<'t, 's>
-    ensures { pieces_left result ≡ behind_group (tokens_of tokens.entry) }
+    ensures pieces { pieces_left result ≡ behind_group (tokens_of tokens.entry) }
+    ensures rest { tokens_of result.rest ≡ without_comma (tokens_of tokens.entry) }
 {
     match split(tokens) {
         Some((tree, rest)) if is_punct(&tree, ',') => begin(rest),
@@ -227,14 +236,16 @@ fn end_group<'t, 's>(tokens: Tokens<'t, 's>) -> AttributeParser<'t, 's>
     }
 }
 
-/// What stands behind a name, with which `whole` begins.
+/// Reads what follows a name, with which `whole` begins.
 fn name_at<'t, 's>(
     whole: Tokens<'t, 's>,
     name: Ident<'s>,
     tokens: Tokens<'t, 's>,
 ) -> (Nested<'t, 's>, AttributeParser<'t, 's>)
     requires { tokens_of whole ≡ also (name_token (ident_slice name)) (tokens_of tokens) }
-    ensures { Cuts (behind_name (ident_slice name.entry) (tokens_of tokens.entry))
+    ensures { Cuts
+        (behind_name (ident_slice name.entry) (tokens_of tokens.entry))
+        (rest_after_name (tokens_of tokens.entry))
         result.0 result.1 }
 {
     match split(tokens) {
@@ -255,26 +266,33 @@ fn name_at<'t, 's>(
     }
 }
 
-/// The piece that begins here, and what is behind it.
+/// Returns the piece that begins here, and a parser of what follows it.
 fn piece_at<'t, 's>(tokens: Tokens<'t, 's>) -> Option<(Nested<'t, 's>, AttributeParser<'t, 's>)>
     ensures { MatchOption result
         (pieces (tokens_of tokens.entry) ≡ [])
-        (λ read. Cuts (pieces (tokens_of tokens.entry)) read.0 read.1) }
+        (λ read. Cuts
+        (pieces (tokens_of tokens.entry)) (rest_after_piece (tokens_of tokens.entry))
+        read.0 read.1) }
 {
     match split(tokens) {
         None => None,
         Some((TokenTree::Ident(name), rest)) => Some(name_at(tokens, name, rest)),
-        Some(_) => Some(unnamed_at(tokens)),
+        Some((TokenTree::Punct(_), _)) => Some(unnamed_at(tokens)),
+        Some((TokenTree::Literal(_), _)) => Some(unnamed_at(tokens)),
+        Some((TokenTree::Doc(_), _)) => Some(unnamed_at(tokens)),
+        Some((TokenTree::Group(_), _)) => Some(unnamed_at(tokens)),
     }
 }
 
-/// The piece that comes behind a name and a group, and what is behind it.
+/// Returns the piece that follows a name and a group, and a parser of what follows it.
 fn piece_behind_group<'t, 's>(
     tokens: Tokens<'t, 's>,
 ) -> Option<(Nested<'t, 's>, AttributeParser<'t, 's>)>
     ensures { MatchOption result
         (behind_group (tokens_of tokens.entry) ≡ [])
-        (λ read. Cuts (behind_group (tokens_of tokens.entry)) read.0 read.1) }
+        (λ read. Cuts
+        (behind_group (tokens_of tokens.entry)) (rest_after_group (tokens_of tokens.entry))
+        read.0 read.1) }
 {
     match split(tokens) {
         None => None,
@@ -288,9 +306,9 @@ impl<'t, 's> AttributeParser<'t, 's> {
     ghost use Rattle.logos_token.specs.Tokens.{none};
     ghost use Rattle.logos_token.specs.Views.{tokens_of};
     ghost use Rattle.logos_attribute.specs.Pieces.{up_to_comma, behind_comma, pieces};
-    ghost use Rattle.logos_attribute.specs.Nested.{Cuts, pieces_left};
+    ghost use Rattle.logos_attribute.specs.Nested.{Cuts, pieces_left, rest_after};
 
-    /// The pieces of a run.
+    /// Returns a parser of the pieces of a run.
     pub fn new(tokens: Tokens<'t, 's>) -> AttributeParser<'t, 's>
         ensures pieces { pieces_left result ≡ pieces (tokens_of tokens.entry) }
         ensures rest { tokens_of result.rest ≡ tokens_of tokens.entry }
@@ -298,8 +316,8 @@ impl<'t, 's> AttributeParser<'t, 's> {
         begin(tokens)
     }
 
-    /// The tokens up to the next comma that cuts, which is taken with them. `None` where no token
-    /// is in front of it.
+    /// Takes the tokens up to the next comma that cuts, and that comma, and returns these tokens.
+    /// `None` where no token stands before that comma.
     pub fn run(&mut self) -> Option<Tokens<'t, 's>>
         ensures run { MatchOption result
             (up_to_comma (tokens_of self.old.rest) ≡ none)
@@ -316,11 +334,11 @@ impl<'t, 's> AttributeParser<'t, 's> {
         Some(run)
     }
 
-    /// The next piece, and the pieces behind it.
+    /// Returns the next piece, and a parser of the pieces after it.
     fn read(self) -> Option<(Nested<'t, 's>, AttributeParser<'t, 's>)>
         ensures { MatchOption result
             (pieces_left self.entry ≡ [])
-            (λ read. Cuts (pieces_left self.entry) read.0 read.1) }
+            (λ read. Cuts (pieces_left self.entry) (rest_after self.entry) read.0 read.1) }
     {
         if self.behind_group {
             return piece_behind_group(self.rest);
@@ -332,14 +350,24 @@ impl<'t, 's> AttributeParser<'t, 's> {
 impl<'t, 's> Iterator for AttributeParser<'t, 's> {
     type Item = Nested<'t, 's>;
 
-    ghost use Rattle.std.specs.Iterator.{YieldsFirstBy, item_count};
-    ghost use Rattle.logos_attribute.specs.Nested.{piece_of, pieces_left};
+    ghost use Rattle.std.specs.Prelude.{◌≡◌, ⊤, MatchOption};
+    ghost use Rattle.std.specs.Iterator.{MakesProgress, YieldsFirstBy, item_count};
+    ghost use Rattle.logos_token.specs.Views.{tokens_of};
+    ghost use Rattle.logos_attribute.specs.Nested.{piece_of, pieces_left, rest_after};
 
     ghost next_gives = { YieldsFirstBy piece_of pieces_left };
 
     ghost remaining = { item_count pieces_left };
 
-    fn next(&mut self) -> Option<Nested<'t, 's>> {
+    /// Returns the next piece and takes the comma that ends it, so that `run` and `parsed` go on
+    /// after that comma. After `None` nothing has changed.
+    fn next(&mut self) -> Option<Nested<'t, 's>>
+        ensures steps { YieldsFirstBy piece_of pieces_left self.old result self.new }
+        ensures goes { MakesProgress (λ _. ⊤) (item_count pieces_left) self.old result self.new }
+        ensures rest { MatchOption result
+            (self.new ≡ self.old)
+            (λ _. tokens_of self.new.rest ≡ rest_after self.old) }
+    {
         let (nested, rest) = self.read()?;
         *self = rest;
         Some(nested)

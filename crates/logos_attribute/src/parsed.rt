@@ -1,5 +1,6 @@
-//! Values that are read from an attribute's argument one after another.
-ghost use Rattle.std.specs.Prelude.{◌≡◌, ◌≢◌, List, Option, None, IfOk, OnOk, OnErr, option_map};
+//! Reading values from an attribute's argument, one after another.
+ghost use Rattle.std.specs.Prelude.{◌≡◌, ◌≢◌, List, Option, None, IfOk, OnOk, OnErr, MatchOption, option_map};
+ghost use Rattle.std.specs.Result.{result_ok};
 ghost use Rattle.logos_token.specs.Faults.{Fault};
 ghost use Rattle.logos_token.specs.Tokens.{TokenList, none, run_span};
 ghost use Rattle.logos_token.specs.Views.{tokens_of};
@@ -20,13 +21,21 @@ use logos_type::TypeExpr;
 use logos_type_params::read_value;
 use std::alloc::Global;
 
+/// A fault was added to the list of faults.
+#[derive(Clone, Copy, Debug)]
+pub struct Reported;
+
 /// What a run of tokens can be read as.
 pub trait FromRun<'s>: Sized {
     /// The run is read as this value, and the list of faults becomes the second one.
     ghost is_read: { TokenList → Option Self → List Fault → List Fault → Type 0 };
 
-    /// The value that the whole run is. `None` where it is none, which was listed. After `Memory`
-    /// the faults are as before.
+    /// Reads the whole run as a value. `None` where it is none; then a fault was added, except for
+    /// a literal in a run without a token.
+    ///
+    /// # Errors
+    ///
+    /// `Memory` where memory ran out. Then the faults are as before.
     fn from_run(
         alloc: Global,
         run: Tokens<'_, 's>,
@@ -37,8 +46,8 @@ pub trait FromRun<'s>: Sized {
         ensures unlisted { OnErr result (errors.new ≡ errors.old) };
 }
 
-/// A string or a byte string. Another literal is listed as `NotText` at the literal, another run as
-/// `LiteralSyntax` at the run.
+/// Reads a string or a byte string. Reports another literal as `NotText` at the literal, and another
+/// run as `LiteralSyntax` at the run.
 impl<'s> FromRun<'s> for Literal<'s> {
     ghost is_read = { λ run read old new.
         Tells (literal_told run) (option_map literal_view read) old new };
@@ -52,8 +61,8 @@ impl<'s> FromRun<'s> for Literal<'s> {
     }
 }
 
-/// A type. What is none is listed at the run: `TypeSyntax`, or `LimitTypeNesting` where it nests
-/// deeper than types may.
+/// Reads a type. Reports another run, at the run: as `TypeSyntax`, or as `LimitTypeNesting` where it
+/// nests deeper than types may.
 impl<'s> FromRun<'s> for TypeExpr<'s> {
     ghost is_read = { λ run read old new.
         ReadsValue run (run_span run) old new (option_map type_tree read) };
@@ -68,19 +77,23 @@ impl<'s> FromRun<'s> for TypeExpr<'s> {
 }
 
 impl<'t, 's> AttributeParser<'t, 's> {
-    /// Reads the tokens up to the next comma that cuts, which is taken with them, as one value.
-    /// `None` where no token is in front of that comma, and where they are no such value, which was
-    /// listed. After `Memory` nothing is taken, and the faults are as before.
+    /// Takes the tokens up to the next comma that cuts, and that comma, and reads these tokens as
+    /// one value. `None` where no token stands before that comma, and `Reported` where the tokens
+    /// are no such value.
+    ///
+    /// # Errors
+    ///
+    /// `Memory` where memory ran out. Then nothing is taken, and the faults are as before.
     pub fn parsed<T: FromRun<'s>>(
         &mut self,
         alloc: Global,
         errors: &mut Errors,
-    ) -> Result<Option<T>, Memory>
+    ) -> Result<Option<Result<T, Reported>>, Memory>
         ensures nothing { up_to_comma (tokens_of self.old.rest) ≡ none →
             IfOk result (λ read. (read ≡ None) × (errors.new ≡ errors.old)) }
         ensures value { up_to_comma (tokens_of self.old.rest) ≢ none →
-            IfOk result (λ read. T.is_read
-            (up_to_comma (tokens_of self.old.rest)) read errors.old errors.new) }
+            IfOk result (λ read. MatchOption read ⊥ (λ answer. T.is_read
+            (up_to_comma (tokens_of self.old.rest)) (result_ok answer) errors.old errors.new)) }
         ensures pieces { OnOk result
             (pieces_left self.new ≡ pieces (behind_comma (tokens_of self.old.rest))) }
         ensures rest { OnOk result
@@ -95,6 +108,9 @@ impl<'t, 's> AttributeParser<'t, 's> {
         };
         let read = T::from_run(alloc, run, errors)?;
         *self = behind;
-        Ok(read)
+        match read {
+            Some(value) => Ok(Some(Ok(value))),
+            None => Ok(Some(Err(Reported))),
+        }
     }
 }

@@ -86,7 +86,7 @@ ends_excludes source rules value item fault says limits (nesting_limit deep is) 
     let most = limits.sizes.shallow says.tokens says.spelled in
     omega arith
 ends_excludes source rules value item fault says limits (unreadable u is) = unreadable-excludes source _ _ says.tokens u says.spelled
-ends_excludes source rules value item fault says limits (misread {tokens} s m) =
+ends_excludes source rules value item fault says limits (misread {tokens} s shallow m) =
     let same = spells-one source says.tokens tokens says.spelled s in
     tokens_exclude tokens value _ (rw same at says.reads) m
 

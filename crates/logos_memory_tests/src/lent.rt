@@ -10,7 +10,7 @@ use crate::telling::{tell_definition, tell_generics, tell_literal, tell_type};
 use indexmap::IndexSet;
 use logos_graph::byte_class::ByteClass;
 use logos_item::split_attribute;
-use logos_parser::nested::FromRun;
+use logos_parser::nested::{FromRun, Reported};
 use logos_parser::parser::{Literal, Subpatterns};
 use logos_pattern::leaf::Leaf;
 use logos_token::error::{Errors, FaultCode, Memory};
@@ -151,6 +151,14 @@ fn unit_by<'s>(
     }
 }
 
+/// Returns the value, if one was read.
+fn value_in<T: Drop>(read: Option<Result<T, Reported>>) -> Option<T> {
+    match read {
+        Some(Ok(value)) => Some(value),
+        Some(Err(Reported)) | None => None,
+    }
+}
+
 /// The literal that a call gives.
 fn literal_by<'s>(
     alloc: Global,
@@ -161,7 +169,7 @@ fn literal_by<'s>(
     let (token, errors) = (last_token(given.said.leaves.as_slice()), &mut lent.errors);
     match call {
         LiteralCall::Parse => lent.said.parser.parse_literal(token),
-        LiteralCall::Parsed => lent.pieces.parsed::<Literal<'s>>(alloc, errors),
+        LiteralCall::Parsed => Ok(value_in(lent.pieces.parsed::<Literal<'s>>(alloc, errors)?)),
         LiteralCall::FromRun => Literal::from_run(alloc, given.arguments.run(), errors),
     }
 }
@@ -179,7 +187,7 @@ fn type_by<'s>(
         part: Part::Name("B"),
     };
     match call {
-        TypeCall::Parsed => lent.pieces.parsed::<TypeExpr<'s>>(alloc, errors),
+        TypeCall::Parsed => Ok(value_in(lent.pieces.parsed::<TypeExpr<'s>>(alloc, errors)?)),
         TypeCall::FromRun => TypeExpr::from_run(alloc, given.arguments.run(), errors),
         TypeCall::Find => parser.types.find(&path),
         TypeCall::GetType => Ok(Some(parser.types.get_type(held, &path, SPAN, errors)?)),

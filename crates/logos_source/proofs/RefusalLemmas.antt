@@ -35,14 +35,14 @@ pub nesting_ends : (source : List ℕ) (span : Span) (error : Refusal) → IsToo
 nesting_ends source span error u r = refuses_by _ (OneEnds source) (λ faults e. (fault codes_of.LimitTokenNesting (codes "limit LimitTokenNesting passed") span, nesting_limit u refl, e)) error r
 
 -- tokens that are no enum end the reading of their source
-tokens_end : (source : List ℕ) (tokens : TokenList) (faults : List Fault) → Spells source tokens → EndsTokens tokens faults → OneEnds source faults
-tokens_end source tokens faults s ends = go ends.error ends.reads ends.are
+tokens_end : (source : List ℕ) (tokens : TokenList) (faults : List Fault) → Spells source tokens → depth_of tokens ≤ 128 → EndsTokens tokens faults → OneEnds source faults
+tokens_end source tokens faults s shallow ends = go ends.error ends.reads ends.are
   where
     go : (error : ReadError) → Reads tokens (Err error) → IsMisread error faults → OneEnds source faults
-    go (NotAnEnum span) reads are = (_, misread s (record { error = NotAnEnum span; reads = reads; are = refl }), are)
-    go (Grammar span) reads are = (_, misread s (record { error = Grammar span; reads = reads; are = refl }), are)
-    go (TypeUnsupported span) reads are = (_, misread s (record { error = TypeUnsupported span; reads = reads; are = refl }), are)
-    go (LimitTypeNesting span) reads are = (_, misread s (record { error = LimitTypeNesting span; reads = reads; are = refl }), are)
+    go (NotAnEnum span) reads are = (_, misread s shallow (record { error = NotAnEnum span; reads = reads; are = refl }), are)
+    go (Grammar span) reads are = (_, misread s shallow (record { error = Grammar span; reads = reads; are = refl }), are)
+    go (TypeUnsupported span) reads are = (_, misread s shallow (record { error = TypeUnsupported span; reads = reads; are = refl }), are)
+    go (LimitTypeNesting span) reads are = (_, misread s shallow (record { error = LimitTypeNesting span; reads = reads; are = refl }), are)
     go OutOfMemory reads are = absurd are
 
 -- the refusal of tokens that are no enum
@@ -57,10 +57,10 @@ misread_ends tokens error out stands r = refuses_by (IsMisread error) (EndsToken
     go (LimitTypeNesting span) stands are = elim stands [ inl e ↦ absurd (cc) | inr reads ↦ record { error = LimitTypeNesting span; reads = reads; are = are } ]
     go OutOfMemory stands are = absurd are
 
-pub result_ends : {T : Type 0} (source : List ℕ) (tokens : TokenList) (result : Result T Refusal) → Spells source tokens →
+pub result_ends : {T : Type 0} (source : List ℕ) (tokens : TokenList) (result : Result T Refusal) → Spells source tokens → depth_of tokens ≤ 128 →
     IfErr result (Refuses (EndsTokens tokens)) → IfErr result (Refuses (OneEnds source))
-result_ends source tokens (Ok value) s h = tt
-result_ends source tokens (Err error) s h = refuses_by (EndsTokens tokens) (OneEnds source) (λ faults e. tokens_end source tokens faults s e) error h
+result_ends source tokens (Ok value) s shallow h = tt
+result_ends source tokens (Err error) s shallow h = refuses_by (EndsTokens tokens) (OneEnds source) (λ faults e. tokens_end source tokens faults s shallow e) error h
 
 -- what spells tokens that nest no deeper than the limit spells no others
 pub shallow_result : {T E : Type 0} (source : List ℕ) (tokens : TokenList) (result : Result T E) → Spells source tokens → depth_of tokens ≤ 128 →

@@ -27,7 +27,7 @@ lexical_text BadLiteral = codes "unreadable source: BadLiteral"
 lexical_text Unterminated = codes "unreadable source: Unterminated"
 lexical_text Unbalanced = codes "unreadable source: Unbalanced"
 
--- the fault of tokens that are no enum, by why they are none; want of memory is no fault
+-- the fault of tokens that are no enum, by the reason; a lack of memory is no fault
 abbrev pub IsMisread : ReadError → List Fault → Type 0
 IsMisread (NotAnEnum span) faults = faults ≡ only (fault codes_of.NotAnEnum (codes "Logos can be only be derived for enums") span)
 IsMisread (Grammar span) faults = faults ≡ only (fault codes_of.Grammar (codes "the enum is not well formed") span)
@@ -45,14 +45,15 @@ pub record EndsTokens (tokens : TokenList) (faults : List Fault) : Type 0 where
   pub reads : Reads tokens (Err error)
   pub are : IsMisread error faults
 
--- The fault stands in the source and ends its reading: a limit is passed, there are no tokens, or they are no enum.
+-- The fault stands in the source and ends its reading: a limit is passed, there are no tokens, or they nest no deeper than the limit and are no enum.
+-- So a source that nests too deep has that fault, whatever its tokens are.
 pub data EndsReading (source : List ℕ) (ending : Fault) : Type 0 where
   source_limit : 16777216 < length source → ending ≡ too_long source → EndsReading source ending
   nesting_limit : {span : Span} → IsTooDeep source span →
       ending ≡ fault codes_of.LimitTokenNesting (codes "limit LimitTokenNesting passed") span → EndsReading source ending
   unreadable : {kind : LexicalKind} {span : Span} → IsUnreadable source kind span →
       ending ≡ fault codes_of.Lexical (lexical_text kind) span → EndsReading source ending
-  misread : {tokens : TokenList} → Spells source tokens → EndsTokens tokens (only ending) → EndsReading source ending
+  misread : {tokens : TokenList} → Spells source tokens → depth_of tokens ≤ 128 → EndsTokens tokens (only ending) → EndsReading source ending
 
 -- the tokens of the source nest no deeper than the limit
 abbrev pub IsShallow : List ℕ → Type 0

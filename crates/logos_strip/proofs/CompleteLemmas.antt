@@ -26,7 +26,7 @@ ends_exclude source fault whole (nesting_limit deep is) =
     let most = whole.shallow in
     omega arith
 ends_exclude source fault whole (unreadable u is) = unreadable-excludes source _ _ whole.tokens u whole.spelled
-ends_exclude source fault whole (misread {tokens} s m) =
+ends_exclude source fault whole (misread {tokens} s shallow m) =
     let same = spells-one source whole.tokens tokens whole.spelled s in
     tokens_exclude tokens whole.enum _ (rw same at whole.reads) m
 

@@ -48,7 +48,7 @@ fn has_type(alloc: Global, leaf: &Leaf<'_>, written: &str) -> Result<bool, Alloc
     let mut errors = Errors::new(alloc);
     let read = AttributeParser::new(stream.run()).parsed::<TypeExpr>(alloc, &mut errors);
     match read {
-        Ok(Some(other)) => Ok(is_same_type(type_expr, &other)),
+        Ok(Some(Ok(other))) => Ok(is_same_type(type_expr, &other)),
         _ => Err(AllocError),
     }
 }

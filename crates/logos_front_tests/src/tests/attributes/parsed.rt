@@ -3,8 +3,9 @@
 use super::super::rows::push;
 use super::super::tokens::push_faults;
 use logos_attribute::nested::{AttributeParser, Nested};
+use logos_attribute::parsed::Reported;
 use logos_pattern::pattern::Literal;
-use logos_token::error::{Errors, Memory};
+use logos_token::error::Errors;
 use logos_token::token::tokenize;
 use logos_type::TypeExpr;
 use std::alloc::Global;
@@ -12,38 +13,28 @@ use std::process::Abort;
 
 /// Each text says how its runs are read, and behind ` : ` has them.
 pub(super) const READ: &str = r#"lt : "a", Vec<u8> => literal type none
-lll : b"\xFF", , 'c', d => literal - - 11..14 NotText "Expected a &str or &[u8] slice";
-ltlt : 1 2, "a" => - - - - 0..3 LiteralSyntax "expected a literal";5..8 TypeSyntax "not a type";
-t : A<B, C> => - 0..3 TypeSyntax "not a type";
-tt : A<B, C> => - - 0..3 TypeSyntax "not a type";5..7 TypeSyntax "not a type";
+lll : b"\xFF", , 'c', d => literal - fault 11..14 NotText "Expected a &str or &[u8] slice";
+ltlt : 1 2, "a" => fault fault - - 0..3 LiteralSyntax "expected a literal";5..8 TypeSyntax "not a type";
+t : A<B, C> => fault 0..3 TypeSyntax "not a type";
+tt : A<B, C> => fault fault 0..3 TypeSyntax "not a type";5..7 TypeSyntax "not a type";
 nlt : ignore(case), "a", u8 => ignore literal type none
 nlt : ignore(case) "a", u8 => ignore literal type none
 nnl : f, b(1), b"c" => - b literal none
 l :  => - none"#;
 
-/// Adds whether a value was read.
-fn push_read(rt: &impl Abort, out: &mut String, word: &str, is_read: bool) {
-    push(rt, out, if is_read { word } else { "- " });
-}
-
-/// Whether the next run is a literal.
-fn reads_literal(
-    alloc: Global,
-    parser: &mut AttributeParser<'_, '_>,
-    errors: &mut Errors,
-) -> Result<bool, Memory> {
-    let read: Option<Literal<'_>> = parser.parsed(alloc, errors)?;
-    Ok(read.is_some())
-}
-
-/// Whether the next run is a type.
-fn reads_type(
-    alloc: Global,
-    parser: &mut AttributeParser<'_, '_>,
-    errors: &mut Errors,
-) -> Result<bool, Memory> {
-    let read: Option<TypeExpr<'_>> = parser.parsed(alloc, errors)?;
-    Ok(read.is_some())
+/// Adds what was read: the word where it is a value, else whether a fault was reported.
+fn push_read<T: Drop>(
+    rt: &impl Abort,
+    out: &mut String,
+    word: &str,
+    read: &Option<Result<T, Reported>>,
+) {
+    let told = match read {
+        Some(Ok(_)) => word,
+        Some(Err(Reported)) => "fault ",
+        None => "- ",
+    };
+    push(rt, out, told);
 }
 
 /// Adds what becomes of the runs behind ` : `, each read as a literal for `l` in front of it, as a type for `t`, and as a piece for `n`,
@@ -55,11 +46,15 @@ pub(in crate::tests) fn push_parsed(rt: &impl Abort, alloc: Global, out: &mut St
     let mut errors = Errors::new(alloc);
     for way in ways.chars() {
         if way == 'l' {
-            let is_read = reads_literal(alloc, &mut parser, &mut errors).expect(rt, "memory");
-            push_read(rt, out, "literal ", is_read);
+            let read: Option<Result<Literal<'_>, Reported>> = parser
+                .parsed(alloc, &mut errors)
+                .expect(rt, "memory");
+            push_read(rt, out, "literal ", &read);
         } else if way == 't' {
-            let is_read = reads_type(alloc, &mut parser, &mut errors).expect(rt, "memory");
-            push_read(rt, out, "type ", is_read);
+            let read: Option<Result<TypeExpr<'_>, Reported>> = parser
+                .parsed(alloc, &mut errors)
+                .expect(rt, "memory");
+            push_read(rt, out, "type ", &read);
         } else if let Some(Nested::Named(name, _)) = parser.next() {
             push(rt, out, name.text);
             push(rt, out, " ");
