@@ -1,16 +1,13 @@
 #!/usr/bin/env bash
-# Runs each command of docs/GUIDE.md at the top of the repository, and compares what it prints with what stands below it.
+# Runs each command of docs/GUIDE.md and of README.md at the top of the repository, and compares what it prints with what stands below it.
 #
-# A command stands after `$ ` in a block of the kind `console`. The script fails where the page has a block of another kind, a block
-# without a command, or a command outside blocks; and where fewer commands ran than are stated here. The enum of the guide has to be that
-# of the tokenizer.
+# A command stands after `$ ` in a block of the kind `console`. The script fails where the guide has a block of another kind, where a page
+# has a block without a command, or a command outside blocks; and where other numbers of blocks and commands ran than are stated here. The
+# enum of the guide has to be that of the tokenizer.
 #
 # `logos` is the program as `rt ci` or `rt run` leaves it in crates/logos_program/out, or the first argument.
 set -euo pipefail
 
-page=docs/GUIDE.md
-blocks=12
-commands=20
 root=$(cd "$(dirname "${BASH_SOURCE[0]}")/.." && pwd)
 program=$(realpath "${1:-$root/crates/logos_program/out/logos_program}")
 room=$(mktemp -d)
@@ -29,8 +26,8 @@ logos() {
     "$program" "$@"
 }
 
-# Reads the page, runs its commands, and writes the page with what they print in place of what it shows. Counts blocks and commands.
-# Each line is looked at together with whether it is inside of a block.
+# Reads a page, runs its commands, and writes the page with what they print in place of what it shows. Counts blocks and commands.
+# Each line is looked at together with whether it is inside of a block of commands, of another block, or of none.
 run_page() {
     local line inside=no begun=0 ran_before=0
     opened=0
@@ -38,25 +35,35 @@ run_page() {
         case $inside$line in
             'no```console') inside=yes opened=$((opened + 1)) ran_before=$ran ;;
             'yes```') inside=no
-                [ "$ran" -gt "$ran_before" ] || fail "block $opened has no command" ;;
-            'no```'* | 'yes```'*) fail "a block of another kind: $line" ;;
+                [ "$ran" -gt "$ran_before" ] || fail "block $opened of $1 has no command" ;;
+            'no```'*) [ "$2" = others ] || fail "a block of another kind: $line"
+                inside=other ;;
+            'other```') inside=no ;;
+            'yes```'*) fail "a block of another kind: $line" ;;
             'no$ '*) fail "a command outside blocks: $line" ;;
             'yes$ '*) begun=1 ;;
             yes*) continue ;;
         esac
         printf '%s\n' "$line"
         if [ "$begun" = 1 ]; then
-            eval "${line#'$ '}" 2>&1 < /dev/null || echo "status $?"
+            (eval "${line#'$ '}") 2>&1 < /dev/null || echo "status $?"
             ran=$((ran + 1)) begun=0
         fi
-    done < "$page" > "$room/page"
+    done < "$1" > "$room/page"
 }
 
-run_page
-diff "$page" "$room/page" >&2 || fail "other output"
-[ "$opened" = "$blocks" ] || fail "$opened blocks, where $blocks are stated"
-[ "$ran" = "$commands" ] || fail "$ran commands ran, where $commands are stated"
+# Runs a page, which has so many blocks and commands: its name, the two numbers, and whether it may have other blocks.
+check_page() {
+    local ran_before=$ran
+    run_page "$1" "$4"
+    diff "$1" "$room/page" >&2 || fail "$1: other output"
+    [ "$opened" = "$2" ] || fail "$1: $opened blocks, where $2 are stated"
+    [ "$((ran - ran_before))" = "$3" ] || fail "$1: $((ran - ran_before)) commands ran, where $3 are stated"
+}
+
+check_page docs/GUIDE.md 17 31 alone
+check_page README.md 1 1 others
 sed -n '/^pub const SOURCE/,/^"#;$/p' crates/logos_codegen/src/expr.rt | sed -e '1s/^[^"]*"//' -e '$d' | cmp -s - docs/guide/expr.rs \
     || fail "another enum than that of the tokenizer"
-echo "guide: $ran commands print what the guide shows"
+echo "guide: $ran commands print what the pages show"
 echo "$ran passed, 0 failed"

@@ -2,7 +2,7 @@
 # Compiles the Rust texts that `logos gen` prints and compares what they find with `logos lex`.
 #
 # Each source of scripts/rust_text/sources, and some from elsewhere in the repository, is stripped, and printed in both shapes. rustc compiles all
-# texts at once beside a small runtime, and what comes of each input of scripts/rust_text/inputs is compared, item by item; a source with
+# texts at once over runtime/rust, and what comes of each input of scripts/rust_text/inputs is compared, item by item; a source with
 # inputs of its own in scripts/rust_text/own, NAME or NAME.ANYTHING, reads these alone. The lines of scripts/rust_text/rows are small sources: a
 # name, an enum, and inputs, parted by tabs. A source has at most one attribute on a variant, so that a variant's place gives its leaf, and each
 # skip on a line of its own. A source with callbacks, values or parameters may have more;
@@ -108,7 +108,7 @@ compile() {
       echo "let input = std::fs::read(&words[3]).expect(\"an input\");"
       echo "match (words[1].as_str(), words[2].as_str()) { $arms _ => panic!(\"no such text\") }"
       echo "}"; } >> "$room/main.rs"
-    rustc --edition 2021 --crate-type rlib --crate-name logos -o "$room/liblogos.rlib" "$here/runtime.rs"
+    rustc --edition 2021 --crate-type rlib --crate-name logos -o "$room/liblogos.rlib" "$root/runtime/rust/src/lib.rs"
     rustc --edition 2021 --crate-type proc-macro --crate-name serde -o "$room/libserde.so" "$here/serde.rs"
     rustc --edition 2021 --extern "logos=$room/liblogos.rlib" --extern "serde=$room/libserde.so" -o "$room/items" "$room/main.rs"
 }

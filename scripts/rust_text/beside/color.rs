@@ -1,6 +1,6 @@
 type Tokens<'s> = Color<'s, Vec<&'s str>>;
 
-#[derive(Default)]
+#[derive(Clone, Debug, Default, PartialEq)]
 struct Fault(usize);
 
 impl Fault {

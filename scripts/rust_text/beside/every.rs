@@ -5,7 +5,7 @@ type Tokens<'s> = Every<'s, Vec<&'s str>>;
 #[derive(Default)]
 struct Count<N>(N);
 
-#[derive(Default)]
+#[derive(Clone, Debug, Default, PartialEq)]
 struct Fault<'s>(&'s str);
 
 impl<'s> Fault<'s> {

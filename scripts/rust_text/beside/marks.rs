@@ -1,7 +1,7 @@
 type Tokens<'s> = Marks<'s>;
 
 /// An error that knows its bytes, and how many of the callbacks that refuse have made it.
-#[derive(Default)]
+#[derive(Clone, Debug, Default, PartialEq)]
 struct Fault {
     bytes: Vec<u8>,
     from: usize,

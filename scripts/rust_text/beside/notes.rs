@@ -1,7 +1,7 @@
 type Tokens = Notes;
 
 /// An error that knows where it was made, and how: by the function that makes errors, or by a callback that refuses.
-#[derive(Default)]
+#[derive(Clone, Debug, Default, PartialEq)]
 struct Fault {
     from: usize,
     to: usize,

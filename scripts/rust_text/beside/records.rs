@@ -1,6 +1,6 @@
 type Tokens<'s> = Records<'s>;
 
-#[derive(Default)]
+#[derive(Clone, Debug, Default, PartialEq)]
 struct Fault;
 
 #[derive(Default)]

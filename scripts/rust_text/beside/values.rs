@@ -2,7 +2,7 @@ use logos as renamed;
 
 type Tokens<'s> = Values<'s, u64, Pair<&'s str>>;
 
-#[derive(Default)]
+#[derive(Clone, Debug, Default, PartialEq)]
 struct Fault<'s>(&'s str);
 
 struct Pair<T>(T, T);
