@@ -1,5 +1,6 @@
 -- What the views of an attribute's pieces show.
-use Rattle.std.specs.Prelude.{◌≡◌, List, ◌∷◌, if◌then◌else◌}
+use Rattle.std.specs.Prelude.{◌≡◌, List, ◌∷◌, Option, MatchOption, if◌then◌else◌}
+use Rattle.std.specs.Iterator.{YieldsFirstBy}
 use Rattle.logos_token.specs.Tokens.{TokenList, also}
 use Rattle.logos_token.specs.Views.{tokens_of, tree_of}
 use Rattle.logos_token.specs.declared.token.views.Tokens.{Tokens}
@@ -30,6 +31,10 @@ pieces_left parser = if parser.behind_group then behind_group (tokens_of parser.
 -- the tokens that are left after the next piece
 abbrev pub rest_after : AttributeParser → TokenList
 rest_after parser = if parser.behind_group then rest_after_group (tokens_of parser.rest) else rest_after_piece (tokens_of parser.rest)
+
+-- the parser gives the first of the pieces that it has still to give, and takes the comma that ends it; or there is none, and nothing changes
+abbrev pub GivesNext : AttributeParser → Option Nested → AttributeParser → Type 0
+GivesNext old given new = YieldsFirstBy piece_of pieces_left old given new × MatchOption given (new ≡ old) (λ _. tokens_of new.rest ≡ rest_after old)
 
 -- the pieces are this one and those that the parser has still to give, and these are the tokens that it has left
 abbrev pub Cuts : List Piece → TokenList → Nested → AttributeParser → Type 0

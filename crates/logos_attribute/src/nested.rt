@@ -350,24 +350,16 @@ impl<'t, 's> AttributeParser<'t, 's> {
 impl<'t, 's> Iterator for AttributeParser<'t, 's> {
     type Item = Nested<'t, 's>;
 
-    ghost use Rattle.std.specs.Prelude.{◌≡◌, ⊤, MatchOption};
-    ghost use Rattle.std.specs.Iterator.{MakesProgress, YieldsFirstBy, item_count};
-    ghost use Rattle.logos_token.specs.Views.{tokens_of};
-    ghost use Rattle.logos_attribute.specs.Nested.{piece_of, pieces_left, rest_after};
+    ghost use Rattle.std.specs.Iterator.{item_count};
+    ghost use Rattle.logos_attribute.specs.Nested.{pieces_left, GivesNext};
 
-    ghost next_gives = { YieldsFirstBy piece_of pieces_left };
+    ghost next_gives = { GivesNext };
 
     ghost remaining = { item_count pieces_left };
 
     /// Returns the next piece and takes the comma that ends it, so that `run` and `parsed` go on
     /// after that comma. After `None` nothing has changed.
-    fn next(&mut self) -> Option<Nested<'t, 's>>
-        ensures steps { YieldsFirstBy piece_of pieces_left self.old result self.new }
-        ensures goes { MakesProgress (λ _. ⊤) (item_count pieces_left) self.old result self.new }
-        ensures rest { MatchOption result
-            (self.new ≡ self.old)
-            (λ _. tokens_of self.new.rest ≡ rest_after self.old) }
-    {
+    fn next(&mut self) -> Option<Nested<'t, 's>> {
         let (nested, rest) = self.read()?;
         *self = rest;
         Some(nested)
