@@ -4,8 +4,8 @@ ghost use Rattle.logos_text.specs.Standing.{Grows};
 
 use logos_token::error::Memory;
 
-/// What stands around the body of a lexer, each as printed tokens with what parts them from the next
-/// one behind them: a space, or the end of the line as `gap_behind` says.
+/// What stands around the body of a lexer, each as printed tokens with the gap after them, as `gap_after`
+/// gives it.
 #[derive(Clone, Copy)]
 pub struct Around<'p> {
     /// The path of the library.
