@@ -24,7 +24,7 @@ pub(crate) fn push_call(
     }
 }
 
-/// Adds the call of a callback that is named.
+/// Adds the call of a callback that the source names.
 fn push_label(alloc: Global, text: &mut String, label: Tokens<'_, '_>) -> Result<(), Memory>
     ensures { OnOk result (Grows (string_bytes text.old) (string_bytes text.new)) }
 {
@@ -32,7 +32,7 @@ fn push_label(alloc: Global, text: &mut String, label: Tokens<'_, '_>) -> Result
     push(text, "( lex ) ")
 }
 
-/// Adds a callback that stands in the source, with its argument in front of its body.
+/// Adds a callback that the source spells out, with its argument before its body.
 fn push_inline(
     alloc: Global,
     text: &mut String,
