@@ -107,8 +107,8 @@ pub struct CodeParts<'s> {
     pub utf8: bool,
 }
 
-/// The code of a lexer. Each state, table, test and leaf that it names is there, and each jump table is there once. `Generator::generate`
-/// makes one.
+/// The code of a lexer. Each state, table, test and leaf that it names exists, and no two of its jump tables are equal.
+/// `Generator::generate` makes one.
 #[derive(Drop)]
 pub struct Code<'s> {
     parts: CodeParts<'s>,
@@ -141,28 +141,29 @@ impl<'s> Model for Code<'s> {
 }
 
 impl<'s> Code<'s> {
-    /// The shape of its text.
+    /// Returns the shape of its text.
     pub fn shape(&self) -> Config
         ensures { result ≡ self.now.kept.shape }
     {
         self.parts.kept.shape
     }
 
-    /// The name of the enum.
+    /// Returns the name of the enum.
     pub fn name(&self) -> Ident<'s>
         ensures { result ≡ self.now.kept.name }
     {
         self.parts.kept.name
     }
 
-    /// The type that the enum is: its name, and what it is given.
+    /// Returns the type that the enum is: its name with its generic arguments.
     pub fn this(&self) -> &TypeExpr<'s>
         ensures { result.now ≡ self.now.kept.this }
     {
         &self.parts.kept.this
     }
 
-    /// What the code is made of. Each state, table, test and leaf that is named there is there, and no two jump tables are equal.
+    /// Returns the parts of the code: its nodes and its tables. Each state, table, test and leaf that they name exists, and no two jump
+    /// tables are equal.
     pub fn parts(&self) -> &CodeParts<'s>
         ensures is { code_of result.now ≡ self.now }
         ensures keeps { IsKept result.now }
@@ -170,14 +171,14 @@ impl<'s> Code<'s> {
         &self.parts
     }
 
-    /// What is called on an error, if anything is.
+    /// Returns the callback for errors, if there is one.
     pub fn error_callback(&self) -> Option<&Callback<'s>>
         ensures { option_copied result ≡ self.now.kept.error_callback }
     {
         self.parts.kept.error_callback.as_ref()
     }
 
-    /// What becomes of the matches of each leaf, in the order of their numbers.
+    /// Returns the leaves, in the order of their numbers: what becomes of the matches of each.
     pub fn leaves(&self) -> &[CodeLeaf<'s>]
         ensures { result.now ≡ self.now.kept_leaves }
     {
@@ -186,7 +187,7 @@ impl<'s> Code<'s> {
 }
 
 impl Code<'_> {
-    /// The state in which each try begins.
+    /// Returns the number of the state in which each try begins.
     pub fn root(&self) -> usize
         ensures root { result ≡ self.now.root }
         ensures sound { IsSound self.now }
@@ -194,14 +195,14 @@ impl Code<'_> {
         self.parts.root
     }
 
-    /// Whether errors end between characters, and the input has to be UTF-8.
+    /// Returns whether errors end between characters and the input has to be UTF-8.
     pub fn is_utf8(&self) -> bool
         ensures { result ≡ self.now.utf8 }
     {
         self.parts.utf8
     }
 
-    /// The row of the state.
+    /// Returns the row of the state: an entry for each byte.
     #[inline(always)]
     pub fn row(&self, state: usize) -> &[u32; 256]
         requires { state < length self.now.states }
@@ -210,7 +211,7 @@ impl Code<'_> {
         &self.rows[state]
     }
 
-    /// Where the byte leads from the state.
+    /// Returns the state that the byte leads to from this state, if it leads anywhere.
     pub fn target(&self, state: usize, byte: u8) -> Option<usize>
         requires { state < length self.now.states }
         ensures { result ≡ target self.now (state_at self.now state).fork byte }
@@ -218,7 +219,7 @@ impl Code<'_> {
         self.parts.target(&self.parts.states[state].fork, byte)
     }
 
-    /// What the end of the input does in the state.
+    /// Returns what the end of the input does in the state.
     #[inline(always)]
     pub fn last_step(&self, state: usize) -> Step
         requires { state < length self.now.states }
@@ -235,7 +236,7 @@ impl Code<'_> {
         }
     }
 
-    /// What the mark of the state says.
+    /// Returns the sign of the state: what its mark says.
     #[inline(always)]
     pub fn sign(&self, state: usize) -> Sign
         requires { state < length self.now.states }
@@ -244,7 +245,7 @@ impl Code<'_> {
         self.signs[state]
     }
 
-    /// Where the end of the input leads from the state.
+    /// Returns the state that the end of the input leads to from this state, if it leads anywhere.
     #[inline(always)]
     pub fn at_end(&self, state: usize) -> Option<usize>
         requires { state < length self.now.states }
@@ -253,7 +254,7 @@ impl Code<'_> {
         self.parts.states[state].at_end
     }
 
-    /// Whether a callback is asked for the matches of the leaf.
+    /// Returns whether the leaf has a callback.
     #[inline(always)]
     pub fn asks(&self, leaf: LeafId) -> bool
         requires { leaf.0 < length self.now.leaves }
@@ -262,7 +263,7 @@ impl Code<'_> {
         self.uses[leaf.0].asks
     }
 
-    /// Whether the matches of the leaf are left out.
+    /// Returns whether the leaf's matches are skipped.
     #[inline(always)]
     pub fn skips(&self, leaf: LeafId) -> bool
         requires { leaf.0 < length self.now.leaves }
@@ -272,7 +273,7 @@ impl Code<'_> {
     }
 }
 
-/// The state that an entry of a jump table stands for.
+/// Returns the state that an entry of a jump table stands for.
 fn target_of(entry: u32) -> Option<usize>
     ensures { result ≡ entry_of entry }
 {

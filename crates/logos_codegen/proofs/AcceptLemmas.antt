@@ -24,8 +24,9 @@ use Rattle.logos_source.specs.declared.refusal.Refusal.TheVariants.{Errors, Memo
 use Rattle.logos_codegen.specs.Texts.{listed_of}
 use Rattle.logos_codegen.specs.Rules.{NamedRule, named_said, rules_said, rules_in, names_in, GraphLists, graph_faults, size_limit, states_limit}
 use Rattle.logos_codegen.specs.Source.{IsAccepted, IsRefused, unread, faulty, IsWithinLimits}
+use Rattle.logos_codegen.specs.Tokenizing.{kinds_said}
 use Rattle.logos_codegen.proofs.GraphLemmas.{said_rules}
-use Rattle.logos_codegen.proofs.ShownLemmas.{same_rules, same_faults}
+use Rattle.logos_codegen.proofs.ShownLemmas.{same_rules, same_faults, same_kinds}
 
 nothing_in : (xs ys : List ListedFault) → [] ≡ xs ++ ys → (xs ≡ []) × (ys ≡ [])
 nothing_in [] ys e = (refl, sym e)
@@ -62,6 +63,13 @@ enum_once enum leaves others rest other faults a b =
       same_rules leaves others once.2,
       same,
     )
+
+-- it gives tokens of the same kinds
+kinds_alike : (enum : EnumValue) (leaves others : List LeafView) (rest other : OptionsView) → EnumSays enum leaves rest [] → EnumSays enum others other [] → kinds_said leaves ≡ kinds_said others
+kinds_alike enum leaves others rest other a b =
+    let none = silent enum leaves rest a in
+    let says : SourceSays enum a.read.options leaves [] = rw none.parts at a.read.says in
+    same_kinds leaves others (source_once says b.read.says).2
 
 -- ---- a source is one enum at most
 
@@ -105,6 +113,18 @@ accepted_once source rules rules' utf8 utf8' a b =
     let says : EnumSays b.enum a.leaves a.rest [] = rw same.0 at a.enum_says in
     let once = enum_once b.enum a.leaves b.leaves a.rest b.rest [] says b.enum_says in
     (a.same_rules ∙ once.1 ∙ sym b.same_rules, a.same_mode ∙ ap utf8_mode once.2 ∙ sym b.same_mode)
+
+-- what a source says without a fault gives tokens of the kinds of its leaves
+pub kinds_as_said : (source : List ℕ) (rules : List Rule) (utf8 : Bool) (enum : EnumValue) (item : Span) (leaves : List LeafView) (rest : OptionsView) → Says source enum item → EnumSays enum leaves rest [] →
+    (a : IsAccepted source rules utf8) → kinds_said leaves ≡ kinds_said a.leaves
+kinds_as_said source rules utf8 enum item leaves rest says enum_says a =
+    let same = one_value source enum a.enum item a.item says a.says in
+    let own : EnumSays a.enum leaves rest [] = rw same.0 at enum_says in
+    kinds_alike a.enum leaves a.leaves rest a.rest own a.enum_says
+
+-- a source that is accepted gives tokens of one list of kinds
+pub kinds_once : (source : List ℕ) (rules rules' : List Rule) (utf8 utf8' : Bool) (a : IsAccepted source rules utf8) (b : IsAccepted source rules' utf8') → kinds_said a.leaves ≡ kinds_said b.leaves
+kinds_once source rules rules' utf8 utf8' a b = kinds_as_said source rules' utf8' a.enum a.item a.leaves a.rest a.says a.enum_says b
 
 -- a source without faults within the limits is not refused
 accepted_or_refused : (source : List ℕ) (rules : List Rule) (utf8 : Bool) (faults : List ListedFault) → IsAccepted source rules utf8 → IsWithinLimits source rules → IsRefused source faults → ⊥

@@ -1,5 +1,9 @@
 -- From a lexer's items to what the tokenizer of expressions makes of them.
-use Rattle.std.proofs.Common.{◌≡◌, ℕ, ◌≤◌, Bool, true, false, List, [], ◌∷◌, ◌++◌, length, map, slice_range, refl, sym, ap, ◌∙◌, append_assoc, append-nil, MatchBool, arith, None, IsUtf8}
+use Rattle.std.proofs.Common.{◌≡◌, ℕ, ◌+◌, ◌<◌, ◌≤◌, drop, get_or, Bool, true, false, List, [], ◌∷◌, ◌++◌, length, map, slice_range, refl, sym, ap, ◌∙◌, append_assoc, append-nil, MatchBool, arith, None, IsUtf8}
+use Rattle.std.proofs.lemmas.List.{drop_more}
+use Rattle.logos_pattern.specs.Leaf.{kind_value}
+use Rattle.logos_pattern.specs.declared.leaf.Leaf.{Leaf}
+use Rattle.logos_leaf.specs.LeafViews.{leaf_view}
 use Rattle.logos_automaton.specs.Munch.{Use, Rule, IsInput, ended, matched, failed, Finds}
 use Rattle.logos_automaton.proofs.munch.Unique.{finds_one}
 use Rattle.logos_hir.specs.Text.{IsBytes}
@@ -17,10 +21,12 @@ use Rattle.logos_source.specs.Refusals.{Refuses}
 use Rattle.logos_source.specs.declared.refusal.Refusal.{Refusal}
 use Rattle.logos_source.specs.declared.refusal.Refusal.TheVariants as refusals
 use Rattle.logos_codegen.specs.declared.expr.ExprError.{ExprError}
+use Rattle.logos_codegen.specs.declared.expr.ExprKind.{ExprKind}
+use Rattle.logos_lexeme.specs.declared.lexeme.Span.{Span}
 use Rattle.logos_codegen.specs.Language.{IsLanguage}
 use Rattle.logos_codegen.specs.declared.expr.TheConstants.{SOURCE}
-use Rattle.logos_codegen.specs.Tokenizing.{Token, Outcome, gives, bad, emits, kind_of, in_front, outcome_of, AreRead, all_read, token_read, error_read, Tokenizes, IsOutcome, IsRefusalOf, IsThatError}
-use Rattle.logos_codegen.proofs.AcceptLemmas.{accepted_once}
+use Rattle.logos_codegen.specs.Tokenizing.{Token, Outcome, gives, bad, emits, kind_at, kind_given, kinds_said, in_front, IsErrorAt, outcome_of, AreRead, all_read, token_read, error_read, Tokenizes, IsOutcome, IsRefusalOf, IsThatError}
+use Rattle.logos_codegen.proofs.AcceptLemmas.{accepted_once, kinds_once}
 use Rattle.logos_codegen.proofs.LexLemmas.{may_by, lexes_by}
 
 -- in front of nothing
@@ -35,31 +41,31 @@ in_front_both first second (bad from to) = refl
 one_given : (t u : Token) → gives (t ∷ []) ≡ gives (u ∷ []) → t ≡ u
 one_given t u e = cc
 
-module _ (rules : List Rule) (utf8 : Bool) (text : List ℕ) where
+module _ (kinds : List ExprKind) (rules : List Rule) (utf8 : Bool) (text : List ℕ) where
   -- behind the tokens, what is read from the place on is what is read from the start
   pub record GoesOn (tokens : List Token) (at : ℕ) : Type 0 where
     pub on : (rest : List Item) → AreRead rules utf8 text at rest →
-        (items : List Item) × AreRead rules utf8 text 0 items × (outcome_of items ≡ in_front tokens (outcome_of rest))
+        (items : List Item) × AreRead rules utf8 text 0 items × (outcome_of kinds items ≡ in_front tokens (outcome_of kinds rest))
 
   pub begins : GoesOn [] 0
-  begins = record { on = λ rest r. (rest, r, sym (in_front_none (outcome_of rest))) }
+  begins = record { on = λ rest r. (rest, r, sym (in_front_none (outcome_of kinds rest))) }
 
   -- one token more
   pub token_on : (tokens : List Token) (at next : ℕ) (item : Item) (t : Token) → GoesOn tokens at → IsNext rules emits utf8 text at item next →
-      outcome_of (item ∷ []) ≡ gives (t ∷ []) → GoesOn (tokens ++ t ∷ []) next
+      outcome_of kinds (item ∷ []) ≡ gives (t ∷ []) → GoesOn (tokens ++ t ∷ []) next
   token_on tokens at next (token leaf from to slice) t goes n e = record {
     on = λ rest r.
-        let u : Token = record { kind = kind_of leaf; from = from; to = to; slice = slice } in
+        let u : Token = record { kind = kind_at kinds leaf; from = from; to = to; slice = slice } in
         let read = goes.on (token leaf from to slice ∷ rest) (token_read at leaf from to slice next rest n r) in
         let same : u ≡ t = one_given u t e in
-        let both : in_front tokens (in_front (u ∷ []) (outcome_of rest)) ≡ in_front (tokens ++ u ∷ []) (outcome_of rest) = in_front_both tokens (u ∷ []) (outcome_of rest) in
-        (read.0, read.1, read.2 ∙ both ∙ ap (λ x. in_front (tokens ++ x ∷ []) (outcome_of rest)) same);
+        let both : in_front tokens (in_front (u ∷ []) (outcome_of kinds rest)) ≡ in_front (tokens ++ u ∷ []) (outcome_of kinds rest) = in_front_both tokens (u ∷ []) (outcome_of kinds rest) in
+        (read.0, read.1, read.2 ∙ both ∙ ap (λ x. in_front (tokens ++ x ∷ []) (outcome_of kinds rest)) same);
   }
   token_on tokens at next (error leaf from to slice) t goes n e = absurd (cc)
 
   -- the first error
   pub error_on : (tokens : List Token) (at next start end : ℕ) (item : Item) → GoesOn tokens at → IsNext rules emits utf8 text at item next →
-      outcome_of (item ∷ []) ≡ bad start end → (items : List Item) × AreRead rules utf8 text 0 items × (outcome_of items ≡ bad start end)
+      outcome_of kinds (item ∷ []) ≡ bad start end → (items : List Item) × AreRead rules utf8 text 0 items × (outcome_of kinds items ≡ bad start end)
   error_on tokens at next start end (token leaf from to slice) goes n e = absurd (cc)
   error_on tokens at next start end (error leaf from to slice) goes n e =
       let read = goes.on (error leaf from to slice ∷ []) (error_read at leaf from to slice next n) in
@@ -67,10 +73,25 @@ module _ (rules : List Rule) (utf8 : Bool) (text : List ℕ) where
 
   -- no more items
   pub end_on : (tokens : List Token) (at : ℕ) → GoesOn tokens at → Items rules emits utf8 text at [] →
-      (items : List Item) × AreRead rules utf8 text 0 items × (outcome_of items ≡ gives tokens)
+      (items : List Item) × AreRead rules utf8 text 0 items × (outcome_of kinds items ≡ gives tokens)
   end_on tokens at goes o =
       let read = goes.on [] (all_read at o) in
       (read.0, read.1, read.2 ∙ ap gives (append-nil tokens))
+
+-- ---- the kinds of leaves
+
+-- one kind more
+pub kinds_turn : (leaves : List Leaf) (i : ℕ) (d : Leaf) (old new : List ExprKind) (x : ExprKind) → i < length leaves → new ≡ old ++ x ∷ [] → x ≡ kind_given (kind_value (get_or leaves i d).kind) →
+    old ++ map (λ leaf. kind_given (kind_value leaf.kind)) (drop i leaves) ≡ map (λ leaf. kind_given (kind_value leaf.kind)) leaves →
+    new ++ map (λ leaf. kind_given (kind_value leaf.kind)) (drop (i + 1) leaves) ≡ map (λ leaf. kind_given (kind_value leaf.kind)) leaves
+kinds_turn leaves i d old new x lt is same before =
+    let split = append_assoc old (x ∷ []) (map (λ (leaf : Leaf). kind_given (kind_value leaf.kind)) (drop (i + 1) leaves)) in
+    rw is (split ∙ ap (λ u. old ++ (u ∷ map (λ (leaf : Leaf). kind_given (kind_value leaf.kind)) (drop (i + 1) leaves))) same ∙ (rw (drop_more leaves i d lt) at before))
+
+-- the kinds of leaves as an enum says them
+pub kinds_viewed : (leaves : List Leaf) → map (λ leaf. kind_given (kind_value leaf.kind)) leaves ≡ kinds_said (map leaf_view leaves)
+kinds_viewed [] = refl
+kinds_viewed (leaf ∷ leaves) = ap (λ (kinds : List ExprKind). kind_given (kind_value leaf.kind) ∷ kinds) (kinds_viewed leaves)
 
 -- ---- items by a callback that emits every match
 
@@ -177,49 +198,55 @@ module _ (rules : List Rule) (utf8 : Bool) (text : List ℕ) where
       record { rest = others; are = ap (λ x. error None from x (slice_range text from x) ∷ others) (sym u); items = k'; inside = stop_within rules utf8 text from to s.0 s.2 }
 
   -- what is read has the outcome of all items
-  read_outcome : {at : ℕ} {items all : List Item} → at ≤ length text → AreRead rules utf8 text at items → Items rules emits utf8 text at all → outcome_of items ≡ outcome_of all
-  read_outcome inside (all_read at o) a = ap outcome_of (items_once inside o a)
-  read_outcome inside (token_read at leaf from to slice next items n r) a =
+  read_outcome : (kinds : List ExprKind) {at : ℕ} {items all : List Item} → at ≤ length text → AreRead rules utf8 text at items → Items rules emits utf8 text at all → outcome_of kinds items ≡ outcome_of kinds all
+  read_outcome kinds inside (all_read at o) a = ap (outcome_of kinds) (items_once inside o a)
+  read_outcome kinds inside (token_read at leaf from to slice next items n r) a =
       let b = begins_with inside n a in
-      ap (λ x. in_front (record { kind = kind_of leaf; from = from; to = to; slice = slice } ∷ []) x) (read_outcome b.inside r b.items) ∙ ap outcome_of (sym b.are)
-  read_outcome inside (error_read at leaf from to slice next n) a =
+      ap (λ x. in_front (record { kind = kind_at kinds leaf; from = from; to = to; slice = slice } ∷ []) x) (read_outcome kinds b.inside r b.items) ∙ ap (outcome_of kinds) (sym b.are)
+  read_outcome kinds inside (error_read at leaf from to slice next n) a =
       let b = begins_with inside n a in
-      ap outcome_of (sym b.are)
+      ap (outcome_of kinds) (sym b.are)
 
 -- the outcome of a text is that of all its items
 pub outcome_is : (text : List ℕ) (outcome : Outcome) → Tokenizes text outcome → IsOutcome text outcome
 outcome_is text outcome t = λ rules utf8 items a all.
     let same = accepted_once SOURCE.now rules t.rules utf8 t.utf8 a t.accepted in
     let all' : Items t.rules emits t.utf8 text 0 items = rw (← same.0, ← same.1) all in
-    t.is ∙ read_outcome t.rules t.utf8 text (omega arith) t.read all'
+    let kinds : kinds_said t.accepted.leaves ≡ kinds_said a.leaves = kinds_once SOURCE.now t.rules rules t.utf8 utf8 t.accepted a in
+    t.is ∙ read_outcome t.rules t.utf8 text (kinds_said t.accepted.leaves) (omega arith) t.read all' ∙ ap (λ k. outcome_of k items) kinds
+
+-- an error has its span as its outcome
+pub error_outcome : (kinds : List ExprKind) (item : Item) (span : Span) → IsErrorAt item span → outcome_of kinds (item ∷ []) ≡ bad span.from span.to
+error_outcome kinds (token leaf from to slice) span e = absurd e
+error_outcome kinds (error leaf from to slice) span e = rw (e.0, e.1) refl
 
 -- ---- the steps of a lexer
 
 module _ {C : Type 0} (callback : Callback) (answers : (leaf : ℕ) (slice : List ℕ) (answer : Action) → callback leaf slice answer → answer ≡ Emit)
-    (code : CodeValue) (text : List ℕ) (bytes : IsBytes text) (valid : IsUtf8 text) (old new : LexerValue C) (same_code : old.code ≡ code) (same_input : old.input ≡ text)
-    (tokens : List Token) (goes_on : (rules : List Rule) (utf8 : Bool) → IsLexer rules utf8 code → GoesOn rules utf8 text tokens old.to) where
+    (code : CodeValue) (kinds : List ExprKind) (text : List ℕ) (bytes : IsBytes text) (valid : IsUtf8 text) (old new : LexerValue C) (same_code : old.code ≡ code) (same_input : old.input ≡ text)
+    (tokens : List Token) (goes_on : (rules : List Rule) (utf8 : Bool) → IsLexer rules utf8 code → GoesOn kinds rules utf8 text tokens old.to) where
   next_read : (rules : List Rule) (utf8 : Bool) → IsLexer rules utf8 code → (item : Item) → Gives callback old new item → IsNext rules emits utf8 text old.to item new.to
   next_read rules utf8 lexer item g =
       let is : RunsOn code callback text old.to item new.to = rw (same_code, same_input) at g.is in
       next_emitted rules utf8 code text lexer (bytes, λ t. valid) callback answers old.to item new.to is
 
   -- one token more
-  pub token_more : (item : Item) (t : Token) → Gives callback old new item → outcome_of (item ∷ []) ≡ gives (t ∷ []) →
-      (rules : List Rule) (utf8 : Bool) → IsLexer rules utf8 code → GoesOn rules utf8 text (tokens ++ t ∷ []) new.to
-  token_more item t g e rules utf8 lexer = token_on rules utf8 text tokens old.to new.to item t (goes_on rules utf8 lexer) (next_read rules utf8 lexer item g) e
+  pub token_more : (item : Item) (t : Token) → Gives callback old new item → outcome_of kinds (item ∷ []) ≡ gives (t ∷ []) →
+      (rules : List Rule) (utf8 : Bool) → IsLexer rules utf8 code → GoesOn kinds rules utf8 text (tokens ++ t ∷ []) new.to
+  token_more item t g e rules utf8 lexer = token_on kinds rules utf8 text tokens old.to new.to item t (goes_on rules utf8 lexer) (next_read rules utf8 lexer item g) e
 
   -- the first error
-  pub tokenized_bad : IsLanguage code → (item : Item) (start end : ℕ) → Gives callback old new item → outcome_of (item ∷ []) ≡ bad start end → Tokenizes text (bad start end)
+  pub tokenized_bad : IsLanguage (record { code = code; kinds = kinds }) → (item : Item) (start end : ℕ) → Gives callback old new item → outcome_of kinds (item ∷ []) ≡ bad start end → Tokenizes text (bad start end)
   tokenized_bad l item start end g e =
-      let read = error_on l.rules l.utf8 text tokens old.to new.to start end item (goes_on l.rules l.utf8 l.lexer) (next_read l.rules l.utf8 l.lexer item g) e in
-      record { rules = l.rules; utf8 = l.utf8; accepted = l.accepted; items = read.0; read = read.1; is = sym read.2 }
+      let read = error_on kinds l.rules l.utf8 text tokens old.to new.to start end item (goes_on l.rules l.utf8 l.lexer) (next_read l.rules l.utf8 l.lexer item g) e in
+      record { rules = l.rules; utf8 = l.utf8; accepted = l.accepted; items = read.0; read = read.1; is = sym read.2 ∙ ap (λ k. outcome_of k read.0) l.kinds }
 
   -- no more items
-  pub tokenized_all : IsLanguage code → Ends callback old new → Tokenizes text (gives tokens)
+  pub tokenized_all : IsLanguage (record { code = code; kinds = kinds }) → Ends callback old new → Tokenizes text (gives tokens)
   tokenized_all l g =
       let over : Runs code callback text old.to [] = rw (same_code, same_input) at g.over in
-      let read = end_on l.rules l.utf8 text tokens old.to (goes_on l.rules l.utf8 l.lexer) (none_emitted l.rules l.utf8 code text l.lexer (bytes, λ t. valid) callback answers old.to over) in
-      record { rules = l.rules; utf8 = l.utf8; accepted = l.accepted; items = read.0; read = read.1; is = sym read.2 }
+      let read = end_on kinds l.rules l.utf8 text tokens old.to (goes_on l.rules l.utf8 l.lexer) (none_emitted l.rules l.utf8 code text l.lexer (bytes, λ t. valid) callback answers old.to over) in
+      record { rules = l.rules; utf8 = l.utf8; accepted = l.accepted; items = read.0; read = read.1; is = sym read.2 ∙ ap (λ k. outcome_of k read.0) l.kinds }
 
 -- why there is no tokenizer
 pub refusal_of : (refusal : Refusal) (why : ExprError) → IsThatError refusal why → Refuses (IsRefused SOURCE.now) refusal → IsRefusalOf why

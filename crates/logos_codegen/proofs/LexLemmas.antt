@@ -17,7 +17,7 @@ use Rattle.logos_code.specs.declared.action.Action.TheVariants.{Emit, Skip, Erro
 use Rattle.logos_measures.specs.Measure.{is_text}
 use Rattle.logos_attribute.specs.Told.{only}
 use Rattle.logos_leaf.specs.Leaves.{LeafView}
-use Rattle.logos_code.specs.Order.{AreInOrder, Parts, IsMatch}
+use Rattle.logos_code.specs.Order.{AreInOrder, Parts, IsLeftOut}
 use Rattle.logos_code.specs.Runs.{CodeFinds, Runs}
 use Rattle.logos_generator.proofs.Compose.{runs_iff}
 use Rattle.logos_generator.proofs.InOrder.{in_order, parted}
@@ -102,7 +102,7 @@ module _ (source : List ℕ) (rules : List Rule) (utf8 : Bool) (code : CodeValue
     pub are_in_order : AreInOrder (length bytes) 0 items
     are_in_order = in_order rules callback utf8 bytes (omega arith) items_are
 
-    pub are_parts : (others : List Rule) (other : Bool) → IsAccepted source others other → Parts (IsMatch others bytes) (length bytes) 0 items
+    pub are_parts : (others : List Rule) (other : Bool) → IsAccepted source others other → Parts (IsLeftOut others callback bytes) (length bytes) 0 items
     are_parts others other a =
         let same = accepted_once source rules others utf8 other accepted a in
         let items' : Items others callback other bytes 0 items = rw (same.0, same.1) at items_are in
@@ -160,7 +160,7 @@ module _ (source : List ℕ) (rules : List Rule) (utf8 : Bool) (code : CodeValue
   order_of_result (Err error) r text = tt
 
   pub parts_of_result : (result : Result (Vec TheItem Global) LexSourceError) → IfOk result (λ items. Runs code callback bytes 0 (map item_of items.items)) → IfOk result (λ items. IsTrue code.utf8 → IsUtf8 bytes) →
-      (others : List Rule) (other : Bool) → IsAccepted source others other → IfOk result (λ items. Parts (IsMatch others bytes) (length bytes) 0 (map item_of items.items))
+      (others : List Rule) (other : Bool) → IsAccepted source others other → IfOk result (λ items. Parts (IsLeftOut others callback bytes) (length bytes) 0 (map item_of items.items))
   parts_of_result (Ok items) r text others other a = are_parts source rules utf8 code accepted lexer callback bytes (map item_of items.items) (input_of text) r others other a
   parts_of_result (Err error) r text others other a = tt
 

@@ -1,4 +1,4 @@
--- Leaves that differ only in where the names of their variants lie stand for the same rules and list the same faults.
+-- Leaves that differ only in where the names of their variants lie stand for the same rules, list the same faults and give tokens of the same kinds.
 use Rattle.std.proofs.Common.{◌≡◌, ℕ, Bool, true, false, not, List, [], ◌∷◌, ◌++◌, map, flat_map, codes, Option, Some, None, is_some, refl, sym, ◌∙◌, ap, if◌then◌else◌}
 use Rattle.logos_token.specs.declared.error.fault_code.FaultCode.TheVariants.{Utf8Pattern}
 use Rattle.logos_token.specs.Faults.{Fault as ListedFault}
@@ -13,6 +13,9 @@ use Rattle.logos_leaf.proofs.agreement.Leaves.{ShownKind, Shown, shown_kind, sho
 use Rattle.logos_source.specs.Utf8Faults.{kind_name, leaf_faults, utf8_faults}
 use Rattle.logos_source.proofs.ModeLemmas.{text_by}
 use Rattle.logos_codegen.specs.Rules.{skips, rule_said, rules_said}
+use Rattle.logos_codegen.specs.Tokenizing.{kind_named, kind_given, kinds_said}
+use Rattle.logos_codegen.specs.declared.expr.ExprKind.{ExprKind}
+use Rattle.logos_codegen.specs.declared.expr.ExprKind.TheVariants.{Close}
 
 abbrev rule_shown : Shown → Rule
 rule_shown s = record { tree = s.0.tree; priority = s.0.priority; use_of = record { skips = not (is_some s.1); asks = is_some s.0.callback } }
@@ -60,3 +63,21 @@ all_shown (leaf ∷ leaves) = ap (λ (xs : List ListedFault). xs ++ flat_map lea
 pub same_faults : (mode : Bool) (leaves others : List LeafView) → map shown leaves ≡ map shown others → utf8_faults mode leaves ≡ utf8_faults mode others
 same_faults false leaves others e = refl
 same_faults true leaves others e = all_shown leaves ∙ ap (flat_map faults_shown) e ∙ sym (all_shown others)
+
+-- the kind of the tokens of a leaf that is shown so
+abbrev kind_shown : ShownKind → ExprKind
+kind_shown None = Close
+kind_shown (Some p) = kind_named p.0.text
+
+kind_is_shown : (kind : KindValue) → kind_given kind ≡ kind_shown (shown_kind kind)
+kind_is_shown (plain name) = refl
+kind_is_shown (holding name type) = refl
+kind_is_shown skipped = refl
+
+kinds_shown : (leaves : List LeafView) → kinds_said leaves ≡ map (λ (s : Shown). kind_shown s.1) (map shown leaves)
+kinds_shown [] = refl
+kinds_shown (leaf ∷ leaves) = rw (kind_is_shown leaf.kind, kinds_shown leaves) refl
+
+-- leaves that are shown alike give tokens of the same kinds
+pub same_kinds : (leaves others : List LeafView) → map shown leaves ≡ map shown others → kinds_said leaves ≡ kinds_said others
+same_kinds leaves others e = kinds_shown leaves ∙ ap (map (λ (s : Shown). kind_shown s.1)) e ∙ sym (kinds_shown others)

@@ -1,9 +1,0 @@
-pub mod Texts
-pub mod Rules
-pub mod Source
-pub mod Given
-pub mod Refusals
-pub mod RunLaws
-pub mod Language
-pub mod Tokenizing
-pub mod inside

@@ -1,9 +1,11 @@
 -- What the tokenizer of expressions makes of a text.
-use Rattle.std.specs.Prelude.{◌≡◌, ℕ, ◌==◌, Bool, List, [], ◌∷◌, ◌++◌, map, Option, if◌then◌else◌, Result, Ok, Err, Vec}
+use Rattle.std.specs.Prelude.{◌≡◌, ℕ, Bool, List, [], ◌∷◌, ◌++◌, map, Option, unwrap_or, if◌then◌else◌, slice_get, bytes_eq, codes, Result, Ok, Err, Vec}
 use Rattle.std.specs.Global.{Global}
 use Rattle.logos_automaton.specs.Munch.{Rule}
 use Rattle.logos_code.specs.Items.{Callback, Item, token, error, Items, IsNext}
 use Rattle.logos_code.specs.declared.action.Action.TheVariants.{Emit}
+use Rattle.logos_pattern.specs.Leaf.{KindValue, plain, holding, skipped}
+use Rattle.logos_leaf.specs.Leaves.{LeafView}
 use Rattle.logos_codegen.specs.Source.{IsAccepted, IsRefused}
 use Rattle.logos_lexeme.specs.declared.lexeme.Span.{Span}
 use Rattle.logos_token.specs.Faults.{Fault as ListedFault}
@@ -35,33 +37,52 @@ pub data Outcome : Type 0 where
 abbrev pub emits : Callback
 emits leaf slice answer = answer ≡ Emit
 
--- the kind of the variant whose leaf has this number; leaf 0 is the skip, which gives no token, and 11 is the last
-abbrev pub kind_of : ℕ → ExprKind
-kind_of leaf =
-    if leaf == 1 then Number else if leaf == 2 then Name else if leaf == 3 then Let else if leaf == 4 then EqEq
-    else if leaf == 5 then Eq else if leaf == 6 then Plus else if leaf == 7 then Minus else if leaf == 8 then Star
-    else if leaf == 9 then Slash else if leaf == 10 then Open else Close
+-- the kind with this name; `Close` has the last one
+abbrev pub kind_named : List ℕ → ExprKind
+kind_named name =
+    if bytes_eq name (codes "Number") then Number else (if bytes_eq name (codes "Name") then Name
+    else (if bytes_eq name (codes "Let") then Let else (if bytes_eq name (codes "EqEq") then EqEq
+    else (if bytes_eq name (codes "Eq") then Eq else (if bytes_eq name (codes "Plus") then Plus
+    else (if bytes_eq name (codes "Minus") then Minus else (if bytes_eq name (codes "Star") then Star
+    else (if bytes_eq name (codes "Slash") then Slash else (if bytes_eq name (codes "Open") then Open
+    else Close)))))))))
+
+-- the kind of a leaf's tokens: that of its variant's name; a skip gives no token
+abbrev pub kind_given : KindValue → ExprKind
+kind_given (plain name) = kind_named name.text.now
+kind_given (holding name type) = kind_named name.text.now
+kind_given skipped = Close
+
+-- the kinds of the tokens of an enum's leaves, in the order of their numbers
+abbrev pub kinds_said : List LeafView → List ExprKind
+kinds_said leaves = map (λ leaf. kind_given leaf.kind) leaves
+
+-- the kind at a leaf's number
+abbrev pub kind_at : List ExprKind → ℕ → ExprKind
+kind_at kinds leaf = unwrap_or (slice_get kinds leaf) Close
 
 -- tokens in front of what the rest gives
 abbrev pub in_front : List Token → Outcome → Outcome
 in_front tokens (gives others) = gives (tokens ++ others)
 in_front tokens (bad from to) = bad from to
 
--- The outcome of items: where an error is among them, the span of the first; else the tokens in order, each leaf as the kind of
--- its variant.
-abbrev pub outcome_of : List Item → Outcome
-outcome_of [] = gives []
-outcome_of (token leaf from to slice ∷ items) =
-    in_front (record { kind = kind_of leaf; from = from; to = to; slice = slice } ∷ []) (outcome_of items)
-outcome_of (error leaf from to slice ∷ items) = bad from to
+-- Kinds of leaves, by their numbers.
+module _ (kinds : List ExprKind) where
+  -- The outcome of items: where an error is among them, the span of the first; else the tokens in order, each of its leaf's kind.
+  abbrev pub outcome_of : List Item → Outcome
+  outcome_of [] = gives []
+  outcome_of (token leaf from to slice ∷ items) =
+      in_front (record { kind = kind_at kinds leaf; from = from; to = to; slice = slice } ∷ []) (outcome_of items)
+  outcome_of (error leaf from to slice ∷ items) = bad from to
 
--- the item is this token
-abbrev pub IsToken : Item → ExprToken → Type 0
-IsToken item t = outcome_of (item ∷ []) ≡ gives (token_value t ∷ [])
+  -- the item is this token
+  abbrev pub IsToken : Item → ExprToken → Type 0
+  IsToken item t = outcome_of (item ∷ []) ≡ gives (token_value t ∷ [])
 
 -- the item is an error at this span
 abbrev pub IsErrorAt : Item → Span → Type 0
-IsErrorAt item span = outcome_of (item ∷ []) ≡ bad span.from span.to
+IsErrorAt (token leaf from to slice) span = ⊥
+IsErrorAt (error leaf from to slice) span = (from ≡ span.from) × (to ≡ span.to)
 
 -- Of the items of a text from a place on, those that the outcome needs: all of them, where no error is among them, and else those
 -- up to the first error. Each is the next one behind the one before it.
@@ -73,18 +94,19 @@ pub data AreRead (rules : List Rule) (utf8 : Bool) (text : List ℕ) : ℕ → L
   error_read : (at : ℕ) (leaf : Option ℕ) (from to : ℕ) (slice : List ℕ) (next : ℕ) →
       IsNext rules emits utf8 text at (error leaf from to slice) next → AreRead rules utf8 text at (error leaf from to slice ∷ [])
 
--- what a text gives, by the leaves of the enum
+-- what a text gives, by the leaves of the enum and the names of its variants
 pub record Tokenizes (text : List ℕ) (outcome : Outcome) : Type 0 where
   pub rules : List Rule
   pub utf8 : Bool
   pub accepted : IsAccepted SOURCE.now rules utf8
   pub items : List Item
   pub read : AreRead rules utf8 text 0 items
-  pub is : outcome ≡ outcome_of items
+  pub is : outcome ≡ outcome_of (kinds_said accepted.leaves) items
 
--- whatever list of items is that of the text, by the leaves of the enum, this is its outcome
+-- whatever list of items is that of the text, by the leaves of the enum, this is its outcome, by the names of its variants
 abbrev pub IsOutcome : List ℕ → Outcome → Type 0
-IsOutcome text outcome = (rules : List Rule) (utf8 : Bool) (items : List Item) → IsAccepted SOURCE.now rules utf8 → Items rules emits utf8 text 0 items → outcome ≡ outcome_of items
+IsOutcome text outcome =
+    (rules : List Rule) (utf8 : Bool) (items : List Item) (accepted : IsAccepted SOURCE.now rules utf8) → Items rules emits utf8 text 0 items → outcome ≡ outcome_of (kinds_said accepted.leaves) items
 
 -- the answer is an outcome of which this holds, or memory ran out
 abbrev pub Answers : (Outcome → Type 0) → Result (Vec ExprToken Global) ExprError → Type 0

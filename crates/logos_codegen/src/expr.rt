@@ -1,22 +1,26 @@
 //! A tokenizer of expressions that stands on the library: what a front end makes of `generate` and
 //! `Lexer`, by their contracts alone.
 
-ghost use Rattle.std.specs.Prelude.{◌≡◌, IfOk, IfErr};
+ghost use Rattle.std.specs.Prelude.{◌≡◌, IfOk, IfErr, map};
 ghost use Rattle.logos_machine.specs.LexerValue.{item_of};
+ghost use Rattle.logos_pattern.specs.Leaf.{kind_value};
 ghost use Rattle.logos_codegen.specs.Language.{IsLanguage};
-ghost use Rattle.logos_codegen.specs.Tokenizing.{kind_of, IsToken, IsErrorAt, Tokenizes, IsOutcome, Answers, IsRefusalOf};
+ghost use Rattle.logos_codegen.specs.Tokenizing.{kind_at, kind_given, kind_named};
+ghost use Rattle.logos_codegen.specs.Tokenizing.{IsToken, IsErrorAt, Tokenizes, IsOutcome};
+ghost use Rattle.logos_codegen.specs.Tokenizing.{Answers, IsRefusalOf};
 
 use crate::generation::generate;
 use logos_generator::code::Code;
 use logos_generator::generator::Config;
 use logos_generator::machine::{Action, Item, Lexer};
 use logos_hir::leaf::LeafId;
+use logos_pattern::leaf::{Leaf, VariantKind};
 use logos_source::refusal::Refusal;
 use logos_token::token::Span;
 use std::alloc::{AllocError, AllocFailed, Global};
 use std::marker::Model;
 
-/// The enum of the tokenizer. Its leaves are 0 to 11: the skipped blanks, and the variants in order.
+/// The enum of the tokenizer: a skip for blanks, and a variant for each `ExprKind`, under its name.
 pub const SOURCE: &str = r#"#[logos(skip r"[ \t\n]+")]
 enum Expr {
     #[regex("[0-9]+")]
@@ -44,7 +48,7 @@ enum Expr {
 }
 "#;
 
-/// The variants of the enum, in order.
+/// The kinds of tokens, each with the name of its variant in the enum.
 #[derive(Clone, Copy, Debug, PartialEq, Eq)]
 pub enum ExprKind {
     Number,
@@ -71,9 +75,9 @@ pub struct ExprToken<'i> {
 /// Why there are no tokens.
 #[derive(Clone, Copy, Debug, PartialEq, Eq)]
 pub enum ExprError {
-    /// The enum of the tokenizer is refused. It is not: a test makes the tokenizer.
+    /// The enum of the tokenizer is refused. This never happens: a test makes the tokenizer.
     Refused,
-    /// No token begins at the start of the span, which is the first such place.
+    /// No token begins at the start of the span, and this is the first such place.
     Bad { span: Span },
     /// Memory ran out.
     Memory,
@@ -118,6 +122,8 @@ impl From<Refusal> for ExprError {
 #[derive(Drop)]
 pub struct Language {
     code: Code<'static>,
+    /// The kind of the tokens of each leaf, by the name of its variant.
+    kinds: Vec<ExprKind>,
 }
 
 impl Model for Language {
@@ -125,39 +131,46 @@ impl Model for Language {
     ghost use Rattle.logos_type.specs.contracts.type_expr.Part as p;
     ghost use mir.Syntax.{named};
     ghost use Rattle.std.specs.Prelude.{[]};
-    ghost use Rattle.logos_code.specs.Code.{CodeValue};
-    ghost use Rattle.logos_codegen.specs.Language.{IsLanguage};
+    ghost use Rattle.logos_codegen.specs.Language.{LanguageValue, IsLanguage};
 
-    ghost Value = { CodeValue };
+    ghost Value = { LanguageValue };
 
     ghost coded = { Prim.hlevel (codes, (p.the_row (record { mir = named 1; lft = [] })).coded) };
 
-    ghost view = { λ l. l.code };
+    ghost view = { λ l. record { code = l.code; kinds = l.kinds.items } };
 
-    ghost invariant = { λ l. IsLanguage l.code };
+    ghost invariant = { λ l. IsLanguage (record { code = l.code; kinds = l.kinds.items }) };
 }
 
 impl Language {
-    /// The tokenizer. `Memory` comes where memory runs out, and `Refused` never.
+    /// Makes the tokenizer.
+    ///
+    /// # Errors
+    /// Returns `Memory` when memory runs out. `Refused` never comes.
     pub fn new(alloc: Global) -> Result<Language, ExprError>
         ensures ok { IfOk result IsLanguage }
-        // It is refused only where the enum is, and no input is at fault.
+        // It is refused only if the enum is refused, and no input is at fault.
         ensures err { IfErr result IsRefusalOf }
     {
         let config = Config {
             use_state_machine_codegen: true,
         };
         let made = generate(alloc, SOURCE, config)?;
-        Ok(Language { code: made.code })
+        let kinds = kinds_of(alloc, made.graph.leaves())?;
+        Ok(Language {
+            code: made.code,
+            kinds,
+        })
     }
 
-    /// The tokens of a text, in order, without the blanks between them.
+    /// Returns the tokens of a text, in order, without the blanks between them.
     ///
-    /// `Bad` comes where something else stands in the text, with the span of the first such error: it
-    /// reaches over the longest beginning of a token, or over one character. `Memory` comes where
+    /// # Errors
+    /// Returns `Bad` with the span of the first error when something in the text is no token: the span
+    /// reaches over the longest beginning of a token, or over one character. Returns `Memory` when
     /// memory runs out.
     pub fn tokens<'i>(&self, alloc: Global, input: &'i str) -> Result<Vec<ExprToken<'i>>, ExprError>
-        // What comes is said by the items of maximal munch from the start of the text on.
+        // The items of maximal munch from the start of the text give the outcome.
         ensures reads { Answers (Tokenizes input.now) result }
         // It is the outcome of all the items of the text, by the leaves of the enum.
         ensures all { Answers (IsOutcome input.now) result }
@@ -165,7 +178,7 @@ impl Language {
         let mut tokens = Vec::new(alloc);
         let mut lexer = Lexer::new_str(&self.code, input, |_leaf, _slice: &[u8]| Action::Emit);
         while let Some(item) = lexer.next() {
-            match token_of(item) {
+            match token_of(&self.kinds, item) {
                 Ok(token) => tokens.push(token)?,
                 Err(span) => return Err(ExprError::Bad { span }),
             }
@@ -174,14 +187,14 @@ impl Language {
     }
 }
 
-/// The token that an item is, or the span of an error.
-fn token_of(item: Item<'_>) -> Result<ExprToken<'_>, Span>
-    ensures ok { IfOk result (IsToken (item_of item.entry)) }
+/// Returns the token that an item is, or the span of an error.
+fn token_of<'i>(kinds: &[ExprKind], item: Item<'i>) -> Result<ExprToken<'i>, Span>
+    ensures ok { IfOk result (IsToken kinds.now (item_of item.entry)) }
     ensures err { IfErr result (IsErrorAt (item_of item.entry)) }
 {
     match item {
         Item::Token { leaf, span, slice } => Ok(ExprToken {
-            kind: kind_of(leaf),
+            kind: kind_at(kinds, leaf),
             span,
             slice,
         }),
@@ -189,21 +202,72 @@ fn token_of(item: Item<'_>) -> Result<ExprToken<'_>, Span>
     }
 }
 
-/// The kind of the variant whose leaf this is. Leaf 0, the skip, gives no token, and 11 is the last.
-fn kind_of(leaf: LeafId) -> ExprKind
-    ensures { result ≡ kind_of leaf.0 }
+/// Returns the kind of the tokens of a leaf, by the kinds of all leaves.
+fn kind_at(kinds: &[ExprKind], leaf: LeafId) -> ExprKind
+    ensures { result ≡ kind_at kinds.now leaf.0 }
 {
-    match leaf.0 {
-        1 => ExprKind::Number,
-        2 => ExprKind::Name,
-        3 => ExprKind::Let,
-        4 => ExprKind::EqEq,
-        5 => ExprKind::Eq,
-        6 => ExprKind::Plus,
-        7 => ExprKind::Minus,
-        8 => ExprKind::Star,
-        9 => ExprKind::Slash,
-        10 => ExprKind::Open,
-        _ => ExprKind::Close,
+    match kinds.get(leaf.0) {
+        Some(kind) => *kind,
+        None => ExprKind::Close,
     }
+}
+
+/// Returns the kinds of the tokens of all leaves, in the order of their numbers.
+fn kinds_of(alloc: Global, leaves: &[Leaf<'_>]) -> Result<Vec<ExprKind>, AllocError>
+    ensures { IfOk result (λ kinds. kinds.items
+        ≡ map (λ leaf. kind_given (kind_value leaf.kind)) leaves.now) }
+{
+    let mut kinds = Vec::new(alloc);
+    for leaf in leaves {
+        kinds.push(kind_given(&leaf.kind))?;
+    }
+    Ok(kinds)
+}
+
+/// Returns the kind of the tokens of a leaf: that of its variant's name.
+fn kind_given(kind: &VariantKind<'_>) -> ExprKind
+    ensures { result ≡ kind_given (kind_value kind.now) }
+{
+    match kind {
+        VariantKind::Unit(name) => kind_named(name.text),
+        VariantKind::Value(name, _) => kind_named(name.text),
+        VariantKind::Skip => ExprKind::Close,
+    }
+}
+
+/// Returns the kind with this name.
+fn kind_named(name: &str) -> ExprKind
+    ensures { result ≡ kind_named name.now }
+{
+    if name == "Number" {
+        return ExprKind::Number;
+    }
+    if name == "Name" {
+        return ExprKind::Name;
+    }
+    if name == "Let" {
+        return ExprKind::Let;
+    }
+    if name == "EqEq" {
+        return ExprKind::EqEq;
+    }
+    if name == "Eq" {
+        return ExprKind::Eq;
+    }
+    if name == "Plus" {
+        return ExprKind::Plus;
+    }
+    if name == "Minus" {
+        return ExprKind::Minus;
+    }
+    if name == "Star" {
+        return ExprKind::Star;
+    }
+    if name == "Slash" {
+        return ExprKind::Slash;
+    }
+    if name == "Open" {
+        return ExprKind::Open;
+    }
+    ExprKind::Close
 }

@@ -37,16 +37,16 @@ use logos_pattern::leaf::{Callback, Leaf};
 use logos_source::enum_type::enum_type;
 use logos_source::refusal::Refusal;
 use logos_source::said::{Said, read_said};
-use logos_text::{Around, gap_behind, text_in};
+use logos_text::{Around, gap_after, text_in};
 use logos_token::error::{Errors, FaultCode, Memory};
 use logos_token::token::{Ident, Span, TokenStream, print};
 use logos_token::util::MaybeVoid;
 use logos_type::TypeExpr;
 use logos_type_params::Generics;
-use std::alloc::{AllocError, Global};
+use std::alloc::Global;
 use std::mem;
 
-/// What a source gives.
+/// What `generate` makes of a source.
 #[derive(Drop)]
 pub struct Generated<'s> {
     /// The code of the lexer.
@@ -55,53 +55,57 @@ pub struct Generated<'s> {
     pub graph: Graph<'s>,
     /// The name of the enum.
     pub name: Ident<'s>,
-    /// The text of `export_dir`, where the chart of the graph goes, if it is said.
+    /// The text of `export_dir`, where the chart of the graph goes, if the source has one.
     pub export_path: Option<String>,
     /// What the attributes of the enum say.
     options: Parser<'s>,
 }
 
-/// A text with a gap behind it.
-fn with_gap(text: String, gap: &str) -> Result<String, Memory> {
+/// Returns the text with the gap after it.
+fn with_gap(text: String, gap: &str) -> Result<String, Memory>
+    ensures { IfOk result (λ whole. string_bytes whole ≡ string_bytes text.entry ++ gap.now) }
+{
     let mut text = text;
     text.push_str(gap)?;
     Ok(text)
 }
 
-/// What parts tokens from the next one, and where there are none what parts `( )` from it.
-fn gap_behind_void(tokens: &MaybeVoid<'_>) -> &'static str {
+/// Returns the gap to print after `tokens`, or after `( )` when they are left out.
+fn gap_after_void(tokens: &MaybeVoid<'_>) -> &'static str {
     match tokens {
-        MaybeVoid::Some(stream) => gap_behind(stream.run()),
+        MaybeVoid::Some(stream) => gap_after(stream.run()),
         MaybeVoid::Void => " ",
     }
 }
 
-/// The text of the path of the library, with the gap behind it.
+/// Returns the text of the path of the library, with the gap after it.
 fn library_text(alloc: Global, path: Option<&TokenStream<'_>>) -> Result<String, Memory> {
     match path {
-        Some(stream) => with_gap(print(alloc, stream.run())?, gap_behind(stream.run())),
+        Some(stream) => with_gap(print(alloc, stream.run())?, gap_after(stream.run())),
         None => Ok(String::from_str(alloc, ":: logos ")?),
     }
 }
 
-/// The text of the type of errors, with the gap behind it.
+/// Returns the text of the type of errors, with the gap after it.
 fn error_text(alloc: Global, error: Option<&ErrorType<'_>>) -> Result<String, Memory> {
     match error {
-        Some(error) => with_gap(error.print(alloc)?, gap_behind_void(&error.ty)),
+        Some(error) => with_gap(error.print(alloc)?, gap_after_void(&error.ty)),
         None => Ok(String::from_str(alloc, "( ) ")?),
     }
 }
 
-/// The text of the type of extras, with the gap behind it.
+/// Returns the text of the type of extras, with the gap after it.
 fn extras_text(alloc: Global, extras: &MaybeVoid<'_>) -> Result<String, Memory> {
-    with_gap(extras.print(alloc)?, gap_behind_void(extras))
+    with_gap(extras.print(alloc)?, gap_after_void(extras))
 }
 
 impl Generated<'_> {
-    /// The whole Rust text of the lexer: the implementation of `Logos` for the enum, as printed
-    /// tokens. Where the code has tests by tables, the texts of all bit tables, by number, and
-    /// behind them those of the conditions of all forks, by states and by the fork's order, stand in
-    /// it without overlap. It fails only where there is no memory.
+    /// Returns the whole Rust text of the lexer: the implementation of `Logos` for the enum, as printed
+    /// tokens. The texts of all bit tables, by number, and after them those of the conditions of all
+    /// forks, by states and by the fork's order, stand in it without overlap.
+    ///
+    /// # Errors
+    /// Returns `Memory` when memory runs out.
     pub fn text(&self, alloc: Global) -> Result<String, Memory>
         ensures { IfOk result (λ text. StandInOrder (texts_of self.now.code) (string_bytes text)) }
     {
@@ -123,18 +127,18 @@ impl Generated<'_> {
     }
 }
 
-/// What a source says beside its leaves.
+/// The rest of what a source says, apart from its leaves.
 #[derive(Drop)]
 struct Rest<'s> {
     /// The name of the enum.
     name: Ident<'s>,
-    /// What stands between angle brackets behind the name.
+    /// The generic arguments that follow the name.
     generics: Option<Generics<'s>>,
     /// The options.
     parser: Parser<'s>,
 }
 
-// Lists the faults of a graph.
+// Reports the faults of a graph.
 fn list_faults(
     alloc: Global,
     leaves: &[Leaf<'_>],
@@ -151,7 +155,7 @@ fn list_faults(
     Ok(())
 }
 
-// Lists the limit for which there is no graph.
+// Reports the limit that keeps the graph from being built.
 fn list_limit(error: BuildError, item: Span, errors: &mut Errors) -> Result<(), Memory>
     ensures { OnOk result (IsLimit error item errors.old errors.new) }
 {
@@ -166,7 +170,7 @@ fn list_limit(error: BuildError, item: Span, errors: &mut Errors) -> Result<(), 
     }
 }
 
-// The graph of the leaves, if there is one. Its faults are listed, or the limit in their place.
+// Builds the graph of the leaves, if no limit is passed. Reports its faults, or the limit in their place.
 fn graph_of<'s>(
     alloc: Global,
     leaves: Vec<Leaf<'s>>,
@@ -188,14 +192,14 @@ fn graph_of<'s>(
     }
 }
 
-// Whether no fault is listed.
+// Returns whether the list has no fault.
 fn is_faultless(errors: &Errors) -> bool
     ensures { IsTrue result ↔ (errors.now ≡ []) }
 {
     errors.list().is_empty()
 }
 
-// The graph of leaves without faults, and without others in front of them.
+// Builds the graph of leaves. Fails if it has faults, or if the list has some already.
 fn faultless_graph<'s>(
     alloc: Global,
     leaves: Vec<Leaf<'s>>,
@@ -217,7 +221,7 @@ fn faultless_graph<'s>(
     }
 }
 
-// The graph of leaves, where no fault stands in the parser. Its faults are taken out of it.
+// Builds the graph of leaves. Fails if it has faults, or if the parser has some, which are taken out of it.
 fn graph_said<'s>(
     alloc: Global,
     leaves: Vec<Leaf<'s>>,
@@ -235,7 +239,7 @@ fn graph_said<'s>(
     faultless_graph(alloc, leaves, mode, item, errors)
 }
 
-// What is called on an error, if anything is.
+// Returns the callback for errors, if there is one.
 fn callback_in<'p, 's>(parser: &'p Parser<'s>) -> Option<&'p Callback<'s>>
     ensures { option_map callback_view (option_copied result)
         ≡ error_callback (parser_view parser.now) }
@@ -246,7 +250,7 @@ fn callback_in<'p, 's>(parser: &'p Parser<'s>) -> Option<&'p Callback<'s>>
     }
 }
 
-// The code of a graph that finds the longest matches, for the enum with this name, which is this type.
+// Makes the code of a graph that finds the longest matches, for the enum with this name and type.
 fn code_for<'g, 's>(
     alloc: Global,
     config: Config,
@@ -254,7 +258,7 @@ fn code_for<'g, 's>(
     this: &'g TypeExpr<'s>,
     graph: &'g Graph<'s>,
     callback: Option<&'g Callback<'s>>,
-) -> Result<Code<'s>, AllocError>
+) -> Result<Code<'s>, Memory>
     requires of_leaves { IsGraphOf graph.now.leaves graph.now.utf8 graph.now }
     requires faultless { graph.now.faults ≡ [] }
     ensures lexer { IfOk result (IsLexer (rules_of graph.now.leaves) graph.now.utf8) }
@@ -269,7 +273,8 @@ fn code_for<'g, 's>(
     generator.generate(alloc)
 }
 
-// The code of a graph that finds the longest matches, for an enum that says this.
+// Makes the code of a graph that finds the longest matches, for the enum with this name, these generic
+// arguments and these options.
 fn code_said<'s>(
     alloc: Global,
     config: Config,
@@ -277,7 +282,7 @@ fn code_said<'s>(
     generics: Option<Generics<'s>>,
     parser: &Parser<'s>,
     graph: &Graph<'s>,
-) -> Result<Code<'s>, AllocError>
+) -> Result<Code<'s>, Memory>
     requires of_leaves { IsGraphOf graph.now.leaves graph.now.utf8 graph.now }
     requires faultless { graph.now.faults ≡ [] }
     requires given { option_map generics_of generics
@@ -290,7 +295,7 @@ fn code_said<'s>(
     code_for(alloc, config, name, &this, graph, callback_in(parser))
 }
 
-// The graph of a source without faults, and what the source says beside its leaves.
+// Reads a source, and builds the graph of its leaves. Fails if the source has faults.
 fn accept<'s>(alloc: Global, src: &'s str) -> Result<(Graph<'s>, Rest<'s>), Refusal>
     ensures ok { IfOk result (λ read. IsGraphMade src.now (ident_slice read.1.name)
         (parser_view read.1.parser) read.0) }
@@ -323,7 +328,7 @@ fn accept<'s>(alloc: Global, src: &'s str) -> Result<(Graph<'s>, Rest<'s>), Refu
     }
 }
 
-// The path of a chart.
+// Returns the path of a chart.
 fn path_of(export: Option<ExportPath>) -> Option<String>
     ensures { option_map string_bytes result
         ≡ option_map (λ e. string_bytes e.path) export }
@@ -334,7 +339,7 @@ fn path_of(export: Option<ExportPath>) -> Option<String>
     }
 }
 
-// All that a source gives, of its parts.
+// Puts together what a source gives.
 fn put_together<'s>(
     code: Code<'s>,
     graph: Graph<'s>,
@@ -357,18 +362,19 @@ fn put_together<'s>(
     }
 }
 
-/// The code of the lexer that a source says.
+/// Makes the code of the lexer of a source.
 ///
 /// The source is an enum with the attributes `token` and `regex` on its variants and `logos` in
 /// front of it. Leaves are numbered skips first, then in the order of the source. In both shapes of
 /// `config` the code finds the same.
 ///
-/// `Errors` has all faults of the source, in order, or the one that ends its reading: those of the
-/// generic parameters, of the attributes of the enum, of parameters that hold themselves, of
-/// subpatterns, of skips, of variants in source order, of leaves that match what is no UTF-8 where
-/// inputs are, of parameters without a type, and of the graph. A limit stands among them: of the
-/// source's bytes, of the nesting of its delimiters, types and patterns, of the size of all trees,
-/// and of the number of states. `Memory` comes wherever memory runs out.
+/// # Errors
+/// Returns `Errors` with all faults of the source, in order, or with the one that ends its reading:
+/// those of the generic parameters, of the attributes of the enum, of parameters that hold themselves,
+/// of subpatterns, of skips, of variants in source order, of leaves that can match invalid UTF-8 when
+/// inputs are UTF-8, of parameters without a type, and of the graph. Limits are among them: on the
+/// source's bytes, on the nesting of its delimiters, types and patterns, on the size of all trees,
+/// and on the number of states. Returns `Memory` when memory runs out.
 pub fn generate<'s>(alloc: Global, src: &'s str, config: Config) -> Result<Generated<'s>, Refusal>
     // The source has no faults, and these are its rules and its mode.
     ensures accepted { IfOk result (λ made. IsAccepted src.now
@@ -386,12 +392,12 @@ pub fn generate<'s>(alloc: Global, src: &'s str, config: Config) -> Result<Gener
     // In UTF-8 mode the items of each run of the code on a text start and end between characters,
     // whatever callbacks answer.
     ensures cut { IfOk result (λ made. IsTrue made.graph.utf8 → RunsAreCut made.code) }
-    // What is refused has these faults.
+    // A source that is refused has these faults.
     ensures refused { IfErr result (Refuses (IsRefused src.now)) }
     // A source that is longer than the limit has that one fault.
     ensures long { 16777216 < length src.now → IsErrAnd result (Refuses (λ faults.
         faults ≡ too_long src.now ∷ [])) }
-    // What has no faults, and passes no limit, is not refused.
+    // A source without faults, within the limits, is not refused.
     ensures complete { (rules : List Rule) (utf8 : Bool) → IsAccepted src.now rules utf8 →
         IsWithinLimits src.now rules → IfErr result IsMemory }
 {

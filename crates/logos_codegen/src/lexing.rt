@@ -8,7 +8,7 @@ ghost use Rattle.logos_code.specs.Code.{CodeValue};
 ghost use Rattle.logos_code.specs.Headline.{IsCut, IsLexer};
 ghost use Rattle.logos_code.specs.Items.{Items};
 ghost use Rattle.logos_machine.specs.LexerValue.{answers_of, item_of};
-ghost use Rattle.logos_code.specs.Order.{AreInOrder, Parts, IsMatch};
+ghost use Rattle.logos_code.specs.Order.{AreInOrder, Parts, IsLeftOut};
 ghost use Rattle.logos_code.specs.Runs.{Runs};
 ghost use Rattle.logos_codegen.specs.Source.{IsAccepted, IsWithinLimits};
 ghost use Rattle.logos_codegen.specs.Refusals.{IsUnlexed, IsJust, IsNoRefusal};
@@ -81,7 +81,7 @@ impl From<Refusal> for LexSourceError {
     }
 }
 
-// All items of an input, in order, by the code of a lexer.
+// Returns all items of an input, in order, by the code of a lexer.
 fn lex_input<'i, C: Fn(LeafId, &[u8]) -> Action + Drop>(
     alloc: Global,
     code: &Code,
@@ -102,18 +102,18 @@ fn lex_input<'i, C: Fn(LeafId, &[u8]) -> Action + Drop>(
     Ok(items)
 }
 
-/// The items of an input, by the leaves of a source.
+/// Returns the items of an input, by the leaves of a source.
 ///
-/// The source is one that `generate` takes. At each place of the input the longest match that begins
-/// there is a token of its leaf, of several as long that of the leaf of highest priority; matches of a
-/// `skip` are left out. Where no leaf has a match, an error reaches over the longest beginning that
-/// could still grow. A match of a leaf with a callback is what `callbacks` answers for that leaf and
-/// that slice, a `skip` leaf's too, where `Emit` reads as `Skip`; other leaves are not asked about. Both
+/// `generate` takes the source. At each place of the input the longest match that begins there is a
+/// token of its leaf; of several matches of that length, the leaf of highest priority wins. Matches of a
+/// `skip` are left out. If no leaf has a match, an error reaches over the longest beginning that could
+/// still grow. A match of a leaf with a callback becomes what `callbacks` answers for that leaf and that
+/// slice, for a `skip` leaf too, where `Emit` reads as `Skip`. It is not asked about other leaves. Both
 /// shapes of `config` give the same items.
 ///
-/// `Refused` comes first, where the source has faults; then `NotUtf8`, where the source is in UTF-8 mode
-/// and the input is not UTF-8; `Memory` wherever memory runs out. Nothing that the caller holds is
-/// changed.
+/// # Errors
+/// Returns `Refused` if the source has faults, else `NotUtf8` if the source is in UTF-8 mode and the
+/// input is not UTF-8. Returns `Memory` when memory runs out. Nothing that the caller holds is changed.
 pub fn lex_source<'i, C: Fn(LeafId, &[u8]) -> Action + Drop>(
     alloc: Global,
     src: &str,
@@ -128,10 +128,10 @@ pub fn lex_source<'i, C: Fn(LeafId, &[u8]) -> Action + Drop>(
         × Items rules (answers_of C.Fn callbacks) utf8 input.now 0 (map item_of items.items)) }
     ensures in_order { IfOk result (λ items.
         AreInOrder (length input.now) 0 (map item_of items.items)) }
-    // Together with the matches that are left out, the items part the input in order.
+    // The items part the input in order, together with the matches that a skip or an answer leaves out.
     ensures parts { (rules : List Rule) (utf8 : Bool) → IsAccepted src.now rules utf8 →
-        IfOk result (λ items. Parts (IsMatch rules input.now) (length input.now) 0
-        (map item_of items.items)) }
+        IfOk result (λ items. Parts (IsLeftOut rules (answers_of C.Fn callbacks) input.now)
+        (length input.now) 0 (map item_of items.items)) }
     // In UTF-8 mode each item starts and ends between characters.
     ensures cut { (rules : List Rule) → IsAccepted src.now rules true →
         IfOk result (λ items. All (IsCut input.now) (map item_of items.items)) }

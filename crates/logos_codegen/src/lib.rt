@@ -4,13 +4,14 @@
 
 pub mod expr;
 mod generation;
+pub mod generator;
 pub mod laws;
 mod lexing;
 mod texts;
 
 pub use generation::{Generated, generate};
 pub use lexing::{LexSourceError, lex_source};
-pub use logos_generator::{code, generator, machine};
+pub use logos_generator::{code, machine};
 pub use logos_graph::graph;
 pub use logos_parser::{item, nested, parser};
 pub use logos_pattern::{leaf, pattern};
@@ -18,3 +19,4 @@ pub use logos_source::refusal::Refusal;
 pub use logos_strip::stripping::strip_attributes;
 pub use logos_text::text;
 pub use logos_token::{error, token, util};
+pub use logos_type::{Leaf as TypeToken, Part as TypePart};

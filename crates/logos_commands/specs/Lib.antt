@@ -1,3 +1,4 @@
+pub mod Charts
 pub mod Commands
 pub mod Runs
 pub mod inside

@@ -18,7 +18,7 @@ use Rattle.logos_commands.specs.declared.failure.Unexported.{Unexported}
 use Rattle.logos_commands.specs.declared.outcome.Asked.{Asked as Part}
 use Rattle.logos_commands.specs.declared.outcome.Asked.TheVariants.{Text, Chart, Export}
 use Rattle.logos_commands.specs.Commands.{Asked, asks_text, asks_items, asks_chart, asks_export, asks_strip}
-use Rattle.logos_commands.specs.inside.Charts.{Destination, refused, destination_said}
+use Rattle.logos_commands.specs.Charts.{Destination, refused, destination_said}
 
 -- ---- what is done
 

@@ -2,13 +2,14 @@
 
 ghost use Rattle.std.specs.Prelude.{◌≡◌, IfErr, IfOk, option_copied, string_bytes};
 ghost use Rattle.std.specs.Path.{with_separator};
-ghost use Rattle.logos_commands.specs.inside.Charts.{FailsAt, destination, extension, file_at, file_in};
-ghost use Rattle.logos_commands.specs.inside.Charts.{file_name, refusal_by};
+ghost use Rattle.logos_commands.specs.Charts.{destination, extension, file_at, file_in};
+ghost use Rattle.logos_commands.specs.Charts.{file_name, refusal_by};
+ghost use Rattle.logos_commands.specs.inside.Destinations.{FailsAt};
 
 use crate::failure::{Failure, Unexported};
 use std::alloc::{AllocError, Global};
 
-/// The path of the chart of an enum of this name, by the path of a file or of a folder: in a folder it is named by the enum.
+/// Returns the path of the chart of an enum, by the path of a file or of a folder. In a folder the enum's name names the file.
 pub(super) fn chart_path(alloc: Global, path: &str, name: &str) -> Result<String, Failure<'static>>
     ensures file { IfOk result (λ chart.
         file_at (string_bytes chart) ≡ destination path.now name.now) }
@@ -23,7 +24,7 @@ pub(super) fn chart_path(alloc: Global, path: &str, name: &str) -> Result<String
     Err(Failure::NotExported(refused_by(extension)))
 }
 
-/// Why a chart's path has not this extension.
+/// Returns the reason why a chart's path must not have this extension.
 fn refused_by(extension: &str) -> Unexported
     ensures { result ≡ refusal_by extension.now }
 {
@@ -34,7 +35,7 @@ fn refused_by(extension: &str) -> Unexported
     }
 }
 
-/// The name at the end of a path: what stands behind its last `/`, or all of it.
+/// Returns the name at the end of a path: what follows its last `/`, or all of it.
 fn file_name(path: &str) -> &str
     ensures { result.now ≡ file_name path.now }
 {
@@ -44,7 +45,8 @@ fn file_name(path: &str) -> &str
     }
 }
 
-/// The extension of a name: what stands behind its last `.`. A `.` that is its first character begins none, and `..` has none.
+/// Returns the extension of a name: what follows its last `.`. A `.` that is its first character begins no extension, and `..` has
+/// none.
 fn extension_of(name: &str) -> Option<&str>
     ensures { option_copied result ≡ extension name.now }
 {
@@ -57,7 +59,7 @@ fn extension_of(name: &str) -> Option<&str>
     }
 }
 
-/// The path in a folder of the chart of an enum of this name.
+/// Returns the path of the chart of an enum in a folder.
 fn path_in(alloc: Global, folder: &str, name: &str) -> Result<String, AllocError>
     ensures { IfOk result (λ path. string_bytes path ≡ file_in folder.now name.now) }
 {
@@ -67,7 +69,7 @@ fn path_in(alloc: Global, folder: &str, name: &str) -> Result<String, AllocError
     Ok(path)
 }
 
-/// The folder's path, ready for a name to follow: with `/` at its end, unless it is empty.
+/// Returns the folder's path, ready for a name to follow: with `/` at its end, unless it is empty.
 fn with_separator(alloc: Global, folder: &str) -> Result<String, AllocError>
     ensures { IfOk result (λ path. string_bytes path ≡ with_separator folder.now) }
 {

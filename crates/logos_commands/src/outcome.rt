@@ -1,7 +1,8 @@
 //! What the commands give.
 
 ghost use Rattle.std.specs.Prelude.{◌≡◌, ◌≢◌, IfErr, IfOk, option_map, string_bytes};
-ghost use Rattle.logos_commands.specs.inside.Charts.{FailsAt, IsChartAt, destination_said, file_at};
+ghost use Rattle.logos_commands.specs.Charts.{destination_said, file_at};
+ghost use Rattle.logos_commands.specs.inside.Destinations.{FailsAt, IsChartAt};
 ghost use Rattle.logos_commands.specs.Commands.{command_asked, status_of};
 ghost use Rattle.logos_commands.specs.Runs.{IsDone, IsDenied, IsFaultless, IsLexed, IsStrippable};
 ghost use Rattle.logos_commands.specs.Runs.{ReadsSome, ReadsBoth};

@@ -1,6 +1,7 @@
 -- Tables by their entries, and branches by their edges.
-use Rattle.std.proofs.Common.{◌≡◌, ℕ, zero, suc, ◌+◌, ◌<◌, Bool, true, false, ◌&&◌, ◌||◌, ◌==◌, cond, MatchBool, IsSomeAnd, List, [], ◌∷◌, ◌++◌, length, drop, map, find, Option, Some, None, option_map, slice_get, get_or, nat_le, refl, sym, ap, ◌∙◌, append_assoc, append-nil}
+use Rattle.std.proofs.Common.{◌≡◌, ℕ, zero, suc, ◌+◌, ◌<◌, Bool, true, false, ◌&&◌, ◌||◌, ◌==◌, cond, MatchBool, IsSomeAnd, List, [], ◌∷◌, ◌++◌, length, drop, map, find, Option, Some, None, option_map, slice_get, get_or, nat_le, refl, sym, ap, ◌∙◌, append_assoc, append-nil, ⊎_elim, arith}
 use Rattle.std.specs.Option.{option_or}
+use Rattle.std.proofs.lemmas.Bool.Decides.{leb_tells}
 use Rattle.std.specs.declared.ops.RangeInclusive.{RangeInclusive}
 use Rattle.std.proofs.lemmas.List.{drop_more, map-append}
 use Rattle.logos_hir.specs.ByteRanges.{is_in}
@@ -44,6 +45,15 @@ one_edge false edge later = refl
 or_assoc : (a b c : Option ℕ) → option_or (option_or a b) c ≡ option_or a (option_or b c)
 or_assoc None b c = refl
 or_assoc (Some x) b c = refl
+
+-- nothing comes after an entry
+pub or_none : (e : Option ℕ) → option_or e None ≡ e
+or_none None = refl
+or_none (Some a) = refl
+
+-- more than two edges
+pub is_many : (n : ℕ) → 2 < n → nat_le n 2 ≡ false
+is_many n h = ⊎_elim (λ t. absurd (omega (arith, h, t.1))) (λ t. t.0) (leb_tells n 2)
 
 -- one edge more
 pub edges_turn : (edges : List (ByteClass × State)) (i : ℕ) (d : ByteClass × State) (s k : ℕ) (e new : Option ℕ) → i < length edges →

@@ -1,13 +1,13 @@
 -- Items are in order.
-use Rattle.std.proofs.Common.{◌≡◌, ℕ, ◌<◌, ◌≤◌, Bool, true, false, List, [], ◌∷◌, ◌++◌, length, map, Some, None, slice_range, if◌then◌else◌, arith}
+use Rattle.std.proofs.Common.{◌≡◌, ℕ, ◌<◌, ◌≤◌, Bool, true, false, List, [], ◌∷◌, ◌++◌, length, map, Some, None, slice_range, if◌then◌else◌, refl, arith}
 use Rattle.std.proofs.lemmas.List.{length-drop}
 use Rattle.std.proofs.lemmas.Str.{IsCharBoundary-end}
 use Rattle.logos_automaton.specs.Munch.{Use, Rule, IsBest, IsStop}
 use Rattle.logos_automaton.proofs.munch.Unique.{rule_within}
 use Rattle.logos_code.specs.declared.action.Action.{Action}
 use Rattle.logos_code.specs.declared.action.Action.TheVariants.{Emit, Skip, Error}
-use Rattle.logos_code.specs.Items.{Callback, Item, token, error, items_of, over, match, fault, Items}
-use Rattle.logos_code.specs.Order.{AreInOrder, Parts, all_parted, token_part, error_part, part_left_out, IsMatch}
+use Rattle.logos_code.specs.Items.{Callback, Item, token, error, skips, MayAnswer, items_of, over, match, fault, Items}
+use Rattle.logos_code.specs.Order.{AreInOrder, Parts, all_parted, token_part, error_part, part_left_out, uses_of, IsLeftOut}
 
 -- what is in order from a place on is so from an earlier one on
 pub in_order_earlier : (end at before : ℕ) (items : List Item) → before ≤ at → AreInOrder end at items → AreInOrder end before items
@@ -49,24 +49,27 @@ module _ (rules : List Rule) (callback : Callback) (utf8 : Bool) (bytes : List �
 -- what is found at each place parts the input
 module _ (rules : List Rule) (callback : Callback) (utf8 : Bool) (bytes : List ℕ) where
   abbrev PartsHere : ℕ → List Item → Type 0
-  PartsHere = Parts (IsMatch rules bytes) (length bytes)
+  PartsHere = Parts (IsLeftOut rules callback bytes) (length bytes)
 
-  emitted_parts : (from to leaf : ℕ) (rest : List Item) → IsBest rules bytes from to leaf → PartsHere to rest →
-      (skips : Bool) → PartsHere from ((if skips then [] else token leaf from to (slice_range bytes from to) ∷ []) ++ rest)
-  emitted_parts from to leaf rest best after true = part_left_out from to rest best.nonempty (leaf, best) after
-  emitted_parts from to leaf rest best after false = token_part leaf from to (slice_range bytes from to) rest best.nonempty after
+  -- a match that gives these items
+  module _ (from to leaf : ℕ) (rest : List Item) (best : IsBest rules bytes from to leaf) (after : PartsHere to rest) where
+    emitted_parts : MayAnswer (uses_of rules) callback bytes leaf (slice_range bytes from to) Emit → (b : Bool) → skips (uses_of rules) callback bytes leaf ≡ b →
+        PartsHere from ((if b then [] else token leaf from to (slice_range bytes from to) ∷ []) ++ rest)
+    emitted_parts may true is =
+        part_left_out from to rest best.nonempty (record { leaf = leaf; answer = Emit; best = best; answered = may; no_item = rw is refl }) after
+    emitted_parts may false is = token_part leaf from to (slice_range bytes from to) rest best.nonempty after
 
-  match_parts : (from to leaf : ℕ) (rest : List Item) → IsBest rules bytes from to leaf → PartsHere to rest →
-      (answer : Action) → PartsHere from (items_of (map (λ rule. rule.use_of) rules) callback bytes answer leaf from to ++ rest)
-  match_parts from to leaf rest best after Emit = emitted_parts from to leaf rest best after _
-  match_parts from to leaf rest best after Skip = part_left_out from to rest best.nonempty (leaf, best) after
-  match_parts from to leaf rest best after Error = error_part (Some leaf) from to (slice_range bytes from to) rest best.nonempty after
+    match_parts : (answer : Action) → MayAnswer (uses_of rules) callback bytes leaf (slice_range bytes from to) answer →
+        PartsHere from (items_of (uses_of rules) callback bytes answer leaf from to ++ rest)
+    match_parts Emit may = emitted_parts may (skips (uses_of rules) callback bytes leaf) refl
+    match_parts Skip may = part_left_out from to rest best.nonempty (record { leaf = leaf; answer = Skip; best = best; answered = may; no_item = refl }) after
+    match_parts Error may = error_part (Some leaf) from to (slice_range bytes from to) rest best.nonempty after
 
   pub parted : {from : ℕ} {items : List Item} → from ≤ length bytes → Items rules callback utf8 bytes from items → PartsHere from items
   parted inside (over from s) =
       let here : from ≡ length bytes = omega (arith, inside, s) in
       rw here all_parted
   parted inside (match from to leaf answer rest s a l) =
-      match_parts from to leaf rest s (parted (best_within rules bytes from to leaf inside s) l) answer
+      match_parts from to leaf rest s (parted (best_within rules bytes from to leaf inside s) l) answer a
   parted inside (fault from to rest s l) =
       error_part None from to (slice_range bytes from to) rest s.2.may_stop.nonempty (parted (stop_within rules utf8 bytes from to s.0 s.2) l)

@@ -17,7 +17,7 @@ use Rattle.logos_code.specs.Runs.{target, stays}
 use Rattle.logos_code.specs.Headline.{IsSound, IsRoot, IsEnd, IsLate, NamesWhatIsThere, NamesState}
 use Rattle.logos_generator.specs.Makes.{mark_by, mark_made, Makes, IsLast, IsMade}
 use Rattle.logos_graph.specs.FinishedGraph.{Edge, edge_leads, NamesLeaves, IsUnmarked, IsFinishedState, IsFirstState, IsFinished, IsLate as IsLateType}
-use Rattle.logos_generator.specs.Numbering.{HasNodesOf, bit_tables_of, tests_of}
+use Rattle.logos_generator.specs.Numbering.{HasNodesOf, bit_tables_of, jump_tables_of, tests_of}
 use Rattle.logos_generator.specs.Nodes.{leads_beside, tests_byte, IsTest, IsLoopOf, IsStateOf}
 use Rattle.logos_code.specs.CodeView.{code_of, state_of, use_of, AreDifferent}
 use Rattle.logos_generator.specs.StateView.{AreStatesOf}
@@ -280,12 +280,13 @@ module _ (tests : List (List Bool)) (graph : List GraphState) (parts : CodeParts
   pub parts_sound : IsSound (code_of parts)
   parts_sound = is_sound (code_of parts) tests realised fits graph parts.utf8 root refl count states all_finished
 
-  pub parts_nodes : tests ≡ tests_of graph → parts.bit_tables.items ≡ bit_tables_of (tests_of graph) → HasNodesOf graph (code_of parts)
-  parts_nodes all tables = record {
+  pub parts_nodes : tests ≡ tests_of graph → parts.bit_tables.items ≡ bit_tables_of (tests_of graph) → parts.jump_tables.items ≡ jump_tables_of graph → HasNodesOf graph (code_of parts)
+  parts_nodes all tables jumps = record {
     root = root;
     count = count;
     states = λ s state is. subst (λ t. IsSomeAnd (slice_get (code_of parts).states s) (IsStateOf t s state)) all (states s state is);
     tables = tables;
+    jumps = jumps;
   }
 
 -- the keys of a set are different

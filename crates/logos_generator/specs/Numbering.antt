@@ -1,5 +1,5 @@
--- The tests that a code makes by bits, their numbers, and the nodes that name them.
-use Rattle.std.specs.Prelude.{◌≡◌, ℕ, zero, suc, ◌+◌, ◌*◌, Bool, ◌==◌, nat_le, List, [], ◌∷◌, ◌++◌, map, length, fold, find, Some, option_map, IsSomeAnd, if◌then◌else◌, slice_get}
+-- The tests that a code makes by bits, its jump tables, the numbers of both, and the nodes that name them.
+use Rattle.std.specs.Prelude.{◌≡◌, ℕ, zero, suc, ◌+◌, ◌*◌, Bool, ◌==◌, nat_le, List, [], ◌∷◌, ◌++◌, map, length, fold, find, Option, Some, None, option_map, IsSomeAnd, if◌then◌else◌, slice_get}
 use Rattle.std.specs.Bool.{beq}
 use Rattle.std.specs.Int.{div_ceil}
 use Rattle.std.specs.List.{flat_map, range_with_len}
@@ -11,7 +11,7 @@ use Rattle.logos_hir.specs.ByteRanges.{is_in}
 use Rattle.logos_graph.specs.FinishedGraph.{Edge}
 use Rattle.logos_byte_class.specs.Bytes.{joined}
 use Rattle.logos_code.specs.Code.{CodeValue}
-use Rattle.logos_generator.specs.Nodes.{cost, tests_byte, IsStateOf}
+use Rattle.logos_generator.specs.Nodes.{cost, leads_beside, tests_byte, IsStateOf}
 
 -- for each byte, whether it is in the ranges
 abbrev pub set_of : List (ℕ × ℕ) → List Bool
@@ -54,6 +54,32 @@ uses_from s (state ∷ states) = state_uses s state.normal ++ uses_from (s + 1) 
 abbrev pub tests_of : List GraphState → List (List Bool)
 tests_of graph = numbered [] (uses_from 0 graph)
 
+-- an entry of a jump table: the state that a byte leads to, or the number that stands for none
+abbrev pub jump_entry : Option ℕ → ℕ
+jump_entry None = 4294967295
+jump_entry (Some target) = target
+
+-- the jump table of a state's edges, without the edge back to s: an entry for each byte
+abbrev pub jump_table : ℕ → List Edge → List ℕ
+jump_table s edges = map (λ b. jump_entry (leads_beside s edges b)) (range_with_len 0 256)
+
+-- a fork of more than two edges uses one jump table
+abbrev pub fork_tables : ℕ → List Edge → List (List ℕ)
+fork_tables s edges = if nat_le (length edges) 2 then [] else jump_table s edges ∷ []
+
+-- The jump tables after these uses: a table that has a number keeps it, and another takes the next one.
+abbrev pub with_tables : List (List ℕ) → List (List ℕ) → List (List ℕ)
+with_tables tables uses = fold (insert_key (pointwise ◌==◌)) tables uses
+
+-- the jump tables that the forks of states use, ascending from number s on
+abbrev pub tables_from : ℕ → List GraphState → List (List ℕ)
+tables_from s [] = []
+tables_from s (state ∷ states) = fork_tables s state.normal ++ tables_from (s + 1) states
+
+-- The jump tables of a graph's code, by their numbers: numbered by first use, and equal ones share a number.
+abbrev pub jump_tables_of : List GraphState → List (List ℕ)
+jump_tables_of graph = with_tables [] (tables_from 0 graph)
+
 -- n tests from number k on at a byte, as the bits of a number, the first one being the lowest
 abbrev pub bits_from : List (List Bool) → ℕ → ℕ → ℕ → ℕ
 bits_from tests b k zero = 0
@@ -74,3 +100,5 @@ pub record HasNodesOf (graph : List GraphState) (code : CodeValue) : Type 0 wher
   pub states : (s : ℕ) (state : GraphState) → slice_get graph s ≡ Some state → IsSomeAnd (slice_get code.states s) (IsStateOf (tests_of graph) s state)
   -- test k is bit k mod 8 of table k / 8
   pub tables : code.bit_tables ≡ bit_tables_of (tests_of graph)
+  -- the jump tables, each by its number
+  pub jumps : code.jump_tables ≡ jump_tables_of graph

@@ -13,7 +13,7 @@ use Rattle.logos_code.specs.declared.code.Condition.{Condition as TheCondition}
 use Rattle.logos_code.specs.declared.code.CodeState.{CodeState as TheState}
 use Rattle.logos_code.specs.CodeView.{branch_of, state_of, AreDifferent}
 use Rattle.logos_code.specs.Bytes.{passes_test}
-use Rattle.logos_generator.specs.Numbering.{tests_of, bit_tables_of}
+use Rattle.logos_generator.specs.Numbering.{tests_of, bit_tables_of, jump_tables_of}
 use Rattle.logos_generator.specs.Nodes.{tests_byte, IsBranchOf, IsStateOf}
 
 -- what becomes of the matches of a leaf
@@ -36,10 +36,11 @@ pub record AreStatesOf (tests : List (List Bool)) (jumps : List (List ℕ)) (gra
   pub count : length states ≡ length graph
   pub each : (s : ℕ) (state : GraphState) → slice_get graph s ≡ Some state → IsSomeAnd (slice_get states s) (λ made. IsStateOf tests s state (state_of jumps made))
 
--- they are made so for the graph's tests, which the bit tables hold, and no two jump tables are equal
+-- they are made so for the graph's tests, which the bit tables hold, and for its jump tables, of which no two are equal
 pub record AreTablesOf (graph : List GraphState) (states : List TheState) (bit_tables jump_tables : List (List ℕ)) : Type 0 where
   pub are : AreStatesOf (tests_of graph) jump_tables graph states
   pub hold : (k b : ℕ) → b < 256 → passes_test bit_tables k b ≡ tests_byte (tests_of graph) k b
   pub fit : length (tests_of graph) ≤ 8 * length bit_tables
   pub tables : bit_tables ≡ bit_tables_of (tests_of graph)
+  pub jumps : jump_tables ≡ jump_tables_of graph
   pub once : AreDifferent jump_tables

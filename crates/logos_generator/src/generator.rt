@@ -5,7 +5,7 @@ ghost use Rattle.logos_graph.specs.View.{rule_of};
 ghost use Rattle.logos_generator.specs.Runs.{RunsAs};
 ghost use Rattle.logos_generator.specs.GeneratorValue.{fresh, code_leaf_value, leaf_value};
 ghost use Rattle.logos_generator.specs.GeneratorValue.{IsCopy, KeepsGiven};
-ghost use Rattle.logos_generator.specs.Numbering.{HasNodesOf, tests_of};
+ghost use Rattle.logos_generator.specs.Numbering.{HasNodesOf, jump_tables_of, tests_of};
 ghost use Rattle.logos_generator.specs.StateView.{leaf_use};
 
 mod fork;
@@ -19,6 +19,7 @@ pub use logos_code::code::Config;
 use logos_code::code::{Code, Kept};
 use logos_graph::graph::Graph;
 use logos_pattern::leaf::Callback;
+use logos_token::error::Memory;
 use logos_token::token::Ident;
 use logos_type::TypeExpr;
 pub use nodes::{FastLoop, FastLoopMacro, TakeAction, fast_loop_macro};
@@ -26,7 +27,7 @@ use states::code_of;
 use std::alloc::{AllocError, Global};
 use std::marker::Model;
 
-/// Makes the code of a graph without errors.
+/// A generator of codes: makes the code of a graph without errors, as a whole or node by node.
 #[derive(Drop)]
 pub struct Generator<'g, 's> {
     config: Config,
@@ -72,8 +73,9 @@ impl<'g, 's> Model for Generator<'g, 's> {
 }
 
 impl<'g, 's> Generator<'g, 's> {
-    /// A generator for a graph without errors, of the enum with this name, which is this type. The error callback is called on
-    /// what no leaf matches. It has made no node yet; the sets of tests and jump tables take their memory later, from `alloc`.
+    /// Returns a generator for a graph without errors, of the enum with this name, which is this type. The error callback is called on
+    /// what no leaf matches. The generator has made no node yet. It takes no memory here, and keeps `alloc` for the sets of tests and
+    /// jump tables.
     pub fn new(
         alloc: Global,
         config: Config,
@@ -101,13 +103,16 @@ impl<'g, 's> Generator<'g, 's> {
         }
     }
 
-    /// The code: from each place of each input it finds what the graph finds, and each try enters at
+    /// Makes the code: from each place of each input it finds what the graph finds, and each try enters at
     /// most two states more than there are bytes left. It keeps copies of what the generator was given,
-    /// and of the kinds and callbacks of the graph's leaves. Its tests are numbered by first use, states
-    /// ascending and the fast loop before the fork; equal tests share a number, and no two jump tables are
-    /// equal. The generator's tests and jump tables are those of the code then, whatever nodes it made before,
-    /// so `render_luts` gives the code's tables. Only want of memory is an error, and changes nothing.
-    pub fn generate(&mut self, alloc: Global) -> Result<Code<'s>, AllocError>
+    /// and of the kinds and callbacks of the graph's leaves. Its tests and its jump tables are numbered by
+    /// first use, states ascending and the fast loop before the fork; equal ones share a number. The
+    /// generator's tests and jump tables are those of the code then, whatever nodes it made before, so
+    /// `render_luts` and `render_jump_tables` give the code's tables.
+    ///
+    /// # Errors
+    /// Returns `Memory` when memory runs out. The generator is then as it was.
+    pub fn generate(&mut self, alloc: Global) -> Result<Code<'s>, Memory>
         ensures runs { IfOk result (λ code. RunsAs self.old.graph.states self.old.graph.utf8 code) }
         ensures mode { IfOk result (λ code. code.utf8 ≡ self.old.graph.utf8) }
         ensures uses { IfOk result (λ code. code.leaves
@@ -115,6 +120,7 @@ impl<'g, 's> Generator<'g, 's> {
         ensures keeps { IfOk result (KeepsGiven self.old.given self.old.graph) }
         ensures nodes { IfOk result (HasNodesOf self.old.graph.states) }
         ensures tests { OnOk result (self.new.tests ≡ tests_of self.old.graph.states) }
+        ensures jumps { OnOk result (self.new.jumps ≡ jump_tables_of self.old.graph.states) }
         ensures same { (self.new.given ≡ self.old.given) × (self.new.graph ≡ self.old.graph) }
         ensures error { OnErr result (self.new ≡ self.old) }
     {
@@ -126,23 +132,25 @@ impl<'g, 's> Generator<'g, 's> {
                 self.jumps = jumps;
                 Ok(code)
             }
-            Err(error) => Err(error),
+            Err(_) => Err(Memory),
         }
     }
 
-    /// The code. Its tests and jump tables are put into empty sets, by their numbers.
+    /// Makes the code. Its tests and jump tables are put into empty sets, by their numbers.
     fn code(
         &self,
         alloc: Global,
         tests: &mut IndexSet<[bool; 256]>,
         jumps: &mut IndexSet<[u32; 256]>,
     ) -> Result<Code<'s>, AllocError>
-        requires { tests.old.keys ≡ [] }
+        requires tests { tests.old.keys ≡ [] }
+        requires jumps { jumps.old.keys ≡ [] }
         ensures runs { IfOk result (λ code. RunsAs self.now.graph.states self.now.graph.utf8 code) }
         ensures mode { IfOk result (λ code. code.utf8 ≡ self.now.graph.utf8) }
         ensures leaves { IfOk result (λ code. code.leaves ≡ map leaf_use self.now.graph.leaves) }
         ensures nodes { IfOk result (HasNodesOf self.now.graph.states) }
         ensures tests { OnOk result (tests.new.keys ≡ tests_of self.now.graph.states) }
+        ensures jumps { OnOk result (jumps.new.keys ≡ jump_tables_of self.now.graph.states) }
         ensures kept { IfOk result (λ code. IsCopy self.now.given code.kept) }
         ensures kept_leaves { IfOk result
             (λ code. map code_leaf_value code.kept_leaves ≡ map leaf_value self.now.graph.leaves) }
@@ -160,7 +168,7 @@ impl<'g, 's> Generator<'g, 's> {
         }
     }
 
-    /// A copy of what a code keeps.
+    /// Copies what a code keeps.
     fn kept(&self) -> Result<Kept<'s>, AllocError>
         ensures { IfOk result (IsCopy self.now.given) }
     {

@@ -1,9 +1,9 @@
-//! Laws of the definitions, proved and called by nobody: each function's contract is a law.
+//! Laws of the definitions. Nothing calls these functions: the contract of each is a law, and it is proved.
 
 ghost use Rattle.std.specs.Prelude.{ℕ, ◌≤◌, Bool, List, length};
 ghost use Rattle.logos_automaton.specs.Munch.{Rule};
 ghost use Rattle.logos_code.specs.Items.{Item, Items};
-ghost use Rattle.logos_code.specs.Order.{AreInOrder, Parts, IsMatch};
+ghost use Rattle.logos_code.specs.Order.{AreInOrder, Parts, IsLeftOut};
 ghost use Rattle.logos_machine.specs.LexerValue.{answers_of};
 ghost use Rattle.logos_generator.specs.Laws.{GraphsGiveLexers, RunsAreItems, NextIsTheNext};
 ghost use Rattle.logos_generator.specs.Laws.{LexersAgree, RunsAreCut};
@@ -19,12 +19,12 @@ pub fn items_are_in_order<C: Fn(LeafId, &[u8]) -> Action>(callback: &C)
         AreInOrder (length bytes) from items }
 {}
 
-/// The spans of the items of maximal munch, together with those of the matches that are left out, part the input
-/// in order, and none is empty.
+/// The spans of the items of maximal munch, together with those of the matches that a skip or an answer leaves
+/// out, part the input in order, and none is empty.
 pub fn items_part_the_input<C: Fn(LeafId, &[u8]) -> Action>(callback: &C)
     ensures { (rules : List Rule) (utf8 : Bool) (bytes : List ℕ) (from : ℕ) (items : List Item) →
         from ≤ length bytes → Items rules (answers_of C.Fn callback.now) utf8 bytes from items →
-        Parts (IsMatch rules bytes) (length bytes) from items }
+        Parts (IsLeftOut rules (answers_of C.Fn callback.now) bytes) (length bytes) from items }
 {}
 
 /// A code that runs as a graph does, whose leaves are used as the graph's, is a lexer of the graph's
@@ -48,7 +48,7 @@ pub fn codes_of_the_same_rules_agree<C: Fn(LeafId, &[u8]) -> Action>(callback: &
     ensures { LexersAgree (answers_of C.Fn callback.now) }
 {}
 
-/// Where a text is lexed by rules that match text alone, each item starts and ends between
+/// When a text is lexed by rules that match only text, each item starts and ends between
 /// characters.
 pub fn items_are_cut_between_characters<C: Fn(LeafId, &[u8]) -> Action>(callback: &C)
     ensures { RunsAreCut (answers_of C.Fn callback.now) }

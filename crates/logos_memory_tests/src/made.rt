@@ -152,7 +152,7 @@ fn ask_maybe_loop(
         return Err(Memory);
     }
     asking.begin();
-    let answer = generator.maybe_impl_fast_loop(state);
+    let answer = generator.maybe_impl_fast_loop(asking.alloc, state);
     asking.end();
     match answer {
         Ok(found) => asking.tell(&found),
@@ -176,7 +176,7 @@ fn ask_loop(
         return Err(Memory);
     };
     asking.begin();
-    let answer = generator.impl_fast_loop(edge);
+    let answer = generator.impl_fast_loop(asking.alloc, edge);
     asking.end();
     match answer {
         Ok(found) => asking.tell(&found),
@@ -194,7 +194,7 @@ fn ask_callback<'s>(
         return Err(Memory);
     };
     asking.begin();
-    let answer = generator.generate_callback(leaf);
+    let answer = generator.generate_callback(asking.alloc, leaf);
     asking.end();
     match answer {
         Ok(leaf) => tell_code_leaf(asking, &leaf),

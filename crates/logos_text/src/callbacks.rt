@@ -1,11 +1,13 @@
 //! The text of callbacks.
-ghost use Rattle.std.specs.Prelude.{OnOk, string_bytes};
+ghost use Rattle.std.specs.Prelude.{◌≡◌, OnOk, [], string_bytes};
+ghost use Rattle.logos_token.specs.Views.{tokens_of, tree_of};
+ghost use Rattle.logos_text.specs.Gaps.{gap_after, gap_of};
 ghost use Rattle.logos_text.specs.Standing.{Grows};
 
 use crate::pieces::push;
 use logos_pattern::leaf::Callback;
 use logos_token::error::Memory;
-use logos_token::token::{TokenTree, Tokens, print};
+use logos_token::token::{TokenTree, Tokens, gap_behind_doc, print};
 use std::alloc::Global;
 
 /// Adds the call of a callback.
@@ -22,7 +24,7 @@ pub(crate) fn push_call(
     }
 }
 
-/// Adds the call of a callback that is named.
+/// Adds the call of a callback that the source names.
 fn push_label(alloc: Global, text: &mut String, label: Tokens<'_, '_>) -> Result<(), Memory>
     ensures { OnOk result (Grows (string_bytes text.old) (string_bytes text.new)) }
 {
@@ -30,7 +32,7 @@ fn push_label(alloc: Global, text: &mut String, label: Tokens<'_, '_>) -> Result
     push(text, "( lex ) ")
 }
 
-/// Adds a callback that stands in the source, with its argument in front of its body.
+/// Adds a callback that the source spells out, with its argument before its body.
 fn push_inline(
     alloc: Global,
     text: &mut String,
@@ -44,7 +46,7 @@ fn push_inline(
     push(text, "} ")
 }
 
-/// Adds tokens, and what parts them from the next one.
+/// Adds tokens, and the gap after them.
 pub(crate) fn push_tokens(
     alloc: Global,
     text: &mut String,
@@ -55,23 +57,32 @@ pub(crate) fn push_tokens(
     if tokens.is_empty() {
         return Ok(());
     }
-    let gap = gap_behind(tokens);
+    let gap = gap_after(tokens);
     let tokens = print(alloc, tokens)?;
     write!(text, "{tokens}{gap}")?;
     Ok(())
 }
 
-/// What parts tokens from the next one: the end of the line where the last of them is a comment that
-/// ends with its line, since what follows would belong to it; else a space.
-pub fn gap_behind(tokens: Tokens<'_, '_>) -> &'static str {
-    let mut ends_line = false;
-    for tree in tokens.iter() {
-        ends_line = is_line_comment(tree);
+/// Returns the gap to print between `tokens` and the token that follows them: nothing when there are no tokens, a line end when
+/// the last of them is a comment that ends with its line, since what follows would belong to the comment, and else a space.
+pub fn gap_after(tokens: Tokens<'_, '_>) -> &'static str
+    ensures { result.now ≡ gap_after [] (tokens_of tokens.entry) }
+{
+    let mut gap = "";
+    let mut rest = tokens;
+    while let Some(tree) = rest.first() {
+        gap = gap_of(tree);
+        rest = rest.rest();
     }
-    if ends_line { "\n" } else { " " }
+    gap
 }
 
-/// Whether the tree is a comment that ends with its line.
-fn is_line_comment(tree: TokenTree<'_, '_>) -> bool {
-    matches!(tree, TokenTree::Doc(doc) if doc.text.starts_with("//"))
+/// Returns the gap after one token.
+fn gap_of(tree: TokenTree<'_, '_>) -> &'static str
+    ensures { result.now ≡ gap_of (tree_of tree.entry) }
+{
+    match tree {
+        TokenTree::Doc(doc) => gap_behind_doc(doc.text),
+        _ => " ",
+    }
 }

@@ -4,8 +4,8 @@ ghost use Rattle.logos_text.specs.Standing.{Grows};
 
 use logos_token::error::Memory;
 
-/// What stands around the body of a lexer, each as printed tokens with what parts them from the next
-/// one behind them: a space, or the end of the line as `gap_behind` says.
+/// The parts that are printed around the body of a lexer: each is printed tokens, with the gap that
+/// `gap_after` gives after them.
 #[derive(Clone, Copy)]
 pub struct Around<'p> {
     /// The path of the library.
@@ -18,7 +18,7 @@ pub struct Around<'p> {
     pub source: &'p str,
 }
 
-/// Adds what stands in front of a body.
+/// Adds the text before a body.
 pub(crate) fn push_front(text: &mut String, around: Around<'_>, this: &str) -> Result<(), Memory>
     ensures { OnOk result (Grows (string_bytes text.old) (string_bytes text.new)) }
 {

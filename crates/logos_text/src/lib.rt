@@ -15,6 +15,6 @@ mod pieces;
 mod states;
 mod tables;
 
-pub use callbacks::gap_behind;
+pub use callbacks::gap_after;
 pub use code::{text, text_in};
 pub use implementation::Around;

@@ -11,6 +11,7 @@ ghost use Rattle.logos_generator.specs.Nodes.{hit, leads_beside, Extends, IsCond
 ghost use Rattle.logos_generator.specs.Nodes.{AreBranchesOf, IsForkOf, IsLoopOf, cost};
 ghost use Rattle.logos_generator.specs.Numbering.{numbered, loop_uses, condition_uses};
 ghost use Rattle.logos_generator.specs.Numbering.{branch_uses, fork_uses};
+ghost use Rattle.logos_generator.specs.Numbering.{fork_tables, jump_table, with_tables};
 ghost use Rattle.logos_generator.specs.StateView.{AddsBranch};
 
 use super::tests_by_bits::add_test;
@@ -20,7 +21,7 @@ use logos_code::code::{Condition, Fork, NOWHERE};
 use logos_graph::graph::State;
 use std::alloc::{AllocError, Global};
 
-/// The test of the edge back to the state, if there is one.
+/// Returns the number of the test of the edge back to the state, if there is one.
 pub(super) fn maybe_impl_fast_loop(
     tests: &mut IndexSet<[bool; 256]>,
     edges: &[(ByteClass, State)],
@@ -38,7 +39,7 @@ pub(super) fn maybe_impl_fast_loop(
     }
 }
 
-/// The bytes of the first edge that leads back to the state.
+/// Returns the bytes of the first edge that leads back to the state.
 fn edge_back<'e>(edges: &'e [(ByteClass, State)], state: usize) -> Option<&'e ByteClass>
     ensures { option_map (λ class. ranges_of class.now) result
         ≡ option_map (λ edge. edge.0) (find (λ edge. edge.1 == state) (map edge_of edges.now)) }
@@ -51,7 +52,7 @@ fn edge_back<'e>(edges: &'e [(ByteClass, State)], state: usize) -> Option<&'e By
     None
 }
 
-/// The fork of a state, without the edge back to it: a table for more than two edges, else conditions.
+/// Makes the fork of a state, without the edge back to it: a table for more than two edges, else conditions.
 pub(super) fn impl_fork(
     alloc: Global,
     tests: &mut IndexSet<[bool; 256]>,
@@ -67,6 +68,8 @@ pub(super) fn impl_fork(
         IsForkOf tests.new.keys state (map edge_of edges.now) (fork_of jumps.new.keys fork)) }
     ensures numbers { OnOk result (tests.new.keys
         ≡ numbered tests.old.keys (fork_uses state (map edge_of edges.now))) }
+    ensures tables { OnOk result (jumps.new.keys
+        ≡ with_tables jumps.old.keys (fork_tables state (map edge_of edges.now))) }
 {
     if edges.len() > 2 {
         let (k, _) = jumps.insert_full(table_of(edges, state))?;
@@ -75,12 +78,13 @@ pub(super) fn impl_fork(
     Ok(Fork::Conditions(conditions_of(alloc, tests, edges, state)?))
 }
 
-/// The jump table of a state's edges, without the edge back to it.
+/// Returns the jump table of a state's edges, without the edge back to it.
 fn table_of(edges: &[(ByteClass, State)], state: usize) -> [u32; 256]
     requires { All (λ edge. state_number edge.1 < 4294967295) edges.now }
     ensures long { length result ≡ 256 }
     ensures leads { (b : ℕ) → b < 256 →
         entry_of (slice_index result b) ≡ leads_beside state (map edge_of edges.now) b }
+    ensures is { result ≡ jump_table state (map edge_of edges.now) }
 {
     let mut table = [NOWHERE; 256];
     for edge in edges {
@@ -89,7 +93,7 @@ fn table_of(edges: &[(ByteClass, State)], state: usize) -> [u32; 256]
     table
 }
 
-/// Writes an edge, if it leads elsewhere.
+/// Writes an edge into the table, unless it leads back to the state.
 fn fill_edge(table: &mut [u32; 256], edge: &(ByteClass, State), state: usize)
     requires { state_number edge.now.1 < 4294967295 }
     ensures { (b : ℕ) → b < 256 → entry_of (slice_index table.new b) ≡ option_or
@@ -122,7 +126,7 @@ fn fill_range(table: &mut [u32; 256], first: u8, last: u8, target: u32)
     }
 }
 
-/// The entry, or the target where there is none.
+/// Returns the entry, or the target if the entry leads nowhere.
 fn filled(entry: u32, target: u32) -> u32
     requires { target < 4294967295 }
     ensures { entry_of result ≡ hit true target (entry_of entry) }
@@ -130,7 +134,7 @@ fn filled(entry: u32, target: u32) -> u32
     if entry == NOWHERE { target } else { entry }
 }
 
-/// The conditions of a state's edges, without the edge back to it.
+/// Makes the conditions of a state's edges, without the edge back to it.
 fn conditions_of(
     alloc: Global,
     tests: &mut IndexSet<[bool; 256]>,
@@ -151,7 +155,7 @@ fn conditions_of(
     Ok(made)
 }
 
-/// Adds the branch of an edge, if it leads elsewhere.
+/// Adds the branch of an edge, unless it leads back to the state.
 fn add_branch(
     alloc: Global,
     tests: &mut IndexSet<[bool; 256]>,
@@ -174,7 +178,7 @@ fn add_branch(
     Ok(())
 }
 
-/// The test of a class: by comparisons, or by a bit of a table where they cost more than two operations.
+/// Makes the test of a class: by comparisons, or by a bit of a table if they cost more than two operations.
 fn condition_of(
     alloc: Global,
     tests: &mut IndexSet<[bool; 256]>,
@@ -196,7 +200,7 @@ fn condition_of(
     Ok(Condition::Test(add_test(tests, class)?))
 }
 
-/// Whether the comparisons cost two operations at most.
+/// Returns whether the comparisons cost at most two operations.
 fn are_cheap(comparisons: &[Comparisons]) -> bool
     ensures { result ≡ nat_le (cost (map comparison_of comparisons.now)) 2 }
 {

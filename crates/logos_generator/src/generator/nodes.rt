@@ -16,7 +16,8 @@ use logos_byte_class::byte_class::ByteClass;
 use logos_code::code::{CodeLeaf, Fork, NOWHERE};
 use logos_graph::graph::{State, StateData};
 use logos_pattern::leaf::Leaf;
-use std::alloc::{AllocError, Global};
+use logos_token::error::Memory;
+use std::alloc::Global;
 
 /// A fast loop by the test with this number.
 #[derive(Clone, Copy, Debug, PartialEq, Eq)]
@@ -45,15 +46,18 @@ pub fn fast_loop_macro(unroll_factor: usize) -> FastLoopMacro
 }
 
 impl<'s> Generator<'_, 's> {
-    /// The fork of a state with this data, without the edge back to the state or with it. Its tests and its jump table are
-    /// numbered behind those of the nodes made before. Only want of memory is an error, and changes nothing.
+    /// Makes the fork of a state with this data, with the edge back to the state or without it. Its tests and its jump table are
+    /// numbered after those of the nodes made before.
+    ///
+    /// # Errors
+    /// Returns `Memory` when memory runs out. The generator is then as it was.
     pub fn impl_fork(
         &mut self,
         alloc: Global,
         state: State,
         state_data: &StateData,
         ignore_self: bool,
-    ) -> Result<Fork, AllocError>
+    ) -> Result<Fork, Memory>
         requires { IsCodable (graph_state_of state_data.now) }
         ensures continues { OnOk result (Continues self.old self.new) }
         ensures is { IfOk result (MakesFork self.old self.new state state_data.now ignore_self) }
@@ -69,17 +73,23 @@ impl<'s> Generator<'_, 's> {
             left_out,
         ) {
             Ok(fork) => Ok(fork),
-            Err(error) => {
+            Err(_) => {
                 self.tests.truncate(tests);
                 self.jumps.truncate(jumps);
-                Err(error)
+                Err(Memory)
             }
         }
     }
 
-    /// The fast loop of a state of the graph, over the edge back to it, if there is one. Only want of memory is an error, and changes
-    /// nothing.
-    pub fn maybe_impl_fast_loop(&mut self, state: State) -> Result<Option<FastLoop>, AllocError>
+    /// Makes the fast loop of a state of the graph, over the edge back to it, if there is one.
+    ///
+    /// # Errors
+    /// Returns `Memory` when memory runs out. The generator is then as it was.
+    pub fn maybe_impl_fast_loop(
+        &mut self,
+        _alloc: Global,
+        state: State,
+    ) -> Result<Option<FastLoop>, Memory>
         requires { state_number state < length self.old.graph.states }
         ensures continues { OnOk result (Continues self.old self.new) }
         ensures is { IfOk result (MakesLoop self.old self.new state) }
@@ -92,8 +102,15 @@ impl<'s> Generator<'_, 's> {
         }
     }
 
-    /// The fast loop over an edge with these bytes. Only want of memory is an error, and changes nothing.
-    pub fn impl_fast_loop(&mut self, self_edge: &ByteClass) -> Result<FastLoop, AllocError>
+    /// Makes the fast loop over an edge with these bytes.
+    ///
+    /// # Errors
+    /// Returns `Memory` when memory runs out. The generator is then as it was.
+    pub fn impl_fast_loop(
+        &mut self,
+        _alloc: Global,
+        self_edge: &ByteClass,
+    ) -> Result<FastLoop, Memory>
         ensures continues { OnOk result (Continues self.old self.new) }
         ensures is { IfOk result (MakesLoopOver self.old self.new (ranges_of self_edge.now)) }
         ensures error { OnErr result (self.new ≡ self.old) }
@@ -102,26 +119,42 @@ impl<'s> Generator<'_, 's> {
         Ok(FastLoop { test })
     }
 
-    /// What becomes of the matches of a leaf: its kind, and a copy of its callback. Only want of memory is an error.
-    pub fn generate_callback(&self, leaf: &Leaf<'s>) -> Result<CodeLeaf<'s>, AllocError>
+    /// Makes a code's leaf of a leaf: its kind, and a copy of its callback.
+    ///
+    /// # Errors
+    /// Returns `Memory` when memory runs out.
+    pub fn generate_callback(&self, _alloc: Global, leaf: &Leaf<'s>) -> Result<CodeLeaf<'s>, Memory>
         ensures { IfOk result (λ made. code_leaf_value made ≡ leaf_value leaf.now) }
     {
-        leaf_made(leaf)
+        Ok(leaf_made(leaf)?)
     }
 
-    /// What is done where nothing leads on.
+    /// Returns what is done where nothing leads on.
     pub fn take_action_macro(&self) -> TakeAction
         ensures { result ≡ record { restart = 0 } }
     {
         TakeAction { restart: 0 }
     }
 
-    /// The bit tables of the tests of all nodes made so far: after `generate`, those of the code. Only want of memory is an
-    /// error.
-    pub fn render_luts(&self, alloc: Global) -> Result<Vec<[u8; 256]>, AllocError>
+    /// Returns the bit tables of the tests of all nodes made so far: after `generate`, those of the code.
+    ///
+    /// # Errors
+    /// Returns `Memory` when memory runs out.
+    pub fn render_luts(&self, alloc: Global) -> Result<Vec<[u8; 256]>, Memory>
         ensures { IfOk result (λ tables. tables.items ≡ bit_tables_of self.now.tests) }
     {
-        tables_of(alloc, self.tests.as_slice())
+        Ok(tables_of(alloc, self.tests.as_slice())?)
+    }
+
+    /// Returns the jump tables of all forks made so far, by their numbers: after `generate`, those of the code. An entry is the number
+    /// of the state that the byte leads to, or `NOWHERE`. `Fork::Table(k)` names table k.
+    ///
+    /// # Errors
+    /// Returns `Memory` when memory runs out.
+    pub fn render_jump_tables(&self, alloc: Global) -> Result<Vec<[u32; 256]>, Memory>
+        ensures { IfOk result (λ tables. tables.items ≡ self.now.jumps) }
+    {
+        Ok(Vec::from_slice(alloc, self.jumps.as_slice())?)
     }
 }
 

@@ -9,6 +9,8 @@ ghost use Rattle.logos_graph.specs.FinishedGraph.{IsFinished};
 ghost use Rattle.logos_generator.specs.Nodes.{Extends, IsStateOf};
 ghost use Rattle.logos_generator.specs.Numbering.{HasNodesOf, numbered};
 ghost use Rattle.logos_generator.specs.Numbering.{state_uses, tests_of, uses_from};
+ghost use Rattle.logos_generator.specs.Numbering.{fork_tables, tables_from, with_tables};
+ghost use Rattle.logos_generator.specs.Numbering.{jump_tables_of};
 ghost use Rattle.logos_graph.specs.GraphView.{state_number, state_type_of, graph_state_of};
 ghost use Rattle.logos_graph.specs.StatesView.{states_left};
 ghost use Rattle.logos_generator.specs.StateView.{leaf_use, AreStatesOf, AreTablesOf, IsCodable};
@@ -18,10 +20,11 @@ use super::leaves::leaves_of;
 use super::tests_by_bits::tables_of;
 use indexmap::IndexSet;
 use logos_code::code::{Code, CodeParts, CodeState, Kept, Mark};
+use logos_code::make_code;
 use logos_graph::graph::{Graph, State, StateData, StateType, States};
 use std::alloc::{AllocError, Global};
 
-/// The code of a graph, and of all its states. Its tests and jump tables are put into empty sets, by their numbers.
+/// Makes the code of a graph. Its tests and jump tables go into empty sets, in the order of their numbers.
 pub(super) fn code_of<'s>(
     alloc: Global,
     tests: &mut IndexSet<[bool; 256]>,
@@ -33,7 +36,9 @@ pub(super) fn code_of<'s>(
     requires finished { IsFinished graph.now.states (length graph.now.leaves) }
     requires states { states_left states ≡ range_with_len 0 (length graph.now.states) }
     requires tests { tests.old.keys ≡ [] }
+    requires jumps { jumps.old.keys ≡ [] }
     ensures tests { OnOk result (tests.new.keys ≡ tests_of graph.now.states) }
+    ensures jumps { OnOk result (jumps.new.keys ≡ jump_tables_of graph.now.states) }
     ensures nodes { IfOk result (HasNodesOf graph.now.states) }
     ensures runs { IfOk result (λ code. RunsAs graph.now.states graph.now.utf8 code) }
     ensures mode { IfOk result (λ code. code.utf8 ≡ graph.now.utf8) }
@@ -53,7 +58,7 @@ pub(super) fn code_of<'s>(
         root: 0,
         utf8: graph.utf8_mode(),
     };
-    Code::new(alloc, parts)
+    make_code(alloc, parts)
 }
 
 /// The states of a code, and the tables that they name.
@@ -64,7 +69,7 @@ struct Tables {
     jump_tables: Vec<[u32; 256]>,
 }
 
-/// The states of the code, and their tables.
+/// Makes the states of the code, and their tables.
 fn tables_made(
     alloc: Global,
     tests: &mut IndexSet<[bool; 256]>,
@@ -75,7 +80,9 @@ fn tables_made(
     requires codable { All IsCodable graph.now.states }
     requires states { states_left states ≡ range_with_len 0 (length graph.now.states) }
     requires tests { tests.old.keys ≡ [] }
+    requires jumps { jumps.old.keys ≡ [] }
     ensures tests { OnOk result (tests.new.keys ≡ tests_of graph.now.states) }
+    ensures jumps { OnOk result (jumps.new.keys ≡ jump_tables_of graph.now.states) }
     ensures tables { IfOk result (λ tables. AreTablesOf graph.now.states tables.states.items
         tables.bit_tables.items tables.jump_tables.items) }
 {
@@ -89,7 +96,7 @@ fn tables_made(
     })
 }
 
-/// The states of the code, in the order of the graph's.
+/// Makes the states of the code, in the order of the graph's states.
 fn states_of(
     alloc: Global,
     tests: &mut IndexSet<[bool; 256]>,
@@ -103,6 +110,8 @@ fn states_of(
         AreStatesOf tests.new.keys jumps.new.keys graph.now.states made.items) }
     ensures numbers { OnOk result (tests.new.keys
         ≡ numbered tests.old.keys (uses_from 0 graph.now.states)) }
+    ensures tables { OnOk result (jumps.new.keys
+        ≡ with_tables jumps.old.keys (tables_from 0 graph.now.states)) }
 {
     let mut made = Vec::new(alloc);
     for state in states {
@@ -111,7 +120,7 @@ fn states_of(
     Ok(made)
 }
 
-/// A state of the code, made of state s of the graph.
+/// Makes a state of the code from state `s` of the graph.
 fn state_made(
     alloc: Global,
     tests: &mut IndexSet<[bool; 256]>,
@@ -126,6 +135,8 @@ fn state_made(
         IsStateOf tests.new.keys s (graph_state_of state.now) (state_of jumps.new.keys made)) }
     ensures numbers { OnOk result (tests.new.keys
         ≡ numbered tests.old.keys (state_uses s (graph_state_of state.now).normal)) }
+    ensures tables { OnOk result (jumps.new.keys
+        ≡ with_tables jumps.old.keys (fork_tables s (graph_state_of state.now).normal)) }
 {
     let fast_loop = maybe_impl_fast_loop(tests, &state.normal, s)?;
     let fork = impl_fork(alloc, tests, jumps, &state.normal, s)?;
@@ -137,7 +148,7 @@ fn state_made(
     })
 }
 
-/// The number of the state, if there is one.
+/// Returns the number of the state, if there is one.
 fn number_of(state: Option<State>) -> Option<usize>
     ensures { result ≡ option_map state_number state }
 {
@@ -147,7 +158,7 @@ fn number_of(state: Option<State>) -> Option<usize>
     }
 }
 
-/// The mark of a state: an early match wins over a late one.
+/// Returns the mark of a state: an early match wins over a late one.
 fn mark_made(state_type: &StateType) -> Option<Mark>
     ensures { option_map mark_of result ≡ mark_made (state_type_of state_type.now) }
 {

@@ -15,6 +15,7 @@ use std::alloc::Global;
 
 /// Adds the fast loop over the first edge of a state with this data, if it has one.
 fn push_loop_over(
+    alloc: Global,
     text: &mut String,
     generator: &mut Generator<'_, 'static>,
     state_data: &StateData,
@@ -24,7 +25,7 @@ fn push_loop_over(
     let Some(edge) = state_data.normal.first() else {
         return Ok(text.push_str("; ")?);
     };
-    let node = generator.impl_fast_loop(&edge.0)?;
+    let node = generator.impl_fast_loop(alloc, &edge.0)?;
     Ok(write!(text, "over {} ; ", node.test)?)
 }
 
@@ -41,13 +42,13 @@ fn push_nodes_at(
     requires within { state_number state < length generator.old.graph.states }
     ensures { OnOk result (generator.new.graph ≡ generator.old.graph) }
 {
-    if let Some(node) = generator.maybe_impl_fast_loop(state)? {
+    if let Some(node) = generator.maybe_impl_fast_loop(alloc, state)? {
         write!(text, "loop {} ", node.test)?;
     }
     push_fork(text, &generator.impl_fork(alloc, state, state_data, true)?)?;
     text.push_str("| ")?;
     push_fork(text, &generator.impl_fork(alloc, state, state_data, false)?)?;
-    push_loop_over(text, generator, state_data)
+    push_loop_over(alloc, text, generator, state_data)
 }
 
 /// Adds the nodes of these states of the generator's graph.
@@ -90,7 +91,7 @@ fn push_shared(
     let factor = fast_loop_macro(8).unroll_factor;
     write!(text, "to {restart}, blocks of {factor}; ")?;
     match graph.leaves().first() {
-        Some(leaf) => push_leaf(alloc, text, &generator.generate_callback(leaf)?),
+        Some(leaf) => push_leaf(alloc, text, &generator.generate_callback(alloc, leaf)?),
         None => Ok(()),
     }
 }

@@ -8,10 +8,10 @@ use Rattle.logos_codegen.proofs.expr.Language.tokens.Given as goal
 -- what is read behind the tokens is read from the start
 abbrev pub invariant-loop-item : goal.invariant-loop-item
 invariant-loop-item l = record {
-  same_code : l.lexer.code ≡ l.fn.self;
+  same_code : l.lexer.code ≡ l.fn.self.code;
   same_input : l.lexer.input ≡ l.input;
   within : l.lexer.to ≤ length l.input;
-  goes_on : (rules : List Rule) (utf8 : Bool) → IsLexer rules utf8 l.fn.self → GoesOn rules utf8 l.input (map token_value l.tokens.items) l.lexer.to;
+  goes_on : (rules : List Rule) (utf8 : Bool) → IsLexer rules utf8 l.fn.self.code → GoesOn l.fn.self.kinds rules utf8 l.input (map token_value l.tokens.items) l.lexer.to;
 }
 
 abbrev pub decreases-loop-item : goal.decreases-loop-item

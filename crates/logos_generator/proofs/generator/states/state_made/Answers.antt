@@ -31,3 +31,6 @@ returns-clause-numbers c =
     let first : c.maybe_impl_fast_loop.new.tests.keys ≡ numbered c.args.tests.now.keys (loop_uses c.args.s edges) = rw c.deref.ensures.value at c.in_ok-fast_loop.ensures.numbers in
     let second : c.impl_fork.new.tests.keys ≡ numbered c.maybe_impl_fast_loop.new.tests.keys (fork_uses c.args.s edges) = rw c.deref-2.ensures.value at c.in_ok-fork.ensures.numbers in
     second ∙ ap (λ tests. numbered tests (fork_uses c.args.s edges)) first ∙ sym (numbered_both c.args.tests.now.keys (loop_uses c.args.s edges) (fork_uses c.args.s edges))
+
+pub returns-clause-tables : goal.returns-clause-tables
+returns-clause-tables c = rw c.deref-2.ensures.value at c.in_ok-fork.ensures.tables

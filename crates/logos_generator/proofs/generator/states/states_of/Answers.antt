@@ -12,9 +12,9 @@ use Rattle.logos_graph.specs.StatesView.{states_left}
 use Rattle.logos_code.specs.CodeView.{state_of}
 use Rattle.logos_generator.specs.Nodes.{IsStateOf}
 use Rattle.logos_generator.specs.StateView.{IsCodable}
-use Rattle.logos_generator.specs.Numbering.{numbered, state_uses}
+use Rattle.logos_generator.specs.Numbering.{numbered, state_uses, with_tables, fork_tables}
 use Rattle.logos_generator.proofs.NodeLemmas.{states_turn}
-use Rattle.logos_generator.proofs.NumberLemmas.{states_numbered, states_whole}
+use Rattle.logos_generator.proofs.NumberLemmas.{states_numbered, states_whole, states_tabled, states_all_tabled}
 use Rattle.logos_generator.proofs.generator.states.states_of.Goals as goal
 
 -- the next state is the one behind those before
@@ -54,9 +54,11 @@ loop-state-preserved c =
     let at : slice_get c.args.graph.now.states (length c.loop-state.yielded) ≡ Some (graph_state_of c.get_state.result.now) =
     subst (λ k. slice_get c.args.graph.now.states k ≡ Some (graph_state_of c.get_state.result.now)) n.0 c.get_state.ensures.state in
     let numbers = subst (λ s. c.state_made.new.tests.keys ≡ numbered c.loop-state.tests.keys (state_uses s (graph_state_of c.get_state.result.now).normal)) (c.index.ensures ∙ n.0) made.numbers in
+    let tables = subst (λ s. c.state_made.new.jumps.keys ≡ with_tables c.loop-state.jumps.keys (fork_tables s (graph_state_of c.get_state.result.now).normal)) (c.index.ensures ∙ n.0) made.tables in
     let next : length (c.loop-state.yielded ++ c.in-Some.state ∷ []) ≡ length c.loop-state.yielded + 1 = length-append c.loop-state.yielded (c.in-Some.state ∷ []) in
     record {
       numbers = rw next (states_numbered c.args.graph.now.states (length c.loop-state.yielded) (graph_state_of c.get_state.result.now) _ _ _ at numbers c.loop-state.invariant.numbers);
+      tables = rw next (states_tabled c.args.graph.now.states (length c.loop-state.yielded) (graph_state_of c.get_state.result.now) _ _ _ at tables c.loop-state.invariant.tables);
       count = ap length items ∙ omega (arith, length-append c.loop-state.made.items (c.in_ok-state_made.field-0 ∷ []), count, length-append c.loop-state.yielded (c.in-Some.state ∷ []));
       each = λ k state l e.
           states_turn c.loop-state.tests.keys c.state_made.new.tests.keys c.loop-state.jumps.keys c.state_made.new.jumps.keys made.tests made.jumps
@@ -69,6 +71,12 @@ returns-clause-numbers c =
     let t = YieldsList-end (road (length c.args.graph.now.states) c.requires.states cc) c.loop-state.yielded _ c.loop-state.yielded_by _ _ c.in-None.is c.next.ensures.steps in
     let all = length-range_with_len 0 (length c.args.graph.now.states) in
     states_whole c.args.graph.now.states (length c.loop-state.yielded) _ _ (omega (arith, t.1, all)) c.loop-state.invariant.numbers
+
+pub returns-clause-tables : goal.returns-clause-tables
+returns-clause-tables c =
+    let t = YieldsList-end (road (length c.args.graph.now.states) c.requires.states cc) c.loop-state.yielded _ c.loop-state.yielded_by _ _ c.in-None.is c.next.ensures.steps in
+    let all = length-range_with_len 0 (length c.args.graph.now.states) in
+    states_all_tabled c.args.graph.now.states (length c.loop-state.yielded) _ _ (omega (arith, t.1, all)) c.loop-state.invariant.tables
 
 pub returns-clause-are : goal.returns-clause-are
 returns-clause-are c =
