@@ -18,12 +18,12 @@ room=$(mktemp -d)
 trap 'rm -rf "$room"' EXIT
 gcc -O1 -shared -fPIC -o "$room/refuse.so" "$scripts/refused_memory/refuse.c"
 refused=0
-told=0
+lacked=0
 
 # Reports what is wrong, and notes the counts of this source.
 fail() {
     echo "refused_memory: $1" >&2
-    echo "$refused $told" > counts
+    echo "$refused $lacked" > counts
     exit 1
 }
 
@@ -50,7 +50,7 @@ is_ample() {
 
 # Runs a command with each of its requests refused in turn.
 refuse_each() {
-    local number requests wanted told_before=$told
+    local number requests wanted lacked_before=$lacked
     : > ample.chart
     : > one.chart
     answer 0 ample "$@"
@@ -60,14 +60,14 @@ refuse_each() {
     for ((number = 1; number <= requests; number++)); do
         answer "$number" one "$@"
         if is_want; then
-            told=$((told + 1))
+            lacked=$((lacked + 1))
         elif ! is_ample "$wanted"; then
             cat one.out one.err >&2
             fail "request $number of $* is answered with status $status"
         fi
         refused=$((refused + 1))
     done
-    [ "$told" -gt "$told_before" ] || fail "no refusal of $* ends in out of memory"
+    [ "$lacked" -gt "$lacked_before" ] || fail "no refusal of $* ends in out of memory"
 }
 
 # Tries all commands on the source with this name, in a folder of its own, where its chart goes to.
@@ -85,7 +85,7 @@ try_source() {
     else
         refuse_each mermaid "$source"
     fi
-    echo "$refused $told" > counts
+    echo "$refused $lacked" > counts
 }
 
 cd "$scripts/refused_memory"
@@ -105,7 +105,7 @@ failed=0
 for try in "${tries[@]}"; do
     wait "$try" || failed=$((failed + 1))
 done
-read -r refused told < <(cat "$room"/*/counts | awk '{ refused += $1; told += $2 } END { print refused + 0, told + 0 }')
-echo "refused_memory: of $refused refused requests $told end in out of memory, and $((refused - told)) change nothing"
+read -r refused lacked < <(cat "$room"/*/counts | awk '{ refused += $1; lacked += $2 } END { print refused + 0, lacked + 0 }')
+echo "refused_memory: of $refused refused requests $lacked end in out of memory, and $((refused - lacked)) change nothing"
 echo "$refused passed, $failed failed"
 [ "$failed" = 0 ]

@@ -295,14 +295,14 @@ def ask(program, batch):
     ended = subprocess.run(
         [program], input=('\n'.join(lines) + '\n').encode(), stdout=subprocess.PIPE, timeout=5 * SECONDS, check=False
     )
-    *said, last = ended.stdout.decode(errors='replace').removesuffix('\n').split('\n')
+    *output, last = ended.stdout.decode(errors='replace').removesuffix('\n').split('\n')
     counts = re.fullmatch(r'(\d+) passed, (\d+) failed', last)
     if not counts:
         return 0, [f'the program of calls ends with status {ended.returncode} and the line {last!r}']
     passed, failed = map(int, counts.groups())
     if passed + failed != count or (ended.returncode == 0) != (failed == 0):
-        said.append(f'{count} rows were handed over, and the program ends with status {ended.returncode} and {last!r}')
-    return passed, said
+        output.append(f'{count} rows were handed over, and the program ends with status {ended.returncode} and {last!r}')
+    return passed, output
 
 
 def run_calls(program, paths, pool):
@@ -313,9 +313,9 @@ def run_calls(program, paths, pool):
         wrong += differences(f'{path}: rows', sum(count for _, count in found), stated)
         runs += found
     passed = 0
-    for count, said in pool.map(lambda batch: ask(program, batch), runs):
+    for count, output in pool.map(lambda batch: ask(program, batch), runs):
         passed += count
-        wrong += said
+        wrong += output
     return passed, sum(count for _, count in runs) - passed, wrong
 
 

@@ -117,10 +117,10 @@ compile() {
 ask_lexer() {
     local name=$1 input=$2 shape=$3
     if [ ! -e "$here/told/$name.sed" ]; then
-        "$logos" lex "$room/sources/$name.rs" "$input" --shape "$shape" > "$room/wanted" 2> "$room/said"
+        "$logos" lex "$room/sources/$name.rs" "$input" --shape "$shape" > "$room/wanted" 2> "$room/complaint"
         return
     fi
-    "$logos" lex "$room/$name.shown.rs" "$input" --shape "$shape" > "$room/matches" 2> "$room/said" || return
+    "$logos" lex "$room/$name.shown.rs" "$input" --shape "$shape" > "$room/matches" 2> "$room/complaint" || return
     sed -f "$here/told/$name.sed" "$room/matches" > "$room/wanted"
 }
 
@@ -130,13 +130,13 @@ compare() {
     what="the $shape text of $name on $(basename "$input")"
     ask_lexer "$name" "$input" "$shape" || status=$?
     if [ -n "${not_utf8[$(basename "$input")]:-}" ] && [[ $of_bytes != *" $name "* ]]; then
-        if [ "$status" != 1 ] || [ "$(< "$room/said")" != "NotUtf8 ${not_utf8[$(basename "$input")]}" ]; then
-            fail "$what: status $status and $(< "$room/said"), where bytes that are not UTF-8 have to be refused"
+        if [ "$status" != 1 ] || [ "$(< "$room/complaint")" != "NotUtf8 ${not_utf8[$(basename "$input")]}" ]; then
+            fail "$what: status $status and $(< "$room/complaint"), where bytes that are not UTF-8 have to be refused"
         fi
         refused=$((refused + 1))
         return
     fi
-    [ "$status" = 0 ] || fail "$what: the lexer ends with status $status and $(< "$room/said")"
+    [ "$status" = 0 ] || fail "$what: the lexer ends with status $status and $(< "$room/complaint")"
     "$room/items" "$name" "$shape" "$input" > "$room/found" || fail "$what: the compiled text does not end well"
     if ! cmp -s "$room/wanted" "$room/found"; then
         diff "$room/wanted" "$room/found" >&2 || true
