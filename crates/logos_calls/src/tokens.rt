@@ -1,0 +1,260 @@
+//! Calls of lexemes, tokens, literals and faults, and how their answers are written.
+
+use crate::answer::Answer;
+use crate::stop::Stop;
+use logos_lexeme::lexeme::lexeme_at;
+use logos_token::error::{Errors, FaultCode, Memory};
+use logos_token::token::{
+    Ident, Literal, Span, TokenError, TokenStream, TokenTree, Tokens, tokenize,
+};
+use logos_token::util::{MaybeVoid, ToIdent, expect_punct, is_punct};
+use std::alloc::Global;
+
+/// The tokens of a text that has some.
+pub fn tokens_of<'s>(alloc: Global, text: &'s str) -> Result<TokenStream<'s>, Stop> {
+    match tokenize(alloc, text) {
+        Ok(stream) => Ok(stream),
+        Err(TokenError::Memory) => Err(Stop::Memory),
+        Err(_) => Err(Stop::Input),
+    }
+}
+
+/// Adds the kind and the end of the lexeme at a place, or why there is none.
+fn push_lexeme(answer: &mut Answer, source: &str, from: usize) -> Result<(), Stop> {
+    if from >= source.len() {
+        return Err(Stop::Input);
+    }
+    if !source.is_char_boundary(from) {
+        return Err(Stop::Input);
+    }
+    match lexeme_at(source, from) {
+        Ok((kind, to)) => {
+            answer.debug(&kind);
+            answer.text(" ");
+            answer.display(&to);
+        }
+        Err((kind, span)) => {
+            answer.debug(&kind);
+            answer.span(" ", span);
+        }
+    }
+    Ok(())
+}
+
+/// The kind and the end of the lexeme in front of a text, or after the mark `‖` in it, or why there is none.
+pub fn lexeme(alloc: Global, text: &str) -> Result<String, Stop> {
+    let mut answer = Answer::new(alloc);
+    let (before, after) = text.split_once('‖').unwrap_or(("", text));
+    let mut source = String::from_str(alloc, before)?;
+    source.push_str(after)?;
+    push_lexeme(&mut answer, &source, before.len())?;
+    answer.finish()
+}
+
+/// Adds what a tree is: of a group its delimiters and what is printed of its inside, of a mark whether it stands alone.
+fn push_tree(answer: &mut Answer, tree: TokenTree<'_, '_>) {
+    match tree {
+        TokenTree::Ident(ident) => {
+            answer.text("ident ");
+            answer.text(ident.text);
+        }
+        TokenTree::Literal(literal) => {
+            answer.text("literal ");
+            answer.text(literal.text);
+        }
+        TokenTree::Doc(doc) => {
+            answer.text("doc ");
+            answer.text(doc.text);
+        }
+        TokenTree::Punct(punct) => {
+            answer.display(&punct.character);
+            answer.text(" ");
+            answer.debug(&punct.spacing);
+        }
+        TokenTree::Group(group) => {
+            answer.debug(&group.delimiter);
+            answer.text(" ");
+            answer.tokens(group.run());
+        }
+    }
+}
+
+/// Adds what the trees of a run are, and where they stand.
+fn push_trees(answer: &mut Answer, run: Tokens<'_, '_>) {
+    for tree in run.iter() {
+        push_tree(answer, tree);
+        answer.span(" ", tree.span());
+        answer.text("; ");
+    }
+}
+
+/// What the first group of a run holds.
+fn inside<'t, 's>(run: Tokens<'t, 's>) -> Option<Tokens<'t, 's>> {
+    for tree in run.iter() {
+        if let TokenTree::Group(group) = tree {
+            return Some(group.run());
+        }
+    }
+    None
+}
+
+/// Adds the trees of a run, those of its first group, those of the first group in it, and so on.
+fn push_levels(answer: &mut Answer, run: Tokens<'_, '_>) {
+    let mut run = run;
+    for _ in 0..4 {
+        push_trees(answer, run);
+        match inside(run) {
+            Some(inner) => run = inner,
+            None => return,
+        }
+    }
+}
+
+/// The spans of the trees in front of all but the first and of all but the first two, and whether there are none in front of all.
+fn fronts(run: Tokens<'_, '_>) -> (Span, Span, bool) {
+    let first = run.before(run.rest()).span();
+    let second = run.before(run.rest().rest()).span();
+    (first, second, run.before(run).is_empty())
+}
+
+/// Where the tokens of a source stand, those in front of all but the first and of all but the first two, what they are, and how a copy of
+/// them is printed.
+pub fn stream(alloc: Global, text: &str) -> Result<String, Stop> {
+    let mut answer = Answer::new(alloc);
+    let stream = tokens_of(alloc, text)?;
+    answer.span("", stream.run().span());
+    let (first, second, is_none) = fronts(stream.run());
+    answer.span(" ", first);
+    answer.span(" ", second);
+    answer.text(" ");
+    answer.debug(&stream.run().is_empty());
+    answer.text(" ");
+    answer.debug(&is_none);
+    answer.text(": ");
+    push_levels(&mut answer, stream.run());
+    let copy = stream.clone()?;
+    answer.tokens(copy.run());
+    answer.finish()
+}
+
+/// Why a source is not read, or `None`.
+pub fn refusal(alloc: Global, text: &str) -> Result<String, Stop> {
+    let error = tokenize(alloc, text).err();
+    if let Some(TokenError::Memory) = error {
+        return Err(Stop::Memory);
+    }
+    let mut answer = Answer::new(alloc);
+    answer.debug(&error);
+    answer.finish()
+}
+
+/// What the trees of a source are, and what is printed of them.
+fn trees(alloc: Global, text: &str) -> Result<(String, String), Stop> {
+    let (mut trees, mut printed) = (Answer::new(alloc), Answer::new(alloc));
+    let stream = tokens_of(alloc, text)?;
+    for tree in stream.run().iter() {
+        push_tree(&mut trees, tree);
+        trees.text("; ");
+    }
+    printed.tokens(stream.run());
+    Ok((trees.finish()?, printed.finish()?))
+}
+
+/// How the tokens of a source are printed, of which the same trees are read and the same text is printed again.
+pub fn printed(alloc: Global, text: &str) -> Result<String, Stop> {
+    let (trees_once, once) = trees(alloc, text)?;
+    let (trees_again, again) = trees(alloc, &once)?;
+    if (trees_once != trees_again) | (once != again) {
+        return Err(Stop::Input);
+    }
+    Ok(once)
+}
+
+/// Adds whether a mark stands first, and whether it does where it is expected.
+fn push_marks(answer: &mut Answer, run: Tokens<'_, '_>, expected: char) {
+    if let Some(first) = run.first() {
+        answer.debug(&is_punct(&first, expected));
+    }
+    answer.text(" ");
+    answer.debug(&expect_punct(run.first(), expected).is_none());
+    answer.text(" ");
+}
+
+/// Whether a comma and whether an equals sign stands first, and whether it does where it is expected.
+pub fn marks(alloc: Global, text: &str) -> Result<String, Stop> {
+    let mut answer = Answer::new(alloc);
+    let stream = tokens_of(alloc, text)?;
+    push_marks(&mut answer, stream.run(), ',');
+    push_marks(&mut answer, stream.run(), '=');
+    answer.finish()
+}
+
+/// The name that a text is, its span, and the tokens and the span of a name with this text at 5..9.
+pub fn name(alloc: Global, text: &str) -> Result<String, Stop> {
+    let mut answer = Answer::new(alloc);
+    let made = text.to_ident();
+    answer.text(made.text);
+    answer.span(" ", made.span);
+    let span = Span { from: 5, to: 9 };
+    let alone = TokenStream::from_ident(alloc, Ident { text, span })?;
+    answer.span(" ", alone.run().span());
+    answer.tokens(alone.run());
+    answer.finish()
+}
+
+/// Adds how tokens are printed, and a semicolon.
+fn push_tokens(alloc: Global, answer: &mut Answer, tokens: &MaybeVoid<'_>) {
+    match tokens.print(alloc) {
+        Ok(text) => answer.text(&text),
+        Err(_) => answer.lack(),
+    }
+    answer.text("; ");
+}
+
+/// What stood there when tokens took the place of none, when all but their first took theirs, when these were taken, and then.
+pub fn replaced(alloc: Global, text: &str) -> Result<String, Stop> {
+    let mut answer = Answer::new(alloc);
+    let stream = tokens_of(alloc, text)?;
+    let rest = stream.run().rest().to_stream(alloc)?;
+    let mut tokens = MaybeVoid::Void;
+    push_tokens(alloc, &mut answer, &tokens.replace(stream));
+    push_tokens(alloc, &mut answer, &tokens.replace(rest));
+    push_tokens(alloc, &mut answer, &tokens.take());
+    push_tokens(alloc, &mut answer, &tokens);
+    answer.finish()
+}
+
+/// The value of a literal.
+pub fn value(alloc: Global, text: &str) -> Result<String, Stop> {
+    let mut answer = Answer::new(alloc);
+    let to = text.len();
+    let literal = Literal {
+        text,
+        span: Span { from: 0, to },
+    };
+    answer.debug(&literal.value(alloc)?);
+    answer.finish()
+}
+
+const FIRST: Span = Span { from: 0, to: 1 };
+
+/// The faults with these texts, or none where there is no text.
+fn faults_of(alloc: Global, text: &str) -> Result<Errors, Memory> {
+    let mut errors = Errors::new(alloc);
+    if text.is_empty() {
+        return Ok(errors);
+    }
+    for message in text.split(" ¦ ") {
+        errors.err(FaultCode::CallbackValue, message, FIRST)?;
+    }
+    Ok(errors)
+}
+
+/// How faults with these texts are rendered, or nothing where there are none.
+pub fn rendered(alloc: Global, text: &str) -> Result<String, Stop> {
+    let errors = faults_of(alloc, text)?;
+    match errors.render()? {
+        Some(text) => Ok(text),
+        None => Ok(String::new(alloc)),
+    }
+}
