@@ -8,11 +8,19 @@
 
 mod answer;
 mod answering;
+mod attributes;
+mod cycles;
+mod definitions;
+mod errors;
 mod items;
+mod leaves;
 mod notation;
+mod parameters;
 mod patterns;
 mod refusing;
+mod sets;
 mod stop;
+mod subpatterns;
 mod tokens;
 mod types;
 
