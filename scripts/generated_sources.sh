@@ -20,12 +20,21 @@ program=$(realpath "${1:-$scripts/../crates/logos_program/out/logos_program}")
 calls=$(realpath "${2:-$scripts/../crates/logos_calls/out/logos_calls}")
 shift $(($# < 2 ? $# : 2))
 export PYTHONDONTWRITEBYTECODE=1
-python3 "$scripts/generated_sources/main.py" "$program" "$@"
+room=$(mktemp -d)
+trap 'rm -rf "$room"' EXIT
+python3 "$scripts/generated_sources/main.py" "$program" "$@" | tee "$room/sources"
 [ $# = 0 ] || exit 0
 
-answers=$(python3 "$scripts/generated_sources/changed.py" | "$calls") || {
-    head -n 20 <<< "$answers" >&2
+if python3 "$scripts/generated_sources/changed.py" | "$calls" > "$room/changed"; then
+    echo "generated_sources: changed enums are read as the plain reader has it"
+else
+    head -n 20 "$room/changed" >&2
     echo "generated_sources: some changed enums are not read as the plain reader has it" >&2
-    exit 1
-}
-echo "generated_sources: of changed enums ${answers##*$'\n'}"
+    echo "0 passed, 1 failed" >> "$room/changed"
+fi
+cat "$room/sources" "$room/changed" | awk '
+    / passed, [0-9]+ failed$/ { good += $1; bad += $3 }
+    END {
+        print good " passed, " bad " failed"
+        exit bad > 0
+    }'
