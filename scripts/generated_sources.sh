@@ -8,12 +8,33 @@
 # source; it fails too where some kind of fault was met in no source. What the text of a pattern's fault says of its place and kind is left open,
 # and so is the chart of a source with a look.
 #
-# It needs Python 3 without packages, and the program as `rt ci` leaves it in crates/logos_program/out, or the first argument. Seeds behind it
-# ask for those sources alone.
+# Then it changes three enums piece by piece: each piece, and each two of which one follows the other closely, is dropped, doubled or turned with
+# the next. Of each such enum the program of calls must give the fault that the plain reader finds in it.
+#
+# It needs Python 3 without packages, and the program and the program of calls as `rt ci` leaves them in crates/logos_program/out and
+# crates/logos_calls/out, or the first and the second argument. Seeds after them ask for those sources alone.
 set -euo pipefail
 
 scripts=$(cd "$(dirname "${BASH_SOURCE[0]}")" && pwd)
 program=$(realpath "${1:-$scripts/../crates/logos_program/out/logos_program}")
-shift || true
+calls=$(realpath "${2:-$scripts/../crates/logos_calls/out/logos_calls}")
+shift $(($# < 2 ? $# : 2))
 export PYTHONDONTWRITEBYTECODE=1
-python3 "$scripts/generated_sources/main.py" "$program" "$@"
+room=$(mktemp -d)
+trap 'rm -rf "$room"' EXIT
+python3 "$scripts/generated_sources/main.py" "$program" "$@" | tee "$room/sources"
+[ $# = 0 ] || exit 0
+
+if python3 "$scripts/generated_sources/changed.py" | "$calls" > "$room/changed"; then
+    echo "generated_sources: changed enums are read as the plain reader has it"
+else
+    head -n 20 "$room/changed" >&2
+    echo "generated_sources: some changed enums are not read as the plain reader has it" >&2
+    echo "0 passed, 1 failed" >> "$room/changed"
+fi
+cat "$room/sources" "$room/changed" | awk '
+    / passed, [0-9]+ failed$/ { good += $1; bad += $3 }
+    END {
+        print good " passed, " bad " failed"
+        exit bad > 0
+    }'
