@@ -8,11 +8,25 @@
 
 mod answer;
 mod answering;
+mod automata;
+mod classes;
+mod codes;
+mod expressions;
+mod graphs;
+mod inputs;
 mod items;
+mod lexers;
+mod nodes;
 mod notation;
 mod patterns;
 mod refusing;
+mod rules;
+mod runs;
+mod single;
+mod sources;
+mod states;
 mod stop;
+mod texts;
 mod tokens;
 mod types;
 
