@@ -17,11 +17,11 @@ pub fn push_type(answer: &mut Answer, type_expr: &TypeExpr<'_>) {
     }
 }
 
-/// Adds why a source is no type: what stands there is left out, or does not fit.
+/// Adds why a source is no type: it is not supported there, or it is not expected.
 fn push_fault(answer: &mut Answer, fault: TypeFault) {
     match fault {
-        TypeFault::Unsupported { span } => answer.span("left out ", span),
-        TypeFault::Misfit { span } => answer.span("misfit ", span),
+        TypeFault::Unsupported { span } => answer.span("unsupported ", span),
+        TypeFault::Misfit { span } => answer.span("unexpected ", span),
         TypeFault::LimitNesting => answer.text("limit"),
         TypeFault::Memory => answer.lack(),
     }
