@@ -39,7 +39,11 @@ fn push_comparisons(answer: &mut Answer, made: &[Comparisons]) {
 
 /// Adds for a byte whether a class has it, and whether its first comparison holds.
 fn push_held(answer: &mut Answer, class: &ByteClass, made: &[Comparisons], byte: u8) {
-    answer.text(if class.to_table()[byte as usize] { " 1" } else { " 0" });
+    answer.text(if class.to_table()[byte as usize] {
+        " 1"
+    } else {
+        " 0"
+    });
     for first in made.first() {
         answer.text(if first.holds(byte) { "1" } else { "0" });
     }

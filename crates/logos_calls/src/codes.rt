@@ -6,10 +6,12 @@ use crate::answer::Answer;
 use crate::lexers::{push_first, push_items, push_utf8, push_walk};
 use crate::nodes::{push_kept, push_nodes};
 use crate::notation::has_word;
-use crate::rules::{NAME, label, leaves_of, type_of};
+use crate::rules::{NAME, label, leaves_of};
 use crate::single::push_single;
 use crate::stop::Stop;
 use crate::texts::{push_again, push_around, push_part};
+use crate::tokens::tokens_of;
+use crate::types::type_of;
 use logos_generator::code::{Code, Config};
 use logos_generator::generator::Generator;
 use logos_graph::graph::{BuildError, Config as GraphConfig, Graph};
@@ -116,7 +118,10 @@ fn of_graph(alloc: Global, asked: Asked<'_>, graph: &Graph<'static>) -> Result<S
         return Err(Stop::Input);
     }
     let is_plain = has_word(asked.words, "plain");
-    let this = type_of(alloc, !is_plain)?;
+    let this = type_of(
+        alloc,
+        &tokens_of(alloc, if is_plain { "A" } else { "A<u8>" })?,
+    )?;
     if is_plain {
         return by_graph(alloc, asked, graph, &this, None);
     }

@@ -3,7 +3,7 @@
 use crate::answer::Answer;
 use crate::automata::{push_children, push_lists};
 use crate::rules::leaves_of;
-use crate::states::{push_equal, push_found, push_names};
+use crate::states::{found, push_equal, push_names};
 use crate::stop::Stop;
 use logos_graph::graph::{BuildError, Config, Graph, State};
 use logos_token::error::Memory;
@@ -48,14 +48,6 @@ fn count_states(graph: &Graph<'_>) -> usize {
     count
 }
 
-/// Adds the chart of a graph.
-fn push_chart(alloc: Global, answer: &mut Answer, graph: &Graph<'_>) {
-    match graph.get_mermaid(alloc) {
-        Ok(chart) => answer.text(&chart),
-        Err(Memory) => answer.lack(),
-    }
-}
-
 /// Adds each state in the plain form, and in the alternate one.
 fn push_states(answer: &mut Answer, graph: &Graph<'_>) {
     for number in graph.iter_states() {
@@ -82,7 +74,12 @@ fn push_backward(answer: &mut Answer, graph: &Graph<'_>) {
 /// Adds what a graph finds at the front of each text.
 fn push_finds(answer: &mut Answer, graph: &Graph<'_>, texts: &str) {
     for text in texts.split(" ¦ ") {
-        push_found(answer, graph, text.as_bytes());
+        if let Some((leaf, to)) = found(graph, text.as_bytes()) {
+            answer.display(&leaf.0);
+            answer.text(" ");
+            answer.display(&to);
+            answer.text(" ");
+        }
         answer.text(";");
     }
 }
@@ -151,11 +148,17 @@ fn push_telling(alloc: Global, answer: &mut Answer, graph: &Graph<'_>) {
 }
 
 /// Adds what is asked of a graph, of these texts perhaps.
-fn push_view(alloc: Global, answer: &mut Answer, graph: &Graph<'_>, view: View, texts: &str) {
+fn push_view(
+    alloc: Global,
+    answer: &mut Answer,
+    graph: &Graph<'_>,
+    view: View,
+    texts: &str,
+) -> Result<(), Stop> {
     match view {
         View::Listing => answer.display(graph),
         View::Errors => answer.debug(&graph.errors()),
-        View::Chart => push_chart(alloc, answer, graph),
+        View::Chart => answer.text(&graph.get_mermaid(alloc)?),
         View::States => push_states(answer, graph),
         View::Backward => push_backward(answer, graph),
         View::Count => answer.display(&count_states(graph)),
@@ -166,8 +169,9 @@ fn push_view(alloc: Global, answer: &mut Answer, graph: &Graph<'_>, view: View, 
         View::Checks => push_checks(answer, graph, texts),
         View::Telling => push_telling(alloc, answer, graph),
         View::Names => push_names(alloc, answer, graph),
-        View::Equal => push_equal(alloc, answer, graph),
+        View::Equal => return push_equal(alloc, answer, graph),
     }
+    Ok(())
 }
 
 /// Answers what is asked of the graph of rules, of the texts after ` ‖ ` perhaps; or the limit that it passes.
@@ -176,7 +180,7 @@ pub fn graph(alloc: Global, view: View, text: &str) -> Result<String, Stop> {
     let (rules, texts) = text.split_once(" ‖ ").unwrap_or((text, ""));
     let leaves = leaves_of(alloc, rules)?;
     match &Graph::new(alloc, leaves, Config { utf8_mode: true }) {
-        Ok(graph) => push_view(alloc, &mut answer, graph, view, texts),
+        Ok(graph) => push_view(alloc, &mut answer, graph, view, texts)?,
         Err(BuildError::Memory) => return Err(Stop::Memory),
         Err(error) => answer.debug(error),
     }

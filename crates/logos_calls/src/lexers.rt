@@ -7,7 +7,6 @@ use crate::notation::has_word;
 use crate::stop::Stop;
 use logos_generator::code::Code;
 use logos_generator::machine::{Action, Item, Lexer};
-use logos_hir::leaf::LeafId;
 use logos_token::token::Span;
 use std::alloc::Global;
 
@@ -55,11 +54,15 @@ fn push_items_of(
     action: Action,
     takes_a: bool,
 ) {
-    let lexer = Lexer::new_bytes(code, input, |_, slice: &[u8]| if takes_a & (slice != b"a".as_slice()) {
-        Action::Error
-    } else {
-        action
-    });
+    let lexer = Lexer::new_bytes(
+        code,
+        input,
+        |_, slice: &[u8]| if takes_a & (slice != b"a".as_slice()) {
+            Action::Error
+        } else {
+            action
+        },
+    );
     let Ok(mut lexer) = lexer else {
         return answer.text("the input is not UTF-8");
     };
@@ -85,11 +88,6 @@ pub fn push_items(
     Ok(())
 }
 
-/// A callback that lets each match stand.
-fn emit(_leaf: LeafId, _slice: &[u8]) -> Action {
-    Action::Emit
-}
-
 /// Returns whether the slice and the remainder are those of the span.
 fn is_in_step(input: &[u8], span: Span, slice: &[u8], remainder: &[u8]) -> bool {
     (input.get(span.from..span.to) == Some(slice)) & (input.get(span.to..) == Some(remainder))
@@ -100,13 +98,18 @@ pub fn push_walk(answer: &mut Answer, code: &Code<'_>, asked: Asked<'_>) -> Resu
     let Ok(calls) = asked.words.parse::<usize>() else {
         return Err(Stop::Input);
     };
-    let mut lexer = Lexer::new_str(code, asked.input, emit);
+    let mut lexer = Lexer::new_str(code, asked.input, |_, _: &[u8]| Action::Emit);
     for number in 0..calls {
         let span = lexer.span();
         answer.span(if number > 0 { "; " } else { "" }, span);
         answer.text(" by ");
         answer.display(&lexer.steps());
-        if !is_in_step(asked.input.as_bytes(), span, lexer.slice(), lexer.remainder()) {
+        if !is_in_step(
+            asked.input.as_bytes(),
+            span,
+            lexer.slice(),
+            lexer.remainder(),
+        ) {
             answer.text(" with another slice");
         }
         if lexer.next().is_none() {
@@ -116,15 +119,10 @@ pub fn push_walk(answer: &mut Answer, code: &Code<'_>, asked: Asked<'_>) -> Resu
     Ok(())
 }
 
-/// Returns the first item, which outlives its lexer, and may outlive the code.
-fn first_item<'i>(code: &Code<'_>, input: &'i str) -> Option<Item<'i>> {
-    let mut lexer = Lexer::new_str(code, input, emit);
-    lexer.next()
-}
-
-/// Adds the slice of the first item, after its lexer is gone.
+/// Adds the slice of the first item, which outlives its lexer.
 pub fn push_first(answer: &mut Answer, code: &Code<'_>, input: &str) {
-    match first_item(code, input) {
+    let item = Lexer::new_str(code, input, |_, _: &[u8]| Action::Emit).next();
+    match item {
         Some(Item::Token { slice, .. }) => answer.text(str::from_utf8(slice).unwrap_or("?")),
         _ => answer.text("no token"),
     }
@@ -138,7 +136,7 @@ pub fn push_utf8(
     input: &str,
 ) -> Result<(), Stop> {
     let input = bytes_of(alloc, input)?;
-    match Lexer::new_bytes(code, &input, emit) {
+    match Lexer::new_bytes(code, &input, |_, _: &[u8]| Action::Emit) {
         Ok(_) => answer.text("taken"),
         Err(refused) => answer.display(&refused.valid_up_to),
     }

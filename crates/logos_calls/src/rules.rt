@@ -5,7 +5,7 @@ use crate::tokens::tokens_of;
 use logos_pattern::leaf::{Callback, InlineCallback, Leaf, VariantKind};
 use logos_pattern::pattern::{Pattern, PatternError};
 use logos_token::token::{Ident, Span};
-use logos_type::{Leaf as TypeLeaf, Part, TypeExpr};
+use logos_type::{Part, TypeExpr};
 use std::alloc::Global;
 
 const NOWHERE: Span = Span { from: 0, to: 0 };
@@ -113,24 +113,4 @@ pub fn leaves_of(alloc: Global, rules: &str) -> Result<Vec<Leaf<'static>>, Stop>
         push_leaf(alloc, &mut leaves, rule)?;
     }
     Ok(leaves)
-}
-
-/// Returns the parts of the type `A<u8>`.
-fn parts_of(alloc: Global) -> Result<Vec<Part<'static>>, Stop> {
-    let mut parts = Vec::new(alloc);
-    push(&mut parts, Part::Leaf(TypeLeaf::Word("A")))?;
-    push(&mut parts, Part::Leaf(TypeLeaf::Mark('<')))?;
-    push(&mut parts, Part::Name("u8"))?;
-    push(&mut parts, Part::Leaf(TypeLeaf::Mark('>')))?;
-    Ok(parts)
-}
-
-/// Returns the type of the enum: `A`, or `A<u8>` where it has a parameter.
-pub fn type_of(alloc: Global, has_parameter: bool) -> Result<TypeExpr<'static>, Stop> {
-    let part = if has_parameter {
-        Part::Whole(parts_of(alloc)?)
-    } else {
-        Part::Name("A")
-    };
-    Ok(TypeExpr { part })
 }

@@ -78,11 +78,6 @@ struct Sink {
     held: Vec<u8>,
 }
 
-/// Why a writer fails.
-fn failure() -> io::Error {
-    io::Error::from(io::ErrorKind::Other)
-}
-
 impl Write for Sink {
     fn write(&mut self, bytes: &[u8]) -> io::Result<usize> {
         match self.way {
@@ -95,7 +90,7 @@ impl Write for Sink {
             Way::Full => self.held.write_all(bytes).map(|_| 0),
             Way::Shut => {
                 self.held.write_all(bytes)?;
-                Err(failure())
+                Err(io::Error::from(io::ErrorKind::Other))
             }
         }
     }
@@ -103,7 +98,7 @@ impl Write for Sink {
     fn flush(&mut self) -> io::Result<()> {
         match self.way {
             Way::Held => self.through.write_all(self.held.as_slice()),
-            Way::Stuck => Err(failure()),
+            Way::Stuck => Err(io::Error::from(io::ErrorKind::Other)),
             _ => Ok(()),
         }
     }
@@ -130,17 +125,8 @@ fn words_of(alloc: Global, text: &str) -> Result<Vec<String>, Stop> {
     Ok(words)
 }
 
-/// Returns whether a writer was given the line that says that memory ran out.
-fn has_no_memory(sink: &Sink) -> bool {
-    (sink.through.as_slice() == LACK) | (sink.held.as_slice() == LACK)
-}
-
+/// The line that says that memory ran out.
 const LACK: &[u8] = b"out of memory\n";
-
-/// Adds the bytes that came through.
-fn push_through(answer: &mut Answer, sink: &Sink) {
-    answer.text(str::from_utf8(&sink.through).unwrap_or("?"));
-}
 
 /// Answers the status of a run, with what comes through on standard output and on standard error. The words, the ways of both and of the
 /// files, the source and the input stand with ` ‖ ` between them.
@@ -160,12 +146,13 @@ pub fn status(alloc: Global, text: &str) -> Result<String, Stop> {
     let (mut out, mut err) = (writer(alloc, first)?, writer(alloc, second)?);
     let words = words_of(alloc, words)?;
     let status = run(alloc, &words, &mut files, &mut out, &mut err);
-    if ways.is_empty() & has_no_memory(&err) {
+    let lacks = (err.through.as_slice() == LACK) | (err.held.as_slice() == LACK);
+    if lacks & ways.is_empty() {
         return Err(Stop::Memory);
     }
     answer.display(&status);
     answer.text(": ");
-    push_through(&mut answer, &out);
-    push_through(&mut answer, &err);
+    answer.text(str::from_utf8(&out.through).unwrap_or("?"));
+    answer.text(str::from_utf8(&err.through).unwrap_or("?"));
     answer.finish()
 }

@@ -14,7 +14,11 @@ use logos_graph::graph::{ByteClass, Graph, State, StateData, States};
 use std::alloc::Global;
 
 /// Returns an error unless the tables of a generator are these.
-fn stays(alloc: Global, generator: &Generator<'_, 'static>, before: &[[u8; 256]]) -> Result<(), Stop> {
+fn stays(
+    alloc: Global,
+    generator: &Generator<'_, 'static>,
+    before: &[[u8; 256]],
+) -> Result<(), Stop> {
     if generator.render_luts(alloc)?.as_slice() == before {
         Ok(())
     } else {

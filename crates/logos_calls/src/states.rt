@@ -45,34 +45,30 @@ fn state(alloc: Global, leaf: usize, last: u8, target: State) -> Result<StateDat
     })
 }
 
-/// Adds whether a state equals one that another leads to, this one with an end, one of another leaf, one with another range, and one with
-/// another target.
-fn push_equal_states(
-    alloc: Global,
-    answer: &mut Answer,
-    one: State,
-    other: State,
-) -> Result<(), Stop> {
+/// Adds 1 if two states are equal, else 0.
+fn push_is_equal(answer: &mut Answer, one: &StateData, other: &StateData) {
+    answer.text(if one == other { "1" } else { "0" });
+}
+
+/// Adds whether a state that leads to the second of a graph equals one that the third leads to, this one with an end, one of another leaf,
+/// one with another range, and one that leads to the third.
+pub fn push_equal(alloc: Global, answer: &mut Answer, graph: &Graph<'_>) -> Result<(), Stop> {
+    let Some(one) = graph.iter_states().nth(1) else {
+        return Err(Stop::Input);
+    };
+    let Some(other) = graph.iter_states().nth(2) else {
+        return Err(Stop::Input);
+    };
     let first = state(alloc, 0, b'a', one)?;
     let mut second = state(alloc, 0, b'a', one)?;
     second.backward.push(other)?;
-    answer.debug(&(first == second));
+    push_is_equal(answer, &first, &second);
     second.eoi = Some(one);
-    answer.debug(&(first == second));
-    answer.debug(&(first == state(alloc, 1, b'a', one)?));
-    answer.debug(&(first == state(alloc, 0, b'b', one)?));
-    answer.debug(&(first == state(alloc, 0, b'a', other)?));
+    push_is_equal(answer, &first, &second);
+    push_is_equal(answer, &first, &state(alloc, 1, b'a', one)?);
+    push_is_equal(answer, &first, &state(alloc, 0, b'b', one)?);
+    push_is_equal(answer, &first, &state(alloc, 0, b'a', other)?);
     Ok(())
-}
-
-/// Adds which states equal another, made with the second and third states of a graph.
-pub fn push_equal(alloc: Global, answer: &mut Answer, graph: &Graph<'_>) {
-    match (graph.iter_states().nth(1), graph.iter_states().nth(2)) {
-        (Some(one), Some(other)) => if push_equal_states(alloc, answer, one, other).is_err() {
-            answer.lack();
-        },
-        _ => answer.text("too few states"),
-    }
 }
 
 /// Returns where a byte leads.
@@ -104,7 +100,7 @@ fn marked(
 }
 
 /// Returns the leaf and the length of the match that a graph finds at the front of a text.
-fn found(graph: &Graph<'_>, text: &[u8]) -> Option<(LeafId, usize)> {
+pub fn found(graph: &Graph<'_>, text: &[u8]) -> Option<(LeafId, usize)> {
     let mut state = graph.iter_states().next()?;
     let mut last = None;
     for (at, byte) in text.iter().enumerate() {
@@ -125,15 +121,5 @@ fn found(graph: &Graph<'_>, text: &[u8]) -> Option<(LeafId, usize)> {
     match graph.get_state(state).eoi {
         Some(end) => marked(graph, end, text.len(), last),
         None => last,
-    }
-}
-
-/// Adds the leaf and the length of the match that a graph finds at the front of a text, if it finds one.
-pub fn push_found(answer: &mut Answer, graph: &Graph<'_>, text: &[u8]) {
-    if let Some((leaf, to)) = found(graph, text) {
-        answer.display(&leaf.0);
-        answer.text(" ");
-        answer.display(&to);
-        answer.text(" ");
     }
 }

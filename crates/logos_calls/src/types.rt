@@ -58,7 +58,7 @@ pub fn levels(alloc: Global, text: &str) -> Result<String, Stop> {
 }
 
 /// The type with which tokens begin.
-fn type_of<'s>(alloc: Global, stream: &TokenStream<'s>) -> Result<TypeExpr<'s>, Stop> {
+pub fn type_of<'s>(alloc: Global, stream: &TokenStream<'s>) -> Result<TypeExpr<'s>, Stop> {
     match read_type(alloc, stream.run()) {
         Ok((type_expr, _)) => Ok(type_expr),
         Err(TypeFault::Memory) => Err(Stop::Memory),
