@@ -1,41 +1,55 @@
 #!/usr/bin/env bash
-# Refuses each request for memory of the libraries' public calls in turn, and looks at the answers.
+# Refuses each request for memory of the library's calls in turn, and compares the answers.
 #
-# The program `logos_memory_tests` asks each call that takes memory about each of its sources: once with ample memory, and then once for
-# each request that the call makes, with just that one refused. The answer must be the ample one or want of memory. After want of memory what
-# the caller holds must be as it was, and the same call, asked again, must give the ample answer; or, where a parser was lent, it must have
-# failed, so that it answers `Memory` again. The script fails where another answer comes, or where of some call nothing was refused or
-# no refusal was told.
+# The program `logos_calls` answers the rows in rows/calls, but for those in large.rows: each once with ample memory, and then once for each
+# request that its answer makes, with just that one refused. The answer must be the wanted one, or that memory ran out; what is lent to a call
+# must then be as it was, and a parser to which it was lent must answer again that memory ran out. The script fails where a row fails, where
+# nothing was refused under a header, or where a call of the program has no row.
 #
-# It needs gcc, and the program as `rt ci` leaves it in crates/logos_memory_tests/out, or the first argument. The program is loaded with
+# It needs gcc, and the program as `rt ci` leaves it in crates/logos_calls/out, or the first argument. The program is loaded with
 # scripts/refused_memory/refuse_next.c, which refuses the request that the program asks it to refuse.
 set -euo pipefail
 
 scripts=$(cd "$(dirname "${BASH_SOURCE[0]}")" && pwd)
-program=$(realpath "${1:-$scripts/../crates/logos_memory_tests/out/logos_memory_tests}")
+crate=$scripts/../crates/logos_calls
+program=$(realpath "${1:-$crate/out/logos_calls}")
 room=$(mktemp -d)
 trap 'rm -rf "$room"' EXIT
 gcc -O1 -shared -fPIC -o "$room/refuse_next.so" "$scripts/refused_memory/refuse_next.c"
 
-LD_PRELOAD="$room/refuse_next.so" "$program" refuse > "$room/said" || {
-    cat "$room/said" >&2
+cd "$scripts/../rows/calls"
+ls -S -- *.rows | grep -v '^large\.rows$' | xargs -P "$(nproc)" -I '{}' sh -c \
+    'LD_PRELOAD="$1/refuse_next.so" "$2" refuse < "$3" > "$1/$3" || echo "$3: status $?" >> "$1/ended"' sh "$room" "$program" '{}'
+if [ -e "$room/ended" ]; then
+    cat "$room"/*.rows "$room/ended" >&2
     echo "refused_calls: the program does not end well" >&2
     exit 1
-}
+fi
 
-awk '
-    / refused, [0-9]+ told, / {
-        line = $0
-        sub(/^.*: /, "", line)
-        split(line, number, /[^0-9]+/)
-        calls++
-        refused += number[1]
-        told += number[2]
-        if (number[1] > 0 && number[2] > 0) next
+# The names in the table of calls, and the lines of all runs.
+{ grep -Eo '^ +\("[^"]+", Call::' "$crate/src/answering.rt" && cat "$room"/*.rows; } | awk '
+    /, Call::$/ {
+        split($0, part, "\"")
+        names[part[2]]
+        next
     }
+    /^refused: .*: [0-9]+$/ {
+        name = $2
+        sub(/:$/, "", name)
+        met[name] += $NF
+        refused += $NF
+        next
+    }
+    / passed, 0 failed$/ { rows += $1; next }
     { print "refused_calls: " $0 > "/dev/stderr"; wrong = 1 }
     END {
+        for (name in names) {
+            calls++
+            if (!met[name]) {
+                print "refused_calls: nothing was refused of " name > "/dev/stderr"
+                wrong = 1
+            }
+        }
         if (wrong || !calls) exit 1
-        print "refused_calls: of " refused " refused requests of " calls " calls " told " end in want of memory, and " \
-            (refused - told) " change nothing"
-    }' "$room/said"
+        print "refused_calls: in " rows " rows of " calls " calls " refused " requests were refused, each with the wanted answer or none"
+    }'

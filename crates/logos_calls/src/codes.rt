@@ -118,10 +118,8 @@ fn of_graph(alloc: Global, asked: Asked<'_>, graph: &Graph<'static>) -> Result<S
         return Err(Stop::Input);
     }
     let is_plain = has_word(asked.words, "plain");
-    let this = type_of(
-        alloc,
-        &tokens_of(alloc, if is_plain { "A" } else { "A<u8>" })?,
-    )?;
+    let tokens = tokens_of(alloc, if is_plain { "A" } else { "A<u8>" })?;
+    let this = type_of(alloc, tokens.run())?;
     if is_plain {
         return by_graph(alloc, asked, graph, &this, None);
     }

@@ -1,6 +1,7 @@
 //! Calls of enums, and how their answers are written.
 
 use crate::answer::Answer;
+use crate::notation::has_word;
 use crate::stop::Stop;
 use crate::tokens::tokens_of;
 use logos_item::{Field, Fields, ItemEnum, Parameter, ReadError, Variant, read_enum};
@@ -67,26 +68,15 @@ fn push_item(answer: &mut Answer, item: &ItemEnum<'_, '_>) {
     }
 }
 
-/// Reads the enum that a source is, or why it is none.
-pub fn read(alloc: Global, text: &str) -> Result<String, Stop> {
+/// Returns the enum that a source is, or why it is none; where the header asks for the `fault` alone, `none` for an enum.
+pub fn read(alloc: Global, words: &str, text: &str) -> Result<String, Stop> {
     let mut answer = Answer::new(alloc);
     let stream = tokens_of(alloc, text)?;
     match &read_enum(alloc, stream.run()) {
+        Ok(_) if has_word(words, "fault") => answer.text("none"),
         Ok(item) => push_item(&mut answer, item),
         Err(ReadError::Memory) => return Err(Stop::Memory),
         Err(error) => answer.debug(error),
     }
-    answer.finish()
-}
-
-/// Reads why a source is no enum, or `None`.
-pub fn fault(alloc: Global, text: &str) -> Result<String, Stop> {
-    let stream = tokens_of(alloc, text)?;
-    let error = read_enum(alloc, stream.run()).err();
-    if let Some(ReadError::Memory) = error {
-        return Err(Stop::Memory);
-    }
-    let mut answer = Answer::new(alloc);
-    answer.debug(&error);
     answer.finish()
 }

@@ -11,7 +11,7 @@ use logos_type::{Part, TypeExpr};
 use std::alloc::Global;
 
 /// Adds ranges with commas between them, as hexadecimal numbers.
-fn push_ranges(answer: &mut Answer, ranges: &[Range]) {
+pub fn push_ranges(answer: &mut Answer, ranges: &[Range]) {
     let mut before = "";
     for range in ranges {
         answer.text(before);
@@ -49,7 +49,7 @@ fn push_counts(answer: &mut Answer, min: u32, max: Option<u32>, greedy: bool) {
 
 /// Adds a tree: `[..]` holds characters, `<..>` bytes.
 #[cycle(tree)]
-fn push_hir(answer: &mut Answer, hir: &Hir) {
+pub fn push_hir(answer: &mut Answer, hir: &Hir) {
     match hir {
         Hir::Empty => answer.text("E"),
         Hir::Literal(bytes) => answer.bytes(bytes),
@@ -226,32 +226,59 @@ fn with<'s>(leaf: Leaf<'s>, words: &str, priority: usize, tokens: TokenStream<'s
     }
 }
 
-/// Adds where a callback and its copy stand, and the tokens of the copy.
-fn push_callback(answer: &mut Answer, callback: &Callback<'_>) {
-    answer.span(" ", callback.span());
-    let Ok(copy) = callback.clone() else {
+/// Adds the parameter, the body and the place of a copy of a callback.
+fn push_inline(answer: &mut Answer, inline: &InlineCallback<'_>) {
+    let Ok(copy) = inline.clone() else {
         return answer.lack();
     };
-    answer.span(" ", copy.span());
-    answer.text(" ");
+    answer.text("|");
+    answer.text(copy.arg.text);
+    answer.text("| ");
+    answer.tokens(copy.body.run());
+    answer.span(" @", copy.span);
+}
+
+/// Adds a copy of a callback: what it names, or its parameter, body and place; `-` for none.
+pub fn push_callback(answer: &mut Answer, callback: &Option<Callback<'_>>) {
+    let Some(callback) = callback else {
+        return answer.text("-");
+    };
+    let copy: Result<_, _> = callback.clone();
     match &copy {
-        Callback::Label(tokens) => answer.tokens(tokens.run()),
-        Callback::Inline(inline) => answer.tokens(inline.body.run()),
+        Ok(Callback::Label(tokens)) => answer.tokens(tokens.run()),
+        Ok(Callback::Inline(inline)) => push_inline(answer, inline),
+        Err(_) => answer.lack(),
     }
 }
 
-/// Adds a leaf: how it is printed, its priority, where its callback stands, and a copy of that.
-fn push_leaf(answer: &mut Answer, leaf: &Leaf<'_>) {
+/// Adds where the name of a variant stands, and the type of its field, as a copy has them; nothing of a skip.
+fn push_kind(answer: &mut Answer, kind: &VariantKind<'_>) {
+    let copy: Result<_, _> = kind.clone();
+    match &copy {
+        Ok(VariantKind::Unit(name)) => answer.span(" ", name.span),
+        Ok(VariantKind::Value(name, field)) => {
+            answer.span(" ", name.span);
+            answer.text(" ");
+            answer.type_expr(field);
+        }
+        Ok(VariantKind::Skip) => {}
+        Err(_) => answer.lack(),
+    }
+}
+
+/// Adds a leaf: how it is printed, its priority, where its literal stands, its variant and its callback.
+pub fn push_leaf(answer: &mut Answer, leaf: &Leaf<'_>) {
     answer.display(leaf);
     answer.text(" ");
     answer.display(&leaf.priority);
-    match &leaf.callback {
-        Some(callback) => push_callback(answer, callback),
-        None => answer.text(" none"),
-    }
+    answer.span(" ", leaf.span);
+    push_kind(answer, &leaf.kind);
+    answer.text(" ");
+    push_callback(answer, &leaf.callback);
+    answer.text(";");
 }
 
-/// Makes the leaf of `"ab"`, for which tokens are set as the header says.
+/// Returns the leaf of `"ab"`, for which tokens are set as the header says, and the place of its callback.
 pub fn leaf(alloc: Global, words: &str, text: &str) -> Result<String, Stop> {
     let mut answer = Answer::new(alloc);
     let tokens = tokens_of(alloc, text)?;
@@ -262,5 +289,8 @@ pub fn leaf(alloc: Global, words: &str, text: &str) -> Result<String, Stop> {
     let priority = token_priority(&literal);
     let leaf = with(Leaf::new(literal.span(), pattern), words, priority, tokens);
     push_leaf(&mut answer, &leaf);
+    if let Some(callback) = &leaf.callback {
+        answer.span(" ", callback.span());
+    }
     answer.finish()
 }

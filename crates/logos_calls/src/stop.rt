@@ -15,6 +15,8 @@ pub enum Stop {
     Notation,
     /// The row does not give what the call takes.
     Input,
+    /// A refused request for memory has changed what was lent to the call, or a parser went on after it.
+    Changed,
 }
 
 impl From<AllocError> for Stop {
@@ -42,6 +44,7 @@ impl fmt::Display for Stop {
             Stop::NoCall => "no such call",
             Stop::Notation => "unknown notation",
             Stop::Input => "not what the call takes",
+            Stop::Changed => "changed by a refused request for memory",
         })
     }
 }

@@ -1,9 +1,9 @@
 //! Calls of lexemes, tokens, literals and faults, and how their answers are written.
 
 use crate::answer::Answer;
+use crate::notation::has_word;
 use crate::stop::Stop;
 use logos_lexeme::lexeme::lexeme_at;
-use logos_token::error::{Errors, FaultCode, Memory};
 use logos_token::token::{
     Ident, Literal, Span, TokenError, TokenStream, TokenTree, Tokens, tokenize,
 };
@@ -117,11 +117,19 @@ fn fronts(run: Tokens<'_, '_>) -> (Span, Span, bool) {
     (first, second, run.before(run).is_empty())
 }
 
-/// Where the tokens of a source stand, those in front of all but the first and of all but the first two, what they are, and how a copy of
+/// Returns a buffer that is made of a run, tree by tree.
+fn made_of<'s>(alloc: Global, run: Tokens<'_, 's>) -> Result<TokenStream<'s>, Stop> {
+    let mut stream = TokenStream::new(alloc);
+    for tree in run.iter() {
+        stream = stream.with_tree(tree)?;
+    }
+    Ok(stream)
+}
+
+/// Returns where the tokens of a source stand, those before all but the first and before all but the first two, what they are, and how a copy of
 /// them is printed.
-pub fn stream(alloc: Global, text: &str) -> Result<String, Stop> {
+fn read_stream(alloc: Global, stream: &TokenStream<'_>) -> Result<String, Stop> {
     let mut answer = Answer::new(alloc);
-    let stream = tokens_of(alloc, text)?;
     answer.span("", stream.run().span());
     let (first, second, is_none) = fronts(stream.run());
     answer.span(" ", first);
@@ -132,19 +140,20 @@ pub fn stream(alloc: Global, text: &str) -> Result<String, Stop> {
     answer.debug(&is_none);
     answer.text(": ");
     push_levels(&mut answer, stream.run());
-    let copy = stream.clone()?;
-    answer.tokens(copy.run());
+    let copy = stream.clone()?.run().to_stream(alloc)?;
+    answer.tokens(made_of(alloc, copy.run())?.run());
     answer.finish()
 }
 
-/// Why a source is not read, or `None`.
-pub fn refusal(alloc: Global, text: &str) -> Result<String, Stop> {
-    let error = tokenize(alloc, text).err();
-    if let Some(TokenError::Memory) = error {
-        return Err(Stop::Memory);
-    }
+/// Returns the tokens of a source, or why it has none; where the header asks for the `fault` alone, `none` for tokens.
+pub fn stream(alloc: Global, words: &str, text: &str) -> Result<String, Stop> {
     let mut answer = Answer::new(alloc);
-    answer.debug(&error);
+    match &tokenize(alloc, text) {
+        Ok(_) if has_word(words, "fault") => answer.text("none"),
+        Ok(stream) => return read_stream(alloc, stream),
+        Err(TokenError::Memory) => return Err(Stop::Memory),
+        Err(error) => answer.debug(error),
+    }
     answer.finish()
 }
 
@@ -234,27 +243,4 @@ pub fn value(alloc: Global, text: &str) -> Result<String, Stop> {
     };
     answer.debug(&literal.value(alloc)?);
     answer.finish()
-}
-
-const FIRST: Span = Span { from: 0, to: 1 };
-
-/// The faults with these texts, or none where there is no text.
-fn faults_of(alloc: Global, text: &str) -> Result<Errors, Memory> {
-    let mut errors = Errors::new(alloc);
-    if text.is_empty() {
-        return Ok(errors);
-    }
-    for message in text.split(" ¦ ") {
-        errors.err(FaultCode::CallbackValue, message, FIRST)?;
-    }
-    Ok(errors)
-}
-
-/// How faults with these texts are rendered, or nothing where there are none.
-pub fn rendered(alloc: Global, text: &str) -> Result<String, Stop> {
-    let errors = faults_of(alloc, text)?;
-    match errors.render()? {
-        Some(text) => Ok(text),
-        None => Ok(String::new(alloc)),
-    }
 }

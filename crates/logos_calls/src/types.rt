@@ -4,15 +4,18 @@ use crate::answer::Answer;
 use crate::notation::pair;
 use crate::stop::Stop;
 use crate::tokens::tokens_of;
-use logos_token::token::TokenStream;
+use logos_token::token::Tokens;
 use logos_type::{TypeExpr, exceeds, is_same_type};
 use logos_type_reader::{TypeFault, read_type};
 use std::alloc::Global;
 
-/// Adds how a copy of a type is printed.
-pub fn push_type(answer: &mut Answer, type_expr: &TypeExpr<'_>) {
-    match type_expr.clone() {
-        Ok(copy) => answer.type_expr(&copy),
+/// Adds how a copy of a type with a copy of its part is printed.
+fn push_copy(answer: &mut Answer, type_expr: &TypeExpr<'_>) {
+    let Ok(copy) = type_expr.clone() else {
+        return answer.lack();
+    };
+    match copy.part.clone() {
+        Ok(part) => answer.type_expr(&TypeExpr { part }),
         Err(_) => answer.lack(),
     }
 }
@@ -32,45 +35,39 @@ pub fn read(alloc: Global, text: &str) -> Result<String, Stop> {
     let mut answer = Answer::new(alloc);
     let stream = tokens_of(alloc, text)?;
     match &read_type(alloc, stream.run()) {
-        Ok((type_expr, rest)) if rest.is_empty() => push_type(&mut answer, type_expr),
+        Ok((type_expr, rest)) if rest.is_empty() => push_copy(&mut answer, type_expr),
         Ok(_) => answer.text("none"),
         Err(fault) => push_fault(&mut answer, *fault),
     }
     answer.finish()
 }
 
-/// Adds whether a type has more than 127 levels, and whether it has more than 128.
-fn push_levels(answer: &mut Answer, type_expr: &TypeExpr<'_>) {
-    answer.debug(&exceeds(&type_expr.part, 127));
-    answer.text(" ");
-    answer.debug(&exceeds(&type_expr.part, 128));
-}
-
-/// Whether a type has more than 127 levels, and whether it has more than 128, or why it is none.
-pub fn levels(alloc: Global, text: &str) -> Result<String, Stop> {
-    let mut answer = Answer::new(alloc);
-    let stream = tokens_of(alloc, text)?;
-    match &read_type(alloc, stream.run()) {
-        Ok((read, _)) => push_levels(&mut answer, read),
-        Err(fault) => push_fault(&mut answer, *fault),
-    }
-    answer.finish()
-}
-
-/// The type with which tokens begin.
-pub fn type_of<'s>(alloc: Global, stream: &TokenStream<'s>) -> Result<TypeExpr<'s>, Stop> {
-    match read_type(alloc, stream.run()) {
+/// Returns the type with which a run begins.
+pub fn type_of<'s>(alloc: Global, run: Tokens<'_, 's>) -> Result<TypeExpr<'s>, Stop> {
+    match read_type(alloc, run) {
         Ok((type_expr, _)) => Ok(type_expr),
         Err(TypeFault::Memory) => Err(Stop::Memory),
         Err(_) => Err(Stop::Input),
     }
 }
 
-/// Whether two types are the same.
+/// Returns whether a type has more than so many levels.
+pub fn levels(alloc: Global, words: &str, text: &str) -> Result<String, Stop> {
+    let mut answer = Answer::new(alloc);
+    let stream = tokens_of(alloc, text)?;
+    let Ok(levels) = words.parse::<u32>() else {
+        return Err(Stop::Input);
+    };
+    answer.debug(&exceeds(&type_of(alloc, stream.run())?.part, levels));
+    answer.finish()
+}
+
+/// Returns whether two types are the same.
 pub fn same(alloc: Global, text: &str) -> Result<String, Stop> {
     let mut answer = Answer::new(alloc);
     let (one, other) = pair(text)?;
     let (one, other) = (tokens_of(alloc, one)?, tokens_of(alloc, other)?);
-    answer.debug(&is_same_type(&type_of(alloc, &one)?, &type_of(alloc, &other)?));
+    let (one, other) = (type_of(alloc, one.run())?, type_of(alloc, other.run())?);
+    answer.debug(&is_same_type(&one, &other));
     answer.finish()
 }

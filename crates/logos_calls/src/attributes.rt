@@ -1,0 +1,160 @@
+//! Calls of the pieces of an attribute's arguments, and how these are written.
+
+use crate::answer::Answer;
+use crate::errors::{are_kept, push_errors};
+use crate::stop::Stop;
+use crate::tokens::tokens_of;
+use logos_attribute::nested::{AttributeParser, Nested, NestedValue};
+use logos_attribute::parsed::FromRun;
+use logos_pattern::pattern::Literal;
+use logos_token::error::{Errors, Memory};
+use logos_token::token::Tokens;
+use logos_type::TypeExpr;
+use std::alloc::Global;
+
+/// Adds a run as it is printed, in brackets, after a text.
+fn push_run(answer: &mut Answer, before: &str, run: Tokens<'_, '_>) {
+    answer.text(before);
+    answer.text("[");
+    answer.tokens(run);
+    answer.text("]");
+}
+
+/// Adds what follows a name.
+fn push_value(answer: &mut Answer, value: NestedValue<'_, '_>) {
+    match value {
+        NestedValue::Assign(run) => push_run(answer, " = ", run),
+        NestedValue::Literal(literal) => {
+            answer.text(" ");
+            answer.text(literal.text);
+        }
+        NestedValue::Group(run) => push_run(answer, " in ", run),
+        NestedValue::KeywordAssign(name, run) => {
+            answer.text(" ");
+            answer.text(name.text);
+            push_run(answer, " = ", run);
+        }
+    }
+}
+
+/// Adds a piece.
+fn push_piece(answer: &mut Answer, piece: Nested<'_, '_>) {
+    match piece {
+        Nested::Unnamed(run) => push_run(answer, "", run),
+        Nested::Unexpected(run) => push_run(answer, "unexpected ", run),
+        Nested::Named(name, value) => {
+            answer.text(name.text);
+            push_value(answer, value);
+        }
+    }
+}
+
+/// Returns the pieces of arguments.
+pub fn pieces(alloc: Global, text: &str) -> Result<String, Stop> {
+    let mut answer = Answer::new(alloc);
+    let stream = tokens_of(alloc, text)?;
+    let mut before = "";
+    for piece in AttributeParser::new(stream.run()) {
+        answer.text(before);
+        push_piece(&mut answer, piece);
+        before = "; ";
+    }
+    answer.finish()
+}
+
+/// Returns each run of arguments up to a comma that cuts, in brackets.
+pub fn runs(alloc: Global, text: &str) -> Result<String, Stop> {
+    let mut answer = Answer::new(alloc);
+    let stream = tokens_of(alloc, text)?;
+    let mut pieces = AttributeParser::new(stream.run());
+    for _ in 0..text.len() {
+        if let Some(run) = pieces.run() {
+            push_run(&mut answer, "", run);
+        }
+    }
+    answer.finish()
+}
+
+/// Returns whether the next run is a literal, or the whole one for no pieces.
+fn is_literal<'s>(
+    alloc: Global,
+    pieces: Option<&mut AttributeParser<'_, 's>>,
+    whole: Tokens<'_, 's>,
+    errors: &mut Errors,
+) -> Result<bool, Memory> {
+    let read: Option<Literal<'s>> = match pieces {
+        Some(pieces) => pieces.parsed(alloc, errors)?,
+        None => Literal::from_run(alloc, whole, errors)?,
+    };
+    Ok(read.is_some())
+}
+
+/// Returns whether the next run is a type, or the whole one for no pieces.
+fn is_type<'s>(
+    alloc: Global,
+    pieces: Option<&mut AttributeParser<'_, 's>>,
+    whole: Tokens<'_, 's>,
+    errors: &mut Errors,
+) -> Result<bool, Memory> {
+    let read: Option<TypeExpr<'s>> = match pieces {
+        Some(pieces) => pieces.parsed(alloc, errors)?,
+        None => TypeExpr::from_run(alloc, whole, errors)?,
+    };
+    Ok(read.is_some())
+}
+
+/// Returns what the next run is that is read as a way says, or the whole one for a capital letter; `-` where it is not that.
+fn word_of<'s>(
+    alloc: Global,
+    way: char,
+    pieces: &mut AttributeParser<'_, 's>,
+    whole: Tokens<'_, 's>,
+    errors: &mut Errors,
+) -> Result<&'s str, Memory> {
+    let is_read = match way {
+        'l' => is_literal(alloc, Some(pieces), whole, errors)?,
+        'L' => is_literal(alloc, None, whole, errors)?,
+        't' => is_type(alloc, Some(pieces), whole, errors)?,
+        'T' => is_type(alloc, None, whole, errors)?,
+        _ => {
+            return match pieces.next() {
+                Some(Nested::Named(name, _)) => Ok(name.text),
+                _ => Ok("-"),
+            };
+        }
+    };
+    Ok(if !is_read {
+        "-"
+    } else if (way == 'l') | (way == 'L') {
+        "literal"
+    } else {
+        "type"
+    })
+}
+
+/// Returns what becomes of the runs after ` : `, each read as a literal for `l` before it, as a type for `t`, and as a piece for `n`, of which
+/// the name is added, and the faults. A capital letter reads the whole arguments.
+pub fn parsed(alloc: Global, text: &str) -> Result<String, Stop> {
+    let mut answer = Answer::new(alloc);
+    let Some((ways, source)) = text.split_once(" : ") else {
+        return Err(Stop::Input);
+    };
+    let stream = tokens_of(alloc, source)?;
+    let (mut pieces, whole) = (AttributeParser::new(stream.run()), stream.run());
+    let mut errors = Errors::new(alloc);
+    let mut before = "";
+    for way in ways.chars() {
+        let count = errors.list().len();
+        answer.text(before);
+        before = " ";
+        match word_of(alloc, way, &mut pieces, whole, &mut errors) {
+            Ok(word) => answer.text(word),
+            Err(Memory) => {
+                are_kept(&errors, count)?;
+                answer.text(word_of(alloc, way, &mut pieces, whole, &mut errors)?);
+            }
+        }
+    }
+    push_errors(&mut answer, " ", &errors, true);
+    answer.finish()
+}

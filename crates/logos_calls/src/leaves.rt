@@ -1,0 +1,90 @@
+//! Calls of leaves and of all that an enum says, and how leaves are written.
+
+use crate::answer::Answer;
+use crate::definitions::failed;
+use crate::errors::push_errors;
+use crate::patterns::push_leaf;
+use crate::stop::Stop;
+use crate::tokens::tokens_of;
+use logos_leaf::leaf::{regex_leaf, token_leaf};
+use logos_leaf::source::{Source, read_source, utf8_mode};
+use logos_parser::item::{ItemEnum, ReadError, read_enum};
+use logos_parser::parser::{Parser, Subpatterns};
+use logos_pattern::leaf::{Leaf, VariantKind};
+use logos_token::error::Memory;
+use logos_token::token::{Ident, Span};
+use std::alloc::Global;
+
+const NAME: Ident<'static> = Ident {
+    text: "A",
+    span: Span { from: 0, to: 0 },
+};
+
+/// Returns the leaf of a variant that the last `skip` makes as a `token` or `regex`, if there is one.
+fn made<'s>(
+    alloc: Global,
+    name: &str,
+    parser: &mut Parser<'s>,
+) -> Result<Option<Leaf<'s>>, Memory> {
+    let list = parser.subpatterns.as_slice();
+    let subpatterns = Subpatterns::new(alloc, list, false, &mut parser.errors)?;
+    let Some(definition) = parser.skips.pop() else {
+        return Ok(None);
+    };
+    let (kind, errors) = (VariantKind::Unit(NAME), &mut parser.errors);
+    if name == "token_leaf" {
+        token_leaf(alloc, definition, kind, errors)
+    } else {
+        regex_leaf(alloc, definition, kind, &subpatterns, errors)
+    }
+}
+
+/// Returns the leaf that the last `skip` of arguments makes as a `token` or `regex`, or `-`, and the faults.
+pub fn leaf(alloc: Global, name: &str, text: &str) -> Result<String, Stop> {
+    let mut answer = Answer::new(alloc);
+    let stream = tokens_of(alloc, text)?;
+    let mut parser = Parser::new(alloc);
+    if parser.read_logos(stream.run()).is_err() {
+        return Err(failed(&mut parser));
+    }
+    match &made(alloc, name, &mut parser)? {
+        Some(leaf) => push_leaf(&mut answer, leaf),
+        None => answer.text("-"),
+    }
+    push_errors(&mut answer, " ", &parser.errors, false);
+    answer.finish()
+}
+
+/// Adds the mode, the leaves and the faults of what an enum says.
+fn push_source(answer: &mut Answer, source: &Source<'_>) {
+    answer.text(" ");
+    answer.debug(&utf8_mode(&source.parser));
+    for leaf in &source.leaves {
+        answer.text(" ");
+        push_leaf(answer, leaf);
+    }
+    push_errors(answer, " ", &source.parser.errors, false);
+}
+
+/// Returns the name of an enum, its place, and what it says.
+fn read_item(alloc: Global, item: &ItemEnum<'_, '_>) -> Result<String, Stop> {
+    let mut answer = Answer::new(alloc);
+    answer.text(item.name.text);
+    answer.span(" ", item.name.span);
+    push_source(&mut answer, &read_source(alloc, item)?);
+    answer.finish()
+}
+
+/// Returns what the enum says that a source is, or why it is none.
+pub fn source(alloc: Global, text: &str) -> Result<String, Stop> {
+    let stream = tokens_of(alloc, text)?;
+    match &read_enum(alloc, stream.run()) {
+        Ok(item) => read_item(alloc, item),
+        Err(ReadError::Memory) => Err(Stop::Memory),
+        Err(error) => {
+            let mut answer = Answer::new(alloc);
+            answer.debug(error);
+            answer.finish()
+        }
+    }
+}
