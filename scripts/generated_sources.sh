@@ -13,12 +13,24 @@
 # At the first difference the script fails, with the seed and the source; it fails too where some kind of fault was met in no source, or some form
 # of look or class in too few sources that are accepted. What the text of a pattern's fault says of its place and kind is left open.
 #
-# It needs Python 3 without packages, and the program as `rt ci` leaves it in crates/logos_program/out, or the first argument. Seeds behind it
-# ask for those sources alone.
+# Then it changes three enums piece by piece: each piece, and each two of which one follows the other closely, is dropped, doubled or turned with
+# the next. Of each such enum the program of calls must give the fault that the plain reader finds in it.
+#
+# It needs Python 3 without packages, and the program and the program of calls as `rt ci` leaves them in crates/logos_program/out and
+# crates/logos_calls/out, or the first and the second argument. Seeds after them ask for those sources alone.
 set -euo pipefail
 
 scripts=$(cd "$(dirname "${BASH_SOURCE[0]}")" && pwd)
 program=$(realpath "${1:-$scripts/../crates/logos_program/out/logos_program}")
-shift || true
+calls=$(realpath "${2:-$scripts/../crates/logos_calls/out/logos_calls}")
+shift $(($# < 2 ? $# : 2))
 export PYTHONDONTWRITEBYTECODE=1
 python3 "$scripts/generated_sources/main.py" "$program" "$@"
+[ $# = 0 ] || exit 0
+
+answers=$(python3 "$scripts/generated_sources/changed.py" | "$calls") || {
+    head -n 20 <<< "$answers" >&2
+    echo "generated_sources: some changed enums are not read as the plain reader has it" >&2
+    exit 1
+}
+echo "generated_sources: of changed enums ${answers##*$'\n'}"

@@ -4,7 +4,7 @@ from enums import Unread, read_enum
 from tokens import tokenize
 
 PIECES = [
-    ('', '# [a] # [b(c)] pub (crate) enum E < # [d] T : U + V = W , X , Y = Z > where T : U , {A,B(u8),}', ''),
+    ('', "# [a] # [b(c)] pub (crate) enum E < 'a : 'b , # [d] T : U + V = W , X , Y = Z , const N : u8 = 3 > where T : U , {A,B(u8),}", ''),
     ('enum E { ', '# [a] # [b=c] A , B (u8,u8) = 1 + (u8) , C {x:u8} , D = f , E () ,', '}'),
     ('enum E { A { ', '# [a] pub (crate) x : u8 , y : (u8,u8) , # [b] z : [u8] , pub w : F (u8) ,', '} }'),
 ]

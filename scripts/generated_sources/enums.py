@@ -70,6 +70,16 @@ class EnumReader(TypeReader):
             self.at += 2 if arrow else 1
         return self.trees[start:self.at]
 
+    def tail(self, kind):
+        """What follows a parameter's name: bounds, or the type of a constant, and a default."""
+        if kind == 'constant' or self.is_punct(':'):
+            self.expect(self.is_punct(':'))
+            run = self.until('=,>')
+            self.need(run or kind != 'constant')
+        if kind != 'lifetime' and self.is_punct('='):
+            self.take()
+            self.need(self.until(',>'))
+
     def parameters(self):
         found = []
         if not self.is_punct('<'):
@@ -83,8 +93,7 @@ class EnumReader(TypeReader):
             if kind != 'type':
                 self.take()
             name = self.name()
-            if self.is_punct(':') or self.is_punct('='):
-                self.until(',>')
+            self.tail(kind)
             found.append(Parameter(kind, name.text, span([name]), (self.trees[start].start, self.trees[self.at - 1].end)))
             if not self.is_punct('>'):
                 self.expect(self.is_punct(','))

@@ -119,7 +119,7 @@ pub fn parse_definition(alloc: Global, text: &str) -> Result<String, Stop> {
         Ok(None) => {}
         Err(Memory) => return Err(failed(&mut parser)),
     }
-    push_errors(&mut answer, " ", &parser.errors, true);
+    push_errors(&mut answer, "", &parser.errors, true);
     answer.finish()
 }
 
@@ -246,6 +246,6 @@ pub fn parse_parts(alloc: Global, text: &str) -> Result<String, Stop> {
         return Err(failed(&mut parser));
     }
     push_skips(&mut answer, &parser);
-    push_errors(&mut answer, " ", &parser.errors, false);
+    push_errors(&mut answer, "", &parser.errors, false);
     answer.finish()
 }

@@ -10,7 +10,7 @@ use logos_token::token::{
 use logos_token::util::{MaybeVoid, ToIdent, expect_punct, is_punct};
 use std::alloc::Global;
 
-/// The tokens of a text that has some.
+/// Returns the tokens of a text that has some.
 pub fn tokens_of<'s>(alloc: Global, text: &'s str) -> Result<TokenStream<'s>, Stop> {
     match tokenize(alloc, text) {
         Ok(stream) => Ok(stream),
@@ -41,7 +41,7 @@ fn push_lexeme(answer: &mut Answer, source: &str, from: usize) -> Result<(), Sto
     Ok(())
 }
 
-/// The kind and the end of the lexeme in front of a text, or after the mark `‖` in it, or why there is none.
+/// Returns the kind and the end of the lexeme with which a text begins, or of the one after the mark `‖` in it, or why there is none.
 pub fn lexeme(alloc: Global, text: &str) -> Result<String, Stop> {
     let mut answer = Answer::new(alloc);
     let (before, after) = text.split_once('‖').unwrap_or(("", text));
@@ -88,7 +88,7 @@ fn push_trees(answer: &mut Answer, run: Tokens<'_, '_>) {
     }
 }
 
-/// What the first group of a run holds.
+/// Returns what the first group of a run holds.
 fn inside<'t, 's>(run: Tokens<'t, 's>) -> Option<Tokens<'t, 's>> {
     for tree in run.iter() {
         if let TokenTree::Group(group) = tree {
@@ -110,7 +110,7 @@ fn push_levels(answer: &mut Answer, run: Tokens<'_, '_>) {
     }
 }
 
-/// The spans of the trees in front of all but the first and of all but the first two, and whether there are none in front of all.
+/// Returns the spans of the trees before all but the first and before all but the first two, and whether there are none before all.
 fn fronts(run: Tokens<'_, '_>) -> (Span, Span, bool) {
     let first = run.before(run.rest()).span();
     let second = run.before(run.rest().rest()).span();
@@ -157,7 +157,7 @@ pub fn stream(alloc: Global, words: &str, text: &str) -> Result<String, Stop> {
     answer.finish()
 }
 
-/// What the trees of a source are, and what is printed of them.
+/// Returns what the trees of a source are, and how they are printed.
 fn trees(alloc: Global, text: &str) -> Result<(String, String), Stop> {
     let (mut trees, mut printed) = (Answer::new(alloc), Answer::new(alloc));
     let stream = tokens_of(alloc, text)?;
@@ -169,7 +169,7 @@ fn trees(alloc: Global, text: &str) -> Result<(String, String), Stop> {
     Ok((trees.finish()?, printed.finish()?))
 }
 
-/// How the tokens of a source are printed, of which the same trees are read and the same text is printed again.
+/// Returns how the tokens of a source are printed. The same trees must be read of that text, and the same text be printed again.
 pub fn printed(alloc: Global, text: &str) -> Result<String, Stop> {
     let (trees_once, once) = trees(alloc, text)?;
     let (trees_again, again) = trees(alloc, &once)?;
@@ -189,7 +189,7 @@ fn push_marks(answer: &mut Answer, run: Tokens<'_, '_>, expected: char) {
     answer.text(" ");
 }
 
-/// Whether a comma and whether an equals sign stands first, and whether it does where it is expected.
+/// Returns whether a comma and whether an equals sign stands first, and whether it does where it is expected.
 pub fn marks(alloc: Global, text: &str) -> Result<String, Stop> {
     let mut answer = Answer::new(alloc);
     let stream = tokens_of(alloc, text)?;
@@ -198,9 +198,19 @@ pub fn marks(alloc: Global, text: &str) -> Result<String, Stop> {
     answer.finish()
 }
 
-/// The name that a text is, its span, and the tokens and the span of a name with this text at 5..9.
+/// Returns the name with which a source begins. It outlives the buffer of tokens, which ends here.
+fn first_name<'s>(alloc: Global, source: &'s str) -> Result<&'s str, Stop> {
+    let stream = tokens_of(alloc, source)?;
+    match stream.run().first() {
+        Some(TokenTree::Ident(name)) => Ok(name.text),
+        _ => Err(Stop::Input),
+    }
+}
+
+/// Returns the name with which a text begins, its span, and the tokens and the span of a name with this text at 5..9.
 pub fn name(alloc: Global, text: &str) -> Result<String, Stop> {
     let mut answer = Answer::new(alloc);
+    let text = first_name(alloc, text)?;
     let made = text.to_ident();
     answer.text(made.text);
     answer.span(" ", made.span);
@@ -220,7 +230,7 @@ fn push_tokens(alloc: Global, answer: &mut Answer, tokens: &MaybeVoid<'_>) {
     answer.text("; ");
 }
 
-/// What stood there when tokens took the place of none, when all but their first took theirs, when these were taken, and then.
+/// Returns what stood there when tokens took the place of none, when all but their first took theirs, when these were taken, and then.
 pub fn replaced(alloc: Global, text: &str) -> Result<String, Stop> {
     let mut answer = Answer::new(alloc);
     let stream = tokens_of(alloc, text)?;
@@ -233,7 +243,7 @@ pub fn replaced(alloc: Global, text: &str) -> Result<String, Stop> {
     answer.finish()
 }
 
-/// The value of a literal.
+/// Returns the value of a literal.
 pub fn value(alloc: Global, text: &str) -> Result<String, Stop> {
     let mut answer = Answer::new(alloc);
     let to = text.len();

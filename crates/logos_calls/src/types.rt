@@ -30,7 +30,7 @@ fn push_fault(answer: &mut Answer, fault: TypeFault) {
     }
 }
 
-/// The text of the type that the whole source is, or why it is none; `none` where more follows a type.
+/// Returns the text of the type that the whole source is, or why it is none; `none` where more follows a type.
 pub fn read(alloc: Global, text: &str) -> Result<String, Stop> {
     let mut answer = Answer::new(alloc);
     let stream = tokens_of(alloc, text)?;
