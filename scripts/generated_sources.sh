@@ -14,7 +14,8 @@
 # of look or class in too few sources that are accepted. What the text of a pattern's fault says of its place and kind is left open.
 #
 # Then it changes three enums piece by piece: each piece, and each two of which one follows the other closely, is dropped, doubled or turned with
-# the next. Of each such enum the program of calls must give the fault that the plain reader finds in it.
+# the next. Of each such enum the program of calls must give the fault that the plain reader finds in it. And of the automata of small sets of
+# patterns it must give the leaves that they list after all words of three letters, and after these and the end.
 #
 # It needs Python 3 without packages, and the program and the program of calls as `rt ci` leaves them in crates/logos_program/out and
 # crates/logos_calls/out, or the first and the second argument. Seeds after them ask for those sources alone.
@@ -28,9 +29,11 @@ export PYTHONDONTWRITEBYTECODE=1
 python3 "$scripts/generated_sources/main.py" "$program" "$@"
 [ $# = 0 ] || exit 0
 
-answers=$(python3 "$scripts/generated_sources/changed.py" | "$calls") || {
-    head -n 20 <<< "$answers" >&2
-    echo "generated_sources: some changed enums are not read as the plain reader has it" >&2
-    exit 1
-}
-echo "generated_sources: of changed enums ${answers##*$'\n'}"
+for rows in changed automata; do
+    answers=$(python3 "$scripts/generated_sources/$rows.py" | "$calls") || {
+        head -n 20 <<< "$answers" >&2
+        echo "generated_sources: some rows of $rows.py are not answered as the plain reader has it" >&2
+        exit 1
+    }
+    echo "generated_sources: of the rows of $rows.py ${answers##*$'\n'}"
+done
