@@ -15,7 +15,8 @@
 #
 # Then it changes three enums piece by piece: each piece, and each two of which one follows the other closely, is dropped, doubled or turned with
 # the next. Of each such enum the program of calls must give the fault that the plain reader finds in it. And of the automata of small sets of
-# patterns it must give the leaves that they list after all words of three letters, and after these and the end.
+# patterns it must give the leaves that they list after all words of three bytes, and after these and the end; and the tokens of some hundred
+# expressions.
 #
 # It needs Python 3 without packages, and the program and the program of calls as `rt ci` leaves them in crates/logos_program/out and
 # crates/logos_calls/out, or the first and the second argument. Seeds after them ask for those sources alone.
@@ -29,7 +30,7 @@ export PYTHONDONTWRITEBYTECODE=1
 python3 "$scripts/generated_sources/main.py" "$program" "$@"
 [ $# = 0 ] || exit 0
 
-for rows in changed automata; do
+for rows in changed automata expressions; do
     answers=$(python3 "$scripts/generated_sources/$rows.py" | "$calls") || {
         head -n 20 <<< "$answers" >&2
         echo "generated_sources: some rows of $rows.py are not answered as the plain reader has it" >&2

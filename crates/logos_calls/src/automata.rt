@@ -1,15 +1,16 @@
 //! Calls of automata: the leaves that they list after texts, and where their states lead.
 
 use crate::answer::Answer;
+use crate::inputs::bytes_of;
 use crate::stop::Stop;
 use logos_graph::dfa::build::build;
 use logos_graph::graph::{BuildError, Dfa, StateId};
 use std::alloc::Global;
 
-/// Returns the state of an automaton after a text.
-fn state_after(dfa: &Dfa, text: &str) -> StateId {
+/// Returns the state of an automaton after some bytes.
+fn state_after(dfa: &Dfa, bytes: &[u8]) -> StateId {
     let mut state = dfa.start();
-    for byte in text.as_bytes() {
+    for byte in bytes {
         if !dfa.contains(state) {
             return state;
         }
@@ -18,9 +19,9 @@ fn state_after(dfa: &Dfa, text: &str) -> StateId {
     state
 }
 
-/// Returns the state after a text, or after the text and the end.
-fn last_state(dfa: &Dfa, text: &str, at_end: bool) -> StateId {
-    let state = state_after(dfa, text);
+/// Returns the state after some bytes, or after these and the end.
+fn last_state(dfa: &Dfa, bytes: &[u8], at_end: bool) -> StateId {
+    let state = state_after(dfa, bytes);
     if at_end && dfa.contains(state) {
         return dfa.next_eoi_state(state);
     }
@@ -41,10 +42,18 @@ fn push_matches(answer: &mut Answer, dfa: &Dfa, state: StateId) {
 
 /// Adds the leaves that an automaton lists after each text, of which it may see the last byte, but not match it; or after each text and
 /// the end.
-pub fn push_lists(answer: &mut Answer, dfa: &Dfa, texts: &str, at_end: bool) {
+pub fn push_lists(
+    alloc: Global,
+    answer: &mut Answer,
+    dfa: &Dfa,
+    texts: &str,
+    at_end: bool,
+) -> Result<(), Stop> {
     for text in texts.split(" ¦ ") {
-        push_matches(answer, dfa, last_state(dfa, text, at_end));
+        let bytes = bytes_of(alloc, text)?;
+        push_matches(answer, dfa, last_state(dfa, &bytes, at_end));
     }
+    Ok(())
 }
 
 /// Adds how many of the children of the start are this state.
@@ -65,8 +74,8 @@ pub fn push_children(answer: &mut Answer, dfa: &Dfa) {
         count = count.saturating_add(1);
     }
     answer.display(&count);
-    push_count(answer, dfa, state_after(dfa, "a"));
-    push_count(answer, dfa, state_after(dfa, "b"));
+    push_count(answer, dfa, state_after(dfa, b"a"));
+    push_count(answer, dfa, state_after(dfa, b"b"));
     push_count(answer, dfa, dfa.start());
 }
 
@@ -74,7 +83,7 @@ pub fn push_children(answer: &mut Answer, dfa: &Dfa) {
 pub fn without_rules(alloc: Global, text: &str) -> Result<String, Stop> {
     let mut answer = Answer::new(alloc);
     match &build(alloc, &[]) {
-        Ok(dfa) => push_lists(&mut answer, dfa, text, false),
+        Ok(dfa) => push_lists(alloc, &mut answer, dfa, text, false)?,
         Err(BuildError::Memory) => return Err(Stop::Memory),
         Err(error) => answer.debug(error),
     }

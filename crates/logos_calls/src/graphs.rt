@@ -31,7 +31,7 @@ pub enum View {
     Found,
     /// Whether a text tells two of its states apart: `0,1 a` asks states 0 and 1 about `a`, and `0,1,end a` about `a` and the end.
     Checks,
-    /// How many pairs of different states are told apart by the bytes that it gives for them, fewer than there are states.
+    /// Whether the bytes that it gives for each two different states tell them apart, and are fewer than the states.
     Telling,
     /// The names of its states.
     Names,
@@ -113,7 +113,7 @@ fn push_checks(answer: &mut Answer, graph: &Graph<'_>, cases: &str) {
     }
 }
 
-/// Returns whether two states are told apart by fewer bytes than there are states, which tell neither from itself.
+/// Returns whether fewer bytes than there are states tell two different states apart, but none from itself.
 fn tells_apart(alloc: Global, graph: &Graph<'_>, one: State, other: State) -> Result<bool, Memory> {
     if !(graph.contains(one) & graph.contains(other)) || one.index() == other.index() {
         return Ok(false);
@@ -125,7 +125,7 @@ fn tells_apart(alloc: Global, graph: &Graph<'_>, one: State, other: State) -> Re
     Ok(is_short & tells & !tells_itself)
 }
 
-/// Returns how many states are told apart from this one.
+/// Returns how many states the given bytes tell apart from this one.
 fn count_apart(alloc: Global, graph: &Graph<'_>, one: State) -> Result<usize, Memory> {
     let mut count = 0usize;
     for other in graph.iter_states() {
@@ -135,16 +135,20 @@ fn count_apart(alloc: Global, graph: &Graph<'_>, one: State) -> Result<usize, Me
     Ok(count)
 }
 
-/// Adds how many pairs of states are told apart.
-fn push_telling(alloc: Global, answer: &mut Answer, graph: &Graph<'_>) {
+/// Adds `all` if the given bytes tell each two states apart, else for how many they do.
+fn push_telling(alloc: Global, answer: &mut Answer, graph: &Graph<'_>) -> Result<(), Stop> {
     let mut count = 0usize;
     for one in graph.iter_states() {
-        match count_apart(alloc, graph, one) {
-            Ok(found) => count = count.saturating_add(found),
-            Err(Memory) => return answer.lack(),
-        }
+        let found = count_apart(alloc, graph, one)?;
+        count = count.saturating_add(found);
     }
-    answer.display(&count);
+    let states = count_states(graph);
+    if count == states.saturating_mul(states.saturating_sub(1)) && count > 0 {
+        answer.text("all");
+    } else {
+        answer.display(&count);
+    }
+    Ok(())
 }
 
 /// Adds what is asked of a graph, of these texts perhaps.
@@ -162,12 +166,12 @@ fn push_view(
         View::States => push_states(answer, graph),
         View::Backward => push_backward(answer, graph),
         View::Count => answer.display(&count_states(graph)),
-        View::Lists => push_lists(answer, graph.dfa(), texts, false),
-        View::ListsAtEnd => push_lists(answer, graph.dfa(), texts, true),
+        View::Lists => return push_lists(alloc, answer, graph.dfa(), texts, false),
+        View::ListsAtEnd => return push_lists(alloc, answer, graph.dfa(), texts, true),
         View::Children => push_children(answer, graph.dfa()),
         View::Found => push_finds(answer, graph, texts),
         View::Checks => push_checks(answer, graph, texts),
-        View::Telling => push_telling(alloc, answer, graph),
+        View::Telling => return push_telling(alloc, answer, graph),
         View::Names => push_names(alloc, answer, graph),
         View::Equal => return push_equal(alloc, answer, graph),
     }
