@@ -27,14 +27,23 @@ program=$(realpath "${1:-$scripts/../crates/logos_program/out/logos_program}")
 calls=$(realpath "${2:-$scripts/../crates/logos_calls/out/logos_calls}")
 shift $(($# < 2 ? $# : 2))
 export PYTHONDONTWRITEBYTECODE=1
-python3 "$scripts/generated_sources/main.py" "$program" "$@"
+room=$(mktemp -d)
+trap 'rm -rf "$room"' EXIT
+python3 "$scripts/generated_sources/main.py" "$program" "$@" | tee "$room/sources"
 [ $# = 0 ] || exit 0
 
 for rows in changed automata expressions; do
-    answers=$(python3 "$scripts/generated_sources/$rows.py" | "$calls") || {
-        head -n 20 <<< "$answers" >&2
+    if python3 "$scripts/generated_sources/$rows.py" | "$calls" > "$room/$rows"; then
+        echo "generated_sources: the rows of $rows.py are answered as the plain reader has it"
+    else
+        head -n 20 "$room/$rows" >&2
         echo "generated_sources: some rows of $rows.py are not answered as the plain reader has it" >&2
-        exit 1
-    }
-    echo "generated_sources: of the rows of $rows.py ${answers##*$'\n'}"
+        echo "0 passed, 1 failed" >> "$room/$rows"
+    fi
 done
+cat "$room/sources" "$room/changed" "$room/automata" "$room/expressions" | awk '
+    / passed, [0-9]+ failed$/ { good += $1; bad += $3 }
+    END {
+        print good " passed, " bad " failed"
+        exit bad > 0
+    }'

@@ -23,14 +23,14 @@ ls -S -- *.rows | grep -v '^large\.rows$' | xargs -P "$(nproc)" -I '{}' sh -c \
 if [ -e "$room/ended" ]; then
     cat "$room"/*.rows "$room/ended" >&2
     echo "refused_calls: the program does not end well" >&2
+    cat "$room"/*.rows | awk '/ passed, [0-9]+ failed$/ { good += $1; bad += $3 } END { print good + 0 " passed, " (bad ? bad : 1) " failed" }'
     exit 1
 fi
 
 # The names in the table of calls, and the lines of all runs.
-{ grep -Eo '^ +\("[^"]+", Call::' "$crate/src/answering.rt" && cat "$room"/*.rows; } | awk '
-    /, Call::$/ {
-        split($0, part, "\"")
-        names[part[2]]
+{ sed -n '/^const CALLS/,/^\];/p' "$crate/src/answering.rt" | grep -Eo '"[^"]+"' && cat "$room"/*.rows; } | awk '
+    /^"[^"]+"$/ {
+        names[substr($0, 2, length($0) - 2)]
         next
     }
     /^refused: .*: [0-9]+$/ {
@@ -51,5 +51,6 @@ fi
             }
         }
         if (wrong || !calls) exit 1
-        print "refused_calls: in " rows " rows of " calls " calls " refused " requests were refused, each with the wanted answer or none"
+        print "refused_calls: of " calls " calls " refused " requests were refused, each with the wanted answer or that memory ran out"
+        print rows " passed, 0 failed"
     }'

@@ -183,6 +183,7 @@ def main(program, seeds):
         print('generated_sources: too few sources had', ', '.join(missed), file=sys.stderr)
         return 1
     print(f'generated_sources: {refused} sources are refused and {accepted} accepted as the plain reader has it, in {compared} comparisons')
+    print(f'{refused + accepted} passed, 0 failed')
     return 0
 
 

@@ -54,8 +54,8 @@ fn push_text(answer: &mut Answer, text: &Result<String, Memory>) {
     }
 }
 
-/// Adds the mode, the extras and the two paths.
-fn push_settings(alloc: Global, answer: &mut Answer, parser: &Parser<'_>) {
+/// Adds the mode, the extras, the two paths, the subpatterns, and the type of errors with its callback.
+fn push_options(alloc: Global, answer: &mut Answer, parser: &Parser<'_>) {
     match parser.utf8_mode {
         Some(mode) => answer.debug(&mode.value),
         None => answer.text("-"),
@@ -73,11 +73,6 @@ fn push_settings(alloc: Global, answer: &mut Answer, parser: &Parser<'_>) {
         answer.debug(&export.path.as_str());
         answer.text(";");
     }
-}
-
-/// Adds the settings, the subpatterns, and the type of errors with its callback.
-fn push_options(alloc: Global, answer: &mut Answer, parser: &Parser<'_>) {
-    push_settings(alloc, answer, parser);
     for (name, literal) in &parser.subpatterns {
         answer.text(name.text);
         answer.text("=");
@@ -126,32 +121,21 @@ pub fn parse_definition(alloc: Global, text: &str) -> Result<String, Stop> {
 /// A definition, a type of errors and flags.
 type Lent<'s> = (Definition<'s>, ErrorType<'s>, IgnoreFlags);
 
-/// Gives a named argument to each.
-fn give<'s>(
-    alloc: Global,
-    lent: &mut Lent<'s>,
-    parser: &mut Parser<'s>,
-    nested: Nested<'_, 's>,
-) -> Result<(), Memory> {
-    let Nested::Named(name, value) = nested else {
-        return Ok(());
-    };
-    if let NestedValue::Group(group) = value {
-        lent.2.parse_group(alloc, name, group, parser)?;
-    }
-    lent.1.named_attr(alloc, name, value, parser)?;
-    lent.0.named_attr(alloc, name, value, parser)
-}
-
 /// Gives each named argument of a run to each.
-fn give_all<'s>(
+fn give<'s>(
     alloc: Global,
     lent: &mut Lent<'s>,
     parser: &mut Parser<'s>,
     run: Tokens<'_, 's>,
 ) -> Result<(), Memory> {
     for nested in AttributeParser::new(run) {
-        give(alloc, lent, parser, nested)?;
+        if let Nested::Named(name, value) = nested {
+            if let NestedValue::Group(group) = value {
+                lent.2.parse_group(alloc, name, group, parser)?;
+            }
+            lent.1.named_attr(alloc, name, value, parser)?;
+            lent.0.named_attr(alloc, name, value, parser)?;
+        }
     }
     Ok(())
 }
@@ -179,7 +163,7 @@ pub fn named(alloc: Global, text: &str) -> Result<String, Stop> {
     let definition = first_definition(&mut parser, stream.run())?;
     let flags = IgnoreFlags { ignore_case: false };
     let mut lent = (definition, ErrorType::default(alloc), flags);
-    if give_all(alloc, &mut lent, &mut parser, stream.run().rest()).is_err() {
+    if give(alloc, &mut lent, &mut parser, stream.run().rest()).is_err() {
         return Err(failed(&mut parser));
     }
     push_definition(&mut answer, &lent.0);

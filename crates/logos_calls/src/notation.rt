@@ -94,11 +94,3 @@ pub fn has_word(header: &str, word: &str) -> bool {
     }
     false
 }
-
-/// Returns the two texts with ` ¦ ` between them.
-pub fn pair(text: &str) -> Result<(&str, &str), Stop> {
-    match text.split_once(" ¦ ") {
-        Some(pair) => Ok(pair),
-        None => Err(Stop::Input),
-    }
-}

@@ -1,7 +1,6 @@
 //! Calls of types, and how their answers are written.
 
 use crate::answer::Answer;
-use crate::notation::pair;
 use crate::stop::Stop;
 use crate::tokens::tokens_of;
 use logos_token::token::Tokens;
@@ -65,7 +64,9 @@ pub fn levels(alloc: Global, words: &str, text: &str) -> Result<String, Stop> {
 /// Returns whether two types are the same.
 pub fn same(alloc: Global, text: &str) -> Result<String, Stop> {
     let mut answer = Answer::new(alloc);
-    let (one, other) = pair(text)?;
+    let Some((one, other)) = text.split_once(" ¦ ") else {
+        return Err(Stop::Input);
+    };
     let (one, other) = (tokens_of(alloc, one)?, tokens_of(alloc, other)?);
     let (one, other) = (type_of(alloc, one.run())?, type_of(alloc, other.run())?);
     answer.debug(&is_same_type(&one, &other));
