@@ -120,11 +120,8 @@ fn of_graph(alloc: Global, asked: Asked<'_>, graph: &Graph<'static>) -> Result<S
     let is_plain = has_word(asked.words, "plain");
     let tokens = tokens_of(alloc, if is_plain { "A" } else { "A<u8>" })?;
     let this = type_of(alloc, tokens.run())?;
-    if is_plain {
-        return by_graph(alloc, asked, graph, &this, None);
-    }
-    let failed = label(alloc, "failed")?;
-    by_graph(alloc, asked, graph, &this, Some(&failed))
+    let failed = label(alloc, if is_plain { "" } else { "failed" })?;
+    by_graph(alloc, asked, graph, &this, failed.as_ref())
 }
 
 /// Answers what is asked of the code of rules; the text that it is asked of stands after ` ‖ `.

@@ -28,32 +28,39 @@ fn kind_of(uses: &str) -> VariantKind<'static> {
     VariantKind::Unit(NAME)
 }
 
-/// Returns the callback that is the function with this name.
-pub fn label(alloc: Global, name: &'static str) -> Result<Callback<'static>, Stop> {
-    Ok(Callback::Label(tokens_of(alloc, name)?))
+/// Returns the callback that is the function with this name; none where the name is empty.
+pub fn label(alloc: Global, name: &'static str) -> Result<Option<Callback<'static>>, Stop> {
+    if name.is_empty() {
+        return Ok(None);
+    }
+    Ok(Some(Callback::Label(tokens_of(alloc, name)?)))
 }
 
 /// Returns the callback `|l| f(l) /// b`.
-fn inline(alloc: Global) -> Result<Callback<'static>, Stop> {
-    Ok(Callback::Inline(InlineCallback {
+fn inline(alloc: Global) -> Result<Option<Callback<'static>>, Stop> {
+    Ok(Some(Callback::Inline(InlineCallback {
         arg: Ident {
             text: "l",
             span: NOWHERE,
         },
         body: tokens_of(alloc, "f(l) /// b")?,
         span: NOWHERE,
-    }))
+    })))
 }
 
 /// Returns the callback of a leaf: `called` is the function `matched`, and `inline` one that is written out.
 fn callback_of(alloc: Global, uses: &str) -> Result<Option<Callback<'static>>, Stop> {
-    if uses.contains("called") {
-        return Ok(Some(label(alloc, "matched")?));
-    }
     if uses.contains("inline") {
-        return Ok(Some(inline(alloc)?));
+        return inline(alloc);
     }
-    Ok(None)
+    label(
+        alloc,
+        if uses.contains("called") {
+            "matched"
+        } else {
+            ""
+        },
+    )
 }
 
 /// Returns a leaf of this pattern.
