@@ -4,12 +4,19 @@
 # scripts/generated_sources makes each source from a seed: enums with options, definitions and fields of all forms, right ones and wrong ones,
 # several faults a source, with comments and gaps of all kinds. Its reader, in Python, cuts the text into tokens and finds each fault with
 # its place and text, or the leaves; it follows what is left of each pattern byte by byte, and so finds ambiguous sets, the items of some
-# inputs, and the chart of the least graph. The program must print the same. At the first difference the script fails, with the seed and the
-# source; it fails too where some kind of fault was met in no source. What the text of a pattern's fault says of its place and kind is left open,
-# and so is the chart of a source with a look.
+# inputs, and the chart of the least graph. The program must print the same. Where a pattern looks, the reader follows the printed chart byte by
+# byte beside what is left of the patterns: it finds the same matches, no two of its states are alike, and each edge and each mark is of use.
+#
+# Then it makes some hundred small sets of rules: patterns with looks and classes of all forms anywhere in them, and words and repeated words. All
+# words of three or four letters stand in one input of each set, and some stand alone, so that they end with the input.
+#
+# At the first difference the script fails, with the seed and the source; it fails too where some kind of fault was met in no source, or some form
+# of look or class in too few sources that are accepted. What the text of a pattern's fault says of its place and kind is left open.
 #
 # Then it changes three enums piece by piece: each piece, and each two of which one follows the other closely, is dropped, doubled or turned with
-# the next. Of each such enum the program of calls must give the fault that the plain reader finds in it.
+# the next. Of each such enum the program of calls must give the fault that the plain reader finds in it. And of the automata of small sets of
+# patterns it must give the leaves that they list after all words of three bytes, and after these and the end; and the tokens of some hundred
+# expressions.
 #
 # It needs Python 3 without packages, and the program and the program of calls as `rt ci` leaves them in crates/logos_program/out and
 # crates/logos_calls/out, or the first and the second argument. Seeds after them ask for those sources alone.
@@ -25,14 +32,16 @@ trap 'rm -rf "$room"' EXIT
 python3 "$scripts/generated_sources/main.py" "$program" "$@" | tee "$room/sources"
 [ $# = 0 ] || exit 0
 
-if python3 "$scripts/generated_sources/changed.py" | "$calls" > "$room/changed"; then
-    echo "generated_sources: changed enums are read as the plain reader has it"
-else
-    head -n 20 "$room/changed" >&2
-    echo "generated_sources: some changed enums are not read as the plain reader has it" >&2
-    echo "0 passed, 1 failed" >> "$room/changed"
-fi
-cat "$room/sources" "$room/changed" | awk '
+for rows in changed automata expressions; do
+    if python3 "$scripts/generated_sources/$rows.py" | "$calls" > "$room/$rows"; then
+        echo "generated_sources: the rows of $rows.py are answered as the plain reader has it"
+    else
+        head -n 20 "$room/$rows" >&2
+        echo "generated_sources: some rows of $rows.py are not answered as the plain reader has it" >&2
+        echo "0 passed, 1 failed" >> "$room/$rows"
+    fi
+done
+cat "$room/sources" "$room/changed" "$room/automata" "$room/expressions" | awk '
     / passed, [0-9]+ failed$/ { good += $1; bad += $3 }
     END {
         print good " passed, " bad " failed"

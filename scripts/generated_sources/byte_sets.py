@@ -1,6 +1,7 @@
 """Sets of characters and bytes as sorted lists of ranges, and the sequences of bytes that encode characters."""
 
 import functools
+import unicodedata
 
 CHARACTERS = ((0, 0xD7FF), (0xE000, 0x10FFFF))
 BYTES = ((0, 255),)
@@ -38,6 +39,8 @@ def without(one, other):
     return united(left)
 
 
+CATEGORIES = ('L', 'Lu', 'Ll', 'M', 'N', 'Nd', 'P', 'Pc', 'S', 'Z')
+
 # Characters that fold as others do in the Unicode of the program, and are not assigned yet in that of older Pythons.
 LATER = {0x1DF95: 0xDF}
 
@@ -68,6 +71,15 @@ def folded(ranges, unicode):
     else:
         more = [(part[0] ^ 32, part[1] ^ 32) for part in common(ranges, NAMED['alpha'])]
     return united(list(ranges) + more)
+
+
+@functools.cache
+def of_category(name):
+    """The characters of a general category, or of all that begin with this letter. Python may know an older Unicode, so sources take from it
+    what lies between some old characters alone."""
+    if name not in CATEGORIES:
+        return ()
+    return united((code, code) for code in range(0x110000) if not 0xD800 <= code < 0xE000 and unicodedata.category(chr(code)).startswith(name))
 
 
 def sequences(ranges):

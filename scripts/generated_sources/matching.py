@@ -1,4 +1,7 @@
-"""What leaves match: their ambiguous sets, the items of an input, and the chart of the least graph where no pattern looks."""
+"""What leaves match: their ambiguous sets, the items of an input, and the chart of the least graph where no pattern looks.
+
+`charts.py` compares a chart where some pattern looks.
+"""
 
 from rests import NONE, WORDS, bits_of, ends, looks, rest, whole
 
@@ -44,6 +47,7 @@ class Matching:
             ahead += self.edges[state].values()
             if len(self.edges) > MOST_STATES:
                 raise TooLarge()
+        self.listed = {state: self.listed_of(state) for state in self.edges}
         self.matches = {state: self.matches_of(state) for state in self.edges}
         self.live = self.live_states()
 
@@ -52,16 +56,20 @@ class Matching:
         numbers = tuple(rest(number, state[1], byte) if number != NONE else NONE for number in state[0])
         return numbers, kind_of(byte) if any(looks(number) for number in numbers) else 0
 
-    def matches_of(self, state):
-        """The best leaves of a state in front of each first byte and of the end."""
+    def listed_of(self, state):
+        """The leaves that match at a state in front of each first byte and of the end."""
         numbers, before = state
         if before is None:
             return {}
+        return {behind: tuple(leaf for leaf, number in enumerate(numbers) if number != NONE and ends(number, before, behind))
+                for behind in self.letters + [None]}
+
+    def matches_of(self, state):
+        """The best of these leaves."""
         found = {}
-        for behind in self.letters + [None]:
-            matched = [leaf for leaf, number in enumerate(numbers) if number != NONE and ends(number, before, behind)]
-            top = max((self.priorities[leaf] for leaf in matched), default=0)
-            found[behind] = tuple(leaf for leaf in matched if self.priorities[leaf] == top)
+        for behind, listed in self.listed[state].items():
+            top = max((self.priorities[leaf] for leaf in listed), default=0)
+            found[behind] = tuple(leaf for leaf in listed if self.priorities[leaf] == top)
         return found
 
     def live_states(self):
@@ -157,7 +165,11 @@ def label(letters):
         else:
             ranges.append([byte, byte])
     texts = [letter(low) + ('' if low == high else '..=' + letter(high)) for low, high in ranges]
-    return '<br>'.join(text.replace('\\', '\\\\').replace('"', '&quot') for text in texts)
+    return '<br>'.join(shown_text(text) for text in texts)
+
+
+def shown_text(text):
+    return text.replace('\\', '\\\\').replace('"', '&quot')
 
 
 def letter(byte):

@@ -5,7 +5,8 @@ Trees are tuples: ('empty',), ('literal', bytes), ('class', ranges, of_character
 """
 
 import re
-from byte_sets import BYTES, CHARACTERS, DIGITS, NAMED, SPACE, WHITE, WORD, common, folded, united, without
+from collections import Counter
+from byte_sets import BYTES, CHARACTERS, DIGITS, NAMED, SPACE, WHITE, WORD, common, folded, of_category, united, without
 
 EMPTY = ('empty',)
 ESCAPABLE = set(map(chr, range(128))) - set('<>0123456789ABCDEFGHIJKLMNOPQRSTUVWXYZabcdefghijklmnopqrstuvwxyz')
@@ -13,6 +14,18 @@ CONTROLS = {'a': 7, 'f': 12, 't': 9, 'n': 10, 'r': 13, 'v': 11}
 COUNT = re.compile(r'\{([0-9]+)(,?)([0-9]*)\}')
 FLAGS = re.compile(r'\(\?([imsUuR]*)(-[imsUuR]+)?([:)])')
 NAME = re.compile(r'\(\?P?<([^\W\d]\w*)>')
+
+
+PROPERTY = re.compile(r'\\([pP])(?:\{([A-Za-z]+)\}|([A-Za-z]))')
+LOOKS = ['start', 'end', 'line start', 'line end', 'line start CRLF', 'line end CRLF', 'word boundary', 'no word boundary']
+# All forms of looks and classes. Perl's classes are met with the flag `u` and without it.
+FORMS = [
+    *LOOKS, '\\A', '\\z', '.', '. with R', '. with s', '. in bytes', 'range', '[^', '[[', '&&', '--', '~~', 'first ]', 'first -', 'last -', 'folded class', 'folded character',
+    *(f'[:{sign}{name}:]' for name in NAMED for sign in ('', '^') if not sign or name in ('alpha', 'space', 'digit')),
+    *(f'\\{kind}{where}' for kind in 'dDsSwW' for where in (' in characters', ' in bytes')), '\\p', '\\P', '\\x', '\\x{', '\\u', '\\u{', '\\U', 'byte', 'byte in a bracket',
+]
+# How often each form was met.
+MET = Counter()
 
 
 class Faulty(Exception):
@@ -34,6 +47,11 @@ def class_of(ranges, of_characters):
         code = ranges[0][0]
         return ('literal', chr(code).encode() if of_characters else bytes([code]))
     return ('class', ranges, of_characters)
+
+
+def look(kind):
+    MET[kind] += 1
+    return ('look', kind)
 
 
 def concatenation(parts):
@@ -168,17 +186,19 @@ class PatternReader:
         self.need(sign not in '*+?{')
         self.at += 1
         if sign == '.':
+            MET.update({'.': 1, '. with R': 'R' in self.flags, '. with s': 's' in self.flags, '. in bytes': not unicode})
             out = () if 's' in self.flags else ((10, 10), (13, 13)) if 'R' in self.flags else ((10, 10),)
             return class_of(without(CHARACTERS if unicode else BYTES, out), unicode)
         if sign in '^$':
             lines = 'm' in self.flags
-            return ('look', ('line ' if lines else '') + ('start' if sign == '^' else 'end') + (' CRLF' * (lines and 'R' in self.flags)))
+            return look(('line ' if lines else '') + ('start' if sign == '^' else 'end') + (' CRLF' * (lines and 'R' in self.flags)))
         return self.literal(ord(sign))
 
     def literal(self, code):
         """The tree of a character, bare or escaped."""
         unicode = 'u' in self.flags
         if 'i' in self.flags and (unicode or code < 128):
+            MET['folded character'] += 1
             return class_of(folded(((code, code),), unicode), unicode)
         return ('literal', chr(code).encode())
 
@@ -202,28 +222,43 @@ class PatternReader:
 
     def escape(self):
         unicode = 'u' in self.flags
-        for kind, look in (('A', 'start'), ('z', 'end')):
-            if self.next('\\' + kind):
-                return ('look', look)
+        for sign, kind in (('\\A', 'start'), ('\\z', 'end')):
+            if self.next(sign):
+                MET[sign] += 1
+                return look(kind)
         if self.text[self.at + 1:self.at + 2] in ('b', 'B'):
             self.need(not unicode and self.text[self.at + 2:self.at + 3] != '{')
             self.at += 2
-            return ('look', 'word boundary' if self.text[self.at - 1] == 'b' else 'no word boundary')
+            return look('word boundary' if self.text[self.at - 1] == 'b' else 'no word boundary')
         kind = self.text[self.at + 1:self.at + 2]
-        if kind and kind in 'dDsSwW':
+        if kind and kind in 'dDsSwWpP':
             return class_of(self.perl(), unicode)
         code, is_byte = self.escaped()
         if is_byte and code > 127:
+            MET['byte'] += 1
             return ('literal', bytes([code]))
         return self.literal(code)
 
     def perl(self):
-        """A class of digits, white space or word characters, or its complement."""
+        """A class of digits, white space or word characters, or of characters with a property; or its complement."""
         kind, unicode = self.text[self.at + 1], 'u' in self.flags
-        self.need(not unicode or kind in 'sS')
+        if kind in 'pP':
+            return self.property()
         self.at += 2
-        ranges = {'d': DIGITS, 's': WHITE if unicode else SPACE, 'w': WORD}[kind.lower()]
-        return without(CHARACTERS if unicode else BYTES, ranges) if kind.isupper() else ranges
+        MET[f'\\{kind} in ' + ('characters' if unicode else 'bytes')] += 1
+        if unicode:
+            ranges = {'d': of_category('Nd'), 's': WHITE, 'w': united(of_category('L') + of_category('M') + of_category('N') + of_category('Pc'))}[kind.lower()]
+            return without(CHARACTERS, ranges) if kind.isupper() else ranges
+        ranges = {'d': DIGITS, 's': SPACE, 'w': WORD}[kind.lower()]
+        return without(BYTES, ranges) if kind.isupper() else ranges
+
+    def property(self):
+        """The characters of a general category, or the others. Other properties are refused here, and none is made."""
+        found = self.need(self.match(PROPERTY))
+        self.need('u' in self.flags)
+        ranges = self.need(of_category(found[2] or found[3]))
+        MET['\\' + found[1]] += 1
+        return without(CHARACTERS, ranges) if found[1] == 'P' else ranges
 
     def escaped(self):
         """The code of an escape, and whether it is that of a byte."""
@@ -237,6 +272,7 @@ class PatternReader:
             self.need(digits)
             code = int(digits[1] or digits[2], 16)
             self.need(code < 0x110000 and not 0xD800 <= code < 0xE000)
+            MET['\\' + sign + '{' * (digits[1] is not None)] += 1
             return code, 'u' not in self.flags and sign == 'x' and digits[2] is not None
         self.need(sign in ESCAPABLE)
         return ord(sign), False
@@ -246,13 +282,17 @@ class PatternReader:
         unicode, negated, out, operation, operand = 'u' in self.flags, self.next('^'), None, None, []
         while self.next('-'):
             operand.append((45, 45))
+            MET['first -'] += 1
         if not operand and self.next(']'):
             operand.append((93, 93))
+            MET['first ]'] += 1
+        MET['[^'] += negated
         while not self.next(']'):
             self.need(self.at < len(self.text))
             sign = self.text[self.at:self.at + 2]
             if sign in ('&&', '--', '~~'):
                 out, operation, operand = self.operate(out, operation, operand), sign, []
+                MET[sign] += 1
                 self.at += 2
             else:
                 operand += self.item()
@@ -263,6 +303,7 @@ class PatternReader:
         ranges = united(operand)
         if 'i' in self.flags:
             ranges = folded(ranges, 'u' in self.flags)
+            MET['folded class'] += 1
         if operation is None:
             return ranges
         if operation == '&&':
@@ -273,19 +314,22 @@ class PatternReader:
         """The ranges of one item of a bracket."""
         named = self.match(re.compile(r'\[:(\^?)(%s):\]' % '|'.join(NAMED)))
         if named:
+            MET[named[0]] += 1
             ranges = folded(NAMED[named[2]], 'u' in self.flags) if 'i' in self.flags else NAMED[named[2]]
             return list(without(CHARACTERS if 'u' in self.flags else BYTES, ranges) if named[1] else ranges)
         if self.text[self.at] == '[':
             self.at += 1
+            MET['[['] += 1
             return list(self.bracket())
-        if self.text[self.at] == '\\' and self.text[self.at + 1:self.at + 2] in tuple('dDsSwW'):
+        if self.text[self.at] == '\\' and self.text[self.at + 1:self.at + 2] in tuple('dDsSwWpP'):
             return list(self.perl())
         low = self.member()
         high = low
         if self.text[self.at:self.at + 1] == '-' and self.text[self.at + 1:self.at + 2] not in (']', '-', ''):
             self.at += 1
-            self.need(self.text[self.at] != '[' and self.text[self.at:self.at + 2] not in tuple('\\' + kind for kind in 'dDsSwW'))
+            self.need(self.text[self.at] != '[' and self.text[self.at:self.at + 2] not in tuple('\\' + kind for kind in 'dDsSwWpP'))
             high = self.member()
+            MET['range'] += 1
         self.need(low <= high)
         return [(low, high)]
 
@@ -296,6 +340,8 @@ class PatternReader:
         else:
             code, is_byte = ord(self.text[self.at]), False
             self.at += 1
+            MET['last -'] += code == 45 and self.text[self.at:self.at + 1] == ']'
+        MET['byte in a bracket'] += is_byte and code > 127
         self.need(code < 128 or is_byte or 'u' in self.flags)
         return code
 

@@ -171,9 +171,9 @@ class Reading:
         skips = {number for number, leaf in enumerate(self.leaves) if leaf.kind == '::<skip>'}
         return self.matching.items(text, self.utf8, skips)
 
-    def chart(self):
-        """The lines of the chart, or None where a pattern looks."""
-        return None if any(has_look(leaf.tree) for leaf in self.leaves) else self.matching.chart()
+    def looks(self):
+        """Whether some pattern looks."""
+        return any(has_look(leaf.tree) for leaf in self.leaves)
 
 
 def spelled(literal):

@@ -82,3 +82,7 @@ def leads(tree):
 
 def has_look(tree):
     return tree[0] == 'look' or any(has_look(part) for part in parts_of(tree))
+
+
+def has_empty_class(tree):
+    return tree[0] == 'class' and not tree[1] or any(has_empty_class(part) for part in parts_of(tree))

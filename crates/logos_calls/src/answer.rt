@@ -50,6 +50,13 @@ impl Answer {
         }
     }
 
+    /// Adds how a value is displayed in the alternate form.
+    pub fn alternate<T: fmt::Display>(&mut self, value: &T) {
+        if write!(self.text, "{value:#}").is_err() {
+            self.lack();
+        }
+    }
+
     /// Adds a word and a span.
     pub fn span(&mut self, word: &str, span: Span) {
         if write!(self.text, "{word}{}..{}", span.from, span.to).is_err() {

@@ -2,8 +2,8 @@
 
 use crate::stop::Stop;
 use crate::{
-    attributes, cycles, definitions, errors, items, leaves, parameters, patterns, sets,
-    subpatterns, tokens, types,
+    attributes, automata, classes, codes, cycles, definitions, errors, expressions, graphs, items,
+    leaves, parameters, patterns, runs, sets, sources, subpatterns, tokens, types,
 };
 use std::alloc::Global;
 
@@ -51,6 +51,17 @@ enum Call {
     MakeLeaf,
     ReadSource,
     // Of graphs, codes, texts and commands.
+    Graph(graphs::View),
+    Build,
+    Comparisons,
+    Merge,
+    Class,
+    Code(codes::View),
+    Source(sources::View),
+    LexSource,
+    Strip,
+    Tokens,
+    Run,
 }
 
 /// The calls by their names.
@@ -105,6 +116,42 @@ const CALLS: &[(&str, Call)] = &[
     ("regex_leaf", Call::MakeLeaf),
     ("read_source", Call::ReadSource),
     // Of graphs, codes, texts and commands.
+    ("Graph::new", Call::Graph(graphs::View::Listing)),
+    ("Graph::errors", Call::Graph(graphs::View::Errors)),
+    ("Graph::get_mermaid", Call::Graph(graphs::View::Chart)),
+    ("Graph::get_state", Call::Graph(graphs::View::States)),
+    ("StateData.backward", Call::Graph(graphs::View::Backward)),
+    ("Graph::iter_states", Call::Graph(graphs::View::Count)),
+    ("Dfa::iter_matches", Call::Graph(graphs::View::Lists)),
+    ("Dfa::next_eoi_state", Call::Graph(graphs::View::ListsAtEnd)),
+    ("Dfa::iter_children", Call::Graph(graphs::View::Children)),
+    ("StateData.normal", Call::Graph(graphs::View::Found)),
+    ("Graph::checks", Call::Graph(graphs::View::Checks)),
+    ("Graph::telling", Call::Graph(graphs::View::Telling)),
+    ("State::pascal_case", Call::Graph(graphs::View::Names)),
+    ("StateData::eq", Call::Graph(graphs::View::Equal)),
+    ("dfa::build", Call::Build),
+    ("ByteClass::impl_with_cmp", Call::Comparisons),
+    ("ByteClass::merge", Call::Merge),
+    ("ByteClass", Call::Class),
+    ("Lexer::next", Call::Code(codes::View::Items)),
+    ("Lexer::span", Call::Code(codes::View::Walk)),
+    ("Item.slice", Call::Code(codes::View::First)),
+    ("Lexer::new_bytes", Call::Code(codes::View::Utf8)),
+    ("Generator::generate", Call::Code(codes::View::Nodes)),
+    ("Generator::impl_fork", Call::Code(codes::View::Single)),
+    ("Code::this", Call::Code(codes::View::Kept)),
+    ("text", Call::Code(codes::View::Part)),
+    ("text.tokens", Call::Code(codes::View::Again)),
+    ("text_in", Call::Code(codes::View::Around)),
+    ("generate", Call::Source(sources::View::Kept)),
+    ("Leaf.priority", Call::Source(sources::View::Priority)),
+    ("VariantKind.type", Call::Source(sources::View::Type)),
+    ("Generated::text", Call::Source(sources::View::Part)),
+    ("lex_source", Call::LexSource),
+    ("strip_attributes", Call::Strip),
+    ("Language::tokens", Call::Tokens),
+    ("run", Call::Run),
 ];
 
 /// Returns the call of a name.
@@ -165,5 +212,16 @@ pub fn answer(alloc: Global, header: &str, text: &str) -> Result<String, Stop> {
         Call::MakeLeaf => leaves::leaf(alloc, name, text),
         Call::ReadSource => leaves::source(alloc, text),
         // Of graphs, codes, texts and commands.
+        Call::Graph(view) => graphs::graph(alloc, view, text),
+        Call::Build => automata::without_rules(alloc, text),
+        Call::Comparisons => classes::comparisons(alloc, text),
+        Call::Merge => classes::merged(alloc, text),
+        Call::Class => classes::displayed(alloc, text),
+        Call::Code(view) => codes::code(alloc, view, words, text),
+        Call::Source(view) => sources::made(alloc, view, words, text),
+        Call::LexSource => sources::items(alloc, words, text),
+        Call::Strip => sources::stripped(alloc, text),
+        Call::Tokens => expressions::tokens(alloc, text),
+        Call::Run => runs::status(alloc, text),
     }
 }

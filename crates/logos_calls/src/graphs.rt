@@ -1,0 +1,192 @@
+//! Calls of graphs, which are made of rules.
+
+use crate::answer::Answer;
+use crate::automata::{push_children, push_lists};
+use crate::rules::leaves_of;
+use crate::states::{found, push_equal, push_names};
+use crate::stop::Stop;
+use logos_graph::graph::{BuildError, Config, Graph, State};
+use logos_token::error::Memory;
+use std::alloc::Global;
+
+/// What is asked of a graph.
+#[derive(Clone, Copy)]
+pub enum View {
+    /// Its states, each with its edges.
+    Listing,
+    Errors,
+    Chart,
+    /// Each state in the plain form, and in the alternate one.
+    States,
+    /// The states that lead to each state.
+    Backward,
+    /// How many states it has.
+    Count,
+    /// The leaves that its automaton lists after each of the texts.
+    Lists,
+    /// The same after each of the texts and the end.
+    ListsAtEnd,
+    Children,
+    /// The leaf and the length of the match at the front of each of the texts.
+    Found,
+    /// Whether a text tells two of its states apart: `0,1 a` asks states 0 and 1 about `a`, and `0,1,end a` about `a` and the end.
+    Checks,
+    /// Whether the bytes that it gives for each two different states tell them apart, and are fewer than the states.
+    Telling,
+    /// The names of its states.
+    Names,
+    /// Which made states equal the first of them.
+    Equal,
+}
+
+/// Returns how many states a graph has.
+fn count_states(graph: &Graph<'_>) -> usize {
+    let mut count = 0usize;
+    for _ in graph.iter_states() {
+        count = count.saturating_add(1);
+    }
+    count
+}
+
+/// Adds each state in the plain form, and in the alternate one.
+fn push_states(answer: &mut Answer, graph: &Graph<'_>) {
+    for number in graph.iter_states() {
+        if graph.contains(number) {
+            let state = graph.get_state(number);
+            answer.display(&state);
+            answer.text("; ");
+            answer.alternate(&state);
+            answer.text(";");
+        }
+    }
+}
+
+/// Adds the states that lead to each state.
+fn push_backward(answer: &mut Answer, graph: &Graph<'_>) {
+    for number in graph.iter_states() {
+        if graph.contains(number) {
+            answer.debug(&graph.get_state(number).backward);
+            answer.text(";");
+        }
+    }
+}
+
+/// Adds what a graph finds at the front of each text.
+fn push_finds(answer: &mut Answer, graph: &Graph<'_>, texts: &str) {
+    for text in texts.split(" ¦ ") {
+        if let Some((leaf, to)) = found(graph, text.as_bytes()) {
+            answer.display(&leaf.0);
+            answer.text(" ");
+            answer.display(&to);
+            answer.text(" ");
+        }
+        answer.text(";");
+    }
+}
+
+/// Returns the state of a graph with this number, if there is one.
+fn state_at(graph: &Graph<'_>, number: &str) -> Option<State> {
+    let Ok(number) = number.parse::<usize>() else {
+        return None;
+    };
+    graph.iter_states().nth(number)
+}
+
+/// Adds whether a text tells two states apart: 1 if it does, else 0; `?` where one is not there.
+fn push_check(answer: &mut Answer, graph: &Graph<'_>, case: &str) {
+    let (head, text) = case.split_once(' ').unwrap_or((case, ""));
+    let (one, rest) = head.split_once(',').unwrap_or((head, ""));
+    let (other, end) = rest.split_once(',').unwrap_or((rest, ""));
+    match (state_at(graph, one), state_at(graph, other)) {
+        (Some(one), Some(other)) if graph.contains(one) & graph.contains(other) => {
+            let tells = graph.checks(one, other, text.as_bytes(), end == "end");
+            answer.text(if tells { "1" } else { "0" })
+        }
+        _ => answer.text("?"),
+    }
+}
+
+/// Adds whether each text tells two states apart.
+fn push_checks(answer: &mut Answer, graph: &Graph<'_>, cases: &str) {
+    for case in cases.split(" ¦ ") {
+        push_check(answer, graph, case);
+    }
+}
+
+/// Returns whether fewer bytes than there are states tell two different states apart, but none from itself.
+fn tells_apart(alloc: Global, graph: &Graph<'_>, one: State, other: State) -> Result<bool, Memory> {
+    if !(graph.contains(one) & graph.contains(other)) || one.index() == other.index() {
+        return Ok(false);
+    }
+    let telling = graph.telling(alloc, one, other)?;
+    let is_short = telling.bytes.len() < count_states(graph);
+    let tells = graph.checks(one, other, &telling.bytes, telling.at_end);
+    let tells_itself = graph.checks(one, one, &telling.bytes, telling.at_end);
+    Ok(is_short & tells & !tells_itself)
+}
+
+/// Returns how many states the given bytes tell apart from this one.
+fn count_apart(alloc: Global, graph: &Graph<'_>, one: State) -> Result<usize, Memory> {
+    let mut count = 0usize;
+    for other in graph.iter_states() {
+        let tells = tells_apart(alloc, graph, one, other)?;
+        count = count.saturating_add(usize::from(tells));
+    }
+    Ok(count)
+}
+
+/// Adds `all` if the given bytes tell each two states apart, else for how many they do.
+fn push_telling(alloc: Global, answer: &mut Answer, graph: &Graph<'_>) -> Result<(), Stop> {
+    let mut count = 0usize;
+    for one in graph.iter_states() {
+        let found = count_apart(alloc, graph, one)?;
+        count = count.saturating_add(found);
+    }
+    let states = count_states(graph);
+    if count == states.saturating_mul(states.saturating_sub(1)) && count > 0 {
+        answer.text("all");
+    } else {
+        answer.display(&count);
+    }
+    Ok(())
+}
+
+/// Adds what is asked of a graph, of these texts perhaps.
+fn push_view(
+    alloc: Global,
+    answer: &mut Answer,
+    graph: &Graph<'_>,
+    view: View,
+    texts: &str,
+) -> Result<(), Stop> {
+    match view {
+        View::Listing => answer.display(graph),
+        View::Errors => answer.debug(&graph.errors()),
+        View::Chart => answer.text(&graph.get_mermaid(alloc)?),
+        View::States => push_states(answer, graph),
+        View::Backward => push_backward(answer, graph),
+        View::Count => answer.display(&count_states(graph)),
+        View::Lists => return push_lists(alloc, answer, graph.dfa(), texts, false),
+        View::ListsAtEnd => return push_lists(alloc, answer, graph.dfa(), texts, true),
+        View::Children => push_children(answer, graph.dfa()),
+        View::Found => push_finds(answer, graph, texts),
+        View::Checks => push_checks(answer, graph, texts),
+        View::Telling => return push_telling(alloc, answer, graph),
+        View::Names => push_names(alloc, answer, graph),
+        View::Equal => return push_equal(alloc, answer, graph),
+    }
+    Ok(())
+}
+
+/// Answers what is asked of the graph of rules, of the texts after ` ‖ ` perhaps; or the limit that it passes.
+pub fn graph(alloc: Global, view: View, text: &str) -> Result<String, Stop> {
+    let mut answer = Answer::new(alloc);
+    let (rules, texts) = text.split_once(" ‖ ").unwrap_or((text, ""));
+    let leaves = leaves_of(alloc, rules)?;
+    match &Graph::new(alloc, leaves, Config { utf8_mode: true }) {
+        Ok(graph) => push_view(alloc, &mut answer, graph, view, texts)?,
+        Err(BuildError::Memory) => return Err(Stop::Memory),
+        Err(error) => answer.debug(error),
+    }
+    answer.finish()
+}

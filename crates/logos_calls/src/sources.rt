@@ -1,0 +1,169 @@
+//! Calls of sources: their codes and texts, and the items of their inputs in both shapes.
+
+use crate::answer::Answer;
+use crate::inputs::bytes_of;
+use crate::lexers::{action_of, push_item};
+use crate::notation::has_word;
+use crate::stop::Stop;
+use crate::texts::alike;
+use crate::tokens::tokens_of;
+use logos_codegen::code::{Code, Config};
+use logos_codegen::error::Errors;
+use logos_codegen::graph::Graph;
+use logos_codegen::leaf::{TypeExpr, VariantKind};
+use logos_codegen::machine::{Action, Item};
+use logos_codegen::nested::AttributeParser;
+use logos_codegen::{Generated, LexSourceError, Refusal, generate, lex_source, strip_attributes};
+use logos_type::is_same_type;
+use std::alloc::Global;
+
+/// What is asked of what a source makes.
+#[derive(Clone, Copy)]
+pub enum View {
+    /// What its code keeps: its shape, its name, and what becomes of the matches of each leaf.
+    Kept,
+    /// The priority of the first leaf.
+    Priority,
+    /// Whether the first variant has this type.
+    Type,
+    /// Whether its text has this part.
+    Part,
+}
+
+/// Adds faults: place, code and message of each.
+fn push_faults(answer: &mut Answer, errors: &Errors) {
+    for (number, fault) in errors.list().iter().enumerate() {
+        answer.span(if number > 0 { "; " } else { "" }, fault.span);
+        answer.text(" ");
+        answer.display(&fault.code);
+        answer.text(": ");
+        answer.text(&fault.message);
+    }
+}
+
+/// Adds what a code keeps of its source.
+fn push_kept(answer: &mut Answer, code: &Code<'_>) {
+    answer.debug(&code.shape().use_state_machine_codegen);
+    answer.text(" ");
+    answer.text(code.name().text);
+    answer.text(":");
+    for leaf in code.leaves() {
+        answer.text(" ");
+        answer.display(&leaf.kind);
+    }
+}
+
+/// Returns whether the tokens of a text are a type.
+fn has_type(alloc: Global, type_expr: &TypeExpr<'_>, text: &str) -> Result<bool, Stop> {
+    let stream = tokens_of(alloc, text)?;
+    let mut errors = Errors::new(alloc);
+    match AttributeParser::new(stream.run()).parsed::<TypeExpr>(alloc, &mut errors)? {
+        Some(other) => Ok(is_same_type(type_expr, &other)),
+        None => Err(Stop::Input),
+    }
+}
+
+/// Adds what is asked of the first leaf: its priority, or whether its variant has this type.
+fn push_first(
+    alloc: Global,
+    answer: &mut Answer,
+    graph: &Graph<'_>,
+    view: View,
+    text: &str,
+) -> Result<(), Stop> {
+    let Some(leaf) = graph.leaves().first() else {
+        return Err(Stop::Input);
+    };
+    match (view, &leaf.kind) {
+        (View::Priority, _) => answer.display(&leaf.priority),
+        (_, VariantKind::Value(_, type_expr)) => answer.debug(&has_type(alloc, type_expr, text)?),
+        _ => answer.debug(&false),
+    }
+    Ok(())
+}
+
+/// Adds what is asked of what a source makes.
+fn push_view(
+    alloc: Global,
+    answer: &mut Answer,
+    made: &Generated<'_>,
+    view: View,
+    text: &str,
+) -> Result<(), Stop> {
+    match view {
+        View::Kept => Ok(push_kept(answer, &made.code)),
+        View::Priority | View::Type => push_first(alloc, answer, &made.graph, view, text),
+        View::Part => {
+            let whole = alike(made.text(alloc), made.text(alloc))?;
+            Ok(answer.debug(&whole.contains(text)))
+        }
+    }
+}
+
+/// Returns the shape that the words ask for: one loop, or a function for each state.
+fn shape_of(words: &str) -> Config {
+    Config {
+        use_state_machine_codegen: !has_word(words, "tailcall"),
+    }
+}
+
+/// Answers what is asked of what a source makes, or its faults. The text that it is asked of stands after ` ‖ `.
+pub fn made(alloc: Global, view: View, words: &str, text: &str) -> Result<String, Stop> {
+    let mut answer = Answer::new(alloc);
+    let (source, asked) = text.split_once(" ‖ ").unwrap_or((text, ""));
+    match &generate(alloc, source, shape_of(words)) {
+        Ok(made) => push_view(alloc, &mut answer, made, view, asked)?,
+        Err(Refusal::Memory) => return Err(Stop::Memory),
+        Err(Refusal::Errors(errors)) => push_faults(&mut answer, errors),
+    }
+    answer.finish()
+}
+
+/// Adds items.
+fn push_items(answer: &mut Answer, items: &[Item<'_>]) {
+    for (number, item) in items.iter().enumerate() {
+        push_item(answer, number, item);
+    }
+}
+
+/// Returns what a source gives on an input, where each callback does this.
+fn given(
+    alloc: Global,
+    source: &str,
+    input: &[u8],
+    config: Config,
+    action: Action,
+) -> Result<String, Stop> {
+    let mut answer = Answer::new(alloc);
+    match &lex_source(alloc, source, config, input, |_, _: &[u8]| action) {
+        Ok(items) => push_items(&mut answer, items),
+        Err(LexSourceError::Refused(errors)) => push_faults(&mut answer, errors),
+        Err(LexSourceError::Memory) => return Err(Stop::Memory),
+        Err(LexSourceError::NotUtf8 { valid_up_to }) => {
+            answer.text("not UTF-8 from ");
+            answer.display(valid_up_to);
+            answer.text(" on");
+        }
+    }
+    answer.finish()
+}
+
+/// Answers what a source gives on the input after ` ‖ `, in one shape. Each callback emits, or does what a word says.
+pub fn items(alloc: Global, words: &str, text: &str) -> Result<String, Stop> {
+    let Some((source, input)) = text.split_once(" ‖ ") else {
+        return Err(Stop::Input);
+    };
+    let input = bytes_of(alloc, input)?;
+    given(alloc, source, &input, shape_of(words), action_of(words))
+}
+
+/// Answers how a source is printed without what belongs to the derive macro, or its faults.
+pub fn stripped(alloc: Global, text: &str) -> Result<String, Stop> {
+    let mut answer = Answer::new(alloc);
+    match &strip_attributes(alloc, text) {
+        Ok(stream) => answer.tokens(stream.run()),
+        Err(Refusal::Memory) => return Err(Stop::Memory),
+        Err(Refusal::Errors(errors)) => push_faults(&mut answer, errors),
+    }
+    answer.finish()
+}
