@@ -8,8 +8,6 @@ ghost use Rattle.logos_cycles.specs.Cycles.{Leads};
 mod check;
 mod evidence;
 mod plain;
-#[cfg(test)]
-mod tests;
 
 use std::alloc::{AllocError, Global};
 
