@@ -1,0 +1,9 @@
+pub mod Texts
+pub mod Rules
+pub mod Source
+pub mod Given
+pub mod Refusals
+pub mod RunLaws
+pub mod Tokenizing
+pub mod Language
+pub mod inside

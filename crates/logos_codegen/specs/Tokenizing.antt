@@ -85,7 +85,7 @@ IsErrorAt (token leaf from to slice) span = ⊥
 IsErrorAt (error leaf from to slice) span = (from ≡ span.from) × (to ≡ span.to)
 
 -- Of the items of a text from a place on, those that the outcome needs: all of them, where no error is among them, and else those
--- up to the first error. Each is the next one behind the one before it.
+-- up to the first error. Each is the next one after the one before it.
 pub data AreRead (rules : List Rule) (utf8 : Bool) (text : List ℕ) : ℕ → List Item → Type 0 where
   all_read : (at : ℕ) → Items rules emits utf8 text at [] → AreRead rules utf8 text at []
   token_read : (at leaf from to : ℕ) (slice : List ℕ) (next : ℕ) (items : List Item) →

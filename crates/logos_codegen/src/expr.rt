@@ -178,7 +178,7 @@ impl Language {
         let mut tokens = Vec::new(alloc);
         let mut lexer = Lexer::new_str(&self.code, input, |_leaf, _slice: &[u8]| Action::Emit);
         while let Some(item) = lexer.next() {
-            match token_of(&self.kinds, item) {
+            match self.token_of(item) {
                 Ok(token) => tokens.push(token)?,
                 Err(span) => return Err(ExprError::Bad { span }),
             }
@@ -187,28 +187,30 @@ impl Language {
     }
 }
 
-/// Returns the token that an item is, or the span of an error.
-fn token_of<'i>(kinds: &[ExprKind], item: Item<'i>) -> Result<ExprToken<'i>, Span>
-    ensures ok { IfOk result (IsToken kinds.now (item_of item.entry)) }
-    ensures err { IfErr result (IsErrorAt (item_of item.entry)) }
-{
-    match item {
-        Item::Token { leaf, span, slice } => Ok(ExprToken {
-            kind: kind_at(kinds, leaf),
-            span,
-            slice,
-        }),
-        Item::Error { span, .. } => Err(span),
+impl Language {
+    /// Returns the token that an item is, or the span of an error.
+    fn token_of<'i>(&self, item: Item<'i>) -> Result<ExprToken<'i>, Span>
+        ensures ok { IfOk result (IsToken self.now.kinds (item_of item.entry)) }
+        ensures err { IfErr result (IsErrorAt (item_of item.entry)) }
+    {
+        match item {
+            Item::Token { leaf, span, slice } => Ok(ExprToken {
+                kind: self.kind_at(leaf),
+                span,
+                slice,
+            }),
+            Item::Error { span, .. } => Err(span),
+        }
     }
-}
 
-/// Returns the kind of the tokens of a leaf, by the kinds of all leaves.
-fn kind_at(kinds: &[ExprKind], leaf: LeafId) -> ExprKind
-    ensures { result ≡ kind_at kinds.now leaf.0 }
-{
-    match kinds.get(leaf.0) {
-        Some(kind) => *kind,
-        None => ExprKind::Close,
+    /// Returns the kind of the tokens of a leaf.
+    fn kind_at(&self, leaf: LeafId) -> ExprKind
+        ensures { result ≡ kind_at self.now.kinds leaf.0 }
+    {
+        match self.kinds.get(leaf.0) {
+            Some(kind) => *kind,
+            None => ExprKind::Close,
+        }
     }
 }
 

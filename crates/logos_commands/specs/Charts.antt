@@ -10,7 +10,7 @@ pub data Destination : Type 0 where
   file_at : (path : List ℕ) → Destination
   refused : (why : Unexported) → Destination
 
--- what stands behind the last slash of a path, or all of it: its split at that slash
+-- what follows the last slash of a path, or all of it: its split at that slash
 abbrev pub name_of_split : List ℕ → Option (List ℕ × List ℕ) → List ℕ
 name_of_split path None = path
 name_of_split path (Some split) = split.1
@@ -19,7 +19,7 @@ name_of_split path (Some split) = split.1
 abbrev pub file_name : List ℕ → List ℕ
 file_name path = name_of_split path (rsplit_once slash path)
 
--- what stands behind the last dot of a name, where that is not its first byte; `..` has no extension
+-- what follows the last dot of a name, if that is not its first byte; `..` has no extension
 abbrev pub extension : List ℕ → Option (List ℕ)
 extension name = if bytes_eq name parent_dir then None else extension_of_split (rsplit_once dot name)
 

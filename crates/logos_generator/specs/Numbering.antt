@@ -17,11 +17,11 @@ use Rattle.logos_generator.specs.Nodes.{cost, leads_beside, tests_byte, IsStateO
 abbrev pub set_of : List (ℕ × ℕ) → List Bool
 set_of ranges = map (is_in ranges) (range_with_len 0 256)
 
--- The tests behind one more use: a set of bytes that has a number keeps it, and another takes the next one.
+-- The tests after one more use: a set of bytes that has a number keeps it, and another takes the next one.
 abbrev pub with_use : List (List Bool) → List (ℕ × ℕ) → List (List Bool)
 with_use tests ranges = insert_key (pointwise beq) tests (set_of ranges)
 
--- the tests behind these uses, in their order
+-- the tests after these uses, in their order
 abbrev pub numbered : List (List Bool) → List (List (ℕ × ℕ)) → List (List Bool)
 numbered tests uses = fold with_use tests uses
 

@@ -25,7 +25,7 @@ pub record IsCodable (state : GraphState) : Type 0 where
   pub separated : All (λ edge. AreSeparated edge.0) state.normal
   pub targets : All (λ edge. edge.1 < 4294967295) state.normal
 
--- the branch of an edge comes behind the others; where the edge leads back to s, none comes
+-- the branch of an edge comes after the others; if the edge leads back to s, none comes
 abbrev pub AddsBranch : List (List Bool) → ℕ → ByteClass × State → (old new : List (TheCondition × ℕ)) → Type 0
 AddsBranch tests s edge old new = MatchBool (state_number edge.1 == s)
     (new ≡ old)

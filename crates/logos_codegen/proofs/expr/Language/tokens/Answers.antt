@@ -1,7 +1,7 @@
 use Rattle.std.proofs.Common.{◌∙◌, ap, arith, map, subst, rules}
 use Rattle.std.proofs.lemmas.List.{map-append}
 use Rattle.logos_machine.specs.LexerValue.{item_of}
-use Rattle.logos_codegen.specs.Language.{IsLanguage}
+use Rattle.logos_codegen.specs.Language.{LanguageValue, IsLanguage}
 use Rattle.logos_codegen.specs.Tokenizing.{token_value}
 use Rattle.logos_codegen.proofs.LexLemmas.{are_bytes}
 use Rattle.logos_codegen.proofs.ExprLemmas.{begins, error_outcome, token_more, tokenized_bad, tokenized_all, outcome_is}
@@ -9,7 +9,7 @@ use Rattle.logos_codegen.proofs.expr.Language.tokens.Goals as goal
 
 pub loop-item-init : goal.loop-item-init
 loop-item-init c = record {
-  same_code = ap (λ l. l.code) c.new_str-lexer.ensures ∙ c.self.view_is;
+  same_code = ap (λ l. l.code) c.new_str-lexer.ensures ∙ ap (λ (v : LanguageValue). v.code) c.self.view_is;
   same_input = ap (λ l. l.input) c.new_str-lexer.ensures;
   within = omega (arith, ap (λ l. l.to) c.new_str-lexer.ensures);
   goes_on = λ rules utf8 lexer. rw (c.new-tokens.ensures.items, ap (λ l. l.to) c.new_str-lexer.ensures) (begins c.args.self.now.kinds rules utf8 c.args.input.now);
