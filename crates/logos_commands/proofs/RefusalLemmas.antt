@@ -14,7 +14,7 @@ use Rattle.logos_commands.specs.declared.failure.Failure.{Failure}
 use Rattle.logos_commands.specs.declared.failure.Failure.TheVariants.{Read, Write, Output, Refused, NotUtf8, Alike, NotExported, Memory}
 use Rattle.logos_commands.specs.declared.outcome.Asked.{Asked as Part}
 use Rattle.logos_commands.specs.declared.outcome.Asked.TheVariants.{Text, Chart, Export}
-use Rattle.logos_commands.specs.inside.Charts.{destination_said}
+use Rattle.logos_commands.specs.Charts.{destination_said}
 use Rattle.logos_commands.specs.Commands.{refused_by, status_of}
 use Rattle.logos_commands.specs.Runs.{RefusesStripping, RefusesLexer, RefusesExport}
 

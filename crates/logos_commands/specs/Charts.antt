@@ -1,13 +1,9 @@
 -- Where the chart of an enum goes, as lists of bytes.
-use Rattle.std.specs.Prelude.{◌≡◌, ◌++◌, ℕ, List, Option, Some, None, if◌then◌else◌, map, bytes_eq, codes, string_bytes}
+use Rattle.std.specs.Prelude.{◌++◌, ℕ, List, Option, Some, None, if◌then◌else◌, map, bytes_eq, codes}
 use Rattle.std.specs.Char.{to_ascii_lowercase}
 use Rattle.std.specs.Path.{slash, dot, parent_dir, rsplit_once, extension_of_split, with_separator}
-use Rattle.logos_commands.specs.declared.failure.Failure.{Failure}
-use Rattle.logos_commands.specs.declared.failure.Failure.TheVariants.{NotExported, Memory}
 use Rattle.logos_commands.specs.declared.failure.Unexported.{Unexported}
 use Rattle.logos_commands.specs.declared.failure.Unexported.TheVariants.{Unsaid, Dot, Extension}
-use Rattle.logos_commands.specs.declared.outcome.Outcome.{Outcome}
-use Rattle.logos_commands.specs.declared.outcome.Outcome.TheVariants.{Text, Chart}
 
 -- What becomes of a chart: it goes to the file at these bytes, or its path is refused.
 pub data Destination : Type 0 where
@@ -49,14 +45,3 @@ destination path name = destination_by (extension (file_name path)) path name
 abbrev pub destination_said : Option (List ℕ) → List ℕ → Destination
 destination_said None name = refused Unsaid
 destination_said (Some path) name = destination path name
-
--- whether this is why a chart does not go where it is to go: its path is refused, or the bytes of it found no memory
-abbrev pub FailsAt : Destination → Failure → Type 0
-FailsAt (file_at path) failure = failure ≡ Memory
-FailsAt (refused why) failure = failure ≡ NotExported why
-
--- whether what a command gives is a chart for the file at which it is to be
-abbrev pub IsChartAt : Destination → Outcome → Type 0
-IsChartAt (file_at path) (Chart chart text) = string_bytes chart ≡ path
-IsChartAt (file_at path) (Text text) = ⊥
-IsChartAt (refused why) outcome = ⊥

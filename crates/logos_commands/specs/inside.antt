@@ -1,1 +1,1 @@
-pub mod Charts
+pub mod Destinations

@@ -2,8 +2,9 @@
 
 ghost use Rattle.std.specs.Prelude.{◌≡◌, IfErr, IfOk, option_copied, string_bytes};
 ghost use Rattle.std.specs.Path.{with_separator};
-ghost use Rattle.logos_commands.specs.inside.Charts.{FailsAt, destination, extension, file_at, file_in};
-ghost use Rattle.logos_commands.specs.inside.Charts.{file_name, refusal_by};
+ghost use Rattle.logos_commands.specs.Charts.{destination, extension, file_at, file_in};
+ghost use Rattle.logos_commands.specs.Charts.{file_name, refusal_by};
+ghost use Rattle.logos_commands.specs.inside.Destinations.{FailsAt};
 
 use crate::failure::{Failure, Unexported};
 use std::alloc::{AllocError, Global};
