@@ -1,4 +1,5 @@
 pub mod Charts
 pub mod Commands
+pub mod Lines
 pub mod Runs
 pub mod inside

@@ -59,6 +59,11 @@ pub record IsTorn (source input : List ℕ) (valid_up_to : ℕ) : Type 0 where
   pub no_text : ¬ IsUtf8 input
   pub valid : IsValidUpTo input valid_up_to
 
+-- the code is of UTF-8 mode, and the input is UTF-8 for so many bytes, and not as a whole
+abbrev pub IsTornBy : CodeValue → List ℕ → Failure → Type 0
+IsTornBy code input (NotUtf8 valid_up_to) = IsTrue code.utf8 × (¬ IsUtf8 input) × IsValidUpTo input valid_up_to
+IsTornBy code input failure = ⊥
+
 -- the source is no enum, and this fault ends its reading
 pub record IsUnread (source : List ℕ) (faults : List Fault) : Type 0 where
   pub ending : Fault

@@ -6,7 +6,10 @@ mod chart_path;
 mod command;
 mod failure;
 mod files;
+mod lexing;
+mod lines;
 mod outcome;
+mod reading;
 mod running;
 
 pub use files::{FileError, Files};

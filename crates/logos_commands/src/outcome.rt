@@ -1,25 +1,23 @@
-//! What the commands give.
+//! What the commands make of a source, whole, before any of it is written.
 
 ghost use Rattle.std.specs.Prelude.{◌≡◌, ◌≢◌, IfErr, IfOk, option_map, string_bytes};
 ghost use Rattle.logos_commands.specs.Charts.{destination_said, file_at};
 ghost use Rattle.logos_commands.specs.inside.Destinations.{FailsAt, IsChartAt};
-ghost use Rattle.logos_commands.specs.Commands.{command_asked, status_of};
-ghost use Rattle.logos_commands.specs.Runs.{IsDone, IsDenied, IsFaultless, IsLexed, IsStrippable};
-ghost use Rattle.logos_commands.specs.Runs.{ReadsSome, ReadsBoth};
-ghost use Rattle.logos_commands.specs.Runs.{RefusesExport, RefusesInput, RefusesLexer, RefusesStripping};
+ghost use Rattle.logos_commands.specs.Commands.{status_of};
+ghost use Rattle.logos_commands.specs.Runs.{IsFaultless, IsStrippable, ReadsSome};
+ghost use Rattle.logos_commands.specs.Runs.{RefusesExport, RefusesLexer, RefusesStripping};
 
 use crate::chart_path::chart_path;
-use crate::command::Command;
 use crate::failure::{Failure, Unexported};
-use crate::files::{FileError, Files};
+use crate::files::Files;
+use crate::reading::read_text;
 use logos_codegen::generator::Config;
 use logos_codegen::graph::{Graph, State};
-use logos_codegen::machine::{Action, Item};
 use logos_codegen::token::print;
-use logos_codegen::{Generated, generate, lex_source, strip_attributes};
-use std::alloc::{AllocError, Global};
+use logos_codegen::{Generated, generate, strip_attributes};
+use std::alloc::Global;
 
-/// What a command gives.
+/// What a command makes of a source.
 #[derive(Drop)]
 pub(super) enum Outcome {
     /// A text for standard output.
@@ -28,9 +26,9 @@ pub(super) enum Outcome {
     Chart { path: String, text: String },
 }
 
-/// What is asked for of a lexer.
+/// What a command asks of a lexer.
 #[derive(Clone, Copy)]
-enum Asked {
+pub(super) enum Asked {
     /// Its Rust text.
     Text,
     /// The chart of its graph.
@@ -40,60 +38,12 @@ enum Asked {
 }
 
 /// A chart is the same in both shapes.
-const ANY_SHAPE: Config = Config {
+pub(super) const ANY_SHAPE: Config = Config {
     use_state_machine_codegen: true,
 };
 
-/// What a command gives, whole, before any of it is written.
-pub(super) fn outcome_of<'w, F: Files>(
-    alloc: Global,
-    command: Command<'w>,
-    files: &mut F,
-) -> Result<Outcome, Failure<'w>>
-    ensures done { IfOk result (λ outcome.
-        IsDone F.read_gives (command_asked command.entry) files.old) }
-    ensures denied { IfErr result (λ failure. status_of failure ≡ 1 →
-        IsDenied F.read_gives (command_asked command.entry) files.old failure) }
-{
-    match command {
-        Command::Text { file, config } => of_file(alloc, file, config, Asked::Text, files),
-        Command::Items {
-            file,
-            input,
-            config,
-        } => Ok(Outcome::Text(items(alloc, file, input, config, files)?)),
-        Command::Chart { file } => of_file(alloc, file, ANY_SHAPE, Asked::Chart, files),
-        Command::Export { file } => of_file(alloc, file, ANY_SHAPE, Asked::Export, files),
-        Command::Strip { file } => Ok(Outcome::Text(stripped(alloc, file, files)?)),
-    }
-}
-
-/// All bytes of a file.
-fn read<'w, F: Files>(path: &'w str, files: &mut F) -> Result<Vec<u8>, Failure<'w>>
-    ensures ok { IfOk result (λ bytes. F.read_gives files.old path.now bytes.items files.new) }
-    ensures err { IfErr result (λ failure. status_of failure ≡ 3) }
-{
-    match files.read(path) {
-        Ok(bytes) => Ok(bytes),
-        Err(FileError::Failed) => Err(Failure::Read(path)),
-        Err(FileError::Memory) => Err(Failure::Memory),
-    }
-}
-
-/// The text of a file.
-fn read_text<'w, F: Files>(path: &'w str, files: &mut F) -> Result<String, Failure<'w>>
-    ensures ok { IfOk result (λ text.
-        F.read_gives files.old path.now (string_bytes text) files.new) }
-    ensures err { IfErr result (λ failure. status_of failure ≡ 3) }
-{
-    let Ok(text) = String::from_utf8(read(path, files)?) else {
-        return Err(Failure::Read(path));
-    };
-    Ok(text)
-}
-
-/// What is asked for of the lexer of the source in a file.
-fn of_file<'w, F: Files>(
+/// Makes what is asked of the lexer of the source in a file.
+pub(super) fn of_file<'w, F: Files>(
     alloc: Global,
     file: &'w str,
     config: Config,
@@ -149,19 +99,19 @@ fn text_of_lexer(alloc: Global, made: &Generated<'_>) -> Result<String, Failure<
 }
 
 /// What is left of a file without what belongs to the derive macro, and LF.
-fn stripped<'w, F: Files>(
+pub(super) fn stripped<'w, F: Files>(
     alloc: Global,
     file: &'w str,
     files: &mut F,
-) -> Result<String, Failure<'w>>
-    ensures done { IfOk result (λ text. ReadsSome F.read_gives files.old file.now IsStrippable) }
+) -> Result<Outcome, Failure<'w>>
+    ensures done { IfOk result (λ outcome. ReadsSome F.read_gives files.old file.now IsStrippable) }
     ensures denied { IfErr result (λ failure. status_of failure ≡ 1 →
         ReadsSome F.read_gives files.old file.now (λ source. RefusesStripping source failure)) }
 {
     let source = read_text(file, files)?;
     let mut text = stripped_source(alloc, source.as_str())?;
     text.push('\n')?;
-    Ok(text)
+    Ok(Outcome::Text(text))
 }
 
 /// What is left of a source without what belongs to the derive macro.
@@ -172,41 +122,6 @@ fn stripped_source(alloc: Global, source: &str) -> Result<String, Failure<'stati
 {
     let left = strip_attributes(alloc, source)?;
     Ok(print(alloc, left.run())?)
-}
-
-/// A line for each item of the input.
-fn items<'w, F: Files>(
-    alloc: Global,
-    file: &'w str,
-    input: &'w str,
-    config: Config,
-    files: &mut F,
-) -> Result<String, Failure<'w>>
-    ensures done { IfOk result (λ text.
-        ReadsBoth F.read_gives files.old file.now input.now IsLexed) }
-    ensures denied { IfErr result (λ failure. status_of failure ≡ 1 →
-        ReadsBoth F.read_gives files.old file.now input.now (λ source bytes.
-        RefusesInput source bytes failure)) }
-{
-    let source = read_text(file, files)?;
-    let bytes = read(input, files)?;
-    items_of(alloc, source.as_str(), bytes.as_slice(), config)
-}
-
-/// A line for each item of an input, by a source.
-fn items_of(
-    alloc: Global,
-    source: &str,
-    input: &[u8],
-    config: Config,
-) -> Result<String, Failure<'static>>
-    ensures done { IfOk result (λ text. IsLexed source.now input.now) }
-    ensures denied { IfErr result (λ failure. status_of failure ≡ 1 →
-        RefusesInput source.now input.now failure) }
-{
-    let emit = |_leaf, _slice: &[u8]| Action::Emit;
-    let items = lex_source(alloc, source, config, input, emit)?;
-    Ok(lines_of(alloc, items.as_slice())?)
 }
 
 /// The chart of the graph of a lexer that was made, for the file that its source names.
@@ -273,30 +188,5 @@ fn test_pair(alloc: Global, graph: &Graph<'_>, s: State, t: State) -> Result<(),
             s: s.index(),
             t: t.index(),
         })
-    }
-}
-
-/// A line for each item.
-fn lines_of(alloc: Global, items: &[Item<'_>]) -> Result<String, AllocError> {
-    let mut text = String::new(alloc);
-    for item in items {
-        push_item(&mut text, item)?;
-    }
-    Ok(text)
-}
-
-fn push_item(text: &mut String, item: &Item<'_>) -> Result<(), AllocError> {
-    match item {
-        Item::Token { leaf, span, .. } => {
-            let number = leaf.0;
-            let from = span.from;
-            let to = span.to;
-            writeln!(text, "token {number} {from}..{to}")
-        }
-        Item::Error { span, .. } => {
-            let from = span.from;
-            let to = span.to;
-            writeln!(text, "error {from}..{to}")
-        }
     }
 }

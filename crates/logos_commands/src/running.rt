@@ -9,7 +9,8 @@ ghost use Rattle.logos_commands.specs.declared.failure.Failure.{Failure as Why};
 use crate::command::{Command, command_of};
 use crate::failure::{Failure, report};
 use crate::files::{FileError, Files};
-use crate::outcome::{Outcome, outcome_of};
+use crate::lexing::lex;
+use crate::outcome::{ANY_SHAPE, Asked, Outcome, of_file, stripped};
 use std::alloc::Global;
 use std::io;
 use std::io::{ErrorKind, Write};
@@ -41,7 +42,8 @@ pub fn run<F: Files, O: Write, E: Write>(
     }
 }
 
-/// Writes what the command gives, whole, once it is made.
+/// Carries out a command. What it makes of a source is written whole, once it is made; the items of an input are written while it is
+/// lexed.
 fn carry_out<'w, F: Files, O: Write>(
     alloc: Global,
     command: Command<'w>,
@@ -52,7 +54,46 @@ fn carry_out<'w, F: Files, O: Write>(
     ensures denied { IfErr result (λ failure. status_of failure ≡ 1 →
         IsDenied F.read_gives (command_asked command.entry) files.old failure) }
 {
-    match outcome_of(alloc, command, files)? {
+    match command {
+        Command::Items {
+            file,
+            input,
+            config,
+        } => lex(alloc, (file, input), config, files, out),
+        Command::Text { file, config } => {
+            deliver(
+                of_file(alloc, file, config, Asked::Text, files)?,
+                files,
+                out,
+            )
+        }
+        Command::Chart { file } => {
+            deliver(
+                of_file(alloc, file, ANY_SHAPE, Asked::Chart, files)?,
+                files,
+                out,
+            )
+        }
+        Command::Export { file } => {
+            deliver(
+                of_file(alloc, file, ANY_SHAPE, Asked::Export, files)?,
+                files,
+                out,
+            )
+        }
+        Command::Strip { file } => deliver(stripped(alloc, file, files)?, files, out),
+    }
+}
+
+/// Writes what a command has made, to standard output or to a file.
+fn deliver<F: Files, O: Write>(
+    outcome: Outcome,
+    files: &mut F,
+    out: &mut O,
+) -> Result<(), Failure<'static>>
+    ensures { IfErr result (λ failure. status_of failure ≡ 3) }
+{
+    match outcome {
         Outcome::Text(text) => write_out(text.as_str(), out),
         Outcome::Chart { path, text } => write_file(path, text.as_str(), files),
     }

@@ -1,0 +1,11 @@
+use Rattle.std.proofs.Common.{◌≡◌, ◌≤◌, ◌-◌, length}
+use Rattle.logos_commands.proofs.lexing.write_items.Given as goal
+
+-- the callback and the input stay
+abbrev pub invariant-loop-item : goal.invariant-loop-item
+invariant-loop-item g l = record {
+  same_callback : l.lexer-inside.callback ≡ l.fn.lexer-inside.callback;
+}
+
+abbrev pub decreases-loop-item : goal.decreases-loop-item
+decreases-loop-item g l = length l.lexer.input - l.lexer.to
