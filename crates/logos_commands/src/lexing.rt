@@ -74,29 +74,43 @@ fn lex_by_code<O: Write>(
 {
     let emit = |_leaf: LeafId, _slice: &[u8]| Action::Emit;
     match Lexer::new_bytes(code, input, emit) {
-        Ok(lexer) => write_items(alloc, lexer, out),
+        Ok(lexer) => {
+            let mut lexer = lexer;
+            write_items(alloc, &mut lexer, out)
+        }
         Err(error) => Err(Failure::NotUtf8 {
             valid_up_to: error.valid_up_to,
         }),
     }
 }
 
-/// Writes a line for each item that a lexer gives, and flushes the writer.
-fn write_items<C: Fn(LeafId, &[u8]) -> Action + Drop, O: Write>(
+/// Writes a line for each item that a lexer still gives.
+fn write_items<C: Fn(LeafId, &[u8]) -> Action, O: Write>(
     alloc: Global,
-    lexer: Lexer<'_, '_, '_, C>,
+    lexer: &mut Lexer<'_, '_, '_, C>,
     out: &mut O,
 ) -> Result<(), Failure<'static>>
-    requires { C.IsAlwaysCallable lexer.callback }
+    requires { C.IsAlwaysCallable lexer.old.callback }
     ensures { IfErr result (λ failure. status_of failure ≡ 3) }
 {
-    let mut lexer = lexer;
     let mut block = Vec::with_capacity(alloc, BLOCK + LINE)?;
+    write_lines(lexer, &mut block, out)
+}
+
+/// Writes a line for each item that a lexer still gives, by blocks, and flushes the writer.
+fn write_lines<C: Fn(LeafId, &[u8]) -> Action, O: Write>(
+    lexer: &mut Lexer<'_, '_, '_, C>,
+    block: &mut Vec<u8>,
+    out: &mut O,
+) -> Result<(), Failure<'static>>
+    requires { C.IsAlwaysCallable lexer.old.callback }
+    ensures { IfErr result (λ failure. status_of failure ≡ 3) }
+{
     while let Some(item) = lexer.next() {
-        push_item(&mut block, item)?;
-        write_full(&mut block, out)?;
+        push_item(block, item)?;
+        write_full(block, out)?;
     }
-    write_block(&mut block, out)?;
+    write_block(block, out)?;
     flush(out)
 }
 

@@ -1,10 +1,10 @@
 use Rattle.std.proofs.Common.{◌≡◌, ◌≤◌, ◌-◌, length}
-use Rattle.logos_commands.proofs.lexing.write_items.Given as goal
+use Rattle.logos_commands.proofs.lexing.write_lines.Given as goal
 
--- the callback and the input stay
+-- the callback stays
 abbrev pub invariant-loop-item : goal.invariant-loop-item
 invariant-loop-item g l = record {
-  same_callback : l.lexer-inside.callback ≡ l.fn.lexer-inside.callback;
+  same_callback : l.lexer.callback ≡ l.fn.lexer.callback;
 }
 
 abbrev pub decreases-loop-item : goal.decreases-loop-item
