@@ -1,2 +1,3 @@
 mod CutLemmas
+mod DigitLemmas
 mod RefusalLemmas

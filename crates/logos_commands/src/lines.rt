@@ -1,6 +1,6 @@
 //! The lines of items.
 
-ghost use Rattle.std.specs.Prelude.{◌≡◌, ◌++◌, decimal, codes, OnOk};
+ghost use Rattle.std.specs.Prelude.{◌≡◌, ◌++◌, ◌<◌, decimal, OnOk, drop};
 ghost use Rattle.logos_machine.specs.LexerValue.{item_of};
 ghost use Rattle.logos_commands.specs.Lines.{line_of, span_line};
 
@@ -40,16 +40,23 @@ fn push_span(text: &mut Vec<u8>, span: Span) -> Result<(), AllocError>
 fn push_number(text: &mut Vec<u8>, number: usize) -> Result<(), AllocError>
     ensures { OnOk result (text.new.items ≡ text.old.items ++ decimal number) }
 {
-    if number >= 10 {
-        push_number(text, number / 10)?;
-    }
-    push_digit(text, (number % 10) as u8)
+    let mut digits = [0; 20];
+    let from = write_digits(&mut digits, number);
+    text.extend_from_slice(&digits[from..])
 }
 
-/// Adds a digit.
-fn push_digit(text: &mut Vec<u8>, digit: u8) -> Result<(), AllocError>
-    requires { digit < 10 }
-    ensures { OnOk result (text.new.items ≡ text.old.items ++ decimal digit) }
+/// Writes the decimal digits of a number at the end of the array, and returns where they begin.
+fn write_digits(digits: &mut [u8; 20], number: usize) -> usize
+    ensures place { result < 20 }
+    ensures digits { drop result digits.new ≡ decimal number }
 {
-    text.extend_from_slice(&[b'0' + digit])
+    let mut at = 19;
+    let mut rest = number;
+    while rest >= 10 {
+        digits[at] = b'0' + (rest % 10) as u8;
+        rest /= 10;
+        at -= 1;
+    }
+    digits[at] = b'0' + rest as u8;
+    at
 }
