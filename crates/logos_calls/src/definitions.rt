@@ -4,7 +4,6 @@ use crate::answer::Answer;
 use crate::errors::push_errors;
 use crate::patterns::push_callback;
 use crate::stop::Stop;
-use crate::tokens::tokens_of;
 use logos_attribute::nested::{AttributeParser, Nested, NestedValue};
 use logos_definition::definition::Definition;
 use logos_definition::error_type::ErrorType;
@@ -88,34 +87,38 @@ fn push_options(alloc: Global, answer: &mut Answer, parser: &Parser<'_>) {
     }
 }
 
-/// Reads the arguments of a `logos` attribute. Returns the `skips`, the other `options`, or the faults.
-pub fn read_logos(alloc: Global, words: &str, text: &str) -> Result<String, Stop> {
-    let mut answer = Answer::new(alloc);
-    let stream = tokens_of(alloc, text)?;
-    let mut parser = Parser::new(alloc);
-    if parser.read_logos(stream.run()).is_err() {
-        return Err(failed(&mut parser));
+/// Reads the arguments of a `logos` attribute. Adds the `skips`, the other `options`, or the faults.
+pub fn read_logos<'s>(
+    alloc: Global,
+    answer: &mut Answer,
+    parser: &mut Parser<'s>,
+    run: Tokens<'_, 's>,
+    words: &str,
+) -> Result<(), Stop> {
+    if parser.read_logos(run).is_err() {
+        return Err(failed(parser));
     }
     match words {
-        "skips" => push_skips(&mut answer, &parser),
-        "options" => push_options(alloc, &mut answer, &parser),
-        _ => push_errors(&mut answer, "", &parser.errors, true),
+        "skips" => push_skips(answer, parser),
+        "options" => push_options(alloc, answer, parser),
+        _ => push_errors(answer, "", &parser.errors, true),
     }
-    answer.finish()
+    Ok(())
 }
 
-/// Reads the arguments of a `token` or `regex`. Returns the definition, if there is one, and the faults.
-pub fn parse_definition(alloc: Global, text: &str) -> Result<String, Stop> {
-    let mut answer = Answer::new(alloc);
-    let stream = tokens_of(alloc, text)?;
-    let mut parser = Parser::new(alloc);
-    match &parser.parse_definition(stream.run()) {
-        Ok(Some(definition)) => push_definition(&mut answer, definition),
+/// Reads the arguments of a `token` or `regex`. Adds the definition, if there is one, and the faults.
+pub fn parse_definition<'s>(
+    answer: &mut Answer,
+    parser: &mut Parser<'s>,
+    run: Tokens<'_, 's>,
+) -> Result<(), Stop> {
+    match &parser.parse_definition(run) {
+        Ok(Some(definition)) => push_definition(answer, definition),
         Ok(None) => {}
-        Err(Memory) => return Err(failed(&mut parser)),
+        Err(Memory) => return Err(failed(parser)),
     }
-    push_errors(&mut answer, "", &parser.errors, true);
-    answer.finish()
+    push_errors(answer, "", &parser.errors, true);
+    Ok(())
 }
 
 /// A definition, a type of errors and flags.
@@ -155,23 +158,25 @@ fn first_definition<'s>(
     }
 }
 
-/// Returns what the named arguments after a literal do to its definition, to a type of errors and to flags, and the faults.
-pub fn named(alloc: Global, text: &str) -> Result<String, Stop> {
-    let mut answer = Answer::new(alloc);
-    let stream = tokens_of(alloc, text)?;
-    let mut parser = Parser::new(alloc);
-    let definition = first_definition(&mut parser, stream.run())?;
+/// Adds what the named arguments after a literal do to its definition, to a type of errors and to flags, and the faults.
+pub fn named<'s>(
+    alloc: Global,
+    answer: &mut Answer,
+    parser: &mut Parser<'s>,
+    run: Tokens<'_, 's>,
+) -> Result<(), Stop> {
+    let definition = first_definition(parser, run)?;
     let flags = IgnoreFlags { ignore_case: false };
     let mut lent = (definition, ErrorType::default(alloc), flags);
-    if give(alloc, &mut lent, &mut parser, stream.run().rest()).is_err() {
-        return Err(failed(&mut parser));
+    if give(alloc, &mut lent, parser, run.rest()).is_err() {
+        return Err(failed(parser));
     }
-    push_definition(&mut answer, &lent.0);
-    push_callback(&mut answer, &lent.1.callback);
+    push_definition(answer, &lent.0);
+    push_callback(answer, &lent.1.callback);
     answer.text(" ");
     answer.debug(&lent.2.ignore_case);
-    push_errors(&mut answer, " ", &parser.errors, true);
-    answer.finish()
+    push_errors(answer, " ", &parser.errors, true);
+    Ok(())
 }
 
 /// Gives a parser the attributes of a run that are `logos` attributes.
@@ -185,6 +190,14 @@ fn parse_attributes<'s>(parser: &mut Parser<'s>, run: Tokens<'_, 's>) -> Result<
         rest = after;
     }
     Ok(())
+}
+
+/// Gives a parser the parameters of an enum and all its attributes.
+fn parse_front<'s>(parser: &mut Parser<'s>, item: &ItemEnum<'_, 's>) -> Result<(), Memory> {
+    for parameter in &item.parameters {
+        parser.parse_generic(*parameter)?;
+    }
+    parse_attributes(parser, item.attributes)
 }
 
 /// Adds the definition in the first attribute of each variant.
@@ -203,33 +216,34 @@ fn push_definitions<'s>(
     Ok(())
 }
 
-/// Gives a parser the parameters of an enum and all its attributes.
+/// Gives a parser the parameters of an enum and all its attributes, and adds the definitions of its variants.
 fn parse_item<'s>(
     answer: &mut Answer,
     parser: &mut Parser<'s>,
     item: &ItemEnum<'_, 's>,
-) -> Result<(), Memory> {
-    for parameter in &item.parameters {
-        parser.parse_generic(*parameter)?;
+) -> Result<(), Stop> {
+    if parse_front(parser, item).is_err() {
+        return Err(failed(parser));
     }
-    parse_attributes(parser, item.attributes)?;
-    push_definitions(answer, parser, item.variants.as_slice())
+    match push_definitions(answer, parser, item.variants.as_slice()) {
+        Ok(()) => Ok(()),
+        Err(Memory) => Err(failed(parser)),
+    }
 }
 
-/// Gives a parser the parameters of an enum and all its attributes. Returns the definitions of its variants and its skips, and the faults.
-pub fn parse_parts(alloc: Global, text: &str) -> Result<String, Stop> {
-    let mut answer = Answer::new(alloc);
-    let stream = tokens_of(alloc, text)?;
-    let item = match read_enum(alloc, stream.run()) {
-        Ok(item) => item,
+/// Gives a parser the parameters of an enum and all its attributes. Adds the definitions of its variants and its skips, and the faults.
+pub fn parse_parts<'s>(
+    alloc: Global,
+    answer: &mut Answer,
+    parser: &mut Parser<'s>,
+    run: Tokens<'_, 's>,
+) -> Result<(), Stop> {
+    match &read_enum(alloc, run) {
+        Ok(item) => parse_item(answer, parser, item)?,
         Err(ReadError::Memory) => return Err(Stop::Memory),
         Err(_) => return Err(Stop::Input),
-    };
-    let mut parser = Parser::new(alloc);
-    if parse_item(&mut answer, &mut parser, &item).is_err() {
-        return Err(failed(&mut parser));
     }
-    push_skips(&mut answer, &parser);
-    push_errors(&mut answer, "", &parser.errors, false);
-    answer.finish()
+    push_skips(answer, parser);
+    push_errors(answer, "", &parser.errors, false);
+    Ok(())
 }

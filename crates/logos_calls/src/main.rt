@@ -12,6 +12,7 @@ mod attributes;
 mod cycles;
 mod definitions;
 mod errors;
+mod front;
 mod items;
 mod leaves;
 mod notation;
