@@ -1,6 +1,5 @@
 //! The calls, by their names.
 
-use crate::answer::Answer;
 use crate::front::{self, ParserCall, RunCall, TextCall};
 use crate::stop::Stop;
 use std::alloc::Global;
@@ -91,30 +90,17 @@ fn call_of(name: &str) -> Option<Call> {
     None
 }
 
-/// Adds what a call answers to a text. Its name is that in the header, where words may follow.
-fn ask(
-    alloc: Global,
-    answer: &mut Answer,
-    call: Call,
-    header: (&str, &str),
-    text: &str,
-) -> Result<(), Stop> {
-    match call {
-        // Of tokens, types, items, patterns and parsers.
-        Call::Text(call) => front::ask_text(alloc, answer, call, header, text),
-        Call::Run(call) => front::ask_run(alloc, answer, call, header.1, text),
-        Call::Parser(call) => front::ask_parser(alloc, answer, call, header, text),
-        // Of graphs, codes, texts and commands.
-    }
-}
-
 /// Returns what the library answers to a text, asked as the header says.
 pub fn answer(alloc: Global, header: &str, text: &str) -> Result<String, Stop> {
     let (name, words) = header.split_once(' ').unwrap_or((header, ""));
     let Some(call) = call_of(name) else {
         return Err(Stop::NoCall);
     };
-    let mut answer = Answer::new(alloc);
-    ask(alloc, &mut answer, call, (name, words), text)?;
-    answer.finish()
+    match call {
+        // Of tokens, types, items, patterns and parsers.
+        Call::Text(call) => front::of_text(alloc, call, (name, words), text),
+        Call::Run(call) => front::of_run(alloc, call, words, text),
+        Call::Parser(call) => front::of_parser(alloc, call, (name, words), text),
+        // Of graphs, codes, texts and commands.
+    }
 }

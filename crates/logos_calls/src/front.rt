@@ -66,7 +66,7 @@ pub enum ParserCall {
 }
 
 /// Adds what a call answers to a text. Its name is that in the header, where words may follow.
-pub fn ask_text(
+fn ask_text(
     alloc: Global,
     answer: &mut Answer,
     call: TextCall,
@@ -99,8 +99,20 @@ pub fn ask_text(
     }
 }
 
+/// Returns what a call answers to a text.
+pub fn of_text(
+    alloc: Global,
+    call: TextCall,
+    header: (&str, &str),
+    text: &str,
+) -> Result<String, Stop> {
+    let mut answer = Answer::new(alloc);
+    ask_text(alloc, &mut answer, call, header, text)?;
+    answer.finish()
+}
+
 /// Adds what a call answers to tokens.
-fn ask_tokens(
+fn ask_run(
     alloc: Global,
     answer: &mut Answer,
     call: RunCall,
@@ -121,20 +133,16 @@ fn ask_tokens(
     Ok(())
 }
 
-/// Adds what a call answers to the tokens of a text.
-pub fn ask_run(
-    alloc: Global,
-    answer: &mut Answer,
-    call: RunCall,
-    words: &str,
-    text: &str,
-) -> Result<(), Stop> {
+/// Returns what a call answers to the tokens of a text.
+pub fn of_run(alloc: Global, call: RunCall, words: &str, text: &str) -> Result<String, Stop> {
+    let mut answer = Answer::new(alloc);
     let stream = tokens_of(alloc, text)?;
-    ask_tokens(alloc, answer, call, words, stream.run())
+    ask_run(alloc, &mut answer, call, words, stream.run())?;
+    answer.finish()
 }
 
 /// Adds what a call answers to a parser and tokens.
-fn ask_with<'s>(
+fn ask_parser<'s>(
     alloc: Global,
     answer: &mut Answer,
     call: ParserCall,
@@ -154,15 +162,16 @@ fn ask_with<'s>(
     }
 }
 
-/// Adds what a call answers to a parser that has read nothing, and to the tokens of a text.
-pub fn ask_parser(
+/// Returns what a call answers to a parser that has read nothing, and to the tokens of a text.
+pub fn of_parser(
     alloc: Global,
-    answer: &mut Answer,
     call: ParserCall,
     header: (&str, &str),
     text: &str,
-) -> Result<(), Stop> {
+) -> Result<String, Stop> {
+    let mut answer = Answer::new(alloc);
     let stream = tokens_of(alloc, text)?;
     let mut parser = Parser::new(alloc);
-    ask_with(alloc, answer, call, header, &mut parser, stream.run())
+    ask_parser(alloc, &mut answer, call, header, &mut parser, stream.run())?;
+    answer.finish()
 }
