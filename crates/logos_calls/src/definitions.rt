@@ -45,14 +45,6 @@ fn push_skips(answer: &mut Answer, parser: &Parser<'_>) {
     }
 }
 
-/// Adds the text of a value that takes memory for it.
-fn push_text(answer: &mut Answer, text: &Result<String, Memory>) {
-    match text {
-        Ok(text) => answer.text(text),
-        Err(Memory) => answer.lack(),
-    }
-}
-
 /// Adds the mode, the extras, the two paths, the subpatterns, and the type of errors with its callback.
 fn push_options(alloc: Global, answer: &mut Answer, parser: &Parser<'_>) {
     match parser.utf8_mode {
@@ -60,7 +52,7 @@ fn push_options(alloc: Global, answer: &mut Answer, parser: &Parser<'_>) {
         None => answer.text("-"),
     }
     answer.text(";");
-    push_text(answer, &parser.extras.print(alloc));
+    answer.printed(&parser.extras.print(alloc));
     answer.text(";");
     if let Some(path) = &parser.logos_path {
         answer.text("crate ");
@@ -80,7 +72,7 @@ fn push_options(alloc: Global, answer: &mut Answer, parser: &Parser<'_>) {
     }
     if let Some(error) = &parser.error_type {
         answer.text("error ");
-        push_text(answer, &error.print(alloc));
+        answer.printed(&error.print(alloc));
         answer.text(" ");
         push_callback(answer, &error.callback);
         answer.text(";");
@@ -192,14 +184,6 @@ fn parse_attributes<'s>(parser: &mut Parser<'s>, run: Tokens<'_, 's>) -> Result<
     Ok(())
 }
 
-/// Gives a parser the parameters of an enum and all its attributes.
-fn parse_front<'s>(parser: &mut Parser<'s>, item: &ItemEnum<'_, 's>) -> Result<(), Memory> {
-    for parameter in &item.parameters {
-        parser.parse_generic(*parameter)?;
-    }
-    parse_attributes(parser, item.attributes)
-}
-
 /// Adds the definition in the first attribute of each variant.
 fn push_definitions<'s>(
     answer: &mut Answer,
@@ -221,14 +205,12 @@ fn parse_item<'s>(
     answer: &mut Answer,
     parser: &mut Parser<'s>,
     item: &ItemEnum<'_, 's>,
-) -> Result<(), Stop> {
-    if parse_front(parser, item).is_err() {
-        return Err(failed(parser));
+) -> Result<(), Memory> {
+    for parameter in &item.parameters {
+        parser.parse_generic(*parameter)?;
     }
-    match push_definitions(answer, parser, item.variants.as_slice()) {
-        Ok(()) => Ok(()),
-        Err(Memory) => Err(failed(parser)),
-    }
+    parse_attributes(parser, item.attributes)?;
+    push_definitions(answer, parser, item.variants.as_slice())
 }
 
 /// Gives a parser the parameters of an enum and all its attributes. Adds the definitions of its variants and its skips, and the faults.
@@ -239,7 +221,11 @@ pub fn parse_parts<'s>(
     run: Tokens<'_, 's>,
 ) -> Result<(), Stop> {
     match &read_enum(alloc, run) {
-        Ok(item) => parse_item(answer, parser, item)?,
+        Ok(item) => {
+            if parse_item(answer, parser, item).is_err() {
+                return Err(failed(parser));
+            }
+        }
         Err(ReadError::Memory) => return Err(Stop::Memory),
         Err(_) => return Err(Stop::Input),
     }

@@ -3,7 +3,7 @@
 use crate::answer::Answer;
 use crate::notation::has_word;
 use crate::stop::Stop;
-use logos_item::{Field, Fields, ItemEnum, Parameter, ReadError, Variant, read_enum};
+use logos_item::{Field, Fields, ItemEnum, ReadError, Variant, read_enum};
 use logos_token::token::Tokens;
 use std::alloc::Global;
 
@@ -45,22 +45,17 @@ fn push_variant(answer: &mut Answer, variant: &Variant<'_, '_>) {
     answer.text("; ");
 }
 
-/// Adds the kind, the name and the span of a parameter.
-fn push_parameter(answer: &mut Answer, parameter: &Parameter<'_, '_>) {
-    answer.debug(&parameter.kind);
-    answer.text(" ");
-    answer.text(parameter.name.text);
-    answer.span(" ", parameter.run.span());
-    answer.text(", ");
-}
-
 /// Adds the attributes, the name, the parameters and the variants of an enum.
 fn push_item(answer: &mut Answer, item: &ItemEnum<'_, '_>) {
     push_run(answer, item.attributes);
     answer.text(item.name.text);
     answer.text(": ");
     for parameter in &item.parameters {
-        push_parameter(answer, parameter);
+        answer.debug(&parameter.kind);
+        answer.text(" ");
+        answer.text(parameter.name.text);
+        answer.span(" ", parameter.run.span());
+        answer.text(", ");
     }
     for variant in &item.variants {
         push_variant(answer, variant);

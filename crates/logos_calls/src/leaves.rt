@@ -7,7 +7,7 @@ use crate::patterns::push_leaf;
 use crate::stop::Stop;
 use logos_leaf::leaf::{regex_leaf, token_leaf};
 use logos_leaf::source::{Source, read_source, utf8_mode};
-use logos_parser::item::{ItemEnum, ReadError, read_enum};
+use logos_parser::item::{ReadError, read_enum};
 use logos_parser::parser::{Parser, Subpatterns};
 use logos_pattern::leaf::{Leaf, VariantKind};
 use logos_token::error::Memory;
@@ -68,22 +68,16 @@ fn push_source(answer: &mut Answer, source: &Source<'_>) {
     push_errors(answer, " ", &source.parser.errors, false);
 }
 
-/// Adds the name of an enum, its place, and what it says.
-fn push_item(alloc: Global, answer: &mut Answer, item: &ItemEnum<'_, '_>) -> Result<(), Stop> {
-    answer.text(item.name.text);
-    answer.span(" ", item.name.span);
-    push_source(answer, &read_source(alloc, item)?);
-    Ok(())
-}
-
-/// Adds what the enum says that a run is, or why it is none.
+/// Adds the name of the enum that a run is, its place, and what it says; or why it is none.
 pub fn source(alloc: Global, answer: &mut Answer, run: Tokens<'_, '_>) -> Result<(), Stop> {
     match &read_enum(alloc, run) {
-        Ok(item) => push_item(alloc, answer, item),
-        Err(ReadError::Memory) => Err(Stop::Memory),
-        Err(error) => {
-            answer.debug(error);
-            Ok(())
+        Ok(item) => {
+            answer.text(item.name.text);
+            answer.span(" ", item.name.span);
+            push_source(answer, &read_source(alloc, item)?);
         }
+        Err(ReadError::Memory) => return Err(Stop::Memory),
+        Err(error) => answer.debug(error),
     }
+    Ok(())
 }

@@ -175,22 +175,19 @@ pub fn in_literal(alloc: Global, answer: &mut Answer, words: &str, text: &str) -
     push_read(answer, words, &read)
 }
 
-/// Adds a literal's token with its span, whether it is of characters, its bytes, and its priority.
-fn push_literal(answer: &mut Answer, literal: &Literal<'_>) {
-    answer.text(literal.token().text);
-    answer.span(" ", literal.span());
-    answer.text(" ");
-    answer.debug(&literal.unicode());
-    answer.text(" ");
-    answer.bytes(literal.value());
-    answer.text(" ");
-    answer.display(&token_priority(literal));
-}
-
-/// Adds the string that a text is, or `none`.
+/// Adds a literal's token with its span, whether it is of characters, its bytes, and its priority; or `none`.
 pub fn parts(alloc: Global, answer: &mut Answer, text: &str) -> Result<(), Stop> {
     match &literal_of(alloc, text) {
-        Ok(literal) => push_literal(answer, literal),
+        Ok(literal) => {
+            answer.text(literal.token().text);
+            answer.span(" ", literal.span());
+            answer.text(" ");
+            answer.debug(&literal.unicode());
+            answer.text(" ");
+            answer.bytes(literal.value());
+            answer.text(" ");
+            answer.display(&token_priority(literal));
+        }
         Err(Stop::Input) => answer.text("none"),
         Err(stop) => return Err(*stop),
     }

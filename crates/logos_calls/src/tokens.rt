@@ -19,15 +19,19 @@ pub fn tokens_of<'s>(alloc: Global, text: &'s str) -> Result<TokenStream<'s>, St
     }
 }
 
-/// Adds the kind and the end of the lexeme at a place, or why there is none.
-fn push_lexeme(answer: &mut Answer, source: &str, from: usize) -> Result<(), Stop> {
+/// Adds the kind and the end of the lexeme with which a text begins, or of the one after the mark `‖` in it, or why there is none.
+pub fn lexeme(alloc: Global, answer: &mut Answer, text: &str) -> Result<(), Stop> {
+    let (before, after) = text.split_once('‖').unwrap_or(("", text));
+    let mut source = String::from_str(alloc, before)?;
+    source.push_str(after)?;
+    let from = before.len();
     if from >= source.len() {
         return Err(Stop::Input);
     }
     if !source.is_char_boundary(from) {
         return Err(Stop::Input);
     }
-    match lexeme_at(source, from) {
+    match lexeme_at(&source, from) {
         Ok((kind, to)) => {
             answer.debug(&kind);
             answer.text(" ");
@@ -38,15 +42,6 @@ fn push_lexeme(answer: &mut Answer, source: &str, from: usize) -> Result<(), Sto
             answer.span(" ", span);
         }
     }
-    Ok(())
-}
-
-/// Adds the kind and the end of the lexeme with which a text begins, or of the one after the mark `‖` in it, or why there is none.
-pub fn lexeme(alloc: Global, answer: &mut Answer, text: &str) -> Result<(), Stop> {
-    let (before, after) = text.split_once('‖').unwrap_or(("", text));
-    let mut source = String::from_str(alloc, before)?;
-    source.push_str(after)?;
-    push_lexeme(answer, &source, before.len())?;
     Ok(())
 }
 
@@ -177,20 +172,16 @@ pub fn printed(alloc: Global, answer: &mut Answer, text: &str) -> Result<(), Sto
     Ok(())
 }
 
-/// Adds whether a mark stands first, and whether it does where it is expected.
-fn push_marks(answer: &mut Answer, run: Tokens<'_, '_>, expected: char) {
-    if let Some(first) = run.first() {
-        answer.debug(&is_punct(&first, expected));
-    }
-    answer.text(" ");
-    answer.debug(&expect_punct(run.first(), expected).is_none());
-    answer.text(" ");
-}
-
 /// Adds whether a comma and whether an equals sign stands first, and whether it does where it is expected.
 pub fn marks(answer: &mut Answer, run: Tokens<'_, '_>) {
-    push_marks(answer, run, ',');
-    push_marks(answer, run, '=');
+    for expected in [',', '='] {
+        if let Some(first) = run.first() {
+            answer.debug(&is_punct(&first, expected));
+        }
+        answer.text(" ");
+        answer.debug(&expect_punct(run.first(), expected).is_none());
+        answer.text(" ");
+    }
 }
 
 /// Returns the name with which a source begins. It outlives the buffer of tokens, which ends here.
@@ -215,24 +206,19 @@ pub fn name(alloc: Global, answer: &mut Answer, text: &str) -> Result<(), Stop> 
     Ok(())
 }
 
-/// Adds how tokens are printed, and a semicolon.
-fn push_tokens(alloc: Global, answer: &mut Answer, tokens: &MaybeVoid<'_>) {
-    match tokens.print(alloc) {
-        Ok(text) => answer.text(&text),
-        Err(_) => answer.lack(),
-    }
-    answer.text("; ");
-}
-
 /// Adds what stood there when tokens took the place of none, when all but their first took theirs, when these were taken, and then.
 pub fn replaced(alloc: Global, answer: &mut Answer, text: &str) -> Result<(), Stop> {
     let stream = tokens_of(alloc, text)?;
     let rest = stream.run().rest().to_stream(alloc)?;
     let mut tokens = MaybeVoid::Void;
-    push_tokens(alloc, answer, &tokens.replace(stream));
-    push_tokens(alloc, answer, &tokens.replace(rest));
-    push_tokens(alloc, answer, &tokens.take());
-    push_tokens(alloc, answer, &tokens);
+    answer.printed(&tokens.replace(stream).print(alloc));
+    answer.text("; ");
+    answer.printed(&tokens.replace(rest).print(alloc));
+    answer.text("; ");
+    answer.printed(&tokens.take().print(alloc));
+    answer.text("; ");
+    answer.printed(&tokens.print(alloc));
+    answer.text("; ");
     Ok(())
 }
 
