@@ -3,7 +3,7 @@
 use crate::answer::Answer;
 use crate::inputs::bytes_of;
 use crate::stop::Stop;
-use logos_graph::dfa::build::build;
+use logos_automaton::dfa::build::build;
 use logos_graph::graph::{BuildError, Dfa, StateId};
 use std::alloc::Global;
 

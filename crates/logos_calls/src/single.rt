@@ -55,11 +55,11 @@ fn maybe_loop(
     ensures { OnOk result (generator.new.graph ≡ generator.old.graph) }
 {
     let before = generator.render_luts(alloc)?;
-    if let Ok(found) = generator.maybe_impl_fast_loop(state) {
+    if let Ok(found) = generator.maybe_impl_fast_loop(alloc, state) {
         return Ok(found);
     }
     stays(alloc, generator, &before)?;
-    Ok(generator.maybe_impl_fast_loop(state)?)
+    Ok(generator.maybe_impl_fast_loop(alloc, state)?)
 }
 
 /// Returns the fast loop over an edge with these bytes.
@@ -71,11 +71,11 @@ fn loop_over(
     ensures { OnOk result (generator.new.graph ≡ generator.old.graph) }
 {
     let before = generator.render_luts(alloc)?;
-    if let Ok(made) = generator.impl_fast_loop(edge) {
+    if let Ok(made) = generator.impl_fast_loop(alloc, edge) {
         return Ok(made);
     }
     stays(alloc, generator, &before)?;
-    Ok(generator.impl_fast_loop(edge)?)
+    Ok(generator.impl_fast_loop(alloc, edge)?)
 }
 
 /// Makes the code of the graph.
@@ -151,6 +151,7 @@ fn push_nodes_of(
 
 /// Adds the macros, and what becomes of the matches of the first leaf.
 fn push_shared(
+    alloc: Global,
     answer: &mut Answer,
     generator: &Generator<'_, 'static>,
     graph: &Graph<'static>,
@@ -158,7 +159,7 @@ fn push_shared(
     push_number(answer, " restart ", generator.take_action_macro().restart);
     push_number(answer, " blocks ", fast_loop_macro(8).unroll_factor);
     if let Some(leaf) = graph.leaves().first() {
-        push_leaf(answer, &generator.generate_callback(leaf)?);
+        push_leaf(answer, &generator.generate_callback(alloc, leaf)?);
     }
     Ok(())
 }
@@ -176,7 +177,7 @@ pub fn push_single(
     answer.text("states");
     push_nodes_of(alloc, answer, generator, graph, graph.iter_states())?;
     push_tests(answer, &generator.render_luts(alloc)?);
-    push_shared(answer, generator, graph)?;
+    push_shared(alloc, answer, generator, graph)?;
     make(alloc, generator)?;
     push_tests(answer, &generator.render_luts(alloc)?);
     Ok(())

@@ -58,8 +58,8 @@ fn has_type(alloc: Global, type_expr: &TypeExpr<'_>, text: &str) -> Result<bool,
     let stream = tokens_of(alloc, text)?;
     let mut errors = Errors::new(alloc);
     match AttributeParser::new(stream.run()).parsed::<TypeExpr>(alloc, &mut errors)? {
-        Some(other) => Ok(is_same_type(type_expr, &other)),
-        None => Err(Stop::Input),
+        Some(Ok(other)) => Ok(is_same_type(type_expr, &other)),
+        _ => Err(Stop::Input),
     }
 }
 

@@ -10,7 +10,7 @@ use std::alloc::AllocError;
 
 /// Adds the line of an item.
 pub(super) fn push_item(text: &mut Vec<u8>, item: Item<'_>) -> Result<(), AllocError>
-    ensures { OnOk result (text.new.items ≡ text.old.items ++ line_of (item_of item)) }
+    ensures { OnOk result (text.new.items ≡ text.old.items ++ line_of (item_of item.entry)) }
 {
     match item {
         Item::Token { leaf, span, .. } => {
