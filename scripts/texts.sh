@@ -9,7 +9,7 @@
 # It needs the program as `rt ci` leaves it in crates/logos_program/out, or the first argument.
 set -euo pipefail
 
-sources='callbacks comments comparisons generics jumps letters marks nothing shared tables'
+sources='callbacks comments comparisons generics jumps letters marks nothing shared tables unsaid'
 shapes='state_machine tailcall'
 texts=$(cd "$(dirname "${BASH_SOURCE[0]}")" && pwd)/texts
 program=$(realpath "${1:-$texts/../../crates/logos_program/out/logos_program}")

@@ -69,35 +69,49 @@ pub fn runs(answer: &mut Answer, run: Tokens<'_, '_>) {
     }
 }
 
-/// Returns whether the next run is a literal, or the whole one for no pieces.
-fn is_literal<'s>(
+/// Returns how the next run is read as a literal, or the whole one for no pieces: `-` for no run, and `fault` where one was reported.
+fn literal_word<'s>(
     alloc: Global,
     pieces: Option<&mut AttributeParser<'_, 's>>,
     whole: Tokens<'_, 's>,
     errors: &mut Errors,
-) -> Result<bool, Memory> {
+) -> Result<&'static str, Memory> {
     let Some(pieces) = pieces else {
-        return Ok(Literal::from_run(alloc, whole, errors)?.is_some());
+        return match Literal::from_run(alloc, whole, errors)? {
+            Some(_) => Ok("literal"),
+            None => Ok("-"),
+        };
     };
     let read: Option<Result<Literal<'s>, Reported>> = pieces.parsed(alloc, errors)?;
-    Ok(matches!(read, Some(Ok(_))))
+    match read {
+        Some(Ok(_)) => Ok("literal"),
+        Some(Err(_)) => Ok("fault"),
+        None => Ok("-"),
+    }
 }
 
-/// Returns whether the next run is a type, or the whole one for no pieces.
-fn is_type<'s>(
+/// Returns how the next run is read as a type, or the whole one for no pieces: `-` for no run, and `fault` where one was reported.
+fn type_word<'s>(
     alloc: Global,
     pieces: Option<&mut AttributeParser<'_, 's>>,
     whole: Tokens<'_, 's>,
     errors: &mut Errors,
-) -> Result<bool, Memory> {
+) -> Result<&'static str, Memory> {
     let Some(pieces) = pieces else {
-        return Ok(TypeExpr::from_run(alloc, whole, errors)?.is_some());
+        return match TypeExpr::from_run(alloc, whole, errors)? {
+            Some(_) => Ok("type"),
+            None => Ok("-"),
+        };
     };
     let read: Option<Result<TypeExpr<'s>, Reported>> = pieces.parsed(alloc, errors)?;
-    Ok(matches!(read, Some(Ok(_))))
+    match read {
+        Some(Ok(_)) => Ok("type"),
+        Some(Err(_)) => Ok("fault"),
+        None => Ok("-"),
+    }
 }
 
-/// Returns what the next run is that is read as a way says, or the whole one for a capital letter; `-` where it is not that.
+/// Returns the word for the next run, read as a way says, or for the whole one where the way is a capital letter.
 fn word_of<'s>(
     alloc: Global,
     way: char,
@@ -105,25 +119,16 @@ fn word_of<'s>(
     whole: Tokens<'_, 's>,
     errors: &mut Errors,
 ) -> Result<&'s str, Memory> {
-    let is_read = match way {
-        'l' => is_literal(alloc, Some(pieces), whole, errors)?,
-        'L' => is_literal(alloc, None, whole, errors)?,
-        't' => is_type(alloc, Some(pieces), whole, errors)?,
-        'T' => is_type(alloc, None, whole, errors)?,
-        _ => {
-            return match pieces.next() {
-                Some(Nested::Named(name, _)) => Ok(name.text),
-                _ => Ok("-"),
-            };
-        }
-    };
-    Ok(if !is_read {
-        "-"
-    } else if (way == 'l') | (way == 'L') {
-        "literal"
-    } else {
-        "type"
-    })
+    match way {
+        'l' => literal_word(alloc, Some(pieces), whole, errors),
+        'L' => literal_word(alloc, None, whole, errors),
+        't' => type_word(alloc, Some(pieces), whole, errors),
+        'T' => type_word(alloc, None, whole, errors),
+        _ => match pieces.next() {
+            Some(Nested::Named(name, _)) => Ok(name.text),
+            _ => Ok("-"),
+        },
+    }
 }
 
 /// Adds what becomes of each run as its way says, after a refused request too, and the faults.
