@@ -9,7 +9,7 @@ ghost use Rattle.logos_codegen.specs.Tokenizing.{kind_at, kind_given, kind_named
 ghost use Rattle.logos_codegen.specs.Tokenizing.{IsToken, IsErrorAt, Tokenizes, IsOutcome};
 ghost use Rattle.logos_codegen.specs.Tokenizing.{Answers, IsRefusalOf};
 
-use crate::generation::generate;
+use crate::generation::{Generated, generate};
 use logos_generator::code::Code;
 use logos_generator::generator::Config;
 use logos_generator::machine::{Action, Item, Lexer};
@@ -156,11 +156,12 @@ impl Language {
             use_state_machine_codegen: true,
         };
         let made = generate(alloc, SOURCE, config)?;
-        let kinds = kinds_of(alloc, made.graph.leaves())?;
-        Ok(Language {
-            code: made.code,
-            kinds,
-        })
+        let kinds = kinds_of(alloc, made.graph.leaves());
+        let code = code_in(made);
+        match kinds {
+            Ok(kinds) => Ok(Language { code, kinds }),
+            Err(_) => Err(ExprError::Memory),
+        }
     }
 
     /// Returns the tokens of a text, in order, without the blanks between them.
@@ -212,6 +213,13 @@ impl Language {
             None => ExprKind::Close,
         }
     }
+}
+
+/// Returns the code of what was generated.
+fn code_in(made: Generated<'static>) -> Code<'static>
+    ensures { result ≡ made.entry.code }
+{
+    made.code
 }
 
 /// Returns the kinds of the tokens of all leaves, in the order of their numbers.

@@ -3,7 +3,8 @@
 ghost use Rattle.std.specs.Prelude.{◌≡◌, ◌≤◌, ◌⊎◌, ◌↔◌, None, map, string_bytes};
 ghost use Rattle.std.specs.Prelude.{IfErr, IfSome, OnOk};
 ghost use Rattle.logos_commands.specs.Commands.{asked, command_asked, status_of};
-ghost use Rattle.logos_commands.specs.Runs.{IsDone, IsDenied};
+ghost use Rattle.logos_commands.specs.Runs.{IsDone, IsDenied, IsFaultless, IsStrippable};
+ghost use Rattle.logos_commands.specs.Runs.{ReadsSome, RefusesLexer, RefusesStripping};
 ghost use Rattle.logos_commands.specs.declared.failure.Failure.{Failure as Why};
 
 use crate::command::{Command, command_of};
@@ -11,6 +12,7 @@ use crate::failure::{Failure, report};
 use crate::files::{FileError, Files};
 use crate::lexing::lex;
 use crate::outcome::{ANY_SHAPE, Asked, Outcome, of_file, stripped};
+use logos_codegen::generator::Config;
 use std::alloc::Global;
 use std::io;
 use std::io::{ErrorKind, Write};
@@ -61,27 +63,51 @@ fn carry_out<'w, F: Files, O: Write>(
             config,
         } => lex(alloc, (file, input), config, files, out),
         Command::Text { file, config } => {
-            deliver(
-                of_file(alloc, file, config, Asked::Text, files)?,
-                files,
-                out,
-            )
+            write_lexer(alloc, file, (config, Asked::Text), files, out)
         }
         Command::Chart { file } => {
-            deliver(
-                of_file(alloc, file, ANY_SHAPE, Asked::Chart, files)?,
-                files,
-                out,
-            )
+            write_lexer(alloc, file, (ANY_SHAPE, Asked::Chart), files, out)
         }
         Command::Export { file } => {
-            deliver(
-                of_file(alloc, file, ANY_SHAPE, Asked::Export, files)?,
-                files,
-                out,
-            )
+            write_lexer(alloc, file, (ANY_SHAPE, Asked::Export), files, out)
         }
-        Command::Strip { file } => deliver(stripped(alloc, file, files)?, files, out),
+        Command::Strip { file } => write_stripped(alloc, file, files, out),
+    }
+}
+
+/// Writes what is asked of the lexer of the source in a file, in a shape.
+fn write_lexer<'w, F: Files, O: Write>(
+    alloc: Global,
+    file: &'w str,
+    asked: (Config, Asked),
+    files: &mut F,
+    out: &mut O,
+) -> Result<(), Failure<'w>>
+    ensures done { OnOk result (ReadsSome F.read_gives files.old file.now IsFaultless) }
+    ensures denied { IfErr result (λ failure. status_of failure ≡ 1 →
+        ReadsSome F.read_gives files.old file.now
+        (λ source. RefusesLexer source asked.1 failure)) }
+{
+    match of_file(alloc, file, asked.0, asked.1, files) {
+        Ok(outcome) => deliver(outcome, files, out),
+        Err(failure) => Err(failure),
+    }
+}
+
+/// Writes what is left of the source in a file without what belongs to the derive macro.
+fn write_stripped<'w, F: Files, O: Write>(
+    alloc: Global,
+    file: &'w str,
+    files: &mut F,
+    out: &mut O,
+) -> Result<(), Failure<'w>>
+    ensures done { OnOk result (ReadsSome F.read_gives files.old file.now IsStrippable) }
+    ensures denied { IfErr result (λ failure. status_of failure ≡ 1 →
+        ReadsSome F.read_gives files.old file.now (λ source. RefusesStripping source failure)) }
+{
+    match stripped(alloc, file, files) {
+        Ok(outcome) => deliver(outcome, files, out),
+        Err(failure) => Err(failure),
     }
 }
 
