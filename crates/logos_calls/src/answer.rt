@@ -1,6 +1,7 @@
 //! The text of an answer, as it grows.
 
 use crate::stop::Stop;
+use logos_token::error::Memory;
 use logos_token::token::{Span, Tokens, print};
 use logos_type::{TypeExpr, print_type};
 use std::alloc::Global;
@@ -95,20 +96,22 @@ impl Answer {
         self.text("'");
     }
 
+    /// Adds how a value was printed, where memory for that was enough.
+    pub fn printed(&mut self, text: &Result<String, Memory>) {
+        match text {
+            Ok(text) => self.text(text),
+            Err(Memory) => self.lack(),
+        }
+    }
+
     /// Adds how a run is printed.
     pub fn tokens(&mut self, run: Tokens<'_, '_>) {
-        match print(self.alloc, run) {
-            Ok(text) => self.text(&text),
-            Err(_) => self.lack(),
-        }
+        self.printed(&print(self.alloc, run));
     }
 
     /// Adds how a type is printed.
     pub fn type_expr(&mut self, type_expr: &TypeExpr<'_>) {
-        match print_type(self.alloc, type_expr) {
-            Ok(text) => self.text(&text),
-            Err(_) => self.lack(),
-        }
+        self.printed(&print_type(self.alloc, type_expr));
     }
 
     /// Returns the text, where memory for it was enough.

@@ -49,30 +49,24 @@ fn push_piece(answer: &mut Answer, piece: Nested<'_, '_>) {
     }
 }
 
-/// Returns the pieces of arguments.
-pub fn pieces(alloc: Global, text: &str) -> Result<String, Stop> {
-    let mut answer = Answer::new(alloc);
-    let stream = tokens_of(alloc, text)?;
+/// Adds the pieces of arguments.
+pub fn pieces(answer: &mut Answer, run: Tokens<'_, '_>) {
     let mut before = "";
-    for piece in AttributeParser::new(stream.run()) {
+    for piece in AttributeParser::new(run) {
         answer.text(before);
-        push_piece(&mut answer, piece);
+        push_piece(answer, piece);
         before = "; ";
     }
-    answer.finish()
 }
 
-/// Returns each run of arguments up to a comma that cuts, in brackets.
-pub fn runs(alloc: Global, text: &str) -> Result<String, Stop> {
-    let mut answer = Answer::new(alloc);
-    let stream = tokens_of(alloc, text)?;
-    let mut pieces = AttributeParser::new(stream.run());
-    for _ in 0..text.len() {
+/// Adds each run of arguments up to a comma that cuts, in brackets.
+pub fn runs(answer: &mut Answer, run: Tokens<'_, '_>) {
+    let mut pieces = AttributeParser::new(run);
+    for _ in 0..64 {
         if let Some(run) = pieces.run() {
-            push_run(&mut answer, "", run);
+            push_run(answer, "", run);
         }
     }
-    answer.finish()
 }
 
 /// Returns whether the next run is a literal, or the whole one for no pieces.
@@ -132,21 +126,20 @@ fn word_of<'s>(
     })
 }
 
-/// Returns what becomes of the runs after ` : `, each read as a literal for `l` before it, as a type for `t`, and as a piece for `n`, of which
-/// the name is added, and the faults. A capital letter reads the whole arguments.
-pub fn parsed(alloc: Global, text: &str) -> Result<String, Stop> {
-    let mut answer = Answer::new(alloc);
-    let Some((ways, source)) = text.split_once(" : ") else {
-        return Err(Stop::Input);
-    };
-    let stream = tokens_of(alloc, source)?;
-    let (mut pieces, whole) = (AttributeParser::new(stream.run()), stream.run());
+/// Adds what becomes of each run as its way says, after a refused request too, and the faults.
+fn push_words(
+    alloc: Global,
+    answer: &mut Answer,
+    ways: &str,
+    whole: Tokens<'_, '_>,
+) -> Result<(), Stop> {
+    let mut pieces = AttributeParser::new(whole);
     let mut errors = Errors::new(alloc);
-    let mut before = "";
-    for way in ways.chars() {
+    for (number, way) in ways.chars().enumerate() {
         let count = errors.list().len();
-        answer.text(before);
-        before = " ";
+        if number > 0 {
+            answer.text(" ");
+        }
         match word_of(alloc, way, &mut pieces, whole, &mut errors) {
             Ok(word) => answer.text(word),
             Err(Memory) => {
@@ -155,6 +148,16 @@ pub fn parsed(alloc: Global, text: &str) -> Result<String, Stop> {
             }
         }
     }
-    push_errors(&mut answer, " ", &errors, true);
-    answer.finish()
+    push_errors(answer, " ", &errors, true);
+    Ok(())
+}
+
+/// Adds what becomes of the runs after ` : `, each read as a literal for `l` before it, as a type for `t`, and as a piece for `n`, of which
+/// the name is added, and the faults. A capital letter reads the whole arguments.
+pub fn parsed(alloc: Global, answer: &mut Answer, text: &str) -> Result<(), Stop> {
+    let Some((ways, source)) = text.split_once(" : ") else {
+        return Err(Stop::Input);
+    };
+    let stream = tokens_of(alloc, source)?;
+    push_words(alloc, answer, ways, stream.run())
 }

@@ -34,12 +34,11 @@ fn lists_of(alloc: Global, text: &str) -> Result<Vec<Vec<usize>>, Stop> {
     Ok(lists)
 }
 
-/// Returns `x` for each node that lies on a cycle, and `.` for each other one.
-pub fn marks(alloc: Global, text: &str) -> Result<String, Stop> {
-    let mut answer = Answer::new(alloc);
+/// Adds `x` for each node that lies on a cycle, and `.` for each other one.
+pub fn marks(alloc: Global, answer: &mut Answer, text: &str) -> Result<(), Stop> {
     let lists = lists_of(alloc, text)?;
     for mark in &on_cycles(alloc, &lists)? {
         answer.text(if *mark { "x" } else { "." });
     }
-    answer.finish()
+    Ok(())
 }

@@ -4,7 +4,6 @@ use crate::answer::Answer;
 use crate::errors::push_errors;
 use crate::patterns::push_callback;
 use crate::stop::Stop;
-use crate::tokens::tokens_of;
 use logos_attribute::nested::{AttributeParser, Nested, NestedValue};
 use logos_definition::definition::Definition;
 use logos_definition::error_type::ErrorType;
@@ -46,14 +45,6 @@ fn push_skips(answer: &mut Answer, parser: &Parser<'_>) {
     }
 }
 
-/// Adds the text of a value that takes memory for it.
-fn push_text(answer: &mut Answer, text: &Result<String, Memory>) {
-    match text {
-        Ok(text) => answer.text(text),
-        Err(Memory) => answer.lack(),
-    }
-}
-
 /// Adds the mode, the extras, the two paths, the subpatterns, and the type of errors with its callback.
 fn push_options(alloc: Global, answer: &mut Answer, parser: &Parser<'_>) {
     match parser.utf8_mode {
@@ -61,7 +52,7 @@ fn push_options(alloc: Global, answer: &mut Answer, parser: &Parser<'_>) {
         None => answer.text("-"),
     }
     answer.text(";");
-    push_text(answer, &parser.extras.print(alloc));
+    answer.printed(&parser.extras.print(alloc));
     answer.text(";");
     if let Some(path) = &parser.logos_path {
         answer.text("crate ");
@@ -81,41 +72,45 @@ fn push_options(alloc: Global, answer: &mut Answer, parser: &Parser<'_>) {
     }
     if let Some(error) = &parser.error_type {
         answer.text("error ");
-        push_text(answer, &error.print(alloc));
+        answer.printed(&error.print(alloc));
         answer.text(" ");
         push_callback(answer, &error.callback);
         answer.text(";");
     }
 }
 
-/// Reads the arguments of a `logos` attribute. Returns the `skips`, the other `options`, or the faults.
-pub fn read_logos(alloc: Global, words: &str, text: &str) -> Result<String, Stop> {
-    let mut answer = Answer::new(alloc);
-    let stream = tokens_of(alloc, text)?;
-    let mut parser = Parser::new(alloc);
-    if parser.read_logos(stream.run()).is_err() {
-        return Err(failed(&mut parser));
+/// Reads the arguments of a `logos` attribute. Adds the `skips`, the other `options`, or the faults.
+pub fn read_logos<'s>(
+    alloc: Global,
+    answer: &mut Answer,
+    parser: &mut Parser<'s>,
+    run: Tokens<'_, 's>,
+    words: &str,
+) -> Result<(), Stop> {
+    if parser.read_logos(run).is_err() {
+        return Err(failed(parser));
     }
     match words {
-        "skips" => push_skips(&mut answer, &parser),
-        "options" => push_options(alloc, &mut answer, &parser),
-        _ => push_errors(&mut answer, "", &parser.errors, true),
+        "skips" => push_skips(answer, parser),
+        "options" => push_options(alloc, answer, parser),
+        _ => push_errors(answer, "", &parser.errors, true),
     }
-    answer.finish()
+    Ok(())
 }
 
-/// Reads the arguments of a `token` or `regex`. Returns the definition, if there is one, and the faults.
-pub fn parse_definition(alloc: Global, text: &str) -> Result<String, Stop> {
-    let mut answer = Answer::new(alloc);
-    let stream = tokens_of(alloc, text)?;
-    let mut parser = Parser::new(alloc);
-    match &parser.parse_definition(stream.run()) {
-        Ok(Some(definition)) => push_definition(&mut answer, definition),
+/// Reads the arguments of a `token` or `regex`. Adds the definition, if there is one, and the faults.
+pub fn parse_definition<'s>(
+    answer: &mut Answer,
+    parser: &mut Parser<'s>,
+    run: Tokens<'_, 's>,
+) -> Result<(), Stop> {
+    match &parser.parse_definition(run) {
+        Ok(Some(definition)) => push_definition(answer, definition),
         Ok(None) => {}
-        Err(Memory) => return Err(failed(&mut parser)),
+        Err(Memory) => return Err(failed(parser)),
     }
-    push_errors(&mut answer, "", &parser.errors, true);
-    answer.finish()
+    push_errors(answer, "", &parser.errors, true);
+    Ok(())
 }
 
 /// A definition, a type of errors and flags.
@@ -155,23 +150,25 @@ fn first_definition<'s>(
     }
 }
 
-/// Returns what the named arguments after a literal do to its definition, to a type of errors and to flags, and the faults.
-pub fn named(alloc: Global, text: &str) -> Result<String, Stop> {
-    let mut answer = Answer::new(alloc);
-    let stream = tokens_of(alloc, text)?;
-    let mut parser = Parser::new(alloc);
-    let definition = first_definition(&mut parser, stream.run())?;
+/// Adds what the named arguments after a literal do to its definition, to a type of errors and to flags, and the faults.
+pub fn named<'s>(
+    alloc: Global,
+    answer: &mut Answer,
+    parser: &mut Parser<'s>,
+    run: Tokens<'_, 's>,
+) -> Result<(), Stop> {
+    let definition = first_definition(parser, run)?;
     let flags = IgnoreFlags { ignore_case: false };
     let mut lent = (definition, ErrorType::default(alloc), flags);
-    if give(alloc, &mut lent, &mut parser, stream.run().rest()).is_err() {
-        return Err(failed(&mut parser));
+    if give(alloc, &mut lent, parser, run.rest()).is_err() {
+        return Err(failed(parser));
     }
-    push_definition(&mut answer, &lent.0);
-    push_callback(&mut answer, &lent.1.callback);
+    push_definition(answer, &lent.0);
+    push_callback(answer, &lent.1.callback);
     answer.text(" ");
     answer.debug(&lent.2.ignore_case);
-    push_errors(&mut answer, " ", &parser.errors, true);
-    answer.finish()
+    push_errors(answer, " ", &parser.errors, true);
+    Ok(())
 }
 
 /// Gives a parser the attributes of a run that are `logos` attributes.
@@ -203,7 +200,7 @@ fn push_definitions<'s>(
     Ok(())
 }
 
-/// Gives a parser the parameters of an enum and all its attributes.
+/// Gives a parser the parameters of an enum and all its attributes, and adds the definitions of its variants.
 fn parse_item<'s>(
     answer: &mut Answer,
     parser: &mut Parser<'s>,
@@ -216,20 +213,23 @@ fn parse_item<'s>(
     push_definitions(answer, parser, item.variants.as_slice())
 }
 
-/// Gives a parser the parameters of an enum and all its attributes. Returns the definitions of its variants and its skips, and the faults.
-pub fn parse_parts(alloc: Global, text: &str) -> Result<String, Stop> {
-    let mut answer = Answer::new(alloc);
-    let stream = tokens_of(alloc, text)?;
-    let item = match read_enum(alloc, stream.run()) {
-        Ok(item) => item,
+/// Gives a parser the parameters of an enum and all its attributes. Adds the definitions of its variants and its skips, and the faults.
+pub fn parse_parts<'s>(
+    alloc: Global,
+    answer: &mut Answer,
+    parser: &mut Parser<'s>,
+    run: Tokens<'_, 's>,
+) -> Result<(), Stop> {
+    match &read_enum(alloc, run) {
+        Ok(item) => {
+            if parse_item(answer, parser, item).is_err() {
+                return Err(failed(parser));
+            }
+        }
         Err(ReadError::Memory) => return Err(Stop::Memory),
         Err(_) => return Err(Stop::Input),
-    };
-    let mut parser = Parser::new(alloc);
-    if parse_item(&mut answer, &mut parser, &item).is_err() {
-        return Err(failed(&mut parser));
     }
-    push_skips(&mut answer, &parser);
-    push_errors(&mut answer, "", &parser.errors, false);
-    answer.finish()
+    push_skips(answer, parser);
+    push_errors(answer, "", &parser.errors, false);
+    Ok(())
 }

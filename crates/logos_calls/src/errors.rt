@@ -57,13 +57,12 @@ fn faults_of(alloc: Global, text: &str) -> Result<Errors, Memory> {
     Ok(errors)
 }
 
-/// Returns how faults with these texts are rendered; nothing where there are none.
-pub fn rendered(alloc: Global, text: &str) -> Result<String, Stop> {
-    let errors = faults_of(alloc, text)?;
-    match errors.render()? {
-        Some(text) => Ok(text),
-        None => Ok(String::new(alloc)),
+/// Adds how faults with these texts are rendered; nothing where there are none.
+pub fn rendered(alloc: Global, answer: &mut Answer, text: &str) -> Result<(), Stop> {
+    if let Some(text) = &faults_of(alloc, text)?.render()? {
+        answer.text(text);
     }
+    Ok(())
 }
 
 /// Makes the call of this name with a text.
@@ -78,26 +77,26 @@ fn add(alloc: Global, errors: &mut Errors, name: &str, text: &str) -> Result<(),
     }
 }
 
-/// Returns the faults with these texts before and after the call of this name, which is made with the text after ` + `.
-pub fn added(alloc: Global, name: &str, text: &str) -> Result<String, Stop> {
-    let mut answer = Answer::new(alloc);
+/// Adds the faults with these texts before and after the call of this name, which is made with the text after ` + `.
+pub fn added(alloc: Global, answer: &mut Answer, name: &str, text: &str) -> Result<(), Stop> {
     let Some((lent, text)) = text.split_once(" + ") else {
         return Err(Stop::Input);
     };
     let mut errors = faults_of(alloc, lent)?;
-    push_errors(&mut answer, "", &errors, true);
+    push_errors(answer, "", &errors, true);
     let count = errors.list().len();
     if add(alloc, &mut errors, name, text).is_err() {
         are_kept(&errors, count)?;
         add(alloc, &mut errors, name, text)?;
     }
-    push_errors(&mut answer, " | ", &errors, true);
-    answer.finish()
+    push_errors(answer, " | ", &errors, true);
+    Ok(())
 }
 
-/// Returns a text as a string literal holds it.
-pub fn escaped(alloc: Global, text: &str) -> Result<String, Stop> {
+/// Adds a text as a string literal holds it.
+pub fn escaped(alloc: Global, answer: &mut Answer, text: &str) -> Result<(), Stop> {
     let mut out = String::new(alloc);
     push_escaped(&mut out, text)?;
-    Ok(out)
+    answer.text(&out);
+    Ok(())
 }

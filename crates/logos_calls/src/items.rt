@@ -3,8 +3,7 @@
 use crate::answer::Answer;
 use crate::notation::has_word;
 use crate::stop::Stop;
-use crate::tokens::tokens_of;
-use logos_item::{Field, Fields, ItemEnum, Parameter, ReadError, Variant, read_enum};
+use logos_item::{Field, Fields, ItemEnum, ReadError, Variant, read_enum};
 use logos_token::token::Tokens;
 use std::alloc::Global;
 
@@ -46,37 +45,35 @@ fn push_variant(answer: &mut Answer, variant: &Variant<'_, '_>) {
     answer.text("; ");
 }
 
-/// Adds the kind, the name and the span of a parameter.
-fn push_parameter(answer: &mut Answer, parameter: &Parameter<'_, '_>) {
-    answer.debug(&parameter.kind);
-    answer.text(" ");
-    answer.text(parameter.name.text);
-    answer.span(" ", parameter.run.span());
-    answer.text(", ");
-}
-
 /// Adds the attributes, the name, the parameters and the variants of an enum.
 fn push_item(answer: &mut Answer, item: &ItemEnum<'_, '_>) {
     push_run(answer, item.attributes);
     answer.text(item.name.text);
     answer.text(": ");
     for parameter in &item.parameters {
-        push_parameter(answer, parameter);
+        answer.debug(&parameter.kind);
+        answer.text(" ");
+        answer.text(parameter.name.text);
+        answer.span(" ", parameter.run.span());
+        answer.text(", ");
     }
     for variant in &item.variants {
         push_variant(answer, variant);
     }
 }
 
-/// Returns the enum that a source is, or why it is none; where the header asks for the `fault` alone, `none` for an enum.
-pub fn read(alloc: Global, words: &str, text: &str) -> Result<String, Stop> {
-    let mut answer = Answer::new(alloc);
-    let stream = tokens_of(alloc, text)?;
-    match &read_enum(alloc, stream.run()) {
+/// Adds the enum that a source is, or why it is none; where the header asks for the `fault` alone, `none` for an enum.
+pub fn read(
+    alloc: Global,
+    answer: &mut Answer,
+    words: &str,
+    run: Tokens<'_, '_>,
+) -> Result<(), Stop> {
+    match &read_enum(alloc, run) {
         Ok(_) if has_word(words, "fault") => answer.text("none"),
-        Ok(item) => push_item(&mut answer, item),
+        Ok(item) => push_item(answer, item),
         Err(ReadError::Memory) => return Err(Stop::Memory),
         Err(error) => answer.debug(error),
     }
-    answer.finish()
+    Ok(())
 }

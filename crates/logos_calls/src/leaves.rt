@@ -5,14 +5,13 @@ use crate::definitions::failed;
 use crate::errors::push_errors;
 use crate::patterns::push_leaf;
 use crate::stop::Stop;
-use crate::tokens::tokens_of;
 use logos_leaf::leaf::{regex_leaf, token_leaf};
 use logos_leaf::source::{Source, read_source, utf8_mode};
-use logos_parser::item::{ItemEnum, ReadError, read_enum};
+use logos_parser::item::{ReadError, read_enum};
 use logos_parser::parser::{Parser, Subpatterns};
 use logos_pattern::leaf::{Leaf, VariantKind};
 use logos_token::error::Memory;
-use logos_token::token::{Ident, Span};
+use logos_token::token::{Ident, Span, Tokens};
 use std::alloc::Global;
 
 const NAME: Ident<'static> = Ident {
@@ -39,20 +38,23 @@ fn made<'s>(
     }
 }
 
-/// Returns the leaf that the last `skip` of arguments makes as a `token` or `regex`, or `-`, and the faults.
-pub fn leaf(alloc: Global, name: &str, text: &str) -> Result<String, Stop> {
-    let mut answer = Answer::new(alloc);
-    let stream = tokens_of(alloc, text)?;
-    let mut parser = Parser::new(alloc);
-    if parser.read_logos(stream.run()).is_err() {
-        return Err(failed(&mut parser));
+/// Adds the leaf that the last `skip` of arguments makes as a `token` or `regex`, or `-`, and the faults.
+pub fn leaf<'s>(
+    alloc: Global,
+    answer: &mut Answer,
+    parser: &mut Parser<'s>,
+    run: Tokens<'_, 's>,
+    name: &str,
+) -> Result<(), Stop> {
+    if parser.read_logos(run).is_err() {
+        return Err(failed(parser));
     }
-    match &made(alloc, name, &mut parser)? {
-        Some(leaf) => push_leaf(&mut answer, leaf),
+    match &made(alloc, name, parser)? {
+        Some(leaf) => push_leaf(answer, leaf),
         None => answer.text("-"),
     }
-    push_errors(&mut answer, " ", &parser.errors, false);
-    answer.finish()
+    push_errors(answer, " ", &parser.errors, false);
+    Ok(())
 }
 
 /// Adds the mode, the leaves and the faults of what an enum says.
@@ -66,25 +68,16 @@ fn push_source(answer: &mut Answer, source: &Source<'_>) {
     push_errors(answer, " ", &source.parser.errors, false);
 }
 
-/// Returns the name of an enum, its place, and what it says.
-fn read_item(alloc: Global, item: &ItemEnum<'_, '_>) -> Result<String, Stop> {
-    let mut answer = Answer::new(alloc);
-    answer.text(item.name.text);
-    answer.span(" ", item.name.span);
-    push_source(&mut answer, &read_source(alloc, item)?);
-    answer.finish()
-}
-
-/// Returns what the enum says that a source is, or why it is none.
-pub fn source(alloc: Global, text: &str) -> Result<String, Stop> {
-    let stream = tokens_of(alloc, text)?;
-    match &read_enum(alloc, stream.run()) {
-        Ok(item) => read_item(alloc, item),
-        Err(ReadError::Memory) => Err(Stop::Memory),
-        Err(error) => {
-            let mut answer = Answer::new(alloc);
-            answer.debug(error);
-            answer.finish()
+/// Adds the name of the enum that a run is, its place, and what it says; or why it is none.
+pub fn source(alloc: Global, answer: &mut Answer, run: Tokens<'_, '_>) -> Result<(), Stop> {
+    match &read_enum(alloc, run) {
+        Ok(item) => {
+            answer.text(item.name.text);
+            answer.span(" ", item.name.span);
+            push_source(answer, &read_source(alloc, item)?);
         }
+        Err(ReadError::Memory) => return Err(Stop::Memory),
+        Err(error) => answer.debug(error),
     }
+    Ok(())
 }

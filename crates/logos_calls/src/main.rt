@@ -16,6 +16,7 @@ mod cycles;
 mod definitions;
 mod errors;
 mod expressions;
+mod front;
 mod graphs;
 mod inputs;
 mod items;

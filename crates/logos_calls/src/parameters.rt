@@ -4,14 +4,13 @@ use crate::answer::Answer;
 use crate::definitions::failed;
 use crate::errors::{are_kept, push_errors};
 use crate::stop::Stop;
-use crate::tokens::tokens_of;
 use crate::types::type_of;
 use indexmap::{IndexMap, IndexSet};
 use logos_parser::nested::{AttributeParser, Nested, NestedValue};
 use logos_parser::parser::{Generics, Parser, replace_lifetime, replace_lifetimes};
 use logos_token::error::{Errors, FaultCode, Memory};
 use logos_token::token::{TokenTree, Tokens};
-use logos_type::TypeExpr;
+use logos_type::{Part, TypeExpr};
 use logos_type_params::{Replacing, TypeParam, holds_itself, type_after};
 use logos_type_reader::TypeFault;
 use std::alloc::Global;
@@ -40,19 +39,20 @@ fn read_given<'s>(parser: &mut Parser<'s>, run: Tokens<'_, 's>) -> Result<(), St
     }
 }
 
-/// Returns the faults of arguments and of names that hold themselves, where the names in the group before the arguments are declared.
-pub fn checked(alloc: Global, text: &str) -> Result<String, Stop> {
-    let mut answer = Answer::new(alloc);
-    let stream = tokens_of(alloc, text)?;
-    let mut parser = Parser::new(alloc);
-    read_given(&mut parser, stream.run())?;
+/// Adds the faults of arguments and of names that hold themselves, where the names in the group before the arguments are declared.
+pub fn checked<'s>(
+    answer: &mut Answer,
+    parser: &mut Parser<'s>,
+    run: Tokens<'_, 's>,
+) -> Result<(), Stop> {
+    read_given(parser, run)?;
     let count = parser.errors.list().len();
     if parser.types.check(&mut parser.errors).is_err() {
         are_kept(&parser.errors, count)?;
         parser.types.check(&mut parser.errors)?;
     }
-    push_errors(&mut answer, "", &parser.errors, true);
-    answer.finish()
+    push_errors(answer, "", &parser.errors, true);
+    Ok(())
 }
 
 /// Adds what follows the name of an enum in angle brackets; `-` for nothing.
@@ -79,35 +79,37 @@ fn push_found(answer: &mut Answer, found: &Option<TypeExpr<'_>>) {
     }
 }
 
-/// Returns the type in the first group with its parameters replaced, the type of the parameter that it just names, all types of the names in the
+/// Adds the type in the first group with its parameters replaced, the type of the parameter that it just names, all types of the names in the
 /// group after it by the arguments after that, and the faults, to which the parser's own call adds one.
-pub fn asked(alloc: Global, text: &str) -> Result<String, Stop> {
-    let mut answer = Answer::new(alloc);
-    let stream = tokens_of(alloc, text)?;
-    let mut parser = Parser::new(alloc);
-    read_given(&mut parser, stream.run().rest())?;
+pub fn asked<'s>(
+    alloc: Global,
+    answer: &mut Answer,
+    parser: &mut Parser<'s>,
+    run: Tokens<'_, 's>,
+) -> Result<(), Stop> {
+    read_given(parser, run.rest())?;
     parser.types.check(&mut parser.errors)?;
-    let run = group_of(stream.run())?;
+    let run = group_of(run)?;
     let written = type_of(alloc, run)?;
     let Ok(got) = parser.get_type(&written, run.span()) else {
-        return Err(failed(&mut parser));
+        return Err(failed(parser));
     };
     answer.type_expr(&got);
     answer.text("; ");
-    push_found(&mut answer, &parser.types.find(&written)?);
+    push_found(answer, &parser.types.find(&written)?);
     answer.text("; ");
     let Ok(generics) = parser.generics() else {
-        return Err(failed(&mut parser));
+        return Err(failed(parser));
     };
-    push_generics(&mut answer, &generics);
+    push_generics(answer, &generics);
     if parser
         .err(FaultCode::InvalidNested, "last", run.span())
         .is_err()
     {
-        return Err(failed(&mut parser));
+        return Err(failed(parser));
     }
-    push_errors(&mut answer, "; ", &parser.errors, true);
-    answer.finish()
+    push_errors(answer, "; ", &parser.errors, true);
+    Ok(())
 }
 
 /// Adds the types of all parameters, or which have none, and the faults.
@@ -161,29 +163,32 @@ fn ask<'s>(
     Ok(())
 }
 
-/// Returns what type parameters are before and after the call of this name, which is made with the first group, and its answer between them. The
+/// Adds what type parameters are before and after the call of this name, which is made with the first group, and its answer between them. The
 /// second group declares names, and after it stand arguments.
-pub fn lent(alloc: Global, name: &str, text: &str) -> Result<String, Stop> {
-    let mut answer = Answer::new(alloc);
-    let stream = tokens_of(alloc, text)?;
-    let mut parser = Parser::new(alloc);
-    read_given(&mut parser, stream.run().rest())?;
-    let run = group_of(stream.run())?;
+pub fn lent<'s>(
+    alloc: Global,
+    answer: &mut Answer,
+    parser: &mut Parser<'s>,
+    run: Tokens<'_, 's>,
+    name: &str,
+) -> Result<(), Stop> {
+    read_given(parser, run.rest())?;
+    let run = group_of(run)?;
     answer.text("before ");
-    push_lent(alloc, &mut answer, &parser)?;
+    push_lent(alloc, answer, parser)?;
     answer.text(" | ");
     let count = parser.errors.list().len();
-    match ask(alloc, &mut answer, name, &mut parser, run) {
+    match ask(alloc, answer, name, parser, run) {
         Ok(()) => {}
         Err(Stop::Memory) => {
             are_kept(&parser.errors, count)?;
-            ask(alloc, &mut answer, name, &mut parser, run)?;
+            ask(alloc, answer, name, parser, run)?;
         }
         Err(stop) => return Err(stop),
     }
     answer.text(" | after ");
-    push_lent(alloc, &mut answer, &parser)?;
-    answer.finish()
+    push_lent(alloc, answer, parser)?;
+    Ok(())
 }
 
 /// Returns the types that are assigned to names, by name: of each name the first one.
@@ -221,24 +226,20 @@ fn held<'s>(
     Ok(held)
 }
 
-/// Returns the names that hold themselves, the fewest levels within which the type after the types of names is replaced, and what it becomes.
-pub fn replaced(alloc: Global, text: &str) -> Result<String, Stop> {
-    let mut answer = Answer::new(alloc);
-    let stream = tokens_of(alloc, text)?;
-    let types = given(alloc, group_of(stream.run())?)?;
-    let held = held(alloc, &mut answer, &types)?;
-    let replacing = Replacing {
-        types: &types,
-        held: &held,
-    };
-    let part = type_of(alloc, stream.run().rest())?.part;
+/// Adds the fewest levels within which a type is replaced, and what it becomes.
+fn push_least<'s>(
+    alloc: Global,
+    answer: &mut Answer,
+    replacing: Replacing<'_, 's>,
+    part: &Part<'s>,
+) -> Result<(), Stop> {
     for levels in 0..129 {
-        match type_after(alloc, levels, replacing, &part) {
+        match type_after(alloc, levels, replacing, part) {
             Ok(part) => {
                 answer.display(&levels);
                 answer.text(": ");
                 answer.type_expr(&TypeExpr { part });
-                return answer.finish();
+                return Ok(());
             }
             Err(TypeFault::Memory) => return Err(Stop::Memory),
             Err(_) => {}
@@ -247,13 +248,22 @@ pub fn replaced(alloc: Global, text: &str) -> Result<String, Stop> {
     Err(Stop::Input)
 }
 
-/// Returns a type with all its lifetimes set, and with its own ones.
-pub fn lifetimes(alloc: Global, text: &str) -> Result<String, Stop> {
-    let mut answer = Answer::new(alloc);
-    let stream = tokens_of(alloc, text)?;
-    let type_expr = type_of(alloc, stream.run())?;
+/// Adds the names that hold themselves, the fewest levels within which the type after the types of names is replaced, and what it becomes.
+pub fn replaced(alloc: Global, answer: &mut Answer, run: Tokens<'_, '_>) -> Result<(), Stop> {
+    let types = given(alloc, group_of(run)?)?;
+    let held = held(alloc, answer, &types)?;
+    let replacing = Replacing {
+        types: &types,
+        held: &held,
+    };
+    push_least(alloc, answer, replacing, &type_of(alloc, run.rest())?.part)
+}
+
+/// Adds a type with all its lifetimes set, and with its own ones.
+pub fn lifetimes(alloc: Global, answer: &mut Answer, run: Tokens<'_, '_>) -> Result<(), Stop> {
+    let type_expr = type_of(alloc, run)?;
     answer.type_expr(&replace_lifetimes(alloc, &type_expr)?);
     answer.text("; ");
     answer.type_expr(&replace_lifetime(alloc, &type_expr)?);
-    answer.finish()
+    Ok(())
 }

@@ -110,15 +110,14 @@ fn push_pattern(answer: &mut Answer, words: &str, pattern: &Pattern<'_>) {
     push_hir(answer, pattern.hir());
 }
 
-/// Returns what a pattern that was read answers, or why there is none.
-fn answer_of(
-    alloc: Global,
+/// Adds what the header asks for of a pattern that was read, or why there is none.
+fn push_read(
+    answer: &mut Answer,
     words: &str,
     read: &Result<Pattern<'_>, PatternError>,
-) -> Result<String, Stop> {
-    let mut answer = Answer::new(alloc);
+) -> Result<(), Stop> {
     match read {
-        Ok(pattern) => push_pattern(&mut answer, words, pattern),
+        Ok(pattern) => push_pattern(answer, words, pattern),
         Err(PatternError::Memory) => return Err(Stop::Memory),
         Err(PatternError::LimitPatternNesting) => answer.text("too deep"),
         Err(PatternError::Syntax { kind, at }) => {
@@ -127,70 +126,72 @@ fn answer_of(
             answer.display(at);
         }
     }
-    answer.finish()
+    Ok(())
 }
 
 /// Compiles a regular expression, of characters or of `bytes`.
-pub fn regex(alloc: Global, words: &str, text: &str) -> Result<String, Stop> {
+pub fn regex(alloc: Global, answer: &mut Answer, words: &str, text: &str) -> Result<(), Stop> {
     let is_unicode = !has_word(words, "bytes");
     let read = Pattern::compile(alloc, false, text, text, is_unicode, false);
-    answer_of(alloc, words, &read)
+    push_read(answer, words, &read)
 }
 
-/// Returns the literal that a text is, of which the source begins three bytes before it.
-fn literal_of<'s>(alloc: Global, text: &'s str) -> Result<Option<Literal<'s>>, Stop> {
+/// Returns the string that a literal is.
+pub fn string_of<'s>(alloc: Global, token: &token::Literal<'s>) -> Result<Literal<'s>, Stop> {
+    match Literal::read(alloc, token)? {
+        Some(literal) => Ok(literal),
+        None => Err(Stop::Input),
+    }
+}
+
+/// Returns the string that a text is, of which the source begins three bytes before it.
+fn literal_of<'s>(alloc: Global, text: &'s str) -> Result<Literal<'s>, Stop> {
     let to = text.len().saturating_add(3);
     let span = Span { from: 3, to };
-    Ok(Literal::read(alloc, &token::Literal { text, span })?)
+    string_of(alloc, &token::Literal { text, span })
 }
 
 /// Compiles the pattern of a `token` with a literal.
-pub fn token(alloc: Global, words: &str, text: &str) -> Result<String, Stop> {
-    let mut answer = Answer::new(alloc);
-    let Some(literal) = literal_of(alloc, text)? else {
-        return Err(Stop::Input);
-    };
-    let pattern = Pattern::compile_lit(alloc, &literal)?;
-    push_pattern(&mut answer, words, &pattern);
-    answer.finish()
+pub fn token(alloc: Global, answer: &mut Answer, words: &str, text: &str) -> Result<(), Stop> {
+    let literal = literal_of(alloc, text)?;
+    push_pattern(answer, words, &Pattern::compile_lit(alloc, &literal)?);
+    Ok(())
 }
 
-/// Returns a literal's value as the text of a pattern, `escaped` or not.
-pub fn escape(alloc: Global, words: &str, text: &str) -> Result<String, Stop> {
-    let Some(literal) = literal_of(alloc, text)? else {
-        return Err(Stop::Input);
-    };
-    Ok(literal.escape(alloc, has_word(words, "escaped"))?)
+/// Adds a literal's value as the text of a pattern, `escaped` or not.
+pub fn escape(alloc: Global, answer: &mut Answer, words: &str, text: &str) -> Result<(), Stop> {
+    let literal = literal_of(alloc, text)?;
+    answer.text(&literal.escape(alloc, has_word(words, "escaped"))?);
+    Ok(())
 }
 
 /// Compiles the pattern in a literal, which may be `escaped`, and ignore `case`.
-pub fn in_literal(alloc: Global, words: &str, text: &str) -> Result<String, Stop> {
-    let Some(literal) = literal_of(alloc, text)? else {
-        return Err(Stop::Input);
-    };
+pub fn in_literal(alloc: Global, answer: &mut Answer, words: &str, text: &str) -> Result<(), Stop> {
+    let literal = literal_of(alloc, text)?;
     let (is_escaped, ignores_case) = (has_word(words, "escaped"), has_word(words, "case"));
     let regex = literal.escape(alloc, is_escaped)?;
     let (source, is_unicode) = (literal.token().text, literal.unicode());
     let read = Pattern::compile(alloc, is_escaped, &regex, source, is_unicode, ignores_case);
-    answer_of(alloc, words, &read)
+    push_read(answer, words, &read)
 }
 
-/// Returns a literal's token with its span, whether it is of characters, its bytes, and its priority; or `none`.
-pub fn parts(alloc: Global, text: &str) -> Result<String, Stop> {
-    let mut answer = Answer::new(alloc);
-    let Some(literal) = literal_of(alloc, text)? else {
-        answer.text("none");
-        return answer.finish();
-    };
-    answer.text(literal.token().text);
-    answer.span(" ", literal.span());
-    answer.text(" ");
-    answer.debug(&literal.unicode());
-    answer.text(" ");
-    answer.bytes(literal.value());
-    answer.text(" ");
-    answer.display(&token_priority(&literal));
-    answer.finish()
+/// Adds a literal's token with its span, whether it is of characters, its bytes, and its priority; or `none`.
+pub fn parts(alloc: Global, answer: &mut Answer, text: &str) -> Result<(), Stop> {
+    match &literal_of(alloc, text) {
+        Ok(literal) => {
+            answer.text(literal.token().text);
+            answer.span(" ", literal.span());
+            answer.text(" ");
+            answer.debug(&literal.unicode());
+            answer.text(" ");
+            answer.bytes(literal.value());
+            answer.text(" ");
+            answer.display(&token_priority(literal));
+        }
+        Err(Stop::Input) => answer.text("none"),
+        Err(stop) => return Err(*stop),
+    }
+    Ok(())
 }
 
 const NAME: Ident<'static> = Ident {
@@ -278,19 +279,20 @@ pub fn push_leaf(answer: &mut Answer, leaf: &Leaf<'_>) {
     answer.text(";");
 }
 
-/// Returns the leaf of `"ab"`, for which tokens are set as the header says, and the place of its callback.
-pub fn leaf(alloc: Global, words: &str, text: &str) -> Result<String, Stop> {
-    let mut answer = Answer::new(alloc);
-    let tokens = tokens_of(alloc, text)?;
-    let Some(literal) = literal_of(alloc, "\"ab\"")? else {
-        return Err(Stop::Input);
-    };
+/// Adds the leaf of `"ab"`, for which tokens are set as the header says, and the place of its callback.
+pub fn leaf(alloc: Global, answer: &mut Answer, words: &str, text: &str) -> Result<(), Stop> {
+    let literal = literal_of(alloc, "\"ab\"")?;
     let pattern = Pattern::compile_lit(alloc, &literal)?;
-    let priority = token_priority(&literal);
-    let leaf = with(Leaf::new(literal.span(), pattern), words, priority, tokens);
-    push_leaf(&mut answer, &leaf);
+    let leaf = Leaf::new(literal.span(), pattern);
+    let leaf = with(
+        leaf,
+        words,
+        token_priority(&literal),
+        tokens_of(alloc, text)?,
+    );
+    push_leaf(answer, &leaf);
     if let Some(callback) = &leaf.callback {
         answer.span(" ", callback.span());
     }
-    answer.finish()
+    Ok(())
 }

@@ -27,15 +27,14 @@ fn joined(alloc: Global) -> Result<Hir, Stop> {
     Ok(simplify(alloc, Hir::Concat(parts))?)
 }
 
-/// Returns the alternation of a literal without bytes, of counts of which the greatest is below the least, and of what is joined.
-pub fn branches(alloc: Global) -> Result<String, Stop> {
-    let mut answer = Answer::new(alloc);
+/// Adds the alternation of a literal without bytes, of counts of which the greatest is below the least, and of what is joined.
+pub fn branches(alloc: Global, answer: &mut Answer) -> Result<(), Stop> {
     let mut branches = Vec::new(alloc);
     add_literal(alloc, &mut branches, b"")?;
     branches.push(repetition(alloc, 5, Some(0), true, look(Look::Start))?)?;
     branches.push(joined(alloc)?)?;
-    push_hir(&mut answer, &alternation(branches)?);
-    answer.finish()
+    push_hir(answer, &alternation(branches)?);
+    Ok(())
 }
 
 /// Returns the ranges with blanks between them, as hexadecimal numbers.
@@ -55,18 +54,17 @@ fn ranges_of(alloc: Global, text: &str) -> Result<Vec<Range>, Stop> {
     Ok(ranges)
 }
 
-/// Returns the set of ranges, and the bytes in it; where there is no text, the set of no operand.
-pub fn set(alloc: Global, text: &str) -> Result<String, Stop> {
-    let mut answer = Answer::new(alloc);
+/// Adds the set of ranges, and the bytes in it; where there is no text, the set of no operand.
+pub fn set(alloc: Global, answer: &mut Answer, text: &str) -> Result<(), Stop> {
     let set = if text.is_empty() {
         OperandRuns::new(alloc).set(alloc)?
     } else {
         RangeSet::from_ranges(alloc, &ranges_of(alloc, text)?)?
     };
     answer.text("[");
-    push_ranges(&mut answer, set.ranges());
+    push_ranges(answer, set.ranges());
     answer.text("]<");
-    push_ranges(&mut answer, set.bytes()?.ranges());
+    push_ranges(answer, set.bytes()?.ranges());
     answer.text(">");
-    answer.finish()
+    Ok(())
 }

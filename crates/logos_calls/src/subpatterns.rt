@@ -3,6 +3,7 @@
 use crate::answer::Answer;
 use crate::errors::{are_kept, push_errors};
 use crate::notation::has_word;
+use crate::patterns::string_of;
 use crate::stop::Stop;
 use crate::tokens::tokens_of;
 use logos_parser::parser::{Literal, Subpatterns};
@@ -26,14 +27,6 @@ const TOKEN: token::Literal<'static> = token::Literal {
     span: Span { from: 0, to: 3 },
 };
 
-/// Returns the string that a literal is.
-fn string<'s>(alloc: Global, token: &token::Literal<'s>) -> Result<Literal<'s>, Stop> {
-    match Literal::read(alloc, token)? {
-        Some(literal) => Ok(literal),
-        None => Err(Stop::Input),
-    }
-}
-
 /// Returns the literals of a run, each with the name before it.
 fn pairs<'s>(alloc: Global, run: Tokens<'_, 's>) -> Result<Vec<(Ident<'s>, Literal<'s>)>, Stop> {
     let mut list = Vec::new(alloc);
@@ -41,7 +34,7 @@ fn pairs<'s>(alloc: Global, run: Tokens<'_, 's>) -> Result<Vec<(Ident<'s>, Liter
     for tree in run.iter() {
         match tree {
             TokenTree::Ident(next) => name = next,
-            TokenTree::Literal(token) => list.push((name, string(alloc, &token)?))?,
+            TokenTree::Literal(token) => list.push((name, string_of(alloc, &token)?))?,
             _ => {}
         }
     }
@@ -81,18 +74,16 @@ fn put_in(
     }
 }
 
-/// Returns what becomes of the pattern after ` : ` with the subpatterns before it, and the faults of both. Inputs are UTF-8 unless they are
-/// `bytes`.
-pub fn substituted(alloc: Global, words: &str, text: &str) -> Result<String, Stop> {
-    let mut answer = Answer::new(alloc);
-    let Some((source, pattern)) = text.split_once(" : ") else {
-        return Err(Stop::Input);
-    };
-    let stream = tokens_of(alloc, source)?;
-    let list = pairs(alloc, stream.run())?;
+/// Adds what becomes of a pattern with the subpatterns of a list, and the faults of both.
+fn push_put(
+    alloc: Global,
+    answer: &mut Answer,
+    list: &[(Ident<'_>, Literal<'_>)],
+    utf8_mode: bool,
+    pattern: &str,
+) -> Result<(), Stop> {
     let mut errors = Errors::new(alloc);
-    let utf8_mode = !has_word(words, "bytes");
-    let subpatterns = subpatterns_of(alloc, list.as_slice(), utf8_mode, &mut errors)?;
+    let subpatterns = subpatterns_of(alloc, list, utf8_mode, &mut errors)?;
     match &put_in(alloc, &subpatterns, pattern, &mut errors)? {
         Some(whole) => {
             answer.text("[");
@@ -101,16 +92,37 @@ pub fn substituted(alloc: Global, words: &str, text: &str) -> Result<String, Sto
         }
         None => answer.text("-"),
     }
-    push_errors(&mut answer, " ", &errors, true);
-    answer.finish()
+    push_errors(answer, " ", &errors, true);
+    Ok(())
 }
 
-/// Returns the pattern that a text is, which stands in the literal `"a"`, and the faults. It is of characters or of `bytes`, and may ignore
+/// Adds what becomes of the pattern after ` : ` with the subpatterns before it, and the faults of both. Inputs are UTF-8 unless they are
+/// `bytes`.
+pub fn substituted(
+    alloc: Global,
+    answer: &mut Answer,
+    words: &str,
+    text: &str,
+) -> Result<(), Stop> {
+    let Some((source, pattern)) = text.split_once(" : ") else {
+        return Err(Stop::Input);
+    };
+    let stream = tokens_of(alloc, source)?;
+    let list = pairs(alloc, stream.run())?;
+    push_put(
+        alloc,
+        answer,
+        list.as_slice(),
+        !has_word(words, "bytes"),
+        pattern,
+    )
+}
+
+/// Adds the pattern that a text is, which stands in the literal `"a"`, and the faults. It is of characters or of `bytes`, and may ignore
 /// `case`.
-pub fn pattern(alloc: Global, words: &str, text: &str) -> Result<String, Stop> {
-    let mut answer = Answer::new(alloc);
+pub fn pattern(alloc: Global, answer: &mut Answer, words: &str, text: &str) -> Result<(), Stop> {
     let mut errors = Errors::new(alloc);
-    let literal = string(alloc, &TOKEN)?;
+    let literal = string_of(alloc, &TOKEN)?;
     let mode = ReadingMode {
         is_literal: false,
         unicode: !has_word(words, "bytes"),
@@ -120,6 +132,6 @@ pub fn pattern(alloc: Global, words: &str, text: &str) -> Result<String, Stop> {
         Some(pattern) => answer.display(pattern),
         None => answer.text("-"),
     }
-    push_errors(&mut answer, " ", &errors, true);
-    answer.finish()
+    push_errors(answer, " ", &errors, true);
+    Ok(())
 }

@@ -19,15 +19,19 @@ pub fn tokens_of<'s>(alloc: Global, text: &'s str) -> Result<TokenStream<'s>, St
     }
 }
 
-/// Adds the kind and the end of the lexeme at a place, or why there is none.
-fn push_lexeme(answer: &mut Answer, source: &str, from: usize) -> Result<(), Stop> {
+/// Adds the kind and the end of the lexeme with which a text begins, or of the one after the mark `‖` in it, or why there is none.
+pub fn lexeme(alloc: Global, answer: &mut Answer, text: &str) -> Result<(), Stop> {
+    let (before, after) = text.split_once('‖').unwrap_or(("", text));
+    let mut source = String::from_str(alloc, before)?;
+    source.push_str(after)?;
+    let from = before.len();
     if from >= source.len() {
         return Err(Stop::Input);
     }
     if !source.is_char_boundary(from) {
         return Err(Stop::Input);
     }
-    match lexeme_at(source, from) {
+    match lexeme_at(&source, from) {
         Ok((kind, to)) => {
             answer.debug(&kind);
             answer.text(" ");
@@ -39,16 +43,6 @@ fn push_lexeme(answer: &mut Answer, source: &str, from: usize) -> Result<(), Sto
         }
     }
     Ok(())
-}
-
-/// Returns the kind and the end of the lexeme with which a text begins, or of the one after the mark `‖` in it, or why there is none.
-pub fn lexeme(alloc: Global, text: &str) -> Result<String, Stop> {
-    let mut answer = Answer::new(alloc);
-    let (before, after) = text.split_once('‖').unwrap_or(("", text));
-    let mut source = String::from_str(alloc, before)?;
-    source.push_str(after)?;
-    push_lexeme(&mut answer, &source, before.len())?;
-    answer.finish()
 }
 
 /// Adds what a tree is: of a group its delimiters and what is printed of its inside, of a mark whether it stands alone.
@@ -126,10 +120,9 @@ fn made_of<'s>(alloc: Global, run: Tokens<'_, 's>) -> Result<TokenStream<'s>, St
     Ok(stream)
 }
 
-/// Returns where the tokens of a source stand, those before all but the first and before all but the first two, what they are, and how a copy of
+/// Adds where the tokens of a source stand, those before all but the first and before all but the first two, what they are, and how a copy of
 /// them is printed.
-fn read_stream(alloc: Global, stream: &TokenStream<'_>) -> Result<String, Stop> {
-    let mut answer = Answer::new(alloc);
+fn push_stream(alloc: Global, answer: &mut Answer, stream: &TokenStream<'_>) -> Result<(), Stop> {
     answer.span("", stream.run().span());
     let (first, second, is_none) = fronts(stream.run());
     answer.span(" ", first);
@@ -139,22 +132,21 @@ fn read_stream(alloc: Global, stream: &TokenStream<'_>) -> Result<String, Stop> 
     answer.text(" ");
     answer.debug(&is_none);
     answer.text(": ");
-    push_levels(&mut answer, stream.run());
+    push_levels(answer, stream.run());
     let copy = stream.clone()?.run().to_stream(alloc)?;
     answer.tokens(made_of(alloc, copy.run())?.run());
-    answer.finish()
+    Ok(())
 }
 
-/// Returns the tokens of a source, or why it has none; where the header asks for the `fault` alone, `none` for tokens.
-pub fn stream(alloc: Global, words: &str, text: &str) -> Result<String, Stop> {
-    let mut answer = Answer::new(alloc);
+/// Adds the tokens of a source, or why it has none; where the header asks for the `fault` alone, `none` for tokens.
+pub fn stream(alloc: Global, answer: &mut Answer, words: &str, text: &str) -> Result<(), Stop> {
     match &tokenize(alloc, text) {
         Ok(_) if has_word(words, "fault") => answer.text("none"),
-        Ok(stream) => return read_stream(alloc, stream),
+        Ok(stream) => return push_stream(alloc, answer, stream),
         Err(TokenError::Memory) => return Err(Stop::Memory),
         Err(error) => answer.debug(error),
     }
-    answer.finish()
+    Ok(())
 }
 
 /// Returns what the trees of a source are, and how they are printed.
@@ -169,33 +161,27 @@ fn trees(alloc: Global, text: &str) -> Result<(String, String), Stop> {
     Ok((trees.finish()?, printed.finish()?))
 }
 
-/// Returns how the tokens of a source are printed. The same trees must be read of that text, and the same text be printed again.
-pub fn printed(alloc: Global, text: &str) -> Result<String, Stop> {
+/// Adds how the tokens of a source are printed. The same trees must be read of that text, and the same text be printed again.
+pub fn printed(alloc: Global, answer: &mut Answer, text: &str) -> Result<(), Stop> {
     let (trees_once, once) = trees(alloc, text)?;
     let (trees_again, again) = trees(alloc, &once)?;
     if (trees_once != trees_again) | (once != again) {
         return Err(Stop::Input);
     }
-    Ok(once)
+    answer.text(&once);
+    Ok(())
 }
 
-/// Adds whether a mark stands first, and whether it does where it is expected.
-fn push_marks(answer: &mut Answer, run: Tokens<'_, '_>, expected: char) {
-    if let Some(first) = run.first() {
-        answer.debug(&is_punct(&first, expected));
+/// Adds whether a comma and whether an equals sign stands first, and whether it does where it is expected.
+pub fn marks(answer: &mut Answer, run: Tokens<'_, '_>) {
+    for expected in [',', '='] {
+        if let Some(first) = run.first() {
+            answer.debug(&is_punct(&first, expected));
+        }
+        answer.text(" ");
+        answer.debug(&expect_punct(run.first(), expected).is_none());
+        answer.text(" ");
     }
-    answer.text(" ");
-    answer.debug(&expect_punct(run.first(), expected).is_none());
-    answer.text(" ");
-}
-
-/// Returns whether a comma and whether an equals sign stands first, and whether it does where it is expected.
-pub fn marks(alloc: Global, text: &str) -> Result<String, Stop> {
-    let mut answer = Answer::new(alloc);
-    let stream = tokens_of(alloc, text)?;
-    push_marks(&mut answer, stream.run(), ',');
-    push_marks(&mut answer, stream.run(), '=');
-    answer.finish()
 }
 
 /// Returns the name with which a source begins. It outlives the buffer of tokens, which ends here.
@@ -207,9 +193,8 @@ fn first_name<'s>(alloc: Global, source: &'s str) -> Result<&'s str, Stop> {
     }
 }
 
-/// Returns the name with which a text begins, its span, and the tokens and the span of a name with this text at 5..9.
-pub fn name(alloc: Global, text: &str) -> Result<String, Stop> {
-    let mut answer = Answer::new(alloc);
+/// Adds the name with which a text begins, its span, and the tokens and the span of a name with this text at 5..9.
+pub fn name(alloc: Global, answer: &mut Answer, text: &str) -> Result<(), Stop> {
     let text = first_name(alloc, text)?;
     let made = text.to_ident();
     answer.text(made.text);
@@ -218,39 +203,32 @@ pub fn name(alloc: Global, text: &str) -> Result<String, Stop> {
     let alone = TokenStream::from_ident(alloc, Ident { text, span })?;
     answer.span(" ", alone.run().span());
     answer.tokens(alone.run());
-    answer.finish()
+    Ok(())
 }
 
-/// Adds how tokens are printed, and a semicolon.
-fn push_tokens(alloc: Global, answer: &mut Answer, tokens: &MaybeVoid<'_>) {
-    match tokens.print(alloc) {
-        Ok(text) => answer.text(&text),
-        Err(_) => answer.lack(),
-    }
-    answer.text("; ");
-}
-
-/// Returns what stood there when tokens took the place of none, when all but their first took theirs, when these were taken, and then.
-pub fn replaced(alloc: Global, text: &str) -> Result<String, Stop> {
-    let mut answer = Answer::new(alloc);
+/// Adds what stood there when tokens took the place of none, when all but their first took theirs, when these were taken, and then.
+pub fn replaced(alloc: Global, answer: &mut Answer, text: &str) -> Result<(), Stop> {
     let stream = tokens_of(alloc, text)?;
     let rest = stream.run().rest().to_stream(alloc)?;
     let mut tokens = MaybeVoid::Void;
-    push_tokens(alloc, &mut answer, &tokens.replace(stream));
-    push_tokens(alloc, &mut answer, &tokens.replace(rest));
-    push_tokens(alloc, &mut answer, &tokens.take());
-    push_tokens(alloc, &mut answer, &tokens);
-    answer.finish()
+    answer.printed(&tokens.replace(stream).print(alloc));
+    answer.text("; ");
+    answer.printed(&tokens.replace(rest).print(alloc));
+    answer.text("; ");
+    answer.printed(&tokens.take().print(alloc));
+    answer.text("; ");
+    answer.printed(&tokens.print(alloc));
+    answer.text("; ");
+    Ok(())
 }
 
-/// Returns the value of a literal.
-pub fn value(alloc: Global, text: &str) -> Result<String, Stop> {
-    let mut answer = Answer::new(alloc);
+/// Adds the value of a literal.
+pub fn value(alloc: Global, answer: &mut Answer, text: &str) -> Result<(), Stop> {
     let to = text.len();
     let literal = Literal {
         text,
         span: Span { from: 0, to },
     };
     answer.debug(&literal.value(alloc)?);
-    answer.finish()
+    Ok(())
 }

@@ -29,16 +29,13 @@ fn push_fault(answer: &mut Answer, fault: TypeFault) {
     }
 }
 
-/// Returns the text of the type that the whole source is, or why it is none; `none` where more follows a type.
-pub fn read(alloc: Global, text: &str) -> Result<String, Stop> {
-    let mut answer = Answer::new(alloc);
-    let stream = tokens_of(alloc, text)?;
-    match &read_type(alloc, stream.run()) {
-        Ok((type_expr, rest)) if rest.is_empty() => push_copy(&mut answer, type_expr),
+/// Adds the text of the type that the whole source is, or why it is none; `none` where more follows a type.
+pub fn read(alloc: Global, answer: &mut Answer, run: Tokens<'_, '_>) {
+    match &read_type(alloc, run) {
+        Ok((type_expr, rest)) if rest.is_empty() => push_copy(answer, type_expr),
         Ok(_) => answer.text("none"),
-        Err(fault) => push_fault(&mut answer, *fault),
+        Err(fault) => push_fault(answer, *fault),
     }
-    answer.finish()
 }
 
 /// Returns the type with which a run begins.
@@ -50,25 +47,27 @@ pub fn type_of<'s>(alloc: Global, run: Tokens<'_, 's>) -> Result<TypeExpr<'s>, S
     }
 }
 
-/// Returns whether a type has more than so many levels.
-pub fn levels(alloc: Global, words: &str, text: &str) -> Result<String, Stop> {
-    let mut answer = Answer::new(alloc);
-    let stream = tokens_of(alloc, text)?;
+/// Adds whether a type has more than so many levels.
+pub fn levels(
+    alloc: Global,
+    answer: &mut Answer,
+    words: &str,
+    run: Tokens<'_, '_>,
+) -> Result<(), Stop> {
     let Ok(levels) = words.parse::<u32>() else {
         return Err(Stop::Input);
     };
-    answer.debug(&exceeds(&type_of(alloc, stream.run())?.part, levels));
-    answer.finish()
+    answer.debug(&exceeds(&type_of(alloc, run)?.part, levels));
+    Ok(())
 }
 
-/// Returns whether two types are the same.
-pub fn same(alloc: Global, text: &str) -> Result<String, Stop> {
-    let mut answer = Answer::new(alloc);
+/// Adds whether two types are the same.
+pub fn same(alloc: Global, answer: &mut Answer, text: &str) -> Result<(), Stop> {
     let Some((one, other)) = text.split_once(" ¦ ") else {
         return Err(Stop::Input);
     };
     let (one, other) = (tokens_of(alloc, one)?, tokens_of(alloc, other)?);
     let (one, other) = (type_of(alloc, one.run())?, type_of(alloc, other.run())?);
     answer.debug(&is_same_type(&one, &other));
-    answer.finish()
+    Ok(())
 }
