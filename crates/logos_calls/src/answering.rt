@@ -23,7 +23,7 @@ enum Call {
     LexSource,
     Strip,
     Tokens,
-    Program,
+    Command,
 }
 
 /// The calls by their names.
@@ -125,7 +125,7 @@ const CALLS: &[(&str, Call)] = &[
     ("lex_source", Call::LexSource),
     ("strip_attributes", Call::Strip),
     ("Language::tokens", Call::Tokens),
-    ("run", Call::Program),
+    ("run", Call::Command),
 ];
 
 /// Returns the call of a name.
@@ -160,6 +160,6 @@ pub fn answer(alloc: Global, header: &str, text: &str) -> Result<String, Stop> {
         Call::LexSource => sources::items(alloc, words, text),
         Call::Strip => sources::stripped(alloc, text),
         Call::Tokens => expressions::tokens(alloc, text),
-        Call::Program => runs::status(alloc, text),
+        Call::Command => runs::status(alloc, text),
     }
 }

@@ -112,14 +112,19 @@ fn by_graph(
     by_generator(alloc, asked, &mut generator, graph)
 }
 
+/// Returns the type that a text is.
+fn this_of(alloc: Global, text: &'static str) -> Result<TypeExpr<'static>, Stop> {
+    let tokens = tokens_of(alloc, text)?;
+    type_of(alloc, tokens.run())
+}
+
 /// Answers what is asked of the code of a graph. Its enum is `A<u8>` with the callback `failed`, or `plain`.
 fn of_graph(alloc: Global, asked: Asked<'_>, graph: &Graph<'static>) -> Result<String, Stop> {
     if !graph.errors().is_empty() {
         return Err(Stop::Input);
     }
     let is_plain = has_word(asked.words, "plain");
-    let tokens = tokens_of(alloc, if is_plain { "A" } else { "A<u8>" })?;
-    let this = type_of(alloc, tokens.run())?;
+    let this = this_of(alloc, if is_plain { "A" } else { "A<u8>" })?;
     let failed = label(alloc, if is_plain { "" } else { "failed" })?;
     by_graph(alloc, asked, graph, &this, failed.as_ref())
 }

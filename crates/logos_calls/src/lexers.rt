@@ -7,7 +7,6 @@ use crate::notation::has_word;
 use crate::stop::Stop;
 use logos_generator::code::Code;
 use logos_generator::machine::{Action, Item, Lexer};
-use logos_token::token::Span;
 use std::alloc::Global;
 
 /// Returns what each callback does.
@@ -88,28 +87,20 @@ pub fn push_items(
     Ok(())
 }
 
-/// Returns whether the slice and the remainder are those of the span.
-fn is_in_step(input: &[u8], span: Span, slice: &[u8], remainder: &[u8]) -> bool {
-    (input.get(span.from..span.to) == Some(slice)) & (input.get(span.to..) == Some(remainder))
-}
-
 /// Adds where a lexer stands before the first of so many calls and after each, and the states entered by the last try.
 pub fn push_walk(answer: &mut Answer, code: &Code<'_>, asked: Asked<'_>) -> Result<(), Stop> {
     let Ok(calls) = asked.words.parse::<usize>() else {
         return Err(Stop::Input);
     };
+    let input = asked.input.as_bytes();
     let mut lexer = Lexer::new_str(code, asked.input, |_, _: &[u8]| Action::Emit);
     for number in 0..calls {
         let span = lexer.span();
         answer.span(if number > 0 { "; " } else { "" }, span);
         answer.text(" by ");
         answer.display(&lexer.steps());
-        if !is_in_step(
-            asked.input.as_bytes(),
-            span,
-            lexer.slice(),
-            lexer.remainder(),
-        ) {
+        let slice = input.get(span.from..span.to);
+        if (slice != Some(lexer.slice())) | (input.get(span.to..) != Some(lexer.remainder())) {
             answer.text(" with another slice");
         }
         if lexer.next().is_none() {

@@ -1,7 +1,7 @@
 //! The nodes of codes.
 
 use crate::answer::Answer;
-use logos_generator::code::{Code, CodeLeaf, CodeState, Condition, Fork, Mark, NOWHERE};
+use logos_generator::code::{Code, CodeLeaf, CodeState, Condition, Fork, NOWHERE};
 use logos_graph::byte_class::Comparisons;
 use logos_pattern::leaf::{Callback, VariantKind};
 
@@ -9,12 +9,6 @@ use logos_pattern::leaf::{Callback, VariantKind};
 pub fn push_number(answer: &mut Answer, word: &str, number: usize) {
     answer.text(word);
     answer.display(&number);
-}
-
-/// Adds a mark.
-fn push_mark(answer: &mut Answer, mark: Mark) {
-    let word = if mark.late { " late " } else { " early " };
-    push_number(answer, word, mark.leaf.0);
 }
 
 /// Returns how many operations comparisons cost.
@@ -59,7 +53,8 @@ fn push_state(answer: &mut Answer, state: &CodeState) {
         push_number(answer, " loop ", test);
     }
     if let Some(mark) = state.mark {
-        push_mark(answer, mark);
+        let word = if mark.late { " late " } else { " early " };
+        push_number(answer, word, mark.leaf.0);
     }
     push_fork(answer, &state.fork);
     if let Some(target) = state.at_end {
