@@ -16,8 +16,8 @@ invariant_of-result c =
       rules = rules_of leaves;
       utf8 = c.in_ok-made.made.graph.utf8;
       accepted = made.accepted;
-      lexer = made.lexer;
-      kinds = (rw c.leaves.ensures at c.in_ok-kinds.ensures) ∙ kinds_viewed leaves
+      lexer = rw c.code_in-code.ensures made.lexer;
+      kinds = (rw c.leaves.ensures at (rw c.in-Ok.is at c.kinds_of-kinds.ensures)) ∙ kinds_viewed leaves
           ∙ kinds_as_said SOURCE.now _ _ said.enum said.item (map leaf_view leaves) made.given.rest said.says said.enum_says made.accepted;
     }
 
