@@ -51,11 +51,13 @@ fn push_piece(answer: &mut Answer, piece: Nested<'_, '_>) {
 
 /// Adds the pieces of arguments.
 pub fn pieces(answer: &mut Answer, run: Tokens<'_, '_>) {
-    let mut before = "";
+    let mut is_later = false;
     for piece in AttributeParser::new(run) {
-        answer.text(before);
+        if is_later {
+            answer.text("; ");
+        }
         push_piece(answer, piece);
-        before = "; ";
+        is_later = true;
     }
 }
 
