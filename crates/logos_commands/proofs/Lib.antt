@@ -1,3 +1,4 @@
 mod CutLemmas
 mod DigitLemmas
+mod LexingLemmas
 mod RefusalLemmas

@@ -1,0 +1,15 @@
+use Rattle.logos_graph.specs.View.{rules_of}
+use Rattle.logos_commands.proofs.LexingLemmas.{lexed, refused}
+use Rattle.logos_commands.proofs.lexing.lex_by_source.Goals as goal
+
+pub returns-in-Ok-clause-done : goal.returns-in-Ok-clause-done
+returns-in-Ok-clause-done g c =
+    let made = c.in-Ok.made in
+    lexed c.args.source.now c.args.input.now (rules_of made.graph.leaves) made.graph.utf8 made.code c.in-Ok.ensures.accepted c.in-Ok.ensures.lexer
+    c.lex_by_code.result c.lex_by_code.ensures.done
+
+pub returns-in-Ok-clause-denied : goal.returns-in-Ok-clause-denied
+returns-in-Ok-clause-denied g c =
+    let made = c.in-Ok.made in
+    refused c.args.source.now c.args.input.now (rules_of made.graph.leaves) made.graph.utf8 made.code c.in-Ok.ensures.accepted c.in-Ok.ensures.lexer
+    c.lex_by_code.result c.lex_by_code.ensures.denied
