@@ -63,7 +63,7 @@ pub struct Generated<'s> {
 
 /// Returns the text with the gap after it.
 fn with_gap(text: String, gap: &str) -> Result<String, Memory>
-    ensures { IfOk result (λ whole. string_bytes whole ≡ string_bytes text.entry ++ gap.now) }
+    ensures { IfOk result (λ whole. string_bytes whole ≡ string_bytes text ++ gap.now) }
 {
     let mut text = text;
     text.push_str(gap)?;

@@ -21,6 +21,20 @@ invariant_of-result c =
           ∙ kinds_as_said SOURCE.now _ _ said.enum said.item (map leaf_view leaves) made.given.rest said.says said.enum_says made.accepted;
     }
 
+pub returns-in-Ok-clause-ok : goal.returns-in-Ok-clause-ok
+returns-in-Ok-clause-ok c =
+    let made = c.in_ok-made.ensures in
+    let leaves = c.in_ok-made.made.graph.leaves in
+    let said = made.given.of_source in
+    record {
+      rules = rules_of leaves;
+      utf8 = c.in_ok-made.made.graph.utf8;
+      accepted = made.accepted;
+      lexer = rw c.code_in-code.ensures made.lexer;
+      kinds = (rw c.leaves.ensures at (rw c.in-Ok.is at c.kinds_of-kinds.ensures)) ∙ kinds_viewed leaves
+          ∙ kinds_as_said SOURCE.now _ _ said.enum said.item (map leaf_view leaves) made.given.rest said.says said.enum_says made.accepted;
+    }
+
 pub returns-in_err-made-clause-err : goal.returns-in_err-made-clause-err
 returns-in_err-made-clause-err c =
     let p = err_from_is_err_and c.from_residual.result c.from_residual.ensures.1 in
