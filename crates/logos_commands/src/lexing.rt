@@ -33,9 +33,9 @@ pub(super) fn lex<'w, F: Files, O: Write>(
     out: &mut O,
 ) -> Result<(), Failure<'w>>
     ensures done { OnOk result
-        (ReadsBoth F.read_gives files.old paths.0.now paths.1.now IsLexed) }
+        (ReadsBoth F.read_gives files.old paths.entry.0.now paths.entry.1.now IsLexed) }
     ensures denied { IfErr result (λ failure. status_of failure ≡ 1 →
-        ReadsBoth F.read_gives files.old paths.0.now paths.1.now (λ source bytes.
+        ReadsBoth F.read_gives files.old paths.entry.0.now paths.entry.1.now (λ source bytes.
         RefusesInput source bytes failure)) }
 {
     let source = read_text(paths.0, files)?;
