@@ -51,11 +51,11 @@ fn push_piece(answer: &mut Answer, piece: Nested<'_, '_>) {
 
 /// Adds the pieces of arguments.
 pub fn pieces(answer: &mut Answer, run: Tokens<'_, '_>) {
-    let mut before = "";
-    for piece in AttributeParser::new(run) {
-        answer.text(before);
+    for (number, piece) in AttributeParser::new(run).enumerate() {
+        if number > 0 {
+            answer.text("; ");
+        }
         push_piece(answer, piece);
-        before = "; ";
     }
 }
 
