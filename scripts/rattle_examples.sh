@@ -41,7 +41,7 @@ run_crate() {
     else
         failed=$((failed + 1))
         printf 'rattle_examples: %s printed\n' "$1"
-        tail -30 "$room/output" "$room/messages"
+        tail -n 30 "$room/output" "$room/messages"
     fi
 }
 
