@@ -1,6 +1,7 @@
 #!/usr/bin/env bash
 # Runs the examples in Rattle, and the one of README.md, as another repository would: in a folder with a copy of crates/, the lines of
-# crates.txt, and a line for the new crate. `rt run` proves the new crate, over the libraries that the gate has proved, and runs it.
+# crates.txt, and a line for the new crate. `rt try` runs it over the libraries that the gate has proved. The examples themselves are not
+# proved: they use what the contracts say, and say nothing of their own.
 #
 # Each example is examples/NAME/main.rt.in, with the crates that it uses, NAME.rs and the files of data/, and has to print data/expected.
 # The last line is `rattle_examples: N passed, M failed`.
@@ -35,7 +36,7 @@ add_crate() {
 
 # Runs a crate with words, and compares what it prints with a file.
 run_crate() {
-    if (cd "$room/crates/$1" && rt run -- "${@:3}") > "$room/output" 2> "$room/messages" < /dev/null \
+    if (cd "$room/crates/$1" && rt try -- "${@:3}") > "$room/output" 2> "$room/messages" < /dev/null \
         && cmp -s "$room/output" "$2"; then
         passed=$((passed + 1))
     else
