@@ -1,0 +1,153 @@
+//! A file with the derive of its lexers expanded.
+
+ghost use Rattle.std.specs.Prelude.{◌≡◌, ◌≤◌, IfOk, length, map};
+ghost use Rattle.logos_files.specs.Replacing.{AreInOrder, place_of, replaced};
+
+use logos_codegen::error::{Errors, Memory};
+use logos_codegen::generator::Config;
+use logos_codegen::token::{Span, print};
+use logos_codegen::{Generated, Refusal, generate, strip_attributes};
+use logos_files::{FoundEnum, Replacement, enums_in, replace};
+use logos_report::{Color, Page, Part, Source, Stop, push_faults, push_summary};
+use std::alloc::{AllocError, Global};
+
+/// A file with the derive of its lexers expanded.
+#[derive(Drop)]
+pub(crate) struct Expansion {
+    pub(crate) bytes: Vec<u8>,
+    /// How many enums were expanded.
+    pub(crate) count: usize,
+}
+
+/// The faults of an enum of a file.
+#[derive(Drop)]
+struct Refused {
+    /// Where the enum begins in the file.
+    offset: usize,
+    errors: Errors,
+}
+
+/// What the enums of a file gave so far.
+#[derive(Drop)]
+struct Gathered {
+    parts: Vec<Replacement>,
+    refused: Vec<Refused>,
+}
+
+/// Returns a file with each enum that derives `Logos` replaced by the enum without what belongs to
+/// the derive, and by the implementation. All other text stays as it is.
+pub(crate) fn expand<'w>(
+    alloc: Global,
+    path: &'w str,
+    text: &str,
+    config: Config,
+    color: Color,
+) -> Result<Expansion, Stop<'w>> {
+    let mut gathered = Gathered {
+        parts: Vec::new(alloc),
+        refused: Vec::new(alloc),
+    };
+    match enums_in(alloc, text) {
+        Ok(found) => add_enums(alloc, text, config, &found, &mut gathered)?,
+        Err(refusal) => add_refusal(&mut gathered, 0, refusal)?,
+    }
+    if gathered.refused.is_empty() {
+        return Ok(Expansion {
+            bytes: replace(alloc, text, &gathered.parts)?,
+            count: gathered.parts.len(),
+        });
+    }
+    Err(Stop::Refused(refusal_text(alloc, path, text, color, &gathered.refused)?))
+}
+
+/// Adds what each enum that derives `Logos` gives.
+fn add_enums(
+    alloc: Global,
+    text: &str,
+    config: Config,
+    found: &[FoundEnum],
+    gathered: &mut Gathered,
+) -> Result<(), Memory> {
+    for one in found {
+        if one.derives {
+            add_enum(alloc, text, config, one.span, gathered)?;
+        }
+    }
+    Ok(())
+}
+
+/// Adds what the enum at a span gives.
+fn add_enum(
+    alloc: Global,
+    text: &str,
+    config: Config,
+    span: Span,
+    gathered: &mut Gathered,
+) -> Result<(), Memory> {
+    match expanded(alloc, slice(text, span), config) {
+        Ok(text) => {
+            gathered.parts.push(Replacement { span, text })?;
+            Ok(())
+        }
+        Err(refusal) => add_refusal(gathered, span.from, refusal),
+    }
+}
+
+/// Adds the faults of what begins at an offset.
+fn add_refusal(gathered: &mut Gathered, offset: usize, refusal: Refusal) -> Result<(), Memory> {
+    match refusal {
+        Refusal::Errors(errors) => {
+            gathered.refused.push(Refused { offset, errors })?;
+            Ok(())
+        }
+        Refusal::Memory => Err(Memory),
+    }
+}
+
+/// Returns the text at a span; an empty one where the span cuts a character.
+fn slice(text: &str, span: Span) -> &str {
+    match text.get(span.from..span.to) {
+        Some(slice) => slice,
+        None => "",
+    }
+}
+
+/// Returns an enum without what belongs to the derive, and the implementation.
+fn expanded(alloc: Global, source: &str, config: Config) -> Result<String, Refusal> {
+    match generate(alloc, source, config) {
+        Ok(made) => printed(alloc, source, &made),
+        Err(refusal) => Err(refusal),
+    }
+}
+
+/// The same where the lexer is made.
+fn printed(alloc: Global, source: &str, made: &Generated<'_>) -> Result<String, Refusal> {
+    let left = strip_attributes(alloc, source)?;
+    let mut text = print(alloc, left.run())?;
+    text.push('\n')?;
+    text.push_str(made.text(alloc)?.as_str())?;
+    Ok(text)
+}
+
+/// Returns what is to be said of the faults of a file.
+fn refusal_text(
+    alloc: Global,
+    path: &str,
+    text: &str,
+    color: Color,
+    refused: &[Refused],
+) -> Result<String, AllocError> {
+    let source = Source::new(alloc, path, text)?;
+    let mut page = Page::new(alloc, color.is_on());
+    let mut count: usize = 0;
+    for one in refused {
+        let part = Part {
+            source: &source,
+            offset: one.offset,
+        };
+        push_faults(&mut page, part, &one.errors);
+        count = count.saturating_add(one.errors.list().len());
+    }
+    push_summary(&mut page, count);
+    page.finish()
+}

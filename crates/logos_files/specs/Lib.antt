@@ -1,0 +1,5 @@
+pub mod Derives
+pub mod Fronts
+pub mod Files
+pub mod Replacing
+pub mod inside

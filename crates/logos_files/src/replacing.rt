@@ -1,0 +1,32 @@
+//! A text with other text in the place of parts of it.
+ghost use Rattle.std.specs.Prelude.{◌≡◌, IfOk, length, map};
+ghost use Rattle.logos_files.specs.Replacing.{AreInOrder, place_of, replaced};
+
+use logos_token::token::Span;
+use std::alloc::{AllocError, Global};
+
+/// A part of a text, and the text that takes its place.
+#[derive(Debug, Drop)]
+pub struct Replacement {
+    pub span: Span,
+    pub text: String,
+}
+
+/// Returns a text with other text in the place of parts of it. All bytes between the parts stay
+/// as they are. It fails only where there is no memory.
+pub fn replace(alloc: Global, text: &str, parts: &[Replacement]) -> Result<Vec<u8>, AllocError>
+    requires { AreInOrder 0 (map place_of parts.now) (length text.now) }
+    ensures { IfOk result (λ bytes. bytes.items ≡ replaced text.now 0 parts.now) }
+{
+    let bytes = text.as_bytes();
+    let mut made = Vec::new(alloc);
+    let mut from = 0;
+    for part in parts {
+        let Span { from: start, to } = part.span;
+        made.extend_from_slice(&bytes[from..start])?;
+        made.extend_from_slice(part.text.as_bytes())?;
+        from = to;
+    }
+    made.extend_from_slice(&bytes[from..])?;
+    Ok(made)
+}

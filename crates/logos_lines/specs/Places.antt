@@ -1,0 +1,33 @@
+-- The line and the column of an offset, and where a line ends.
+use Rattle.std.specs.Prelude.{ℕ, ◌+◌, ◌==◌, ◌&&◌, ◌||◌, false, nat_le, nat_lt, if◌then◌else◌, Bool, List, [], ◌∷◌, take}
+use Rattle.logos_lines.specs.declared.place.Position.{Position}
+
+-- whether a byte belongs to a character that an earlier byte began
+abbrev pub continues : ℕ → Bool
+continues byte = nat_le 128 byte && nat_lt byte 192
+
+-- the position after one more byte: LF begins a line, and the first byte of any other character a column
+abbrev pub behind_byte : Position → ℕ → Position
+behind_byte place byte =
+    if byte == 10 then record { line = place.line + 1; column = 1 }
+    else (if continues byte then place else record { line = place.line; column = place.column + 1 })
+
+-- the position after these bytes
+abbrev pub behind : Position → List ℕ → Position
+behind place [] = place
+behind place (byte ∷ rest) = behind (behind_byte place byte) rest
+
+-- the position of an offset of a text
+abbrev pub place_at : List ℕ → ℕ → Position
+place_at text offset = behind (record { line = 1; column = 1 }) (take offset text)
+
+-- whether a line ends in front of these bytes, by LF or CR LF
+abbrev pub ends_line : List ℕ → Bool
+ends_line [] = false
+ends_line (byte ∷ []) = byte == 10
+ends_line (byte ∷ next ∷ rest) = (byte == 10) || ((byte == 13) && (next == 10))
+
+-- how many bytes stand in front of the first line end, or of the end of the text
+abbrev pub line_length : List ℕ → ℕ
+line_length [] = 0
+line_length (byte ∷ rest) = if ends_line (byte ∷ rest) then 0 else 1 + line_length rest

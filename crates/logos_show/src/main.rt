@@ -1,0 +1,24 @@
+//! The program `logos_show`: it shows the lexers of a Rust file, and lexes other files by them.
+
+#![tactic(auto)]
+
+use logos_disk::{Disk, words};
+use logos_survey::{refuse_words, run};
+use std::io;
+use std::process::ExitCode;
+
+fn main(rt: HostRuntime) -> io::Result<ExitCode> {
+    let mut files = Disk { rt: &rt };
+    let status = match words(&rt) {
+        Ok(words) => run(
+            rt.alloc(),
+            words.as_slice(),
+            &mut files,
+            &rt,
+            &mut rt.stdout(),
+            &mut rt.stderr(),
+        ),
+        Err(error) => refuse_words(error.kind(), &mut rt.stderr()),
+    };
+    Ok(ExitCode::from(status))
+}

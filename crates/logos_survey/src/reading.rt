@@ -1,0 +1,83 @@
+//! Files and their enums.
+
+use logos_codegen::Refusal;
+use logos_codegen::error::Memory;
+use logos_codegen::item::read_enum;
+use logos_codegen::token::{Span, tokenize};
+use logos_commands::{FileError, Files};
+use logos_files::FoundEnum;
+use logos_report::{Color, Page, Part, Stop, push_faults, push_summary};
+use std::alloc::{AllocError, Global};
+
+/// Returns all bytes of a file.
+pub(crate) fn read_bytes<'w, F: Files>(path: &'w str, files: &mut F) -> Result<Vec<u8>, Stop<'w>> {
+    match files.read(path) {
+        Ok(bytes) => Ok(bytes),
+        Err(FileError::Failed) => Err(Stop::Read(path)),
+        Err(FileError::Memory) => Err(Stop::Memory),
+    }
+}
+
+/// Returns the text of a file.
+pub(crate) fn read_text<'w, F: Files>(path: &'w str, files: &mut F) -> Result<String, Stop<'w>> {
+    match String::from_utf8(read_bytes(path, files)?) {
+        Ok(text) => Ok(text),
+        Err(_) => Err(Stop::Read(path)),
+    }
+}
+
+/// Returns the text at a span; an empty one where the span cuts a character.
+pub(crate) fn slice(text: &str, span: Span) -> &str {
+    match text.get(span.from..span.to) {
+        Some(slice) => slice,
+        None => "",
+    }
+}
+
+/// Returns why a part of a file is refused.
+pub(crate) fn refused<'w>(
+    alloc: Global,
+    part: Part<'_, '_>,
+    color: Color,
+    refusal: Refusal,
+) -> Stop<'w> {
+    let Refusal::Errors(errors) = refusal else {
+        return Stop::Memory;
+    };
+    let mut page = Page::new(alloc, color.is_on());
+    push_faults(&mut page, part, &errors);
+    push_summary(&mut page, errors.list().len());
+    match page.finish() {
+        Ok(text) => Stop::Refused(text),
+        Err(AllocError) => Stop::Memory,
+    }
+}
+
+/// Returns the first enum that derives `Logos`, or the one of them with a name.
+pub(crate) fn chosen(
+    alloc: Global,
+    text: &str,
+    found: &[FoundEnum],
+    name: Option<&str>,
+) -> Result<Option<FoundEnum>, Memory> {
+    for one in found {
+        if one.derives && is_named(alloc, slice(text, one.span), name)? {
+            return Ok(Some(*one));
+        }
+    }
+    Ok(None)
+}
+
+/// Returns whether an enum has a name; any enum has none.
+fn is_named(alloc: Global, source: &str, name: Option<&str>) -> Result<bool, Memory> {
+    let Some(name) = name else {
+        return Ok(true);
+    };
+    let Ok(stream) = tokenize(alloc, source) else {
+        return Ok(false);
+    };
+    match read_enum(alloc, stream.run()) {
+        Ok(item) => Ok(item.name.text == name),
+        Err(_) => Ok(false),
+    }
+}

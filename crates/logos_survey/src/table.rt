@@ -1,0 +1,205 @@
+//! The leaves of a lexer as a table.
+
+use crate::reading::slice;
+use logos_codegen::Generated;
+use logos_codegen::leaf::{Leaf, VariantKind};
+use logos_codegen::token::{Literal, Span};
+use logos_pattern::pattern::token_priority;
+use logos_report::{Page, Part};
+use std::cmp::max;
+
+/// What a table says of a leaf.
+#[derive(Clone, Copy)]
+struct Row<'l> {
+    variant: &'l str,
+    kind: &'static str,
+    pattern: &'l str,
+    priority: usize,
+    is_default: bool,
+    callback: &'l str,
+    line: usize,
+}
+
+/// How many characters the columns of a table have.
+#[derive(Clone, Copy)]
+struct Widths {
+    variant: usize,
+    pattern: usize,
+    callback: usize,
+}
+
+/// Adds the leaves of a lexer, and what its graph costs. `text` is the text of its enum.
+pub(crate) fn push_table(page: &mut Page, part: Part<'_, '_>, text: &str, made: &Generated<'_>) {
+    push_title(page, part, made);
+    let leaves = made.graph.leaves();
+    let widths = widths_of(part, text, leaves);
+    push_heads(page, widths);
+    for number in 0..leaves.len() {
+        push_row(page, number, row_of(part, text, &leaves[number]), widths);
+    }
+    push_costs(page, made);
+}
+
+/// Adds the name of the enum and its place.
+fn push_title(page: &mut Page, part: Part<'_, '_>, made: &Generated<'_>) {
+    page.push("enum ");
+    page.push(made.name.text);
+    page.push(" (");
+    page.push(part.source.path());
+    page.push(":");
+    page.push_number(part.position(made.name.span.from).line);
+    page.push(")\n\n");
+}
+
+/// Returns what the table says of a leaf.
+fn row_of<'l>(part: Part<'_, '_>, text: &'l str, leaf: &'l Leaf<'_>) -> Row<'l> {
+    let pattern = slice(text, leaf.span);
+    Row {
+        variant: variant_of(&leaf.kind),
+        kind: if leaf.pattern.is_literal() {
+            "token"
+        } else {
+            "regex"
+        },
+        pattern: first_line(pattern),
+        priority: leaf.priority,
+        is_default: leaf.priority == default_priority(leaf, pattern),
+        callback: callback_of(text, leaf),
+        line: part.position(leaf.span.from).line,
+    }
+}
+
+/// Returns the name of the variant of a leaf, or `skip`.
+pub(crate) fn variant_of<'l>(kind: &'l VariantKind<'_>) -> &'l str {
+    match kind {
+        VariantKind::Unit(name) => name.text,
+        VariantKind::Value(name, _) => name.text,
+        VariantKind::Skip => "skip",
+    }
+}
+
+/// Returns the priority of a leaf for which none is written.
+fn default_priority(leaf: &Leaf<'_>, text: &str) -> usize {
+    if leaf.pattern.is_literal() {
+        let span = Span {
+            from: 0,
+            to: text.len(),
+        };
+        return token_priority(&Literal { text, span });
+    }
+    match leaf.pattern.priority() {
+        Some(priority) => priority,
+        None => 0,
+    }
+}
+
+/// Returns the callback of a leaf as it is written, or `-`.
+fn callback_of<'l>(text: &'l str, leaf: &Leaf<'_>) -> &'l str {
+    match &leaf.callback {
+        Some(callback) => first_line(slice(text, callback.span())),
+        None => "-",
+    }
+}
+
+/// Returns what stands in front of the first LF.
+fn first_line(text: &str) -> &str {
+    match text.split_once('\n') {
+        Some((line, _)) => line,
+        None => text,
+    }
+}
+
+/// Returns the widths of the columns for these leaves.
+fn widths_of(part: Part<'_, '_>, text: &str, leaves: &[Leaf<'_>]) -> Widths {
+    let mut widths = Widths {
+        variant: 7,
+        pattern: 7,
+        callback: 8,
+    };
+    for leaf in leaves {
+        widths = wider(widths, row_of(part, text, leaf));
+    }
+    widths
+}
+
+/// Returns the widths that serve a row too.
+fn wider(widths: Widths, row: Row<'_>) -> Widths {
+    Widths {
+        variant: max(widths.variant, row.variant.chars().count()),
+        pattern: max(widths.pattern, row.pattern.chars().count()),
+        callback: max(widths.callback, row.callback.chars().count()),
+    }
+}
+
+/// Adds the heads of the columns.
+fn push_heads(page: &mut Page, widths: Widths) {
+    page.push("leaf  ");
+    push_cell(page, "variant", widths.variant);
+    push_cell(page, "kind", 5);
+    push_cell(page, "pattern", widths.pattern);
+    push_cell(page, "priority", 16);
+    push_cell(page, "callback", widths.callback);
+    page.push("line\n");
+}
+
+/// Adds a row.
+fn push_row(page: &mut Page, number: usize, row: Row<'_>, widths: Widths) {
+    push_right(page, number, 4);
+    push_cell(page, row.variant, widths.variant);
+    push_cell(page, row.kind, 5);
+    push_cell(page, row.pattern, widths.pattern);
+    push_priority(page, row);
+    push_cell(page, row.callback, widths.callback);
+    page.push_number(row.line);
+    page.push("\n");
+}
+
+/// Adds the priority of a leaf, and whether it is the default one.
+fn push_priority(page: &mut Page, row: Row<'_>) {
+    push_right(page, row.priority, 6);
+    push_cell(page, if row.is_default { "default" } else { "" }, 8);
+}
+
+/// Adds a text, with blanks up to a width and two more after it.
+fn push_cell(page: &mut Page, text: &str, width: usize) {
+    page.push(text);
+    page.push_times(
+        " ",
+        width.saturating_sub(text.chars().count()).saturating_add(2),
+    );
+}
+
+/// Adds a number with blanks in front of it up to a width, and two blanks after it.
+fn push_right(page: &mut Page, number: usize, width: usize) {
+    page.push_times(" ", width.saturating_sub(digits(number)));
+    page.push_number(number);
+    page.push("  ");
+}
+
+/// Returns how many digits a number has.
+fn digits(number: usize) -> usize {
+    let mut rest = number;
+    let mut count = 1;
+    while rest >= 10 {
+        rest /= 10;
+        count += 1;
+    }
+    count
+}
+
+/// Adds the number of states of a lexer and its tables.
+fn push_costs(page: &mut Page, made: &Generated<'_>) {
+    let parts = made.code.parts();
+    page.push("\n");
+    push_cost(page, "states", parts.states.len());
+    push_cost(page, "bit tables", parts.bit_tables.len());
+    push_cost(page, "jump tables", parts.jump_tables.len());
+    page.push("\n");
+}
+
+/// Adds what there is of something, and how much.
+fn push_cost(page: &mut Page, name: &str, count: usize) {
+    push_cell(page, name, 11);
+    page.push_number(count);
+    page.push("\n");
+}
