@@ -8,7 +8,7 @@ use logos_codegen::generator::Config;
 use logos_codegen::token::{Span, print};
 use logos_codegen::{Generated, Refusal, generate, strip_attributes};
 use logos_files::{FoundEnum, Replacement, enums_in, replace};
-use logos_report::{Color, Page, Part, Source, Stop, push_faults, push_summary};
+use logos_report::{Color, Page, Part, Source, Stop, count_errors, push_faults, push_summary};
 use std::alloc::{AllocError, Global};
 
 /// A file with the derive of its lexers expanded.
@@ -146,7 +146,7 @@ fn refusal_text(
             offset: one.offset,
         };
         push_faults(&mut page, part, &one.errors);
-        count = count.saturating_add(one.errors.list().len());
+        count = count.saturating_add(count_errors(&one.errors));
     }
     push_summary(&mut page, count);
     page.finish()

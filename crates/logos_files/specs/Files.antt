@@ -1,6 +1,6 @@
 -- The enums of a file, by its tokens.
 use Rattle.std.specs.Prelude.{◌≡◌, ◌≤◌, ◌<◌, ℕ, List, [], ◌∷◌, ◌++◌, length, IsTrue, IsFalse, Ok, Err}
-use Rattle.logos_token.specs.Tokens.{TokenList, append, run_span}
+use Rattle.logos_token.specs.Tokens.{Token, TokenList, also, append, run_span}
 use Rattle.logos_token.specs.Spelling.{Spells}
 use Rattle.logos_item.specs.declared.error.ReadError.{ReadError}
 use Rattle.logos_item.specs.Enum.{Reads}
@@ -26,11 +26,11 @@ pub record Describes (item : TokenList) (found : FoundEnum) : Type 0 where
   pub well_formed : IsTrue found.is_well_formed → IsEnum item
   pub malformed : IsFalse found.is_well_formed → IsNoEnum item
 
--- These are the enums among the items of a run, and of the modules in it that have a body. What else has a body is passed over.
+-- These are the enums among the items of a run, each with its tokens, of which there is one at least, and of the modules in it that have a body. What else has a body is passed over.
 pub data Finds : TokenList → List FoundEnum → Type 0 where
   done : {run : TokenList} → kind_of run ≡ ends → Finds run []
-  finds : {run item rest : TokenList} {found : FoundEnum} {more : List FoundEnum} →
-      kind_of run ≡ is_enum rest → run ≡ append item rest → Describes item found → Finds rest more → Finds run (found ∷ more)
+  finds : {run : TokenList} {token : Token} {tail rest : TokenList} {found : FoundEnum} {more : List FoundEnum} →
+      kind_of run ≡ is_enum rest → run ≡ append (also token tail) rest → Describes (also token tail) found → Finds rest more → Finds run (found ∷ more)
   enters : {run inside rest : TokenList} {within more : List FoundEnum} →
       kind_of run ≡ is_module inside rest → Finds inside within → Finds rest more → Finds run (within ++ more)
   passes : {run rest : TokenList} {more : List FoundEnum} → kind_of run ≡ is_other rest → Finds rest more → Finds run more

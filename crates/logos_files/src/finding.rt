@@ -1,13 +1,12 @@
 //! The enums of a file.
-ghost use Rattle.std.specs.Prelude.{◌≡◌, ◌++◌, ◌∷◌, [], ◌<◌, IfOk, IfErr, IsErrAnd, List, OnOk, length, map};
+ghost use Rattle.std.specs.Prelude.{◌≡◌, ◌∷◌, [], IfOk, IfErr, IsFalse, IsTrue, OnOk, length, map};
 ghost use Rattle.logos_token.specs.Faults.{Fault};
-ghost use Rattle.logos_token.specs.Tokens.{IsRestOf, count_of};
-ghost use Rattle.logos_token.specs.Views.{stream_tokens, tokens_of};
-ghost use Rattle.logos_source.specs.Endings.{EndsReading, too_long};
+ghost use Rattle.logos_token.specs.Views.{tokens_of};
+ghost use Rattle.logos_source.specs.Endings.{EndsReading};
 ghost use Rattle.logos_source.specs.Refusals.{Refuses};
-ghost use Rattle.logos_files.specs.Files.{AreEnumsOf, Describes, Finds};
+ghost use Rattle.logos_files.specs.Files.{AreEnumsOf, Describes, Finds, IsEnum, IsNoEnum};
 ghost use Rattle.logos_files.specs.Replacing.{AreInOrder, found_span};
-ghost use Rattle.logos_files.specs.inside.Finding.{AddsRun, AddsItem};
+ghost use Rattle.logos_files.specs.inside.Finding.{AddsItem, AddsRun};
 
 use crate::derives::derives;
 use crate::fronts::{Kind, kind_of};

@@ -1,11 +1,11 @@
 //! What stands in front of an item, and what kind of item comes after it.
-ghost use Rattle.std.specs.Prelude.{◌≡◌, ◌<◌, ◌≤◌, MatchOption};
-ghost use Rattle.logos_token.specs.Tokens.{IsRestOf, count_of};
-ghost use Rattle.logos_token.specs.Views.{tokens_of};
+ghost use Rattle.std.specs.Prelude.{◌≡◌, ◌<◌, MatchOption};
+ghost use Rattle.logos_token.specs.Tokens.{Token, also, count_of};
+ghost use Rattle.logos_token.specs.Views.{tokens_of, tree_of};
 ghost use Rattle.logos_item.specs.Attributes.{behind_parenthesis, behind_visibility};
 ghost use Rattle.logos_item.specs.Marks.{is_outer};
-ghost use Rattle.logos_files.specs.Fronts.{IsKind, behind_attributes, behind_body, behind_hash, front_of, kind_of};
-ghost use Rattle.logos_files.specs.Fronts.{module_in};
+ghost use Rattle.logos_files.specs.Fronts.{behind_attributes, behind_body, behind_hash, braced_in};
+ghost use Rattle.logos_files.specs.Fronts.{ends_body, kind_at, kind_of, kind_value, module_in};
 
 use logos_token::token::{Delimiter, TokenTree, Tokens};
 
@@ -31,7 +31,7 @@ pub(crate) enum Kind<'t, 's> {
 
 /// Returns the kind of the item that comes first.
 pub(crate) fn kind_of<'t, 's>(tokens: Tokens<'t, 's>) -> Kind<'t, 's>
-    ensures { IsKind (tokens_of tokens.entry) result }
+    ensures { kind_value result ≡ kind_of (tokens_of tokens.entry) }
 {
     kind_at(skip_visibility(skip_attributes(tokens)))
 }
@@ -52,8 +52,11 @@ fn skip_attribute<'t, 's>(tokens: Tokens<'t, 's>) -> Option<Tokens<'t, 's>>
 
 /// Returns what is after the brackets that come first.
 fn skip_brackets<'t, 's>(tokens: Tokens<'t, 's>) -> Option<Tokens<'t, 's>>
-    ensures { MatchOption result (NoBrackets (tokens_of tokens.entry))
-        (λ rest. HasBrackets (tokens_of tokens.entry) (tokens_of rest)) }
+    ensures { MatchOption result ((sign : Token) →
+        behind_hash sign (tokens_of tokens.entry) ≡ also sign (tokens_of tokens.entry))
+        (λ rest. ((sign : Token) → behind_hash sign (tokens_of tokens.entry)
+        ≡ behind_attributes (tokens_of rest))
+        × (count_of (tokens_of rest) < count_of (tokens_of tokens.entry))) }
 {
     match tokens.first() {
         Some(TokenTree::Group(group)) if group.delimiter == Delimiter::Bracket => {
@@ -106,7 +109,7 @@ fn skip_visibility<'t, 's>(tokens: Tokens<'t, 's>) -> Tokens<'t, 's>
 
 /// Returns the kind of an item by what follows its visibility.
 fn kind_at<'t, 's>(tokens: Tokens<'t, 's>) -> Kind<'t, 's>
-    ensures { kind_value result ≡ kind_of (tokens_of tokens.entry) }
+    ensures { kind_value result ≡ kind_at (tokens_of tokens.entry) }
 {
     let Some(tree) = tokens.first() else {
         return Kind::End;

@@ -9,6 +9,7 @@ pub record IsStart (text : List ℕ) (line offset : ℕ) : Type 0 where
 
 -- these are the offsets up to one at which the lines of a text begin, one for each line, in order
 pub record AreStartsTo (text : List ℕ) (starts : List ℕ) (to : ℕ) : Type 0 where
+  pub some : 0 < length starts
   pub first : get_or starts 0 0 ≡ 0
   pub every : length starts ≡ (place_at text to).line
   pub each : (k : ℕ) → k < length starts → IsStart text (k + 1) (get_or starts k 0)

@@ -14,6 +14,17 @@ pub fn push_faults(page: &mut Page, part: Part<'_, '_>, errors: &Errors) {
     }
 }
 
+/// Returns how many of these are errors, and no places that another one speaks of.
+pub fn count_errors(errors: &Errors) -> usize {
+    let mut count: usize = 0;
+    for fault in errors.list() {
+        if fault.code != FaultCode::Previous {
+            count = count.saturating_add(1);
+        }
+    }
+    count
+}
+
 /// Adds the line that says how many faults there are.
 pub fn push_summary(page: &mut Page, count: usize) {
     page.paint(Style::Error, "error");

@@ -11,7 +11,7 @@ mod source;
 mod stop;
 
 pub use color::{Color, color_by_name};
-pub use faults::{push_faults, push_summary};
+pub use faults::{count_errors, push_faults, push_summary};
 pub use frame::{push_frame, push_place};
 pub use help::help_for;
 pub use page::{Page, Style};

@@ -6,7 +6,7 @@ use logos_codegen::item::read_enum;
 use logos_codegen::token::{Span, tokenize};
 use logos_commands::{FileError, Files};
 use logos_files::FoundEnum;
-use logos_report::{Color, Page, Part, Stop, push_faults, push_summary};
+use logos_report::{Color, Page, Part, Stop, count_errors, push_faults, push_summary};
 use std::alloc::{AllocError, Global};
 
 /// Returns all bytes of a file.
@@ -46,7 +46,7 @@ pub(crate) fn refused<'w>(
     };
     let mut page = Page::new(alloc, color.is_on());
     push_faults(&mut page, part, &errors);
-    push_summary(&mut page, errors.list().len());
+    push_summary(&mut page, count_errors(&errors));
     match page.finish() {
         Ok(text) => Stop::Refused(text),
         Err(AllocError) => Stop::Memory,

@@ -83,7 +83,7 @@ fn push_lexer<'w>(
 ) -> Result<(), Stop<'w>> {
     match generate(alloc, text, SHAPE) {
         Ok(made) => {
-            push_table(&mut pages.tables, part, text, &made);
+            push_table(alloc, &mut pages.tables, part, text, &made)?;
             push_beaten(alloc, &mut pages.warnings, part, &made)?;
             Ok(())
         }

@@ -2,10 +2,11 @@
 
 use crate::reading::slice;
 use logos_codegen::Generated;
+use logos_codegen::error::Memory;
 use logos_codegen::leaf::{Leaf, VariantKind};
-use logos_codegen::token::{Literal, Span};
-use logos_pattern::pattern::token_priority;
+use logos_codegen::token::{Literal, LiteralValue, Span};
 use logos_report::{Page, Part};
+use std::alloc::Global;
 use std::cmp::max;
 
 /// What a table says of a leaf.
@@ -15,7 +16,6 @@ struct Row<'l> {
     kind: &'static str,
     pattern: &'l str,
     priority: usize,
-    is_default: bool,
     callback: &'l str,
     line: usize,
 }
@@ -29,15 +29,25 @@ struct Widths {
 }
 
 /// Adds the leaves of a lexer, and what its graph costs. `text` is the text of its enum.
-pub(crate) fn push_table(page: &mut Page, part: Part<'_, '_>, text: &str, made: &Generated<'_>) {
+pub(crate) fn push_table(
+    alloc: Global,
+    page: &mut Page,
+    part: Part<'_, '_>,
+    text: &str,
+    made: &Generated<'_>,
+) -> Result<(), Memory> {
     push_title(page, part, made);
     let leaves = made.graph.leaves();
     let widths = widths_of(part, text, leaves);
     push_heads(page, widths);
     for number in 0..leaves.len() {
-        push_row(page, number, row_of(part, text, &leaves[number]), widths);
+        let leaf = &leaves[number];
+        let row = row_of(part, text, leaf);
+        let is_default = is_default(alloc, leaf, slice(text, leaf.span))?;
+        push_row(page, number, row, is_default, widths);
     }
     push_costs(page, made);
+    Ok(())
 }
 
 /// Adds the name of the enum and its place.
@@ -63,7 +73,6 @@ fn row_of<'l>(part: Part<'_, '_>, text: &'l str, leaf: &'l Leaf<'_>) -> Row<'l> 
         },
         pattern: first_line(pattern),
         priority: leaf.priority,
-        is_default: leaf.priority == default_priority(leaf, pattern),
         callback: callback_of(text, leaf),
         line: part.position(leaf.span.from).line,
     }
@@ -78,19 +87,21 @@ pub(crate) fn variant_of<'l>(kind: &'l VariantKind<'_>) -> &'l str {
     }
 }
 
-/// Returns the priority of a leaf for which none is written.
-fn default_priority(leaf: &Leaf<'_>, text: &str) -> usize {
-    if leaf.pattern.is_literal() {
-        let span = Span {
-            from: 0,
-            to: text.len(),
-        };
-        return token_priority(&Literal { text, span });
+/// Returns whether a leaf has the priority that it has where none is written.
+fn is_default(alloc: Global, leaf: &Leaf<'_>, text: &str) -> Result<bool, Memory> {
+    if !leaf.pattern.is_literal() {
+        return Ok(leaf.pattern.priority() == Some(leaf.priority));
     }
-    match leaf.pattern.priority() {
-        Some(priority) => priority,
+    let span = Span {
+        from: 0,
+        to: text.len(),
+    };
+    let length = match (Literal { text, span }).value(alloc)? {
+        Some(LiteralValue::Text(value)) => value.len(),
+        Some(LiteralValue::Bytes(value)) => value.len(),
         None => 0,
-    }
+    };
+    Ok(leaf.priority == length.saturating_mul(2))
 }
 
 /// Returns the callback of a leaf as it is written, or `-`.
@@ -143,21 +154,21 @@ fn push_heads(page: &mut Page, widths: Widths) {
 }
 
 /// Adds a row.
-fn push_row(page: &mut Page, number: usize, row: Row<'_>, widths: Widths) {
+fn push_row(page: &mut Page, number: usize, row: Row<'_>, is_default: bool, widths: Widths) {
     push_right(page, number, 4);
     push_cell(page, row.variant, widths.variant);
     push_cell(page, row.kind, 5);
     push_cell(page, row.pattern, widths.pattern);
-    push_priority(page, row);
+    push_priority(page, row.priority, is_default);
     push_cell(page, row.callback, widths.callback);
     page.push_number(row.line);
     page.push("\n");
 }
 
 /// Adds the priority of a leaf, and whether it is the default one.
-fn push_priority(page: &mut Page, row: Row<'_>) {
-    push_right(page, row.priority, 6);
-    push_cell(page, if row.is_default { "default" } else { "" }, 8);
+fn push_priority(page: &mut Page, priority: usize, is_default: bool) {
+    push_right(page, priority, 6);
+    push_cell(page, if is_default { "default" } else { "" }, 8);
 }
 
 /// Adds a text, with blanks up to a width and two more after it.
