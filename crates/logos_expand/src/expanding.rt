@@ -1,7 +1,8 @@
 //! A file with the derive of its lexers expanded.
 
-ghost use Rattle.std.specs.Prelude.{◌≡◌, ◌≤◌, IfOk, length, map};
-ghost use Rattle.logos_files.specs.Replacing.{AreInOrder, place_of, replaced};
+ghost use Rattle.std.specs.Prelude.{◌≡◌, [], IfOk, OnOk, length, map};
+ghost use Rattle.logos_files.specs.Replacing.{AreInOrder, found_span, place_of};
+ghost use Rattle.logos_expand.specs.Parts.{AddsAt};
 
 use logos_codegen::error::{Errors, Memory};
 use logos_codegen::generator::Config;
@@ -43,21 +44,30 @@ pub(crate) fn expand<'w>(
     config: Config,
     color: Color,
 ) -> Result<Expansion, Stop<'w>> {
+    let Gathered { parts, refused } = gather(alloc, text, config)?;
+    if refused.is_empty() {
+        return Ok(Expansion {
+            bytes: replace(alloc, text, &parts)?,
+            count: parts.len(),
+        });
+    }
+    Err(Stop::Refused(refusal_text(alloc, path, text, color, &refused)?))
+}
+
+/// Returns what the enums of a file that derive `Logos` give.
+fn gather(alloc: Global, text: &str, config: Config) -> Result<Gathered, Memory>
+    ensures { IfOk result (λ gathered.
+        AreInOrder 0 (map place_of gathered.parts.items) (length text.now)) }
+{
     let mut gathered = Gathered {
         parts: Vec::new(alloc),
         refused: Vec::new(alloc),
     };
     match enums_in(alloc, text) {
         Ok(found) => add_enums(alloc, text, config, &found, &mut gathered)?,
-        Err(refusal) => add_refusal(&mut gathered, 0, refusal)?,
+        Err(refusal) => add_refusal(&mut gathered.refused, 0, refusal)?,
     }
-    if gathered.refused.is_empty() {
-        return Ok(Expansion {
-            bytes: replace(alloc, text, &gathered.parts)?,
-            count: gathered.parts.len(),
-        });
-    }
-    Err(Stop::Refused(refusal_text(alloc, path, text, color, &gathered.refused)?))
+    Ok(gathered)
 }
 
 /// Adds what each enum that derives `Logos` gives.
@@ -67,37 +77,47 @@ fn add_enums(
     config: Config,
     found: &[FoundEnum],
     gathered: &mut Gathered,
-) -> Result<(), Memory> {
+) -> Result<(), Memory>
+    requires none { gathered.old.parts.items ≡ [] }
+    requires order { AreInOrder 0 (map found_span found.now) (length text.now) }
+    ensures { OnOk result
+        (AreInOrder 0 (map place_of gathered.new.parts.items) (length text.now)) }
+{
     for one in found {
-        if one.derives {
-            add_enum(alloc, text, config, one.span, gathered)?;
-        }
+        add_enum(alloc, text, config, *one, gathered)?;
     }
     Ok(())
 }
 
-/// Adds what the enum at a span gives.
+/// Adds what an enum gives, if it derives `Logos`.
 fn add_enum(
     alloc: Global,
     text: &str,
     config: Config,
-    span: Span,
+    one: FoundEnum,
     gathered: &mut Gathered,
-) -> Result<(), Memory> {
+) -> Result<(), Memory>
+    ensures { OnOk result
+        (AddsAt one.span gathered.old.parts.items gathered.new.parts.items) }
+{
+    if !one.derives {
+        return Ok(());
+    }
+    let span = one.span;
     match expanded(alloc, slice(text, span), config) {
         Ok(text) => {
             gathered.parts.push(Replacement { span, text })?;
             Ok(())
         }
-        Err(refusal) => add_refusal(gathered, span.from, refusal),
+        Err(refusal) => add_refusal(&mut gathered.refused, span.from, refusal),
     }
 }
 
 /// Adds the faults of what begins at an offset.
-fn add_refusal(gathered: &mut Gathered, offset: usize, refusal: Refusal) -> Result<(), Memory> {
+fn add_refusal(refused: &mut Vec<Refused>, offset: usize, refusal: Refusal) -> Result<(), Memory> {
     match refusal {
         Refusal::Errors(errors) => {
-            gathered.refused.push(Refused { offset, errors })?;
+            refused.push(Refused { offset, errors })?;
             Ok(())
         }
         Refusal::Memory => Err(Memory),

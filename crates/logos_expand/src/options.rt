@@ -1,6 +1,6 @@
 //! What the words of a command line ask for.
 
-ghost use Rattle.std.specs.Prelude.{◌<◌, IfOk, IfSome, length};
+ghost use Rattle.std.specs.Prelude.{◌≤◌, IfOk, length};
 
 use logos_codegen::generator::Config;
 use logos_report::{Color, Stop, color_by_name};
@@ -98,7 +98,9 @@ fn read_word<'w>(
     read: Read<'w>,
     word: &'w str,
     rest: &'w [String],
-) -> Result<(Read<'w>, &'w [String]), Stop<'w>> {
+) -> Result<(Read<'w>, &'w [String]), Stop<'w>>
+    ensures { IfOk result (λ read. length read.1.now ≤ length rest.now) }
+{
     match name_of(word) {
         Some(name) => read_option(read, name, word, rest),
         None => Ok((read_input(read, word)?, rest)),
@@ -138,7 +140,9 @@ fn read_option<'w>(
     name: Name,
     word: &'w str,
     rest: &'w [String],
-) -> Result<(Read<'w>, &'w [String]), Stop<'w>> {
+) -> Result<(Read<'w>, &'w [String]), Stop<'w>>
+    ensures { IfOk result (λ read. length read.1.now ≤ length rest.now) }
+{
     match name {
         Name::Check => Ok((
             Read {
@@ -170,7 +174,9 @@ fn read_value<'w>(
     name: Name,
     word: &'w str,
     rest: &'w [String],
-) -> Result<(Read<'w>, &'w [String]), Stop<'w>> {
+) -> Result<(Read<'w>, &'w [String]), Stop<'w>>
+    ensures { IfOk result (λ read. length read.1.now ≤ length rest.now) }
+{
     let [value, after @ ..] = rest else {
         return Err(misuse("a value is missing after", word));
     };

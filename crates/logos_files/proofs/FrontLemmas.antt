@@ -19,23 +19,26 @@ first_rest token rest = record { front = also token none; is = refl }
 pub past : (token : Token) (run rest : TokenList) → IsRestOf run rest → IsRestOf (also token run) rest
 past token run rest r = record { front = also token r.front; is = ap (also token) r.is }
 
+doc_rest : (text : List ℕ) (span : Span) (rest : TokenList) (outer : Bool) → is_outer text ≡ outer → IsRestOf rest (behind_attributes rest) →
+    IsRestOf (also (doc text span) rest) (behind_attributes (also (doc text span) rest))
+doc_rest text span rest true e r = rw e (past (doc text span) rest _ r)
+doc_rest text span rest false e r = rw e (IsRestOf-self _)
+
+hash_rest : (character : ℕ) (spacing : Spacing) (span : Span) (rest : TokenList) (is : Bool) → (character == hash) ≡ is →
+    IsRestOf (also (punctuation character spacing span) rest) (behind_hash (punctuation character spacing span) rest) →
+    IsRestOf (also (punctuation character spacing span) rest) (behind_attributes (also (punctuation character spacing span) rest))
+hash_rest character spacing span rest true e r = rw e r
+hash_rest character spacing span rest false e r = rw e (IsRestOf-self _)
+
 mutual
   pub attributes_rest : (run : TokenList) → IsRestOf run (behind_attributes run)
   attributes_rest none = IsRestOf-self none
   attributes_rest (also (identifier text span) rest) = IsRestOf-self _
   attributes_rest (also (literal text span) rest) = IsRestOf-self _
   attributes_rest (also (group delimiter span inside) rest) = IsRestOf-self _
-  attributes_rest (also (doc text span) rest) = doc_rest text span rest (is_outer text) refl
-  attributes_rest (also (punctuation character spacing span) rest) = hash_rest character spacing span rest (character == hash) refl
-
-  doc_rest : (text : List ℕ) (span : Span) (rest : TokenList) (outer : Bool) → is_outer text ≡ outer → IsRestOf (also (doc text span) rest) (behind_attributes (also (doc text span) rest))
-  doc_rest text span rest true e = rw e (past (doc text span) rest _ (attributes_rest rest))
-  doc_rest text span rest false e = rw e (IsRestOf-self _)
-
-  hash_rest : (character : ℕ) (spacing : Spacing) (span : Span) (rest : TokenList) (is : Bool) → (character == hash) ≡ is →
-      IsRestOf (also (punctuation character spacing span) rest) (behind_attributes (also (punctuation character spacing span) rest))
-  hash_rest character spacing span rest true e = rw e (brackets_rest (punctuation character spacing span) rest)
-  hash_rest character spacing span rest false e = rw e (IsRestOf-self _)
+  attributes_rest (also (doc text span) rest) = doc_rest text span rest (is_outer text) refl (attributes_rest rest)
+  attributes_rest (also (punctuation character spacing span) rest) =
+      hash_rest character spacing span rest (character == hash) refl (brackets_rest (punctuation character spacing span) rest)
 
   brackets_rest : (sign : Token) (rest : TokenList) → IsRestOf (also sign rest) (behind_hash sign rest)
   brackets_rest sign none = IsRestOf-self _
@@ -65,17 +68,17 @@ visibility_rest (also (punctuation character spacing span) rest) = IsRestOf-self
 visibility_rest (also (group delimiter span inside) rest) = IsRestOf-self _
 visibility_rest (also (identifier text span) rest) = go (bytes_eq text (codes "pub")) refl
   where
-  go : (is : Bool) → bytes_eq text (codes "pub") ≡ is → IsRestOf (also (identifier text span) rest) (behind_visibility (also (identifier text span) rest))
-  go true e = rw e (past (identifier text span) rest _ (parenthesis_rest rest))
-  go false e = rw e (IsRestOf-self _)
+    go : (is : Bool) → bytes_eq text (codes "pub") ≡ is → IsRestOf (also (identifier text span) rest) (behind_visibility (also (identifier text span) rest))
+    go true e = rw e (past (identifier text span) rest _ (parenthesis_rest rest))
+    go false e = rw e (IsRestOf-self _)
+
+body_step : (token : Token) (rest : TokenList) → IsRestOf rest (behind_body rest) → (is : Bool) → ends_body token ≡ is → IsRestOf (also token rest) (behind_body (also token rest))
+body_step token rest r true e = rw e (first_rest token rest)
+body_step token rest r false e = rw e (past token rest _ r)
 
 pub body_rest : (run : TokenList) → IsRestOf run (behind_body run)
 body_rest none = IsRestOf-self none
-body_rest (also token rest) = go (ends_body token) refl
-  where
-  go : (is : Bool) → ends_body token ≡ is → IsRestOf (also token rest) (behind_body (also token rest))
-  go true e = rw e (first_rest token rest)
-  go false e = rw e (past token rest _ (body_rest rest))
+body_rest (also token rest) = body_step token rest (body_rest rest) (ends_body token) refl
 
 -- what an item may be
 pub data Shape : TokenList → KindValue → Type 0 where
@@ -110,10 +113,10 @@ shape_at (also (punctuation character spacing span) rest) = another
 shape_at (also (group delimiter span inside) rest) = another
 shape_at (also (identifier text span) rest) = go (bytes_eq text (codes "enum")) refl (bytes_eq text (codes "mod")) refl
   where
-  go : (one : Bool) → bytes_eq text (codes "enum") ≡ one → (other : Bool) → bytes_eq text (codes "mod") ≡ other → Shape (also (identifier text span) rest) (kind_at (also (identifier text span) rest))
-  go true e other f = rw e an_enum
-  go false e true f = rw (e, f) (module_shape text span rest)
-  go false e false f = rw (e, f) another
+    go : (one : Bool) → bytes_eq text (codes "enum") ≡ one → (other : Bool) → bytes_eq text (codes "mod") ≡ other → Shape (also (identifier text span) rest) (kind_at (also (identifier text span) rest))
+    go true e other f = rw e an_enum
+    go false e true f = rw (e, f) (module_shape text span rest)
+    go false e false f = rw (e, f) another
 
 -- a run is left of another one behind what stands in front of an item, which has this shape
 pub record Item (run : TokenList) (kind : KindValue) : Type 0 where
@@ -145,11 +148,11 @@ begun (also first front) token back run rest e = record { token = first; tail = 
 pub enum_front : (run rest : TokenList) → is_enum rest ≡ kind_of run → EnumFront run rest
 enum_front run rest e = go (item_of run (is_enum rest) e)
   where
-  go : Item run (is_enum rest) → EnumFront run rest
-  go item = front item.at item.front item.shape
-    where
-    front : (at : TokenList) → IsRestOf run at → Shape at (is_enum rest) → EnumFront run rest
-    front _ r (an_enum {text} {span} {more}) = let b = body_rest more in begun r.front (identifier text span) b.front run rest (r.is ∙ ap (λ m. append r.front (also (identifier text span) m)) b.is)
+    go : Item run (is_enum rest) → EnumFront run rest
+    go item = front item.at item.front item.shape
+      where
+        front : (at : TokenList) → IsRestOf run at → Shape at (is_enum rest) → EnumFront run rest
+        front _ r (an_enum {text} {span} {more}) = let b = body_rest more in begun r.front (identifier text span) b.front run rest (r.is ∙ ap (λ m. append r.front (also (identifier text span) m)) b.is)
 
 -- counts
 append_count : (front rest : TokenList) → count_of rest ≤ count_of (append front rest)
@@ -165,17 +168,17 @@ enum_count run rest f = rw f.is (omega (arith, append_count f.tail rest, token_c
 pub other_count : (run rest : TokenList) → is_other rest ≡ kind_of run → count_of rest < count_of run
 other_count run rest e = go (item_of run (is_other rest) e)
   where
-  go : Item run (is_other rest) → count_of rest < count_of run
-  go item = more item.at item.shape (rest_count run item.at item.front)
-    where
-    more : (at : TokenList) → Shape at (is_other rest) → count_of at ≤ count_of run → count_of rest < count_of run
-    more _ (another {token} {_}) l = omega (arith, l, token_count-positive token)
+    go : Item run (is_other rest) → count_of rest < count_of run
+    go item = more item.at item.shape (rest_count run item.at item.front)
+      where
+        more : (at : TokenList) → Shape at (is_other rest) → count_of at ≤ count_of run → count_of rest < count_of run
+        more _ (another {token} {_}) l = omega (arith, l, token_count-positive token)
 
 pub module_count : (run inside rest : TokenList) → is_module inside rest ≡ kind_of run → (count_of inside < count_of run) × (count_of rest < count_of run)
 module_count run inside rest e = go (item_of run (is_module inside rest) e)
   where
-  go : Item run (is_module inside rest) → (count_of inside < count_of run) × (count_of rest < count_of run)
-  go item = more item.at item.shape (rest_count run item.at item.front)
-    where
-    more : (at : TokenList) → Shape at (is_module inside rest) → count_of at ≤ count_of run → (count_of inside < count_of run) × (count_of rest < count_of run)
-    more _ (a_module) l = (omega (arith, l), omega (arith, l))
+    go : Item run (is_module inside rest) → (count_of inside < count_of run) × (count_of rest < count_of run)
+    go item = more item.at item.shape (rest_count run item.at item.front)
+      where
+        more : (at : TokenList) → Shape at (is_module inside rest) → count_of at ≤ count_of run → (count_of inside < count_of run) × (count_of rest < count_of run)
+        more _ (a_module) l = (omega (arith, l), omega (arith, l))

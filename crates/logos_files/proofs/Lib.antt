@@ -1,3 +1,4 @@
 mod FrontLemmas
 mod FindLemmas
 mod OrderLemmas
+mod ReplaceLemmas

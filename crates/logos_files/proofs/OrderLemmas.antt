@@ -91,19 +91,19 @@ other_stands bytes from _ rest to (another {token} {_}) s =
     record { place = (span_of token).to; after = omega (arith, t.0, t.1); stands = s.1 }
 
 pub find_order : (bytes : List ℕ) (run : TokenList) (found : List FoundEnum) → Finds run found → (from to : ℕ) → RunStands bytes from run to → AreInOrder from (map found_span found) to
-find_order bytes run _ (done k) from to s = run_order bytes from run to s
-find_order bytes run _ (finds {run} {token} {tail} {rest} {one} {more} k e d f) from to s =
+find_order bytes _ _ (done {run} k) from to s = run_order bytes from run to s
+find_order bytes _ _ (finds {run} {token} {tail} {rest} {one} {more} k e d f) from to s =
     let p = part_stands bytes from token tail rest to (rw e at s) in
     rw d.span (p.after, p.whole, find_order bytes rest more f _ to p.behind)
-find_order bytes run _ (enters {run} {inside} {rest} {within} {more} k f g) from to s =
+find_order bytes _ _ (enters {run} {inside} {rest} {within} {more} k f g) from to s =
     let item = item_of run (is_module inside rest) (sym k) in
     let left = rest_stands bytes from run item.at to item.front s in
     let m = module_stands bytes left.place item.at inside rest to item.shape left.stands in
-    rw (map-append)
+    rw (map-append found_span within more)
     (both from (map found_span within) m.close_at m.end_at (map found_span more) to
-        (earlier from m.open_at _ _ (omega (arith, left.after, m.after)) (find_order bytes inside within f m.open_at m.close_at m.within))
-        m.order (find_order bytes rest more g m.end_at to m.behind))
-find_order bytes run _ (passes {run} {rest} {more} k f) from to s =
+    (earlier from m.open_at _ _ (omega (arith, left.after, m.after)) (find_order bytes inside within f m.open_at m.close_at m.within))
+    m.order (find_order bytes rest more g m.end_at to m.behind))
+find_order bytes _ _ (passes {run} {rest} {more} k f) from to s =
     let item = item_of run (is_other rest) (sym k) in
     let left = rest_stands bytes from run item.at to item.front s in
     let o = other_stands bytes left.place item.at rest to item.shape left.stands in

@@ -1,8 +1,7 @@
 -- The enums of a file, by its tokens.
-use Rattle.std.specs.Prelude.{◌≡◌, ◌≤◌, ◌<◌, ℕ, List, [], ◌∷◌, ◌++◌, length, IsTrue, IsFalse, Ok, Err}
+use Rattle.std.specs.Prelude.{◌≡◌, ℕ, List, [], ◌∷◌, ◌++◌, IsTrue, Ok}
 use Rattle.logos_token.specs.Tokens.{Token, TokenList, also, append, run_span}
 use Rattle.logos_token.specs.Spelling.{Spells}
-use Rattle.logos_item.specs.declared.error.ReadError.{ReadError}
 use Rattle.logos_item.specs.Enum.{Reads}
 use Rattle.logos_item.specs.EnumValues.{EnumValue}
 use Rattle.logos_files.specs.declared.finding.FoundEnum.{FoundEnum}
@@ -14,17 +13,11 @@ pub record IsEnum (run : TokenList) : Type 0 where
   pub value : EnumValue
   pub reads : Reads run (Ok value)
 
--- the tokens are read as no enum
-pub record IsNoEnum (run : TokenList) : Type 0 where
-  pub error : ReadError
-  pub reads : Reads run (Err error)
-
 -- what is found is an item with these tokens
 pub record Describes (item : TokenList) (found : FoundEnum) : Type 0 where
   pub span : found.span ≡ run_span item
   pub derives : found.derives ≡ derives item
   pub well_formed : IsTrue found.is_well_formed → IsEnum item
-  pub malformed : IsFalse found.is_well_formed → IsNoEnum item
 
 -- These are the enums among the items of a run, each with its tokens, of which there is one at least, and of the modules in it that have a body. What else has a body is passed over.
 pub data Finds : TokenList → List FoundEnum → Type 0 where

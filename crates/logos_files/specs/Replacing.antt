@@ -1,5 +1,5 @@
 -- A text with other text in the place of parts of it.
-use Rattle.std.specs.Prelude.{◌≤◌, ◌<◌, ℕ, List, [], ◌∷◌, ◌++◌, drop, map, slice_range, string_bytes}
+use Rattle.std.specs.Prelude.{◌≤◌, ◌<◌, ℕ, List, [], ◌∷◌, ◌++◌, length, slice_range, string_bytes}
 use Rattle.logos_lexeme.specs.declared.lexeme.Span.{Span}
 use Rattle.logos_files.specs.declared.finding.FoundEnum.{FoundEnum}
 use Rattle.logos_files.specs.declared.replacing.Replacement.{Replacement}
@@ -17,5 +17,5 @@ place_of replacement = replacement.span
 
 -- the text from an offset on, with other text in the place of these parts
 abbrev pub replaced : List ℕ → ℕ → List Replacement → List ℕ
-replaced text from [] = drop from text
+replaced text from [] = slice_range text from (length text)
 replaced text from (one ∷ rest) = slice_range text from one.span.from ++ (string_bytes one.text ++ replaced text one.span.to rest)

@@ -1,10 +1,10 @@
 //! The enums of a file.
-ghost use Rattle.std.specs.Prelude.{◌≡◌, ◌∷◌, [], IfOk, IfErr, IsFalse, IsTrue, OnOk, length, map};
+ghost use Rattle.std.specs.Prelude.{◌≡◌, ◌∷◌, [], IfOk, IfErr, IsTrue, OnOk, length, map};
 ghost use Rattle.logos_token.specs.Faults.{Fault};
 ghost use Rattle.logos_token.specs.Views.{tokens_of};
 ghost use Rattle.logos_source.specs.Endings.{EndsReading};
 ghost use Rattle.logos_source.specs.Refusals.{Refuses};
-ghost use Rattle.logos_files.specs.Files.{AreEnumsOf, Describes, Finds, IsEnum, IsNoEnum};
+ghost use Rattle.logos_files.specs.Files.{AreEnumsOf, Describes, Finds, IsEnum};
 ghost use Rattle.logos_files.specs.Replacing.{AreInOrder, found_span};
 ghost use Rattle.logos_files.specs.inside.Finding.{AddsItem, AddsRun};
 
@@ -18,7 +18,7 @@ use logos_token::token::{Span, Tokens, tokenize};
 use std::alloc::Global;
 
 /// An enum of a file.
-#[derive(Clone, Copy, Debug, PartialEq, Eq)]
+#[derive(Clone, Copy)]
 pub struct FoundEnum {
     /// From its first attribute, or else its visibility or `enum`, to the end of its braces.
     pub span: Span,
@@ -43,21 +43,21 @@ pub fn enums_in(alloc: Global, text: &str) -> Result<Vec<FoundEnum>, Refusal>
         × EndsReading text.now ending × (faults ≡ ending ∷ []))) }
 {
     match tokenize(alloc, text) {
-        Ok(stream) => enums_of(alloc, stream.run()),
+        Ok(stream) => match enums_of(alloc, stream.run()) {
+            Ok(found) => Ok(found),
+            Err(Memory) => Err(Refusal::Memory),
+        },
         Err(error) => Err(unreadable(alloc, text, error)),
     }
 }
 
-/// Returns the enums of all these items. It fails only where there is no memory.
-fn enums_of(alloc: Global, tokens: Tokens<'_, '_>) -> Result<Vec<FoundEnum>, Refusal>
-    ensures ok { IfOk result (λ found. Finds (tokens_of tokens.entry) found.items) }
-    ensures err { IfErr result (Refuses (λ faults. ⊥)) }
+/// Returns the enums of all these items.
+fn enums_of(alloc: Global, tokens: Tokens<'_, '_>) -> Result<Vec<FoundEnum>, Memory>
+    ensures { IfOk result (λ found. Finds (tokens_of tokens.entry) found.items) }
 {
     let mut found = Vec::new(alloc);
-    match add_all(alloc, tokens, &mut found) {
-        Ok(()) => Ok(found),
-        Err(Memory) => Err(Refusal::Memory),
-    }
+    add_all(alloc, tokens, &mut found)?;
+    Ok(found)
 }
 
 /// Adds the enums of these items.
@@ -108,8 +108,7 @@ fn describe(alloc: Global, item: Tokens<'_, '_>) -> Result<FoundEnum, Memory>
 
 /// Returns whether tokens are an enum.
 fn is_well_formed(alloc: Global, item: Tokens<'_, '_>) -> Result<bool, Memory>
-    ensures yes { IfOk result (λ is. IsTrue is → IsEnum (tokens_of item.entry)) }
-    ensures never { IfOk result (λ is. IsFalse is → IsNoEnum (tokens_of item.entry)) }
+    ensures { IfOk result (λ is. IsTrue is → IsEnum (tokens_of item.entry)) }
 {
     match read_enum(alloc, item) {
         Ok(_) => Ok(true),

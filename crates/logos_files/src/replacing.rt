@@ -1,12 +1,12 @@
 //! A text with other text in the place of parts of it.
-ghost use Rattle.std.specs.Prelude.{◌≡◌, IfOk, length, map};
+ghost use Rattle.std.specs.Prelude.{◌≡◌, ◌≤◌, IfOk, length, map, slice_range};
 ghost use Rattle.logos_files.specs.Replacing.{AreInOrder, place_of, replaced};
 
 use logos_token::token::Span;
 use std::alloc::{AllocError, Global};
 
 /// A part of a text, and the text that takes its place.
-#[derive(Debug, Drop)]
+#[derive(Drop)]
 pub struct Replacement {
     pub span: Span,
     pub text: String,
@@ -23,10 +23,19 @@ pub fn replace(alloc: Global, text: &str, parts: &[Replacement]) -> Result<Vec<u
     let mut from = 0;
     for part in parts {
         let Span { from: start, to } = part.span;
-        made.extend_from_slice(&bytes[from..start])?;
+        made.extend_from_slice(between(bytes, from, start))?;
         made.extend_from_slice(part.text.as_bytes())?;
         from = to;
     }
-    made.extend_from_slice(&bytes[from..])?;
+    made.extend_from_slice(between(bytes, from, bytes.len()))?;
     Ok(made)
+}
+
+/// Returns the bytes between two offsets.
+fn between(bytes: &[u8], from: usize, to: usize) -> &[u8]
+    requires order { from ≤ to }
+    requires inside { to ≤ length bytes.now }
+    ensures { result.now ≡ slice_range bytes.now from to }
+{
+    &bytes[from..to]
 }

@@ -189,7 +189,7 @@ continues_bounds b h l = go (nat_lt b 192) refl
   go false e = ltb-false b 192 e
 
 pub boundary_here : (text : List ℕ) (at r c : ℕ) → at < length text → ends_search (get_or text at 0) r c ≡ true → IsCharBoundary text at
-boundary_here text at r c l h = (omega arith, λ _. continues_bounds (get_or text at 0) (search_ended _ r c h).0)
+boundary_here text at r c l h = (omega arith, λ _. continues_bounds (get_or text at 0) (search_ended (get_or text at 0) r c h).0)
 
 pub not_here : (text : List ℕ) (at line reached column : ℕ) → at < length text → ends_search (get_or text at 0) reached column ≡ false → IsCharBoundary text at →
     place_at text at ≡ record { line = line; column = reached } → place_at text at ≡ record { line = line; column = column } → ⊥
@@ -277,7 +277,7 @@ found_never text at line reached column o way apart p le b q = go way (grind ari
   go : ((at < length text) × (ends_search (get_or text at 0) reached column ≡ true)) ⊎ (length text ≤ at) → ((at < o) ⊎ (at ≡ o)) → ⊥
   go way (inr e) = same e
   go (inr l) (inl i) = omega (arith, l, i, b.0)
-  go (inl (l, h)) (inl i) = ended (search_ended _ reached column h).1
+  go (inl (l, h)) (inl i) = ended (search_ended (get_or text at 0) reached column h).1
     where
     ended : (((reached == column) ≡ true) ⊎ ((get_or text at 0 == 10) ≡ true)) → ⊥
     ended (inl e) = apart (eqb-true reached column e)

@@ -1,7 +1,7 @@
 //! When output has colours.
 
 /// When output has colours.
-#[derive(Clone, Copy, Debug, PartialEq, Eq)]
+#[derive(Clone, Copy)]
 pub enum Color {
     Always,
     Never,

@@ -98,7 +98,7 @@ fn first_line(text: &str) -> &str {
 
 /// Begins a line of notes under a fault.
 fn push_note(page: &mut Page, width: usize, kind: &str, text: &str) {
-    page.push_times(" ", width + 1);
+    page.push_times(" ", width.saturating_add(1));
     page.paint(Style::Frame, "=");
     page.push(" ");
     page.paint(Style::Strong, kind);

@@ -27,7 +27,7 @@ pub fn push_frame(page: &mut Page, part: Part<'_, '_>, span: Span, style: Style)
         );
     } else {
         push_first_line(page, source, first, width, style);
-        if last.line - first.line > 1 {
+        if last.line.saturating_sub(first.line) > 1 {
             page.paint(Style::Frame, "...");
             page.push("\n");
         }
@@ -62,7 +62,7 @@ fn push_arrow(page: &mut Page, source: &Source<'_>, place: Position, width: usiz
 
 /// Adds the margin of a line without a number.
 fn push_margin(page: &mut Page, width: usize) {
-    page.push_times(" ", width + 1);
+    page.push_times(" ", width.saturating_add(1));
     page.paint(Style::Frame, "|");
 }
 
@@ -70,7 +70,7 @@ fn push_margin(page: &mut Page, width: usize) {
 fn push_line(page: &mut Page, source: &Source<'_>, line: usize, width: usize) {
     page.begin(Style::Frame);
     page.push_number(line);
-    page.push_times(" ", width - digits(line));
+    page.push_times(" ", width.saturating_sub(digits(line)));
     page.push(" |");
     page.end();
     let text = source.line(line);
@@ -96,7 +96,7 @@ fn push_first_line(
         text,
         width,
         place.column,
-        text.chars().count() + 1,
+        text.chars().count().saturating_add(1),
         style,
     );
 }
@@ -105,25 +105,23 @@ fn push_first_line(
 fn push_carets(page: &mut Page, text: &str, width: usize, from: usize, to: usize, style: Style) {
     push_margin(page, width);
     page.push(" ");
-    for character in text.chars().take(from - 1) {
+    for character in text.chars().take(from.saturating_sub(1)) {
         page.push(if character == '\t' { "\t" } else { " " });
     }
     page.begin(style);
     page.push("^");
-    if from + 1 < to {
-        page.push_times("^", to - from - 1);
-    }
+    page.push_times("^", to.saturating_sub(from).saturating_sub(1));
     page.end();
     page.push("\n");
 }
 
 /// Returns how many digits a number has.
-fn digits(number: usize) -> usize {
+pub fn digits(number: usize) -> usize {
     let mut rest = number;
-    let mut count = 1;
+    let mut count: usize = 1;
     while rest >= 10 {
         rest /= 10;
-        count += 1;
+        count = count.saturating_add(1);
     }
     count
 }

@@ -3,7 +3,7 @@
 use std::alloc::{AllocError, Global};
 
 /// How a part of a text looks where there are colours.
-#[derive(Clone, Copy, Debug, PartialEq, Eq)]
+#[derive(Clone, Copy)]
 pub enum Style {
     /// As what is wrong: bold and red.
     Error,

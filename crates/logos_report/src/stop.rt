@@ -14,6 +14,8 @@ pub enum Stop<'w> {
     Misuse { what: &'static str, word: &'w str },
     /// What was asked for has faults, which this text says.
     Refused(String),
+    /// The input is not UTF-8 after so many bytes.
+    NotUtf8 { valid_up_to: usize },
     /// The file at this path cannot be read, or is no text.
     Read(&'w str),
     /// The file at this path cannot be written.
@@ -48,7 +50,7 @@ impl Stop<'_> {
         ensures { result ≤ 3 }
     {
         match self {
-            Stop::Refused(_) => 1,
+            Stop::Refused(_) | Stop::NotUtf8 { .. } => 1,
             Stop::Misuse { .. } => 2,
             Stop::Read(_) | Stop::Write(_) | Stop::Output | Stop::Memory => 3,
         }
@@ -64,6 +66,9 @@ pub fn report<E: Write>(stop: &Stop<'_>, usage: &str, err: &mut E) -> u8
         Stop::Misuse { what, word } => write_misuse(what, word, usage, err),
         Stop::Refused(text) => {
             let _ = err.write_all(text.as_bytes());
+        }
+        Stop::NotUtf8 { valid_up_to } => {
+            let _ = writeln!(err, "error: the input is not UTF-8 at byte {valid_up_to}");
         }
         Stop::Read(path) => write_line("cannot read ", path, err),
         Stop::Write(path) => write_line("cannot write ", path, err),

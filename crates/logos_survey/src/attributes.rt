@@ -6,7 +6,7 @@ use logos_codegen::token::{Ident, TokenTree, Tokens};
 use logos_report::{Page, Part, Style, push_frame};
 
 /// Where an attribute stands.
-#[derive(Clone, Copy, PartialEq, Eq)]
+#[derive(Clone, Copy)]
 enum Site {
     Enum,
     Variant,
@@ -80,7 +80,7 @@ fn push_attribute(page: &mut Page, part: Part<'_, '_>, site: Site, attribute: At
     let Some(name) = name_of(attribute) else {
         return;
     };
-    if name == "logos" && site == Site::Variant {
+    if is_useless(name, site) {
         begin_warning(page);
         page.push("`logos` says nothing on a variant");
         end_warning(page, part, attribute);
@@ -93,6 +93,14 @@ fn push_attribute(page: &mut Page, part: Part<'_, '_>, site: Site, attribute: At
         page.push(known);
         page.push("` is");
         end_warning(page, part, attribute);
+    }
+}
+
+/// Returns whether an attribute with this name says nothing where it stands.
+fn is_useless(name: &str, site: Site) -> bool {
+    match site {
+        Site::Enum => false,
+        Site::Variant => name == "logos",
     }
 }
 

@@ -41,7 +41,7 @@ pub(crate) fn write_items<'w, O: Write, C: Clock>(
         counts: Counts::new(alloc, code.leaves().len())?,
     };
     let start = now(clock);
-    write_all_items(alloc, code, input, &mut lines, out)?;
+    write_all_items(code, input, &mut lines, out)?;
     let end = now(clock);
     let Lines { mut block, counts } = lines;
     counts.push_lines(&mut block, code.leaves())?;
@@ -75,33 +75,43 @@ fn between(start: Option<Duration>, end: Option<Duration>) -> Option<usize> {
 
 /// Writes a line for each item of an input, but for those in the last block.
 fn write_all_items<'w, O: Write>(
-    alloc: Global,
     code: &Code<'_>,
     input: &[u8],
     lines: &mut Lines,
     out: &mut O,
 ) -> Result<(), Stop<'w>> {
     let emit = |_leaf: LeafId, _slice: &[u8]| Action::Emit;
-    let mut lexer = match Lexer::new_bytes(code, input, emit) {
-        Ok(lexer) => lexer,
-        Err(NotUtf8 { valid_up_to }) => return Err(not_utf8(alloc, valid_up_to)),
-    };
+    match Lexer::new_bytes(code, input, emit) {
+        Ok(lexer) => write_lexed(lexer, code, input, lines, out),
+        Err(NotUtf8 { valid_up_to }) => Err(Stop::NotUtf8 { valid_up_to }),
+    }
+}
+
+/// Writes a line for each item that a lexer gives, but for those in the last block.
+fn write_lexed<'w, 'i, C: Fn(LeafId, &[u8]) -> Action + Drop, O: Write>(
+    mut lexer: Lexer<'_, '_, 'i, C>,
+    code: &Code<'_>,
+    input: &'i [u8],
+    lines: &mut Lines,
+    out: &mut O,
+) -> Result<(), Stop<'w>>
+    requires callable { C.IsAlwaysCallable lexer.callback }
+    requires input { lexer.input ≡ input.now }
+{
     let mut cursor = Cursor::new(input);
     while let Some(item) = lexer.next() {
         add_item(lines, &mut cursor, code.leaves(), item)?;
-        if lines.block.len() >= BLOCK {
-            write_block(&mut lines.block, out)?;
-        }
+        write_full(&mut lines.block, out)?;
     }
     Ok(())
 }
 
-/// Returns why an input is refused that is not UTF-8.
-fn not_utf8<'w>(alloc: Global, valid_up_to: usize) -> Stop<'w> {
-    match format!(in alloc; "error: the input is not UTF-8 at byte {valid_up_to}\n") {
-        Ok(text) => Stop::Refused(text),
-        Err(_) => Stop::Memory,
+/// Writes what was gathered, where that is a block.
+fn write_full<'w, O: Write>(block: &mut Vec<u8>, out: &mut O) -> Result<(), Stop<'w>> {
+    if block.len() < BLOCK {
+        return Ok(());
     }
+    write_block(block, out)
 }
 
 /// Adds the line of an item, and counts it.

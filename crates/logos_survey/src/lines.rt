@@ -33,15 +33,21 @@ pub(crate) fn push_item(
 /// Adds a number in decimal.
 pub(crate) fn push_number(block: &mut Vec<u8>, number: usize) -> Result<(), AllocError> {
     let mut digits = [b'0'; 20];
-    let mut from = 20;
-    let mut rest = number;
-    while from > 0 && (rest > 0 || from == 20) {
+    let mut from = 19;
+    digits[from] = decimal_digit(number);
+    let mut rest = number / 10;
+    while rest > 0 && from > 0 {
         from -= 1;
-        digits[from] = b'0' + (rest % 10) as u8;
+        digits[from] = decimal_digit(rest);
         rest /= 10;
     }
     block.extend_from_slice(&digits[from..])?;
     Ok(())
+}
+
+/// Returns the last digit of a number.
+fn decimal_digit(number: usize) -> u8 {
+    b'0' + (number % 10) as u8
 }
 
 /// Adds what is shown of a text, and the closing quote.

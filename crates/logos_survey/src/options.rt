@@ -1,5 +1,7 @@
 //! What the words of a command line ask for.
 
+ghost use Rattle.std.specs.Prelude.{◌≤◌, IfOk, length};
+
 use logos_report::{Color, Stop, color_by_name};
 
 /// What is asked for.
@@ -75,7 +77,9 @@ fn read_word<'w>(
     read: Read<'w>,
     word: &'w str,
     rest: &'w [String],
-) -> Result<(Read<'w>, &'w [String]), Stop<'w>> {
+) -> Result<(Read<'w>, &'w [String]), Stop<'w>>
+    ensures { IfOk result (λ read. length read.1.now ≤ length rest.now) }
+{
     match word {
         "--help" => Ok((answered(read, Request::Help), rest)),
         "--version" => Ok((answered(read, Request::Version), rest)),
@@ -120,7 +124,9 @@ fn read_value<'w>(
     read: Read<'w>,
     word: &'w str,
     rest: &'w [String],
-) -> Result<(Read<'w>, &'w [String]), Stop<'w>> {
+) -> Result<(Read<'w>, &'w [String]), Stop<'w>>
+    ensures { IfOk result (λ read. length read.1.now ≤ length rest.now) }
+{
     let [value, after @ ..] = rest else {
         return Err(misuse("a value is missing after", word));
     };

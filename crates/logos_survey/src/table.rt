@@ -5,7 +5,7 @@ use logos_codegen::Generated;
 use logos_codegen::error::Memory;
 use logos_codegen::leaf::{Leaf, VariantKind};
 use logos_codegen::token::{Literal, LiteralValue, Span};
-use logos_report::{Page, Part};
+use logos_report::{Page, Part, digits};
 use std::alloc::Global;
 use std::cmp::max;
 
@@ -185,17 +185,6 @@ fn push_right(page: &mut Page, number: usize, width: usize) {
     page.push_times(" ", width.saturating_sub(digits(number)));
     page.push_number(number);
     page.push("  ");
-}
-
-/// Returns how many digits a number has.
-fn digits(number: usize) -> usize {
-    let mut rest = number;
-    let mut count = 1;
-    while rest >= 10 {
-        rest /= 10;
-        count += 1;
-    }
-    count
 }
 
 /// Adds the number of states of a lexer and its tables.

@@ -36,14 +36,14 @@ loop-at-preserved c =
 
 boundary : (c : goal.Then-reached-column) → IsCharBoundary c.as_bytes-bytes.result.now c.loop-at.at
 boundary c = elim c.loop-at-test.branch [
-  | then-loop-at-test+else-not-ends_search w ↦ boundary_here _ c.loop-at.at c.loop-at.reached c.args.column w.loop-at-test.true (sym w.ends_search.ensures ∙ w.if-not-ends_search.false)
+  | then-loop-at-test+else-not-ends_search w ↦ boundary_here c.as_bytes-bytes.result.now c.loop-at.at c.loop-at.reached c.args.column w.loop-at-test.true (sym w.ends_search.ensures ∙ w.if-not-ends_search.false)
   | else-loop-at-test w ↦ (c.loop-at.invariant.inside, λ l. absurd (omega (arith, l, w.loop-at-test.false)))
 ]
 
 pub returns-then-reached-column-clause-every : goal.returns-then-reached-column-clause-every
 returns-then-reached-column-clause-every c =
     let place = rw c.if-reached-column.true at c.loop-at.invariant.place in
-    rw (← c.as_bytes-bytes.ensures.value) (λ o b q. found_once _ c.loop-at.at c.args.line c.args.column o (boundary c) place b q)
+    rw (← c.as_bytes-bytes.ensures.value) (λ o b q. found_once c.as_bytes-bytes.result.now c.loop-at.at c.args.line c.args.column o (boundary c) place b q)
 
 way : (c : goal.Else-reached-column) → ((c.loop-at.at < length c.as_bytes-bytes.result.now) × (ends_search (get_or c.as_bytes-bytes.result.now c.loop-at.at 0) c.loop-at.reached c.args.column ≡ true)) ⊎ (length c.as_bytes-bytes.result.now ≤ c.loop-at.at)
 way c = elim c.loop-at-test.branch [
@@ -54,4 +54,4 @@ way c = elim c.loop-at-test.branch [
 pub returns-else-reached-column-clause-every : goal.returns-else-reached-column-clause-every
 returns-else-reached-column-clause-every c =
     rw (← c.as_bytes-bytes.ensures.value)
-    (λ o b q. absurd (found_never _ c.loop-at.at c.args.line c.loop-at.reached c.args.column o (way c) c.if-reached-column.false c.loop-at.invariant.place (c.loop-at.invariant.least o b q) b q))
+    (λ o b q. absurd (found_never c.as_bytes-bytes.result.now c.loop-at.at c.args.line c.loop-at.reached c.args.column o (way c) c.if-reached-column.false c.loop-at.invariant.place (c.loop-at.invariant.least o b q) b q))

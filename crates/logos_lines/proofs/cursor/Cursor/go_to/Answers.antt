@@ -1,4 +1,4 @@
-use Rattle.std.proofs.Common.{◌≡◌, ℕ, ◌+◌, ◌<◌, ◌≤◌, max, min, List, length, sym, ap, refl, ◌∙◌, arith}
+use Rattle.std.proofs.Common.{◌≡◌, ℕ, ◌+◌, ◌<◌, ◌≤◌, max, min, List, length, get_or, sym, ap, refl, ◌∙◌, arith}
 use Rattle.logos_lines.specs.Places.{behind_byte, place_at}
 use Rattle.logos_lines.specs.Cursors.{CursorValue}
 use Rattle.logos_lines.proofs.PlaceLemmas.{place_next, bounds}
@@ -29,7 +29,8 @@ loop-self-preserved c =
       bounded = omega (arith, c.loop-self-test.true);
       inside = omega (arith, inside);
       end_inside = i.end_inside;
-      place = c.after-self-inside.ensures ∙ ap (λ p. behind_byte p _) i.place ∙ sym (place_next _ _ inside);
+      place = c.after-self-inside.ensures ∙ ap (λ p. behind_byte p (get_or c.loop-self.self-inside.bytes.now c.loop-self.self-inside.offset 0)) i.place
+          ∙ sym (place_next c.loop-self.self-inside.bytes.now c.loop-self.self-inside.offset inside);
     }
 
 pub returns : goal.returns
