@@ -83,7 +83,7 @@ body_rest (also token rest) = body_step token rest (body_rest rest) (ends_body t
 -- what an item may be
 pub data Shape : TokenList → KindValue → Type 0 where
   nothing : Shape none ends
-  an_enum : {text : List ℕ} {span : Span} {more : TokenList} → Shape (also (identifier text span) more) (is_enum (behind_body more))
+  an_enum : {text : List ℕ} {span : Span} {more rest : TokenList} → rest ≡ behind_body more → Shape (also (identifier text span) more) (is_enum rest)
   a_module : {text name : List ℕ} {span at whole : Span} {inside more : TokenList} → Shape (also (identifier text span) (also (identifier name at) (also (group Brace whole inside) more))) (is_module inside more)
   another : {token : Token} {more : TokenList} → Shape (also token more) (is_other more)
 
@@ -114,7 +114,7 @@ shape_at (also (group delimiter span inside) rest) = another
 shape_at (also (identifier text span) rest) = go (bytes_eq text (codes "enum")) refl (bytes_eq text (codes "mod")) refl
   where
     go : (one : Bool) → bytes_eq text (codes "enum") ≡ one → (other : Bool) → bytes_eq text (codes "mod") ≡ other → Shape (also (identifier text span) rest) (kind_at (also (identifier text span) rest))
-    go true e other f = rw e an_enum
+    go true e other f = rw e (an_enum refl)
     go false e true f = rw (e, f) (module_shape text span rest)
     go false e false f = rw (e, f) another
 
@@ -145,14 +145,17 @@ begun : (front : TokenList) (token : Token) (back run rest : TokenList) → run 
 begun none token back run rest e = record { token = token; tail = back; is = e }
 begun (also first front) token back run rest e = record { token = first; tail = append front (also token back); is = e ∙ ap (also first) (sym (append_assoc front (also token back) rest)) }
 
+shaped_front : (run at rest : TokenList) → IsRestOf run at → Shape at (is_enum rest) → EnumFront run rest
+shaped_front run _ rest r (an_enum {text} {span} {more} e) =
+    let b = body_rest more in
+    begun r.front (identifier text span) b.front run rest (r.is ∙ ap (λ m. append r.front (also (identifier text span) m)) (b.is ∙ ap (append b.front) (sym e)))
+
 pub enum_front : (run rest : TokenList) → is_enum rest ≡ kind_of run → EnumFront run rest
-enum_front run rest e = go (item_of run (is_enum rest) e)
-  where
-    go : Item run (is_enum rest) → EnumFront run rest
-    go item = front item.at item.front item.shape
-      where
-        front : (at : TokenList) → IsRestOf run at → Shape at (is_enum rest) → EnumFront run rest
-        front _ r (an_enum {text} {span} {more}) = let b = body_rest more in begun r.front (identifier text span) b.front run rest (r.is ∙ ap (λ m. append r.front (also (identifier text span) m)) b.is)
+enum_front run rest e = let item = item_of run (is_enum rest) e in shaped_front run item.at rest item.front item.shape
+
+-- what is left behind an enum
+abbrev pub enum_rest : (run rest : TokenList) → is_enum rest ≡ kind_of run → IsRestOf run rest
+enum_rest run rest e = record { front = also (enum_front run rest e).token (enum_front run rest e).tail; is = (enum_front run rest e).is }
 
 -- counts
 append_count : (front rest : TokenList) → count_of rest ≤ count_of (append front rest)
@@ -165,20 +168,16 @@ rest_count run rest r = rw r.is (append_count r.front rest)
 pub enum_count : (run rest : TokenList) → EnumFront run rest → count_of rest < count_of run
 enum_count run rest f = rw f.is (omega (arith, append_count f.tail rest, token_count-positive f.token))
 
+shaped_other : (at rest : TokenList) (n : ℕ) → Shape at (is_other rest) → count_of at ≤ n → count_of rest < n
+shaped_other _ rest n (another {token}) l = omega (arith, l, token_count-positive token)
+
 pub other_count : (run rest : TokenList) → is_other rest ≡ kind_of run → count_of rest < count_of run
-other_count run rest e = go (item_of run (is_other rest) e)
-  where
-    go : Item run (is_other rest) → count_of rest < count_of run
-    go item = more item.at item.shape (rest_count run item.at item.front)
-      where
-        more : (at : TokenList) → Shape at (is_other rest) → count_of at ≤ count_of run → count_of rest < count_of run
-        more _ (another {token} {_}) l = omega (arith, l, token_count-positive token)
+other_count run rest e = let item = item_of run (is_other rest) e in shaped_other item.at rest (count_of run) item.shape (rest_count run item.at item.front)
+
+shaped_module : (at inside rest : TokenList) (n : ℕ) → Shape at (is_module inside rest) → count_of at ≤ n → (count_of inside < n) × (count_of rest < n)
+shaped_module _ inside rest n (a_module) l = (omega (arith, l), omega (arith, l))
 
 pub module_count : (run inside rest : TokenList) → is_module inside rest ≡ kind_of run → (count_of inside < count_of run) × (count_of rest < count_of run)
-module_count run inside rest e = go (item_of run (is_module inside rest) e)
-  where
-    go : Item run (is_module inside rest) → (count_of inside < count_of run) × (count_of rest < count_of run)
-    go item = more item.at item.shape (rest_count run item.at item.front)
-      where
-        more : (at : TokenList) → Shape at (is_module inside rest) → count_of at ≤ count_of run → (count_of inside < count_of run) × (count_of rest < count_of run)
-        more _ (a_module) l = (omega (arith, l), omega (arith, l))
+module_count run inside rest e =
+    let item = item_of run (is_module inside rest) e in
+    shaped_module item.at inside rest (count_of run) item.shape (rest_count run item.at item.front)

@@ -86,13 +86,13 @@ module_stands bytes from _ inside rest to (a_module {text} {name} {span} {at} {w
 }
 
 other_stands : (bytes : List ℕ) (from : ℕ) (at rest : TokenList) (to : ℕ) → Shape at (is_other rest) → RunStands bytes from at to → StandsLater bytes from rest to
-other_stands bytes from _ rest to (another {token} {_}) s =
+other_stands bytes from _ rest to (another {token}) s =
     let t = token_between bytes from token s.0 in
     record { place = (span_of token).to; after = omega (arith, t.0, t.1); stands = s.1 }
 
 pub find_order : (bytes : List ℕ) (run : TokenList) (found : List FoundEnum) → Finds run found → (from to : ℕ) → RunStands bytes from run to → AreInOrder from (map found_span found) to
 find_order bytes _ _ (done {run} k) from to s = run_order bytes from run to s
-find_order bytes _ _ (finds {run} {token} {tail} {rest} {one} {more} k e d f) from to s =
+find_order bytes _ _ (finds {run} {token} {tail} {rest} {found} {more} k e d f) from to s =
     let p = part_stands bytes from token tail rest to (rw e at s) in
     rw d.span (p.after, p.whole, find_order bytes rest more f _ to p.behind)
 find_order bytes _ _ (enters {run} {inside} {rest} {within} {more} k f g) from to s =
