@@ -1,9 +1,12 @@
 -- The parts of a file that give way stand in order.
-use Rattle.std.proofs.Common.{◌≡◌, ◌≤◌, ◌<◌, ◌⊎◌, inl, inr, ℕ, List, [], ◌∷◌, ◌++◌, map, refl, sym, ap, ◌∙◌, arith, subst}
+use Rattle.std.proofs.Common.{◌≡◌, ◌≤◌, ◌<◌, ◌+◌, ◌⊎◌, inl, inr, ℕ, suc, List, [], ◌∷◌, ◌++◌, map, length, get_or, drop, refl, sym, ap, ◌∙◌, arith, subst}
 use Rattle.std.proofs.lemmas.List.{map-append}
+use Rattle.std.proofs.Math.Seq.{drop-cons}
+use Rattle.std.proofs.Math.ListN.{drop_of_length-le}
+use Rattle.logos_files.specs.declared.finding.FoundEnum.{FoundEnum}
 use Rattle.logos_lexeme.specs.declared.lexeme.Span.{Span}
 use Rattle.logos_files.specs.declared.replacing.Replacement.{Replacement}
-use Rattle.logos_files.specs.Replacing.{AreInOrder, place_of}
+use Rattle.logos_files.specs.Replacing.{AreInOrder, found_span, place_of}
 use Rattle.logos_expand.specs.Parts.{AddsAt, AddsOne}
 
 -- these parts give way up to some place, and these spans are left from there on
@@ -44,3 +47,16 @@ filled_more parts new span left length f (inr a) = record {
 
 pub filled_end : (parts : List Replacement) (length : ℕ) → IsFilled parts [] length → AreInOrder 0 (map place_of parts) length
 filled_end parts length f = later 0 _ f.to length f.rest f.made
+
+next_found : (found : List FoundEnum) (i : ℕ) (d : FoundEnum) → i < length found → map found_span (drop i found) ≡ (get_or found i d).span ∷ map found_span (drop (i + 1) found)
+next_found found i d l =
+    let k : suc i ≡ i + 1 = omega arith in
+    ap (map found_span) (drop-cons found i d l) ∙ ap (λ n. (get_or found i d).span ∷ map found_span (drop n found)) k
+
+pub filled_next : (found : List FoundEnum) (i : ℕ) (d : FoundEnum) (parts new : List Replacement) (size : ℕ) → i < length found → IsFilled parts (map found_span (drop i found)) size →
+    AddsAt (get_or found i d).span parts new → IsFilled new (map found_span (drop (i + 1) found)) size
+filled_next found i d parts new size l f a =
+    filled_more parts new (get_or found i d).span (map found_span (drop (i + 1) found)) size (subst (λ left. IsFilled parts left size) (next_found found i d l) f) a
+
+pub filled_all : (found : List FoundEnum) (i : ℕ) (parts : List Replacement) (size : ℕ) → length found ≤ i → IsFilled parts (map found_span (drop i found)) size → AreInOrder 0 (map place_of parts) size
+filled_all found i parts size l f = filled_end parts size (subst (λ list. IsFilled parts (map found_span list) size) (drop_of_length-le found l) f)
