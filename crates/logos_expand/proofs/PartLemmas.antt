@@ -60,3 +60,6 @@ filled_next found i d parts new size l f a =
 
 pub filled_all : (found : List FoundEnum) (i : ℕ) (parts : List Replacement) (size : ℕ) → length found ≤ i → IsFilled parts (map found_span (drop i found)) size → AreInOrder 0 (map place_of parts) size
 filled_all found i parts size l f = filled_end parts size (subst (λ list. IsFilled parts (map found_span list) size) (drop_of_length-le found l) f)
+
+pub added_one : (part : Replacement) (before after : List Replacement) (span : Span) → after ≡ before ++ part ∷ [] → part.span ≡ span → AddsAt span before after
+added_one part before after span e s = inr (record { part = part; stands = s; are = e })
