@@ -18,7 +18,7 @@ if ! command -v rustc > /dev/null; then
     echo "real_lexers: there is no rustc here, so nothing was compiled"
     exit 0
 fi
-rustc --edition 2021 -O -A warnings --crate-name logos --crate-type rlib -o "$room/liblogos.rlib" "$root/scripts/rust_text/runtime.rs"
+rustc --edition 2021 -A warnings --crate-name logos --crate-type rlib -o "$room/liblogos.rlib" "$root/scripts/rust_text/runtime.rs"
 
 # Compiles the expanded file of a lexer, whose enum and type of source these are, to a program.
 compiled() {
@@ -28,7 +28,7 @@ compiled() {
         view='\&bytes'
     fi
     sed -e "s/NAME as Token/$enum as Token/" -e "s/SOURCE/$source/" -e "s/VIEW/$view/" "$root/scripts/real_lexers/main.rs.in" > "$folder/main.rs"
-    rustc --edition 2021 -O -A warnings --extern logos="$room/liblogos.rlib" -o "$folder/program" "$folder/main.rs"
+    rustc --edition 2021 -A warnings --extern logos="$room/liblogos.rlib" -o "$folder/program" "$folder/main.rs"
 }
 
 found=0

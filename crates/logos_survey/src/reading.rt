@@ -2,8 +2,8 @@
 
 use logos_codegen::Refusal;
 use logos_codegen::error::Memory;
-use logos_codegen::item::read_enum;
-use logos_codegen::token::{Span, tokenize};
+use logos_codegen::item::{ReadError, read_enum};
+use logos_codegen::token::{Span, TokenError, tokenize};
 use logos_commands::{FileError, Files};
 use logos_files::FoundEnum;
 use logos_report::{Color, Page, Part, Stop, count_errors, push_faults, push_summary};
@@ -73,11 +73,14 @@ fn is_named(alloc: Global, source: &str, name: Option<&str>) -> Result<bool, Mem
     let Some(name) = name else {
         return Ok(true);
     };
-    let Ok(stream) = tokenize(alloc, source) else {
-        return Ok(false);
+    let stream = match tokenize(alloc, source) {
+        Ok(stream) => stream,
+        Err(TokenError::Memory) => return Err(Memory),
+        Err(_) => return Ok(false),
     };
     match read_enum(alloc, stream.run()) {
         Ok(item) => Ok(item.name.text == name),
+        Err(ReadError::Memory) => Err(Memory),
         Err(_) => Ok(false),
     }
 }

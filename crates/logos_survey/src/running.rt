@@ -5,7 +5,7 @@ ghost use Rattle.std.specs.Prelude.{◌≤◌};
 use crate::items::write_items;
 use crate::options::{Order, Request, request_of};
 use crate::reading::{chosen, read_bytes, read_text, refused, slice};
-use crate::survey::{SHAPE, Survey, survey};
+use crate::survey::{SHAPE, Survey, survey_of};
 use logos_codegen::generate;
 use logos_commands::Files;
 use logos_files::enums_in;
@@ -97,7 +97,7 @@ fn show<'w, F: Files, O: Write, E: Write>(
 ) -> Result<(), Stop<'w>> {
     let text = read_text(order.file, files)?;
     let source = Source::new(alloc, order.file, text.as_str())?;
-    let Survey { tables, warnings } = survey(alloc, &source, order.color)?;
+    let Survey { tables, warnings } = survey_of(alloc, &source, order.color)?;
     let _ = err.write_all(warnings.as_bytes());
     let _ = err.flush();
     write_out(tables.as_str(), out)

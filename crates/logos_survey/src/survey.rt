@@ -30,7 +30,7 @@ struct Pages {
 }
 
 /// Returns what there is to say of a file.
-pub(crate) fn survey<'w>(
+pub(crate) fn survey_of<'w>(
     alloc: Global,
     source: &Source<'_>,
     color: Color,

@@ -1,5 +1,5 @@
 use Rattle.std.proofs.Common.{length}
 use Rattle.logos_survey.proofs.options.request_of.Given as goal
 
-abbrev pub decreases-loop-word : goal.decreases-loop-word
-decreases-loop-word l = length l.rest
+abbrev pub decreases-loop-rest : goal.decreases-loop-rest
+decreases-loop-rest l = length l.rest
