@@ -2,8 +2,8 @@
 
 #![tactic(auto)]
 
-mod disk;
-mod words;
+mod command_line;
+mod system;
 
-pub use disk::Disk;
-pub use words::words;
+pub use command_line::words;
+pub use system::Disk;
