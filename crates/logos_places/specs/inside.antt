@@ -3,3 +3,4 @@ pub mod Stepped
 pub mod Characters
 pub mod Ranges
 pub mod Reader
+pub mod Known

@@ -2,6 +2,7 @@
 
 pub mod all;
 pub(crate) mod exits;
+pub mod known;
 pub mod look;
 pub(crate) mod set;
 pub mod step;

@@ -1,19 +1,21 @@
 //! Steps on several trees, whose places stand one after another.
-ghost use Rattle.std.specs.Prelude.{◌≡◌, ◌∷◌, ◌++◌, ◌^◌, ◌<◌, ◌≤◌, ◌+◌, ◌-◌, ℕ, [], IsTrue, IsFalse, IfOk, OnOk, length, map, slice_index, if◌then◌else◌};
+ghost use Rattle.std.specs.Prelude.{◌≡◌, ◌∷◌, ◌++◌, ◌^◌, ◌<◌, ◌≤◌, ◌+◌, ◌-◌, ℕ, [], Some, IsTrue, IsFalse, IfOk, OnOk, length, map, slice_index, if◌then◌else◌};
 ghost use Rattle.logos_places.specs.Kinds.{test_at};
 ghost use Rattle.logos_places.specs.Marks.{IsRising, Has, HasBetween};
 ghost use Rattle.logos_places.specs.Node.{core_of, AreMeasured};
 ghost use Rattle.logos_places.specs.Run.{width_of};
 ghost use Rattle.logos_places.specs.Several.{ReadBy, LeftBy, AreStarts};
+ghost use Rattle.logos_places.specs.inside.Known.{AreKnown};
 
 use crate::node::{Node, width};
 use crate::places::exits::exits;
-use crate::places::look::Context;
+use crate::places::known::Outcomes;
+use crate::places::look::{Context, Kind};
 use crate::places::set::first_from;
 use crate::places::step::{Reading, step};
 use std::alloc::{AllocError, Global};
 
-/// What a step gives.
+/// What a step on several trees gives.
 #[derive(Drop)]
 pub struct Reached {
     /// The places that read the byte.
@@ -22,7 +24,7 @@ pub struct Reached {
     pub left: Vec<usize>,
 }
 
-/// Where the places of each tree begin, and where those of the last one end.
+/// Returns where the places of each tree begin, and where those of the last tree end.
 pub fn starts_of(alloc: Global, nodes: &[Node]) -> Result<Vec<usize>, AllocError>
     requires fits { width_of (map core_of nodes.now) < 2 ^ 64 }
     requires measured { AreMeasured nodes.now }
@@ -40,7 +42,7 @@ pub fn starts_of(alloc: Global, nodes: &[Node]) -> Result<Vec<usize>, AllocError
     Ok(starts)
 }
 
-/// The tree from `from` on that has the place.
+/// Returns the number of the tree, from `from` on, that has the place.
 fn tree_at(starts: &[usize], from: usize, place: usize) -> usize
     requires some { from + 1 < length starts.now }
     requires low { slice_index starts.now from ≤ place }
@@ -63,7 +65,7 @@ fn tree_at(starts: &[usize], from: usize, place: usize) -> usize
     low
 }
 
-/// The first tree from `from` on that is entered or holds a mark; their count if there is none.
+/// Returns the number of the first tree from `from` on that is entered or holds a mark, or the number of trees if there is none.
 pub fn next_tree(starts: &[usize], marks: &[usize], entered: bool, from: usize) -> usize
     requires rising { IsRising marks.now }
     requires within { from < length starts.now }
@@ -89,7 +91,7 @@ pub fn next_tree(starts: &[usize], marks: &[usize], entered: bool, from: usize) 
     tree_at(starts, from, marks[i])
 }
 
-/// Adds the number if it is one of them.
+/// Adds the number to the list if `is_one` says so.
 fn note(numbers: &mut Vec<usize>, number: usize, is_one: bool) -> Result<(), AllocError>
     ensures { OnOk result (numbers.new.items ≡
         (if is_one then numbers.old.items ++ number ∷ [] else numbers.old.items)) }
@@ -100,7 +102,7 @@ fn note(numbers: &mut Vec<usize>, number: usize, is_one: bool) -> Result<(), All
     Ok(())
 }
 
-/// One more byte for each tree, where all are entered or none is.
+/// Makes the step of each tree by one more byte, where all are entered or none is.
 pub fn step_all(
     alloc: Global,
     nodes: &[Node],
@@ -131,7 +133,56 @@ pub fn step_all(
     Ok(Reached { places, left })
 }
 
-/// The numbers of the trees that can be left at this place.
+/// Where trees stand before a byte, and what they make of it.
+#[derive(Clone, Copy)]
+pub struct Standing<'k> {
+    /// The trees.
+    pub nodes: &'k [Node],
+    /// Where the places of each tree begin.
+    pub starts: &'k [usize],
+    /// The places that read the byte before.
+    pub marks: &'k [usize],
+    /// What is kept of the byte before.
+    pub before: Kind,
+    /// Whether the trees are entered here.
+    pub entered: bool,
+    /// What trees make of each byte.
+    pub known: &'k [Outcomes],
+    /// For each tree that is entered or holds a mark the index of what it makes of each byte.
+    pub current: &'k [usize],
+}
+
+/// Makes the step of each tree by what is known of it.
+///
+/// # Errors
+/// Returns `AllocError` when memory runs out.
+pub fn step_known(alloc: Global, by: Standing<'_>, byte: u8) -> Result<Reached, AllocError>
+    requires starts { AreStarts by.nodes.now by.starts.now }
+    requires rising { IsRising by.marks.now }
+    requires known { AreKnown by.nodes.now by.starts.now by.marks.now by.before by.entered
+        by.known.now by.current.now }
+    ensures places { IfOk result (λ reached.
+        ReadBy (map core_of by.entry.nodes.now)
+        (test_at (record { before = by.entry.before; after = Some byte })) byte
+        (Has by.entry.marks.now) (IsTrue by.entry.entered) reached.places.items) }
+    ensures left { IfOk result (λ reached.
+        LeftBy (map core_of by.entry.nodes.now)
+        (test_at (record { before = by.entry.before; after = Some byte }))
+        (Has by.entry.marks.now) (IsTrue by.entry.entered) reached.left.items) }
+{
+    let mut places = Vec::new(alloc);
+    let mut left = Vec::new(alloc);
+    let mut number = next_tree(by.starts, by.marks, by.entered, 0);
+    while number < by.nodes.len() {
+        let outcomes = &by.known[by.current[number]];
+        let leaves = outcomes.push(byte, &mut places)?;
+        note(&mut left, number, leaves)?;
+        number = next_tree(by.starts, by.marks, by.entered, number + 1);
+    }
+    Ok(Reached { places, left })
+}
+
+/// Returns the numbers of the trees that can be left at this place.
 pub fn exits_all(
     alloc: Global,
     nodes: &[Node],
