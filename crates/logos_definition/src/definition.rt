@@ -110,17 +110,17 @@ impl<'s> Definition<'s> {
     fn add_priority(
         &mut self,
         name: Ident<'s>,
-        value: NestedValue<'_, 's>,
+        value: &NestedValue<'_, 's>,
         errors: &mut Errors,
     ) -> Result<(), Memory>
         ensures ok { OnOk result (Tells
-            (priority_told (ident_slice name.entry) (value_of value.entry)
+            (priority_told (ident_slice name.entry) (value_of value.now)
             (definition_view self.old))
             (definition_view self.new) errors.old errors.new) }
         ensures unchanged { OnErr result (self.new ≡ self.old) }
     {
         match value {
-            NestedValue::Assign(tokens) => set_priority(&mut self.priority, tokens, errors)?,
+            NestedValue::Assign(tokens) => set_priority(&mut self.priority, *tokens, errors)?,
             _ => list_priority_form(name, errors)?,
         }
         Ok(())
@@ -131,18 +131,18 @@ impl<'s> Definition<'s> {
         &mut self,
         alloc: Global,
         name: Ident<'s>,
-        value: NestedValue<'_, 's>,
+        value: &NestedValue<'_, 's>,
         errors: &mut Errors,
     ) -> Result<(), Memory>
         ensures ok { OnOk result (Tells
-            (named_callback_told (ident_slice name.entry) (value_of value.entry)
+            (named_callback_told (ident_slice name.entry) (value_of value.now)
             (definition_view self.old))
             (definition_view self.new) errors.old errors.new) }
         ensures unchanged { OnErr result (self.new ≡ self.old) }
     {
         match value {
             NestedValue::Assign(tokens) => {
-                set_callback(alloc, &mut self.callback, name, tokens, errors)?
+                set_callback(alloc, &mut self.callback, name, *tokens, errors)?
             }
             _ => list_callback_form(name, errors)?,
         }
@@ -154,11 +154,11 @@ impl<'s> Definition<'s> {
         &mut self,
         alloc: Global,
         name: Ident<'s>,
-        value: NestedValue<'_, 's>,
+        value: &NestedValue<'_, 's>,
         errors: &mut Errors,
     ) -> Result<(), Memory>
         ensures ok { OnOk result (Tells
-            (ignore_told (ident_slice name.entry) (value_of value.entry) (definition_view self.old))
+            (ignore_told (ident_slice name.entry) (value_of value.now) (definition_view self.old))
             (definition_view self.new) errors.old errors.new) }
         ensures unchanged { OnErr result (self.new ≡ self.old) }
     {
@@ -168,7 +168,7 @@ impl<'s> Definition<'s> {
                     alloc,
                     &mut self.ignore_flags.ignore_case,
                     name,
-                    tokens,
+                    *tokens,
                     errors,
                 )?
             }
@@ -181,16 +181,16 @@ impl<'s> Definition<'s> {
     fn add_greedy(
         &mut self,
         name: Ident<'s>,
-        value: NestedValue<'_, 's>,
+        value: &NestedValue<'_, 's>,
         errors: &mut Errors,
     ) -> Result<(), Memory>
         ensures ok { OnOk result (Tells
-            (greedy_told (ident_slice name.entry) (value_of value.entry) (definition_view self.old))
+            (greedy_told (ident_slice name.entry) (value_of value.now) (definition_view self.old))
             (definition_view self.new) errors.old errors.new) }
         ensures unchanged { OnErr result (self.new ≡ self.old) }
     {
         match value {
-            NestedValue::Assign(tokens) => set_greedy(&mut self.allow_greedy, tokens, errors)?,
+            NestedValue::Assign(tokens) => set_greedy(&mut self.allow_greedy, *tokens, errors)?,
             _ => list_greedy_form(name, errors)?,
         }
         Ok(())
@@ -201,11 +201,11 @@ impl<'s> Definition<'s> {
         &mut self,
         alloc: Global,
         name: Ident<'s>,
-        value: NestedValue<'_, 's>,
+        value: &NestedValue<'_, 's>,
         errors: &mut Errors,
     ) -> Result<(), Memory>
         ensures ok { OnOk result (Tells
-            (named_told (ident_slice name.entry) (value_of value.entry) (definition_view self.old))
+            (named_told (ident_slice name.entry) (value_of value.now) (definition_view self.old))
             (definition_view self.new) errors.old errors.new) }
         ensures unchanged { OnErr result (self.new ≡ self.old) }
     {
@@ -245,7 +245,7 @@ impl<'s> Definition<'s> {
                     list_named_expected(tokens, errors)?;
                 }
             }
-            Nested::Named(name, value) => self.add_named(alloc, name, value, errors)?,
+            Nested::Named(name, value) => self.add_named(alloc, name, &value, errors)?,
         }
         Ok(())
     }

@@ -111,18 +111,18 @@ impl<'s> ErrorType<'s> {
         &mut self,
         alloc: Global,
         name: Ident<'s>,
-        value: NestedValue<'_, 's>,
+        value: &NestedValue<'_, 's>,
         errors: &mut Errors,
     ) -> Result<(), Memory>
         ensures ok { OnOk result (Tells
-            (error_callback_told (ident_slice name.entry) (value_of value.entry)
+            (error_callback_told (ident_slice name.entry) (value_of value.now)
             (error_view self.old))
             (error_view self.new) errors.old errors.new) }
         ensures unchanged { OnErr result (self.new ≡ self.old) }
     {
         match value {
             NestedValue::Assign(tokens) => {
-                set_callback(alloc, &mut self.callback, name, tokens, errors)?
+                set_callback(alloc, &mut self.callback, name, *tokens, errors)?
             }
             _ => list_callback_form(name, errors)?,
         }
@@ -134,11 +134,11 @@ impl<'s> ErrorType<'s> {
         &mut self,
         alloc: Global,
         name: Ident<'s>,
-        value: NestedValue<'_, 's>,
+        value: &NestedValue<'_, 's>,
         errors: &mut Errors,
     ) -> Result<(), Memory>
         ensures ok { OnOk result (Tells
-            (error_named_told (ident_slice name.entry) (value_of value.entry) (error_view self.old))
+            (error_named_told (ident_slice name.entry) (value_of value.now) (error_view self.old))
             (error_view self.new) errors.old errors.new) }
         ensures unchanged { OnErr result (self.new ≡ self.old) }
     {
@@ -169,7 +169,7 @@ impl<'s> ErrorType<'s> {
                     list_named_expected(tokens, errors)?;
                 }
             }
-            Nested::Named(name, value) => self.add_named(alloc, name, value, errors)?,
+            Nested::Named(name, value) => self.add_named(alloc, name, &value, errors)?,
         }
         Ok(())
     }

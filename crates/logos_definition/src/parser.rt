@@ -196,7 +196,7 @@ impl<'s> Definition<'s> {
         if parser.failed {
             return Err(Memory);
         }
-        let outcome = self.add_named(alloc, name, value, &mut parser.errors);
+        let outcome = self.add_named(alloc, name, &value, &mut parser.errors);
         parser.failed = outcome.is_err();
         outcome
     }
@@ -231,7 +231,7 @@ impl<'s> ErrorType<'s> {
         if parser.failed {
             return Err(Memory);
         }
-        let outcome = self.add_named(alloc, name, value, &mut parser.errors);
+        let outcome = self.add_named(alloc, name, &value, &mut parser.errors);
         parser.failed = outcome.is_err();
         outcome
     }

@@ -54,13 +54,13 @@ impl<'s> Parser<'s> {
     }
 
     /// Adds what `utf8` says.
-    fn add_utf8(&mut self, name: Ident<'s>, value: NestedValue<'_, 's>) -> Result<(), Memory>
+    fn add_utf8(&mut self, name: Ident<'s>, value: &NestedValue<'_, 's>) -> Result<(), Memory>
         ensures { OnOk result (Tells
-            (utf8_told (ident_slice name.entry) (value_of value.entry) (parser_view self.old))
+            (utf8_told (ident_slice name.entry) (value_of value.now) (parser_view self.old))
             (parser_view self.new) self.old.errors self.new.errors) }
     {
         match value {
-            NestedValue::Assign(tokens) => self.set_mode(tokens)?,
+            NestedValue::Assign(tokens) => self.set_mode(*tokens)?,
             _ => list_utf8_form(name, &mut self.errors)?,
         }
         Ok(())
@@ -79,22 +79,22 @@ impl<'s> Parser<'s> {
     }
 
     /// Adds what `extras` says.
-    fn add_extras(&mut self, name: Ident<'s>, value: NestedValue<'_, 's>) -> Result<(), Memory>
+    fn add_extras(&mut self, name: Ident<'s>, value: &NestedValue<'_, 's>) -> Result<(), Memory>
         ensures { OnOk result (Tells
-            (extras_told (ident_slice name.entry) (value_of value.entry) (parser_view self.old))
+            (extras_told (ident_slice name.entry) (value_of value.now) (parser_view self.old))
             (parser_view self.new) self.old.errors self.new.errors) }
     {
         match value {
-            NestedValue::Assign(tokens) => self.set_extras(tokens)?,
+            NestedValue::Assign(tokens) => self.set_extras(*tokens)?,
             _ => list_extras_form(name, &mut self.errors)?,
         }
         Ok(())
     }
 
     /// Adds what `crate` says: the path stands in place of the former one.
-    fn add_crate(&mut self, name: Ident<'s>, value: NestedValue<'_, 's>) -> Result<(), Memory>
+    fn add_crate(&mut self, name: Ident<'s>, value: &NestedValue<'_, 's>) -> Result<(), Memory>
         ensures { OnOk result (Tells
-            (crate_told (ident_slice name.entry) (value_of value.entry) (parser_view self.old))
+            (crate_told (ident_slice name.entry) (value_of value.now) (parser_view self.old))
             (parser_view self.new) self.old.errors self.new.errors) }
     {
         match value {
@@ -137,15 +137,15 @@ impl<'s> Parser<'s> {
     }
 
     /// Adds what `export_dir` says.
-    fn add_export(&mut self, name: Ident<'s>, value: NestedValue<'_, 's>) -> Result<(), Memory>
+    fn add_export(&mut self, name: Ident<'s>, value: &NestedValue<'_, 's>) -> Result<(), Memory>
         ensures { OnOk result (Tells
-            (export_told (ident_slice name.entry) (value_of value.entry) (parser_view self.old))
+            (export_told (ident_slice name.entry) (value_of value.now) (parser_view self.old))
             (parser_view self.new) self.old.errors self.new.errors) }
     {
         match value {
-            NestedValue::Assign(tokens) => match string_in(self.alloc, tokens)? {
-                Some(literal) => self.add_path(tokens, &literal)?,
-                None => list_syntax(tokens, &mut self.errors)?,
+            NestedValue::Assign(tokens) => match string_in(self.alloc, *tokens)? {
+                Some(literal) => self.add_path(*tokens, &literal)?,
+                None => list_syntax(*tokens, &mut self.errors)?,
             },
             _ => list_export_form(name, &mut self.errors)?,
         }
@@ -167,14 +167,14 @@ impl<'s> Parser<'s> {
     }
 
     /// Adds what `subpattern` says.
-    fn add_subpattern(&mut self, name: Ident<'s>, value: NestedValue<'_, 's>) -> Result<(), Memory>
+    fn add_subpattern(&mut self, name: Ident<'s>, value: &NestedValue<'_, 's>) -> Result<(), Memory>
         ensures { OnOk result (Tells
-            (subpattern_told (ident_slice name.entry) (value_of value.entry)
+            (subpattern_told (ident_slice name.entry) (value_of value.now)
             (parser_view self.old))
             (parser_view self.new) self.old.errors self.new.errors) }
     {
         match value {
-            NestedValue::KeywordAssign(second, tokens) => self.set_subpattern(second, tokens)?,
+            NestedValue::KeywordAssign(second, tokens) => self.set_subpattern(*second, *tokens)?,
             _ => list_subpattern_form(name, &mut self.errors)?,
         }
         Ok(())
@@ -193,15 +193,19 @@ impl<'s> Parser<'s> {
     }
 
     /// Adds what `error` says of a type alone.
-    fn add_error_alone(&mut self, name: Ident<'s>, value: NestedValue<'_, 's>) -> Result<(), Memory>
+    fn add_error_alone(
+        &mut self,
+        name: Ident<'s>,
+        value: &NestedValue<'_, 's>,
+    ) -> Result<(), Memory>
         ensures { OnOk result (Tells
-            (error_told (ident_slice name.entry) (value_of value.entry) (parser_view self.old))
+            (error_told (ident_slice name.entry) (value_of value.now) (parser_view self.old))
             (parser_view self.new) self.old.errors self.new.errors) }
     {
         match value {
             NestedValue::Assign(tokens) => {
                 let error = ErrorType::new(tokens.to_stream(self.alloc)?);
-                self.set_error(tokens, error)?;
+                self.set_error(*tokens, error)?;
             }
             _ => list_error_form(name, &mut self.errors)?,
         }
@@ -222,27 +226,27 @@ impl<'s> Parser<'s> {
     }
 
     /// Adds what `error` says, and whether the arguments behind it are read.
-    fn add_error(&mut self, name: Ident<'s>, value: NestedValue<'_, 's>) -> Result<bool, Memory>
+    fn add_error(&mut self, name: Ident<'s>, value: &NestedValue<'_, 's>) -> Result<bool, Memory>
         ensures { IfOk result (λ goes_on. ErrorSays (ident_slice name.entry)
             (parser_view self.old) (parser_view self.new) self.old.errors self.new.errors
-            (value_of value.entry) goes_on) }
+            (value_of value.now) goes_on) }
     {
         if let NestedValue::Group(group) = value {
-            return self.add_error_group(name, group);
+            return self.add_error_group(name, *group);
         }
         self.add_error_alone(name, value)?;
         Ok(true)
     }
 
     /// Adds what `type` says.
-    fn add_type(&mut self, name: Ident<'s>, value: NestedValue<'_, 's>) -> Result<(), Memory>
+    fn add_type(&mut self, name: Ident<'s>, value: &NestedValue<'_, 's>) -> Result<(), Memory>
         ensures { OnOk result (TypeSays (ident_slice name.entry)
             (parser_view self.old) (parser_view self.new) self.old.errors self.new.errors
-            (value_of value.entry)) }
+            (value_of value.now)) }
     {
         match value {
             NestedValue::KeywordAssign(second, tokens) => {
-                self.types.set(second, tokens, &mut self.errors)?
+                self.types.set(*second, *tokens, &mut self.errors)?
             }
             _ => list_type_form(name, &mut self.errors)?,
         }
@@ -276,23 +280,23 @@ impl<'s> Parser<'s> {
     }
 
     /// Adds what `skip` says.
-    fn add_skip(&mut self, name: Ident<'s>, value: NestedValue<'_, 's>) -> Result<(), Memory>
+    fn add_skip(&mut self, name: Ident<'s>, value: &NestedValue<'_, 's>) -> Result<(), Memory>
         ensures { OnOk result (Tells
-            (skip_told (ident_slice name.entry) (value_of value.entry) (parser_view self.old))
+            (skip_told (ident_slice name.entry) (value_of value.now) (parser_view self.old))
             (parser_view self.new) self.old.errors self.new.errors) }
     {
         match value {
-            NestedValue::Literal(token) => self.skip_text(token)?,
-            NestedValue::Group(tokens) => self.skip_group(tokens)?,
+            NestedValue::Literal(token) => self.skip_text(*token)?,
+            NestedValue::Group(tokens) => self.skip_group(*tokens)?,
             _ => list_skip_form(name, &mut self.errors)?,
         }
         Ok(())
     }
 
     /// Adds an argument that says no pattern, path or type of errors.
-    fn add_setting(&mut self, name: Ident<'s>, value: NestedValue<'_, 's>) -> Result<(), Memory>
+    fn add_setting(&mut self, name: Ident<'s>, value: &NestedValue<'_, 's>) -> Result<(), Memory>
         ensures { OnOk result (Tells
-            (setting_told (ident_slice name.entry) (value_of value.entry) (parser_view self.old))
+            (setting_told (ident_slice name.entry) (value_of value.now) (parser_view self.old))
             (parser_view self.new) self.old.errors self.new.errors) }
     {
         if name.text == "utf8" {
@@ -311,9 +315,9 @@ impl<'s> Parser<'s> {
     }
 
     /// Adds an argument with a name that says no type.
-    fn add_plain(&mut self, name: Ident<'s>, value: NestedValue<'_, 's>) -> Result<(), Memory>
+    fn add_plain(&mut self, name: Ident<'s>, value: &NestedValue<'_, 's>) -> Result<(), Memory>
         ensures { OnOk result (Tells
-            (option_told (ident_slice name.entry) (value_of value.entry) (parser_view self.old))
+            (option_told (ident_slice name.entry) (value_of value.now) (parser_view self.old))
             (parser_view self.new) self.old.errors self.new.errors) }
     {
         if name.text == "skip" {
@@ -329,10 +333,10 @@ impl<'s> Parser<'s> {
     }
 
     /// Adds an argument with a name, and whether those behind it are read.
-    fn add_named(&mut self, name: Ident<'s>, value: NestedValue<'_, 's>) -> Result<bool, Memory>
+    fn add_named(&mut self, name: Ident<'s>, value: &NestedValue<'_, 's>) -> Result<bool, Memory>
         ensures { IfOk result (PieceSays
             (parser_view self.old) (parser_view self.new) self.old.errors self.new.errors
-            (named (ident_slice name.entry) (value_of value.entry))) }
+            (named (ident_slice name.entry) (value_of value.now))) }
     {
         if name.text == "error" {
             return self.add_error(name, value);
@@ -352,7 +356,7 @@ impl<'s> Parser<'s> {
             (piece_of piece.entry)) }
     {
         match piece {
-            Nested::Named(name, value) => return self.add_named(name, value),
+            Nested::Named(name, value) => return self.add_named(name, &value),
             Nested::Unnamed(tokens) => list_invalid_nested(tokens, &mut self.errors)?,
             Nested::Unexpected(tokens) => list_invalid_nested(tokens, &mut self.errors)?,
         }
