@@ -9,7 +9,7 @@ enum Log {
     Date,
     #[regex(r#""(GET|HEAD|POST|PUT|DELETE|PATCH|OPTIONS|CONNECT|TRACE) [^" ]* HTTP/[0-9]+(\.[0-9]+)?""#)]
     Request,
-    #[regex(r#""([^"\\]|\\[^\n])*""#)]
+    #[regex(br#""([^"\\]|\\[^\n])*""#)]
     Quoted,
     #[regex("[1-5][0-9]{2}", priority = 20)]
     Status,
@@ -20,7 +20,7 @@ enum Log {
     #[regex(r"[a-zA-Z_][a-zA-Z0-9_.\-]*")]
     Name,
     // What is close to a token.
-    #[regex(r#""([^"\\]|\\[^\n])*"#)]
+    #[regex(br#""([^"\\]|\\[^\n])*"#)]
     Unclosed,
     #[regex(r"\[[^\]]*\]", priority = 1)]
     OtherDate,
