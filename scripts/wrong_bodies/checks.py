@@ -57,8 +57,25 @@ def link_or_copy(one, other):
     return shutil.copy2(one, other)
 
 
+def libraries(root):
+    """The libraries that each crate of a checkout uses, by its page crates.txt."""
+    lines = [it.split('#')[0].split(':') for it in (root / 'crates.txt').read_text(encoding='utf-8').split('\n')]
+    return {it[0].split()[0]: it[1].split() for it in lines if len(it) == 2}
+
+
+def crates_below(root, crate):
+    """A crate of a checkout, and all crates below it."""
+    uses, found, left = libraries(root), set(), [crate]
+    while left:
+        name = left.pop()
+        if name in uses and name not in found:
+            found.add(name)
+            left += uses[name]
+    return found
+
+
 class Copy:
-    """A copy of the checkout's texts, in which one crate is checked with some of its texts changed."""
+    """A copy of the checkout's texts, in which one crate is checked with some of its texts changed. It has what earlier checks kept of the crate and of those below."""
 
     def __init__(self, root: Path, crate, room: Path):
         self.crate, self.room = root / 'crates' / crate, room
@@ -70,6 +87,9 @@ class Copy:
             for part in PARTS:
                 if (one / part).is_dir():
                     shutil.copytree(one / part, room / 'crates' / one.name / part)
+        for name in crates_below(root, crate):
+            if (root / 'crates' / name / 'out').is_dir():
+                shutil.copytree(root / 'crates' / name / 'out', room / 'crates' / name / 'out', symlinks=True, copy_function=link_or_copy)
 
     def check(self):
         words = ['rt', 'check', '--jobs', '1']
