@@ -126,6 +126,18 @@ fn push_items(answer: &mut Answer, items: &[Item<'_>]) {
     }
 }
 
+/// Returns the items of an input by the leaves of a source, where each callback does this. What `lex_source` promises ends here: it would
+/// be carried along wherever its answer is looked at.
+fn items_of<'i>(
+    alloc: Global,
+    source: &str,
+    input: &'i [u8],
+    config: Config,
+    action: Action,
+) -> Result<Vec<Item<'i>>, LexSourceError> {
+    lex_source(alloc, source, config, input, |_, _: &[u8]| action)
+}
+
 /// Returns what a source gives on an input, where each callback does this.
 fn given(
     alloc: Global,
@@ -135,7 +147,7 @@ fn given(
     action: Action,
 ) -> Result<String, Stop> {
     let mut answer = Answer::new(alloc);
-    match &lex_source(alloc, source, config, input, |_, _: &[u8]| action) {
+    match &items_of(alloc, source, input, config, action) {
         Ok(items) => push_items(&mut answer, items),
         Err(LexSourceError::Refused(errors)) => push_faults(&mut answer, errors),
         Err(LexSourceError::Memory) => return Err(Stop::Memory),
