@@ -8,4 +8,5 @@ pub mod ReadWritten
 pub mod SameSigns
 pub mod TableLocal
 pub mod BeginLocal
+pub mod TypesLocal
 pub mod FaultPlaces

@@ -1,13 +1,13 @@
 -- Runs that begin with the same sign, and what the tests of the table say of them.
-use Rattle.std.proofs.Common.{◌≡◌, ℕ, ◌+◌, ◌==◌, ◌&&◌, ◌||◌, not, List, Bool, true, false, Option, Some, None, refl, sym, ap, ◌∙◌, subst, arith}
+use Rattle.std.proofs.Common.{◌≡◌, ℕ, ◌+◌, Bool, true, false, refl, sym, ap, ◌∙◌, arith}
 use Rattle.logos_lexeme.specs.declared.lexeme.Span.{Span}
 use Rattle.logos_lexeme.specs.declared.lexeme.Spacing.{Spacing}
 use Rattle.logos_lexeme.specs.declared.lexeme.Spacing.TheVariants.{Alone, Joint}
 use Rattle.logos_lexeme.specs.declared.lexeme.Delimiter.{Delimiter}
 use Rattle.logos_lexeme.specs.declared.lexeme.Delimiter.TheVariants.{Parenthesis, Bracket, Brace}
-use Rattle.logos_token.specs.Tokens.{Token, TokenList, identifier, punctuation, literal, doc, group, none, also, append, count_of, token_count}
-use Rattle.logos_type_reader.specs.Table.{begins_colons, begins_mark, begins_arrow, begins_dots, begins_parenthesis, begins_bound, typing, goes_on}
-use Rattle.logos_type_reader.specs.FaultPlaces.{Front, start, past, within, IsAt, at_start, past_token, in_group, SameSign, no_sign, same_name, same_mark, same_joint, same_literal, same_doc, same_group, front_of, followed, EndsWith}
+use Rattle.logos_token.specs.Tokens.{Token, TokenList, identifier, punctuation, literal, doc, group, none, also, append, count_of}
+use Rattle.logos_type_reader.specs.Table.{begins_colons, begins_mark, begins_arrow, begins_dots, begins_parenthesis, typing, goes_on}
+use Rattle.logos_type_reader.specs.FaultPlaces.{Front, start, past, within, IsAt, at_start, past_token, in_group, SameSign, no_sign, same_name, same_mark, same_joint, same_literal, same_doc, same_group, front_of, EndsWith}
 use Rattle.logos_type_reader.proofs.TableSteps.{one_token}
 
 -- of each run that begins with the same sign

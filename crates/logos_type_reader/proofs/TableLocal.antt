@@ -1,24 +1,24 @@
 -- Each move of the table hangs on the tokens that it takes and the next sign alone.
-use Rattle.std.proofs.Common.{◌≡◌, ℕ, ◌==◌, ◌&&◌, ◌||◌, not, List, Bool, true, false, bytes_eq, codes, if◌then◌else◌, Option, Some, None, refl, sym, ap, ◌∙◌, subst}
+use Rattle.std.proofs.Common.{◌≡◌, ℕ, ◌==◌, ◌&&◌, ◌||◌, Bool, true, false, bytes_eq, codes, if◌then◌else◌, Option, Some, None, refl, ◌∙◌}
 use Rattle.logos_lexeme.specs.declared.lexeme.Span.{Span}
 use Rattle.logos_lexeme.specs.declared.lexeme.Spacing.{Spacing}
-use Rattle.logos_lexeme.specs.declared.lexeme.Spacing.TheVariants.{Alone, Joint}
+use Rattle.logos_lexeme.specs.declared.lexeme.Spacing.TheVariants.{Joint}
 use Rattle.logos_lexeme.specs.declared.lexeme.Delimiter.{Delimiter}
 use Rattle.logos_lexeme.specs.declared.lexeme.Delimiter.TheVariants.{Parenthesis, Bracket, Brace}
-use Rattle.logos_token.specs.Tokens.{Token, TokenList, identifier, punctuation, literal, doc, group, none, also, append, run_span}
-use Rattle.logos_type.specs.Parts.{Sign, word, mark, colons, arrow, value, opening, closing, kept, reference}
+use Rattle.logos_token.specs.Tokens.{Token, TokenList, identifier, punctuation, literal, doc, group, none, also, append}
+use Rattle.logos_type.specs.Parts.{word, mark, colons, arrow, value, opening, kept}
 use Rattle.logos_type_reader.specs.declared.table.place.PathKind.{PathKind}
 use Rattle.logos_type_reader.specs.declared.table.place.PathKind.TheVariants.{Plain, OfType, OfBound}
 use Rattle.logos_type_reader.specs.declared.table.place.BoundKind.{BoundKind}
 use Rattle.logos_type_reader.specs.declared.table.place.BoundKind.TheVariants.{Listed, Enclosed}
 use Rattle.logos_type_reader.specs.declared.table.place.Binder.{Binder}
-use Rattle.logos_type_reader.specs.declared.table.place.Binder.TheVariants.{OfFunction, OfTrait}
+use Rattle.logos_type_reader.specs.declared.table.place.Binder.TheVariants.{OfTrait}
 use Rattle.logos_type_reader.specs.declared.table.place.Place.{Place}
 use Rattle.logos_type_reader.specs.declared.table.place.Place.TheVariants as place
 use Rattle.logos_type_reader.specs.Table as table
 use Rattle.logos_type_reader.specs.Table.{Spot, Move, ends, takes, bars, asks, keeps_type, keeps, nests, stops, First, starts, refused, Fault, unsupported, misfit, to, opens, closes, next_at, begin, name_of, begins_colons, begins_mark, begins_arrow, begins_dots, typing, behind_two, behind_three, first_span, argued, argument_lifetime, behind_bound, behind_for}
-use Rattle.logos_type_reader.specs.FaultPlaces.{Front, start, past, SameSign, EndsWith, StandsAt, fault_at}
-use Rattle.logos_type_reader.proofs.SameSigns.{ForSame, ForSeen, for_same, same_self, colons_after, arrow_after, dots_after, mark_same, typing_same, goes_on_same, begins_name, in_front}
+use Rattle.logos_type_reader.specs.FaultPlaces.{SameSign}
+use Rattle.logos_type_reader.proofs.SameSigns.{ForSame, ForSeen, for_same, colons_after, arrow_after, dots_after, mark_same, typing_same}
 
 -- a group is open in both, or in none
 abbrev pub SameOpen : Option TokenList → Option TokenList → Type 0
