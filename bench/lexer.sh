@@ -1,13 +1,14 @@
 #!/usr/bin/env bash
 # Measures `Lexer` beside scanners of the same rules on the same texts: those that flex and re2c make, and, where rustc is found,
-# what it makes of the Rust text that `logos gen` prints for these rules, in both shapes. Each text has 32 MiB and is made by a script:
-# a program, words of forty letters, blanks alone and operators of one byte by the rules of a small language; JSON; log lines; prose in
-# several scripts. Prints a table of megabytes a second, and of the time by that of the fastest of the others. Of the runs, taken in turns,
-# the fastest of each counts; the first argument says how many, ten without it.
+# what it makes of the Rust text that `logos gen` prints for these rules, in both shapes, over `runtime/rust`. Each text has 32 MiB and is made by
+# bench/lexer/text.py. Prints a table of megabytes a second, and of the time by that of the fastest of the others. Where rustc is found a second
+# table follows: `logos lex` beside programs in Rust that print the same lines through a `BufWriter`, on texts of 64 MiB. Of the runs, taken in turns,
+# the fastest of each counts; the first argument says how many, ten without it. Further arguments name the texts that are measured, instead of all.
 #
 # It needs flex, re2c, gcc and python3, as in `apt-get install flex re2c gcc python3`, and uses rustc where it is found. The program
 # of bench/lexer, and `logos`, are built in a copy of the repository as `rt run` builds them, so the crates are proved first, where they
-# are not already. The former's source does not end in .rt here, since the gate refuses such files outside the crates.
+# are not already. The former's source does not end in .rt here, since the gate refuses such files outside the crates. The variables LEXER
+# and LOGOS name two programs to measure in their place, which can be ones that are not proved.
 set -euo pipefail
 
 bench=$(cd "$(dirname "${BASH_SOURCE[0]}")" && pwd)
@@ -21,25 +22,30 @@ done
 
 # the texts, and which rules each is read by
 declare -A rules=([program]=program [words]=program [blanks]=program [operators]=program [json]=json [log]=log [prose]=prose)
-texts=(program json log prose words blanks operators)
+rules+=([sql]=sql [css]=css [template]=template [access]=access)
+texts=(program json log prose words blanks operators sql css template access)
+lines=(program json log prose)
+if [ $# -gt 1 ]; then
+    texts=("${@:2}")
+    lines=()
+    for text in "${texts[@]}"; do
+        if [[ $text =~ ^(program|json|log|prose)$ ]]; then
+            lines+=("$text")
+        fi
+    done
+fi
+mapfile -t enums < <(for text in "${texts[@]}"; do echo "${rules[$text]}"; done | sort -u)
 for text in "${texts[@]}"; do
     python3 "$bench/lexer/text.py" "$size" "$text" > "$copy/$text.text"
 done
 
-for name in program json log prose; do
-    [ "$name" = program ] && encoding=() || encoding=(--utf8)
+for name in "${enums[@]}"; do
+    [[ $name =~ ^(program|access)$ ]] && encoding=() || encoding=(--utf8)
     flex -CF -o "$copy/$name.flex.c" "$bench/lexer/flex/$name.l"
     re2c "${encoding[@]}" -o "$copy/$name.re2c.c" "$bench/lexer/re2c/$name.re"
     for scanner in flex re2c; do
         gcc -O2 -I "$bench/lexer" -o "$copy/$name.$scanner" "$copy/$name.$scanner.c"
     done
-done
-
-tar -C "$bench/.." --exclude=out -cf - crates crates.txt HANDLES | tar -C "$copy" -xf -
-for crate in "$bench"/../crates/*/out; do
-    [ -d "$crate" ] || continue
-    name=$(basename "$(dirname "$crate")")
-    cp -R "$crate" "$copy/crates/$name/out"
 done
 
 # FOLDER ARGUMENTS ..: builds the program of a crate of the copy, and runs it once
@@ -49,27 +55,44 @@ build() {
         exit 1
     fi
 }
-echo "lexer_bench: logos_code logos_codegen logos_generator logos_machine logos_pattern" >> "$copy/crates.txt"
-crate="$copy/crates/lexer_bench"
-mkdir -p "$crate/src" "$crate/specs" "$crate/proofs"
-touch "$crate/specs/Lib.antt" "$crate/proofs/Lib.antt"
-cp "$bench/lexer/main.rt.in" "$crate/src/main.rt"
-build lexer_bench "$bench/lexer/rules/json.rs" "$bench/lexer/rules/json.rs"
+# builds both programs
+build_programs() {
+    local name crate="$copy/crates/lexer_bench"
+    tar -C "$bench/.." --exclude=out -cf - crates crates.txt HANDLES | tar -C "$copy" -xf -
+    for name in "$bench"/../crates/*/out; do
+        if [ -d "$name" ]; then
+            name=$(basename "$(dirname "$name")")
+            cp -R "$bench/../crates/$name/out" "$copy/crates/$name/out"
+        fi
+    done
+    echo "lexer_bench: logos_code logos_codegen logos_generator logos_machine logos_pattern" >> "$copy/crates.txt"
+    mkdir -p "$crate/src" "$crate/specs" "$crate/proofs"
+    touch "$crate/specs/Lib.antt" "$crate/proofs/Lib.antt"
+    cp "$bench/lexer/main.rt.in" "$crate/src/main.rt"
+    build lexer_bench "$bench/lexer/rules/json.rs" "$bench/lexer/rules/json.rs"
+    build logos_program gen "$bench/lexer/rules/json.rs"
+}
+lexer=${LEXER:-$copy/crates/lexer_bench/out/lexer_bench}
+logos=${LOGOS:-$copy/crates/logos_program/out/logos_program}
+if [ -z "${LEXER:-}" ] || [ -z "${LOGOS:-}" ]; then
+    build_programs
+fi
 
 scanners=(lexer flex re2c)
 if command -v rustc > /dev/null; then
     scanners+=(tailcall state_machine)
-    build logos_program gen "$bench/lexer/rules/json.rs"
-    rustc --edition 2021 -C opt-level=3 --crate-type rlib --crate-name logos -o "$copy/liblogos.rlib" "$bench/lexer/rust/runtime.rs"
-    for name in program json log prose; do
+    rustc --edition 2021 -C opt-level=3 --crate-type rlib --crate-name logos -o "$copy/liblogos.rlib" "$bench/../runtime/rust/src/lib.rs"
+    for name in "${enums[@]}"; do
         for shape in tailcall state_machine; do
             folder="$copy/$name.$shape.text"
             mkdir "$folder"
-            cp "$bench/lexer/rust/main.rs" "$folder/main.rs"
+            cp "$bench/lexer/rust/main.rs" "$bench/lexer/rust/lines.rs" "$folder"
             { grep -v '^ *#\[' "$bench/lexer/rules/$name.rs"
               sed -n 's/^enum \([A-Za-z]*\) {$/type Rules = \1;/p' "$bench/lexer/rules/$name.rs"; } > "$folder/rules.rs"
-            "$copy/crates/logos_program/out/logos_program" gen "$bench/lexer/rules/$name.rs" --shape "$shape" > "$folder/lexer.rs"
+            "$logos" gen "$bench/lexer/rules/$name.rs" --shape "$shape" > "$folder/lexer.rs"
             rustc --edition 2021 -C opt-level=3 --extern "logos=$copy/liblogos.rlib" -o "$copy/$name.$shape" "$folder/main.rs"
+            [[ " ${lines[*]} " != *" $name "* ]] \
+                || rustc --edition 2021 -C opt-level=3 --extern "logos=$copy/liblogos.rlib" -o "$copy/$name.$shape.lines" "$folder/lines.rs"
         done
     done
 fi
@@ -78,7 +101,7 @@ for ((run = 0; run < runs; run++)); do
     for text in "${texts[@]}"; do
         for scanner in "${scanners[@]}"; do
             if [ "$scanner" = lexer ]; then
-                command=("$copy/crates/lexer_bench/out/lexer_bench" "$bench/lexer/rules/${rules[$text]}.rs")
+                command=("$lexer" "$bench/lexer/rules/${rules[$text]}.rs")
             else
                 command=("$copy/${rules[$text]}.$scanner")
             fi
@@ -115,3 +138,15 @@ awk -v size="$size" -v texts="${texts[*]}" -v scanners="${scanners[*]}" '
         }
         exit different
     }' "$copy/runs"
+
+if [ "${#lines[@]}" != 0 ] && [ "${#scanners[@]}" = 5 ]; then
+    echo
+    echo "| Text | Lines | logos lex | MiB | tailcall | MiB | state_machine | MiB | logos lex by the fastest other |"
+    echo "|---|---|---|---|---|---|---|---|---|"
+    for name in "${lines[@]}"; do
+        python3 "$bench/lexer/text.py" $((2 * size)) "$name" > "$copy/$name.long"
+        python3 "$bench/lexer/lines.py" "$runs" "$copy/$name.long" "$name" \
+            "$logos lex $bench/lexer/rules/$name.rs" "$copy/$name.tailcall.lines" "$copy/$name.state_machine.lines"
+        rm "$copy/$name.long"
+    done
+fi

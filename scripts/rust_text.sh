@@ -45,7 +45,7 @@ fail() {
 lay_out() {
     local source name row n
     mkdir "$room/sources" "$room/inputs"
-    cp "$here"/sources/*.rs "$root"/bench/lexer/rules/*.rs "$root"/docs/guide/{color,expr}.rs "$room/sources"
+    cp "$here"/sources/*.rs "$root"/bench/lexer/rules/{json,log,program,prose}.rs "$root"/docs/guide/{color,expr}.rs "$room/sources"
     cp "$root/crates/logos_program/data/t.rs" "$room/sources/first_enum.rs"
     for source in "$room"/sources/*.rs; do
         name=$(basename "$source" .rs)

@@ -33,3 +33,6 @@ static void report(double start, double end, unsigned long tokens, unsigned long
 {
     printf("%.6f %lu %lu\n", end - start, tokens, errors);
 }
+
+/* Counts a match of a rule with a callback, which refuses matches of more than 127 bytes. */
+#define COUNT_SHORT(length) ((length) > 127 ? errors++ : tokens++)

@@ -22,6 +22,14 @@ fn main() {
     println!("{seconds:.6} {tokens} {errors}");
 }
 
+/// What the rules with a callback call: a match is refused if it has more than 127 bytes.
+fn is_short<'s>(lexer: &mut logos::Lexer<'s, Rules>) -> bool
+where
+    Rules: logos::Logos<'s>,
+{
+    lexer.span().len() <= 127
+}
+
 trait Read {
     fn read(bytes: &[u8]) -> &Self;
 }

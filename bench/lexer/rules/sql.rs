@@ -1,0 +1,54 @@
+#[derive(Logos)]
+#[logos(skip r"[ \t\r\n]+")]
+#[logos(skip(r"--[^\n]*", allow_greedy = true))]
+#[logos(skip r"/\*([^*]|\*+[^*/])*\*+/")]
+enum Sql {
+    #[token("select", ignore(case))]
+    #[token("from", ignore(case))]
+    #[token("where", ignore(case))]
+    #[token("group", ignore(case))]
+    #[token("order", ignore(case))]
+    #[token("having", ignore(case))]
+    #[token("limit", ignore(case))]
+    #[token("union", ignore(case))]
+    #[token("insert", ignore(case))]
+    #[token("into", ignore(case))]
+    #[token("values", ignore(case))]
+    #[token("update", ignore(case))]
+    #[token("delete", ignore(case))]
+    #[token("set", ignore(case))]
+    #[regex("(left|right|full|inner|cross)[ \t\r\n]+(outer[ \t\r\n]+)?join|join", ignore(case), priority = 30)]
+    Clause,
+    #[token("and", ignore(case))]
+    #[token("or", ignore(case))]
+    #[token("not", ignore(case))]
+    #[token("as", ignore(case))]
+    #[token("on", ignore(case))]
+    #[token("by", ignore(case))]
+    #[token("asc", ignore(case))]
+    #[token("desc", ignore(case))]
+    #[token("distinct", ignore(case))]
+    #[token("null", ignore(case))]
+    #[token("is", ignore(case))]
+    #[token("in", ignore(case))]
+    #[token("like", ignore(case))]
+    #[token("between", ignore(case))]
+    #[token("case", ignore(case))]
+    #[token("when", ignore(case))]
+    #[token("then", ignore(case))]
+    #[token("else", ignore(case))]
+    #[token("end", ignore(case))]
+    Word,
+    #[regex("[a-zA-Z_][a-zA-Z0-9_$]*", is_short)]
+    Name,
+    #[regex(r#""([^"]|"")+""#, is_short)]
+    Quoted,
+    #[regex("'([^']|'')*'", is_short)]
+    Text,
+    #[regex(r"[0-9]+(\.[0-9]+)?([eE][+\-]?[0-9]+)?")]
+    Number,
+    #[regex(r"[:@$][a-zA-Z0-9_]+|\?")]
+    Parameter,
+    #[regex(r"[+\-*/%<>=(),.;]|<>|<=|>=|!=|\|\||::")]
+    Operator,
+}
