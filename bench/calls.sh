@@ -3,36 +3,17 @@
 # of the call alone, how much it gave (bytes, tokens, pieces, items, parts or tables), and the most memory that the program used, its text
 # included. Each row is one run.
 #
-# It needs python3. The program of bench/calls is built in a copy of the repository as `rt run` builds it, so the crates are
-# proved first, where they are not already. Its sources do not end in .rt here, since the gate refuses such files
-# outside the crates.
+# It needs python3. `bench/program.sh` builds the program of `bench/calls`.
 set -euo pipefail
 
-bench=$(cd "$(dirname "${BASH_SOURCE[0]}")" && pwd)
-copy=$(mktemp -d)
-trap 'rm -rf "$copy"' EXIT
-tar -C "$bench/.." --exclude=out -cf - crates crates.txt HANDLES | tar -C "$copy" -xf -
-for crate in "$bench"/../crates/*/out; do
-    [ -d "$crate" ] || continue
-    name=$(basename "$(dirname "$crate")")
-    cp -R "$crate" "$copy/crates/$name/out"
-done
-libraries=$(grep '^logos_[a-z_]*:' "$copy/crates.txt" | cut -d: -f1 | grep -v -e _tests -e _commands -e _program | tr '\n' ' ')
-echo "calls_bench: indexmap $libraries" >> "$copy/crates.txt"
-crate="$copy/crates/calls_bench"
-mkdir -p "$crate/src" "$crate/specs" "$crate/proofs"
-touch "$crate/specs/Lib.antt" "$crate/proofs/Lib.antt"
-for file in "$bench"/calls/*.rt.in; do
-    name=${file##*/}
-    cp "$file" "$crate/src/${name%.in}"
-done
+. "$(dirname "${BASH_SOURCE[0]}")/program.sh"
+copy_crates
+libraries=$(grep '^logos_[a-z_]*:' "$copy/crates.txt" | cut -d: -f1 | grep -v -e _commands -e _program -e _calls | tr '\n' ' ')
+add_crate calls "indexmap $libraries"
 mkdir -p "$crate/proofs/pieces/forked"
 cp "$bench/calls/forked.antt.in" "$crate/proofs/pieces/forked/Answers.antt"
 echo '+' > "$copy/text"
-if ! (cd "$crate" && rt run -- print "$copy/text") > "$copy/log" 2>&1; then
-    tail -n 30 "$copy/log" >&2
-    exit 1
-fi
+build "$crate" print "$copy/text"
 
 # WHAT CALL KIND SIZE: two rows of the table, for half the size and the whole.
 measure() {
@@ -46,10 +27,7 @@ measure() {
 }
 
 bytes=16777216
-echo "$(nproc) cores, $(sed -n 's/^model name[^:]*: //p' /proc/cpuinfo | head -n 1)"
-echo
-echo "| Call and size | Seconds | Given | Memory in MiB |"
-echo "|---|---|---|---|"
+print_head "Call and size" "Seconds" "Given" "Memory in MiB"
 measure "\`print\`, bytes of punctuation" print punctuation $bytes
 measure "\`print\`, bytes of documentation lines" print docs $bytes
 measure "\`MaybeVoid::print\`, bytes of punctuation" maybe_print punctuation $bytes

@@ -3,29 +3,13 @@
 # tree's root (bytes of a literal, ranges of a class, parts or branches), and the most memory that
 # the program used, the pattern included. Of three runs the fastest counts.
 #
-# The program of bench/compile is built in a copy of the repository as `rt run` builds it, so the
-# crates of tokens and of patterns are proved first, where they are not already. Its source does not
-# end in .rt here, since the gate refuses such files outside the crates.
+# `bench/program.sh` builds the program of `bench/compile`.
 set -euo pipefail
 
-bench=$(cd "$(dirname "${BASH_SOURCE[0]}")" && pwd)
-copy=$(mktemp -d)
-trap 'rm -rf "$copy"' EXIT
-tar -C "$bench/.." --exclude=out -cf - crates crates.txt HANDLES | tar -C "$copy" -xf -
-for crate in "$bench"/../crates/*/out; do
-    [ -d "$crate" ] || continue
-    name=$(basename "$(dirname "$crate")")
-    cp -R "$crate" "$copy/crates/$name/out"
-done
-echo "compile_bench: logos_pattern" >> "$copy/crates.txt"
-crate="$copy/crates/compile_bench"
-mkdir -p "$crate/src" "$crate/specs" "$crate/proofs"
-touch "$crate/specs/Lib.antt" "$crate/proofs/Lib.antt"
-cp "$bench/compile/main.rt.in" "$crate/src/main.rt"
-if ! (cd "$crate" && rt run -- a "" 0 "") > "$copy/log" 2>&1; then
-    tail -n 30 "$copy/log" >&2
-    exit 1
-fi
+. "$(dirname "${BASH_SOURCE[0]}")/program.sh"
+copy_crates
+add_crate compile "logos_pattern"
+build "$crate" a "" 0 ""
 
 # NAME FRONT REPEATED TIMES BACK: a row of the table.
 measure() {
@@ -43,10 +27,7 @@ parts=$(printf '(?:b^%.0s' {1..249})
 branches=$(printf '(?:b|%.0s' {1..249})
 ranges=$(for ((i = 1024; i < 13024; i += 2)); do printf '\\x{%x}' "$i"; done)
 
-echo "$(nproc) cores, $(sed -n 's/^model name[^:]*: //p' /proc/cpuinfo | head -n 1)"
-echo
-echo "| Pattern | Seconds | Size | Memory in MiB |"
-echo "|---|---|---|---|"
+print_head "Pattern" "Seconds" "Size" "Memory in MiB"
 measure "\`a\`, 1 MiB" "" "a" 1048576 ""
 measure "\`a*\`, 1 MiB" "" "a*" 524288 ""
 measure "\`ab\|\`, 1 MiB" "" "ab|" 349525 ""

@@ -3,29 +3,13 @@
 # and of the graph, the number of errors, and the most memory that the program used. Of three runs the
 # fastest counts.
 #
-# The program of bench/graph is built in a copy of the repository as `rt run` builds it, so the
-# crates of tokens, patterns and graphs are proved first, where they are not already. Its source does not
-# end in .rt here, since the gate refuses such files outside the crates.
+# `bench/program.sh` builds the program of `bench/graph`.
 set -euo pipefail
 
-bench=$(cd "$(dirname "${BASH_SOURCE[0]}")" && pwd)
-copy=$(mktemp -d)
-trap 'rm -rf "$copy"' EXIT
-tar -C "$bench/.." --exclude=out -cf - crates crates.txt HANDLES | tar -C "$copy" -xf -
-for crate in "$bench"/../crates/*/out; do
-    [ -d "$crate" ] || continue
-    name=$(basename "$(dirname "$crate")")
-    cp -R "$crate" "$copy/crates/$name/out"
-done
-echo "graph_bench: logos_graph logos_pattern logos_token" >> "$copy/crates.txt"
-crate="$copy/crates/graph_bench"
-mkdir -p "$crate/src" "$crate/specs" "$crate/proofs"
-touch "$crate/specs/Lib.antt" "$crate/proofs/Lib.antt"
-cp "$bench/graph/main.rt.in" "$crate/src/main.rt"
-if ! (cd "$crate" && rt run -- a) > "$copy/log" 2>&1; then
-    tail -n 30 "$copy/log" >&2
-    exit 1
-fi
+. "$(dirname "${BASH_SOURCE[0]}")/program.sh"
+copy_crates
+add_crate graph "logos_graph logos_pattern logos_token"
+build "$crate" a
 
 # NAME PATTERN ..: a row of the table.
 measure() {
@@ -38,10 +22,7 @@ measure() {
     }'
 }
 
-echo "$(nproc) cores, $(sed -n 's/^model name[^:]*: //p' /proc/cpuinfo | head -n 1)"
-echo
-echo "| Leaves | Seconds | States of the automaton | States of the graph | Errors | Memory in MiB |"
-echo "|---|---|---|---|---|---|"
+print_head "Leaves" "Seconds" "States of the automaton" "States of the graph" "Errors" "Memory in MiB"
 for count in 8000 16000 32000 65000; do
     measure "\`a{$count}\`" "a{$count}"
 done

@@ -5,17 +5,14 @@
 # table follows: `logos lex` beside programs in Rust that print the same lines through a `BufWriter`, on texts of 64 MiB. Of the runs, taken in turns,
 # the fastest of each counts; the first argument says how many, ten without it. Further arguments name the texts that are measured, instead of all.
 #
-# It needs flex, re2c, gcc and python3, as in `apt-get install flex re2c gcc python3`, and uses rustc where it is found. The program
-# of bench/lexer, and `logos`, are built in a copy of the repository as `rt run` builds them, so the crates are proved first, where they
-# are not already. The former's source does not end in .rt here, since the gate refuses such files outside the crates. The variables LEXER
-# and LOGOS name two programs to measure in their place, which can be ones that are not proved.
+# It needs flex, re2c, gcc and python3, as in `apt-get install flex re2c gcc python3`, and uses rustc where it is found. `bench/program.sh` builds
+# the program of `bench/lexer`, and `logos`. The variables LEXER and LOGOS name two programs to measure in their place, which can be ones that are not
+# proved.
 set -euo pipefail
 
-bench=$(cd "$(dirname "${BASH_SOURCE[0]}")" && pwd)
+. "$(dirname "${BASH_SOURCE[0]}")/program.sh"
 runs=${1:-10}
 size=33554432
-copy=$(mktemp -d)
-trap 'rm -rf "$copy"' EXIT
 for tool in flex re2c gcc python3 rt; do
     command -v "$tool" > /dev/null || { echo "needs $tool" >&2; exit 2; }
 done
@@ -48,34 +45,13 @@ for name in "${enums[@]}"; do
     done
 done
 
-# FOLDER ARGUMENTS ..: builds the program of a crate of the copy, and runs it once
-build() {
-    if ! (cd "$copy/crates/$1" && rt run -- "${@:2}") > "$copy/log" 2>&1; then
-        tail -n 30 "$copy/log" >&2
-        exit 1
-    fi
-}
-# builds both programs
-build_programs() {
-    local name crate="$copy/crates/lexer_bench"
-    tar -C "$bench/.." --exclude=out -cf - crates crates.txt HANDLES | tar -C "$copy" -xf -
-    for name in "$bench"/../crates/*/out; do
-        if [ -d "$name" ]; then
-            name=$(basename "$(dirname "$name")")
-            cp -R "$bench/../crates/$name/out" "$copy/crates/$name/out"
-        fi
-    done
-    echo "lexer_bench: logos_code logos_codegen logos_generator logos_machine logos_pattern" >> "$copy/crates.txt"
-    mkdir -p "$crate/src" "$crate/specs" "$crate/proofs"
-    touch "$crate/specs/Lib.antt" "$crate/proofs/Lib.antt"
-    cp "$bench/lexer/main.rt.in" "$crate/src/main.rt"
-    build lexer_bench "$bench/lexer/rules/json.rs" "$bench/lexer/rules/json.rs"
-    build logos_program gen "$bench/lexer/rules/json.rs"
-}
 lexer=${LEXER:-$copy/crates/lexer_bench/out/lexer_bench}
 logos=${LOGOS:-$copy/crates/logos_program/out/logos_program}
 if [ -z "${LEXER:-}" ] || [ -z "${LOGOS:-}" ]; then
-    build_programs
+    copy_crates
+    add_crate lexer "logos_code logos_codegen logos_generator logos_machine logos_pattern"
+    build "$crate" "$bench/lexer/rules/json.rs" "$bench/lexer/rules/json.rs"
+    build "$copy/crates/logos_program" gen "$bench/lexer/rules/json.rs"
 fi
 
 scanners=(lexer flex re2c)

@@ -3,28 +3,13 @@
 # variants, the seconds of the call alone, and the most memory that the program used, its source and
 # tokens included. Of three runs the fastest counts.
 #
-# The program of bench/reading is built in a copy of the repository as `rt run` builds it, so the
-# crates below it are proved first, where they are not already.
+# `bench/program.sh` builds the program of `bench/reading`.
 set -euo pipefail
 
-bench=$(cd "$(dirname "${BASH_SOURCE[0]}")" && pwd)
-copy=$(mktemp -d)
-trap 'rm -rf "$copy"' EXIT
-tar -C "$bench/.." --exclude=out -cf - crates crates.txt HANDLES | tar -C "$copy" -xf -
-for name in logos_lexeme logos_token logos_type logos_type_reader logos_item; do
-    if [ -d "$bench/../crates/$name/out" ]; then
-        cp -R "$bench/../crates/$name/out" "$copy/crates/$name/out"
-    fi
-done
-echo "reading_bench: logos_item logos_token" >> "$copy/crates.txt"
-crate="$copy/crates/reading_bench"
-mkdir -p "$crate/src" "$crate/specs" "$crate/proofs"
-touch "$crate/specs/Lib.antt" "$crate/proofs/Lib.antt"
-cp "$bench/reading/main.rt.in" "$crate/src/main.rt"
-if ! (cd "$crate" && rt run -- "enum E {" "A," "}" 1) > "$copy/log" 2>&1; then
-    tail -n 30 "$copy/log" >&2
-    exit 1
-fi
+. "$(dirname "${BASH_SOURCE[0]}")/program.sh"
+copy_crates
+add_crate reading "logos_item logos_token"
+build "$crate" "enum E {" "A," "}" 1
 
 # NAME FRONT REPEATED BACK MOST: a row of the table.
 measure() {
@@ -37,10 +22,7 @@ measure() {
 
 references=$(printf '&%.0s' {1..126})
 
-echo "$(nproc) cores, $(sed -n 's/^model name[^:]*: //p' /proc/cpuinfo | head -n 1)"
-echo
-echo "| Source | Bytes | Variants | Seconds | Memory in MiB |"
-echo "|---|---|---|---|---|"
+print_head "Source" "Bytes" "Variants" "Seconds" "Memory in MiB"
 measure "100,000 variants" "enum E {" "A(u8), " "}" 100000
 measure "variants without fields" "enum E {" "A," "}" ""
 measure "variants with attributes" "enum E {" '#[token("a")] #[regex("b", f)] A, ' "}" ""

@@ -1,0 +1,54 @@
+# The beginning of the scripts of this folder, which read it. It gives them `bench`, this folder, and `copy`, a folder that is removed
+# at their end.
+#
+# The program of bench/NAME is built in a copy of the repository as `rt run` builds it, so the crates below it are proved
+# first, where they are not already. Its sources do not end in .rt in bench/NAME, since the gate refuses such files outside the crates.
+bench=$(cd "$(dirname "${BASH_SOURCE[0]}")" && pwd)
+copy=$(mktemp -d)
+trap 'rm -rf "$copy"' EXIT
+
+# Copies the crates, with what is proved of them.
+copy_crates() {
+    local out name
+    tar -C "$bench/.." --exclude=out -cf - crates crates.txt HANDLES | tar -C "$copy" -xf -
+    for out in "$bench"/../crates/*/out; do
+        if [ -d "$out" ]; then
+            name=$(basename "$(dirname "$out")")
+            cp -R "$out" "$copy/crates/$name/out"
+        fi
+    done
+}
+
+# NAME LIBRARIES: adds the crate NAME_bench, with the sources of bench/NAME, over these libraries. `crate` is its folder from then on.
+add_crate() {
+    local file name
+    crate="$copy/crates/${1}_bench"
+    echo "${1}_bench: $2" >> "$copy/crates.txt"
+    mkdir -p "$crate/src" "$crate/specs" "$crate/proofs"
+    touch "$crate/specs/Lib.antt" "$crate/proofs/Lib.antt"
+    for file in "$bench/$1"/*.rt.in; do
+        name=${file##*/}
+        cp "$file" "$crate/src/${name%.in}"
+    done
+}
+
+# FOLDER ARGUMENTS ..: builds the program of the crate in a folder, and runs it once.
+build() {
+    if ! (cd "$1" && rt run -- "${@:2}") > "$copy/log" 2>&1; then
+        tail -n 30 "$copy/log" >&2
+        exit 1
+    fi
+}
+
+# HEADING ..: prints a line about the machine, and the head of a table with these columns.
+print_head() {
+    local heading line='|'
+    echo "$(nproc) cores, $(sed -n 's/^model name[^:]*: //p' /proc/cpuinfo | head -n 1)"
+    echo
+    for heading in "$@"; do
+        line+='---|'
+    done
+    printf '|'
+    printf ' %s |' "$@"
+    printf '\n%s\n' "$line"
+}
