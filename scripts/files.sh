@@ -138,6 +138,10 @@ wants "$status" 0 $'token 0 0..1\nerror 1..2' ''
 : > out
 "$program" mermaid long 2> err | { sleep 0.2; cat; } | cmp - whole
 wants 0 0 '' ''
+head -c 20000 /dev/zero | tr '\0' a > many
+awk 'BEGIN { for (at = 0; at < 20000; at++) printf "token 0 %d..%d\n", at, at + 1 }' > lines
+"$program" lex source many 2> err | { sleep 0.2; cat; } | cmp - lines
+wants 0 0 '' ''
 
 # The output takes the beginning alone, which stays there.
 for command in 'gen source' 'mermaid long'; do
@@ -149,6 +153,10 @@ for command in 'gen source' 'mermaid long'; do
     wants "$status" 3 '' 'cannot write standard output'
     head -c 1024 whole | cmp - half
 done
+status=0
+(trap '' XFSZ; ulimit -f 100; exec "$program" lex source many > half 2> err) || status=$?
+wants "$status" 3 '' 'cannot write standard output'
+head -c 102400 lines | cmp - half
 status=0
 (trap '' XFSZ; ulimit -f 1; exec "$program" export long 2> err) || status=$?
 wants "$status" 3 '' 'cannot write long.mmd'

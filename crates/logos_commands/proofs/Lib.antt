@@ -1,4 +1,4 @@
 mod CutLemmas
-mod DigitLemmas
 mod LexingLemmas
+mod LineLemmas
 mod RefusalLemmas

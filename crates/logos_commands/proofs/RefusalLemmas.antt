@@ -14,7 +14,7 @@ use Rattle.logos_commands.specs.declared.failure.Failure.{Failure}
 use Rattle.logos_commands.specs.declared.failure.Failure.TheVariants.{Read, Write, Output, Refused, NotUtf8, Alike, NotExported, Memory}
 use Rattle.logos_commands.specs.declared.outcome.Asked.{Asked as Part}
 use Rattle.logos_commands.specs.declared.outcome.Asked.TheVariants.{Text, Chart, Export}
-use Rattle.logos_commands.specs.Charts.{destination_said}
+use Rattle.logos_commands.specs.Charts.{export_destination}
 use Rattle.logos_commands.specs.Commands.{refused_by, status_of}
 use Rattle.logos_commands.specs.Runs.{RefusesStripping, RefusesLexer, RefusesExport}
 
@@ -29,7 +29,7 @@ stripping_refused source refusals.Memory failure e r s = absurd (let k : 3 ≡ 1
 
 -- the path of a chart is refused
 export_refused : (source : List ℕ) (config : Config) (graph : GraphValue) (code : CodeValue) (name : Slice) (export : Option (List ℕ)) →
-    IsGiven source config graph code name export → (failure : Failure) → RefusesExport (destination_said export name.text) failure → RefusesLexer source Export failure
+    IsGiven source config graph code name export → (failure : Failure) → RefusesExport (export_destination export name.text) failure → RefusesLexer source Export failure
 export_refused source config graph code name export g (Read path) r = absurd r
 export_refused source config graph code name export g (Write path) r = absurd r
 export_refused source config graph code name export g Output r = absurd r
@@ -43,7 +43,7 @@ export_refused source config graph code name export g Memory r = absurd r
 -- what a lexer that was made does not do
 pub lexer_refused : {T : Type 0} (source : List ℕ) (part : Part) (config : Config) (graph : GraphValue) (code : CodeValue) (name : Slice) (export : Option (List ℕ)) →
     IsGiven source config graph code name export → (r : Result T Failure) → (part ≢ Export → IfErr r (λ failure. status_of failure ≡ 3)) →
-    IfErr r (λ failure. status_of failure ≡ 1 → RefusesExport (destination_said export name.text) failure) →
+    IfErr r (λ failure. status_of failure ≡ 1 → RefusesExport (export_destination export name.text) failure) →
     IfErr r (λ failure. status_of failure ≡ 1 → RefusesLexer source part failure)
 lexer_refused source part config graph code name export g (Ok x) plain exported = tt
 lexer_refused source Text config graph code name export g (Err f) plain exported = λ s. absurd (one_status _ (plain (λ e. cc)) s)

@@ -2,13 +2,13 @@
 use Rattle.std.specs.Prelude.{◌++◌, ℕ, List, Option, Some, None, if◌then◌else◌, map, bytes_eq, codes}
 use Rattle.std.specs.Char.{to_ascii_lowercase}
 use Rattle.std.specs.Path.{slash, dot, parent_dir, rsplit_once, extension_of_split, with_separator}
-use Rattle.logos_commands.specs.declared.failure.Unexported.{Unexported}
-use Rattle.logos_commands.specs.declared.failure.Unexported.TheVariants.{Unsaid, Dot, Extension}
+use Rattle.logos_commands.specs.declared.failure.ExportRefusal.{ExportRefusal}
+use Rattle.logos_commands.specs.declared.failure.ExportRefusal.TheVariants.{NoPath, Dot, Extension}
 
 -- What becomes of a chart: it goes to the file at these bytes, or its path is refused.
 pub data Destination : Type 0 where
   file_at : (path : List ℕ) → Destination
-  refused : (why : Unexported) → Destination
+  refused : (why : ExportRefusal) → Destination
 
 -- what follows the last slash of a path, or all of it: its split at that slash
 abbrev pub name_of_split : List ℕ → Option (List ℕ × List ℕ) → List ℕ
@@ -28,7 +28,7 @@ abbrev pub file_in : List ℕ → List ℕ → List ℕ
 file_in folder name = with_separator folder ++ (map to_ascii_lowercase name ++ codes ".mmd")
 
 -- why a path with this extension is refused, which is not `mmd`
-abbrev pub refusal_by : List ℕ → Unexported
+abbrev pub refusal_by : List ℕ → ExportRefusal
 refusal_by extension = if bytes_eq extension (codes "dot") then Dot else Extension
 
 -- where the chart goes by a path with this extension: a path without one is that of a folder
@@ -41,7 +41,7 @@ destination_by (Some extension) path name =
 abbrev pub destination : List ℕ → List ℕ → Destination
 destination path name = destination_by (extension (file_name path)) path name
 
--- where the chart goes by the path that a source says, if it says one
-abbrev pub destination_said : Option (List ℕ) → List ℕ → Destination
-destination_said None name = refused Unsaid
-destination_said (Some path) name = destination path name
+-- where the chart goes by the export path of a source, if it has one
+abbrev pub export_destination : Option (List ℕ) → List ℕ → Destination
+export_destination None name = refused NoPath
+export_destination (Some path) name = destination path name

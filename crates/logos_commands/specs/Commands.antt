@@ -1,8 +1,6 @@
 -- What the program's words ask for, and the status of what it cannot do.
 use Rattle.std.specs.Prelude.{◌∷◌, [], ℕ, List, Option, Some, None, true, false, if◌then◌else◌, option_map, bytes_eq, codes}
 use Rattle.logos_code.specs.declared.code.Config.{Config}
-use Rattle.logos_codegen.specs.declared.lexing.LexSourceError.{LexSourceError}
-use Rattle.logos_codegen.specs.declared.lexing.LexSourceError.TheVariants as errors
 use Rattle.logos_source.specs.declared.refusal.Refusal.{Refusal}
 use Rattle.logos_source.specs.declared.refusal.Refusal.TheVariants as refusals
 use Rattle.logos_commands.specs.declared.command.Command.{Command}
@@ -32,27 +30,27 @@ shape_in [] = Some (record { use_state_machine_codegen = true })
 shape_in (option ∷ name ∷ []) = if bytes_eq option (codes "--shape") then shape_named name else None
 shape_in words = None
 
--- behind `gen`: a file, and perhaps a shape
+-- after `gen`: a file, and perhaps a shape
 abbrev pub text_in : List (List ℕ) → Option Asked
 text_in (file ∷ rest) = option_map (asks_text file) (shape_in rest)
 text_in [] = None
 
--- behind `lex`: a file, an input, and perhaps a shape
+-- after `lex`: a file, an input, and perhaps a shape
 abbrev pub items_in : List (List ℕ) → Option Asked
 items_in (file ∷ input ∷ rest) = option_map (asks_items file input) (shape_in rest)
 items_in words = None
 
--- behind `mermaid`: a file
+-- after `mermaid`: a file
 abbrev pub chart_in : List (List ℕ) → Option Asked
 chart_in (file ∷ []) = Some (asks_chart file)
 chart_in words = None
 
--- behind `export`: a file
+-- after `export`: a file
 abbrev pub export_in : List (List ℕ) → Option Asked
 export_in (file ∷ []) = Some (asks_export file)
 export_in words = None
 
--- behind `strip`: a file
+-- after `strip`: a file
 abbrev pub strip_in : List (List ℕ) → Option Asked
 strip_in (file ∷ []) = Some (asks_strip file)
 strip_in words = None
@@ -87,13 +85,7 @@ status_of (Alike s t) = 1
 status_of (NotExported why) = 1
 status_of Memory = 3
 
--- what is not done where a source is refused
+-- the failure of a refused source
 abbrev pub refused_by : Refusal → Failure
 refused_by (refusals.Errors faults) = Refused faults
 refused_by refusals.Memory = Memory
-
--- what is not done where a source or an input is refused
-abbrev pub failure_of : LexSourceError → Failure
-failure_of (errors.Refused faults) = Refused faults
-failure_of (errors.NotUtf8 valid_up_to) = NotUtf8 valid_up_to
-failure_of errors.Memory = Memory

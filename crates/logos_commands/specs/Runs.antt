@@ -14,11 +14,11 @@ use Rattle.logos_codegen.specs.Given.{IsGiven}
 use Rattle.logos_codegen.specs.Source.{IsAccepted, IsRefused}
 use Rattle.logos_commands.specs.declared.failure.Failure.{Failure}
 use Rattle.logos_commands.specs.declared.failure.Failure.TheVariants.{Refused, NotUtf8, NotExported}
-use Rattle.logos_commands.specs.declared.failure.Unexported.{Unexported}
+use Rattle.logos_commands.specs.declared.failure.ExportRefusal.{ExportRefusal}
 use Rattle.logos_commands.specs.declared.outcome.Asked.{Asked as Part}
 use Rattle.logos_commands.specs.declared.outcome.Asked.TheVariants.{Text, Chart, Export}
 use Rattle.logos_commands.specs.Commands.{Asked, asks_text, asks_items, asks_chart, asks_export, asks_strip}
-use Rattle.logos_commands.specs.Charts.{Destination, refused, destination_said}
+use Rattle.logos_commands.specs.Charts.{Destination, refused, export_destination}
 
 -- ---- what is done
 
@@ -42,15 +42,15 @@ pub record IsStrippable (source : List ℕ) : Type 0 where
 
 -- ---- what is refused
 
--- the source has no faults, and the path that it says for its chart, or that it says none, is refused so
-pub record IsUnexported (source : List ℕ) (why : Unexported) : Type 0 where
+-- the source has no faults, and its export path, or that it has none, is refused for this reason
+pub record IsUnexported (source : List ℕ) (why : ExportRefusal) : Type 0 where
   pub config : Config
   pub graph : GraphValue
   pub code : CodeValue
   pub name : Slice
   pub export : Option (List ℕ)
   pub given : IsGiven source config graph code name export
-  pub is : destination_said export name.text ≡ refused why
+  pub is : export_destination export name.text ≡ refused why
 
 -- the source has no faults and is in UTF-8 mode, and the input is UTF-8 for so many bytes, and not as a whole
 pub record IsTorn (source input : List ℕ) (valid_up_to : ℕ) : Type 0 where

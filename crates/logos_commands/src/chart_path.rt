@@ -1,4 +1,4 @@
-//! Where the chart of an enum goes.
+//! The path of the file that the chart of an enum is written to.
 
 ghost use Rattle.std.specs.Prelude.{◌≡◌, IfErr, IfOk, option_copied, string_bytes};
 ghost use Rattle.std.specs.Path.{with_separator};
@@ -6,10 +6,14 @@ ghost use Rattle.logos_commands.specs.Charts.{destination, extension, file_at, f
 ghost use Rattle.logos_commands.specs.Charts.{file_name, refusal_by};
 ghost use Rattle.logos_commands.specs.inside.Destinations.{FailsAt};
 
-use crate::failure::{Failure, Unexported};
+use crate::failure::{ExportRefusal, Failure};
 use std::alloc::{AllocError, Global};
 
-/// Returns the path of the chart of an enum, by the path of a file or of a folder. In a folder the enum's name names the file.
+/// Returns the path of the file for the chart of an enum. `path` is the export path of its source: that of a file, or of a folder, in
+/// which the file has the enum's name.
+///
+/// # Errors
+/// Returns `NotExported` if the path has an extension other than `mmd`, and `Memory` when memory runs out.
 pub(super) fn chart_path(alloc: Global, path: &str, name: &str) -> Result<String, Failure<'static>>
     ensures file { IfOk result (λ chart.
         file_at (string_bytes chart) ≡ destination path.now name.now) }
@@ -24,14 +28,14 @@ pub(super) fn chart_path(alloc: Global, path: &str, name: &str) -> Result<String
     Err(Failure::NotExported(refused_by(extension)))
 }
 
-/// Returns the reason why a chart's path must not have this extension.
-fn refused_by(extension: &str) -> Unexported
+/// Returns why a chart's path must not have this extension, which is not `mmd`.
+fn refused_by(extension: &str) -> ExportRefusal
     ensures { result ≡ refusal_by extension.now }
 {
     if extension == "dot" {
-        Unexported::Dot
+        ExportRefusal::Dot
     } else {
-        Unexported::Extension
+        ExportRefusal::Extension
     }
 }
 

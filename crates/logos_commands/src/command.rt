@@ -1,4 +1,4 @@
-//! The commands that words ask for.
+//! Commands, read from the words of the command line.
 
 ghost use Rattle.std.specs.Prelude.{◌≡◌, bytes_eq, map, option_map, string_bytes};
 ghost use Rattle.logos_commands.specs.Commands.{asked, chart_in, command_asked, export_in, items_in, shape_in};
@@ -9,32 +9,32 @@ use logos_codegen::generator::Config;
 /// A command with its files.
 #[derive(Clone, Copy)]
 pub(super) enum Command<'w> {
-    /// The Rust text of the lexer that the file says.
+    /// `gen`: print the Rust text of the lexer whose enum is in the file.
     Text {
         file: &'w str,
         config: Config,
     },
-    /// The items of the input by the lexer that the file says.
+    /// `lex`: print the items that the lexer whose enum is in the file finds in the input.
     Items {
         file: &'w str,
         input: &'w str,
         config: Config,
     },
-    /// The chart of the graph of the lexer that the file says.
+    /// `mermaid`: print the chart of the graph of that lexer.
     Chart {
         file: &'w str,
     },
-    /// The same chart, in the file that the source names.
+    /// `export`: write the same chart to the file that the source names.
     Export {
         file: &'w str,
     },
-    /// What is left of the file without what belongs to the derive macro.
+    /// `strip`: print the enum in the file without the attributes of the derive macro.
     Strip {
         file: &'w str,
     },
 }
 
-/// What the words ask for, if they are a command.
+/// Returns the command that the words are, or `None`.
 pub(super) fn command_of(words: &[String]) -> Option<Command<'_>>
     ensures { option_map command_asked result ≡ asked (map string_bytes words.now) }
 {
@@ -59,14 +59,14 @@ pub(super) fn command_of(words: &[String]) -> Option<Command<'_>>
     None
 }
 
-/// Whether the word is this text.
+/// Returns whether the word is this text.
 fn is_word(word: &String, text: &str) -> bool
     ensures { result ≡ bytes_eq (string_bytes word.now) text.now }
 {
     word.as_str() == text
 }
 
-/// What the words behind `gen` ask for.
+/// Returns the command `gen` with these words after its name.
 fn text_of(words: &[String]) -> Option<Command<'_>>
     ensures { option_map command_asked result ≡ text_in (map string_bytes words.now) }
 {
@@ -78,7 +78,7 @@ fn text_of(words: &[String]) -> Option<Command<'_>>
     Some(Command::Text { file, config })
 }
 
-/// What the words behind `lex` ask for.
+/// Returns the command `lex` with these words after its name.
 fn items_of(words: &[String]) -> Option<Command<'_>>
     ensures { option_map command_asked result ≡ items_in (map string_bytes words.now) }
 {
@@ -94,7 +94,7 @@ fn items_of(words: &[String]) -> Option<Command<'_>>
     })
 }
 
-/// What the words behind `mermaid` ask for.
+/// Returns the command `mermaid` with these words after its name.
 fn chart_of(words: &[String]) -> Option<Command<'_>>
     ensures { option_map command_asked result ≡ chart_in (map string_bytes words.now) }
 {
@@ -106,7 +106,7 @@ fn chart_of(words: &[String]) -> Option<Command<'_>>
     }
 }
 
-/// What the words behind `export` ask for.
+/// Returns the command `export` with these words after its name.
 fn export_of(words: &[String]) -> Option<Command<'_>>
     ensures { option_map command_asked result ≡ export_in (map string_bytes words.now) }
 {
@@ -118,7 +118,7 @@ fn export_of(words: &[String]) -> Option<Command<'_>>
     }
 }
 
-/// What the words behind `strip` ask for.
+/// Returns the command `strip` with these words after its name.
 fn strip_of(words: &[String]) -> Option<Command<'_>>
     ensures { option_map command_asked result ≡ strip_in (map string_bytes words.now) }
 {
@@ -130,7 +130,7 @@ fn strip_of(words: &[String]) -> Option<Command<'_>>
     }
 }
 
-/// The shape that the last words of a command name: one loop over a state where there are none.
+/// Returns the shape that the last words of a command ask for. Without such words it is one loop with a state.
 fn shape_of(words: &[String]) -> Option<Config>
     ensures { result ≡ shape_in (map string_bytes words.now) }
 {
@@ -143,7 +143,7 @@ fn shape_of(words: &[String]) -> Option<Config>
     }
 }
 
-/// The shape of this name.
+/// Returns the shape of this name.
 fn shape_by_name(name: &String) -> Option<Config>
     ensures { result ≡ shape_named (string_bytes name.now) }
 {

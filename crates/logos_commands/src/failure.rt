@@ -1,18 +1,18 @@
-//! Why a command was not done, and how that is said.
+//! Failures of commands, their statuses and their messages.
 
 ghost use Rattle.std.specs.Prelude.{◌≡◌};
 ghost use Rattle.logos_commands.specs.Commands.{status_of};
 
+use logos_codegen::Refusal;
 use logos_codegen::error::{Errors, Memory};
-use logos_codegen::{LexSourceError, Refusal};
 use std::alloc::AllocError;
 use std::io;
-use std::io::Write;
+use std::io::{BufWriter, Write};
 
-/// Why a command was not done.
+/// Why a command failed.
 #[derive(Drop)]
 pub(super) enum Failure<'w> {
-    /// The file at this path cannot be read, or is no text.
+    /// The file at this path cannot be read, or is not UTF-8 where it has to be.
     Read(&'w str),
     /// The file at this path cannot be written.
     Write(String),
@@ -20,24 +20,24 @@ pub(super) enum Failure<'w> {
     Output,
     /// The source has these faults.
     Refused(Errors),
-    /// The input is no UTF-8 behind so many bytes.
+    /// The input is not UTF-8. `valid_up_to` is the length in bytes of its longest beginning that is.
     NotUtf8 { valid_up_to: usize },
-    /// Two states of a graph that nothing tells apart.
+    /// Two states of the graph find the same matches. A graph never has such states.
     Alike { s: usize, t: usize },
-    /// The source does not say where its chart goes, or says it in a way that is refused.
-    NotExported(Unexported),
+    /// The source has no export path, or one that is refused.
+    NotExported(ExportRefusal),
     /// Memory ran out.
     Memory,
 }
 
-/// Why there is no path for a chart.
+/// Why a chart is not exported.
 #[derive(Clone, Copy)]
-pub(super) enum Unexported {
-    /// The source names none.
-    Unsaid,
-    /// It is one of a chart in the language DOT.
+pub(super) enum ExportRefusal {
+    /// The source has no export path.
+    NoPath,
+    /// The path is that of a chart in the language DOT.
     Dot,
-    /// It has another extension than a chart.
+    /// The path has an extension that no chart has.
     Extension,
 }
 
@@ -77,32 +77,17 @@ impl From<Refusal> for Failure<'_> {
     }
 }
 
-impl From<LexSourceError> for Failure<'_> {
-    ghost use Rattle.std.specs.Prelude.{◌≡◌};
-    ghost use Rattle.logos_commands.specs.Commands.{failure_of};
-
-    ghost from_gives = { λ error failure. failure ≡ failure_of error };
-
-    fn from(error: LexSourceError) -> Self {
-        match error {
-            LexSourceError::Refused(errors) => Failure::Refused(errors),
-            LexSourceError::NotUtf8 { valid_up_to } => Failure::NotUtf8 { valid_up_to },
-            LexSourceError::Memory => Failure::Memory,
-        }
-    }
-}
-
-/// Writes the failure's lines, flushes the writer, and gives the failure's status. What the writer answers changes nothing.
+/// Writes the failure's message, flushes the writer, and returns the failure's status. Errors of the writer are ignored.
 pub(super) fn report<E: Write>(failure: &Failure<'_>, err: &mut E) -> u8
     ensures { result ≡ status_of failure.now }
 {
-    let status = write_lines(failure, err);
+    let status = write_message(failure, err);
     let _ = err.flush();
     status
 }
 
-/// Writes the failure's lines, and gives its status.
-fn write_lines<E: Write>(failure: &Failure<'_>, err: &mut E) -> u8
+/// Writes the failure's message, and returns its status.
+fn write_message<E: Write>(failure: &Failure<'_>, err: &mut E) -> u8
     ensures { result ≡ status_of failure.now }
 {
     match failure {
@@ -119,7 +104,7 @@ fn write_lines<E: Write>(failure: &Failure<'_>, err: &mut E) -> u8
             1
         }
         Failure::NotExported(why) => {
-            let text = unexported_text(*why);
+            let text = export_message(*why);
             let _ = writeln!(err, "{text}");
             1
         }
@@ -142,19 +127,28 @@ fn write_lines<E: Write>(failure: &Failure<'_>, err: &mut E) -> u8
     }
 }
 
-/// Why there is no path for a chart, in words.
-fn unexported_text(why: Unexported) -> &'static str {
+/// Returns the message of a refused export.
+fn export_message(why: ExportRefusal) -> &'static str {
     match why {
-        Unexported::Unsaid => "no export path",
-        Unexported::Dot => "DOT export is left out",
-        Unexported::Extension => {
+        ExportRefusal::NoPath => "no export path",
+        ExportRefusal::Dot => "DOT export is left out",
+        ExportRefusal::Extension => {
             "Export path must end in '.dot' or '.mmd', or it must be a directory."
         }
     }
 }
 
-/// A line for each fault.
+/// Writes a line for each fault, in blocks if there is memory for one.
 fn write_faults<E: Write>(errors: &Errors, err: &mut E) -> io::Result<()> {
+    if let Ok(mut block) = BufWriter::new(errors.alloc(), &mut *err) {
+        write_fault_lines(errors, &mut block)?;
+        return block.flush();
+    }
+    write_fault_lines(errors, err)
+}
+
+/// Writes a line for each fault.
+fn write_fault_lines<E: Write>(errors: &Errors, err: &mut E) -> io::Result<()> {
     for fault in errors.list() {
         let from = fault.span.from;
         let to = fault.span.to;
@@ -166,7 +160,7 @@ fn write_faults<E: Write>(errors: &Errors, err: &mut E) -> io::Result<()> {
     Ok(())
 }
 
-/// The text with `\n` in place of each LF.
+/// Writes the text with `\n` in place of each LF.
 fn write_on_one_line<E: Write>(text: &str, err: &mut E) -> io::Result<()> {
     let mut begun = false;
     for line in text.split('\n') {

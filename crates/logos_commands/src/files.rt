@@ -1,13 +1,13 @@
-//! Files by their paths, and why one cannot be read or written.
+//! Files by their paths.
 
 ghost use Rattle.std.specs.Prelude.{ℕ, List, ⊤, IfOk, OnOk};
 
-/// Why a file cannot be read or written.
+/// Why a file was not read or written.
 #[derive(Clone, Copy, Debug, PartialEq, Eq)]
 pub enum FileError {
-    /// There is no such file, or it gives or takes no bytes.
+    /// There is no such file, or reading or writing it failed.
     Failed,
-    /// There was no memory for it.
+    /// Memory ran out.
     Memory,
 }
 
@@ -19,12 +19,17 @@ pub trait Files {
     // Holds of the files before a write, the path, all bytes of the file there from then on, and the files after it.
     ghost write_makes: { Self → List ℕ → List ℕ → Self → Type 0 } = { λ _ _ _ _. ⊤ };
 
-    /// All bytes of the file at this path, or why there are none.
+    /// Returns all bytes of the file at this path.
+    ///
+    /// # Errors
+    /// Returns `Failed` if the file cannot be read, and `Memory` when memory runs out.
     fn read(&mut self, path: &str) -> Result<Vec<u8>, FileError>
         ensures { IfOk result (λ bytes. read_gives self.old path.now bytes.items self.new) };
 
-    /// Makes these bytes the file at this path, in place of those of a file that is there, and makes the folders on the way that are
-    /// missing; or says why it did not. What was made before that stays.
+    /// Writes these bytes to the file at this path, in place of what the file has, and makes the folders of the path that are missing.
+    ///
+    /// # Errors
+    /// Returns `Failed` if a folder or the file cannot be made or written, and `Memory` when memory runs out. What was made before stays.
     fn write(&mut self, path: &str, bytes: &[u8]) -> Result<(), FileError>
         ensures { OnOk result (write_makes self.old path.now bytes.now self.new) };
 }

@@ -1,30 +1,31 @@
 //! The command `lex`: a line for each item of an input, written in blocks while the input is lexed.
 
-ghost use Rattle.std.specs.Prelude.{◌≡◌, IfErr, OnOk, IsTrue, IsUtf8};
+ghost use Rattle.std.specs.Prelude.{◌≡◌, ◌++◌, ◌+◌, ◌<◌, ◌≤◌, IfErr, OnOk, IsTrue, IsUtf8};
+ghost use Rattle.std.specs.Prelude.{vec_len, vec_capacity};
+ghost use Rattle.logos_machine.specs.LexerValue.{item_of};
 ghost use Rattle.logos_commands.specs.Commands.{status_of};
+ghost use Rattle.logos_commands.specs.Lines.{line_of};
+ghost use Rattle.logos_commands.specs.declared.failure.Failure.TheVariants.{Output};
 ghost use Rattle.logos_commands.specs.Runs.{IsLexed, IsTornBy, ReadsBoth, RefusesInput};
 
 use crate::failure::Failure;
 use crate::files::Files;
-use crate::lines::push_item;
+use crate::lines::{LONGEST, write_line};
 use crate::reading::{read, read_text};
 use logos_codegen::code::Code;
 use logos_codegen::generate;
 use logos_codegen::generator::Config;
 use logos_codegen::leaf::LeafId;
-use logos_codegen::machine::{Action, Lexer};
+use logos_codegen::machine::{Action, Item, Lexer};
 use std::alloc::Global;
 use std::io::Write;
 
-/// How many bytes a block has at least when it is written.
+/// The length in bytes from which a block is written.
 const BLOCK: usize = 65_536;
 
-/// More bytes than a line has: a word, at most three numbers of twenty digits, and what parts them.
-const LINE: usize = 80;
-
-/// Writes a line for each item of the input, by the enum in the file.
+/// Writes a line for each item of the input at the second path, found by the lexer of the enum at the first path.
 ///
-/// Everything that can refuse comes before the first item. After it only writing can fail.
+/// All refusals come before the first item. After it only writing can fail.
 pub(super) fn lex<'w, F: Files, O: Write>(
     alloc: Global,
     paths: (&'w str, &'w str),
@@ -43,7 +44,7 @@ pub(super) fn lex<'w, F: Files, O: Write>(
     lex_by_source(alloc, source.as_str(), bytes.as_slice(), config, out)
 }
 
-/// Writes a line for each item of an input, by a source.
+/// Writes a line for each item of an input, found by the lexer of a source.
 fn lex_by_source<O: Write>(
     alloc: Global,
     source: &str,
@@ -61,7 +62,7 @@ fn lex_by_source<O: Write>(
     }
 }
 
-/// Writes a line for each item of an input, by the code of a lexer.
+/// Writes a line for each item of an input, found by the code of a lexer.
 fn lex_by_code<O: Write>(
     alloc: Global,
     code: &Code<'_>,
@@ -84,7 +85,7 @@ fn lex_by_code<O: Write>(
     }
 }
 
-/// Writes a line for each item that a lexer still gives.
+/// Writes a line for each further item of a lexer, and flushes the writer.
 fn write_items<C: Fn(LeafId, &[u8]) -> Action, O: Write>(
     alloc: Global,
     lexer: &mut Lexer<'_, '_, '_, C>,
@@ -93,30 +94,47 @@ fn write_items<C: Fn(LeafId, &[u8]) -> Action, O: Write>(
     requires { C.IsAlwaysCallable lexer.old.callback }
     ensures { IfErr result (λ failure. status_of failure ≡ 3) }
 {
-    let mut block = Vec::with_capacity(alloc, BLOCK + LINE)?;
+    let mut block = Vec::with_capacity(alloc, BLOCK + LONGEST)?;
     write_lines(lexer, &mut block, out)
 }
 
-/// Writes a line for each item that a lexer still gives, by blocks, and flushes the writer.
+/// Writes a line for each further item of a lexer, collected in a block, and flushes the writer. Only writing can fail.
 fn write_lines<C: Fn(LeafId, &[u8]) -> Action, O: Write>(
     lexer: &mut Lexer<'_, '_, '_, C>,
     block: &mut Vec<u8>,
     out: &mut O,
 ) -> Result<(), Failure<'static>>
-    requires { C.IsAlwaysCallable lexer.old.callback }
-    ensures { IfErr result (λ failure. status_of failure ≡ 3) }
+    requires callable { C.IsAlwaysCallable lexer.old.callback }
+    requires room { (vec_len block.old < BLOCK) × (BLOCK + LONGEST ≤ vec_capacity block.old) }
+    ensures { IfErr result (λ failure. failure ≡ Output) }
 {
     while let Some(item) = lexer.next() {
-        push_item(block, item)?;
+        push_line(block, item);
         write_full(block, out)?;
     }
     write_block(block, out)?;
     flush(out)
 }
 
-/// Writes a block that is full, and empties it.
+/// Adds the line of an item to a block that has room for it.
+#[inline(always)]
+fn push_line(block: &mut Vec<u8>, item: Item<'_>)
+    requires { vec_len block.old + LONGEST ≤ vec_capacity block.old }
+    ensures text { block.new.items ≡ block.old.items ++ line_of (item_of item.entry) }
+    ensures room { vec_capacity block.old ≤ vec_capacity block.new }
+{
+    let mut line = [0; LONGEST];
+    let from = write_line(&mut line, item);
+    if block.extend_from_slice(&line[from..]).is_err() {
+        unreachable!();
+    }
+}
+
+/// Writes a block if it is full, and empties it.
 fn write_full<O: Write>(block: &mut Vec<u8>, out: &mut O) -> Result<(), Failure<'static>>
-    ensures { IfErr result (λ failure. status_of failure ≡ 3) }
+    ensures few { vec_len block.new < BLOCK }
+    ensures room { vec_capacity block.new ≡ vec_capacity block.old }
+    ensures failure { IfErr result (λ failure. failure ≡ Output) }
 {
     if block.len() < BLOCK {
         return Ok(());
@@ -126,7 +144,9 @@ fn write_full<O: Write>(block: &mut Vec<u8>, out: &mut O) -> Result<(), Failure<
 
 /// Writes a block, and empties it.
 fn write_block<O: Write>(block: &mut Vec<u8>, out: &mut O) -> Result<(), Failure<'static>>
-    ensures { IfErr result (λ failure. status_of failure ≡ 3) }
+    ensures empty { vec_len block.new ≡ 0 }
+    ensures room { vec_capacity block.new ≡ vec_capacity block.old }
+    ensures failure { IfErr result (λ failure. failure ≡ Output) }
 {
     let written = out.write_all(block.as_slice());
     block.clear();
@@ -136,9 +156,9 @@ fn write_block<O: Write>(block: &mut Vec<u8>, out: &mut O) -> Result<(), Failure
     }
 }
 
-/// Flushes a writer, which may have held back what it was given until then.
+/// Flushes a writer.
 fn flush<O: Write>(out: &mut O) -> Result<(), Failure<'static>>
-    ensures { IfErr result (λ failure. status_of failure ≡ 3) }
+    ensures { IfErr result (λ failure. failure ≡ Output) }
 {
     match out.flush() {
         Ok(()) => Ok(()),

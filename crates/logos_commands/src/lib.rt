@@ -1,4 +1,4 @@
-//! The commands of the program, over any files and any writers.
+//! The commands of the program, on any files and any writers.
 
 #![tactic(auto)]
 

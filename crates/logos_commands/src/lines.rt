@@ -1,62 +1,55 @@
 //! The lines of items.
 
-ghost use Rattle.std.specs.Prelude.{◌≡◌, ◌++◌, ◌<◌, decimal, OnOk, drop};
+ghost use Rattle.std.specs.Prelude.{◌≡◌, ◌+◌, ◌≤◌, ◌++◌, length, drop};
 ghost use Rattle.logos_machine.specs.LexerValue.{item_of};
 ghost use Rattle.logos_commands.specs.Lines.{line_of, span_line};
 
+use itoa::write_digits;
 use logos_codegen::machine::Item;
 use logos_codegen::token::Span;
-use std::alloc::AllocError;
 
-/// Adds the line of an item.
-pub(super) fn push_item(text: &mut Vec<u8>, item: Item<'_>) -> Result<(), AllocError>
-    ensures { OnOk result (text.new.items ≡ text.old.items ++ line_of (item_of item.entry)) }
+/// The length in bytes of the longest line: a word, three numbers of 20 digits, and what stands between them.
+pub(super) const LONGEST: usize = 70;
+
+/// Writes the line of an item at the end of the array, and returns where it begins.
+#[inline]
+pub(super) fn write_line(line: &mut [u8; LONGEST], item: Item<'_>) -> usize
+    ensures { drop result line.new ≡ line_of (item_of item.entry) }
 {
     match item {
         Item::Token { leaf, span, .. } => {
-            text.extend_from_slice(b"token ")?;
-            push_number(text, leaf.0)?;
-            text.extend_from_slice(b" ")?;
-            push_span(text, span)
+            let at = write_span(line, span);
+            let at = write_before(line, at, b" ");
+            let at = write_digits(leaf.0 as u64, line, at);
+            write_before(line, at, b"token ")
         }
         Item::Error { span, .. } => {
-            text.extend_from_slice(b"error ")?;
-            push_span(text, span)
+            let at = write_span(line, span);
+            write_before(line, at, b"error ")
         }
     }
 }
 
-/// Adds a span and a line end.
-fn push_span(text: &mut Vec<u8>, span: Span) -> Result<(), AllocError>
-    ensures { OnOk result (text.new.items ≡ text.old.items ++ span_line span.from span.to) }
+/// Writes a span and a line end at the end of the array, and returns where they begin.
+#[inline(always)]
+fn write_span(line: &mut [u8; LONGEST], span: Span) -> usize
+    ensures place { (27 ≤ result) × (result ≤ LONGEST) }
+    ensures text { drop result line.new ≡ span_line span.from span.to }
 {
-    push_number(text, span.from)?;
-    text.extend_from_slice(b"..")?;
-    push_number(text, span.to)?;
-    text.extend_from_slice(b"\n")
+    let at = write_before(line, LONGEST, b"\n");
+    let at = write_digits(span.to as u64, line, at);
+    let at = write_before(line, at, b"..");
+    write_digits(span.from as u64, line, at)
 }
 
-/// Adds the decimal digits of a number.
-fn push_number(text: &mut Vec<u8>, number: usize) -> Result<(), AllocError>
-    ensures { OnOk result (text.new.items ≡ text.old.items ++ decimal number) }
+/// Writes a text in front of what stands in the line from an index on, and returns where the text begins.
+#[inline(always)]
+fn write_before(line: &mut [u8; LONGEST], end: usize, text: &[u8]) -> usize
+    requires { (length text.now ≤ end) × (end ≤ LONGEST) }
+    ensures place { result + length text.now ≡ end }
+    ensures text { drop result line.new ≡ text.now ++ drop end line.old }
 {
-    let mut digits = [0; 20];
-    let from = write_digits(&mut digits, number);
-    text.extend_from_slice(&digits[from..])
-}
-
-/// Writes the decimal digits of a number at the end of the array, and returns where they begin.
-fn write_digits(digits: &mut [u8; 20], number: usize) -> usize
-    ensures place { result < 20 }
-    ensures digits { drop result digits.new ≡ decimal number }
-{
-    let mut at = 19;
-    let mut rest = number;
-    while rest >= 10 {
-        digits[at] = b'0' + (rest % 10) as u8;
-        rest /= 10;
-        at -= 1;
-    }
-    digits[at] = b'0' + rest as u8;
+    let at = end - text.len();
+    line[at..end].copy_from_slice(text);
     at
 }

@@ -1,14 +1,14 @@
-//! What the commands make of a source, whole, before any of it is written.
+//! The outcomes of commands, each made as a whole before any of it is written.
 
 ghost use Rattle.std.specs.Prelude.{◌≡◌, ◌≢◌, IfErr, IfOk, option_map, string_bytes};
-ghost use Rattle.logos_commands.specs.Charts.{destination_said, file_at};
+ghost use Rattle.logos_commands.specs.Charts.{export_destination, file_at};
 ghost use Rattle.logos_commands.specs.inside.Destinations.{FailsAt, IsChartAt};
 ghost use Rattle.logos_commands.specs.Commands.{status_of};
 ghost use Rattle.logos_commands.specs.Runs.{IsFaultless, IsStrippable, ReadsSome};
 ghost use Rattle.logos_commands.specs.Runs.{RefusesExport, RefusesLexer, RefusesStripping};
 
 use crate::chart_path::chart_path;
-use crate::failure::{Failure, Unexported};
+use crate::failure::{ExportRefusal, Failure};
 use crate::files::Files;
 use crate::reading::read_text;
 use logos_codegen::generator::Config;
@@ -17,16 +17,16 @@ use logos_codegen::token::print;
 use logos_codegen::{Generated, generate, strip_attributes};
 use std::alloc::Global;
 
-/// What a command makes of a source.
+/// The outcome of a command.
 #[derive(Drop)]
 pub(super) enum Outcome {
     /// A text for standard output.
     Text(String),
-    /// A chart for the file at this path.
+    /// A chart, and the path of the file that it is written to.
     Chart { path: String, text: String },
 }
 
-/// What a command asks of a lexer.
+/// What a command makes of a lexer.
 #[derive(Clone, Copy)]
 pub(super) enum Asked {
     /// Its Rust text.
@@ -37,12 +37,12 @@ pub(super) enum Asked {
     Export,
 }
 
-/// A chart is the same in both shapes.
+/// A shape for charts, which are the same in both.
 pub(super) const ANY_SHAPE: Config = Config {
     use_state_machine_codegen: true,
 };
 
-/// Makes what is asked of the lexer of the source in a file.
+/// Makes the outcome of a command on the source in a file.
 pub(super) fn of_file<'w, F: Files>(
     alloc: Global,
     file: &'w str,
@@ -58,7 +58,7 @@ pub(super) fn of_file<'w, F: Files>(
     of_source(alloc, source.as_str(), config, asked)
 }
 
-/// What is asked for of the lexer of a source.
+/// Makes the outcome of a command on a source.
 fn of_source(
     alloc: Global,
     source: &str,
@@ -75,11 +75,11 @@ fn of_source(
     }
 }
 
-/// What is asked for of a lexer that was made.
+/// Makes the outcome of a command on a lexer.
 fn of_lexer(alloc: Global, made: &Generated<'_>, asked: Asked) -> Result<Outcome, Failure<'static>>
     ensures plain { asked ≢ Asked.Export → IfErr result (λ failure. status_of failure ≡ 3) }
     ensures export { IfErr result (λ failure. status_of failure ≡ 1 → RefusesExport
-        (destination_said (option_map string_bytes made.now.export_path) made.now.name.text.now)
+        (export_destination (option_map string_bytes made.now.export_path) made.now.name.text.now)
         failure) }
 {
     match asked {
@@ -89,7 +89,7 @@ fn of_lexer(alloc: Global, made: &Generated<'_>, asked: Asked) -> Result<Outcome
     }
 }
 
-/// The Rust text of a lexer that was made, and LF.
+/// Returns the Rust text of a lexer, and LF.
 fn text_of_lexer(alloc: Global, made: &Generated<'_>) -> Result<String, Failure<'static>>
     ensures { IfErr result (λ failure. status_of failure ≡ 3) }
 {
@@ -98,7 +98,7 @@ fn text_of_lexer(alloc: Global, made: &Generated<'_>) -> Result<String, Failure<
     Ok(text)
 }
 
-/// What is left of a file without what belongs to the derive macro, and LF.
+/// Makes the enum in a file without the attributes of the derive macro, and LF.
 pub(super) fn stripped<'w, F: Files>(
     alloc: Global,
     file: &'w str,
@@ -114,7 +114,7 @@ pub(super) fn stripped<'w, F: Files>(
     Ok(Outcome::Text(text))
 }
 
-/// What is left of a source without what belongs to the derive macro.
+/// Returns the enum of a source without the attributes of the derive macro.
 fn stripped_source(alloc: Global, source: &str) -> Result<String, Failure<'static>>
     ensures done { IfOk result (λ text. IsStrippable source.now) }
     ensures denied { IfErr result (λ failure. status_of failure ≡ 1 →
@@ -124,12 +124,12 @@ fn stripped_source(alloc: Global, source: &str) -> Result<String, Failure<'stati
     Ok(print(alloc, left.run())?)
 }
 
-/// The chart of the graph of a lexer that was made, for the file that its source names.
+/// Makes the chart of the graph of a lexer, for the file that its source names.
 fn export_of_lexer(alloc: Global, made: &Generated<'_>) -> Result<Outcome, Failure<'static>>
     ensures chart { IfOk result (IsChartAt
-        (destination_said (option_map string_bytes made.now.export_path) made.now.name.text.now)) }
+        (export_destination (option_map string_bytes made.now.export_path) made.now.name.text.now)) }
     ensures denied { IfErr result (λ failure. status_of failure ≡ 1 → RefusesExport
-        (destination_said (option_map string_bytes made.now.export_path) made.now.name.text.now)
+        (export_destination (option_map string_bytes made.now.export_path) made.now.name.text.now)
         failure) }
 {
     let path = path_of_chart(alloc, made)?;
@@ -137,20 +137,20 @@ fn export_of_lexer(alloc: Global, made: &Generated<'_>) -> Result<Outcome, Failu
     Ok(Outcome::Chart { path, text })
 }
 
-/// The path of the file that a source names for its chart.
+/// Returns the path of the file that a source names for its chart.
 fn path_of_chart(alloc: Global, made: &Generated<'_>) -> Result<String, Failure<'static>>
     ensures file { IfOk result (λ chart. file_at (string_bytes chart)
-        ≡ destination_said (option_map string_bytes made.now.export_path) made.now.name.text.now) }
+        ≡ export_destination (option_map string_bytes made.now.export_path) made.now.name.text.now) }
     ensures failure { IfErr result (FailsAt
-        (destination_said (option_map string_bytes made.now.export_path) made.now.name.text.now)) }
+        (export_destination (option_map string_bytes made.now.export_path) made.now.name.text.now)) }
 {
     match &made.export_path {
         Some(path) => chart_path(alloc, path.as_str(), made.name.text),
-        None => Err(Failure::NotExported(Unexported::Unsaid)),
+        None => Err(Failure::NotExported(ExportRefusal::NoPath)),
     }
 }
 
-/// The chart of a graph, once each state is told apart from the next.
+/// Returns the chart of a graph, after testing that each state differs from the next.
 fn tested_chart(alloc: Global, graph: &Graph<'_>) -> Result<String, Failure<'static>>
     ensures { IfErr result (λ failure. status_of failure ≡ 3) }
 {
@@ -172,7 +172,7 @@ fn test_neighbours(alloc: Global, graph: &Graph<'_>) -> Result<(), Failure<'stat
     Ok(())
 }
 
-/// Refuses two different states that nothing tells apart.
+/// Refuses two different states if no text shows a difference between them.
 fn test_pair(alloc: Global, graph: &Graph<'_>, s: State, t: State) -> Result<(), Failure<'static>>
     ensures { IfErr result (λ failure. status_of failure ≡ 3) }
 {
@@ -180,8 +180,8 @@ fn test_pair(alloc: Global, graph: &Graph<'_>, s: State, t: State) -> Result<(),
     if !is_pair || s.index() == t.index() {
         return Ok(());
     }
-    let telling = graph.telling(alloc, s, t)?;
-    if graph.checks(s, t, telling.bytes.as_slice(), telling.at_end) {
+    let difference = graph.telling(alloc, s, t)?;
+    if graph.checks(s, t, difference.bytes.as_slice(), difference.at_end) {
         Ok(())
     } else {
         Err(Failure::Alike {

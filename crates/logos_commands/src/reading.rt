@@ -1,4 +1,4 @@
-//! Files, read whole.
+//! Reading whole files.
 
 ghost use Rattle.std.specs.Prelude.{◌≡◌, IfErr, IfOk, string_bytes};
 ghost use Rattle.logos_commands.specs.Commands.{status_of};

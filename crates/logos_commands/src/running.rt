@@ -1,4 +1,4 @@
-//! From words to a status: what a command gives is written, or why it is not done.
+//! Running commands: from words to a status.
 
 ghost use Rattle.std.specs.Prelude.{◌≡◌, ◌≤◌, ◌⊎◌, ◌↔◌, None, map, string_bytes};
 ghost use Rattle.std.specs.Prelude.{IfErr, IfSome, OnOk};
@@ -17,8 +17,10 @@ use std::alloc::Global;
 use std::io;
 use std::io::{ErrorKind, Write};
 
-/// Runs the command that the words name, and gives the exit status: 0 done, 1 refused, 2 for words
-/// that are no command, 3 files or memory. What is said at a status above 0 goes to `err`.
+/// Runs the command that the words name, and returns the exit status: 0 if it was carried out, 1 if the source or the input was
+/// refused, 2 if the words are no command, 3 if a file, the output or the memory failed.
+///
+/// Where the status is not 0, a message goes to `err`. Then nothing was written to `out`, unless writing to it failed.
 pub fn run<F: Files, O: Write, E: Write>(
     alloc: Global,
     words: &[String],
@@ -27,10 +29,10 @@ pub fn run<F: Files, O: Write, E: Write>(
     err: &mut E,
 ) -> u8
     ensures usage { (result ≡ 2) ↔ (asked (map string_bytes words.now) ≡ None) }
-    // Where all is done, the files gave a source that is accepted, and for `lex` an input of it.
+    // At status 0 the files gave a source that is accepted, and for `lex` an input that its mode takes.
     ensures done { result ≡ 0 → IfSome (asked (map string_bytes words.now))
         (λ command. IsDone F.read_gives command files.old) }
-    // A refusal stands: of what the files gave, or of the path of a chart.
+    // At status 1 what the files gave is refused, or the path of a chart is.
     ensures denied { result ≡ 1 → IfSome (asked (map string_bytes words.now))
         (λ command. (failure : Why) × IsDenied F.read_gives command files.old failure) }
     ensures known { result ≤ 3 }
@@ -44,8 +46,7 @@ pub fn run<F: Files, O: Write, E: Write>(
     }
 }
 
-/// Carries out a command. What it makes of a source is written whole, once it is made; the items of an input are written while it is
-/// lexed.
+/// Carries out a command. Texts and charts are written once they are made; the items of an input are written while it is lexed.
 fn carry_out<'w, F: Files, O: Write>(
     alloc: Global,
     command: Command<'w>,
@@ -75,7 +76,7 @@ fn carry_out<'w, F: Files, O: Write>(
     }
 }
 
-/// Writes what is asked of the lexer of the source in a file, in a shape.
+/// Writes what a command makes of the lexer of the source in a file, in a shape.
 fn write_lexer<'w, F: Files, O: Write>(
     alloc: Global,
     file: &'w str,
@@ -94,7 +95,7 @@ fn write_lexer<'w, F: Files, O: Write>(
     }
 }
 
-/// Writes what is left of the source in a file without what belongs to the derive macro.
+/// Writes the enum in a file without the attributes of the derive macro.
 fn write_stripped<'w, F: Files, O: Write>(
     alloc: Global,
     file: &'w str,
@@ -111,7 +112,7 @@ fn write_stripped<'w, F: Files, O: Write>(
     }
 }
 
-/// Writes what a command has made, to standard output or to a file.
+/// Writes an outcome to standard output or to a file.
 fn deliver<F: Files, O: Write>(
     outcome: Outcome,
     files: &mut F,
@@ -125,7 +126,7 @@ fn deliver<F: Files, O: Write>(
     }
 }
 
-/// Writes a text to standard output, and flushes that.
+/// Writes a text to standard output, and flushes it.
 fn write_out<O: Write>(text: &str, out: &mut O) -> Result<(), Failure<'static>>
     ensures { IfErr result (λ failure. status_of failure ≡ 3) }
 {
@@ -135,7 +136,7 @@ fn write_out<O: Write>(text: &str, out: &mut O) -> Result<(), Failure<'static>>
     }
 }
 
-/// Writes a text whole, and then flushes the writer, which may hold it back until then.
+/// Writes a whole text, and flushes the writer.
 fn write_through<O: Write>(text: &str, out: &mut O) -> io::Result<()> {
     out.write_all(text.as_bytes())?;
     out.flush()
@@ -152,8 +153,8 @@ fn write_file<F: Files>(path: String, text: &str, files: &mut F) -> Result<(), F
     }
 }
 
-/// Says why there are no words, and gives the exit status: 3 where there was no memory for them, and else 2, since a word is
-/// no text.
+/// Reports that the words of the command line could not be read, and returns the exit status: 3 when memory ran out, otherwise 2,
+/// since a word is not UTF-8.
 pub fn refuse_words<E: Write>(why: ErrorKind, err: &mut E) -> u8
     ensures memory { (result ≡ 3) ↔ (why ≡ ErrorKind.OutOfMemory) }
     ensures known { (result ≡ 2) ⊎ (result ≡ 3) }
@@ -164,7 +165,7 @@ pub fn refuse_words<E: Write>(why: ErrorKind, err: &mut E) -> u8
     }
 }
 
-/// Writes the line that says what the words may be.
+/// Writes the usage line, and returns its status.
 fn usage<E: Write>(err: &mut E) -> u8
     ensures { result ≡ 2 }
 {

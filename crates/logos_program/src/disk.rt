@@ -4,7 +4,7 @@ use logos_commands::{FileError, Files};
 use std::rt::Files as Runtime;
 use std::{fs, io};
 
-/// Files behind the runtime.
+/// The files of the system, reached through its runtime.
 #[derive(Drop)]
 pub struct Disk<'r, R> {
     pub rt: &'r R,
@@ -26,13 +26,13 @@ impl<R: Runtime + AllocGlobal> Files for Disk<'_, R> {
     }
 }
 
-/// Writes the file, once the folders on the way to it are there.
+/// Writes the file, after making the folders of its path that are missing.
 fn write_file<R: Runtime>(rt: &R, path: &str, bytes: &[u8]) -> io::Result<()> {
     fs::create_dir_all(rt, folder_of(path))?;
     fs::write(rt, path, bytes)
 }
 
-/// The folder that a file lies in: what stands in front of the last `/` of its path, and nothing where there is none.
+/// Returns the folder of a file: what stands in front of the last `/` of its path, or nothing if there is none.
 fn folder_of(path: &str) -> &str {
     match path.rsplit_once('/') {
         Some((folder, _)) => folder,
@@ -40,7 +40,7 @@ fn folder_of(path: &str) -> &str {
     }
 }
 
-/// Why a file was not read or written: there was no memory for it, or something else.
+/// Returns why a file was not read or written: memory ran out, or something else failed.
 fn file_error(error: &io::Error) -> FileError {
     match error.kind() {
         io::ErrorKind::OutOfMemory => FileError::Memory,

@@ -1,4 +1,4 @@
-//! The program `logos`: it prints the lexer of an enum in a file, charts it, or lexes another file by it.
+//! The program `logos`: prints the lexer of an enum in a file or its chart, or lexes another file by it.
 
 #![tactic(auto)]
 
@@ -11,7 +11,7 @@ use std::process::ExitCode;
 use std::rt::Env;
 use std::{env, io};
 
-/// The words behind the program's name.
+/// Returns the words after the program's name.
 fn words<R: Env + AllocGlobal>(rt: &R) -> io::Result<Vec<String>> {
     let mut words = Vec::new(rt.alloc());
     for word in env::args(rt)?.skip(1) {
