@@ -1,5 +1,5 @@
 #!/usr/bin/env bash
-# Measures `read_said` on enums with many attributes, and prints a table: the seconds of the call alone, the leaves, the faults, and
+# Measures `analyze` on enums with many attributes, and prints a table: the seconds of the call alone, the leaves, the faults, and
 # the most memory that the program used, its source included. Of three runs the fastest counts.
 #
 # It needs python3. The program of bench/attributes is built in a copy of the repository as `rt run` builds it, so the crates are

@@ -42,6 +42,8 @@ UNUSED = {
     "reached, work, as names of types": ([], r"(?!)"),
 }
 WHOLE_NAMES = {"Reached": "reached, work, as names of types", "Work": "reached, work, as names of types"}
+# Names that users of the library know.
+PUBLIC = {"telling", "Telling"}
 NAME_WORDS = {word: entry for entry, (words, _) in UNUSED.items() for word in words}
 SENTENCES = {entry: re.compile(pattern, re.I if not pattern.startswith("^") else 0) for entry, (_, pattern) in UNUSED.items()}
 NAME = re.compile(r"[A-Za-z_][A-Za-z0-9_]*")
@@ -60,6 +62,8 @@ def read(path):
 
 def in_name(name, listing):
     """Yields the entry of each word in a name that is not used."""
+    if name in PUBLIC:
+        return
     if name in WHOLE_NAMES:
         yield WHOLE_NAMES[name]
     if name in listing:

@@ -88,7 +88,7 @@ const CALLS: &[(&str, Call)] = &[
     ("read_pattern", Call::Text(TextCall::ReadPattern)),
     ("token_leaf", Call::Parser(ParserCall::MakeLeaf)),
     ("regex_leaf", Call::Parser(ParserCall::MakeLeaf)),
-    ("read_source", Call::Run(RunCall::ReadSource)),
+    ("read_leaves", Call::Run(RunCall::ReadLeaves)),
     // Of graphs, codes, texts and commands.
     ("Graph::new", Call::Graph(graphs::View::Listing)),
     ("Graph::errors", Call::Graph(graphs::View::Errors)),

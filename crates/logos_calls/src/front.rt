@@ -49,7 +49,7 @@ pub enum RunCall {
     Runs,
     TypeAfter,
     Lifetimes,
-    ReadSource,
+    ReadLeaves,
 }
 
 /// A call that is asked of a parser that has read nothing, and of the tokens of a text.
@@ -128,7 +128,7 @@ fn ask_run(
         RunCall::ReadEnum => return items::read(alloc, answer, words, run),
         RunCall::TypeAfter => return parameters::replaced(alloc, answer, run),
         RunCall::Lifetimes => return parameters::lifetimes(alloc, answer, run),
-        RunCall::ReadSource => return leaves::source(alloc, answer, run),
+        RunCall::ReadLeaves => return leaves::source(alloc, answer, run),
     }
     Ok(())
 }

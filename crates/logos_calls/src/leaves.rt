@@ -1,4 +1,4 @@
-//! Calls of leaves and of all that an enum says, and how leaves are written.
+//! Calls that make leaves and read enums, and how leaves are written.
 
 use crate::answer::Answer;
 use crate::definitions::failed;
@@ -6,7 +6,7 @@ use crate::errors::push_errors;
 use crate::patterns::push_leaf;
 use crate::stop::Stop;
 use logos_leaf::leaf::{regex_leaf, token_leaf};
-use logos_leaf::source::{Source, read_source, utf8_mode};
+use logos_leaf::source::{read_leaves, utf8_mode};
 use logos_parser::item::{ReadError, read_enum};
 use logos_parser::parser::{Parser, Subpatterns};
 use logos_pattern::leaf::{Leaf, VariantKind};
@@ -32,9 +32,9 @@ fn made<'s>(
     };
     let (kind, errors) = (VariantKind::Unit(NAME), &mut parser.errors);
     if name == "token_leaf" {
-        token_leaf(alloc, definition, kind, errors)
+        token_leaf(definition, kind, errors)
     } else {
-        regex_leaf(alloc, definition, kind, &subpatterns, errors)
+        regex_leaf(definition, kind, &subpatterns, errors)
     }
 }
 
@@ -57,24 +57,26 @@ pub fn leaf<'s>(
     Ok(())
 }
 
-/// Adds the mode, the leaves and the faults of what an enum says.
-fn push_source(answer: &mut Answer, source: &Source<'_>) {
+/// Adds the mode, the leaves and the faults of an enum.
+fn push_leaves(answer: &mut Answer, leaves: &[Leaf<'_>], parser: &Parser<'_>) {
     answer.text(" ");
-    answer.debug(&utf8_mode(&source.parser));
-    for leaf in &source.leaves {
+    answer.debug(&utf8_mode(parser));
+    for leaf in leaves {
         answer.text(" ");
         push_leaf(answer, leaf);
     }
-    push_errors(answer, " ", &source.parser.errors, false);
+    push_errors(answer, " ", &parser.errors, false);
 }
 
-/// Adds the name of the enum that a run is, its place, and what it says; or why it is none.
+/// Adds the name of the enum that a run is, its span, its mode, its leaves and its faults; or why it is not an enum.
 pub fn source(alloc: Global, answer: &mut Answer, run: Tokens<'_, '_>) -> Result<(), Stop> {
     match &read_enum(alloc, run) {
         Ok(item) => {
             answer.text(item.name.text);
             answer.span(" ", item.name.span);
-            push_source(answer, &read_source(alloc, item)?);
+            let mut parser = Parser::new(alloc);
+            let leaves = read_leaves(item, &mut parser)?;
+            push_leaves(answer, &leaves, &parser);
         }
         Err(ReadError::Memory) => return Err(Stop::Memory),
         Err(error) => answer.debug(error),

@@ -128,7 +128,7 @@ pub fn pattern(alloc: Global, answer: &mut Answer, words: &str, text: &str) -> R
         unicode: !has_word(words, "bytes"),
         ignore_case: has_word(words, "case"),
     };
-    match &read_pattern(alloc, text, &literal, mode, &mut errors)? {
+    match &read_pattern(text, &literal, mode, &mut errors)? {
         Some(pattern) => answer.display(pattern),
         None => answer.text("-"),
     }

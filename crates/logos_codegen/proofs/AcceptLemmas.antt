@@ -1,12 +1,11 @@
 -- Sources that are refused, and those that are not.
-use Rattle.std.proofs.Common.{◌≡◌, ℕ, ◌<◌, ◌≤◌, length, Bool, List, [], ◌∷◌, ◌++◌, map, flat_map, Result, Ok, Err, sym, ◌∙◌, ap, refl, arith}
+use Rattle.std.proofs.Common.{◌≡◌, ℕ, Bool, List, [], ◌∷◌, ◌++◌, map, flat_map, Ok, Err, sym, ◌∙◌, ap, refl, arith}
 use Rattle.logos_lexeme.specs.declared.lexeme.Span.{Span}
-use Rattle.logos_token.specs.Faults.{Fault as ListedFault}
+use Rattle.logos_token.specs.Faults.{Fault as SourceFault}
 use Rattle.logos_token.specs.Tokens.{TokenList, run_span}
 use Rattle.logos_token.proofs.reading.SpellingLaws.{spells-one, unreadable-excludes, deep-excludes}
 use Rattle.logos_item.specs.Enum.{Reads}
 use Rattle.logos_item.specs.EnumValues.{EnumValue}
-use Rattle.logos_item.specs.declared.error.ReadError.{ReadError}
 use Rattle.logos_item.proofs.EnumOnce.{once-reads}
 use Rattle.logos_definition.specs.Options.{OptionsView}
 use Rattle.logos_leaf.specs.Leaves.{LeafView}
@@ -17,18 +16,18 @@ use Rattle.logos_automaton.specs.Faults.{AreFaults}
 use Rattle.logos_automaton.proofs.ambiguity.OneFaults.{faults_once}
 use Rattle.logos_source.specs.Endings.{Says, EndsTokens, EndsReading, source_limit, nesting_limit, unreadable, misread}
 use Rattle.logos_source.specs.Refusals.{Refuses, IsMemory}
-use Rattle.logos_source.specs.Saying.{EnumSays, type_faults}
+use Rattle.logos_source.specs.Analyses.{EnumSays, type_faults}
 use Rattle.logos_source.specs.Utf8Faults.{utf8_faults}
 use Rattle.logos_source.specs.declared.refusal.Refusal.{Refusal}
 use Rattle.logos_source.specs.declared.refusal.Refusal.TheVariants.{Errors, Memory}
-use Rattle.logos_codegen.specs.Texts.{listed_of}
-use Rattle.logos_codegen.specs.Rules.{NamedRule, named_said, rules_said, rules_in, names_in, GraphLists, graph_faults, size_limit, states_limit}
+use Rattle.logos_codegen.specs.Texts.{reported_as}
+use Rattle.logos_codegen.specs.Rules.{NamedRule, named_of_view, rules_of_views, rules_in, names_in, GraphReports, graph_faults, size_limit, states_limit}
 use Rattle.logos_codegen.specs.Source.{IsAccepted, IsRefused, unread, faulty, IsWithinLimits}
-use Rattle.logos_codegen.specs.Tokenizing.{kinds_said}
-use Rattle.logos_codegen.proofs.GraphLemmas.{said_rules}
+use Rattle.logos_codegen.specs.Tokenizing.{kinds_of_views}
+use Rattle.logos_codegen.proofs.GraphLemmas.{rules_of_named}
 use Rattle.logos_codegen.proofs.ShownLemmas.{same_rules, same_faults, same_kinds}
 
-nothing_in : (xs ys : List ListedFault) → [] ≡ xs ++ ys → (xs ≡ []) × (ys ≡ [])
+nothing_in : (xs ys : List SourceFault) → [] ≡ xs ++ ys → (xs ≡ []) × (ys ≡ [])
 nothing_in [] ys e = (refl, sym e)
 nothing_in (x ∷ xs) ys e = absurd (cc)
 
@@ -36,38 +35,38 @@ nothing_in (x ∷ xs) ys e = absurd (cc)
 abbrev without_skips : OptionsView → OptionsView
 without_skips o = record o { skips = [] }
 
--- the parts of an enum that list nothing
-pub record AreSilent (leaves : List LeafView) (rest : OptionsView) (of_parts : List ListedFault) : Type 0 where
+-- the parts of an enum without faults
+pub record AreSilent (leaves : List LeafView) (options : OptionsView) (of_parts : List SourceFault) : Type 0 where
   pub parts : of_parts ≡ []
-  pub text : utf8_faults (utf8_mode rest) leaves ≡ []
-  pub types : type_faults rest ≡ []
+  pub text : utf8_faults (utf8_mode options) leaves ≡ []
+  pub types : type_faults options ≡ []
 
-pub silent : (enum : EnumValue) (leaves : List LeafView) (rest : OptionsView) (a : EnumSays enum leaves rest []) → AreSilent leaves rest a.of_parts
-silent enum leaves rest a =
-    let all = nothing_in (a.of_parts ++ utf8_faults (utf8_mode rest) leaves) (type_faults rest) a.all in
-    let first = nothing_in a.of_parts (utf8_faults (utf8_mode rest) leaves) (sym all.0) in
+pub silent : (enum : EnumValue) (leaves : List LeafView) (options : OptionsView) (a : EnumSays enum leaves options []) → AreSilent leaves options a.of_parts
+silent enum leaves options a =
+    let all = nothing_in (a.of_parts ++ utf8_faults (utf8_mode options) leaves) (type_faults options) a.all in
+    let first = nothing_in a.of_parts (utf8_faults (utf8_mode options) leaves) (sym all.0) in
     record { parts = first.0; text = first.1; types = all.1 }
 
--- an enum that lists nothing says one thing
-pub enum_once : (enum : EnumValue) (leaves others : List LeafView) (rest other : OptionsView) (faults : List ListedFault) →
-    EnumSays enum leaves rest [] → EnumSays enum others other faults → (faults ≡ []) × (rules_said leaves ≡ rules_said others) × (rest ≡ other)
-enum_once enum leaves others rest other faults a b =
-    let none = silent enum leaves rest a in
+-- an enum without faults has one list of leaves and one set of options
+pub enum_once : (enum : EnumValue) (leaves others : List LeafView) (options other : OptionsView) (faults : List SourceFault) →
+    EnumSays enum leaves options [] → EnumSays enum others other faults → (faults ≡ []) × (rules_of_views leaves ≡ rules_of_views others) × (options ≡ other)
+enum_once enum leaves others options other faults a b =
+    let none = silent enum leaves options a in
     let says : SourceSays enum a.read.options leaves [] = rw none.parts at a.read.says in
     let once = source_once says b.read.says in
-    let same : rest ≡ other = a.read.same ∙ ap without_skips once.1 ∙ sym b.read.same in
+    let same : options ≡ other = a.read.same ∙ ap without_skips once.1 ∙ sym b.read.same in
     let text : utf8_faults (utf8_mode other) others ≡ [] = sym (same_faults (utf8_mode other) leaves others once.2) ∙ rw same at none.text in
     let types : type_faults other ≡ [] = rw same at none.types in (
-      b.all ∙ ap (λ (xs : List ListedFault). (xs ++ utf8_faults (utf8_mode other) others) ++ type_faults other) once.0
-          ∙ ap (λ (xs : List ListedFault). xs ++ type_faults other) text ∙ types,
+      b.all ∙ ap (λ (xs : List SourceFault). (xs ++ utf8_faults (utf8_mode other) others) ++ type_faults other) once.0
+          ∙ ap (λ (xs : List SourceFault). xs ++ type_faults other) text ∙ types,
       same_rules leaves others once.2,
       same,
     )
 
 -- it gives tokens of the same kinds
-kinds_alike : (enum : EnumValue) (leaves others : List LeafView) (rest other : OptionsView) → EnumSays enum leaves rest [] → EnumSays enum others other [] → kinds_said leaves ≡ kinds_said others
-kinds_alike enum leaves others rest other a b =
-    let none = silent enum leaves rest a in
+kinds_alike : (enum : EnumValue) (leaves others : List LeafView) (options other : OptionsView) → EnumSays enum leaves options [] → EnumSays enum others other [] → kinds_of_views leaves ≡ kinds_of_views others
+kinds_alike enum leaves others options other a b =
+    let none = silent enum leaves options a in
     let says : SourceSays enum a.read.options leaves [] = rw none.parts at a.read.says in
     same_kinds leaves others (source_once says b.read.says).2
 
@@ -81,13 +80,13 @@ one_value source value other item place a b =
     (cc, a.whole ∙ ap run_span tokens ∙ sym b.whole)
 
 -- tokens of an enum do not end the reading
-tokens_exclude : (tokens : TokenList) (value : EnumValue) (faults : List ListedFault) → Reads tokens (Ok value) → EndsTokens tokens faults → ⊥
+tokens_exclude : (tokens : TokenList) (value : EnumValue) (faults : List SourceFault) → Reads tokens (Ok value) → EndsTokens tokens faults → ⊥
 tokens_exclude tokens value faults reads ends =
     let same : Ok value ≡ Err ends.error = once-reads tokens _ _ reads ends.reads in
     absurd (cc)
 
 -- the reading of an enum within the limits is not ended by a fault
-ends_excludes : (source : List ℕ) (rules : List Rule) (value : EnumValue) (item : Span) (fault : ListedFault) → Says source value item → IsWithinLimits source rules → EndsReading source fault → ⊥
+ends_excludes : (source : List ℕ) (rules : List Rule) (value : EnumValue) (item : Span) (fault : SourceFault) → Says source value item → IsWithinLimits source rules → EndsReading source fault → ⊥
 ends_excludes source rules value item fault says limits (source_limit l is) = let s = limits.sizes.short in omega arith
 ends_excludes source rules value item fault says limits (nesting_limit deep is) =
     let more = deep-excludes source _ says.tokens deep says.spelled in
@@ -98,46 +97,46 @@ ends_excludes source rules value item fault says limits (misread {tokens} s shal
     let same = spells-one source says.tokens tokens says.spelled s in
     tokens_exclude tokens value _ (rw same at says.reads) m
 
--- leaves without faults, within the limits, list nothing
-graph_lists_none : (source : List ℕ) (leaves : List NamedRule) (item : Span) (faults : List ListedFault) → AreFaults (rules_in leaves) [] → IsWithinLimits source (rules_in leaves) → GraphLists leaves item faults → faults ≡ []
-graph_lists_none source leaves item faults none limits (graph_faults graph small are e) =
+-- the graph of leaves without faults, within the limits, has no fault
+graph_reports_none : (source : List ℕ) (leaves : List NamedRule) (item : Span) (faults : List SourceFault) → AreFaults (rules_in leaves) [] → IsWithinLimits source (rules_in leaves) → GraphReports leaves item faults → faults ≡ []
+graph_reports_none source leaves item faults none limits (graph_faults graph small are e) =
     let same : graph ≡ [] = faults_once (rules_in leaves) graph [] are none in
-    e ∙ ap (flat_map (listed_of (names_in leaves) item)) same
-graph_lists_none source leaves item faults none limits (size_limit more e) = let small = limits.sizes.small in absurd (omega arith)
-graph_lists_none source leaves item faults none limits (states_limit small start more e) = absurd (limits.few_keys more)
+    e ∙ ap (flat_map (reported_as (names_in leaves) item)) same
+graph_reports_none source leaves item faults none limits (size_limit more e) = let small = limits.sizes.small in absurd (omega arith)
+graph_reports_none source leaves item faults none limits (states_limit small start more e) = absurd (limits.few_keys more)
 
 -- a source is accepted in one way
 pub accepted_once : (source : List ℕ) (rules rules' : List Rule) (utf8 utf8' : Bool) → IsAccepted source rules utf8 → IsAccepted source rules' utf8' → (rules ≡ rules') × (utf8 ≡ utf8')
 accepted_once source rules rules' utf8 utf8' a b =
     let same = one_value source a.enum b.enum a.item b.item a.says b.says in
-    let says : EnumSays b.enum a.leaves a.rest [] = rw same.0 at a.enum_says in
-    let once = enum_once b.enum a.leaves b.leaves a.rest b.rest [] says b.enum_says in
+    let says : EnumSays b.enum a.leaves a.options [] = rw same.0 at a.enum_says in
+    let once = enum_once b.enum a.leaves b.leaves a.options b.options [] says b.enum_says in
     (a.same_rules ∙ once.1 ∙ sym b.same_rules, a.same_mode ∙ ap utf8_mode once.2 ∙ sym b.same_mode)
 
--- what a source says without a fault gives tokens of the kinds of its leaves
-pub kinds_as_said : (source : List ℕ) (rules : List Rule) (utf8 : Bool) (enum : EnumValue) (item : Span) (leaves : List LeafView) (rest : OptionsView) → Says source enum item → EnumSays enum leaves rest [] →
-    (a : IsAccepted source rules utf8) → kinds_said leaves ≡ kinds_said a.leaves
-kinds_as_said source rules utf8 enum item leaves rest says enum_says a =
+-- a source without faults gives tokens of the kinds of its leaves
+pub kinds_as_analyzed : (source : List ℕ) (rules : List Rule) (utf8 : Bool) (enum : EnumValue) (item : Span) (leaves : List LeafView) (options : OptionsView) → Says source enum item → EnumSays enum leaves options [] →
+    (a : IsAccepted source rules utf8) → kinds_of_views leaves ≡ kinds_of_views a.leaves
+kinds_as_analyzed source rules utf8 enum item leaves options says enum_says a =
     let same = one_value source enum a.enum item a.item says a.says in
-    let own : EnumSays a.enum leaves rest [] = rw same.0 at enum_says in
-    kinds_alike a.enum leaves a.leaves rest a.rest own a.enum_says
+    let own : EnumSays a.enum leaves options [] = rw same.0 at enum_says in
+    kinds_alike a.enum leaves a.leaves options a.options own a.enum_says
 
 -- a source that is accepted gives tokens of one list of kinds
-pub kinds_once : (source : List ℕ) (rules rules' : List Rule) (utf8 utf8' : Bool) (a : IsAccepted source rules utf8) (b : IsAccepted source rules' utf8') → kinds_said a.leaves ≡ kinds_said b.leaves
-kinds_once source rules rules' utf8 utf8' a b = kinds_as_said source rules' utf8' a.enum a.item a.leaves a.rest a.says a.enum_says b
+pub kinds_once : (source : List ℕ) (rules rules' : List Rule) (utf8 utf8' : Bool) (a : IsAccepted source rules utf8) (b : IsAccepted source rules' utf8') → kinds_of_views a.leaves ≡ kinds_of_views b.leaves
+kinds_once source rules rules' utf8 utf8' a b = kinds_as_analyzed source rules' utf8' a.enum a.item a.leaves a.options a.says a.enum_says b
 
 -- a source without faults within the limits is not refused
-accepted_or_refused : (source : List ℕ) (rules : List Rule) (utf8 : Bool) (faults : List ListedFault) → IsAccepted source rules utf8 → IsWithinLimits source rules → IsRefused source faults → ⊥
+accepted_or_refused : (source : List ℕ) (rules : List Rule) (utf8 : Bool) (faults : List SourceFault) → IsAccepted source rules utf8 → IsWithinLimits source rules → IsRefused source faults → ⊥
 accepted_or_refused source rules utf8 faults a limits (unread ends is) = ends_excludes source rules a.enum a.item _ a.says limits ends
-accepted_or_refused source rules utf8 faults a limits (faulty {enum} {item} {leaves} short shallow says listed some) =
+accepted_or_refused source rules utf8 faults a limits (faulty {enum} {item} {leaves} short shallow says reported some) =
     let same = one_value source a.enum enum a.item item a.says says in
-    let own : EnumSays enum a.leaves a.rest [] = rw same.0 at a.enum_says in
-    let once = enum_once enum a.leaves leaves a.rest listed.rest listed.enum_faults own listed.says in
-    let rules_are : rules_in (map named_said leaves) ≡ rules_said a.leaves = said_rules leaves ∙ sym once.1 in
-    let faultless : AreFaults (rules_in (map named_said leaves)) [] = rw rules_are a.faultless in
-    let limits' : IsWithinLimits source (rules_in (map named_said leaves)) = rw (rules_are, sym a.same_rules) limits in
-    let graph = graph_lists_none source (map named_said leaves) item listed.graph_faults faultless limits' listed.graph in
-    some (listed.all ∙ ap (λ (xs : List ListedFault). xs ++ listed.graph_faults) once.0 ∙ graph)
+    let own : EnumSays enum a.leaves a.options [] = rw same.0 at a.enum_says in
+    let once = enum_once enum a.leaves leaves a.options reported.options reported.enum_faults own reported.says in
+    let rules_are : rules_in (map named_of_view leaves) ≡ rules_of_views a.leaves = rules_of_named leaves ∙ sym once.1 in
+    let faultless : AreFaults (rules_in (map named_of_view leaves)) [] = rw rules_are a.faultless in
+    let limits' : IsWithinLimits source (rules_in (map named_of_view leaves)) = rw (rules_are, sym a.same_rules) limits in
+    let graph = graph_reports_none source (map named_of_view leaves) item reported.graph_faults faultless limits' reported.graph in
+    some (reported.all ∙ ap (λ (xs : List SourceFault). xs ++ reported.graph_faults) once.0 ∙ graph)
 
 pub not_refused : (source : List ℕ) (rules : List Rule) (utf8 : Bool) (refusal : Refusal) → IsAccepted source rules utf8 → IsWithinLimits source rules → Refuses (IsRefused source) refusal → IsMemory refusal
 not_refused source rules utf8 (Errors faults) a limits r = accepted_or_refused source rules utf8 faults a limits r

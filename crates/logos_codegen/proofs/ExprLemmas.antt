@@ -25,7 +25,7 @@ use Rattle.logos_codegen.specs.declared.expr.ExprKind.{ExprKind}
 use Rattle.logos_lexeme.specs.declared.lexeme.Span.{Span}
 use Rattle.logos_codegen.specs.Language.{IsLanguage}
 use Rattle.logos_codegen.specs.declared.expr.TheConstants.{SOURCE}
-use Rattle.logos_codegen.specs.Tokenizing.{Token, Outcome, gives, bad, emits, kind_at, kind_given, kinds_said, in_front, IsErrorAt, outcome_of, AreRead, all_read, token_read, error_read, Tokenizes, IsOutcome, IsRefusalOf, IsThatError}
+use Rattle.logos_codegen.specs.Tokenizing.{Token, Outcome, gives, bad, emits, kind_at, kind_given, kinds_of_views, in_front, IsErrorAt, outcome_of, AreRead, all_read, token_read, error_read, Tokenizes, IsOutcome, IsRefusalOf, IsThatError}
 use Rattle.logos_codegen.proofs.AcceptLemmas.{accepted_once, kinds_once}
 use Rattle.logos_codegen.proofs.LexLemmas.{may_by, lexes_by}
 
@@ -89,7 +89,7 @@ kinds_turn leaves i d old new x lt is same before =
     rw is (split ∙ ap (λ u. old ++ (u ∷ map (λ (leaf : Leaf). kind_given (kind_value leaf.kind)) (drop (i + 1) leaves))) same ∙ (rw (drop_more leaves i d lt) at before))
 
 -- the kinds of leaves as an enum says them
-pub kinds_viewed : (leaves : List Leaf) → map (λ leaf. kind_given (kind_value leaf.kind)) leaves ≡ kinds_said (map leaf_view leaves)
+pub kinds_viewed : (leaves : List Leaf) → map (λ leaf. kind_given (kind_value leaf.kind)) leaves ≡ kinds_of_views (map leaf_view leaves)
 kinds_viewed [] = refl
 kinds_viewed (leaf ∷ leaves) = ap (λ (kinds : List ExprKind). kind_given (kind_value leaf.kind) ∷ kinds) (kinds_viewed leaves)
 
@@ -212,8 +212,8 @@ pub outcome_is : (text : List ℕ) (outcome : Outcome) → Tokenizes text outcom
 outcome_is text outcome t = λ rules utf8 items a all.
     let same = accepted_once SOURCE.now rules t.rules utf8 t.utf8 a t.accepted in
     let all' : Items t.rules emits t.utf8 text 0 items = rw (← same.0, ← same.1) all in
-    let kinds : kinds_said t.accepted.leaves ≡ kinds_said a.leaves = kinds_once SOURCE.now t.rules rules t.utf8 utf8 t.accepted a in
-    t.is ∙ read_outcome t.rules t.utf8 text (kinds_said t.accepted.leaves) (omega arith) t.read all' ∙ ap (λ k. outcome_of k items) kinds
+    let kinds : kinds_of_views t.accepted.leaves ≡ kinds_of_views a.leaves = kinds_once SOURCE.now t.rules rules t.utf8 utf8 t.accepted a in
+    t.is ∙ read_outcome t.rules t.utf8 text (kinds_of_views t.accepted.leaves) (omega arith) t.read all' ∙ ap (λ k. outcome_of k items) kinds
 
 -- an error has its span as its outcome
 pub error_outcome : (kinds : List ExprKind) (item : Item) (span : Span) → IsErrorAt item span → outcome_of kinds (item ∷ []) ≡ bad span.from span.to

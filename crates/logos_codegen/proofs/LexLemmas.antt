@@ -23,7 +23,7 @@ use Rattle.logos_generator.proofs.Compose.{runs_iff}
 use Rattle.logos_generator.proofs.InOrder.{in_order, parted}
 use Rattle.logos_source.specs.Refusals.{IsMemory}
 use Rattle.logos_source.specs.Utf8Faults.{utf8_fault, utf8_faults}
-use Rattle.logos_codegen.specs.Rules.{rule_said, rules_said}
+use Rattle.logos_codegen.specs.Rules.{rule_of_view, rules_of_views}
 use Rattle.logos_codegen.specs.Source.{IsAccepted}
 use Rattle.logos_codegen.specs.RunLaws.{anything, RunsAreCut}
 use Rattle.logos_codegen.specs.Refusals.{IsUnlexed, IsJust, IsNoRefusal, IsThatRefusal}
@@ -37,12 +37,12 @@ use Rattle.logos_generator.proofs.CutLemmas.{items_cut}
 pub are_bytes : (bytes : List ℕ) → ((i : ℕ) → Fits w8 (get_or bytes i 0)) → IsBytes bytes
 are_bytes bytes h = λ k d l. rw (get_or_default_zero bytes k d l) (Fits-lt-pow (h k))
 
--- where no leaf is listed as no text, all trees are texts
-texts_are : (leaves : List LeafView) → utf8_faults true leaves ≡ [] → All (λ rule. is_text rule.tree ≡ true) (rules_said leaves)
+-- where no leaf is reported in UTF-8 mode, all trees match UTF-8 alone
+texts_are : (leaves : List LeafView) → utf8_faults true leaves ≡ [] → All (λ rule. is_text rule.tree ≡ true) (rules_of_views leaves)
 texts_are [] e = All-nil (λ (rule : Rule). is_text rule.tree ≡ true)
 texts_are (leaf ∷ leaves) e =
     let both = go (is_text leaf.tree) e in
-    All-cons (λ (rule : Rule). is_text rule.tree ≡ true) (rule_said leaf) (rules_said leaves) both.0 (texts_are leaves both.1)
+    All-cons (λ (rule : Rule). is_text rule.tree ≡ true) (rule_of_view leaf) (rules_of_views leaves) both.0 (texts_are leaves both.1)
   where
     go : (t : Bool) → (if t then [] else only (utf8_fault leaf)) ++ utf8_faults true leaves ≡ [] → (t ≡ true) × (utf8_faults true leaves ≡ [])
     go true e = (refl, e)
@@ -50,7 +50,7 @@ texts_are (leaf ∷ leaves) e =
 
 pub accepted_texts : (source : List ℕ) (rules : List Rule) → IsAccepted source rules true → All (λ rule. is_text rule.tree ≡ true) rules
 accepted_texts source rules a =
-    let text : utf8_faults true a.leaves ≡ [] = rw (sym a.same_mode) at (silent a.enum a.leaves a.rest a.enum_says).text in
+    let text : utf8_faults true a.leaves ≡ [] = rw (sym a.same_mode) at (silent a.enum a.leaves a.options a.enum_says).text in
     rw a.same_rules (texts_are a.leaves text)
 
 -- the same items by a callback that answers no less

@@ -1,5 +1,5 @@
 pub mod RefusalLemmas
-pub mod Listing
+pub mod ReportingLemmas
 pub mod ShownLemmas
 pub mod AcceptLemmas
 pub mod GraphLemmas

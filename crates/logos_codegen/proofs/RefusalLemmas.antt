@@ -1,5 +1,5 @@
 -- Why a source is refused.
-use Rattle.std.proofs.Common.{◌≡◌, ℕ, List}
+use Rattle.std.proofs.Common.{ℕ, List}
 use Rattle.logos_source.specs.Refusals.{Refuses}
 use Rattle.logos_source.specs.declared.refusal.Refusal.{Refusal}
 use Rattle.logos_source.proofs.RefusalLemmas.{refuses_by, OneEnds}

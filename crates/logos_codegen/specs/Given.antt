@@ -1,54 +1,51 @@
--- What a source without faults gives.
+-- What `generate` gives for a source without faults.
 use Rattle.std.specs.Prelude.{◌≡◌, ℕ, List, [], map, Option, Some, None, option_map}
 use Rattle.logos_lexeme.specs.declared.lexeme.Span.{Span}
 use Rattle.logos_type.specs.TypeTrees.{type_tree}
 use Rattle.logos_type_params.specs.Generics.{generics}
 use Rattle.logos_item.specs.EnumValues.{EnumValue}
 use Rattle.logos_item.specs.Values.{Slice, ident_slice}
-use Rattle.logos_pattern.specs.Leaf.{callback_value, CallbackValue}
-use Rattle.logos_pattern.specs.declared.leaf.Callback.{Callback}
 use Rattle.logos_attribute.specs.CallbackViews.{callback_view}
 use Rattle.logos_attribute.specs.Callbacks.{CallbackView}
-use Rattle.logos_definition.specs.ErrorTypes.{ErrorView}
 use Rattle.logos_definition.specs.Options.{OptionsView}
 use Rattle.logos_leaf.specs.LeafViews.{leaf_view}
 use Rattle.logos_leaf.specs.Sources.{utf8_mode}
 use Rattle.logos_source.specs.Endings.{Says}
 use Rattle.logos_source.specs.EnumTypes.{enum_type}
-use Rattle.logos_source.specs.Saying.{EnumSays}
+use Rattle.logos_source.specs.Analyses.{EnumSays}
 use Rattle.logos_graph.specs.GraphOf.{IsGraphOf}
 use Rattle.logos_graph.specs.View.{GraphValue}
 use Rattle.logos_code.specs.Code.{CodeValue}
 use Rattle.logos_generator.specs.GeneratorValue.{leaf_value, code_leaf_value}
 use Rattle.logos_code.specs.declared.code.Config.{Config}
 
--- The source says this enum without a fault, and the leaves of the graph are its leaves, in order; the mode of the graph is the source's; and it is the graph
--- of these leaves, without a fault.
-pub record IsGraphSaid (source : List ℕ) (name : Slice) (rest : OptionsView) (graph : GraphValue) : Type 0 where
+-- The source spells an enum of this name without faults, with these options. The leaves of the graph are the enum's leaves, in order, its mode is the source's,
+-- and it is the graph of these leaves, without faults.
+pub record IsGraphOfSource (source : List ℕ) (name : Slice) (options : OptionsView) (graph : GraphValue) : Type 0 where
   pub enum : EnumValue
   pub item : Span
   pub says : Says source enum item
   pub is_name : enum.name ≡ name
-  pub enum_says : EnumSays enum (map leaf_view graph.leaves) rest []
-  pub same_mode : graph.utf8 ≡ utf8_mode rest
+  pub enum_says : EnumSays enum (map leaf_view graph.leaves) options []
+  pub same_mode : graph.utf8 ≡ utf8_mode options
   pub of_leaves : IsGraphOf graph.leaves graph.utf8 graph
   pub faultless : graph.faults ≡ []
 
--- what is called on an error
+-- The callback for errors.
 abbrev pub error_callback : OptionsView → Option CallbackView
-error_callback rest = elim rest.error_type [ None ↦ None | Some error ↦ error.callback ]
+error_callback options = elim options.error_type [ None ↦ None | Some error ↦ error.callback ]
 
--- The code keeps the shape, the name of the enum, its type, what is called on an error, and what becomes of the matches of each leaf.
-pub record KeepsSaid (config : Config) (name : Slice) (rest : OptionsView) (graph : GraphValue) (code : CodeValue) : Type 0 where
+-- The code has the shape, the name of the enum, its type, the callback for errors, and for each leaf its kind and its callback.
+pub record KeepsEnum (config : Config) (name : Slice) (options : OptionsView) (graph : GraphValue) (code : CodeValue) : Type 0 where
   pub shape : code.kept.shape ≡ config
   pub same_name : ident_slice code.kept.name ≡ name
-  pub this : type_tree code.kept.this ≡ enum_type name.text (generics rest.types)
-  pub on_error : option_map callback_view code.kept.error_callback ≡ error_callback rest
+  pub this : type_tree code.kept.this ≡ enum_type name.text (generics options.types)
+  pub on_error : option_map callback_view code.kept.error_callback ≡ error_callback options
   pub leaves : map code_leaf_value code.kept_leaves ≡ map leaf_value graph.leaves
 
--- what a source without faults gives: a graph, a code in this shape, its name, and the path of its chart, if one is said
+-- What a source without faults gives: its graph, a code in this shape, its name, and the path of its chart, if the options have one.
 pub record IsGiven (source : List ℕ) (config : Config) (graph : GraphValue) (code : CodeValue) (name : Slice) (export : Option (List ℕ)) : Type 0 where
-  pub rest : OptionsView
-  pub of_source : IsGraphSaid source name rest graph
-  pub keeps : KeepsSaid config name rest graph code
-  pub exports : export ≡ option_map (λ e. e.path) rest.export_path
+  pub options : OptionsView
+  pub of_source : IsGraphOfSource source name options graph
+  pub keeps : KeepsEnum config name options graph code
+  pub exports : export ≡ option_map (λ e. e.path) options.export_path

@@ -1,23 +1,23 @@
--- The tokenizer of expressions, as its type keeps it.
+-- The tokenizer of expressions as a value.
 use Rattle.std.specs.Prelude.{◌≡◌, Bool, List}
 use Rattle.logos_automaton.specs.Munch.{Rule}
 use Rattle.logos_code.specs.Code.{CodeValue}
 use Rattle.logos_code.specs.Headline.{IsLexer}
 use Rattle.logos_codegen.specs.Source.{IsAccepted}
-use Rattle.logos_codegen.specs.Tokenizing.{kinds_said}
+use Rattle.logos_codegen.specs.Tokenizing.{kinds_of_views}
 use Rattle.logos_codegen.specs.declared.expr.ExprKind.{ExprKind}
 use Rattle.logos_codegen.specs.declared.expr.TheConstants.{SOURCE}
 
--- its code, and the kind of the tokens of each leaf
+-- Its code, and the kind of the tokens of each leaf.
 pub record LanguageValue : Type 0 where
   pub code : CodeValue
   pub kinds : List ExprKind
 
--- The code finds at each place of each input what maximal munch finds there by the leaves of the enum, so each of its runs on a text
--- gives exactly the items of maximal munch; and the kinds are those of the names of the leaves' variants.
+-- From each point of each input the code finds what maximal munch finds there by the leaves of the enum, so each of its runs on a text
+-- gives exactly the items of maximal munch. The kinds are those of the names of the leaves' variants.
 pub record IsLanguage (language : LanguageValue) : Type 0 where
   pub rules : List Rule
   pub utf8 : Bool
   pub accepted : IsAccepted SOURCE.now rules utf8
   pub lexer : IsLexer rules utf8 language.code
-  pub kinds : language.kinds ≡ kinds_said accepted.leaves
+  pub kinds : language.kinds ≡ kinds_of_views accepted.leaves

@@ -7,10 +7,10 @@ use Rattle.logos_code.specs.Headline.{IsCut}
 use Rattle.logos_code.specs.Items.{Callback, Item}
 use Rattle.logos_code.specs.Runs.{Runs}
 
--- any answer to any leaf and slice
+-- A callback that may give any answer to any leaf and slice.
 abbrev pub anything : Callback
 anything leaf slice answer = Unit {0}
 
--- on each text, the items of each run of the code start and end between characters
+-- On each text, the items of each run of the code start and end between characters.
 abbrev pub RunsAreCut : CodeValue → Type 0
 RunsAreCut code = (bytes : List ℕ) → (items : List Item) → IsBytes bytes → IsUtf8 bytes → Runs code anything bytes 0 items → All (IsCut bytes) items

@@ -1,45 +1,45 @@
--- What a source text says, and why it is refused.
+-- When a source is accepted, and why it is refused.
 use Rattle.std.specs.Prelude.{◌≡◌, ◌≢◌, ℕ, ◌≤◌, ◌^◌, Bool, List, [], ◌∷◌, ◌++◌, length, map}
 use Rattle.logos_lexeme.specs.declared.lexeme.Span.{Span}
-use Rattle.logos_token.specs.Faults.{Fault as ListedFault}
+use Rattle.logos_token.specs.Faults.{Fault as SourceFault}
 use Rattle.logos_item.specs.EnumValues.{EnumValue}
 use Rattle.logos_definition.specs.Options.{OptionsView}
 use Rattle.logos_leaf.specs.Leaves.{LeafView}
 use Rattle.logos_leaf.specs.Sources.{utf8_mode}
 use Rattle.logos_source.specs.Endings.{Says, EndsReading, IsShallow}
-use Rattle.logos_source.specs.Saying.{EnumSays}
+use Rattle.logos_source.specs.Analyses.{EnumSays}
 use Rattle.logos_automaton.specs.Munch.{Rule}
 use Rattle.logos_automaton.specs.Faults.{AreFaults}
 use Rattle.logos_automaton.specs.Measures.{size_of}
 use Rattle.logos_automaton.specs.ReadKeys.{HasMoreKeys}
-use Rattle.logos_codegen.specs.Rules.{named_said, rules_said, GraphLists}
+use Rattle.logos_codegen.specs.Rules.{named_of_view, rules_of_views, GraphReports}
 
--- all faults of a well-formed enum, in order: those of its parts, and those of the graph of its leaves
-pub record AreListed (enum : EnumValue) (item : Span) (faults : List ListedFault) (leaves : List LeafView) : Type 0 where
-  pub rest : OptionsView
-  pub enum_faults : List ListedFault
-  pub graph_faults : List ListedFault
-  pub says : EnumSays enum leaves rest enum_faults
-  pub graph : GraphLists (map named_said leaves) item graph_faults
+-- These are all faults of an enum, in order: those of its parts, then those of the graph of its leaves.
+pub record AreReported (enum : EnumValue) (item : Span) (faults : List SourceFault) (leaves : List LeafView) : Type 0 where
+  pub options : OptionsView
+  pub enum_faults : List SourceFault
+  pub graph_faults : List SourceFault
+  pub says : EnumSays enum leaves options enum_faults
+  pub graph : GraphReports (map named_of_view leaves) item graph_faults
   pub all : faults ≡ enum_faults ++ graph_faults
 
--- The source says an enum without faults, and these are the rules of its leaves and its mode: no part of it lists a fault, and the rules have none.
+-- The source spells an enum without faults, with the rules of its leaves and its mode: none of its parts has a fault, and neither have the rules.
 pub record IsAccepted (source : List ℕ) (rules : List Rule) (utf8 : Bool) : Type 0 where
   pub enum : EnumValue
   pub item : Span
   pub says : Says source enum item
   pub leaves : List LeafView
-  pub rest : OptionsView
-  pub enum_says : EnumSays enum leaves rest []
-  pub faultless : AreFaults (rules_said leaves) []
-  pub same_rules : rules ≡ rules_said leaves
-  pub same_mode : utf8 ≡ utf8_mode rest
+  pub options : OptionsView
+  pub enum_says : EnumSays enum leaves options []
+  pub faultless : AreFaults (rules_of_views leaves) []
+  pub same_rules : rules ≡ rules_of_views leaves
+  pub same_mode : utf8 ≡ utf8_mode options
 
 -- Why a source is refused: one fault that ends the reading; or, within the limits on length and nesting, all faults of its enum, of which there are some.
-pub data IsRefused (source : List ℕ) (faults : List ListedFault) : Type 0 where
-  unread : {fault : ListedFault} → EndsReading source fault → faults ≡ fault ∷ [] → IsRefused source faults
+pub data IsRefused (source : List ℕ) (faults : List SourceFault) : Type 0 where
+  unread : {fault : SourceFault} → EndsReading source fault → faults ≡ fault ∷ [] → IsRefused source faults
   faulty : {enum : EnumValue} {item : Span} {leaves : List LeafView} → length source ≤ 16777216 → IsShallow source →
-      Says source enum item → AreListed enum item faults leaves → faults ≢ [] → IsRefused source faults
+      Says source enum item → AreReported enum item faults leaves → faults ≢ [] → IsRefused source faults
 
 -- The length of the source and the nesting of its delimiters are within their limits, and so is the size of the trees of the rules.
 pub record IsWithinSizes (source : List ℕ) (rules : List Rule) : Type 0 where

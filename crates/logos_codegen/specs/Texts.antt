@@ -1,31 +1,31 @@
--- The faults that a graph's faults are listed as, with their texts.
-use Rattle.std.specs.Prelude.{◌≡◌, ℕ, List, [], ◌∷◌, ◌++◌, codes, flat_map, None, slice_get, if◌then◌else◌, ◌==◌}
+-- The faults that are reported for a graph, with their messages.
+use Rattle.std.specs.Prelude.{ℕ, List, [], ◌∷◌, ◌++◌, codes, flat_map, None, slice_get, if◌then◌else◌, ◌==◌}
 use Rattle.std.specs.Option.{option_map_or}
 use Rattle.std.specs.Fmt.{decimal}
 use Rattle.logos_lexeme.specs.declared.lexeme.Span.{Span}
 use Rattle.logos_token.specs.declared.error.fault_code.FaultCode.{FaultCode}
 use Rattle.logos_token.specs.declared.error.fault_code.FaultCode.TheVariants.{EmptyMatch, Disambiguation, NoUniversalStart}
-use Rattle.logos_token.specs.Faults.{Fault as ListedFault}
+use Rattle.logos_token.specs.Faults.{Fault as SourceFault}
 use Rattle.logos_pattern.specs.Leaf.{leaf_text, source_of, kind_text}
 use Rattle.logos_pattern.specs.declared.leaf.Leaf.{Leaf}
 use Rattle.logos_automaton.specs.Faults.{Fault, no_universal_start, empty_match, disambiguation}
 
--- a leaf as a fault names it
+-- A leaf as a message names it.
 pub record NamedLeaf : Type 0 where
-  -- its pattern and what it gives
+  -- its pattern and its variant
   pub text : List ℕ
   -- its literal
   pub source : List ℕ
-  -- what it gives
+  -- its variant
   pub kind : List ℕ
-  -- its literal's place
+  -- the span of its literal
   pub span : Span
   pub priority : ℕ
 
 abbrev pub named_leaf : Leaf → NamedLeaf
 named_leaf leaf = record { text = leaf_text leaf; source = source_of leaf.pattern; kind = kind_text leaf.kind; span = leaf.span; priority = leaf.priority }
 
-abbrev pub fault_at : FaultCode → List ℕ → Span → ListedFault
+abbrev pub fault_at : FaultCode → List ℕ → Span → SourceFault
 fault_at code message span = record { code = code; message = message; span = span; also = None }
 
 -- ---- faults of the graph
@@ -39,10 +39,10 @@ states_text = codes "limit LimitStates passed"
 abbrev pub empty_match_text : NamedLeaf → List ℕ
 empty_match_text leaf = codes "The pattern " ++ leaf.text ++ codes " can match the empty string, which is unsupported by logos."
 
-abbrev pub empty_match_faults : NamedLeaf → List ListedFault
+abbrev pub empty_match_faults : NamedLeaf → List SourceFault
 empty_match_faults leaf = fault_at EmptyMatch (empty_match_text leaf) leaf.span ∷ []
 
--- the leaf on a line of its own, behind two spaces
+-- The leaf on a line of its own, after two spaces.
 abbrev pub line_of : NamedLeaf → List ℕ
 line_of leaf = codes "\n  " ++ leaf.text
 
@@ -50,7 +50,7 @@ abbrev pub start_text : List ℕ
 start_text = codes "The state machine implementing this lexer is missing a universal start state,which is unsupported by logos. This is most likely do to a lookbehind assertion at the start of the regex."
 
 module _ (leaves : List NamedLeaf) where
-  -- the lines of the leaves of the set without this one
+  -- The lines of the leaves of the set without this one.
   abbrev pub other_lines : ℕ → List ℕ → List ℕ
   other_lines leaf set = flat_map (λ other. if other == leaf then [] else option_map_or line_of (slice_get leaves other) []) set
 
@@ -59,13 +59,13 @@ module _ (leaves : List NamedLeaf) where
       codes "The pattern " ++ leaf.text ++ codes " can match simultaneously with the following variants:"
       ++ other_lines number set ++ (codes "\n\n(all at the priority " ++ decimal leaf.priority ++ codes ")")
 
-  abbrev pub disambiguation_faults : List ℕ → ℕ → List ListedFault
+  abbrev pub disambiguation_faults : List ℕ → ℕ → List SourceFault
   disambiguation_faults set number =
       option_map_or (λ leaf. fault_at Disambiguation (disambiguation_text set number leaf) leaf.span ∷ []) (slice_get leaves number) []
 
-  -- The faults listed for one of the graph: one for an empty match, and one for each leaf of an ambiguous set.
-  -- A missing universal start stands at the item.
-  abbrev pub listed_of : Span → Fault → List ListedFault
-  listed_of item no_universal_start = fault_at NoUniversalStart start_text item ∷ []
-  listed_of item (empty_match leaf) = option_map_or empty_match_faults (slice_get leaves leaf) []
-  listed_of item (disambiguation set) = flat_map (disambiguation_faults set) set
+  -- The faults that are reported for one of the graph: one for an empty match, and one for each leaf of an ambiguous set.
+  -- That of a missing universal start has the span of the enum.
+  abbrev pub reported_as : Span → Fault → List SourceFault
+  reported_as item no_universal_start = fault_at NoUniversalStart start_text item ∷ []
+  reported_as item (empty_match leaf) = option_map_or empty_match_faults (slice_get leaves leaf) []
+  reported_as item (disambiguation set) = flat_map (disambiguation_faults set) set

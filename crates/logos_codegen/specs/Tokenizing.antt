@@ -1,4 +1,4 @@
--- What the tokenizer of expressions makes of a text.
+-- The tokens that the tokenizer of expressions gives for a text.
 use Rattle.std.specs.Prelude.{◌≡◌, ℕ, Bool, List, [], ◌∷◌, ◌++◌, map, Option, unwrap_or, if◌then◌else◌, slice_get, bytes_eq, codes, Result, Ok, Err, Vec}
 use Rattle.std.specs.Global.{Global}
 use Rattle.logos_automaton.specs.Munch.{Rule}
@@ -8,7 +8,7 @@ use Rattle.logos_pattern.specs.Leaf.{KindValue, plain, holding, skipped}
 use Rattle.logos_leaf.specs.Leaves.{LeafView}
 use Rattle.logos_codegen.specs.Source.{IsAccepted, IsRefused}
 use Rattle.logos_lexeme.specs.declared.lexeme.Span.{Span}
-use Rattle.logos_token.specs.Faults.{Fault as ListedFault}
+use Rattle.logos_token.specs.Faults.{Fault as SourceFault}
 use Rattle.logos_source.specs.declared.refusal.Refusal.{Refusal}
 use Rattle.logos_source.specs.declared.refusal.Refusal.TheVariants as refusals
 use Rattle.logos_codegen.specs.declared.expr.TheConstants.{SOURCE}
@@ -18,7 +18,7 @@ use Rattle.logos_codegen.specs.declared.expr.ExprToken.{ExprToken}
 use Rattle.logos_codegen.specs.declared.expr.ExprError.{ExprError}
 use Rattle.logos_codegen.specs.declared.expr.ExprError.TheVariants as errors
 
--- a token: its kind, its span, and the text at its span
+-- A token: its kind, its span, and the text at its span.
 pub record Token : Type 0 where
   pub kind : ExprKind
   pub from : ℕ
@@ -28,16 +28,16 @@ pub record Token : Type 0 where
 abbrev pub token_value : ExprToken → Token
 token_value t = record { kind = t.kind; from = t.span.from; to = t.span.to; slice = t.slice.now }
 
--- what a text gives: these tokens, in order, or an error at this span
+-- What a text gives: its tokens, in order, or an error at this span.
 pub data Outcome : Type 0 where
   gives : List Token → Outcome
   bad : (from to : ℕ) → Outcome
 
--- every match is a token
+-- Every match is a token.
 abbrev pub emits : Callback
 emits leaf slice answer = answer ≡ Emit
 
--- the kind with this name; `Close` has the last one
+-- The kind with this name; `Close` where no other has it.
 abbrev pub kind_named : List ℕ → ExprKind
 kind_named name =
     if bytes_eq name (codes "Number") then Number else (if bytes_eq name (codes "Name") then Name
@@ -47,21 +47,21 @@ kind_named name =
     else (if bytes_eq name (codes "Slash") then Slash else (if bytes_eq name (codes "Open") then Open
     else Close)))))))))
 
--- the kind of a leaf's tokens: that of its variant's name; a skip gives no token
+-- The kind of a leaf's tokens, by the name of its variant. A skip gives no token.
 abbrev pub kind_given : KindValue → ExprKind
 kind_given (plain name) = kind_named name.text.now
 kind_given (holding name type) = kind_named name.text.now
 kind_given skipped = Close
 
--- the kinds of the tokens of an enum's leaves, in the order of their numbers
-abbrev pub kinds_said : List LeafView → List ExprKind
-kinds_said leaves = map (λ leaf. kind_given leaf.kind) leaves
+-- The kinds of the tokens of an enum's leaves, in the order of their numbers.
+abbrev pub kinds_of_views : List LeafView → List ExprKind
+kinds_of_views leaves = map (λ leaf. kind_given leaf.kind) leaves
 
--- the kind at a leaf's number
+-- The kind of the tokens of the leaf with this number.
 abbrev pub kind_at : List ExprKind → ℕ → ExprKind
 kind_at kinds leaf = unwrap_or (slice_get kinds leaf) Close
 
--- tokens in front of what the rest gives
+-- The outcome with these tokens before its own.
 abbrev pub in_front : List Token → Outcome → Outcome
 in_front tokens (gives others) = gives (tokens ++ others)
 in_front tokens (bad from to) = bad from to
@@ -75,16 +75,16 @@ module _ (kinds : List ExprKind) where
       in_front (record { kind = kind_at kinds leaf; from = from; to = to; slice = slice } ∷ []) (outcome_of items)
   outcome_of (error leaf from to slice ∷ items) = bad from to
 
-  -- the item is this token
+  -- The item is this token.
   abbrev pub IsToken : Item → ExprToken → Type 0
   IsToken item t = outcome_of (item ∷ []) ≡ gives (token_value t ∷ [])
 
--- the item is an error at this span
+-- The item is an error at this span.
 abbrev pub IsErrorAt : Item → Span → Type 0
 IsErrorAt (token leaf from to slice) span = ⊥
 IsErrorAt (error leaf from to slice) span = (from ≡ span.from) × (to ≡ span.to)
 
--- Of the items of a text from a place on, those that the outcome needs: all of them, where no error is among them, and else those
+-- Of the items of a text from an offset on, those that the outcome needs: all of them, where no error is among them, and else those
 -- up to the first error. Each is the next one after the one before it.
 pub data AreRead (rules : List Rule) (utf8 : Bool) (text : List ℕ) : ℕ → List Item → Type 0 where
   all_read : (at : ℕ) → Items rules emits utf8 text at [] → AreRead rules utf8 text at []
@@ -94,34 +94,34 @@ pub data AreRead (rules : List Rule) (utf8 : Bool) (text : List ℕ) : ℕ → L
   error_read : (at : ℕ) (leaf : Option ℕ) (from to : ℕ) (slice : List ℕ) (next : ℕ) →
       IsNext rules emits utf8 text at (error leaf from to slice) next → AreRead rules utf8 text at (error leaf from to slice ∷ [])
 
--- what a text gives, by the leaves of the enum and the names of its variants
+-- The text gives this outcome, by the leaves of the enum and the names of its variants.
 pub record Tokenizes (text : List ℕ) (outcome : Outcome) : Type 0 where
   pub rules : List Rule
   pub utf8 : Bool
   pub accepted : IsAccepted SOURCE.now rules utf8
   pub items : List Item
   pub read : AreRead rules utf8 text 0 items
-  pub is : outcome ≡ outcome_of (kinds_said accepted.leaves) items
+  pub is : outcome ≡ outcome_of (kinds_of_views accepted.leaves) items
 
--- whatever list of items is that of the text, by the leaves of the enum, this is its outcome, by the names of its variants
+-- Whatever list of items the text has by the leaves of the enum, this is its outcome by the names of its variants.
 abbrev pub IsOutcome : List ℕ → Outcome → Type 0
 IsOutcome text outcome =
-    (rules : List Rule) (utf8 : Bool) (items : List Item) (accepted : IsAccepted SOURCE.now rules utf8) → Items rules emits utf8 text 0 items → outcome ≡ outcome_of (kinds_said accepted.leaves) items
+    (rules : List Rule) (utf8 : Bool) (items : List Item) (accepted : IsAccepted SOURCE.now rules utf8) → Items rules emits utf8 text 0 items → outcome ≡ outcome_of (kinds_of_views accepted.leaves) items
 
--- the answer is an outcome of which this holds, or memory ran out
+-- The result is an outcome for which `Holds` holds, or memory ran out.
 abbrev pub Answers : (Outcome → Type 0) → Result (Vec ExprToken Global) ExprError → Type 0
 Answers Holds (Ok tokens) = Holds (gives (map token_value tokens.items))
 Answers Holds (Err errors.Refused) = ⊥
 Answers Holds (Err (errors.Bad span)) = Holds (bad span.from span.to)
 Answers Holds (Err errors.Memory) = Unit {0}
 
--- why there is no tokenizer: its enum is refused, or memory ran out
+-- Why there is no tokenizer: its enum is refused, or memory ran out.
 abbrev pub IsRefusalOf : ExprError → Type 0
-IsRefusalOf errors.Refused = (faults : List ListedFault) × IsRefused SOURCE.now faults
+IsRefusalOf errors.Refused = (faults : List SourceFault) × IsRefused SOURCE.now faults
 IsRefusalOf (errors.Bad span) = ⊥
 IsRefusalOf errors.Memory = Unit {0}
 
--- the refusal of a source, as an error of the tokenizer
+-- The refusal of a source as an error of the tokenizer.
 abbrev pub IsThatError : Refusal → ExprError → Type 0
 IsThatError (refusals.Errors faults) e = e ≡ errors.Refused
 IsThatError refusals.Memory e = e ≡ errors.Memory

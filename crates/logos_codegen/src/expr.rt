@@ -179,7 +179,7 @@ impl Language {
         let mut tokens = Vec::new(alloc);
         let mut lexer = Lexer::new_str(&self.code, input, |_leaf, _slice: &[u8]| Action::Emit);
         while let Some(item) = lexer.next() {
-            match self.token_of(item) {
+            match self.token_from(item) {
                 Ok(token) => tokens.push(token)?,
                 Err(span) => return Err(ExprError::Bad { span }),
             }
@@ -190,7 +190,7 @@ impl Language {
 
 impl Language {
     /// Returns the token that an item is, or the span of an error.
-    fn token_of<'i>(&self, item: Item<'i>) -> Result<ExprToken<'i>, Span>
+    fn token_from<'i>(&self, item: Item<'i>) -> Result<ExprToken<'i>, Span>
         ensures ok { IfOk result (IsToken self.now.kinds (item_of item.entry)) }
         ensures err { IfErr result (IsErrorAt (item_of item.entry)) }
     {

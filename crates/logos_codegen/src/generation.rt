@@ -1,32 +1,33 @@
 //! From a source text to the code of its lexer.
 
-ghost use Rattle.std.specs.Prelude.{◌≡◌, ◌<◌, ◌↔◌, ◌∷◌, ◌++◌, ℕ, Bool, List, [], length};
+ghost use Rattle.std.specs.Prelude.{◌≡◌, ◌<◌, ◌↔◌, ◌∷◌, ◌++◌, Bool, List, [], length};
 ghost use Rattle.std.specs.Prelude.{map, flat_map, option_map, IfOk, IfErr, IsErrAnd, OnOk};
 ghost use Rattle.std.specs.Prelude.{IsTrue, string_bytes, option_copied};
 ghost use Rattle.logos_automaton.specs.Munch.{Rule};
 ghost use Rattle.logos_automaton.specs.Errors.{fault_of};
 ghost use Rattle.logos_item.specs.Values.{ident_slice};
 ghost use Rattle.logos_attribute.specs.CallbackViews.{callback_view};
-ghost use Rattle.logos_type_params.specs.Generics.{generics_of, generics as between_brackets};
 ghost use Rattle.logos_definition.specs.ParserViews.{parser_view};
 ghost use Rattle.logos_leaf.specs.Sources.{utf8_mode};
 ghost use Rattle.logos_graph.specs.GraphOf.{IsGraphOf};
 ghost use Rattle.logos_graph.specs.View.{rules_of};
 ghost use Rattle.logos_generator.specs.GeneratorValue.{KeepsGiven};
 ghost use Rattle.logos_code.specs.Headline.{IsLexer};
+ghost use Rattle.logos_source.specs.Analyses.{HasItsType};
+ghost use Rattle.logos_source.specs.AnalysisViews.{analysis_view};
 ghost use Rattle.logos_source.specs.Endings.{too_long};
 ghost use Rattle.logos_source.specs.Refusals.{Refuses, IsMemory};
 ghost use Rattle.logos_text.specs.Standing.{StandInOrder};
 ghost use Rattle.logos_text.specs.Texts.{texts_of};
-ghost use Rattle.logos_codegen.specs.Texts.{named_leaf, listed_of};
-ghost use Rattle.logos_codegen.specs.Given.{IsGiven, KeepsSaid, error_callback};
+ghost use Rattle.logos_codegen.specs.Texts.{named_leaf, reported_as};
+ghost use Rattle.logos_codegen.specs.Given.{IsGiven, KeepsEnum, error_callback};
 ghost use Rattle.logos_codegen.specs.RunLaws.{RunsAreCut};
 ghost use Rattle.logos_codegen.specs.Source.{IsAccepted, IsRefused};
 ghost use Rattle.logos_codegen.specs.Source.{IsWithinSizes, IsWithinLimits};
-ghost use Rattle.logos_codegen.specs.inside.Steps.{IsLimit, ListsGraph, IsFaultless, AreGraphFaults};
-ghost use Rattle.logos_codegen.specs.inside.Steps.{IsGraphMade};
+ghost use Rattle.logos_codegen.specs.inside.Steps.{IsLimit, ReportsGraph, IsFaultless, AreGraphFaults};
+ghost use Rattle.logos_codegen.specs.inside.Steps.{IsGraphMade, AreTakenOut};
 
-use crate::texts::list_fault;
+use crate::reporting::report_fault;
 use logos_definition::error_type::ErrorType;
 use logos_definition::parser::{ExportPath, Parser};
 use logos_generator::code::Code;
@@ -34,15 +35,13 @@ use logos_generator::generator::{Config, Generator};
 use logos_graph::graph::{BuildError, Config as GraphConfig, Graph, GraphError};
 use logos_leaf::source::utf8_mode;
 use logos_pattern::leaf::{Callback, Leaf};
-use logos_source::enum_type::enum_type;
+use logos_source::analysis::{Analysis, analyze};
 use logos_source::refusal::Refusal;
-use logos_source::said::{Said, read_said};
 use logos_text::{Around, gap_after, text_in};
 use logos_token::error::{Errors, FaultCode, Memory};
 use logos_token::token::{Ident, Span, TokenStream, print};
 use logos_token::util::MaybeVoid;
 use logos_type::TypeExpr;
-use logos_type_params::Generics;
 use std::alloc::Global;
 use std::mem;
 
@@ -57,7 +56,7 @@ pub struct Generated<'s> {
     pub name: Ident<'s>,
     /// The text of `export_dir`, where the chart of the graph goes, if the source has one.
     pub export_path: Option<String>,
-    /// What the attributes of the enum say.
+    /// The options, for the text.
     options: Parser<'s>,
 }
 
@@ -127,36 +126,24 @@ impl Generated<'_> {
     }
 }
 
-/// The rest of what a source says, apart from its leaves.
-#[derive(Drop)]
-struct Rest<'s> {
-    /// The name of the enum.
-    name: Ident<'s>,
-    /// The generic arguments that follow the name.
-    generics: Option<Generics<'s>>,
-    /// The options.
-    parser: Parser<'s>,
-}
-
-// Reports the faults of a graph.
-fn list_faults(
-    alloc: Global,
+/// Reports the faults of a graph.
+fn report_faults(
     leaves: &[Leaf<'_>],
     item: Span,
     faults: &[GraphError],
     errors: &mut Errors,
 ) -> Result<(), Memory>
-    ensures { OnOk result (errors.new ≡ errors.old ++ flat_map (listed_of
+    ensures { OnOk result (errors.new ≡ errors.old ++ flat_map (reported_as
         (map named_leaf leaves.now) item) (map fault_of faults.now)) }
 {
     for fault in faults {
-        list_fault(alloc, leaves, item, fault, errors)?;
+        report_fault(leaves, item, fault, errors)?;
     }
     Ok(())
 }
 
-// Reports the limit that keeps the graph from being built.
-fn list_limit(error: BuildError, item: Span, errors: &mut Errors) -> Result<(), Memory>
+/// Reports the limit that keeps the graph from being built.
+fn report_limit(error: BuildError, item: Span, errors: &mut Errors) -> Result<(), Memory>
     ensures { OnOk result (IsLimit error item errors.old errors.new) }
 {
     match error {
@@ -170,38 +157,36 @@ fn list_limit(error: BuildError, item: Span, errors: &mut Errors) -> Result<(), 
     }
 }
 
-// Builds the graph of the leaves, if no limit is passed. Reports its faults, or the limit in their place.
+/// Builds the graph of the leaves, if no limit is passed. Reports its faults, or the limit in their place.
 fn graph_of<'s>(
-    alloc: Global,
     leaves: Vec<Leaf<'s>>,
     utf8_mode: bool,
     item: Span,
     errors: &mut Errors,
 ) -> Result<Option<Graph<'s>>, Memory>
-    ensures { IfOk result (ListsGraph leaves.entry.items utf8_mode item errors.old errors.new) }
+    ensures { IfOk result (ReportsGraph leaves.entry.items utf8_mode item errors.old errors.new) }
 {
-    match Graph::new(alloc, leaves, GraphConfig { utf8_mode }) {
+    match Graph::new(errors.alloc(), leaves, GraphConfig { utf8_mode }) {
         Ok(graph) => {
-            list_faults(alloc, graph.leaves(), item, graph.errors(), errors)?;
+            report_faults(graph.leaves(), item, graph.errors(), errors)?;
             Ok(Some(graph))
         }
         Err(error) => {
-            list_limit(error, item, errors)?;
+            report_limit(error, item, errors)?;
             Ok(None)
         }
     }
 }
 
-// Returns whether the list has no fault.
+/// Returns whether the list has no fault.
 fn is_faultless(errors: &Errors) -> bool
     ensures { IsTrue result ↔ (errors.now ≡ []) }
 {
     errors.list().is_empty()
 }
 
-// Builds the graph of leaves. Fails if it has faults, or if the list has some already.
+/// Builds the graph of leaves. Fails if it has faults, or if the list has some already.
 fn faultless_graph<'s>(
-    alloc: Global,
     leaves: Vec<Leaf<'s>>,
     utf8_mode: bool,
     item: Span,
@@ -210,7 +195,7 @@ fn faultless_graph<'s>(
     ensures ok { IfOk result (IsFaultless leaves.entry.items utf8_mode item errors) }
     ensures err { IfErr result (Refuses (AreGraphFaults leaves.entry.items utf8_mode item errors)) }
 {
-    match graph_of(alloc, leaves, utf8_mode, item, &mut errors) {
+    match graph_of(leaves, utf8_mode, item, &mut errors) {
         Ok(Some(graph)) => if is_faultless(&errors) {
             Ok(graph)
         } else {
@@ -221,25 +206,25 @@ fn faultless_graph<'s>(
     }
 }
 
-// Builds the graph of leaves. Fails if it has faults, or if the parser has some, which are taken out of it.
-fn graph_said<'s>(
-    alloc: Global,
-    leaves: Vec<Leaf<'s>>,
-    item: Span,
-    parser: &mut Parser<'s>,
-) -> Result<Graph<'s>, Refusal>
-    ensures ok { IfOk result (IsFaultless leaves.entry.items (utf8_mode (parser_view parser.old))
-        item parser.old.errors) }
-    ensures err { IfErr result (Refuses (AreGraphFaults leaves.entry.items
-        (utf8_mode (parser_view parser.old)) item parser.old.errors)) }
-    ensures kept { parser_view parser.new ≡ parser_view parser.old }
+/// Takes the leaves and the faults out of an analysis, and builds the graph of the leaves. Fails if
+/// there are faults, or if the graph has some.
+fn graph_of_analysis<'s>(analysis: &mut Analysis<'s>) -> Result<Graph<'s>, Refusal>
+    ensures ok { IfOk result (IsFaultless analysis.old.leaves.items
+        (utf8_mode (parser_view analysis.old.parser)) analysis.old.span
+        analysis.old.parser.errors) }
+    ensures err { IfErr result (Refuses (AreGraphFaults analysis.old.leaves.items
+        (utf8_mode (parser_view analysis.old.parser)) analysis.old.span
+        analysis.old.parser.errors)) }
+    ensures taken { AreTakenOut (analysis_view analysis.old) (analysis_view analysis.new) }
 {
-    let mode = utf8_mode(parser);
-    let errors = mem::replace(&mut parser.errors, Errors::new(alloc));
-    faultless_graph(alloc, leaves, mode, item, errors)
+    let alloc = analysis.parser.errors.alloc();
+    let mode = utf8_mode(&analysis.parser);
+    let leaves = mem::replace(&mut analysis.leaves, Vec::new(alloc));
+    let errors = mem::replace(&mut analysis.parser.errors, Errors::new(alloc));
+    faultless_graph(leaves, mode, analysis.span, errors)
 }
 
-// Returns the callback for errors, if there is one.
+/// Returns the callback for errors, if there is one.
 fn callback_in<'p, 's>(parser: &'p Parser<'s>) -> Option<&'p Callback<'s>>
     ensures { option_map callback_view (option_copied result)
         ≡ error_callback (parser_view parser.now) }
@@ -250,7 +235,7 @@ fn callback_in<'p, 's>(parser: &'p Parser<'s>) -> Option<&'p Callback<'s>>
     }
 }
 
-// Makes the code of a graph that finds the longest matches, for the enum with this name and type.
+/// Makes the code of a graph that finds the longest matches, for the enum with this name and type.
 fn code_for<'g, 's>(
     alloc: Global,
     config: Config,
@@ -273,62 +258,45 @@ fn code_for<'g, 's>(
     generator.generate(alloc)
 }
 
-// Makes the code of a graph that finds the longest matches, for the enum with this name, these generic
-// arguments and these options.
-fn code_said<'s>(
+/// Makes the code of a graph that finds the longest matches, for the enum of an analysis.
+fn code_of<'s>(
     alloc: Global,
     config: Config,
-    name: Ident<'s>,
-    generics: Option<Generics<'s>>,
-    parser: &Parser<'s>,
+    analysis: &Analysis<'s>,
     graph: &Graph<'s>,
 ) -> Result<Code<'s>, Memory>
     requires of_leaves { IsGraphOf graph.now.leaves graph.now.utf8 graph.now }
     requires faultless { graph.now.faults ≡ [] }
-    requires given { option_map generics_of generics
-        ≡ between_brackets (parser_view parser.now).types }
+    requires typed { HasItsType (analysis_view analysis.now) }
     ensures lexer { IfOk result (IsLexer (rules_of graph.now.leaves) graph.now.utf8) }
-    ensures keeps { IfOk result (KeepsSaid config (ident_slice name.entry)
-        (parser_view parser.now) graph.now) }
+    ensures keeps { IfOk result (KeepsEnum config (ident_slice analysis.now.name)
+        (parser_view analysis.now.parser) graph.now) }
 {
-    let this = enum_type(alloc, name.text, generics)?;
-    code_for(alloc, config, name, &this, graph, callback_in(parser))
+    let callback = callback_in(&analysis.parser);
+    let name = analysis.name;
+    code_for(alloc, config, name, &analysis.this, graph, callback)
 }
 
-// Reads a source, and builds the graph of its leaves. Fails if the source has faults.
-fn accept<'s>(alloc: Global, src: &'s str) -> Result<(Graph<'s>, Rest<'s>), Refusal>
-    ensures ok { IfOk result (λ read. IsGraphMade src.now (ident_slice read.1.name)
-        (parser_view read.1.parser) read.0) }
-    ensures given { IfOk result (λ read. option_map generics_of read.1.generics
-        ≡ between_brackets (parser_view read.1.parser).types) }
+/// Analyzes a source, and builds the graph of its leaves, which are taken out of the analysis. Fails
+/// if the source has faults.
+fn accept<'s>(alloc: Global, src: &'s str) -> Result<(Graph<'s>, Analysis<'s>), Refusal>
+    ensures ok { IfOk result (λ read. IsGraphMade src.now (analysis_view read.1) read.0) }
+    ensures typed { IfOk result (λ read. HasItsType (analysis_view read.1)) }
     ensures err { IfErr result (Refuses (IsRefused src.now)) }
     ensures long { 16777216 < length src.now → IsErrAnd result (Refuses (λ faults.
         faults ≡ too_long src.now ∷ [])) }
 {
-    let Said {
-        name,
-        span,
-        generics,
-        leaves,
-        mut parser,
-    } = match read_said(alloc, src) {
-        Ok(said) => said,
+    let mut analysis = match analyze(alloc, src) {
+        Ok(analysis) => analysis,
         Err(refusal) => return Err(refusal),
     };
-    match graph_said(alloc, leaves, span, &mut parser) {
-        Ok(graph) => Ok((
-            graph,
-            Rest {
-                name,
-                generics,
-                parser,
-            },
-        )),
+    match graph_of_analysis(&mut analysis) {
+        Ok(graph) => Ok((graph, analysis)),
         Err(refusal) => Err(refusal),
     }
 }
 
-// Returns the path of a chart.
+/// Returns the path of a chart.
 fn path_of(export: Option<ExportPath>) -> Option<String>
     ensures { option_map string_bytes result
         ≡ option_map (λ e. string_bytes e.path) export }
@@ -339,18 +307,14 @@ fn path_of(export: Option<ExportPath>) -> Option<String>
     }
 }
 
-// Puts together what a source gives.
-fn put_together<'s>(
-    code: Code<'s>,
-    graph: Graph<'s>,
-    name: Ident<'s>,
-    parser: Parser<'s>,
-) -> Generated<'s>
+/// Puts together what `generate` returns.
+fn put_together<'s>(code: Code<'s>, graph: Graph<'s>, analysis: Analysis<'s>) -> Generated<'s>
     ensures parts { (result.code ≡ code.entry) × (result.graph ≡ graph.entry)
-        × (result.name ≡ name.entry) }
+        × (result.name ≡ analysis.entry.name) }
     ensures path { option_map string_bytes result.export_path
-        ≡ option_map (λ e. e.path) (parser_view parser.entry).export_path }
+        ≡ option_map (λ e. e.path) (parser_view analysis.entry.parser).export_path }
 {
+    let Analysis { name, parser, .. } = analysis;
     let mut options = parser;
     let export_path = path_of(options.export_path.take());
     Generated {
@@ -379,14 +343,14 @@ pub fn generate<'s>(alloc: Global, src: &'s str, config: Config) -> Result<Gener
     // The source has no faults, and these are its rules and its mode.
     ensures accepted { IfOk result (λ made. IsAccepted src.now
         (rules_of made.graph.leaves) made.graph.utf8) }
-    // The graph is that of the source's leaves; the code keeps the shape, the name and the type of the
-    // enum, and what becomes of errors and of the matches of each leaf; the name is the enum's, and the
-    // path is that of `export_dir`.
+    // The graph is that of the source's leaves. The code has the shape, the name and the type of the
+    // enum, the callback for errors, and the kind and the callback of each leaf. The name is the enum's,
+    // and the path is that of `export_dir`.
     ensures given { IfOk result (λ made. IsGiven src.now config made.graph made.code
         (ident_slice made.name) (option_map string_bytes made.export_path)) }
     // The length of the source, its nesting and the size of its trees are within their limits.
     ensures within { IfOk result (λ made. IsWithinSizes src.now (rules_of made.graph.leaves)) }
-    // At each place of each input the code finds exactly what maximal munch finds there.
+    // From each point of each input the code finds exactly what maximal munch finds there.
     ensures lexer { IfOk result (λ made. IsLexer
         (rules_of made.graph.leaves) made.graph.utf8 made.code) }
     // In UTF-8 mode the items of each run of the code on a text start and end between characters,
@@ -401,17 +365,12 @@ pub fn generate<'s>(alloc: Global, src: &'s str, config: Config) -> Result<Gener
     ensures complete { (rules : List Rule) (utf8 : Bool) → IsAccepted src.now rules utf8 →
         IsWithinLimits src.now rules → IfErr result IsMemory }
 {
-    let (graph, rest) = match accept(alloc, src) {
+    let (graph, analysis) = match accept(alloc, src) {
         Ok(read) => read,
         Err(refusal) => return Err(refusal),
     };
-    let Rest {
-        name,
-        generics,
-        parser,
-    } = rest;
-    match code_said(alloc, config, name, generics, &parser, &graph) {
-        Ok(code) => Ok(put_together(code, graph, name, parser)),
+    match code_of(alloc, config, &analysis, &graph) {
+        Ok(code) => Ok(put_together(code, graph, analysis)),
         Err(_) => Err(Refusal::Memory),
     }
 }

@@ -1,4 +1,4 @@
-//! From graphs to code values, and to their text: the names of a generator, and the code and the text that it gives.
+//! From graphs to code values and to their text: the names of a generator, of its code and of its text.
 
 pub use logos_generator::code::Code;
 pub use logos_generator::generator::{

@@ -1,4 +1,4 @@
-//! Laws of the definitions, proved and called by nobody: each function's contract is a law.
+//! Laws of the definitions. The contract of each function is a law, and no code calls these functions.
 
 ghost use Rattle.std.specs.Prelude.{◌≡◌, ℕ, ◌↔◌, Bool, true, List};
 ghost use Rattle.std.specs.List.{All};
@@ -13,15 +13,14 @@ ghost use Rattle.logos_codegen.specs.Source.{IsAccepted};
 use logos_generator::machine::Action;
 use logos_hir::leaf::LeafId;
 
-/// A source has one list of rules and one mode.
+/// A source without faults has one list of rules and one mode.
 pub fn a_source_has_one_list_of_rules()
     ensures { (source : List ℕ) (rules others : List Rule) (utf8 other : Bool) →
         IsAccepted source rules utf8 → IsAccepted source others other → (rules ≡ others)
         × (utf8 ≡ other) }
 {}
 
-/// Of a source in UTF-8 mode, each run of its code on a text gives items that start and end between
-/// characters.
+/// In UTF-8 mode, the items of each run of a source's code on a text start and end between characters.
 pub fn runs_start_and_end_between_characters<C: Fn(LeafId, &[u8]) -> Action>(callback: &C)
     ensures { (source : List ℕ) (rules : List Rule) (code : CodeValue) (bytes : List ℕ)
         (items : List Item) → IsAccepted source rules true → IsLexer rules true code →
@@ -29,7 +28,7 @@ pub fn runs_start_and_end_between_characters<C: Fn(LeafId, &[u8]) -> Action>(cal
         All (IsCut bytes) items }
 {}
 
-/// Two codes of one source, as of both shapes, have the same runs.
+/// Two codes of one source, such as those in both shapes, have the same runs.
 pub fn codes_of_a_source_agree<C: Fn(LeafId, &[u8]) -> Action>(callback: &C)
     ensures { (source : List ℕ) (rules others : List Rule) (utf8 other : Bool)
         (code next : CodeValue) (bytes : List ℕ) (items : List Item) →

@@ -1,8 +1,8 @@
-//! The items of an input, by a source.
+//! Lexing of an input by a source.
 
-ghost use Rattle.std.specs.Prelude.{◌≡◌, ℕ, List, Bool, map, length, true, IfOk, IfErr, IsTrue, MatchResult};
+ghost use Rattle.std.specs.Prelude.{◌≡◌, List, Bool, map, length, true, IfOk, IfErr, IsTrue};
 ghost use Rattle.std.specs.List.{All};
-ghost use Rattle.std.specs.Str.{IsUtf8, IsValidUpTo};
+ghost use Rattle.std.specs.Str.{IsUtf8};
 ghost use Rattle.logos_automaton.specs.Munch.{Rule};
 ghost use Rattle.logos_code.specs.Code.{CodeValue};
 ghost use Rattle.logos_code.specs.Headline.{IsCut, IsLexer};
@@ -81,7 +81,7 @@ impl From<Refusal> for LexSourceError {
     }
 }
 
-// Returns all items of an input, in order, by the code of a lexer.
+/// Returns all items of an input, in order, by the code of a lexer.
 fn lex_input<'i, C: Fn(LeafId, &[u8]) -> Action + Drop>(
     alloc: Global,
     code: &Code,
@@ -104,12 +104,12 @@ fn lex_input<'i, C: Fn(LeafId, &[u8]) -> Action + Drop>(
 
 /// Returns the items of an input, by the leaves of a source.
 ///
-/// `generate` takes the source. At each place of the input the longest match that begins there is a
-/// token of its leaf; of several matches of that length, the leaf of highest priority wins. Matches of a
-/// `skip` are left out. If no leaf has a match, an error reaches over the longest beginning that could
-/// still grow. A match of a leaf with a callback becomes what `callbacks` answers for that leaf and that
-/// slice, for a `skip` leaf too, where `Emit` reads as `Skip`. It is not asked about other leaves. Both
-/// shapes of `config` give the same items.
+/// The source is read as by `generate`. From each point of the input the longest match is taken, and of
+/// several matches of that length the one whose leaf has the highest priority. It gives a token of its
+/// leaf, or nothing if that is a `skip`. Where no leaf has a match, the item is an error, which reaches
+/// over the longest beginning that could still grow. For a match of a leaf with a callback, `callbacks`
+/// decides by the leaf and the slice; `Emit` for a `skip` means `Skip`. It is not asked about other
+/// leaves. Both shapes of `config` give the same items.
 ///
 /// # Errors
 /// Returns `Refused` if the source has faults, else `NotUtf8` if the source is in UTF-8 mode and the
@@ -128,7 +128,7 @@ pub fn lex_source<'i, C: Fn(LeafId, &[u8]) -> Action + Drop>(
         × Items rules (answers_of C.Fn callbacks) utf8 input.now 0 (map item_of items.items)) }
     ensures in_order { IfOk result (λ items.
         AreInOrder (length input.now) 0 (map item_of items.items)) }
-    // The items part the input in order, together with the matches that a skip or an answer leaves out.
+    // The items, together with the matches that a skip or an answer leaves out, divide the input in order.
     ensures parts { (rules : List Rule) (utf8 : Bool) → IsAccepted src.now rules utf8 →
         IfOk result (λ items. Parts (IsLeftOut rules (answers_of C.Fn callbacks) input.now)
         (length input.now) 0 (map item_of items.items)) }

@@ -1,4 +1,4 @@
-//! From a source text to the items of an input. The modules of the crates below are handed on.
+//! From a source to its code, and to the items of an input. The crate also has the public modules of the crates below.
 
 #![tactic(auto)]
 
@@ -7,7 +7,7 @@ mod generation;
 pub mod generator;
 pub mod laws;
 mod lexing;
-mod texts;
+mod reporting;
 
 pub use generation::{Generated, generate};
 pub use lexing::{LexSourceError, lex_source};

@@ -8,7 +8,7 @@ use Rattle.logos_attribute.specs.Told.{Told, Tells, and_then}
 use Rattle.logos_definition.specs.Definitions.{DefinitionView}
 use Rattle.logos_subpattern.specs.PatternFaults.{Reading, spelled, broken, too_deep, Reads, IsRead, tree_in, pattern_faults}
 use Rattle.logos_subpattern.specs.Substitution.{Stored}
-use Rattle.logos_leaf.specs.Leaves.{LeafView, speaks_of_text, greedy_faults, fitted_told, tree_told, reading_told, regex_priority, text_told, whole_told, IsRegexLeaf}
+use Rattle.logos_leaf.specs.Leaves.{LeafView, is_string, greedy_faults, fitted_told, tree_told, reading_told, regex_priority, text_told, whole_told, IsRegexLeaf}
 use Rattle.logos_leaf.specs.inside.Readings.{IsWholeLeaf}
 use Rattle.logos_attribute.proofs.ToldLemmas.{listed_then, told_alone}
 
@@ -25,11 +25,11 @@ module _ (d : DefinitionView) (kind : KindValue) where
 
   module _ (text : List ℕ) where
     -- its text spells a tree
-    pub spelled_whole : (tree : Tree) (leaf : Option LeafView) (old mid new : List Fault) → IsRead (speaks_of_text d.literal.held) d.ignore_case (chars text) d.literal.token.span (Some tree) old mid →
+    pub spelled_whole : (tree : Tree) (leaf : Option LeafView) (old mid new : List Fault) → IsRead (is_string d.literal.held) d.ignore_case (chars text) d.literal.token.span (Some tree) old mid →
         Tells (tree_told d kind tree) leaf mid new → IsWholeLeaf d kind text leaf old new
-    spelled_whole tree leaf old mid new read told = go read.reading read.reads read.is_tree read.lists
+    spelled_whole tree leaf old mid new read told = go read.reading read.reads read.is_tree read.adds
       where
-        go : (reading : Reading) → Reads (speaks_of_text d.literal.held) d.ignore_case (chars text) reading → Some tree ≡ tree_in reading → mid ≡ old ++ pattern_faults d.literal.token.span reading →
+        go : (reading : Reading) → Reads (is_string d.literal.held) d.ignore_case (chars text) reading → Some tree ≡ tree_in reading → mid ≡ old ++ pattern_faults d.literal.token.span reading →
             IsWholeLeaf d kind text leaf old new
         go (spelled t) reads is lists =
             let same : tree ≡ t = cc in
@@ -39,10 +39,10 @@ module _ (d : DefinitionView) (kind : KindValue) where
         go too_deep reads is lists = absurd cc
 
     -- it spells none, which was listed
-    pub unread_whole : (old new : List Fault) → IsRead (speaks_of_text d.literal.held) d.ignore_case (chars text) d.literal.token.span None old new → IsWholeLeaf d kind text None old new
-    unread_whole old new read = go read.reading read.reads read.is_tree read.lists
+    pub unread_whole : (old new : List Fault) → IsRead (is_string d.literal.held) d.ignore_case (chars text) d.literal.token.span None old new → IsWholeLeaf d kind text None old new
+    unread_whole old new read = go read.reading read.reads read.is_tree read.adds
       where
-        go : (reading : Reading) → Reads (speaks_of_text d.literal.held) d.ignore_case (chars text) reading → None ≡ tree_in reading → new ≡ old ++ pattern_faults d.literal.token.span reading →
+        go : (reading : Reading) → Reads (is_string d.literal.held) d.ignore_case (chars text) reading → None ≡ tree_in reading → new ≡ old ++ pattern_faults d.literal.token.span reading →
             IsWholeLeaf d kind text None old new
         go (spelled t) reads is lists = absurd cc
         go (broken k at) reads is lists = record { reading = broken k at; reads = reads; tells = (refl, lists) }
@@ -93,7 +93,7 @@ module _ (d : DefinitionView) (kind : KindValue) where
               (sym (append-nil new) ∙ ap (λ t. new ++ (text_told d kind too_deep t).faults) e),
         )
 
--- faults that are found alone, and then stand behind others
+-- faults that are found alone, and then stand after others
 pub regex_alone : {d : DefinitionView} {kind : KindValue} {names : List Stored} {leaf : Option LeafView} (ahead none found all : List Fault) → none ≡ [] → IsRegexLeaf d kind names leaf none found →
     all ≡ ahead ++ found → IsRegexLeaf d kind names leaf ahead all
 regex_alone ahead none found all n h e = record { reading = h.reading; reads = h.reads; tells = told_alone _ _ ahead none found all n h.tells e }

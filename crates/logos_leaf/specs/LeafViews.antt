@@ -1,4 +1,4 @@
--- What leaves show.
+-- What contracts see of leaves.
 use Rattle.std.specs.Prelude.{option_map}
 use Rattle.logos_pattern.specs.Leaf.{pattern_tree, source_of, is_token, kind_value}
 use Rattle.logos_pattern.specs.declared.leaf.Leaf.{Leaf}

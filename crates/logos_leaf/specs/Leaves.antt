@@ -1,4 +1,4 @@
--- The leaves that definitions make, and the faults that they list.
+-- The leaves of definitions, and their faults.
 use Rattle.std.specs.Prelude.{◌≡◌, ℕ, ◌*◌, Bool, true, false, not, ◌&&◌, List, [], length, codes, Option, Some, None, unwrap_or, if◌then◌else◌}
 use Rattle.std.specs.Str.{chars}
 use Rattle.logos_lexeme.specs.declared.lexeme.Span.{Span}
@@ -16,9 +16,9 @@ use Rattle.logos_attribute.specs.Told.{Told, telling, quiet, and_then, fault, on
 use Rattle.logos_definition.specs.Definitions.{DefinitionView}
 use Rattle.logos_subpattern.specs.PatternFaults.{Reading, spelled, broken, too_deep, Reads, pattern_faults}
 use Rattle.logos_subpattern.specs.Substitution.{Stored, subst_told}
-use Rattle.logos_subpattern.specs.Subpatterns.{regex_of}
+use Rattle.logos_subpattern.specs.Subpatterns.{pattern_text}
 
--- a leaf, by its pattern's tree and text, and what becomes of its matches
+-- A leaf as contracts see it: the tree and the source of its pattern, its span, its priority, its kind and its callback.
 pub record LeafView : Type 0 where
   pub is_token : Bool
   pub tree : Tree
@@ -28,22 +28,22 @@ pub record LeafView : Type 0 where
   pub kind : KindValue
   pub callback : Option CallbackView
 
--- the bytes that a literal holds
+-- The bytes that a literal holds.
 abbrev pub bytes_of : Held → List ℕ
 bytes_of (of_text value) = value
 bytes_of (of_bytes value) = value
 
--- a literal speaks of characters
-abbrev pub speaks_of_text : Held → Bool
-speaks_of_text (of_text value) = true
-speaks_of_text (of_bytes value) = false
+-- The literal is a string, not a byte string.
+abbrev pub is_string : Held → Bool
+is_string (of_text value) = true
+is_string (of_bytes value) = false
 
--- the text of a pattern that matches the value of a literal alone
+-- The text of a pattern that matches the value of a literal alone.
 abbrev pub escaped_of : Held → List ℕ
 escaped_of (of_text value) = escaped_text true value
 escaped_of (of_bytes value) = escaped_bytes true value
 
--- the leaf of a definition, with this tree and this priority
+-- The leaf of a definition, with this tree and this priority.
 abbrev pub leaf_with : Bool → DefinitionView → KindValue → Tree → ℕ → LeafView
 leaf_with is_token d kind tree priority = record {
   is_token = is_token;
@@ -57,29 +57,29 @@ leaf_with is_token d kind tree priority = record {
 
 -- ---- `token`
 
--- the priority of a token: the one that is given, or twice the number of bytes that it holds
+-- The priority of a `token`: the given one, or twice the number of bytes that its literal holds.
 abbrev pub token_priority : DefinitionView → ℕ
 token_priority d = unwrap_or d.priority (2 * length (bytes_of d.literal.held))
 
 abbrev pub token_leaf : DefinitionView → KindValue → Tree → LeafView
 token_leaf d kind tree = leaf_with true d kind tree (token_priority d)
 
--- a token whose letters match in either case, by what its text is
+-- The leaf of a `token` whose letters match in either case, by what reading its text gives.
 abbrev pub folded_told : DefinitionView → KindValue → Reading → Told (Option LeafView)
 folded_told d kind (spelled tree) = quiet (Some (token_leaf d kind tree))
 folded_told d kind (broken kind_of at) = telling None (pattern_faults d.literal.token.span (broken kind_of at))
 folded_told d kind too_deep = telling None (pattern_faults d.literal.token.span too_deep)
 
--- a token; the reading counts only where letters match in either case
+-- The leaf of a `token`. Its text is read only where letters match in either case.
 abbrev pub token_told : DefinitionView → KindValue → Reading → Told (Option LeafView)
 token_told d kind reading =
     if d.ignore_case then folded_told d kind reading
     else quiet (Some (token_leaf d kind (literal_tree (bytes_of d.literal.held))))
 
--- A token makes this leaf, if it makes one, and its faults are added to the list.
+-- This is the leaf of a `token`, if it has one, and its faults are added to the list.
 pub record IsTokenLeaf (d : DefinitionView) (kind : KindValue) (leaf : Option LeafView) (old new : List Fault) : Type 0 where
   pub reading : Reading
-  pub reads : d.ignore_case ≡ true → Reads (speaks_of_text d.literal.held) true (chars (escaped_of d.literal.held)) reading
+  pub reads : d.ignore_case ≡ true → Reads (is_string d.literal.held) true (chars (escaped_of d.literal.held)) reading
   pub tells : Tells (token_told d kind reading) leaf old new
 
 -- ---- `regex` and `skip`
@@ -93,48 +93,49 @@ greedy_dot span = fault GreedyDot greedy_text span
 abbrev pub priority_overflow : Span → Fault
 priority_overflow span = fault PriorityOverflow (codes "the default priority is too large") span
 
--- a greedy dot is listed, unless it is allowed
+-- The fault of a greedy dot, unless the definition allows it.
 abbrev pub greedy_faults : DefinitionView → Tree → List Fault
 greedy_faults d tree = if not (unwrap_or d.allow_greedy false) && has_greedy_dot tree then only (greedy_dot d.literal.token.span) else []
 
--- the leaf with this priority, if it has one
+-- The leaf with this priority, if there is one.
 abbrev pub fitted_told : DefinitionView → KindValue → Tree → Option ℕ → Told (Option LeafView)
 fitted_told d kind tree (Some priority) = quiet (Some (leaf_with false d kind tree priority))
 fitted_told d kind tree None = telling None (only (priority_overflow d.literal.token.span))
 
--- the priority that is given, or another one
+-- The first priority, or the other one where there is no first.
 abbrev pub given_or : Option ℕ → Option ℕ → Option ℕ
 given_or (Some priority) other = Some priority
 given_or None other = other
 
--- the priority that is given, or the value of the tree, if it fits
+-- The priority of a `regex`: the given one, or the default of the tree if it fits.
 abbrev pub regex_priority : DefinitionView → Tree → Option ℕ
 regex_priority d tree = given_or d.priority (fitted (value tree))
 
--- a pattern whose text spells this tree
+-- The leaf of a pattern whose text spells this tree.
 abbrev pub tree_told : DefinitionView → KindValue → Tree → Told (Option LeafView)
 tree_told d kind tree = and_then (telling tree (greedy_faults d tree)) (λ t. fitted_told d kind t (regex_priority d t))
 
--- a pattern, by what its text is
+-- The leaf of a pattern, by what reading its text gives.
 abbrev pub reading_told : DefinitionView → KindValue → Reading → Told (Option LeafView)
 reading_told d kind (spelled tree) = tree_told d kind tree
 reading_told d kind (broken kind_of at) = telling None (pattern_faults d.literal.token.span (broken kind_of at))
 reading_told d kind too_deep = telling None (pattern_faults d.literal.token.span too_deep)
 
--- a pattern, by its text with the subpatterns put in, if they are all there
+-- The leaf of a pattern by its text with the subpatterns put in, if all of them are found.
 abbrev pub text_told : DefinitionView → KindValue → Reading → Option (List ℕ) → Told (Option LeafView)
 text_told d kind reading None = quiet None
 text_told d kind reading (Some text) = reading_told d kind reading
 
--- the text of a pattern, with the subpatterns put in
+-- The text of a pattern with the subpatterns put in, if all of them are found.
 abbrev pub whole_told : DefinitionView → List Stored → Told (Option (List ℕ))
-whole_told d names = subst_told names d.literal.token.span (chars (regex_of d.literal.held))
+whole_told d names = subst_told names d.literal.token.span (chars (pattern_text d.literal.held))
 
 abbrev pub regex_told : DefinitionView → KindValue → List Stored → Reading → Told (Option LeafView)
 regex_told d kind names reading = and_then (whole_told d names) (text_told d kind reading)
 
--- A `regex` or `skip` makes this leaf, if it makes one, and its faults are added to the list. Its text, if it is whole, is read so.
+-- This is the leaf of a `regex` or `skip`, if it has one, and its faults are added to the list. `reading` is what reading its text gives, if all subpatterns are
+-- found.
 pub record IsRegexLeaf (d : DefinitionView) (kind : KindValue) (names : List Stored) (leaf : Option LeafView) (old new : List Fault) : Type 0 where
   pub reading : Reading
-  pub reads : (text : List ℕ) → (whole_told d names).value ≡ Some text → Reads (speaks_of_text d.literal.held) d.ignore_case (chars text) reading
+  pub reads : (text : List ℕ) → (whole_told d names).value ≡ Some text → Reads (is_string d.literal.held) d.ignore_case (chars text) reading
   pub tells : Tells (regex_told d kind names reading) leaf old new

@@ -1,4 +1,4 @@
--- All leaves of an enum, and all faults that its parameters and attributes list, in order.
+-- The leaves and the options of an enum, and the faults of its parts, in order.
 use Rattle.std.specs.Prelude.{◌≡◌, Bool, true, List, [], ◌∷◌, map, Some, None, unwrap_or, option_map}
 use Rattle.logos_token.specs.Faults.{Fault}
 use Rattle.logos_token.specs.Tokens.{TokenList, run_span}
@@ -17,29 +17,29 @@ use Rattle.logos_subpattern.specs.Substitution.{Stored}
 use Rattle.logos_leaf.specs.Leaves.{LeafView}
 use Rattle.logos_leaf.specs.Variants.{SkipsAdd, VariantsAdd}
 
--- what the generic parameters of an enum say, in order
+-- Reading the generic parameters of an enum leads from these options to those, and their faults are added, in order.
 pub data ParametersSay : (o : OptionsView) (o' : OptionsView) (old new : List Fault) → List ParameterValue → Type 0 where
   no_parameter : {o : OptionsView} {faults : List Fault} → ParametersSay o o faults faults []
   one_parameter : {o : OptionsView} {o' : OptionsView} {o'' : OptionsView} {old mid new : List Fault} {parameter : ParameterValue} {rest : List ParameterValue} →
       Tells (parameter_told parameter.kind (record { text = parameter.name.text; span = parameter.name.span }) (run_span parameter.run) o) o' old mid →
       ParametersSay o' o'' mid new rest → ParametersSay o o'' old new (parameter ∷ rest)
 
--- what the attributes of an enum say, in order
+-- Reading the attributes of an enum leads from these options to those, and their faults are added, in order.
 pub data AttributesSay : (o : OptionsView) (o' : OptionsView) (old new : List Fault) → TokenList → Type 0 where
   no_attribute : {o : OptionsView} {faults : List Fault} {run : TokenList} → attribute_in run ≡ None → AttributesSay o o faults faults run
   one_attribute : {o : OptionsView} {o' : OptionsView} {o'' : OptionsView} {old mid new : List Fault} {run : TokenList} {split : SplitAttribute} → attribute_in run ≡ Some split →
       AttributeSays o o' old mid split.attribute → AttributesSay o' o'' mid new split.rest → AttributesSay o o'' old new run
 
--- inputs are UTF-8, unless it is said that they are not
+-- Inputs are UTF-8, unless the option `utf8` is `false`.
 abbrev pub utf8_mode : OptionsView → Bool
 utf8_mode o = unwrap_or (option_map (λ m. m.value) o.utf8) true
 
--- a type that is given, without its place
+-- A type that is given to a parameter, without its span.
 abbrev pub param_of : Given → ParamValue
 param_of given = record { name = given.name.text; type = given.type }
 
--- The leaves that the skips and variants of an enum make where this was said: first it is asked which parameters hold themselves, then the subpatterns are
--- read; the leaves of `skip` come first. Each step lists its faults behind those of the steps in front of it.
+-- The leaves of the skips and variants of an enum with these options. First the parameters that hold themselves are reported, then the subpatterns are read; the
+-- leaves of the skips come before those of the variants. The faults of each step are added after those of the steps before it.
 pub record LeavesSay (o : OptionsView) (variants : List VariantValue) (leaves : List LeafView) (old new : List Fault) : Type 0 where
   pub params : Params
   pub names : List Stored
@@ -54,7 +54,8 @@ pub record LeavesSay (o : OptionsView) (variants : List VariantValue) (leaves : 
   pub skips_add : SkipsAdd names o.skips [] skips of_subpatterns of_skips
   pub variants_add : VariantsAdd params names variants skips leaves of_skips new
 
--- What an enum says, in order: its parameters, its attributes, and the leaves that these and its variants make.
+-- The options and the leaves of an enum, and the faults of its parts: those of its parameters, of its attributes, and of the leaves that these and its variants
+-- define.
 pub record SourceSays (item : EnumValue) (o : OptionsView) (leaves : List LeafView) (new : List Fault) : Type 0 where
   pub declared : OptionsView
   pub of_parameters : List Fault
@@ -63,12 +64,12 @@ pub record SourceSays (item : EnumValue) (o : OptionsView) (leaves : List LeafVi
   pub attributes : AttributesSay declared o of_parameters of_attributes item.attributes
   pub leaves_say : LeavesSay o item.variants leaves of_attributes new
 
--- what was said, without the skips
+-- The options without the skips.
 abbrev pub IsWithoutSkips : OptionsView → OptionsView → Type 0
-IsWithoutSkips options rest = rest ≡ record options { skips = [] }
+IsWithoutSkips options others = others ≡ record options { skips = [] }
 
--- An enum was read: these are its leaves, and the rest is what it says, but for the skips, which are leaves now.
-pub record IsSourceRead (item : EnumValue) (leaves : List LeafView) (rest : OptionsView) (faults : List Fault) : Type 0 where
+-- An enum was read: these are its leaves, its options without the skips, which are leaves now, and the faults of its parts.
+pub record IsSourceRead (item : EnumValue) (leaves : List LeafView) (others : OptionsView) (faults : List Fault) : Type 0 where
   pub options : OptionsView
   pub says : SourceSays item options leaves faults
-  pub same : IsWithoutSkips options rest
+  pub same : IsWithoutSkips options others

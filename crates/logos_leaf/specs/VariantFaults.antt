@@ -1,4 +1,4 @@
--- The faults of variants and of the attributes on them, each with its text and its place.
+-- The faults of variants and of the attributes on them, each with its message and its span.
 use Rattle.std.specs.Prelude.{ℕ, ◌==◌, List, [], ◌++◌, codes, if◌then◌else◌}
 use Rattle.std.specs.Fmt.{decimal}
 use Rattle.logos_lexeme.specs.declared.lexeme.Span.{Span}
@@ -9,11 +9,11 @@ use Rattle.logos_attribute.specs.Told.{fault, only}
 abbrev pub fields_text : ℕ → List ℕ
 fields_text count = codes "Logos currently only supports variants with one field, found " ++ decimal count
 
--- so many fields in the parenthesis at this place
+-- The fault of a variant with `count` fields in the parentheses with this span.
 abbrev pub variant_fields : ℕ → Span → Fault
 variant_fields count span = fault VariantFields (fields_text count) span
 
--- the fault of a parenthesis with so many fields: one field is none
+-- The faults of a variant by the number of its fields: one field has none.
 abbrev pub count_faults : ℕ → Span → List Fault
 count_faults count span = if count == 1 then [] else only (variant_fields count span)
 

@@ -1,4 +1,4 @@
--- The leaves that the attributes of variants make, and the faults that they list.
+-- The leaves of variants, and the faults of the attributes that define them.
 use Rattle.std.specs.Prelude.{◌≡◌, ℕ, Bool, true, false, List, [], ◌∷◌, ◌++◌, length, codes, Option, Some, None}
 use Rattle.std.specs.Option.{option_to_list}
 use Rattle.std.specs.Str.{bytes_eq}
@@ -21,12 +21,12 @@ use Rattle.logos_subpattern.specs.Substitution.{Stored}
 use Rattle.logos_leaf.specs.Leaves.{LeafView, IsTokenLeaf, IsRegexLeaf}
 use Rattle.logos_leaf.specs.VariantFaults.{variant_fields, count_faults, named_fields, error_variant, token_form, regex_form}
 
--- the first field of a variant has this type, with its parameters replaced
+-- A variant has a field of this type, with the parameters in it replaced.
 pub data HoldsType (params : Params) (name : Ident) (field : FieldValue) (old new : List Fault) : KindValue → Type 0 where
   holds : {type : TypeTree} → GetsType params field.type (run_span field.run) old new type → HoldsType params name field old new (holding name type)
 
--- What the matches of a variant's leaves give. A variant without a field in its parenthesis, and one with named fields, is listed and read on as one
--- whose matches are left out; of two or more fields, which are listed, the first one's type is taken.
+-- The kind of a variant. One without a field in its parentheses, and one with named fields, is reported and then read as a skip. Of two or more fields, which are
+-- reported, the first one's type is taken.
 pub data KindIs (params : Params) (name : Ident) (old new : List Fault) : FieldsValue → KindValue → Type 0 where
   no_field : new ≡ old → KindIs params name old new no_fields (plain name)
   empty : {span : Span} → Lists (variant_fields 0 span) old new → KindIs params name old new (in_parenthesis span []) skipped
@@ -34,24 +34,24 @@ pub data KindIs (params : Params) (name : Ident) (old new : List Fault) : Fields
       mid ≡ old ++ count_faults (length (field ∷ others)) span → HoldsType params name field mid new kind → KindIs params name old new (in_parenthesis span (field ∷ others)) kind
   with_names : {span : Span} {fields : List FieldValue} → Lists (named_fields span) old new → KindIs params name old new (in_braces span fields) skipped
 
--- the attribute has this name
+-- The attribute has this name.
 abbrev pub is_named : Option Meta → List ℕ → Bool
 is_named None text = false
 is_named (Some meta) text = bytes_eq meta.name.text text
 
--- a `token`: without a definition that is listed at the attribute, behind the faults of the definition
+-- The leaf of a `token` attribute, if it has one. One without a definition is reported at the attribute, after the faults of the definition.
 pub data TokenGives (kind : KindValue) (attribute : AttributeValue) (old new : List Fault) : Option LeafView → Type 0 where
   no_token : {mid : List Fault} → Tells (meta_told (meta_of attribute)) None old mid → Lists (token_form attribute.span) mid new → TokenGives kind attribute old new None
   a_token : {mid : List Fault} {definition : DefinitionView} {leaf : Option LeafView} → Tells (meta_told (meta_of attribute)) (Some definition) old mid →
       IsTokenLeaf definition kind leaf mid new → TokenGives kind attribute old new leaf
 
--- a `regex`
+-- The leaf of a `regex` attribute, if it has one.
 pub data RegexGives (names : List Stored) (kind : KindValue) (attribute : AttributeValue) (old new : List Fault) : Option LeafView → Type 0 where
   no_regex : {mid : List Fault} → Tells (meta_told (meta_of attribute)) None old mid → Lists (regex_form attribute.span) mid new → RegexGives names kind attribute old new None
   a_regex : {mid : List Fault} {definition : DefinitionView} {leaf : Option LeafView} → Tells (meta_told (meta_of attribute)) (Some definition) old mid →
       IsRegexLeaf definition kind names leaf mid new → RegexGives names kind attribute old new leaf
 
--- What an attribute of a variant gives, by its name. Others than these three say nothing.
+-- The leaf of an attribute of a variant, if it has one, by its name. Any other attribute has none.
 pub data AttributeGives (names : List Stored) (kind : KindValue) (attribute : AttributeValue) (old new : List Fault) : Option LeafView → Type 0 where
   on_error : is_named (meta_of attribute) (codes "error") ≡ true → Lists (error_variant attribute.span) old new → AttributeGives names kind attribute old new None
   on_token : {leaf : Option LeafView} → is_named (meta_of attribute) (codes "token") ≡ true → TokenGives kind attribute old new leaf → AttributeGives names kind attribute old new leaf
@@ -59,30 +59,30 @@ pub data AttributeGives (names : List Stored) (kind : KindValue) (attribute : At
   on_other : is_named (meta_of attribute) (codes "error") ≡ false → is_named (meta_of attribute) (codes "token") ≡ false → is_named (meta_of attribute) (codes "regex") ≡ false →
       new ≡ old → AttributeGives names kind attribute old new None
 
--- the leaves of a run of attributes are added behind those in front, in order
-pub data AttributesAdd (names : List Stored) (kind : KindValue) : TokenList → (before behind : List LeafView) → (old new : List Fault) → Type 0 where
+-- Reading a run of attributes adds their leaves and their faults, in order.
+pub data AttributesAdd (names : List Stored) (kind : KindValue) : TokenList → (before after : List LeafView) → (old new : List Fault) → Type 0 where
   no_attribute : {run : TokenList} {leaves : List LeafView} {faults : List Fault} → attribute_in run ≡ None → AttributesAdd names kind run leaves leaves faults faults
-  one_attribute : {run : TokenList} {split : SplitAttribute} {leaf : Option LeafView} {before behind : List LeafView} {old mid new : List Fault} → attribute_in run ≡ Some split →
-      AttributeGives names kind split.attribute old mid leaf → AttributesAdd names kind split.rest (before ++ option_to_list leaf) behind mid new →
-      AttributesAdd names kind run before behind old new
+  one_attribute : {run : TokenList} {split : SplitAttribute} {leaf : Option LeafView} {before after : List LeafView} {old mid new : List Fault} → attribute_in run ≡ Some split →
+      AttributeGives names kind split.attribute old mid leaf → AttributesAdd names kind split.rest (before ++ option_to_list leaf) after mid new →
+      AttributesAdd names kind run before after old new
 
--- the leaves of a variant are
-pub record VariantAdds (params : Params) (names : List Stored) (variant : VariantValue) (before behind : List LeafView) (old new : List Fault) : Type 0 where
+-- Reading a variant adds its leaves and its faults.
+pub record VariantAdds (params : Params) (names : List Stored) (variant : VariantValue) (before after : List LeafView) (old new : List Fault) : Type 0 where
   pub name : Ident
   pub is_name : ident_slice name ≡ variant.name
   pub kind : KindValue
   pub mid : List Fault
   pub is_kind : KindIs params name old mid variant.fields kind
-  pub add : AttributesAdd names kind variant.attributes before behind mid new
+  pub add : AttributesAdd names kind variant.attributes before after mid new
 
--- the leaves of variants are, in order
-pub data VariantsAdd (params : Params) (names : List Stored) : List VariantValue → (before behind : List LeafView) → (old new : List Fault) → Type 0 where
+-- Reading variants adds their leaves and their faults, in order.
+pub data VariantsAdd (params : Params) (names : List Stored) : List VariantValue → (before after : List LeafView) → (old new : List Fault) → Type 0 where
   no_variant : {leaves : List LeafView} {faults : List Fault} → VariantsAdd params names [] leaves leaves faults faults
-  one_variant : {variant : VariantValue} {rest : List VariantValue} {before middle behind : List LeafView} {old mid new : List Fault} →
-      VariantAdds params names variant before middle old mid → VariantsAdd params names rest middle behind mid new → VariantsAdd params names (variant ∷ rest) before behind old new
+  one_variant : {variant : VariantValue} {rest : List VariantValue} {before middle after : List LeafView} {old mid new : List Fault} →
+      VariantAdds params names variant before middle old mid → VariantsAdd params names rest middle after mid new → VariantsAdd params names (variant ∷ rest) before after old new
 
--- the leaves of the definitions of `skip` are, in order
-pub data SkipsAdd (names : List Stored) : List DefinitionView → (before behind : List LeafView) → (old new : List Fault) → Type 0 where
+-- Reading the definitions of `skip` adds their leaves and their faults, in order.
+pub data SkipsAdd (names : List Stored) : List DefinitionView → (before after : List LeafView) → (old new : List Fault) → Type 0 where
   no_skip : {leaves : List LeafView} {faults : List Fault} → SkipsAdd names [] leaves leaves faults faults
-  one_skip : {definition : DefinitionView} {rest : List DefinitionView} {leaf : Option LeafView} {before behind : List LeafView} {old mid new : List Fault} →
-      IsRegexLeaf definition skipped names leaf old mid → SkipsAdd names rest (before ++ option_to_list leaf) behind mid new → SkipsAdd names (definition ∷ rest) before behind old new
+  one_skip : {definition : DefinitionView} {rest : List DefinitionView} {leaf : Option LeafView} {before after : List LeafView} {old mid new : List Fault} →
+      IsRegexLeaf definition skipped names leaf old mid → SkipsAdd names rest (before ++ option_to_list leaf) after mid new → SkipsAdd names (definition ∷ rest) before after old new

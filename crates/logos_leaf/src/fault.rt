@@ -1,4 +1,4 @@
-//! The faults of leaves: each function lists one.
+//! The faults of leaves. Each function reports one.
 ghost use Rattle.std.specs.Prelude.{OnOk};
 ghost use Rattle.logos_attribute.specs.Told.{Lists};
 ghost use Rattle.logos_leaf.specs.Leaves.{greedy_dot, priority_overflow};
@@ -9,15 +9,15 @@ use logos_token::token::Span;
 const GREEDY_DOT: &str =
     "This pattern contains an unbounded greedy dot repetition, i.e. `.*` or `.+` (or a character class that is equivalent to a dot, i.e., `[^\\n]*`). This will cause the entirety of the input to be read for every token. Consider making your repetition non-greedy or changing it to a more specific character class. If this is the intended behavior, add #[regex(..., allow_greedy = true)] or#[logos(skip(..., allow_greedy = true))]";
 
-/// Lists a greedy dot.
-pub(crate) fn list_greedy_dot(span: Span, errors: &mut Errors) -> Result<(), Memory>
+/// Reports a greedy dot.
+pub(crate) fn report_greedy_dot(span: Span, errors: &mut Errors) -> Result<(), Memory>
     ensures { OnOk result (Lists (greedy_dot span) errors.old errors.new) }
 {
     errors.err(FaultCode::GreedyDot, GREEDY_DOT, span)
 }
 
-/// Lists a default priority that is too large.
-pub(crate) fn list_overflow(span: Span, errors: &mut Errors) -> Result<(), Memory>
+/// Reports a default priority that does not fit `usize`.
+pub(crate) fn report_overflow(span: Span, errors: &mut Errors) -> Result<(), Memory>
     ensures { OnOk result (Lists (priority_overflow span) errors.old errors.new) }
 {
     errors.err(

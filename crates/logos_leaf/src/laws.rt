@@ -1,4 +1,4 @@
-//! What holds of each enum.
+//! Laws of reading enums.
 ghost use Rattle.std.specs.Prelude.{◌≡◌, List, [], map, Option, Some, None};
 ghost use Rattle.logos_token.specs.Faults.{Fault};
 ghost use Rattle.logos_type.specs.Parts.{Tree};
@@ -9,16 +9,16 @@ ghost use Rattle.logos_definition.specs.Options.{OptionsView};
 ghost use Rattle.logos_leaf.specs.Leaves.{LeafView};
 ghost use Rattle.logos_leaf.specs.Sources.{SourceSays};
 
-/// An enum whose parts list no fault says one thing: whatever else it is read as has no fault, the same options and the same leaves, where
-/// the name of a variant is told by its text and its place.
+/// An enum without faults is read in one way. Whatever else it is read as has no fault, the same options, and the same leaves, where the name
+/// of a variant is known by its text and its span.
 pub fn one_source()
     ensures no_fault { (item : EnumValue) (o p : OptionsView) (leaves others : List LeafView)
         (faults : List Fault) → SourceSays item o leaves [] → SourceSays item p others faults →
         faults ≡ [] }
-    ensures one_said { (item : EnumValue) (o p : OptionsView) (leaves others : List LeafView)
+    ensures one_set_of_options { (item : EnumValue) (o p : OptionsView) (leaves others : List LeafView)
         (faults : List Fault) → SourceSays item o leaves [] → SourceSays item p others faults →
         o ≡ p }
-    // The leaves without their kinds, and beside them the names and types in these.
+    // The leaves without their kinds, and with the names and types of these.
     ensures one_list { (item : EnumValue) (o p : OptionsView) (leaves others : List LeafView)
         (faults : List Fault) → SourceSays item o leaves [] → SourceSays item p others faults →
         let shown : LeafView → LeafView × Option (Slice × Option Tree)

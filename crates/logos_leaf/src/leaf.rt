@@ -1,4 +1,4 @@
-//! The leaves that definitions make.
+//! Leaves of definitions.
 ghost use Rattle.std.specs.Prelude.{◌≡◌, ◌++◌, IfOk, IfSome, OnOk, OnErr, true, false, option_map};
 ghost use Rattle.std.specs.Prelude.{chars, string_bytes};
 ghost use Rattle.logos_hir.specs.Hir.{literal_tree};
@@ -9,26 +9,26 @@ ghost use Rattle.logos_attribute.specs.LiteralViews.{literal_view};
 ghost use Rattle.logos_attribute.specs.Told.{Tells};
 ghost use Rattle.logos_definition.specs.DefinitionViews.{definition_view};
 ghost use Rattle.logos_subpattern.specs.PatternFaults.{IsRead};
-ghost use Rattle.logos_subpattern.specs.Subpatterns.{regex_of};
+ghost use Rattle.logos_subpattern.specs.Subpatterns.{pattern_text};
 ghost use Rattle.logos_subpattern.specs.Substitution.{subst_told};
 ghost use Rattle.logos_subpattern.specs.SubpatternViews.{names_of};
-ghost use Rattle.logos_leaf.specs.Leaves.{bytes_of, speaks_of_text, escaped_of, leaf_with};
+ghost use Rattle.logos_leaf.specs.Leaves.{bytes_of, is_string, escaped_of, leaf_with};
 ghost use Rattle.logos_leaf.specs.Leaves.{token_priority, token_leaf, regex_priority, given_or};
 ghost use Rattle.logos_leaf.specs.Leaves.{greedy_faults, tree_told};
 ghost use Rattle.logos_leaf.specs.Leaves.{IsTokenLeaf, IsRegexLeaf};
 ghost use Rattle.logos_leaf.specs.LeafViews.{leaf_view};
 ghost use Rattle.logos_leaf.specs.inside.Readings.{leaf_by, IsFoldedLeaf, IsWholeLeaf};
 
-use crate::fault::{list_greedy_dot, list_overflow};
+use crate::fault::{report_greedy_dot, report_overflow};
 use logos_definition::definition::Definition;
 use logos_pattern::leaf::{Leaf, VariantKind};
 use logos_pattern::pattern::{Literal, Pattern, token_priority};
 use logos_subpattern::fault::{ReadingMode, read_pattern};
-use logos_subpattern::subpattern::{Subpatterns, regex_of};
+use logos_subpattern::subpattern::{Subpatterns, pattern_text};
 use logos_token::error::{Errors, Memory};
 use std::alloc::Global;
 
-/// The leaf of a definition with this pattern and this priority.
+/// Returns the leaf of a definition with this pattern and this priority.
 fn leaf_with<'s>(
     definition: Definition<'s>,
     kind: VariantKind<'s>,
@@ -47,7 +47,7 @@ fn leaf_with<'s>(
         .callback(definition.callback)
 }
 
-/// The priority of a `token`: the one that is given, or twice the number of bytes that it holds.
+/// Returns the priority of a `token`: the given one, or twice the number of bytes that its literal holds.
 fn priority_of(definition: &Definition<'_>) -> usize
     ensures { result ≡ token_priority (definition_view definition.now) }
 {
@@ -55,9 +55,9 @@ fn priority_of(definition: &Definition<'_>) -> usize
     definition.priority.unwrap_or(default)
 }
 
-/// Whether a literal speaks of characters.
-fn speaks_of_text(literal: &Literal<'_>) -> bool
-    ensures { result ≡ speaks_of_text (literal_view literal.now).held }
+/// Returns whether a literal is a string, not a byte string.
+fn is_string(literal: &Literal<'_>) -> bool
+    ensures { result ≡ is_string (literal_view literal.now).held }
 {
     match literal {
         Literal::Utf8(_) => true,
@@ -65,7 +65,7 @@ fn speaks_of_text(literal: &Literal<'_>) -> bool
     }
 }
 
-/// The text of a pattern that matches the value of a literal alone.
+/// Returns the text of a pattern that matches the value of a literal alone.
 fn escaped_of(alloc: Global, literal: &Literal<'_>) -> Result<String, Memory>
     ensures { IfOk result (λ text. string_bytes text ≡ escaped_of (literal_view literal.now).held) }
 {
@@ -75,15 +75,14 @@ fn escaped_of(alloc: Global, literal: &Literal<'_>) -> Result<String, Memory>
     }
 }
 
-/// The pattern of a `token` whose letters match in either case; `None` where it is none, which was
-/// listed.
+/// Returns the pattern of a `token` whose letters match in either case. Returns `None` when its text is
+/// not a pattern, which is reported.
 fn folded_pattern<'s>(
-    alloc: Global,
     literal: &Literal<'s>,
     errors: &mut Errors,
 ) -> Result<Option<Pattern<'s>>, Memory>
     ensures read { IfOk result (λ pattern.
-        IsRead (speaks_of_text (literal_view literal.now).held) true
+        IsRead (is_string (literal_view literal.now).held) true
         (chars (escaped_of (literal_view literal.now).held)) (token_of literal.now).span
         (option_map pattern_tree pattern) errors.old errors.new) }
     ensures source { IfOk result (λ pattern. IfSome pattern (λ p.
@@ -91,19 +90,18 @@ fn folded_pattern<'s>(
     ensures token { IfOk result (λ pattern. IfSome pattern (λ p. is_token p ≡ true)) }
     ensures unlisted { OnErr result (errors.new ≡ errors.old) }
 {
-    let text = escaped_of(alloc, literal)?;
+    let text = escaped_of(errors.alloc(), literal)?;
     let mode = ReadingMode {
         is_literal: true,
-        unicode: speaks_of_text(literal),
+        unicode: is_string(literal),
         ignore_case: true,
     };
-    read_pattern(alloc, text.as_str(), literal, mode, errors)
+    read_pattern(text.as_str(), literal, mode, errors)
 }
 
-/// The leaf of a `token` whose letters match in either case; `None` where its text is no pattern,
-/// which was listed.
+/// Returns the leaf of a `token` whose letters match in either case. Returns `None` when its text is not
+/// a pattern, which is reported.
 fn folded_leaf<'s>(
-    alloc: Global,
     definition: Definition<'s>,
     kind: VariantKind<'s>,
     errors: &mut Errors,
@@ -113,7 +111,7 @@ fn folded_leaf<'s>(
         (option_map leaf_view leaf) errors.old errors.new) }
     ensures unlisted { OnErr result (errors.new ≡ errors.old) }
 {
-    let read = folded_pattern(alloc, &definition.literal, errors)?;
+    let read = folded_pattern(&definition.literal, errors)?;
     let Some(pattern) = read else {
         return Ok(None);
     };
@@ -121,7 +119,7 @@ fn folded_leaf<'s>(
     Ok(Some(leaf_with(definition, kind, pattern, priority)))
 }
 
-/// The leaf of a `token` that matches the bytes of its literal.
+/// Returns the leaf of a `token` that matches the bytes of its literal.
 fn plain_leaf<'s>(
     alloc: Global,
     definition: Definition<'s>,
@@ -136,10 +134,12 @@ fn plain_leaf<'s>(
     Ok(leaf_with(definition, kind, pattern, priority))
 }
 
-/// The leaf that a `token` makes; `None` where its text is no pattern, which was listed. After
-/// `Memory` the faults are as before.
+/// Returns the leaf of a `token`. Returns `None` when its text is not a pattern, which is reported.
+///
+/// # Errors
+///
+/// Returns `Memory` when memory runs out. The faults are then as before.
 pub fn token_leaf<'s>(
-    alloc: Global,
     definition: Definition<'s>,
     kind: VariantKind<'s>,
     errors: &mut Errors,
@@ -150,12 +150,12 @@ pub fn token_leaf<'s>(
     ensures unlisted { OnErr result (errors.new ≡ errors.old) }
 {
     if definition.ignore_flags.ignore_case {
-        return folded_leaf(alloc, definition, kind, errors);
+        return folded_leaf(definition, kind, errors);
     }
-    Ok(Some(plain_leaf(alloc, definition, kind)?))
+    Ok(Some(plain_leaf(errors.alloc(), definition, kind)?))
 }
 
-/// Lists a greedy dot of a pattern, unless the definition allows it.
+/// Reports a greedy dot of a pattern, unless the definition allows it.
 fn check_greedy(
     definition: &Definition<'_>,
     pattern: &Pattern<'_>,
@@ -166,12 +166,12 @@ fn check_greedy(
 {
     let allowed = definition.allow_greedy.unwrap_or(false);
     if !allowed & pattern.check_for_greedy_all() {
-        list_greedy_dot(definition.literal.span(), errors)?;
+        report_greedy_dot(definition.literal.span(), errors)?;
     }
     Ok(())
 }
 
-/// The first priority, or the second one where there is no first.
+/// Returns the first priority, or the second one when there is no first.
 fn given_or(first: Option<usize>, second: Option<usize>) -> Option<usize>
     ensures { result ≡ given_or first second }
 {
@@ -181,7 +181,7 @@ fn given_or(first: Option<usize>, second: Option<usize>) -> Option<usize>
     }
 }
 
-/// The priority of a pattern: the one that is given, or its own, if that fits.
+/// Returns the priority of a pattern: the given one, or its default if that fits `usize`.
 fn regex_priority(definition: &Definition<'_>, pattern: &Pattern<'_>) -> Option<usize>
     ensures { result
         ≡ regex_priority (definition_view definition.now) (pattern_tree pattern.now) }
@@ -189,8 +189,9 @@ fn regex_priority(definition: &Definition<'_>, pattern: &Pattern<'_>) -> Option<
     given_or(definition.priority, pattern.priority())
 }
 
-/// A pattern and its priority: the one that is given, or its own. `None` where its own is too large,
-/// which is listed. A greedy dot is listed before, unless the definition allows it.
+/// Returns a pattern with its priority: the given one, or its default. Returns `None` when its default
+/// does not fit `usize`, which is reported. A greedy dot is reported before that, unless the definition
+/// allows it.
 fn fitted_pattern<'s>(
     definition: &Definition<'s>,
     pattern: Pattern<'s>,
@@ -208,15 +209,15 @@ fn fitted_pattern<'s>(
     check_greedy(definition, &pattern, errors)?;
     let priority = regex_priority(definition, &pattern);
     let Some(priority) = priority else {
-        list_overflow(definition.literal.span(), errors)?;
+        report_overflow(definition.literal.span(), errors)?;
         return Ok(None);
     };
     Ok(Some((pattern, priority)))
 }
 
-/// The pattern of a text with all subpatterns put in, and its priority.
+/// Returns the pattern of a text with all subpatterns put in, and its priority. Returns `None` when the
+/// text is not a pattern or the priority does not fit `usize`, which is reported.
 fn whole_pattern<'s>(
-    alloc: Global,
     definition: &Definition<'s>,
     text: &str,
     errors: &mut Errors,
@@ -230,40 +231,39 @@ fn whole_pattern<'s>(
 {
     let mode = ReadingMode {
         is_literal: false,
-        unicode: speaks_of_text(&definition.literal),
+        unicode: is_string(&definition.literal),
         ignore_case: definition.ignore_flags.ignore_case,
     };
-    match read_pattern(alloc, text, &definition.literal, mode, errors) {
+    match read_pattern(text, &definition.literal, mode, errors) {
         Ok(Some(pattern)) => fitted_pattern(definition, pattern, errors),
         Ok(None) => {
-            // Why the text is no pattern stands in the list already.
+            // It is reported already why the text is not a pattern.
             Ok(None)
         }
         Err(Memory) => Err(Memory),
     }
 }
 
-/// The value of a literal as the text of a pattern, with all subpatterns put in; `None` where one is
-/// missing, which was listed.
+/// Returns the pattern text that a literal's value spells, with all subpatterns put in. Returns `None`
+/// when one is missing, which is reported.
 fn whole_text(
-    alloc: Global,
     literal: &Literal<'_>,
     subpatterns: &Subpatterns<'_>,
     errors: &mut Errors,
 ) -> Result<Option<String>, Memory>
     ensures { IfOk result (λ text. Tells
         (subst_told (names_of subpatterns.now) (token_of literal.now).span
-        (chars (regex_of (literal_view literal.now).held)))
+        (chars (pattern_text (literal_view literal.now).held)))
         (option_map string_bytes text) errors.old errors.new) }
 {
-    let text = regex_of(alloc, literal)?;
+    let alloc = errors.alloc();
+    let text = pattern_text(alloc, literal)?;
     subpatterns.subst_subpatterns(alloc, text.as_str(), literal.span(), errors)
 }
 
-/// The pattern of a `regex` or `skip`, and its priority. `None` where a subpattern is missing, where
-/// its text is no pattern, or where its priority is too large, which was listed.
+/// Returns the pattern of a `regex` or `skip`, and its priority. Returns `None` when a subpattern is
+/// missing, when its text is not a pattern, or when its priority does not fit `usize`, which is reported.
 fn regex_pattern<'s>(
-    alloc: Global,
     definition: &Definition<'s>,
     subpatterns: &Subpatterns<'s>,
     errors: &mut Errors,
@@ -275,17 +275,16 @@ fn regex_pattern<'s>(
         source_of p.0 ≡ (token_of definition.now.literal).text.now)) }
     ensures regex { IfOk result (λ fitted. IfSome fitted (λ p. is_token p.0 ≡ false)) }
 {
-    match whole_text(alloc, &definition.literal, subpatterns, errors) {
-        Ok(Some(text)) => whole_pattern(alloc, definition, text.as_str(), errors),
+    match whole_text(&definition.literal, subpatterns, errors) {
+        Ok(Some(text)) => whole_pattern(definition, text.as_str(), errors),
         Ok(None) => Ok(None),
         Err(Memory) => Err(Memory),
     }
 }
 
-/// The leaf that a `regex` or `skip` makes, if it makes one. After `Memory` some of the faults may be
-/// listed.
+/// Returns the leaf of a `regex` or `skip`, if it has one, and reports its faults. After an error some of
+/// these may be in the list.
 fn read_leaf<'s>(
-    alloc: Global,
     definition: Definition<'s>,
     kind: VariantKind<'s>,
     subpatterns: &Subpatterns<'s>,
@@ -295,18 +294,21 @@ fn read_leaf<'s>(
         IsRegexLeaf (definition_view definition.entry) (kind_value kind.entry)
         (names_of subpatterns.now) (option_map leaf_view leaf) errors.old errors.new) }
 {
-    match regex_pattern(alloc, &definition, subpatterns, errors) {
+    match regex_pattern(&definition, subpatterns, errors) {
         Ok(Some((pattern, priority))) => Ok(Some(leaf_with(definition, kind, pattern, priority))),
         Ok(None) => Ok(None),
         Err(Memory) => Err(Memory),
     }
 }
 
-/// The leaf that a `regex` or `skip` makes. `None` where a subpattern is missing, where its text is
-/// no pattern, or where its priority is too large, which was listed. A greedy dot is listed, and
-/// makes a leaf. After `Memory` the faults are as before.
+/// Returns the leaf of a `regex` or `skip`. Returns `None` when a subpattern is missing, when its text
+/// is not a pattern, or when its priority does not fit `usize`, which is reported. A greedy dot is
+/// reported too, but there is a leaf.
+///
+/// # Errors
+///
+/// Returns `Memory` when memory runs out. The faults are then as before.
 pub fn regex_leaf<'s>(
-    alloc: Global,
     definition: Definition<'s>,
     kind: VariantKind<'s>,
     subpatterns: &Subpatterns<'s>,
@@ -317,8 +319,8 @@ pub fn regex_leaf<'s>(
         (names_of subpatterns.now) (option_map leaf_view leaf) errors.old errors.new) }
     ensures unlisted { OnErr result (errors.new ≡ errors.old) }
 {
-    let mut found = Errors::new(alloc);
-    let leaf = read_leaf(alloc, definition, kind, subpatterns, &mut found)?;
+    let mut found = Errors::new(errors.alloc());
+    let leaf = read_leaf(definition, kind, subpatterns, &mut found)?;
     errors.append(found)?;
     Ok(leaf)
 }

@@ -1,4 +1,4 @@
-//! Leaves of a lexer, as definitions make them.
+//! The leaves of an enum, which its definitions make.
 
 #![tactic(auto)]
 

@@ -1,4 +1,4 @@
-//! All leaves of an enum, as its attributes and those of its variants say.
+//! The leaves of an enum.
 ghost use Rattle.std.specs.Prelude.{◌≡◌, IfOk, OnOk, map, []};
 ghost use Rattle.logos_token.specs.Views.{tokens_of};
 ghost use Rattle.logos_type_params.specs.SelfReference.{texts};
@@ -25,19 +25,9 @@ use logos_pattern::leaf::{Leaf, VariantKind};
 use logos_subpattern::subpattern::Subpatterns;
 use logos_token::error::{Errors, Memory};
 use logos_token::token::Tokens;
-use std::alloc::Global;
 use std::mem;
 
-/// What an enum says.
-#[derive(Drop)]
-pub struct Source<'s> {
-    /// Its leaves: those of its skips first, then those of its variants, in source order.
-    pub leaves: Vec<Leaf<'s>>,
-    /// What its parameters and attributes say, but for the skips, and the faults of all.
-    pub parser: Parser<'s>,
-}
-
-/// Reads the generic parameters of an enum, in order.
+/// Reads the generic parameters of an enum into a parser, in order.
 fn read_parameters<'s>(
     parameters: &[Parameter<'_, 's>],
     parser: &mut Parser<'s>,
@@ -51,22 +41,21 @@ fn read_parameters<'s>(
     Ok(())
 }
 
-/// Reads the attributes of an enum, in order.
+/// Reads the attributes of an enum into a parser, in order.
 fn read_attributes<'s>(attributes: Tokens<'_, 's>, parser: &mut Parser<'s>) -> Result<(), Memory>
     ensures { OnOk result (AttributesSay (parser_view parser.old) (parser_view parser.new)
         parser.old.errors parser.new.errors (tokens_of attributes.entry)) }
 {
     let mut rest = attributes;
-    while let Some((attribute, behind)) = split_attribute(rest) {
+    while let Some((attribute, after)) = split_attribute(rest) {
         parser.try_parse_logos(attribute)?;
-        rest = behind;
+        rest = after;
     }
     Ok(())
 }
 
 /// Adds the leaves of the definitions of `skip`, in source order.
 fn add_skips<'s>(
-    alloc: Global,
     skips: Vec<Definition<'s>>,
     subpatterns: &Subpatterns<'s>,
     leaves: &mut Vec<Leaf<'s>>,
@@ -77,13 +66,13 @@ fn add_skips<'s>(
         (map leaf_view leaves.new.items) errors.old errors.new) }
 {
     for skip in skips {
-        let leaf = regex_leaf(alloc, skip, VariantKind::Skip, subpatterns, errors)?;
+        let leaf = regex_leaf(skip, VariantKind::Skip, subpatterns, errors)?;
         push_leaf(leaves, leaf)?;
     }
     Ok(())
 }
 
-/// Whether inputs are UTF-8, as they are unless it is said that they are not.
+/// Returns whether inputs are UTF-8, which they are unless the option `utf8` is `false`.
 pub fn utf8_mode(parser: &Parser<'_>) -> bool
     ensures { result ≡ utf8_mode (parser_view parser.now) }
 {
@@ -93,10 +82,9 @@ pub fn utf8_mode(parser: &Parser<'_>) -> bool
     }
 }
 
-/// Makes the leaves of the skips that were said and of these variants, where these parameters hold
-/// themselves and these subpatterns are there.
+/// Takes the skips out of a parser, and makes their leaves and those of these variants. `held` has
+/// the parameters that hold themselves.
 fn leaves_with<'s>(
-    alloc: Global,
     variants: &[Variant<'_, 's>],
     held: &IndexSet<&'s str>,
     subpatterns: &Subpatterns<'s>,
@@ -106,67 +94,58 @@ fn leaves_with<'s>(
         (params_with parser.old.types (texts held.now.keys)) (names_of subpatterns.now)
         (map definition_view parser.old.skips.items) (map variant_value variants.now)
         (map leaf_view leaves.items) parser.old.errors parser.new.errors) }
-    ensures kept { OnOk result (IsWithoutSkips
+    ensures options { OnOk result (IsWithoutSkips
         (parser_view parser.old) (parser_view parser.new)) }
 {
+    let alloc = parser.errors.alloc();
     let skips = mem::replace(&mut parser.skips, Vec::new(alloc));
     let mut leaves = Vec::new(alloc);
-    add_skips(alloc, skips, subpatterns, &mut leaves, &mut parser.errors)?;
-    add_variants(alloc, variants, held, subpatterns, parser, &mut leaves)?;
+    add_skips(skips, subpatterns, &mut leaves, &mut parser.errors)?;
+    add_variants(variants, held, subpatterns, parser, &mut leaves)?;
     Ok(leaves)
 }
 
-/// Makes the leaves of what was said and of these variants.
-fn read_leaves<'s>(
-    alloc: Global,
+/// Reports each parameter that holds itself, reads the subpatterns, and makes the leaves of the skips
+/// and of these variants.
+fn make_leaves<'s>(
     variants: &[Variant<'_, 's>],
     parser: &mut Parser<'s>,
 ) -> Result<Vec<Leaf<'s>>, Memory>
-    ensures said { IfOk result (λ leaves. LeavesSay (parser_view parser.old)
+    ensures leaves { IfOk result (λ leaves. LeavesSay (parser_view parser.old)
         (map variant_value variants.now) (map leaf_view leaves.items)
         parser.old.errors parser.new.errors) }
-    ensures kept { OnOk result (IsWithoutSkips
+    ensures options { OnOk result (IsWithoutSkips
         (parser_view parser.old) (parser_view parser.new)) }
 {
     parser.types.check(&mut parser.errors)?;
     let held = parser.types.held_names()?;
     let mode = utf8_mode(parser);
+    let alloc = parser.errors.alloc();
     let list = parser.subpatterns.as_slice();
     match Subpatterns::new(alloc, list, mode, &mut parser.errors) {
-        Ok(subpatterns) => leaves_with(alloc, variants, &held, &subpatterns, parser),
+        Ok(subpatterns) => leaves_with(variants, &held, &subpatterns, parser),
         Err(Memory) => Err(Memory),
     }
 }
 
-/// Reads all that an enum says into a parser to which nothing was said, and makes its leaves.
-fn read_item<'s>(
-    alloc: Global,
+/// Reads an enum into a new parser, and returns its leaves: those of its skips first, then those of
+/// its variants, in source order. It reads the generic parameters, the attributes, the subpatterns,
+/// the skips and the variants, in this order, and takes each step whatever faults were reported
+/// before it. The parser then has the options without the skips, and all these faults.
+///
+/// # Errors
+///
+/// Returns `Memory` when memory runs out. What is in the parser is then not to be used.
+pub fn read_leaves<'s>(
     item: &ItemEnum<'_, 's>,
     parser: &mut Parser<'s>,
 ) -> Result<Vec<Leaf<'s>>, Memory>
-    requires said { parser_view parser.old ≡ nothing_said }
-    requires errors { parser.old.errors ≡ [] }
+    requires options { parser_view parser.old ≡ nothing_said }
+    requires faults { parser.old.errors ≡ [] }
     ensures { IfOk result (λ leaves. IsSourceRead (enum_value item.now)
         (map leaf_view leaves.items) (parser_view parser.new) parser.new.errors) }
 {
     read_parameters(item.parameters.as_slice(), parser)?;
     read_attributes(item.attributes, parser)?;
-    read_leaves(alloc, item.variants.as_slice(), parser)
-}
-
-/// Reads all that an enum says: its generic parameters, its attributes, its subpatterns, its skips,
-/// and its variants, in this order. Each step is taken whatever faults were listed before it. Only
-/// want of memory is an error.
-pub fn read_source<'s>(alloc: Global, item: &ItemEnum<'_, 's>) -> Result<Source<'s>, Memory>
-    ensures { IfOk result (λ source. IsSourceRead (enum_value item.now)
-        (map leaf_view source.leaves.items) (parser_view source.parser) source.parser.errors) }
-{
-    let mut parser = Parser::new(alloc);
-    match read_item(alloc, item, &mut parser) {
-        Ok(made) => Ok(Source {
-            leaves: made,
-            parser,
-        }),
-        Err(Memory) => Err(Memory),
-    }
+    make_leaves(item.variants.as_slice(), parser)
 }

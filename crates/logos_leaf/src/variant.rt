@@ -1,4 +1,4 @@
-//! The leaves that the attributes of variants make.
+//! Leaves of variants, which their attributes define.
 ghost use Rattle.std.specs.Prelude.{◌≡◌, ◌++◌, IfOk, OnOk, map, option_map};
 ghost use Rattle.std.specs.Option.{option_to_list};
 ghost use Rattle.logos_token.specs.Views.{tokens_of};
@@ -19,8 +19,8 @@ mod fault;
 
 use crate::leaf::{regex_leaf, token_leaf};
 use crate::variant::fault::{
-    list_count, list_error_variant, list_named_fields, list_regex_form, list_token_form,
-    list_variant_fields,
+    report_count, report_error_variant, report_named_fields, report_regex_form, report_token_form,
+    report_variant_fields,
 };
 use indexmap::IndexSet;
 use logos_definition::meta::meta_of;
@@ -31,7 +31,7 @@ use logos_subpattern::subpattern::Subpatterns;
 use logos_token::error::{Errors, Memory};
 use logos_token::token::{Ident, Span, Tokens};
 use logos_type_params::TypeParams;
-use std::alloc::{AllocError, Global};
+use std::alloc::AllocError;
 
 /// The declared type parameters of an enum, and the names of those that hold themselves.
 #[derive(Clone, Copy)]
@@ -40,7 +40,7 @@ pub struct Types<'p, 's> {
     pub held: &'p IndexSet<&'s str>,
 }
 
-/// What a match gives of a variant with this field.
+/// Returns the kind of a variant with this field.
 fn value_kind<'s>(
     types: Types<'_, 's>,
     name: Ident<'s>,
@@ -58,9 +58,9 @@ fn value_kind<'s>(
     Ok(VariantKind::Value(name, got))
 }
 
-/// What a match gives of a variant with these fields in a parenthesis at this span.
+/// Returns the kind of a variant with these fields in parentheses with this span, and reports any number
+/// of fields but one.
 fn tuple_kind<'s>(
-    alloc: Global,
     types: Types<'_, 's>,
     name: Ident<'s>,
     span: Span,
@@ -73,16 +73,15 @@ fn tuple_kind<'s>(
         (kind_value kind)) }
 {
     let Some((first, _)) = fields.split_first() else {
-        list_variant_fields(alloc, 0, span, errors)?;
+        report_variant_fields(0, span, errors)?;
         return Ok(VariantKind::Skip);
     };
-    list_count(alloc, fields.len(), span, errors)?;
+    report_count(fields.len(), span, errors)?;
     value_kind(types, name, first, errors)
 }
 
-/// What a match gives of a variant with these fields.
+/// Returns the kind of a variant with these fields, and reports fields that are not supported.
 fn kind_of<'s>(
-    alloc: Global,
     types: Types<'_, 's>,
     name: Ident<'s>,
     fields: &Fields<'_, 's>,
@@ -94,17 +93,16 @@ fn kind_of<'s>(
 {
     match fields {
         Fields::Unit => Ok(VariantKind::Unit(name)),
-        Fields::Tuple(span, list) => tuple_kind(alloc, types, name, *span, list, errors),
+        Fields::Tuple(span, list) => tuple_kind(types, name, *span, list, errors),
         Fields::Named(span, _) => {
-            list_named_fields(*span, errors)?;
+            report_named_fields(*span, errors)?;
             Ok(VariantKind::Skip)
         }
     }
 }
 
-/// The leaf of a `token` attribute, if it makes one.
-fn token_of<'s>(
-    alloc: Global,
+/// Reads a `token` attribute into its leaf, if it has one.
+fn read_token<'s>(
     attribute: Attribute<'_, 's>,
     kind: &VariantKind<'s>,
     parser: &mut Parser<'s>,
@@ -112,19 +110,18 @@ fn token_of<'s>(
     ensures given { IfOk result (λ leaf. TokenGives (kind_value kind.now)
         (attribute_value attribute.entry) parser.old.errors parser.new.errors
         (option_map leaf_view leaf)) }
-    ensures kept { OnOk result (parser_view parser.new ≡ parser_view parser.old) }
+    ensures unchanged { OnOk result (parser_view parser.new ≡ parser_view parser.old) }
 {
     let Some(definition) = parser.parse_definition_attr(attribute)? else {
-        list_token_form(attribute.span, &mut parser.errors)?;
+        report_token_form(attribute.span, &mut parser.errors)?;
         return Ok(None);
     };
     let kind = kind.clone()?;
-    token_leaf(alloc, definition, kind, &mut parser.errors)
+    token_leaf(definition, kind, &mut parser.errors)
 }
 
-/// The leaf of a `regex` attribute, if it makes one.
-fn regex_of<'s>(
-    alloc: Global,
+/// Reads a `regex` attribute into its leaf, if it has one.
+fn read_regex<'s>(
     attribute: Attribute<'_, 's>,
     kind: &VariantKind<'s>,
     subpatterns: &Subpatterns<'s>,
@@ -133,19 +130,18 @@ fn regex_of<'s>(
     ensures given { IfOk result (λ leaf. RegexGives (names_of subpatterns.now)
         (kind_value kind.now) (attribute_value attribute.entry)
         parser.old.errors parser.new.errors (option_map leaf_view leaf)) }
-    ensures kept { OnOk result (parser_view parser.new ≡ parser_view parser.old) }
+    ensures unchanged { OnOk result (parser_view parser.new ≡ parser_view parser.old) }
 {
     let Some(definition) = parser.parse_definition_attr(attribute)? else {
-        list_regex_form(attribute.span, &mut parser.errors)?;
+        report_regex_form(attribute.span, &mut parser.errors)?;
         return Ok(None);
     };
     let kind = kind.clone()?;
-    regex_leaf(alloc, definition, kind, subpatterns, &mut parser.errors)
+    regex_leaf(definition, kind, subpatterns, &mut parser.errors)
 }
 
-/// The leaf of an attribute of a variant, if it makes one.
-fn attribute_leaf<'s>(
-    alloc: Global,
+/// Reads an attribute of a variant into its leaf, if it has one.
+fn read_attribute<'s>(
     attribute: Attribute<'_, 's>,
     kind: &VariantKind<'s>,
     subpatterns: &Subpatterns<'s>,
@@ -154,20 +150,20 @@ fn attribute_leaf<'s>(
     ensures given { IfOk result (λ leaf. AttributeGives (names_of subpatterns.now)
         (kind_value kind.now) (attribute_value attribute.entry)
         parser.old.errors parser.new.errors (option_map leaf_view leaf)) }
-    ensures kept { OnOk result (parser_view parser.new ≡ parser_view parser.old) }
+    ensures unchanged { OnOk result (parser_view parser.new ≡ parser_view parser.old) }
 {
     let Some(meta) = meta_of(attribute) else {
         return Ok(None);
     };
     if meta.name.text == "error" {
-        list_error_variant(attribute.span, &mut parser.errors)?;
+        report_error_variant(attribute.span, &mut parser.errors)?;
         return Ok(None);
     }
     if meta.name.text == "token" {
-        return token_of(alloc, attribute, kind, parser);
+        return read_token(attribute, kind, parser);
     }
     if meta.name.text == "regex" {
-        return regex_of(alloc, attribute, kind, subpatterns, parser);
+        return read_regex(attribute, kind, subpatterns, parser);
     }
     Ok(None)
 }
@@ -188,7 +184,6 @@ pub(crate) fn push_leaf<'s>(
 
 /// Adds the leaves of all attributes of a variant.
 fn add_attributes<'s>(
-    alloc: Global,
     attributes: Tokens<'_, 's>,
     kind: &VariantKind<'s>,
     subpatterns: &Subpatterns<'s>,
@@ -198,20 +193,19 @@ fn add_attributes<'s>(
     ensures given { OnOk result (AttributesAdd (names_of subpatterns.now)
         (kind_value kind.now) (tokens_of attributes.entry) (map leaf_view leaves.old.items)
         (map leaf_view leaves.new.items) parser.old.errors parser.new.errors) }
-    ensures kept { OnOk result (parser_view parser.new ≡ parser_view parser.old) }
+    ensures unchanged { OnOk result (parser_view parser.new ≡ parser_view parser.old) }
 {
     let mut rest = attributes;
-    while let Some((attribute, behind)) = split_attribute(rest) {
-        let leaf = attribute_leaf(alloc, attribute, kind, subpatterns, parser)?;
+    while let Some((attribute, after)) = split_attribute(rest) {
+        let leaf = read_attribute(attribute, kind, subpatterns, parser)?;
         push_leaf(leaves, leaf)?;
-        rest = behind;
+        rest = after;
     }
     Ok(())
 }
 
 /// Adds the leaves of a variant.
 fn add_variant<'s>(
-    alloc: Global,
     variant: &Variant<'_, 's>,
     held: &IndexSet<&'s str>,
     subpatterns: &Subpatterns<'s>,
@@ -221,32 +215,18 @@ fn add_variant<'s>(
     ensures given { OnOk result (VariantAdds (params_with parser.old.types (texts held.now.keys))
         (names_of subpatterns.now) (variant_value variant.now) (map leaf_view leaves.old.items)
         (map leaf_view leaves.new.items) parser.old.errors parser.new.errors) }
-    ensures kept { OnOk result (parser_view parser.new ≡ parser_view parser.old) }
+    ensures unchanged { OnOk result (parser_view parser.new ≡ parser_view parser.old) }
 {
     let types = Types {
         params: &parser.types,
         held,
     };
-    let kind = kind_of(
-        alloc,
-        types,
-        variant.name,
-        &variant.fields,
-        &mut parser.errors,
-    )?;
-    add_attributes(
-        alloc,
-        variant.attributes,
-        &kind,
-        subpatterns,
-        parser,
-        leaves,
-    )
+    let kind = kind_of(types, variant.name, &variant.fields, &mut parser.errors)?;
+    add_attributes(variant.attributes, &kind, subpatterns, parser, leaves)
 }
 
 /// Adds the leaves of all variants, in source order.
 pub(crate) fn add_variants<'s>(
-    alloc: Global,
     variants: &[Variant<'_, 's>],
     held: &IndexSet<&'s str>,
     subpatterns: &Subpatterns<'s>,
@@ -257,10 +237,10 @@ pub(crate) fn add_variants<'s>(
         (names_of subpatterns.now) (map variant_value variants.now)
         (map leaf_view leaves.old.items) (map leaf_view leaves.new.items)
         parser.old.errors parser.new.errors) }
-    ensures kept { OnOk result (parser_view parser.new ≡ parser_view parser.old) }
+    ensures unchanged { OnOk result (parser_view parser.new ≡ parser_view parser.old) }
 {
     for variant in variants {
-        add_variant(alloc, variant, held, subpatterns, parser, leaves)?;
+        add_variant(variant, held, subpatterns, parser, leaves)?;
     }
     Ok(())
 }

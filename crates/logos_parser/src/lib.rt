@@ -1,5 +1,5 @@
-//! What the tokens of an enum, and of the attributes on it and its variants, say. The modules of the
-//! crates below are handed on.
+//! Reading of enums, and of the attributes on them and on their variants. The modules are those of the
+//! crates below.
 
 #![tactic(auto)]
 

@@ -1,4 +1,4 @@
--- Refusals with faults that stand.
+-- Refusals with one fault that ends the reading.
 use Rattle.std.proofs.Common.{◌≡◌, ℕ, ◌≤◌, List, [], ◌∷◌, codes, refl, inl, inr, Result, Ok, Err, IfOk, IfErr}
 use Rattle.logos_lexeme.specs.declared.lexeme.Span.{Span}
 use Rattle.logos_token.specs.declared.error.fault_code.FaultCode.TheVariants as codes_of
@@ -17,7 +17,7 @@ use Rattle.logos_source.specs.Refusals.{Refuses}
 use Rattle.logos_source.specs.declared.refusal.Refusal.{Refusal}
 use Rattle.logos_source.specs.declared.refusal.Refusal.TheVariants.{Errors, Memory}
 
--- what the faults say may be said in other words
+-- what holds of the faults may be weakened
 pub refuses_by : (P Q : List Fault → Type 0) → ((faults : List Fault) → P faults → Q faults) → (error : Refusal) → Refuses P error → Refuses Q error
 refuses_by P Q h (Errors errors) r = h errors r
 refuses_by P Q h Memory r = tt
@@ -34,7 +34,7 @@ pub nesting_ends : (source : List ℕ) (span : Span) (error : Refusal) → IsToo
     Refuses (λ faults. faults ≡ only (fault codes_of.LimitTokenNesting (codes "limit LimitTokenNesting passed") span)) error → Refuses (OneEnds source) error
 nesting_ends source span error u r = refuses_by _ (OneEnds source) (λ faults e. (fault codes_of.LimitTokenNesting (codes "limit LimitTokenNesting passed") span, nesting_limit u refl, e)) error r
 
--- tokens that are no enum end the reading of their source
+-- tokens that are not an enum end the reading of their source
 tokens_end : (source : List ℕ) (tokens : TokenList) (faults : List Fault) → Spells source tokens → depth_of tokens ≤ 128 → EndsTokens tokens faults → OneEnds source faults
 tokens_end source tokens faults s shallow ends = go ends.error ends.reads ends.are
   where
@@ -45,7 +45,7 @@ tokens_end source tokens faults s shallow ends = go ends.error ends.reads ends.a
     go (LimitTypeNesting span) reads are = (_, misread s shallow (record { error = LimitTypeNesting span; reads = reads; are = refl }), are)
     go OutOfMemory reads are = absurd are
 
--- the refusal of tokens that are no enum
+-- the refusal of tokens that are not an enum
 pub misread_ends : (tokens : TokenList) (error : ReadError) (out : Refusal) → Stands (λ e. Reads tokens (Err e)) error → Refuses (IsMisread error) out →
     Refuses (EndsTokens tokens) out
 misread_ends tokens error out stands r = refuses_by (IsMisread error) (EndsTokens tokens) (λ faults are. go error stands are) out r

@@ -1,4 +1,4 @@
--- What ends the reading of a source.
+-- The faults that end the reading of a source.
 use Rattle.std.specs.Prelude.{◌≡◌, ℕ, ◌<◌, ◌≤◌, List, length, codes, Ok, Err}
 use Rattle.logos_lexeme.specs.declared.lexeme.Span.{Span}
 use Rattle.logos_lexeme.specs.declared.lexeme.LexicalKind.{LexicalKind}
@@ -14,7 +14,7 @@ use Rattle.logos_item.specs.EnumValues.{EnumValue}
 use Rattle.logos_type_params.specs.TypeParams.{limit_type_nesting}
 use Rattle.logos_attribute.specs.Told.{fault, only}
 
--- the source spells an enum, whose tokens reach over the span
+-- The source spells this enum, and the span reaches from its first token to its last.
 pub record Says (source : List ℕ) (value : EnumValue) (item : Span) : Type 0 where
   pub tokens : TokenList
   pub spelled : Spells source tokens
@@ -27,7 +27,7 @@ lexical_text BadLiteral = codes "unreadable source: BadLiteral"
 lexical_text Unterminated = codes "unreadable source: Unterminated"
 lexical_text Unbalanced = codes "unreadable source: Unbalanced"
 
--- the fault of tokens that are no enum, by the reason; a lack of memory is no fault
+-- These are the faults of tokens that are not an enum: one fault, by the error of reading them. Running out of memory is not a fault.
 abbrev pub IsMisread : ReadError → List Fault → Type 0
 IsMisread (NotAnEnum span) faults = faults ≡ only (fault codes_of.NotAnEnum (codes "Logos can be only be derived for enums") span)
 IsMisread (Grammar span) faults = faults ≡ only (fault codes_of.Grammar (codes "the enum is not well formed") span)
@@ -35,18 +35,18 @@ IsMisread (TypeUnsupported span) faults = faults ≡ only (fault codes_of.TypeUn
 IsMisread (LimitTypeNesting span) faults = faults ≡ only (limit_type_nesting span)
 IsMisread Memory faults = ⊥
 
--- the one fault of a source that is longer than the limit
+-- The fault of a source that is longer than the limit.
 abbrev pub too_long : List ℕ → Fault
 too_long source = fault codes_of.LimitSource (codes "limit LimitSource passed") (record { from = 0; to = length source })
 
--- the tokens are no enum, and this is the fault
+-- The tokens are not an enum, and these are their faults.
 pub record EndsTokens (tokens : TokenList) (faults : List Fault) : Type 0 where
   pub error : ReadError
   pub reads : Reads tokens (Err error)
   pub are : IsMisread error faults
 
--- The fault stands in the source and ends its reading: a limit is passed, there are no tokens, or they nest no deeper than the limit and are no enum.
--- So a source that nests too deep has that fault, whatever its tokens are.
+-- The fault ends the reading of the source: it is too long, it has no tokens, its tokens nest too deep, or they do not and are not an enum. So a source that nests
+-- too deep has that fault, whatever its tokens are.
 pub data EndsReading (source : List ℕ) (ending : Fault) : Type 0 where
   source_limit : 16777216 < length source → ending ≡ too_long source → EndsReading source ending
   nesting_limit : {span : Span} → IsTooDeep source span →
@@ -55,6 +55,6 @@ pub data EndsReading (source : List ℕ) (ending : Fault) : Type 0 where
       ending ≡ fault codes_of.Lexical (lexical_text kind) span → EndsReading source ending
   misread : {tokens : TokenList} → Spells source tokens → depth_of tokens ≤ 128 → EndsTokens tokens (only ending) → EndsReading source ending
 
--- the tokens of the source nest no deeper than the limit
+-- The tokens of the source nest no deeper than the limit.
 abbrev pub IsShallow : List ℕ → Type 0
 IsShallow source = (tokens : TokenList) → Spells source tokens → depth_of tokens ≤ 128

@@ -1,9 +1,9 @@
--- The type that an enum is: its name, and what stands between angle brackets behind it.
+-- The type that an enum is: its name, and the generic arguments that follow it.
 use Rattle.std.specs.Prelude.{ℕ, Bool, true, false, not, List, [], ◌∷◌, ◌++◌, codes, Option, Some, None}
 use Rattle.logos_type.specs.Parts.{Tree, sign, name, whole, trees, word, mark, lifetime}
 use Rattle.logos_type_params.specs.Generics.{GenericsValue}
 
--- `,`, `<` and `>`
+-- `,`, `<` and `>` as parts of a type.
 abbrev pub comma : Tree
 comma = sign (mark 44)
 
@@ -13,7 +13,7 @@ less = sign (mark 60)
 abbrev pub greater : Tree
 greater = sign (mark 62)
 
--- an argument stands behind a comma, unless it is the first one
+-- An argument, with a comma before it unless it is the first one.
 abbrev pub argument : Bool → Tree → List Tree
 argument true tree = tree ∷ []
 argument false tree = comma ∷ tree ∷ []
@@ -22,19 +22,19 @@ abbrev pub arguments : Bool → List Tree → List Tree
 arguments is_first [] = []
 arguments is_first (tree ∷ rest) = argument is_first tree ++ arguments false rest
 
--- `'s`, if it stands there
+-- The lifetime `'s`, if there is one.
 abbrev pub lifetime_argument : Bool → List Tree
 lifetime_argument true = sign (lifetime (codes "s")) ∷ []
 lifetime_argument false = []
 
--- what stands between the brackets
+-- The parts between the angle brackets.
 abbrev pub between : GenericsValue → List Tree
 between g = lifetime_argument g.lifetime ++ arguments (not g.lifetime) g.types
 
 abbrev pub bracketed : List ℕ → GenericsValue → Tree
 bracketed text g = whole (trees (sign (word text) ∷ less ∷ between g ++ greater ∷ []))
 
--- the type of this name, with this between angle brackets behind it
+-- The type with this name and these generic arguments.
 abbrev pub enum_type : List ℕ → Option GenericsValue → Tree
 enum_type text None = name text
 enum_type text (Some g) = bracketed text g

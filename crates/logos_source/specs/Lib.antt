@@ -1,5 +1,6 @@
 pub mod Endings
 pub mod EnumTypes
 pub mod Refusals
-pub mod Saying
+pub mod Analyses
+pub mod AnalysisViews
 pub mod Utf8Faults

@@ -1,4 +1,4 @@
--- The faults of leaves that can match what is no UTF-8, where that is asked for.
+-- The faults of leaves that can match invalid UTF-8, in UTF-8 mode.
 use Rattle.std.specs.Prelude.{ℕ, Bool, true, false, List, [], ◌++◌, flat_map, codes, if◌then◌else◌}
 use Rattle.logos_token.specs.declared.error.fault_code.FaultCode.TheVariants.{Utf8Pattern}
 use Rattle.logos_token.specs.Faults.{Fault}
@@ -7,7 +7,7 @@ use Rattle.logos_pattern.specs.Leaf.{KindValue, plain, holding, skipped}
 use Rattle.logos_attribute.specs.Told.{fault, only}
 use Rattle.logos_leaf.specs.Leaves.{LeafView}
 
--- how what a match gives prints
+-- The variant of a leaf, as messages name it.
 abbrev pub kind_name : KindValue → List ℕ
 kind_name (plain name) = codes "::" ++ name.text.now
 kind_name (holding name type) = codes "::" ++ name.text.now ++ codes "(_)"
@@ -21,11 +21,11 @@ utf8_text leaf =
 abbrev pub utf8_fault : LeafView → Fault
 utf8_fault leaf = fault Utf8Pattern (utf8_text leaf) leaf.span
 
--- the fault of one leaf, if its tree is no text
+-- The fault of one leaf, if its tree can match invalid UTF-8.
 abbrev pub leaf_faults : LeafView → List Fault
 leaf_faults leaf = if is_text leaf.tree then [] else only (utf8_fault leaf)
 
--- in UTF-8 mode, each leaf whose tree is no text
+-- The faults of all leaves whose trees can match invalid UTF-8, in UTF-8 mode.
 abbrev pub utf8_faults : Bool → List LeafView → List Fault
 utf8_faults false leaves = []
 utf8_faults true leaves = flat_map leaf_faults leaves

@@ -11,7 +11,7 @@ use logos_type::{Leaf, Part, TypeExpr};
 use logos_type_params::Generics;
 use std::alloc::{AllocError, Global};
 
-/// Adds a part.
+/// Adds a part at the end.
 fn push_part<'s>(parts: &mut Vec<Part<'s>>, part: Part<'s>) -> Result<(), AllocError>
     ensures { OnOk result (map tree_of parts.new.items
         ≡ map tree_of parts.old.items ++ tree_of part.entry ∷ []) }
@@ -20,7 +20,7 @@ fn push_part<'s>(parts: &mut Vec<Part<'s>>, part: Part<'s>) -> Result<(), AllocE
     Ok(())
 }
 
-/// Adds an argument of a type, behind a comma unless it is the first one.
+/// Adds an argument of a type, with a comma before it unless it is the first one.
 fn push_argument<'s>(
     parts: &mut Vec<Part<'s>>,
     is_first: bool,
@@ -36,7 +36,7 @@ fn push_argument<'s>(
     Ok(())
 }
 
-/// Adds types as arguments, the first behind a comma unless no argument stands in front of it.
+/// Adds types as arguments, with a comma before each unless it is the first one.
 fn push_arguments<'s>(
     parts: &mut Vec<Part<'s>>,
     is_first: bool,
@@ -53,7 +53,7 @@ fn push_arguments<'s>(
     Ok(())
 }
 
-/// Adds the lifetime, if there is one.
+/// Adds the lifetime `'s`, if the enum has one.
 fn push_lifetime<'s>(parts: &mut Vec<Part<'s>>, lifetime: bool) -> Result<(), AllocError>
     ensures { OnOk result (map tree_of parts.new.items
         ≡ map tree_of parts.old.items ++ lifetime_argument lifetime) }
@@ -64,7 +64,7 @@ fn push_lifetime<'s>(parts: &mut Vec<Part<'s>>, lifetime: bool) -> Result<(), Al
     Ok(())
 }
 
-/// The type of this name with these between angle brackets behind it.
+/// Returns the type with this name and these generic arguments.
 fn bracketed<'s>(
     alloc: Global,
     name: &'s str,
@@ -84,8 +84,11 @@ fn bracketed<'s>(
     Ok(TypeExpr { part })
 }
 
-/// The type that an enum of this name is, where this stands between angle brackets behind its name.
-/// Only want of memory is an error.
+/// Returns the type that an enum is: its name, and the generic arguments that follow it.
+///
+/// # Errors
+///
+/// Returns an error when memory runs out.
 pub fn enum_type<'s>(
     alloc: Global,
     name: &'s str,

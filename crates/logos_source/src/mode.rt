@@ -1,4 +1,4 @@
-//! Which leaves can match what is no UTF-8.
+//! Leaves that can match invalid UTF-8.
 
 ghost use Rattle.std.specs.Prelude.{◌≡◌, ◌++◌, map, IfOk, OnOk, string_bytes};
 ghost use Rattle.logos_attribute.specs.Told.{Lists};
@@ -9,7 +9,7 @@ use logos_pattern::leaf::Leaf;
 use logos_token::error::{Errors, FaultCode, Memory};
 use std::alloc::{AllocError, Global};
 
-/// The text of the fault of a leaf whose pattern can match what is no UTF-8.
+/// Returns the message for a leaf whose pattern can match invalid UTF-8.
 fn utf8_text(alloc: Global, leaf: &Leaf<'_>) -> Result<String, AllocError>
     ensures { IfOk result (λ text. string_bytes text ≡ utf8_text (leaf_view leaf.now)) }
 {
@@ -21,27 +21,26 @@ fn utf8_text(alloc: Global, leaf: &Leaf<'_>) -> Result<String, AllocError>
     Ok(text)
 }
 
-/// Lists that the pattern of a leaf can match what is no UTF-8.
-fn list_utf8_fault(alloc: Global, leaf: &Leaf<'_>, errors: &mut Errors) -> Result<(), Memory>
+/// Reports that the pattern of a leaf can match invalid UTF-8.
+fn report_utf8_fault(leaf: &Leaf<'_>, errors: &mut Errors) -> Result<(), Memory>
     ensures { OnOk result (Lists (utf8_fault (leaf_view leaf.now)) errors.old errors.new) }
 {
-    let text = utf8_text(alloc, leaf)?;
+    let text = utf8_text(errors.alloc(), leaf)?;
     errors.err(FaultCode::Utf8Pattern, text.as_str(), leaf.span)
 }
 
-/// Lists that the pattern of a leaf can match what is no UTF-8, if it can.
-fn list_if_not_utf8(alloc: Global, leaf: &Leaf<'_>, errors: &mut Errors) -> Result<(), Memory>
+/// Reports a leaf if its pattern can match invalid UTF-8.
+fn report_if_not_utf8(leaf: &Leaf<'_>, errors: &mut Errors) -> Result<(), Memory>
     ensures { OnOk result (errors.new ≡ errors.old ++ leaf_faults (leaf_view leaf.now)) }
 {
     if leaf.pattern.is_utf8() {
         return Ok(());
     }
-    list_utf8_fault(alloc, leaf, errors)
+    report_utf8_fault(leaf, errors)
 }
 
-/// Lists each leaf whose pattern can match what is no UTF-8, where that is asked for.
-pub(crate) fn list_not_utf8(
-    alloc: Global,
+/// Reports each leaf whose pattern can match invalid UTF-8, in UTF-8 mode.
+pub(crate) fn report_not_utf8(
     utf8_mode: bool,
     leaves: &[Leaf<'_>],
     errors: &mut Errors,
@@ -53,7 +52,7 @@ pub(crate) fn list_not_utf8(
         return Ok(());
     }
     for leaf in leaves {
-        list_if_not_utf8(alloc, leaf, errors)?;
+        report_if_not_utf8(leaf, errors)?;
     }
     Ok(())
 }

@@ -1,4 +1,4 @@
-//! Why a source is not read as an enum.
+//! The faults that end the reading of a source.
 
 ghost use Rattle.std.specs.Prelude.{◌≡◌, ◌∷◌, []};
 ghost use Rattle.logos_token.specs.Faults.{Fault};
@@ -14,7 +14,7 @@ use logos_token::token::{LexicalKind, Span, TokenError};
 use logos_type_params::listing::type_nesting_text;
 use std::alloc::Global;
 
-/// The refusal with one fault.
+/// Returns the refusal with one fault.
 fn refused(alloc: Global, code: FaultCode, message: &str, span: Span) -> Refusal
     ensures { Refuses (λ faults. faults ≡ only (fault code message.now span)) result }
 {
@@ -25,7 +25,7 @@ fn refused(alloc: Global, code: FaultCode, message: &str, span: Span) -> Refusal
     }
 }
 
-/// The text of a lexical fault.
+/// Returns the message of a lexical fault.
 fn lexical_text(kind: LexicalKind) -> &'static str
     ensures { result.now ≡ lexical_text kind }
 {
@@ -37,7 +37,7 @@ fn lexical_text(kind: LexicalKind) -> &'static str
     }
 }
 
-/// Why tokens are no enum.
+/// Returns the refusal of tokens that are not an enum, with the fault that `error` names.
 pub fn misread(alloc: Global, error: ReadError) -> Refusal
     ensures { Refuses (IsMisread error) result }
 {
@@ -70,7 +70,7 @@ pub fn misread(alloc: Global, error: ReadError) -> Refusal
     }
 }
 
-/// Why a source gives no tokens.
+/// Returns the refusal of a source that has no tokens, with the fault that `error` names.
 pub fn unreadable(alloc: Global, src: &str, error: TokenError) -> Refusal
     requires { IsRefusal src.now error }
     ensures ends { Refuses (λ faults. (ending : Fault) × EndsReading src.now ending

@@ -1,4 +1,4 @@
-//! Why a source gives no lexer.
+//! The refusal of a source.
 
 use logos_token::error::{Errors, Memory};
 use std::alloc::{AllocError, AllocFailed};

@@ -16,7 +16,7 @@ pub append-one : (run : TokenList) (token : Token) (rest : TokenList) → append
 append-one none token rest = refl
 append-one (also first run) token rest = ap (also first) (append-one run token rest)
 
--- one more tree comes behind all that is written
+-- one more tree comes after all that is written
 pub one-more : (run : TokenList) (back : Option PunctView) (token : Token) (pieces : List (Option Token)) →
     append (append run (left (held back ++ []))) (left (Some token ∷ pieces)) ≡ append run (left (held back ++ Some token ∷ pieces))
 one-more run None token pieces = ap (λ r. append r (left (Some token ∷ pieces))) (append-none run)

@@ -1,4 +1,4 @@
--- What is left of a source.
+-- What stripping gives for a source.
 use Rattle.std.specs.Prelude.{◌≡◌, ◌≤◌, ℕ, List, length, Ok}
 use Rattle.logos_token.specs.Tokens.{TokenList, depth_of}
 use Rattle.logos_token.specs.Spelling.{Spells}
@@ -6,19 +6,19 @@ use Rattle.logos_item.specs.Enum.{Reads}
 use Rattle.logos_item.specs.EnumValues.{EnumValue}
 use Rattle.logos_strip.specs.Stripping.{stripped}
 
--- the tokens are an enum, of which these are left
+-- The tokens are an enum, of which these are left.
 pub record AreStripped (tokens left : TokenList) : Type 0 where
   pub enum : EnumValue
   pub reads : Reads tokens (Ok enum)
   pub is : left ≡ stripped tokens
 
--- the source spells an enum, of which these tokens are left
+-- The source spells an enum, of which these tokens are left.
 pub record IsStripped (source : List ℕ) (left : TokenList) : Type 0 where
   pub tokens : TokenList
   pub spelled : Spells source tokens
   pub stripped : AreStripped tokens left
 
--- the source spells an enum, and is within the limits of its length and of the nesting of its delimiters
+-- The source spells an enum, and is within the limits on its length and on the nesting of its delimiters.
 pub record SpellsEnum (source : List ℕ) : Type 0 where
   pub tokens : TokenList
   pub enum : EnumValue

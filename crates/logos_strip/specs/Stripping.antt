@@ -1,4 +1,4 @@
--- What is left of an enum without what belongs to the derive macro.
+-- The tokens of an enum without what belongs to the derive macro.
 use Rattle.std.specs.Prelude.{List, [], ◌∷◌, Option, Some, None, if◌then◌else◌}
 use Rattle.logos_lexeme.specs.declared.lexeme.Spacing.TheVariants.{Alone}
 use Rattle.logos_token.specs.Tokens.{Token, punctuation, group, TokenList, none, also}
@@ -6,37 +6,37 @@ use Rattle.logos_strip.specs.declared.places.Scope.{Scope}
 use Rattle.logos_strip.specs.declared.places.Scope.TheVariants.{Enum}
 use Rattle.logos_strip.specs.declared.places.Place.{Place}
 use Rattle.logos_strip.specs.declared.places.Place.TheVariants.{Open}
-use Rattle.logos_strip.specs.Places.{goes, place_behind, scope_inside}
+use Rattle.logos_strip.specs.Places.{goes, place_after, scope_inside}
 
--- a token with nothing joint to it
+-- A token without joint spacing.
 abbrev pub alone : Token → Token
 alone (punctuation character spacing span) = punctuation character Alone span
 alone token = token
 
--- a token that stays, in front of these: punctuation directly in front of what goes is alone
+-- A token that stays, before these. Punctuation directly before what goes is alone.
 abbrev pub in_front : List (Option Token) → Token → Token
 in_front (None ∷ rest) token = alone token
 in_front rest token = token
 
--- what is left of a run, of which each token stays, perhaps with less in it, or goes
+-- The tokens of a run that stay, perhaps with fewer tokens in them. `None` stands for one that goes.
 abbrev pub left : List (Option Token) → TokenList
 left [] = none
 left (None ∷ rest) = left rest
 left (Some token ∷ rest) = also (in_front rest token) (left rest)
 
 abbrev mutual
-  -- a token that stays, with what is left in it
+  -- A token that stays, with the tokens in it that stay.
   pub thinned : Option Scope → Token → Token
   thinned (Some scope) (group delimiter span inside) = group delimiter span (left (sorted scope Open inside))
   thinned scope token = token
 
-  -- for each token of a run, from a place on, what stays of it
+  -- For each token of a run, from a place on, the token that stays of it, or `None`.
   pub sorted : Scope → Place → TokenList → List (Option Token)
   sorted scope place none = []
   sorted scope place (also token rest) =
       let gone = goes scope place (also token rest) in
-      (if gone then None else Some (thinned (scope_inside scope place token rest) token)) ∷ sorted scope (place_behind scope place gone token) rest
+      (if gone then None else Some (thinned (scope_inside scope place token rest) token)) ∷ sorted scope (place_after scope place gone token) rest
 
--- what is left of an enum
+-- The tokens of an enum that stay.
 abbrev pub stripped : TokenList → TokenList
 stripped tokens = left (sorted Enum Open tokens)

@@ -1,13 +1,13 @@
-//! What belongs to the derive macro: its helper attributes, and the entries of `derive` that name it.
+//! The parts of an enum that belong to the derive macro: its helper attributes, and the entries of `derive` that name it.
 ghost use Rattle.std.specs.Prelude.{◌≡◌, Some, None, MatchOption};
 ghost use Rattle.logos_token.specs.Views.{tokens_of, tree_of};
 ghost use Rattle.logos_item.specs.Marks.{colon, begins_with};
 ghost use Rattle.logos_item.specs.Attributes.{is_path_mark};
-ghost use Rattle.logos_strip.specs.Helpers.{is_comma, is_helper_name, is_helper_path, holds_helper, begins_helper, behind_word, behind_colon, behind_colons, ends_entry, is_macro_name, is_macro_segment, is_macro_path, is_global_path, is_macro_entry};
+ghost use Rattle.logos_strip.specs.Helpers.{is_comma, is_helper_name, is_helper_path, holds_helper, begins_helper, after_word, after_colon, after_colons, ends_entry, is_macro_name, is_macro_segment, is_macro_path, is_global_path, is_macro_entry};
 
 use logos_token::token::{Delimiter, Punct, Spacing, TokenTree, Tokens};
 
-/// Whether a token is a comma.
+/// Returns whether a token is a comma.
 pub(crate) fn is_comma(tree: TokenTree<'_, '_>) -> bool
     ensures { result ≡ is_comma (tree_of tree.entry) }
 {
@@ -17,14 +17,14 @@ pub(crate) fn is_comma(tree: TokenTree<'_, '_>) -> bool
     }
 }
 
-/// Whether a name is that of a helper attribute.
+/// Returns whether a name is that of a helper attribute.
 fn is_helper_name(text: &str) -> bool
     ensures { result ≡ is_helper_name text.now }
 {
     (text == "logos") | ((text == "token") | (text == "regex"))
 }
 
-/// Whether `:` comes first.
+/// Returns whether a run begins with `:`.
 fn begins_with_colon(tokens: Tokens<'_, '_>) -> bool
     ensures { result ≡ begins_with colon (tokens_of tokens.entry) }
 {
@@ -34,7 +34,7 @@ fn begins_with_colon(tokens: Tokens<'_, '_>) -> bool
     }
 }
 
-/// Whether the path of an attribute, with what is behind it, is just the name of a helper attribute.
+/// Returns whether the path of an attribute, with which a run begins, is just the name of a helper attribute.
 fn is_helper_path(tokens: Tokens<'_, '_>) -> bool
     ensures { result ≡ is_helper_path (tokens_of tokens.entry) }
 {
@@ -45,7 +45,7 @@ fn is_helper_path(tokens: Tokens<'_, '_>) -> bool
     }
 }
 
-/// Whether the brackets of a helper attribute come first.
+/// Returns whether a run begins with the brackets of a helper attribute.
 fn holds_helper(tokens: Tokens<'_, '_>) -> bool
     ensures { result ≡ holds_helper (tokens_of tokens.entry) }
 {
@@ -57,7 +57,7 @@ fn holds_helper(tokens: Tokens<'_, '_>) -> bool
     }
 }
 
-/// Whether a helper attribute comes first.
+/// Returns whether a run begins with a helper attribute.
 pub(crate) fn begins_helper(tokens: Tokens<'_, '_>) -> bool
     ensures { result ≡ begins_helper (tokens_of tokens.entry) }
 {
@@ -67,10 +67,10 @@ pub(crate) fn begins_helper(tokens: Tokens<'_, '_>) -> bool
     }
 }
 
-/// What is behind a word, if it comes first.
-fn behind_word<'t, 's>(word: &str, tokens: Tokens<'t, 's>) -> Option<Tokens<'t, 's>>
-    ensures { MatchOption result (behind_word word.now (tokens_of tokens.entry) ≡ None)
-        (λ rest. behind_word word.now (tokens_of tokens.entry) ≡ Some (tokens_of rest)) }
+/// Returns the tokens after a word, if the run begins with it.
+fn after_word<'t, 's>(word: &str, tokens: Tokens<'t, 's>) -> Option<Tokens<'t, 's>>
+    ensures { MatchOption result (after_word word.now (tokens_of tokens.entry) ≡ None)
+        (λ rest. after_word word.now (tokens_of tokens.entry) ≡ Some (tokens_of rest)) }
 {
     match tokens.first() {
         Some(TokenTree::Ident(ident)) if ident.text == word => Some(tokens.rest()),
@@ -78,10 +78,10 @@ fn behind_word<'t, 's>(word: &str, tokens: Tokens<'t, 's>) -> Option<Tokens<'t, 
     }
 }
 
-/// What is behind the second `:` of `::`, if that comes first.
-fn behind_colon<'t, 's>(tokens: Tokens<'t, 's>) -> Option<Tokens<'t, 's>>
-    ensures { MatchOption result (behind_colon (tokens_of tokens.entry) ≡ None)
-        (λ rest. behind_colon (tokens_of tokens.entry) ≡ Some (tokens_of rest)) }
+/// Returns the tokens after the second `:` of `::`, if the run begins with it.
+fn after_colon<'t, 's>(tokens: Tokens<'t, 's>) -> Option<Tokens<'t, 's>>
+    ensures { MatchOption result (after_colon (tokens_of tokens.entry) ≡ None)
+        (λ rest. after_colon (tokens_of tokens.entry) ≡ Some (tokens_of rest)) }
 {
     match tokens.first() {
         Some(TokenTree::Punct(punct)) if punct.character == ':' => Some(tokens.rest()),
@@ -89,7 +89,7 @@ fn behind_colon<'t, 's>(tokens: Tokens<'t, 's>) -> Option<Tokens<'t, 's>>
     }
 }
 
-/// Whether a punctuation is the first `:` of `::`, by its spacing.
+/// Returns whether a punctuation is the first `:` of `::`, by its spacing.
 fn is_path_mark(punct: Punct) -> bool
     ensures { result ≡ is_path_mark punct.character punct.spacing }
 {
@@ -99,18 +99,18 @@ fn is_path_mark(punct: Punct) -> bool
     }
 }
 
-/// What is behind `::`, if it comes first.
-fn behind_colons<'t, 's>(tokens: Tokens<'t, 's>) -> Option<Tokens<'t, 's>>
-    ensures { MatchOption result (behind_colons (tokens_of tokens.entry) ≡ None)
-        (λ rest. behind_colons (tokens_of tokens.entry) ≡ Some (tokens_of rest)) }
+/// Returns the tokens after `::`, if the run begins with it.
+fn after_colons<'t, 's>(tokens: Tokens<'t, 's>) -> Option<Tokens<'t, 's>>
+    ensures { MatchOption result (after_colons (tokens_of tokens.entry) ≡ None)
+        (λ rest. after_colons (tokens_of tokens.entry) ≡ Some (tokens_of rest)) }
 {
     match tokens.first() {
-        Some(TokenTree::Punct(punct)) if is_path_mark(punct) => behind_colon(tokens.rest()),
+        Some(TokenTree::Punct(punct)) if is_path_mark(punct) => after_colon(tokens.rest()),
         _ => None,
     }
 }
 
-/// Whether an entry of a list ends here.
+/// Returns whether an entry of `derive` ends where the run begins.
 fn ends_entry(tokens: Tokens<'_, '_>) -> bool
     ensures { result ≡ ends_entry (tokens_of tokens.entry) }
 {
@@ -120,47 +120,47 @@ fn ends_entry(tokens: Tokens<'_, '_>) -> bool
     }
 }
 
-/// Whether the entry that comes first is `Logos`.
+/// Returns whether the run begins with the entry `Logos`.
 fn is_macro_name(tokens: Tokens<'_, '_>) -> bool
     ensures { result ≡ is_macro_name (tokens_of tokens.entry) }
 {
-    match behind_word("Logos", tokens) {
+    match after_word("Logos", tokens) {
         Some(rest) => ends_entry(rest),
         None => false,
     }
 }
 
-/// Whether what comes first is `::` and an entry `Logos`.
+/// Returns whether the run begins with `::` and the entry `Logos`.
 fn is_macro_segment(tokens: Tokens<'_, '_>) -> bool
     ensures { result ≡ is_macro_segment (tokens_of tokens.entry) }
 {
-    match behind_colons(tokens) {
+    match after_colons(tokens) {
         Some(rest) => is_macro_name(rest),
         None => false,
     }
 }
 
-/// Whether the entry that comes first is `logos::Logos`.
+/// Returns whether the run begins with the entry `logos::Logos`.
 fn is_macro_path(tokens: Tokens<'_, '_>) -> bool
     ensures { result ≡ is_macro_path (tokens_of tokens.entry) }
 {
-    match behind_word("logos", tokens) {
+    match after_word("logos", tokens) {
         Some(rest) => is_macro_segment(rest),
         None => false,
     }
 }
 
-/// Whether the entry that comes first is `::logos::Logos`.
+/// Returns whether the run begins with the entry `::logos::Logos`.
 fn is_global_path(tokens: Tokens<'_, '_>) -> bool
     ensures { result ≡ is_global_path (tokens_of tokens.entry) }
 {
-    match behind_colons(tokens) {
+    match after_colons(tokens) {
         Some(rest) => is_macro_path(rest),
         None => false,
     }
 }
 
-/// Whether the entry that comes first names the derive macro.
+/// Returns whether the run begins with an entry that names the derive macro.
 pub(crate) fn is_macro_entry(tokens: Tokens<'_, '_>) -> bool
     ensures { result ≡ is_macro_entry (tokens_of tokens.entry) }
 {

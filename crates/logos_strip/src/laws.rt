@@ -1,4 +1,4 @@
-//! What holds of what is left of an enum.
+//! Laws of stripping.
 ghost use Rattle.std.specs.Prelude.{◌≡◌, List, ℕ, IsUtf8};
 ghost use Rattle.logos_token.specs.Tokens.{TokenList};
 ghost use Rattle.logos_token.specs.Spelling.{Spells};
@@ -6,15 +6,15 @@ ghost use Rattle.logos_token.specs.Printing.{printed};
 ghost use Rattle.logos_token.specs.PrintedAgain.{SpellsAgain, bare};
 ghost use Rattle.logos_strip.specs.Stripping.{stripped};
 
-/// Nothing more goes from what is left.
+/// Stripping a second time removes nothing.
 pub fn strips_once()
     ensures same { (tokens : TokenList) → stripped (stripped tokens) ≡ stripped tokens }
-    // Nor from tokens that are the same but for their spans, as the printed text spells them.
+    // Nor does it of tokens that differ in their spans alone, as those that the printed text spells.
     ensures again { (tokens again : TokenList) → bare again ≡ bare (stripped tokens) →
         bare (stripped again) ≡ bare again }
 {}
 
-/// What is printed of what is left of a source spells the same tokens again, their spans aside.
+/// The printed text of a stripped source spells the same tokens again, their spans aside.
 pub fn strips_back()
     ensures { (source : List ℕ) → IsUtf8 source → (tokens : TokenList) → Spells source tokens →
         SpellsAgain (printed (stripped tokens)) (stripped tokens) }

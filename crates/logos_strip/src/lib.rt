@@ -1,4 +1,4 @@
-//! An enum without what belongs to the derive macro: its helper attributes, and its name among the derived traits.
+//! Stripping: removes from an enum what belongs to the derive macro, which is its helper attributes and its name in `derive`.
 
 #![tactic(auto)]
 

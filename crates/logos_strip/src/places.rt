@@ -1,21 +1,21 @@
-//! Where the tokens of an enum stand, and which of them go.
+//! The places of tokens in an enum, and which tokens go.
 ghost use Rattle.std.specs.Prelude.{◌≡◌, ◌<◌, Some, None, MatchOption};
 ghost use Rattle.logos_token.specs.Views.{tokens_of, tree_of};
 ghost use Rattle.logos_item.specs.Marks.{is_none};
-ghost use Rattle.logos_strip.specs.Places.{begins_gone, goes, behind_part, behind_start, behind_hash, behind_attributed, behind_in_enum, behind_in_attribute, place_behind, scope_of};
+ghost use Rattle.logos_strip.specs.Places.{begins_gone, goes, after_part, after_start, after_hash, after_attributed, after_in_enum, after_in_attribute, place_after, scope_of};
 ghost use Rattle.logos_strip.specs.inside.Writing.{rank};
 
 use crate::helpers::{begins_helper, is_comma, is_macro_entry};
 use logos_token::token::{Delimiter, TokenTree, Tokens};
 
-/// What a run of tokens is.
+/// The part of an enum that a run of tokens is.
 #[derive(Clone, Copy)]
 pub enum Scope {
     /// The whole enum.
     Enum,
-    /// What the brackets of an attribute of the enum hold.
+    /// The tokens in the brackets of an attribute of the enum.
     Attribute,
-    /// What such an attribute derives.
+    /// The entries of `derive` in such an attribute.
     Derives,
     /// The variants of the enum.
     Variants,
@@ -23,22 +23,22 @@ pub enum Scope {
     Fields,
 }
 
-/// Where the next token of a run stands.
+/// The place of the next token in a run.
 #[derive(Clone, Copy)]
 pub enum Place {
     /// Where an attribute, a path or an entry may begin.
     Open,
-    /// Behind the `#` of an attribute that stays.
+    /// After the `#` of an attribute that stays.
     Hash,
-    /// In what goes.
+    /// Inside what goes.
     Gone,
-    /// Behind the name of a variant, or behind `derive`.
+    /// After the name of a variant, or after `derive`.
     Named,
-    /// In what stays.
+    /// Inside what stays.
     Within,
 }
 
-/// Whether what goes comes first, where an attribute or an entry may begin.
+/// Returns whether the run begins with what goes, where an attribute or an entry may begin.
 fn begins_gone(scope: Scope, tokens: Tokens<'_, '_>) -> bool
     ensures { result ≡ begins_gone scope (tokens_of tokens.entry) }
 {
@@ -49,7 +49,7 @@ fn begins_gone(scope: Scope, tokens: Tokens<'_, '_>) -> bool
     }
 }
 
-/// Whether the first token goes, by its place.
+/// Returns whether the first token goes, by its place.
 pub(crate) fn goes(scope: Scope, place: Place, tokens: Tokens<'_, '_>) -> bool
     ensures { result ≡ goes scope place (tokens_of tokens.entry) }
 {
@@ -60,16 +60,17 @@ pub(crate) fn goes(scope: Scope, place: Place, tokens: Tokens<'_, '_>) -> bool
     }
 }
 
-/// The place behind a token of a part, where parts are parted by commas of either spacing.
-fn behind_part(other: Place, tree: TokenTree<'_, '_>) -> Place
-    ensures { result ≡ behind_part other (tree_of tree.entry) }
+/// Returns the place after a token of a part, where commas of either spacing separate parts: after a
+/// comma the next part begins.
+fn after_part(other: Place, tree: TokenTree<'_, '_>) -> Place
+    ensures { result ≡ after_part other (tree_of tree.entry) }
 {
     if is_comma(tree) { Place::Open } else { other }
 }
 
-/// The place behind a token that stays and stands where an attribute may begin.
-fn behind_start(other: Place, tree: TokenTree<'_, '_>) -> Place
-    ensures { result ≡ behind_start other (tree_of tree.entry) }
+/// Returns the place after a token that stays, where an attribute may begin.
+fn after_start(other: Place, tree: TokenTree<'_, '_>) -> Place
+    ensures { result ≡ after_start other (tree_of tree.entry) }
 {
     match tree {
         TokenTree::Punct(punct) if punct.character == '#' => Place::Hash,
@@ -78,9 +79,9 @@ fn behind_start(other: Place, tree: TokenTree<'_, '_>) -> Place
     }
 }
 
-/// The place behind what follows the `#` of an attribute that stays.
-fn behind_hash(tree: TokenTree<'_, '_>) -> Place
-    ensures { result ≡ behind_hash (tree_of tree.entry) }
+/// Returns the place after the token that follows the `#` of an attribute that stays.
+fn after_hash(tree: TokenTree<'_, '_>) -> Place
+    ensures { result ≡ after_hash (tree_of tree.entry) }
 {
     match tree {
         TokenTree::Group(_) => Place::Open,
@@ -88,34 +89,34 @@ fn behind_hash(tree: TokenTree<'_, '_>) -> Place
     }
 }
 
-/// The place behind a token that stays or goes, where attributes may stand in front of a part;
-/// `first` is the place behind the first token that is in none.
-fn behind_attributed(first: Place, place: Place, gone: bool, tree: TokenTree<'_, '_>) -> Place
+/// Returns the place after a token that stays or goes, in a run whose parts may begin with attributes.
+/// `first` is the place after the first token of a part that is in no attribute.
+fn after_attributed(first: Place, place: Place, gone: bool, tree: TokenTree<'_, '_>) -> Place
     ensures { result ≡
-        behind_attributed first place gone (tree_of tree.entry) }
+        after_attributed first place gone (tree_of tree.entry) }
 {
     match place {
         Place::Open if gone => Place::Gone,
-        Place::Open => behind_start(first, tree),
-        Place::Hash => behind_hash(tree),
+        Place::Open => after_start(first, tree),
+        Place::Hash => after_hash(tree),
         Place::Gone => Place::Open,
-        Place::Named | Place::Within => behind_part(Place::Within, tree),
+        Place::Named | Place::Within => after_part(Place::Within, tree),
     }
 }
 
-/// The same in an enum, which has attributes in front alone.
-fn behind_in_enum(place: Place, gone: bool, tree: TokenTree<'_, '_>) -> Place
-    ensures { result ≡ behind_in_enum place gone (tree_of tree.entry) }
+/// Returns the place after a token of an enum, which may begin with attributes.
+fn after_in_enum(place: Place, gone: bool, tree: TokenTree<'_, '_>) -> Place
+    ensures { result ≡ after_in_enum place gone (tree_of tree.entry) }
 {
     match place {
         Place::Within => Place::Within,
-        _ => behind_attributed(Place::Within, place, gone, tree),
+        _ => after_attributed(Place::Within, place, gone, tree),
     }
 }
 
-/// The same in what the brackets of an attribute hold.
-fn behind_in_attribute(place: Place, tree: TokenTree<'_, '_>) -> Place
-    ensures { result ≡ behind_in_attribute place (tree_of tree.entry) }
+/// Returns the place after a token in the brackets of an attribute.
+fn after_in_attribute(place: Place, tree: TokenTree<'_, '_>) -> Place
+    ensures { result ≡ after_in_attribute place (tree_of tree.entry) }
 {
     match (place, tree) {
         (Place::Open, TokenTree::Ident(name)) if name.text == "derive" => Place::Named,
@@ -123,22 +124,23 @@ fn behind_in_attribute(place: Place, tree: TokenTree<'_, '_>) -> Place
     }
 }
 
-/// The place behind a token that stays or goes.
-pub(crate) fn place_behind(scope: Scope, place: Place, gone: bool, tree: TokenTree<'_, '_>) -> Place
+/// Returns the place after a token that stays or goes.
+pub(crate) fn place_after(scope: Scope, place: Place, gone: bool, tree: TokenTree<'_, '_>) -> Place
     ensures { result ≡
-        place_behind scope place gone (tree_of tree.entry) }
+        place_after scope place gone (tree_of tree.entry) }
 {
     match scope {
-        Scope::Enum => behind_in_enum(place, gone, tree),
-        Scope::Attribute => behind_in_attribute(place, tree),
-        Scope::Derives if gone => behind_part(Place::Gone, tree),
-        Scope::Derives => behind_part(Place::Within, tree),
-        Scope::Variants => behind_attributed(Place::Named, place, gone, tree),
-        Scope::Fields => behind_attributed(Place::Within, place, gone, tree),
+        Scope::Enum => after_in_enum(place, gone, tree),
+        Scope::Attribute => after_in_attribute(place, tree),
+        Scope::Derives if gone => after_part(Place::Gone, tree),
+        Scope::Derives => after_part(Place::Within, tree),
+        Scope::Variants => after_attributed(Place::Named, place, gone, tree),
+        Scope::Fields => after_attributed(Place::Within, place, gone, tree),
     }
 }
 
-/// What a group that stays holds, with its delimiter and with these behind it, where something in that may go.
+/// Returns the part of an enum that a group holds which stays, by its delimiter and the tokens after
+/// it; `None` where nothing in the group may go.
 pub(crate) fn scope_of(
     scope: Scope,
     place: Place,

@@ -1,4 +1,4 @@
-//! Stripping a source.
+//! Stripping of a source.
 ghost use Rattle.std.specs.Prelude.{◌≡◌, ◌<◌, [], ◌∷◌, length, IfOk, IfErr, IsErrAnd};
 ghost use Rattle.logos_token.specs.Faults.{Fault};
 ghost use Rattle.logos_token.specs.Views.{stream_tokens};
@@ -16,7 +16,7 @@ use logos_source::refusal::Refusal;
 use logos_token::token::{TokenStream, tokenize};
 use std::alloc::Global;
 
-/// What is left of tokens.
+/// Strips the tokens of a source.
 fn strip_tokens<'s>(alloc: Global, stream: &TokenStream<'s>) -> Result<TokenStream<'s>, Refusal>
     ensures ok { IfOk result (λ left. AreStripped (stream_tokens stream.now) (stream_tokens left)) }
     ensures err { IfErr result (Refuses (EndsTokens (stream_tokens stream.now))) }
@@ -31,18 +31,19 @@ fn strip_tokens<'s>(alloc: Global, stream: &TokenStream<'s>) -> Result<TokenStre
     }
 }
 
-/// What is left of the enum that a source spells without what belongs to the derive macro.
+/// Returns the tokens of the enum that a source spells, without what belongs to the derive macro.
 ///
 /// The helper attributes `logos`, `token` and `regex` go from the enum, its variants and its
-/// fields, whatever their arguments. Of what each `derive` of the enum lists, the entries `Logos`,
-/// `logos::Logos` and `::logos::Logos` go, each with the comma behind it. Punctuation that stands
-/// directly in front of what goes is alone from then on. All else stays as it is, with its span in
-/// the source.
+/// fields, whatever their arguments. From each `derive` of the enum the entries `Logos`,
+/// `logos::Logos` and `::logos::Logos` go, each with the comma after it. Punctuation directly before
+/// what goes is alone from then on. All else stays as it is, with its span in the source.
 ///
-/// `Errors` has the one fault that ends the reading: `LimitSource` where the source is longer than
-/// 16 MiB; `Lexical` or `LimitTokenNesting` where it has no tokens; `NotAnEnum`, `Grammar`,
-/// `TypeUnsupported` or `LimitTypeNesting` where these are no enum. `Memory` comes wherever memory
-/// runs out. After an error nothing is kept.
+/// # Errors
+///
+/// Returns `Errors` with the one fault that ends the reading: `LimitSource` when the source is longer
+/// than 16 MiB; `Lexical` or `LimitTokenNesting` when it has no tokens; `NotAnEnum`, `Grammar`,
+/// `TypeUnsupported` or `LimitTypeNesting` when its tokens are not an enum. Returns `Memory` when
+/// memory runs out.
 pub fn strip_attributes<'s>(alloc: Global, src: &'s str) -> Result<TokenStream<'s>, Refusal>
     ensures ok { IfOk result (λ left. IsStripped src.now (stream_tokens left)) }
     ensures err { IfErr result (Refuses (λ faults. (ending : Fault) × EndsReading src.now ending

@@ -1,19 +1,19 @@
-//! What is left of a run of an enum.
+//! Stripping of runs, group by group.
 ghost use Rattle.std.specs.Prelude.{◌≡◌, ◌<◌, ◌≤◌, ◌∷◌, List, Option, Some, None, IfOk};
 ghost use Rattle.logos_token.specs.Tokens.{Token};
 ghost use Rattle.logos_token.specs.Views.{tokens_of, tree_of, stream_tokens};
 ghost use Rattle.logos_strip.specs.declared.places.Place.TheVariants.{Open};
 ghost use Rattle.logos_strip.specs.Places.{scope_inside};
 ghost use Rattle.logos_strip.specs.Stripping.{left, thinned, sorted};
-ghost use Rattle.logos_strip.specs.inside.Writing.{completed, token_of};
+ghost use Rattle.logos_strip.specs.inside.Writing.{completed, group_token};
 
-use crate::places::{Place, Scope, goes, place_behind, scope_of};
+use crate::places::{Place, Scope, goes, place_after, scope_of};
 use crate::writer::Writer;
 use logos_token::error::Memory;
 use logos_token::token::{Group, TokenStream, TokenTree, Tokens};
 use std::alloc::Global;
 
-/// Adds a group with what is left of what it holds, which is of this scope.
+/// Adds a group, with the tokens in it stripped. `scope` is the part of the enum that they are.
 #[cycle(walk)]
 fn keep_group<'s>(
     alloc: Global,
@@ -22,13 +22,13 @@ fn keep_group<'s>(
     whole: Group<'_, 's>,
 ) -> Result<Writer<'s>, Memory>
     ensures { IfOk result (λ next. (pieces : List (Option Token)) → completed next pieces
-        ≡ completed writer.entry (Some (thinned (Some scope) (token_of whole.entry)) ∷ pieces)) }
+        ≡ completed writer.entry (Some (thinned (Some scope) (group_token whole.entry)) ∷ pieces)) }
 {
-    let kept = strip_run(alloc, scope, whole.run())?;
-    writer.with_tree(TokenTree::Group(kept.group(whole.delimiter, whole.span)))
+    let inside = strip_run(alloc, scope, whole.run())?;
+    writer.with_tree(TokenTree::Group(inside.group(whole.delimiter, whole.span)))
 }
 
-/// Adds what is left of a token that stays at a place, with these behind it.
+/// Adds a token that stays, with the tokens in it stripped. `rest` has the tokens after it.
 #[cycle(walk)]
 fn keep<'s>(
     alloc: Global,
@@ -52,7 +52,11 @@ fn keep<'s>(
     }
 }
 
-/// What is left of a run of a scope. It fails only where there is no memory for it.
+/// Returns the tokens of a run that stay. `scope` is the part of the enum that the run is.
+///
+/// # Errors
+///
+/// Returns `Memory` when memory runs out.
 #[cycle(walk)]
 pub(crate) fn strip_run<'s>(
     alloc: Global,
@@ -73,7 +77,7 @@ pub(crate) fn strip_run<'s>(
         } else {
             keep(alloc, writer, scope, place, tree, rest)?
         };
-        place = place_behind(scope, place, gone, tree);
+        place = place_after(scope, place, gone, tree);
         tokens = rest;
     }
     writer.finish()

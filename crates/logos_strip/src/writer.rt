@@ -1,4 +1,4 @@
-//! What is left of a run, tree by tree.
+//! A writer of the tokens that stay, tree by tree.
 ghost use Rattle.std.specs.Prelude.{◌≡◌, [], ◌∷◌, List, Option, Some, None, IfOk};
 ghost use Rattle.logos_token.specs.Tokens.{Token};
 ghost use Rattle.logos_token.specs.Views.{stream_tokens, tree_of};
@@ -9,17 +9,17 @@ use logos_token::error::Memory;
 use logos_token::token::{Punct, Spacing, TokenStream, TokenTree};
 use std::alloc::Global;
 
-/// What is left so far.
+/// The trees so far.
 #[derive(Drop)]
 pub(crate) struct Writer<'s> {
-    /// The trees in front of the last punctuation, if that is the last tree, else all.
+    /// The trees before `held`, or all trees.
     stream: TokenStream<'s>,
-    /// That punctuation: what goes directly behind it makes it stand alone.
+    /// The last tree, where it is punctuation, which is alone if what follows directly goes.
     held: Option<Punct>,
 }
 
 impl<'s> Writer<'s> {
-    /// Nothing so far.
+    /// Returns a writer without trees.
     pub(crate) fn new(alloc: Global) -> Writer<'s>
         ensures { (pieces : List (Option Token)) → completed result pieces ≡ left pieces }
     {
@@ -29,7 +29,7 @@ impl<'s> Writer<'s> {
         }
     }
 
-    /// All trees, where none comes behind them.
+    /// Returns all trees.
     pub(crate) fn finish(self) -> Result<TokenStream<'s>, Memory>
         ensures { IfOk result (λ stream. stream_tokens stream ≡ completed self.entry []) }
     {
@@ -39,7 +39,7 @@ impl<'s> Writer<'s> {
         }
     }
 
-    /// One more tree.
+    /// Adds a tree.
     pub(crate) fn with_tree(self, tree: TokenTree<'_, 's>) -> Result<Writer<'s>, Memory>
         ensures { IfOk result (λ writer. (pieces : List (Option Token)) →
             completed writer pieces ≡ completed self.entry (Some (tree_of tree.entry) ∷ pieces)) }
@@ -57,7 +57,7 @@ impl<'s> Writer<'s> {
         }
     }
 
-    /// Leaves out what comes next.
+    /// Leaves out the next tree.
     pub(crate) fn without_tree(self) -> Result<Writer<'s>, Memory>
         ensures { IfOk result (λ writer. (pieces : List (Option Token)) →
             completed writer pieces ≡ completed self.entry (None ∷ pieces)) }

@@ -20,7 +20,7 @@ use Rattle.logos_subpattern.specs.PatternFaults.{IsRead, Reads, spelled, broken,
 use Rattle.logos_subpattern.specs.Substitution.{Stored, stored_at, text_of}
 use Rattle.logos_subpattern.specs.SubpatternViews.{stored_of}
 use Rattle.logos_subpattern.specs.Subpatterns.{put_stored, twice_faults, subpattern_twice, subpattern_told, IsAdded, AreAdded, ended, further}
-use Rattle.logos_subpattern.specs.inside.Errors.{ListsError}
+use Rattle.logos_subpattern.specs.inside.Errors.{ReportsError}
 use Rattle.indexmap.specs.IndexMap.{insert_entry}
 
 abbrev pub Entries : Type 0
@@ -93,32 +93,32 @@ put_once name entries found l f =
 -- ---- reading a pattern
 
 pub read_tree : (unicode ignore_case : Bool) (text : List ℕ) (span : Span) (tree : Tree) (faults : List Fault) → Reads unicode ignore_case text (spelled tree) → IsRead unicode ignore_case text span (Some tree) faults faults
-read_tree unicode ignore_case text span tree faults r = record { reading = spelled tree; reads = r; is_tree = refl; lists = sym (append-nil faults) }
+read_tree unicode ignore_case text span tree faults r = record { reading = spelled tree; reads = r; is_tree = refl; adds = sym (append-nil faults) }
 
 pub read_error : (unicode ignore_case : Bool) (text : List ℕ) (span : Span) (error : PatternError) (old new : List Fault) → Refuses (first_flags unicode ignore_case) text error →
-    (error ≡ errors.LimitPatternNesting → IsTooDeep (first_flags unicode ignore_case) text) → ListsError error span old new → IsRead unicode ignore_case text span None old new
-read_error unicode ignore_case text span (errors.Syntax kind at) old new r d l = record { reading = broken kind at; reads = r; is_tree = refl; lists = l }
-read_error unicode ignore_case text span errors.LimitPatternNesting old new r d l = record { reading = too_deep; reads = record { deeper = r; begins = d refl }; is_tree = refl; lists = l }
+    (error ≡ errors.LimitPatternNesting → IsTooDeep (first_flags unicode ignore_case) text) → ReportsError error span old new → IsRead unicode ignore_case text span None old new
+read_error unicode ignore_case text span (errors.Syntax kind at) old new r d l = record { reading = broken kind at; reads = r; is_tree = refl; adds = l }
+read_error unicode ignore_case text span errors.LimitPatternNesting old new r d l = record { reading = too_deep; reads = record { deeper = r; begins = d refl }; is_tree = refl; adds = l }
 read_error unicode ignore_case text span errors.Memory old new r d l = absurd l
 
--- ---- faults behind others
+-- ---- faults after earlier ones
 
-added_behind : {utf8_mode : Bool} {sub : NamedLiteral} {before behind : List Stored} {old new : List Fault} (ahead : List Fault) → IsAdded utf8_mode sub before behind old new →
-    IsAdded utf8_mode sub before behind (ahead ++ old) (ahead ++ new)
-added_behind {utf8_mode = utf8_mode} {sub = sub} {before = before} {old = old} ahead h = record {
+added_after : {utf8_mode : Bool} {sub : NamedLiteral} {before after : List Stored} {old new : List Fault} (ahead : List Fault) → IsAdded utf8_mode sub before after old new →
+    IsAdded utf8_mode sub before after (ahead ++ old) (ahead ++ new)
+added_after {utf8_mode = utf8_mode} {sub = sub} {before = before} {old = old} ahead h = record {
   reading = h.reading;
   reads = h.reads;
   tells = (h.tells.0, ap (λ (l : List Fault). ahead ++ l) h.tells.1 ∙ sym (append_assoc ahead old (subpattern_told utf8_mode h.reading sub before).faults));
 }
 
-all_behind : {utf8_mode : Bool} {subs : List NamedLiteral} {before behind : List Stored} {old new : List Fault} (ahead : List Fault) → AreAdded utf8_mode subs before behind old new →
-    AreAdded utf8_mode subs before behind (ahead ++ old) (ahead ++ new)
-all_behind ahead ended = ended
-all_behind ahead (further first rest) = further (added_behind ahead first) (all_behind ahead rest)
+all_after : {utf8_mode : Bool} {subs : List NamedLiteral} {before after : List Stored} {old new : List Fault} (ahead : List Fault) → AreAdded utf8_mode subs before after old new →
+    AreAdded utf8_mode subs before after (ahead ++ old) (ahead ++ new)
+all_after ahead ended = ended
+all_after ahead (further first rest) = further (added_after ahead first) (all_after ahead rest)
 
--- faults that are found alone, and then stand behind others
-pub added_alone : {utf8_mode : Bool} {subs : List NamedLiteral} {before behind : List Stored} (ahead none found all : List Fault) → none ≡ [] → AreAdded utf8_mode subs before behind none found →
-    all ≡ ahead ++ found → AreAdded utf8_mode subs before behind ahead all
-added_alone {utf8_mode = utf8_mode} {subs = subs} {before = before} {behind = behind} ahead none found all n added e =
-    subst (λ (l : List Fault). AreAdded utf8_mode subs before behind ahead l) (sym e)
-    (subst (λ (l : List Fault). AreAdded utf8_mode subs before behind l (ahead ++ found)) (ap (λ (l : List Fault). ahead ++ l) n ∙ append-nil ahead) (all_behind ahead added))
+-- faults that are found alone, and then added after earlier ones
+pub added_alone : {utf8_mode : Bool} {subs : List NamedLiteral} {before after : List Stored} (ahead none found all : List Fault) → none ≡ [] → AreAdded utf8_mode subs before after none found →
+    all ≡ ahead ++ found → AreAdded utf8_mode subs before after ahead all
+added_alone {utf8_mode = utf8_mode} {subs = subs} {before = before} {after = after} ahead none found all n added e =
+    subst (λ (l : List Fault). AreAdded utf8_mode subs before after ahead l) (sym e)
+    (subst (λ (l : List Fault). AreAdded utf8_mode subs before after l (ahead ++ found)) (ap (λ (l : List Fault). ahead ++ l) n ∙ append-nil ahead) (all_after ahead added))

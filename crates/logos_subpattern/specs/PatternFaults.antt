@@ -1,4 +1,4 @@
--- Texts that are read as patterns, and the faults that they list.
+-- Reading of texts as patterns, and the faults of that.
 use Rattle.std.specs.Prelude.{◌≡◌, ℕ, ◌<◌, Bool, List, [], ◌++◌, codes, Option, Some, None}
 use Rattle.std.specs.Fmt.{decimal}
 use Rattle.logos_lexeme.specs.declared.lexeme.Span.{Span}
@@ -12,11 +12,11 @@ use Rattle.logos_pattern_tokens.specs.Token.{Text}
 use Rattle.logos_hir.specs.Tree.{Tree}
 use Rattle.logos_attribute.specs.Told.{fault, only}
 
--- what a text is, read as a pattern
+-- What reading a text as a pattern gives.
 pub data Reading : Type 0 where
   -- it spells this tree
   spelled : (tree : Tree) → Reading
-  -- it spells none; what the fault says of it is left open
+  -- it spells none; which fault is reported is left open
   broken : (kind : Kind) (at : ℕ) → Reading
   -- it spells none within the limit, and a beginning of it nests deeper
   too_deep : Reading
@@ -26,18 +26,19 @@ pub record PassesNesting (unicode ignore_case : Bool) (text : Text) : Type 0 whe
   pub deeper : (depth : ℕ) → IsSpelled (first_flags unicode ignore_case) text depth → 250 < depth
   pub begins : IsTooDeep (first_flags unicode ignore_case) text
 
--- a text is read so, where the flags `u` and `i` are as they are given
+-- Reading the text under these flags gives this.
 abbrev pub Reads : (unicode ignore_case : Bool) → Text → Reading → Type 0
 Reads unicode ignore_case text (spelled tree) = IsFound (first_flags unicode ignore_case) text tree
 Reads unicode ignore_case text (broken kind at) = (depth : ℕ) → IsSpelled (first_flags unicode ignore_case) text depth → ⊥
 Reads unicode ignore_case text too_deep = PassesNesting unicode ignore_case text
 
--- its tree, if it has one
+-- The tree that the text spells, if it spells one.
 abbrev pub tree_in : Reading → Option Tree
 tree_in (spelled tree) = Some tree
 tree_in (broken kind at) = None
 tree_in too_deep = None
 
+-- The name of a kind of fault, as messages print it.
 abbrev pub kind_name : Kind → List ℕ
 kind_name kinds.Unclosed = codes "Unclosed"
 kind_name kinds.Unopened = codes "Unopened"
@@ -58,18 +59,19 @@ kind_name kinds.NotInBytes = codes "NotInBytes"
 kind_name kinds.UnicodeWordBoundary = codes "UnicodeWordBoundary"
 kind_name kinds.WordBoundaryForm = codes "WordBoundaryForm"
 
+-- The message of a fault of this kind at this byte offset.
 abbrev pub regex_text : ℕ → Kind → List ℕ
 regex_text at kind = codes "regex fault at byte " ++ decimal at ++ codes ": " ++ kind_name kind
 
--- the fault of a pattern whose literal stands at the span
+-- The faults of a pattern whose literal has this span.
 abbrev pub pattern_faults : Span → Reading → List Fault
 pattern_faults span (spelled tree) = []
 pattern_faults span (broken kind at) = only (fault Regex (regex_text at kind) span)
 pattern_faults span too_deep = only (fault LimitPatternNesting (codes "limit LimitPatternNesting passed") span)
 
--- a text was read as a pattern: it has this tree, or its fault was added to the list
+-- A text was read as a pattern: it spells this tree, or its fault was added to the list.
 pub record IsRead (unicode ignore_case : Bool) (text : Text) (span : Span) (tree : Option Tree) (old new : List Fault) : Type 0 where
   pub reading : Reading
   pub reads : Reads unicode ignore_case text reading
   pub is_tree : tree ≡ tree_in reading
-  pub lists : new ≡ old ++ pattern_faults span reading
+  pub adds : new ≡ old ++ pattern_faults span reading

@@ -1,4 +1,4 @@
--- Subpatterns, in source order: each may use the ones in front of it.
+-- Subpatterns, in source order. Each may use the ones before it.
 use Rattle.std.specs.Prelude.{◌≡◌, ℕ, Bool, true, false, not, ◌&&◌, List, [], ◌∷◌, ◌++◌, codes, Option, Some, None, if◌then◌else◌}
 use Rattle.std.specs.List.{list_all}
 use Rattle.std.specs.Str.{bytes_eq, chars}
@@ -15,24 +15,24 @@ use Rattle.logos_attribute.specs.Told.{Told, telling, quiet, and_then, fault, fa
 use Rattle.logos_subpattern.specs.PatternFaults.{Reading, spelled, broken, too_deep, Reads, pattern_faults}
 use Rattle.logos_subpattern.specs.Substitution.{is_word, Stored, stored_at, subst_told}
 
--- one or more digits, ASCII letters and `_`
+-- The text is a name: one or more digits, ASCII letters and `_`.
 abbrev pub is_name : List ℕ → Bool
 is_name [] = false
 is_name (c ∷ rest) = list_all is_word (c ∷ rest)
 
--- what a literal holds, as the text of a pattern
-abbrev pub regex_of : Held → List ℕ
-regex_of (of_text value) = escaped_text false value
-regex_of (of_bytes value) = escaped_bytes false value
+-- The pattern text that a literal's value spells.
+abbrev pub pattern_text : Held → List ℕ
+pattern_text (of_text value) = escaped_text false value
+pattern_text (of_bytes value) = escaped_bytes false value
 
--- the flags that a text has, whatever those around it are
+-- The text that opens the group of a subpattern, and sets its flags whatever those around it are.
 abbrev pub flags_of : Held → List ℕ
 flags_of (of_text value) = codes "(?u:"
 flags_of (of_bytes value) = codes "(?-u:"
 
--- a literal as the text of a pattern that stands inside others
+-- The pattern text of a literal in a group that sets its flags.
 abbrev pub wrapped : Held → List ℕ
-wrapped held = (flags_of held ++ regex_of held) ++ codes ")"
+wrapped held = (flags_of held ++ pattern_text held) ++ codes ")"
 
 abbrev pub subpattern_name : Slice → Fault
 subpattern_name name = fault_about SubpatternName (codes "Invalid subpattern name: `") name (codes "`")
@@ -40,7 +40,7 @@ subpattern_name name = fault_about SubpatternName (codes "Invalid subpattern nam
 abbrev pub subpattern_twice : Slice → Fault
 subpattern_twice name = fault_about SubpatternTwice (codes "Subpattern `") name (codes "` already exists")
 
--- a subpattern of this name behind others, of which one may have it
+-- The faults of a subpattern of this name, where an earlier one has it or none does.
 abbrev pub twice_faults : Slice → Option Stored → List Fault
 twice_faults name None = []
 twice_faults name (Some former) = subpattern_twice name ∷ previous former.span ∷ []
@@ -53,60 +53,61 @@ utf8_text sub =
 abbrev pub utf8_subpattern : NamedLiteral → Fault
 utf8_subpattern sub = fault Utf8Subpattern (utf8_text sub) sub.literal.token.span
 
--- the subpattern with the text that stands for it
+-- A subpattern of this name with its text.
 abbrev pub stored_as : Slice → List ℕ → Stored
 stored_as name text = record { name = name.text; span = name.span; text = text }
 
--- a subpattern among others, in place of the one that has its name
+-- The subpatterns with one more, which replaces the one of its name.
 abbrev pub put_stored : Stored → List Stored → List Stored
 put_stored s [] = s ∷ []
 put_stored s (x ∷ rest) = if bytes_eq s.name x.name then s ∷ rest else x ∷ put_stored s rest
 
--- a subpattern of this name, whose text stands for it
+-- Storing a subpattern of this name with this text.
 abbrev pub stored_told : Slice → List ℕ → List Stored → Told (List Stored)
 stored_told name text names = telling (put_stored (stored_as name text) names) (twice_faults name (stored_at names name.text))
 
--- a subpattern whose text is refused for its mode, or not
+-- Storing a subpattern, unless the mode refuses its text.
 abbrev pub tested_told : Bool → NamedLiteral → List ℕ → List Stored → Told (List Stored)
 tested_told refused sub text names = if refused then telling names (only (utf8_subpattern sub)) else stored_told sub.name text names
 
--- a subpattern whose text spells this tree
+-- Adding a subpattern whose text spells this tree.
 abbrev pub tree_told : Bool → NamedLiteral → List ℕ → List Stored → Tree → Told (List Stored)
 tree_told utf8_mode sub text names tree = tested_told (utf8_mode && not (is_text tree)) sub text names
 
--- a subpattern, by what its text is
+-- Adding a subpattern, by what reading its text gives.
 abbrev pub reading_told : Bool → NamedLiteral → List ℕ → List Stored → Reading → Told (List Stored)
 reading_told utf8_mode sub text names (spelled tree) = tree_told utf8_mode sub text names tree
 reading_told utf8_mode sub text names (broken kind at) = telling names (pattern_faults sub.literal.token.span (broken kind at))
 reading_told utf8_mode sub text names too_deep = telling names (pattern_faults sub.literal.token.span too_deep)
 
--- a subpattern, by its text with the former ones put in, if they are all there
+-- Adding a subpattern by its text with the earlier ones put in, if all of them are found.
 abbrev pub text_told : Bool → Reading → NamedLiteral → List Stored → Option (List ℕ) → Told (List Stored)
 text_told utf8_mode reading sub names None = quiet names
 text_told utf8_mode reading sub names (Some text) = reading_told utf8_mode sub text names reading
 
--- its text, with the former ones put in
+-- The text of a subpattern with the earlier ones put in, if all of them are found.
 abbrev pub test_told : NamedLiteral → List Stored → Told (Option (List ℕ))
 test_told sub names = subst_told names sub.literal.token.span (chars (wrapped sub.literal.held))
 
--- what a subpattern adds to the former ones
+-- Adding a subpattern to the earlier ones.
 abbrev pub subpattern_told : Bool → Reading → NamedLiteral → List Stored → Told (List Stored)
 subpattern_told utf8_mode reading sub names =
     if is_name sub.name.text then and_then (test_told sub names) (text_told utf8_mode reading sub names)
     else telling names (only (subpattern_name sub.name))
 
--- the text that is test compiled, if one is
+-- The text that is test compiled, if one is.
 abbrev pub test_text : NamedLiteral → List Stored → Option (List ℕ)
 test_text sub names = if is_name sub.name.text then (test_told sub names).value else None
 
--- A subpattern leads from the former ones to those behind it, and its faults are added to the list. Its text, if it is tested, is read so.
-pub record IsAdded (utf8_mode : Bool) (sub : NamedLiteral) (before behind : List Stored) (old new : List Fault) : Type 0 where
+-- Adding a subpattern leads from the subpatterns before to those after, and its faults are added to the list. `reading` is what reading its text gives, if the
+-- text is tested.
+pub record IsAdded (utf8_mode : Bool) (sub : NamedLiteral) (before after : List Stored) (old new : List Fault) : Type 0 where
   pub reading : Reading
   pub reads : (text : List ℕ) → test_text sub before ≡ Some text → Reads true false (chars text) reading
-  pub tells : Tells (subpattern_told utf8_mode reading sub before) behind old new
+  pub tells : Tells (subpattern_told utf8_mode reading sub before) after old new
 
--- subpatterns, one behind the other
-pub data AreAdded (utf8_mode : Bool) : List NamedLiteral → (before behind : List Stored) → (old new : List Fault) → Type 0 where
+-- Adding subpatterns one after another leads from the subpatterns before to those after, and their faults are added to the list.
+pub data AreAdded (utf8_mode : Bool) : List NamedLiteral → (before after : List Stored) → (old new : List Fault) → Type 0 where
   ended : {names : List Stored} {faults : List Fault} → AreAdded utf8_mode [] names names faults faults
-  further : {sub : NamedLiteral} {rest : List NamedLiteral} {before middle behind : List Stored} {old now new : List Fault} →
-      IsAdded utf8_mode sub before middle old now → AreAdded utf8_mode rest middle behind now new → AreAdded utf8_mode (sub ∷ rest) before behind old new
+  further : {sub : NamedLiteral} {rest : List NamedLiteral} {before middle after : List Stored} {old now new : List Fault} →
+      IsAdded utf8_mode sub before middle old now → AreAdded utf8_mode rest middle after now new → AreAdded utf8_mode (sub ∷ rest) before after old new

@@ -1,29 +1,29 @@
-//! Texts that are read as patterns, and the faults that they list.
+//! Reading of texts as patterns, and the faults of that.
 ghost use Rattle.std.specs.Prelude.{◌≡◌, ◌++◌, chars, IfOk, IfSome, OnOk, OnErr, option_map};
 ghost use Rattle.std.specs.Prelude.{string_bytes};
 ghost use Rattle.logos_pattern.specs.Leaf.{pattern_tree, source_of, is_token};
 ghost use Rattle.logos_pattern.specs.Literals.{token_of};
 ghost use Rattle.logos_attribute.specs.Told.{Lists, fault, only};
 ghost use Rattle.logos_subpattern.specs.PatternFaults.{kind_name, regex_text, IsRead};
-ghost use Rattle.logos_subpattern.specs.inside.Errors.{ListsError};
+ghost use Rattle.logos_subpattern.specs.inside.Errors.{ReportsError};
 
 use logos_pattern::pattern::{Kind, Literal, Pattern, PatternError};
 use logos_token::error::{Errors, FaultCode, Memory};
 use logos_token::token::Span;
 use std::alloc::{AllocError, Global};
 
-/// How a text is read as a pattern.
+/// The flags by which a text is read as a pattern.
 #[derive(Clone, Copy)]
 pub struct ReadingMode {
-    /// The pattern is a `token`'s, and no `regex`.
+    /// The pattern is that of a `token`, not of a `regex`.
     pub is_literal: bool,
-    /// The text speaks of characters, and not of bytes.
+    /// The pattern matches characters, not bytes.
     pub unicode: bool,
     /// Letters match in either case.
     pub ignore_case: bool,
 }
 
-/// The name of a pattern's fault.
+/// Returns the name of a kind of fault.
 fn kind_name(kind: Kind) -> &'static str
     ensures { result.now ≡ kind_name kind }
 {
@@ -49,7 +49,7 @@ fn kind_name(kind: Kind) -> &'static str
     }
 }
 
-/// The text of a pattern's fault at this byte.
+/// Returns the message of a fault at the byte offset `at` of a pattern's text.
 fn regex_text(alloc: Global, kind: Kind, at: usize) -> Result<String, AllocError>
     ensures { IfOk result (λ text. string_bytes text ≡ regex_text at kind) }
 {
@@ -58,34 +58,23 @@ fn regex_text(alloc: Global, kind: Kind, at: usize) -> Result<String, AllocError
     Ok(text)
 }
 
-/// Lists that a text is no pattern, for what stands there at this byte.
-fn list_regex(
-    alloc: Global,
-    kind: Kind,
-    at: usize,
-    span: Span,
-    errors: &mut Errors,
-) -> Result<(), Memory>
+/// Reports a fault at the byte offset `at` of a pattern's text. `span` is that of its literal.
+fn report_regex(kind: Kind, at: usize, span: Span, errors: &mut Errors) -> Result<(), Memory>
     ensures ok { OnOk result
         (Lists (fault FaultCode.Regex (regex_text at kind) span) errors.old errors.new) }
     ensures unlisted { OnErr result (errors.new ≡ errors.old) }
 {
-    let text = regex_text(alloc, kind, at)?;
+    let text = regex_text(errors.alloc(), kind, at)?;
     errors.err(FaultCode::Regex, text.as_str(), span)
 }
 
-/// Lists why a pattern was not read.
-fn list_error(
-    alloc: Global,
-    error: PatternError,
-    span: Span,
-    errors: &mut Errors,
-) -> Result<(), Memory>
-    ensures ok { OnOk result (ListsError error span errors.old errors.new) }
+/// Reports why a pattern was not read. `span` is that of its literal.
+fn report_error(error: PatternError, span: Span, errors: &mut Errors) -> Result<(), Memory>
+    ensures ok { OnOk result (ReportsError error span errors.old errors.new) }
     ensures unlisted { OnErr result (errors.new ≡ errors.old) }
 {
     match error {
-        PatternError::Syntax { kind, at } => list_regex(alloc, kind, at, span, errors),
+        PatternError::Syntax { kind, at } => report_regex(kind, at, span, errors),
         PatternError::LimitPatternNesting => errors.err(
             FaultCode::LimitPatternNesting,
             "limit LimitPatternNesting passed",
@@ -95,10 +84,13 @@ fn list_error(
     }
 }
 
-/// Reads a text as the pattern of a literal. `None` where it is none, which was listed at the
-/// literal. After `Memory` the faults are as before.
+/// Reads a text as the pattern of a literal. Returns `None` when the text is not a pattern, and
+/// reports that at the literal.
+///
+/// # Errors
+///
+/// Returns `Memory` when memory runs out. The faults are then as before.
 pub fn read_pattern<'s>(
-    alloc: Global,
     regex: &str,
     literal: &Literal<'s>,
     mode: ReadingMode,
@@ -118,10 +110,11 @@ pub fn read_pattern<'s>(
         unicode,
         ignore_case,
     } = mode;
+    let alloc = errors.alloc();
     match Pattern::compile(alloc, is_literal, regex, token.text, unicode, ignore_case) {
         Ok(pattern) => Ok(Some(pattern)),
         Err(error) => {
-            list_error(alloc, error, token.span, errors)?;
+            report_error(error, token.span, errors)?;
             Ok(None)
         }
     }

@@ -1,4 +1,4 @@
-//! Subpatterns: patterns with names, which stand for themselves in the texts of other patterns.
+//! Subpatterns: patterns with names, which other patterns use as `(?&name)`.
 
 #![tactic(auto)]
 

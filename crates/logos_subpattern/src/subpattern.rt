@@ -1,4 +1,4 @@
-//! Subpatterns with their texts.
+//! The subpatterns of a lexer, with their texts.
 ghost use Rattle.std.specs.Prelude.{◌≡◌, ◌++◌, ◌∷◌, [], IfOk, OnOk, string_bytes};
 ghost use Rattle.std.specs.List.{list_all};
 ghost use Rattle.logos_type_params.specs.TypeParams.{previous};
@@ -6,7 +6,7 @@ ghost use Rattle.logos_attribute.specs.Slices.{ident_slice};
 ghost use Rattle.logos_attribute.specs.LiteralViews.{literal_view, named_literal_view};
 ghost use Rattle.logos_attribute.specs.Told.{Lists};
 ghost use Rattle.logos_subpattern.specs.Substitution.{is_word};
-ghost use Rattle.logos_subpattern.specs.Subpatterns.{is_name, flags_of, regex_of, wrapped};
+ghost use Rattle.logos_subpattern.specs.Subpatterns.{is_name, flags_of, pattern_text, wrapped};
 ghost use Rattle.logos_subpattern.specs.Subpatterns.{subpattern_name, subpattern_twice};
 ghost use Rattle.logos_subpattern.specs.Subpatterns.{utf8_subpattern, utf8_text};
 
@@ -20,11 +20,12 @@ use logos_token::token::{Ident, Span};
 use logos_type_params::listing::list_previous;
 use std::alloc::Global;
 
-/// A pattern with a name, which may stand for it in other patterns.
+/// A pattern with a name, by which other patterns use it.
 #[derive(Drop)]
 pub struct Subpattern<'s> {
     name: Ident<'s>,
-    /// The text of the pattern, with the former subpatterns put in, in a group that sets its flags.
+    /// The text of the pattern in a group that sets its flags, with each name of an earlier subpattern
+    /// replaced by the text of that.
     pattern: String,
 }
 
@@ -34,14 +35,14 @@ pub struct Subpatterns<'s> {
     map: IndexMap<&'s str, Subpattern<'s>>,
 }
 
-/// How the text of a subpattern is tested: it sets its own flags.
+/// The flags by which the text of a subpattern is tested. The text sets its own.
 const TEST_MODE: ReadingMode = ReadingMode {
     is_literal: false,
     unicode: true,
     ignore_case: false,
 };
 
-/// Whether a byte may stand in a name.
+/// Returns whether a name can contain a byte.
 fn is_word(byte: u8) -> bool
     ensures { result ≡ is_word byte }
 {
@@ -50,7 +51,7 @@ fn is_word(byte: u8) -> bool
         | (((b'`' < byte) & (byte < b'{')) | (byte == b'_'))
 }
 
-/// Whether all bytes may stand in a name.
+/// Returns whether a name can contain all these bytes.
 fn are_words(bytes: &[u8]) -> bool
     ensures { result ≡ list_all is_word bytes.now }
 {
@@ -62,7 +63,7 @@ fn are_words(bytes: &[u8]) -> bool
     true
 }
 
-/// Whether a text is a name: digits, ASCII letters and `_`, and at least one of these.
+/// Returns whether a text is a name: one or more digits, ASCII letters and `_`.
 fn is_name(text: &str) -> bool
     ensures { result ≡ is_name text.now }
 {
@@ -73,7 +74,7 @@ fn is_name(text: &str) -> bool
     are_words(bytes)
 }
 
-/// What sets the flags of a pattern that stands inside others, and opens its group.
+/// Returns the text that opens the group of a subpattern, and sets its flags.
 fn flags_of(literal: &Literal<'_>) -> &'static str
     ensures { result.now ≡ flags_of (literal_view literal.now).held }
 {
@@ -83,9 +84,13 @@ fn flags_of(literal: &Literal<'_>) -> &'static str
     }
 }
 
-/// The value of a literal as the text of a pattern. Only want of memory is an error.
-pub fn regex_of(alloc: Global, literal: &Literal<'_>) -> Result<String, Memory>
-    ensures { IfOk result (λ text. string_bytes text ≡ regex_of (literal_view literal.now).held) }
+/// Returns the pattern text that a literal's value spells.
+///
+/// # Errors
+///
+/// Returns `Memory` when memory runs out.
+pub fn pattern_text(alloc: Global, literal: &Literal<'_>) -> Result<String, Memory>
+    ensures { IfOk result (λ text. string_bytes text ≡ pattern_text (literal_view literal.now).held) }
 {
     match literal {
         Literal::Utf8(_) => literal.escape(alloc, false),
@@ -93,23 +98,23 @@ pub fn regex_of(alloc: Global, literal: &Literal<'_>) -> Result<String, Memory>
     }
 }
 
-/// The literal as the text of a pattern that stands inside others.
+/// Returns the pattern text of a literal in a group that sets its flags, as other patterns use it.
 fn wrapped(alloc: Global, literal: &Literal<'_>) -> Result<String, Memory>
     ensures { IfOk result (λ text. string_bytes text ≡ wrapped (literal_view literal.now).held) }
 {
-    let regex = regex_of(alloc, literal)?;
+    let regex = pattern_text(alloc, literal)?;
     let mut text = String::from_str(alloc, flags_of(literal))?;
     text.push_str(regex.as_str())?;
     text.push_str(")")?;
     Ok(text)
 }
 
-/// Lists a name that no subpattern may have.
-fn list_name(alloc: Global, name: Ident<'_>, errors: &mut Errors) -> Result<(), Memory>
+/// Reports a name that no subpattern can have.
+fn report_name(name: Ident<'_>, errors: &mut Errors) -> Result<(), Memory>
     ensures { OnOk result (Lists (subpattern_name (ident_slice name.entry)) errors.old errors.new) }
 {
     list_named(
-        alloc,
+        errors.alloc(),
         errors,
         FaultCode::SubpatternName,
         "Invalid subpattern name: `",
@@ -118,13 +123,13 @@ fn list_name(alloc: Global, name: Ident<'_>, errors: &mut Errors) -> Result<(), 
     )
 }
 
-/// Lists a second subpattern of a name.
-fn list_second(alloc: Global, name: Ident<'_>, errors: &mut Errors) -> Result<(), Memory>
+/// Reports a second subpattern of a name.
+fn report_second(name: Ident<'_>, errors: &mut Errors) -> Result<(), Memory>
     ensures { OnOk result
         (Lists (subpattern_twice (ident_slice name.entry)) errors.old errors.new) }
 {
     list_named(
-        alloc,
+        errors.alloc(),
         errors,
         FaultCode::SubpatternTwice,
         "Subpattern `",
@@ -133,22 +138,17 @@ fn list_second(alloc: Global, name: Ident<'_>, errors: &mut Errors) -> Result<()
     )
 }
 
-/// Lists a second subpattern of a name, and where the first one stands.
-fn list_twice(
-    alloc: Global,
-    name: Ident<'_>,
-    former: Span,
-    errors: &mut Errors,
-) -> Result<(), Memory>
+/// Reports a second subpattern of a name, and the span of the first one.
+fn report_twice(name: Ident<'_>, former: Span, errors: &mut Errors) -> Result<(), Memory>
     ensures { OnOk result (errors.new ≡ errors.old
         ++ (subpattern_twice (ident_slice name.entry) ∷ previous former ∷ [])) }
 {
-    list_second(alloc, name, errors)?;
+    report_second(name, errors)?;
     list_previous(errors, former)?;
     Ok(())
 }
 
-/// The text of a fault: a subpattern can match what is no UTF-8.
+/// Returns the message for a subpattern that can match invalid UTF-8.
 fn utf8_text(alloc: Global, named: &(Ident<'_>, Literal<'_>)) -> Result<String, Memory>
     ensures { IfOk result (λ text. string_bytes text ≡ utf8_text (named_literal_view named.now)) }
 {
@@ -160,16 +160,12 @@ fn utf8_text(alloc: Global, named: &(Ident<'_>, Literal<'_>)) -> Result<String, 
     Ok(text)
 }
 
-/// Lists that a subpattern can match what is no UTF-8.
-fn list_utf8(
-    alloc: Global,
-    named: &(Ident<'_>, Literal<'_>),
-    errors: &mut Errors,
-) -> Result<(), Memory>
+/// Reports that a subpattern can match invalid UTF-8.
+fn report_utf8(named: &(Ident<'_>, Literal<'_>), errors: &mut Errors) -> Result<(), Memory>
     ensures { OnOk result
         (Lists (utf8_subpattern (named_literal_view named.now)) errors.old errors.new) }
 {
-    let text = utf8_text(alloc, named)?;
+    let text = utf8_text(errors.alloc(), named)?;
     errors.err(FaultCode::Utf8Subpattern, text.as_str(), named.1.span())
 }
 
@@ -186,7 +182,7 @@ impl<'s> Subpatterns<'s> {
     ghost use Rattle.logos_subpattern.specs.SubpatternViews.{names_of};
     ghost use Rattle.logos_subpattern.specs.inside.Tests.{IsTested};
 
-    /// The text that stands for a name, if one does.
+    /// Returns the text of the subpattern with this name, if there is one.
     pub(crate) fn find(&self, name: &str) -> Option<&str>
         ensures { option_map (λ (text : Bor (List ℕ)). text.now) result
             ≡ text_of (names_of self.now) name.now }
@@ -195,29 +191,22 @@ impl<'s> Subpatterns<'s> {
         Some(subpattern.pattern.as_str())
     }
 
-    /// Stores a subpattern, in place of the one that has its name, which is listed.
-    fn store(
-        &mut self,
-        alloc: Global,
-        name: Ident<'s>,
-        pattern: String,
-        errors: &mut Errors,
-    ) -> Result<(), Memory>
+    /// Stores a subpattern in place of the one that has its name, and reports that one.
+    fn store(&mut self, name: Ident<'s>, pattern: String, errors: &mut Errors) -> Result<(), Memory>
         ensures { OnOk result (Tells
             (stored_told (ident_slice name.entry) (string_bytes pattern) (names_of self.old))
             (names_of self.new) errors.old errors.new) }
     {
         let subpattern = Subpattern { name, pattern };
         if let Some(former) = self.map.insert(name.text, subpattern)? {
-            list_twice(alloc, name, former.name.span, errors)?;
+            report_twice(name, former.name.span, errors)?;
         }
         Ok(())
     }
 
-    /// Stores a subpattern, or lists that it is refused for its mode.
+    /// Stores a subpattern, unless the mode refuses it, which is reported.
     fn store_tested(
         &mut self,
-        alloc: Global,
         refused: bool,
         named: &(Ident<'s>, Literal<'s>),
         pattern: String,
@@ -229,15 +218,14 @@ impl<'s> Subpatterns<'s> {
             (names_of self.new) errors.old errors.new) }
     {
         if refused {
-            return list_utf8(alloc, named, errors);
+            return report_utf8(named, errors);
         }
-        self.store(alloc, named.0, pattern, errors)
+        self.store(named.0, pattern, errors)
     }
 
     /// Tests the text of a subpattern, and stores it if it is a pattern that the mode allows.
     fn test(
         &mut self,
-        alloc: Global,
         utf8_mode: bool,
         named: &(Ident<'s>, Literal<'s>),
         text: String,
@@ -247,18 +235,17 @@ impl<'s> Subpatterns<'s> {
             (IsTested utf8_mode (named_literal_view named.now) (string_bytes text)
             (names_of self.old) (names_of self.new) errors.old errors.new) }
     {
-        let read = read_pattern(alloc, text.as_str(), &named.1, TEST_MODE, errors)?;
+        let read = read_pattern(text.as_str(), &named.1, TEST_MODE, errors)?;
         let Some(pattern) = read else {
             return Ok(());
         };
         let refused = utf8_mode & !pattern.is_utf8();
-        self.store_tested(alloc, refused, named, text, errors)
+        self.store_tested(refused, named, text, errors)
     }
 
-    /// Adds a subpattern behind the former ones, and lists its faults.
+    /// Adds a subpattern after the earlier ones, and reports its faults.
     fn add(
         &mut self,
-        alloc: Global,
         utf8_mode: bool,
         named: &(Ident<'s>, Literal<'s>),
         errors: &mut Errors,
@@ -268,20 +255,19 @@ impl<'s> Subpatterns<'s> {
             (names_of self.old) (names_of self.new) errors.old errors.new) }
     {
         if !is_name(named.0.text) {
-            return list_name(alloc, named.0, errors);
+            return report_name(named.0, errors);
         }
-        let text = wrapped(alloc, &named.1)?;
-        let whole = substituted(alloc, self, text.as_str(), named.1.span(), errors)?;
+        let text = wrapped(errors.alloc(), &named.1)?;
+        let whole = substituted(self, text.as_str(), named.1.span(), errors)?;
         let Some(whole) = whole else {
             return Ok(());
         };
-        self.test(alloc, utf8_mode, named, whole, errors)
+        self.test(utf8_mode, named, whole, errors)
     }
 
-    /// The subpatterns with these names and literals, each with the ones in front of it. After an
-    /// error some of the faults may be listed.
+    /// Returns the subpatterns with these names and literals, and reports their faults. After an error
+    /// some of these may be in the list.
     fn add_all(
-        alloc: Global,
         list: &[(Ident<'s>, Literal<'s>)],
         utf8_mode: bool,
         errors: &mut Errors,
@@ -291,17 +277,21 @@ impl<'s> Subpatterns<'s> {
             errors.old errors.new) }
     {
         let mut subpatterns = Subpatterns {
-            map: IndexMap::new(alloc),
+            map: IndexMap::new(errors.alloc()),
         };
         for named in list {
-            subpatterns.add(alloc, utf8_mode, named, errors)?;
+            subpatterns.add(utf8_mode, named, errors)?;
         }
         Ok(subpatterns)
     }
 
-    /// The subpatterns with these names and literals, in their order: each may use the ones in
-    /// front of it. A later one of a name stands in place of the earlier one. What has a fault is
-    /// left out, and the fault is listed. After `Memory` the faults are as before.
+    /// Returns the subpatterns with these names and literals, in order. Each may use the ones before it.
+    /// A later one replaces an earlier one of the same name. One with a fault is left out, and the fault
+    /// is reported.
+    ///
+    /// # Errors
+    ///
+    /// Returns `Memory` when memory runs out. The faults are then as before.
     pub fn new(
         alloc: Global,
         list: &[(Ident<'s>, Literal<'s>)],
@@ -314,14 +304,18 @@ impl<'s> Subpatterns<'s> {
         ensures unlisted { OnErr result (errors.new ≡ errors.old) }
     {
         let mut found = Errors::new(alloc);
-        let subpatterns = Subpatterns::add_all(alloc, list, utf8_mode, &mut found)?;
+        let subpatterns = Subpatterns::add_all(list, utf8_mode, &mut found)?;
         errors.append(found)?;
         Ok(subpatterns)
     }
 
-    /// The text with each `(?&name)`, from the left, replaced by the text of that subpattern; what
-    /// is put in is not looked into. `None` where a name has no subpattern, which was listed at the
-    /// span, once for each place. After `Memory` the faults are as before.
+    /// Returns the text with each `(?&name)`, from the left, replaced by the text of that subpattern.
+    /// The texts that are put in are not searched for names. Returns `None` when a name has no
+    /// subpattern, and reports that at `span`, once for each use.
+    ///
+    /// # Errors
+    ///
+    /// Returns `Memory` when memory runs out. The faults are then as before.
     pub fn subst_subpatterns(
         &self,
         alloc: Global,
@@ -335,7 +329,7 @@ impl<'s> Subpatterns<'s> {
         ensures unlisted { OnErr result (errors.new ≡ errors.old) }
     {
         let mut missing = Errors::new(alloc);
-        let text = substituted(alloc, self, pattern, span, &mut missing)?;
+        let text = substituted(self, pattern, span, &mut missing)?;
         errors.append(missing)?;
         Ok(text)
     }

@@ -1,4 +1,4 @@
-//! Subpatterns in the text of a pattern.
+//! Substitution of subpatterns in the text of a pattern.
 ghost use Rattle.std.specs.Prelude.{◌≡◌, ℕ, List, ◌+◌, ◌<◌, ◌++◌, ◌∷◌, [], length, drop};
 ghost use Rattle.std.specs.Prelude.{option_map, chars, OnOk, IfOk, MatchOption, string_bytes};
 ghost use Rattle.logos_attribute.specs.Told.{Tells, Lists};
@@ -14,29 +14,38 @@ use logos_token::error::{Errors, FaultCode, Memory};
 use logos_token::token::{Ident, Span};
 use std::alloc::{AllocError, Global};
 
-/// A character that stands for itself, or the name of a subpattern.
+/// A part of a pattern's text.
 #[derive(Clone, Copy)]
 enum TextPart<'a> {
-    Kept(char),
+    /// A character that stands for itself.
+    Itself(char),
+    /// The name of a subpattern that is used.
     Used(&'a [char]),
 }
 
-/// A text with subpatterns put in.
+/// The subpatterns by their names, and the span at which missing ones are reported.
+#[derive(Clone, Copy)]
+struct Lookup<'p, 's> {
+    subpatterns: &'p Subpatterns<'s>,
+    span: Span,
+}
+
+/// The text so far, with subpatterns put in.
 #[derive(Drop)]
 struct Text {
     text: String,
-    /// Whether each name was found.
+    /// Whether each name so far was found.
     complete: bool,
 }
 
-/// Whether a character may stand in a name.
+/// Returns whether a name can contain a character.
 fn is_word(c: char) -> bool
     ensures { result ≡ is_word c }
 {
     ((('/' < c) & (c < ':')) | (('@' < c) & (c < '['))) | ((('`' < c) & (c < '{')) | (c == '_'))
 }
 
-/// The longest word with which a text begins, and what is behind it.
+/// Returns the longest word with which a text begins, and the rest.
 fn word_in(text: &[char]) -> (&[char], &[char])
     ensures front { result.0.now ≡ word_front text.now }
     ensures rest { result.1.now ≡ word_rest text.now }
@@ -48,8 +57,8 @@ fn word_in(text: &[char]) -> (&[char], &[char])
     (&text[..end], &text[end..])
 }
 
-/// What is behind `(?&`, with which a text begins.
-fn behind_opening(text: &[char]) -> Option<&[char]>
+/// Returns the rest after `(?&`, if the text begins with it.
+fn after_opening(text: &[char]) -> Option<&[char]>
     ensures { MatchOption result
         (reference text.now ≡ None)
         (λ rest. text.now ≡ 40 ∷ 63 ∷ 38 ∷ rest.now) }
@@ -60,8 +69,8 @@ fn behind_opening(text: &[char]) -> Option<&[char]>
     }
 }
 
-/// What is behind `)`, with which a text begins.
-fn behind_closing(text: &[char]) -> Option<&[char]>
+/// Returns the rest after `)`, if the text begins with it.
+fn after_closing(text: &[char]) -> Option<&[char]>
     ensures { MatchOption result
         ((name : List ℕ) → closed name text.now ≡ None)
         (λ rest. text.now ≡ 41 ∷ rest.now) }
@@ -70,25 +79,25 @@ fn behind_closing(text: &[char]) -> Option<&[char]>
     if *first == ')' { Some(rest) } else { None }
 }
 
-/// The name in `(?&name)`, with which a text begins, and what is behind it.
+/// Returns the name in `(?&name)` and the rest after it, if the text begins so.
 fn reference_at(text: &[char]) -> Option<(&[char], &[char])>
     ensures { MatchOption result
         (reference text.now ≡ None)
         (λ read. (reference text.now ≡ Some read.0.now)
         × (read.1.now ≡ drop (4 + length read.0.now) text.now)) }
 {
-    let rest = behind_opening(text)?;
-    let (name, behind) = word_in(rest);
+    let rest = after_opening(text)?;
+    let (name, after) = word_in(rest);
     if name.is_empty() {
         return None;
     }
-    let Some(rest) = behind_closing(behind) else {
+    let Some(rest) = after_closing(after) else {
         return None;
     };
     Some((name, rest))
 }
 
-/// The first part of a text, and what is behind it.
+/// Returns the first part of a text, and the rest.
 fn part_at(text: &[char]) -> Option<(TextPart<'_>, &[char])>
     ensures { MatchOption result
         (parts 0 text.now ≡ [])
@@ -96,13 +105,13 @@ fn part_at(text: &[char]) -> Option<(TextPart<'_>, &[char])>
         × (length read.1.now < length text.now)) }
 {
     let (first, rest) = text.split_first()?;
-    if let Some((name, behind)) = reference_at(text) {
-        return Some((TextPart::Used(name), behind));
+    if let Some((name, after)) = reference_at(text) {
+        return Some((TextPart::Used(name), after));
     }
-    Some((TextPart::Kept(*first), rest))
+    Some((TextPart::Itself(*first), rest))
 }
 
-/// The text of characters.
+/// Returns the text of these characters.
 fn encoded(alloc: Global, characters: &[char]) -> Result<String, AllocError>
     ensures { IfOk result (λ text. string_bytes text ≡ encoded characters.now) }
 {
@@ -113,13 +122,13 @@ fn encoded(alloc: Global, characters: &[char]) -> Result<String, AllocError>
     Ok(text)
 }
 
-/// Lists a name without a subpattern.
-fn list_missing(alloc: Global, name: &str, span: Span, errors: &mut Errors) -> Result<(), Memory>
+/// Reports a name without a subpattern.
+fn report_missing(name: &str, span: Span, errors: &mut Errors) -> Result<(), Memory>
     ensures { OnOk result (Lists (subpattern_missing span name.now) errors.old errors.new) }
 {
     let missing = Ident { text: name, span };
     list_named(
-        alloc,
+        errors.alloc(),
         errors,
         FaultCode::SubpatternMissing,
         "Subpattern `",
@@ -135,24 +144,22 @@ impl Text {
     ghost use Rattle.logos_subpattern.specs.SubpatternViews.{names_of};
     ghost use Rattle.logos_subpattern.specs.inside.Parts.{part_of, text_view};
 
-    /// Adds what stands for a name.
+    /// Adds the text of the subpattern with this name, or reports that there is none.
     fn add_name(
         &mut self,
-        alloc: Global,
-        subpatterns: &Subpatterns<'_>,
+        lookup: Lookup<'_, '_>,
         name: &str,
-        span: Span,
         errors: &mut Errors,
     ) -> Result<(), Memory>
         ensures { OnOk result (Tells
-            (name_told span name.now (text_view self.old)
-            (text_of (names_of subpatterns.now) name.now))
+            (name_told lookup.entry.span name.now (text_view self.old)
+            (text_of (names_of lookup.entry.subpatterns.now) name.now))
             (text_view self.new) errors.old errors.new) }
     {
-        match subpatterns.find(name) {
+        match lookup.subpatterns.find(name) {
             Some(text) => self.text.push_str(text)?,
             None => {
-                list_missing(alloc, name, span, errors)?;
+                report_missing(name, lookup.span, errors)?;
                 self.complete = false;
             }
         }
@@ -162,55 +169,52 @@ impl Text {
     /// Adds a part.
     fn add(
         &mut self,
-        alloc: Global,
-        subpatterns: &Subpatterns<'_>,
+        lookup: Lookup<'_, '_>,
         part: TextPart<'_>,
-        span: Span,
         errors: &mut Errors,
     ) -> Result<(), Memory>
         ensures { OnOk result (Tells
-            (part_told (names_of subpatterns.now) span (part_of part.entry) (text_view self.old))
+            (part_told (names_of lookup.entry.subpatterns.now) lookup.entry.span
+            (part_of part.entry) (text_view self.old))
             (text_view self.new) errors.old errors.new) }
     {
         match part {
-            TextPart::Kept(character) => self.text.push(character)?,
+            TextPart::Itself(character) => self.text.push(character)?,
             TextPart::Used(name) => {
-                let name = encoded(alloc, name)?;
-                self.add_name(alloc, subpatterns, name.as_str(), span, errors)?;
+                let name = encoded(errors.alloc(), name)?;
+                self.add_name(lookup, name.as_str(), errors)?;
             }
         }
         Ok(())
     }
 }
 
-/// The characters of a text.
+/// Returns the characters of a text.
 fn characters(alloc: Global, text: &str) -> Result<Vec<char>, AllocError>
     ensures { IfOk result (λ v. v.items ≡ chars text.now) }
 {
     text.chars().collect(alloc)
 }
 
-/// The text of these characters with each subpattern put in; `None` where one is missing, which was
-/// listed.
+/// Returns the text of these characters with each subpattern put in. Returns `None` when one is
+/// missing, which is reported.
 fn put_together(
-    alloc: Global,
-    subpatterns: &Subpatterns<'_>,
+    lookup: Lookup<'_, '_>,
     characters: &[char],
-    span: Span,
     errors: &mut Errors,
 ) -> Result<Option<String>, Memory>
     ensures { IfOk result (λ text.
-        Tells (subst_told (names_of subpatterns.now) span characters.now)
+        Tells (subst_told (names_of lookup.entry.subpatterns.now) lookup.entry.span characters.now)
         (option_map string_bytes text) errors.old errors.new) }
 {
     let mut text = Text {
-        text: String::new(alloc),
+        text: String::new(errors.alloc()),
         complete: true,
     };
     let mut rest = characters;
-    while let Some((part, behind)) = part_at(rest) {
-        text.add(alloc, subpatterns, part, span, errors)?;
-        rest = behind;
+    while let Some((part, after)) = part_at(rest) {
+        text.add(lookup, part, errors)?;
+        rest = after;
     }
     if text.complete {
         return Ok(Some(text.text));
@@ -218,9 +222,9 @@ fn put_together(
     Ok(None)
 }
 
-/// The text with each subpattern put in; `None` where one is missing, which was listed.
+/// Returns the text with each subpattern put in. Returns `None` when one is missing, which is reported
+/// at `span`.
 pub(crate) fn substituted(
-    alloc: Global,
     subpatterns: &Subpatterns<'_>,
     text: &str,
     span: Span,
@@ -230,6 +234,6 @@ pub(crate) fn substituted(
         Tells (subst_told (names_of subpatterns.now) span (chars text.now))
         (option_map string_bytes whole) errors.old errors.new) }
 {
-    let characters = characters(alloc, text)?;
-    put_together(alloc, subpatterns, &characters, span, errors)
+    let characters = characters(errors.alloc(), text)?;
+    put_together(Lookup { subpatterns, span }, &characters, errors)
 }

@@ -11,8 +11,8 @@ use Rattle.logos_attribute.specs.Told.{Told, telling, quiet, told_as}
 use Rattle.logos_definition.specs.Definitions.{DefinitionView}
 use Rattle.logos_subpattern.specs.PatternFaults.{Reading, spelled, broken, too_deep, Reads}
 use Rattle.logos_subpattern.specs.Substitution.{Stored}
-use Rattle.logos_leaf.specs.Leaves.{LeafView, bytes_of, speaks_of_text, escaped_of, leaf_with, token_priority, token_leaf, folded_told, IsTokenLeaf, greedy_faults, fitted_told, regex_priority, tree_told, reading_told, text_told, whole_told, regex_told, IsRegexLeaf}
-use Rattle.logos_leaf.proofs.agreement.Told.{Agree, none_added, told_once, no_front, no_behind}
+use Rattle.logos_leaf.specs.Leaves.{LeafView, bytes_of, is_string, escaped_of, leaf_with, token_priority, token_leaf, folded_told, IsTokenLeaf, greedy_faults, fitted_told, regex_priority, tree_told, reading_told, text_told, whole_told, regex_told, IsRegexLeaf}
+use Rattle.logos_leaf.proofs.agreement.Told.{Agree, none_added, told_once, no_front, no_after}
 use Rattle.logos_leaf.proofs.agreement.Subpatterns.{reading_once}
 
 -- what a match gives: the name of a variant by its text and place, and its type
@@ -56,11 +56,11 @@ module _ (d : DefinitionView) (kind other : KindValue) (alike : shown_kind kind 
   token_by folded k reading = if folded then folded_told d k reading else quiet (Some (token_leaf d k (literal_tree (bytes_of d.literal.held))))
 
   abbrev ReadAs : Reading → Type 0
-  ReadAs reading = Reads (speaks_of_text d.literal.held) true (chars (escaped_of d.literal.held)) reading
+  ReadAs reading = Reads (is_string d.literal.held) true (chars (escaped_of d.literal.held)) reading
 
   token_same : (folded : Bool) (reading another : Reading) → (token_by folded kind reading).faults ≡ [] → (folded ≡ true → ReadAs reading) → (folded ≡ true → ReadAs another) →
       shown_told (token_by folded kind reading) ≡ shown_told (token_by folded other another)
-  token_same true reading another e r s = folded_same (chars (escaped_of d.literal.held)) (speaks_of_text d.literal.held) reading another e (r refl) (s refl)
+  token_same true reading another e r s = folded_same (chars (escaped_of d.literal.held)) (is_string d.literal.held) reading another e (r refl) (s refl)
   token_same false reading another e r s = quiet_alike true (literal_tree (bytes_of d.literal.held)) (token_priority d)
 
   pub token_once : {leaf leaf' : Option LeafView} {old new old' new' : List Fault} → new ≡ [] → IsTokenLeaf d kind leaf old new → IsTokenLeaf d other leaf' old' new' →
@@ -84,18 +84,18 @@ module _ (d : DefinitionView) (kind other : KindValue) (alike : shown_kind kind 
   whole_same text unicode ignore_case too_deep another e r s = absurd (no_front _ [] e)
 
   abbrev TextReadAs : Option (List ℕ) → Reading → Type 0
-  TextReadAs text reading = (t : List ℕ) → text ≡ Some t → Reads (speaks_of_text d.literal.held) d.ignore_case (chars t) reading
+  TextReadAs text reading = (t : List ℕ) → text ≡ Some t → Reads (is_string d.literal.held) d.ignore_case (chars t) reading
 
   text_same : (text : Option (List ℕ)) (reading another : Reading) → (text_told d kind reading text).faults ≡ [] → TextReadAs text reading → TextReadAs text another →
       shown_told (text_told d kind reading text) ≡ shown_told (text_told d other another text)
   text_same None reading another e r s = refl
-  text_same (Some text) reading another e r s = whole_same (chars text) (speaks_of_text d.literal.held) d.ignore_case reading another e (r text refl) (s text refl)
+  text_same (Some text) reading another e r s = whole_same (chars text) (is_string d.literal.held) d.ignore_case reading another e (r text refl) (s text refl)
 
   regex_same : (names : List Stored) (reading another : Reading) → (regex_told d kind names reading).faults ≡ [] → TextReadAs (whole_told d names).value reading →
       TextReadAs (whole_told d names).value another → shown_told (regex_told d kind names reading) ≡ shown_told (regex_told d other names another)
   regex_same names reading another e r s =
       ap (λ (x : Told (Option Shown)). telling x.value ((whole_told d names).faults ++ x.faults))
-      (text_same (whole_told d names).value reading another (no_behind (whole_told d names).faults (text_told d kind reading (whole_told d names).value).faults e) r s)
+      (text_same (whole_told d names).value reading another (no_after (whole_told d names).faults (text_told d kind reading (whole_told d names).value).faults e) r s)
 
   pub regex_once : {names : List Stored} {leaf leaf' : Option LeafView} {old new old' new' : List Fault} → new ≡ [] → IsRegexLeaf d kind names leaf old new →
       IsRegexLeaf d other names leaf' old' new' → Agree (option_map shown leaf) (option_map shown leaf') old' new'

@@ -9,7 +9,7 @@ use Rattle.logos_attribute.specs.Told.{Told, telling, and_then, only}
 use Rattle.logos_subpattern.specs.PatternFaults.{Reading, spelled, broken, too_deep, Reads}
 use Rattle.logos_subpattern.specs.Substitution.{Stored}
 use Rattle.logos_subpattern.specs.Subpatterns.{is_name, subpattern_name, test_told, text_told, reading_told, IsAdded, AreAdded, ended, further}
-use Rattle.logos_leaf.proofs.agreement.Told.{Grows, Agree, grows_same, grows_then, told_grows, none_before, none_added, told_once, no_front, no_behind}
+use Rattle.logos_leaf.proofs.agreement.Told.{Grows, Agree, grows_same, grows_then, told_grows, none_before, none_added, told_once, no_front, no_after}
 
 -- a text that spells a tree is read so alone
 pub reading_once : (unicode ignore_case : Bool) (text : List ℕ) (tree : Tree) (other : Reading) → Reads unicode ignore_case text (spelled tree) → Reads unicode ignore_case text other → spelled tree ≡ other
@@ -44,18 +44,18 @@ module _ (utf8_mode : Bool) (sub : NamedLiteral) (names : List Stored) where
   told_same false reading other e r s = refl
   told_same true reading other e r s =
       ap (λ (x : Told (List Stored)). telling x.value ((test_told sub names).faults ++ x.faults))
-      (text_same (test_told sub names).value reading other (no_behind (test_told sub names).faults (text_told utf8_mode reading sub names (test_told sub names).value).faults e) r s)
+      (text_same (test_told sub names).value reading other (no_after (test_told sub names).faults (text_told utf8_mode reading sub names (test_told sub names).value).faults e) r s)
 
-  added_once : {behind other : List Stored} {old new old' new' : List Fault} → new ≡ [] → IsAdded utf8_mode sub names behind old new → IsAdded utf8_mode sub names other old' new' →
-      Agree behind other old' new'
+  added_once : {after other : List Stored} {old new old' new' : List Fault} → new ≡ [] → IsAdded utf8_mode sub names after old new → IsAdded utf8_mode sub names other old' new' →
+      Agree after other old' new'
   added_once {old = old} n a b = told_once old (told_same (is_name sub.name.text) a.reading b.reading (none_added old a.tells.1 n) a.reads b.reads) n a.tells b.tells
 
-pub are_added_grow : {utf8_mode : Bool} {list : List NamedLiteral} {before behind : List Stored} {old new : List Fault} → AreAdded utf8_mode list before behind old new → Grows old new
+pub are_added_grow : {utf8_mode : Bool} {list : List NamedLiteral} {before after : List Stored} {old new : List Fault} → AreAdded utf8_mode list before after old new → Grows old new
 are_added_grow ended = grows_same refl
 are_added_grow (further a rest) = grows_then (told_grows _ a.tells) (are_added_grow rest)
 
-pub are_added_once : {utf8_mode : Bool} {list : List NamedLiteral} {before behind before' behind' : List Stored} {old new old' new' : List Fault} → before ≡ before' → new ≡ [] →
-    AreAdded utf8_mode list before behind old new → AreAdded utf8_mode list before' behind' old' new' → Agree behind behind' old' new'
+pub are_added_once : {utf8_mode : Bool} {list : List NamedLiteral} {before after before' after' : List Stored} {old new old' new' : List Fault} → before ≡ before' → new ≡ [] →
+    AreAdded utf8_mode list before after old new → AreAdded utf8_mode list before' after' old' new' → Agree after after' old' new'
 are_added_once e n ended ended = (refl, e)
 are_added_once {utf8_mode} {before = before} e n (further {sub = sub} a rest) (further {middle = m} {old = l} {now = k} b others) =
     let h = added_once utf8_mode sub before (none_before (are_added_grow rest) n) a (subst (λ (x : List Stored). IsAdded utf8_mode sub x m l k) (sym e) b) in

@@ -17,7 +17,7 @@ not_both e f = let k = sym e ∙ f in cc
 
 -- ---- lists of faults
 
--- faults were added behind a list
+-- faults were added after a list
 pub record Grows (old new : List Fault) : Type 0 where
   pub added : List Fault
   pub is : new ≡ old ++ added
@@ -41,9 +41,9 @@ told_grows told t = grows_by told.faults t.1
 pub no_front : (f : Fault) (fs : List Fault) → f ∷ fs ≡ [] → ⊥
 no_front f fs e = cc
 
-pub no_behind : (front behind : List Fault) → front ++ behind ≡ [] → behind ≡ []
-no_behind [] behind e = e
-no_behind (f ∷ fs) behind e = absurd (no_front f (fs ++ behind) e)
+pub no_after : (front after : List Fault) → front ++ after ≡ [] → after ≡ []
+no_after [] after e = e
+no_after (f ∷ fs) after e = absurd (no_front f (fs ++ after) e)
 
 -- a list that grew to nothing was nothing
 pub none_before : {old new : List Fault} → Grows old new → new ≡ [] → old ≡ []

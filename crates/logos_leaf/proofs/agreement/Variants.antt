@@ -62,7 +62,7 @@ gives_grows (on_token e t) = token_grows t
 gives_grows (on_regex e r) = regex_grows r
 gives_grows (on_other e f g s) = grows_same s
 
-attributes_grow : {names : List Stored} {kind : KindValue} {run : TokenList} {before behind : List LeafView} {old new : List Fault} → AttributesAdd names kind run before behind old new → Grows old new
+attributes_grow : {names : List Stored} {kind : KindValue} {run : TokenList} {before after : List LeafView} {old new : List Fault} → AttributesAdd names kind run before after old new → Grows old new
 attributes_grow (no_attribute e) = grows_same refl
 attributes_grow (one_attribute e g rest) = grows_then (gives_grows g) (attributes_grow rest)
 
@@ -122,9 +122,9 @@ module _ {kind other : KindValue} (alike : shown_kind kind ≡ shown_kind other)
   gives_once n (on_other e f g s) (on_regex h r) = absurd (not_both h g)
   gives_once n (on_other e f g s) (on_other h k l t) = (t, refl)
 
-  attributes_once : {names : List Stored} {run run' : TokenList} {before behind before' behind' : List LeafView} {old new old' new' : List Fault} → run ≡ run' →
-      map shown before ≡ map shown before' → new ≡ [] → AttributesAdd names kind run before behind old new → AttributesAdd names other run' before' behind' old' new' →
-      Agree (map shown behind) (map shown behind') old' new'
+  attributes_once : {names : List Stored} {run run' : TokenList} {before after before' after' : List LeafView} {old new old' new' : List Fault} → run ≡ run' →
+      map shown before ≡ map shown before' → new ≡ [] → AttributesAdd names kind run before after old new → AttributesAdd names other run' before' after' old' new' →
+      Agree (map shown after) (map shown after') old' new'
   attributes_once r b n (no_attribute e) (no_attribute f) = (refl, b)
   attributes_once r b n (no_attribute e) (one_attribute f g rest) = absurd (no_some (sym f ∙ (sym (ap attribute_in r) ∙ e)))
   attributes_once r b n (one_attribute e g rest) (no_attribute f) = absurd (no_some (sym e ∙ (ap attribute_in r ∙ f)))
@@ -136,23 +136,23 @@ module _ {kind other : KindValue} (alike : shown_kind kind ≡ shown_kind other)
 
 -- ---- variants
 
-variant_grows : {p : Params} {names : List Stored} {variant : VariantValue} {before behind : List LeafView} {old new : List Fault} → VariantAdds p names variant before behind old new → Grows old new
+variant_grows : {p : Params} {names : List Stored} {variant : VariantValue} {before after : List LeafView} {old new : List Fault} → VariantAdds p names variant before after old new → Grows old new
 variant_grows a = grows_then (kind_grows a.is_kind) (attributes_grow a.add)
 
-pub variants_grow : {p : Params} {names : List Stored} {list : List VariantValue} {before behind : List LeafView} {old new : List Fault} → VariantsAdd p names list before behind old new → Grows old new
+pub variants_grow : {p : Params} {names : List Stored} {list : List VariantValue} {before after : List LeafView} {old new : List Fault} → VariantsAdd p names list before after old new → Grows old new
 variants_grow no_variant = grows_same refl
 variants_grow (one_variant a rest) = grows_then (variant_grows a) (variants_grow rest)
 
 module _ (p q : Params) (same : (text : List ℕ) → given p text ≡ given q text) where
-  variant_once : {names : List Stored} {variant : VariantValue} {before behind before' behind' : List LeafView} {old new old' new' : List Fault} → map shown before ≡ map shown before' → new ≡ [] →
-      VariantAdds p names variant before behind old new → VariantAdds q names variant before' behind' old' new' → Agree (map shown behind) (map shown behind') old' new'
+  variant_once : {names : List Stored} {variant : VariantValue} {before after before' after' : List LeafView} {old new old' new' : List Fault} → map shown before ≡ map shown before' → new ≡ [] →
+      VariantAdds p names variant before after old new → VariantAdds q names variant before' after' old' new' → Agree (map shown after) (map shown after') old' new'
   variant_once e n a b =
       let k = kind_once p q same (a.is_name ∙ sym b.is_name) (none_before (attributes_grow a.add) n) a.is_kind b.is_kind in
       let j = attributes_once k.1 refl e n a.add b.add in
       (j.0 ∙ k.0, j.1)
 
-  pub variants_once : {names : List Stored} {list : List VariantValue} {before behind before' behind' : List LeafView} {old new old' new' : List Fault} → map shown before ≡ map shown before' → new ≡ [] →
-      VariantsAdd p names list before behind old new → VariantsAdd q names list before' behind' old' new' → Agree (map shown behind) (map shown behind') old' new'
+  pub variants_once : {names : List Stored} {list : List VariantValue} {before after before' after' : List LeafView} {old new old' new' : List Fault} → map shown before ≡ map shown before' → new ≡ [] →
+      VariantsAdd p names list before after old new → VariantsAdd q names list before' after' old' new' → Agree (map shown after) (map shown after') old' new'
   variants_once e n no_variant no_variant = (refl, e)
   variants_once e n (one_variant a rest) (one_variant b others) =
       let k = variant_once e (none_before (variants_grow rest) n) a b in
@@ -161,12 +161,12 @@ module _ (p q : Params) (same : (text : List ℕ) → given p text ≡ given q t
 
 -- ---- skips
 
-pub skips_grow : {names : List Stored} {list : List DefinitionView} {before behind : List LeafView} {old new : List Fault} → SkipsAdd names list before behind old new → Grows old new
+pub skips_grow : {names : List Stored} {list : List DefinitionView} {before after : List LeafView} {old new : List Fault} → SkipsAdd names list before after old new → Grows old new
 skips_grow no_skip = grows_same refl
 skips_grow (one_skip i rest) = grows_then (told_grows _ i.tells) (skips_grow rest)
 
-pub skips_once : {names : List Stored} {list : List DefinitionView} {before behind before' behind' : List LeafView} {old new old' new' : List Fault} → map shown before ≡ map shown before' → new ≡ [] →
-    SkipsAdd names list before behind old new → SkipsAdd names list before' behind' old' new' → Agree (map shown behind) (map shown behind') old' new'
+pub skips_once : {names : List Stored} {list : List DefinitionView} {before after before' after' : List LeafView} {old new old' new' : List Fault} → map shown before ≡ map shown before' → new ≡ [] →
+    SkipsAdd names list before after old new → SkipsAdd names list before' after' old' new' → Agree (map shown after) (map shown after') old' new'
 skips_once e n no_skip no_skip = (refl, e)
 skips_once {before = c} {before' = c'} e n (one_skip {definition = d} {leaf = leaf} i rest) (one_skip {leaf = leaf'} j others) =
     let k = regex_once d skipped skipped refl (none_before (skips_grow rest) n) i j in

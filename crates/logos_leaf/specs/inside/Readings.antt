@@ -1,4 +1,4 @@
--- What is known while leaves are made.
+-- The steps of making leaves.
 use Rattle.std.specs.Prelude.{ℕ, true, false, List, [], Option, option_map, chars}
 use Rattle.logos_token.specs.Faults.{Fault}
 use Rattle.logos_pattern.specs.Leaf.{KindValue, pattern_tree}
@@ -10,25 +10,25 @@ use Rattle.logos_type_params.specs.Substitution.{Params}
 use Rattle.logos_item.specs.EnumValues.{VariantValue}
 use Rattle.logos_subpattern.specs.Substitution.{Stored}
 use Rattle.logos_leaf.specs.Variants.{SkipsAdd, VariantsAdd}
-use Rattle.logos_leaf.specs.Leaves.{LeafView, leaf_with, speaks_of_text, escaped_of, folded_told, reading_told}
+use Rattle.logos_leaf.specs.Leaves.{LeafView, leaf_with, is_string, escaped_of, folded_told, reading_told}
 
--- a token whose letters match in either case makes this leaf, if it makes one
+-- This is the leaf of a `token` whose letters match in either case, if it has one.
 pub record IsFoldedLeaf (d : DefinitionView) (kind : KindValue) (leaf : Option LeafView) (old new : List Fault) : Type 0 where
   pub reading : Reading
-  pub reads : Reads (speaks_of_text d.literal.held) true (chars (escaped_of d.literal.held)) reading
+  pub reads : Reads (is_string d.literal.held) true (chars (escaped_of d.literal.held)) reading
   pub tells : Tells (folded_told d kind reading) leaf old new
 
--- the leaf of a pattern with a priority, if there is one
+-- The leaf of a pattern with a priority, if there is one.
 abbrev pub leaf_by : DefinitionView → KindValue → Option (Pattern × ℕ) → Option LeafView
 leaf_by d kind = option_map (λ p. leaf_with false d kind (pattern_tree p.0) p.1)
 
--- a pattern whose text with the subpatterns put in is known does
+-- This is the leaf of a pattern with this text, if it has one. The subpatterns are put into the text already.
 pub record IsWholeLeaf (d : DefinitionView) (kind : KindValue) (text : List ℕ) (leaf : Option LeafView) (old new : List Fault) : Type 0 where
   pub reading : Reading
-  pub reads : Reads (speaks_of_text d.literal.held) d.ignore_case (chars text) reading
+  pub reads : Reads (is_string d.literal.held) d.ignore_case (chars text) reading
   pub tells : Tells (reading_told d kind reading) leaf old new
 
--- the leaves of these skips and variants, with these parameters and subpatterns
+-- These are the leaves of these skips and variants, with these parameters and subpatterns.
 pub record AreMadeWith (params : Params) (names : List Stored) (skips : List DefinitionView) (variants : List VariantValue) (leaves : List LeafView) (old new : List Fault) : Type 0 where
   pub of_skips : List LeafView
   pub faults : List Fault

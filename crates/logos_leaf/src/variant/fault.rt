@@ -1,4 +1,4 @@
-//! The faults of variants and of the attributes on them: each function lists one.
+//! The faults of variants and of the attributes on them. Each function reports one.
 ghost use Rattle.std.specs.Prelude.{◌≡◌, ◌++◌, IfOk, OnOk, string_bytes};
 ghost use Rattle.logos_attribute.specs.Told.{Lists};
 ghost use Rattle.logos_leaf.specs.VariantFaults.{fields_text, variant_fields, count_faults};
@@ -9,7 +9,7 @@ use logos_token::error::{Errors, FaultCode, Memory};
 use logos_token::token::Span;
 use std::alloc::{AllocError, Global};
 
-/// The text for a variant with so many fields.
+/// Returns the message for a variant with `count` fields.
 fn fields_text(alloc: Global, count: usize) -> Result<String, AllocError>
     ensures { IfOk result (λ text. string_bytes text ≡ fields_text count) }
 {
@@ -19,36 +19,30 @@ fn fields_text(alloc: Global, count: usize) -> Result<String, AllocError>
     Ok(text)
 }
 
-/// Lists a variant with so many fields in the parenthesis at this span.
-pub(super) fn list_variant_fields(
-    alloc: Global,
+/// Reports a variant with `count` fields in the parentheses with this span.
+pub(super) fn report_variant_fields(
     count: usize,
     span: Span,
     errors: &mut Errors,
 ) -> Result<(), Memory>
     ensures { OnOk result (Lists (variant_fields count span) errors.old errors.new) }
 {
-    let text = fields_text(alloc, count)?;
+    let text = fields_text(errors.alloc(), count)?;
     errors.err(FaultCode::VariantFields, text.as_str(), span)
 }
 
-/// Lists a variant with so many fields in the parenthesis at this span, unless it is one field.
-pub(super) fn list_count(
-    alloc: Global,
-    count: usize,
-    span: Span,
-    errors: &mut Errors,
-) -> Result<(), Memory>
+/// Reports a variant with `count` fields in the parentheses with this span, unless it has one field.
+pub(super) fn report_count(count: usize, span: Span, errors: &mut Errors) -> Result<(), Memory>
     ensures { OnOk result (errors.new ≡ errors.old ++ count_faults count span) }
 {
     if count != 1 {
-        list_variant_fields(alloc, count, span, errors)?;
+        report_variant_fields(count, span, errors)?;
     }
     Ok(())
 }
 
-/// Lists a variant with named fields.
-pub(super) fn list_named_fields(span: Span, errors: &mut Errors) -> Result<(), Memory>
+/// Reports a variant with named fields.
+pub(super) fn report_named_fields(span: Span, errors: &mut Errors) -> Result<(), Memory>
     ensures { OnOk result (Lists (named_fields span) errors.old errors.new) }
 {
     errors.err(
@@ -58,8 +52,8 @@ pub(super) fn list_named_fields(span: Span, errors: &mut Errors) -> Result<(), M
     )
 }
 
-/// Lists an `error` attribute.
-pub(super) fn list_error_variant(span: Span, errors: &mut Errors) -> Result<(), Memory>
+/// Reports an `error` attribute.
+pub(super) fn report_error_variant(span: Span, errors: &mut Errors) -> Result<(), Memory>
     ensures { OnOk result (Lists (error_variant span) errors.old errors.new) }
 {
     errors.err(
@@ -69,15 +63,15 @@ pub(super) fn list_error_variant(span: Span, errors: &mut Errors) -> Result<(), 
     )
 }
 
-/// Lists a `token` attribute without a definition.
-pub(super) fn list_token_form(span: Span, errors: &mut Errors) -> Result<(), Memory>
+/// Reports a `token` attribute without a definition.
+pub(super) fn report_token_form(span: Span, errors: &mut Errors) -> Result<(), Memory>
     ensures { OnOk result (Lists (token_form span) errors.old errors.new) }
 {
     errors.err(FaultCode::TokenForm, "Expected #[token(...)]", span)
 }
 
-/// Lists a `regex` attribute without a definition.
-pub(super) fn list_regex_form(span: Span, errors: &mut Errors) -> Result<(), Memory>
+/// Reports a `regex` attribute without a definition.
+pub(super) fn report_regex_form(span: Span, errors: &mut Errors) -> Result<(), Memory>
     ensures { OnOk result (Lists (regex_form span) errors.old errors.new) }
 {
     errors.err(FaultCode::RegexForm, "Expected #[regex(...)]", span)

@@ -90,7 +90,7 @@ module _ (a : List ℕ) (utf8 : IsUtf8 a) (text : HasText a) where
     lexemes_are : sites_lexemes a sites ≡ ms
     first : stays ≡ true → Follows pieces → Continues from sites
 
-  -- a piece, and those behind it
+  -- a piece, and those after it
   record Stands (from : ℕ) (piece : Piece) (rest : List Piece) : Type 0 where
     at : piece.span.from ≡ from
     bound : IsCharBoundary a from

@@ -1,4 +1,4 @@
--- A comma with a space, a line feed or nothing behind it is a comma alone.
+-- A comma with a space, a line feed or nothing after it is a comma alone.
 use Rattle.std.proofs.Common.{◌≡◌, ℕ, ◌+◌, ◌⊎◌, inl, inr, false, List, length, get_or, Some, None, refl, sym, ◌∙◌, arith}
 use Rattle.std.proofs.lemmas.Bool.{cases_Bool}
 use Rattle.std.proofs.lemmas.List.{get_or_past}

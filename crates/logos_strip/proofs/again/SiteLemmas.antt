@@ -167,10 +167,10 @@ module _ (a : List ℕ) (utf8 : IsUtf8 a) (text : HasText a) (docs : HasDocs a) 
       let g : p + i ≡ x = omega arith in
       ap (λ j. get_or b j 0) (sym f) ∙ at_reads 0 b (slice_range a p to) q rest e i (omega arith) ∙ get_or-between a p to i 0 (omega arith) ∙ ap (λ j. get_or a j 0) g
 
-  -- behind a lexeme that a gap follows stands the byte of the gap, or nothing
-  blank_behind : (p to q : ℕ) (kind : Kind) (gap : List ℕ) (ps : List Part) (c : ℕ) → IsNext a p kind to → q ≤ length b → drop q b ≡ slice_range a p to ++ after gap ps → gap ≡ c ∷ [] →
+  -- after a lexeme that a gap follows comes the byte of the gap, or nothing
+  blank_after : (p to q : ℕ) (kind : Kind) (gap : List ℕ) (ps : List Part) (c : ℕ) → IsNext a p kind to → q ≤ length b → drop q b ≡ slice_range a p to ++ after gap ps → gap ≡ c ∷ [] →
       (get_or b (q + (to - p)) 0 ≡ c) ⊎ (q + (to - p) ≡ length b)
-  blank_behind p to q kind gap ps c next inside e g =
+  blank_after p to q kind gap ps c next inside e g =
       let adv = piece-advances a p kind to next in
       let long = length-between a p to adv.1 in
       let total = whole_length b (slice_range a p to) (after gap ps) q (to - p) long inside e in
@@ -187,7 +187,7 @@ module _ (a : List ℕ) (utf8 : IsUtf8 a) (text : HasText a) (docs : HasDocs a) 
       let long = length-between a p to fits in
       let total = whole_length b (slice_range a p to) (after gap ps) q n long inside e in
       let is : p + n ≡ to = omega arith in
-      let blank : (c : ℕ) → gap ≡ c ∷ [] → (get_or b (q + n) 0 ≡ c) ⊎ (q + n ≡ length b) = λ c g. blank_behind p to q kind gap ps c next inside e g in
+      let blank : (c : ℕ) → gap ≡ c ∷ [] → (get_or b (q + n) 0 ≡ c) ⊎ (q + n ≡ length b) = λ c g. blank_after p to q kind gap ps c next inside e g in
       record {
         utf8 = utf8;
         ends = subst (IsCharBoundary a) (sym is) (piece-boundary a p kind to utf8 bound next);
@@ -201,7 +201,7 @@ module _ (a : List ℕ) (utf8 : IsUtf8 a) (text : HasText a) (docs : HasDocs a) 
         ];
       }
 
-  -- a lexeme and the window behind it are a window
+  -- a lexeme and the window after it are a window
   window_more : (p to q k : ℕ) (kind : Kind) (rest : List ℕ) → IsNext a p kind to → q ≤ length b → drop q b ≡ slice_range a p to ++ rest → Window a b to (q + (to - p)) k → Window a b p q (to - p + k)
   window_more p to q k kind rest next inside e w =
       let adv = piece-advances a p kind to next in
@@ -251,7 +251,7 @@ module _ (a : List ℕ) (utf8 : IsUtf8 a) (text : HasText a) (docs : HasDocs a) 
             let long = length-between a p to fits in
             let second : get_or (slice_range a p to) 1 0 ≡ 47 = get_or-between a p to 1 0 (omega arith) ∙ f in
             let gap : gap_of a kind p to ≡ 10 ∷ [] = ap (λ x. gap_of a x p to) g ∙ ap (λ t. cond t (10 ∷ []) (32 ∷ [])) (second_slash (slice_range a p to) second) in
-            blank_behind p to q kind (gap_of a kind p to) ps 10 l.1 inside e gap;
+            blank_after p to q kind (gap_of a kind p to) ps 10 l.1 inside e gap;
       }
 
   show_joint : (kind : Kind) (p to q : ℕ) (rest : List ℕ) → kind ≡ Punctuation Joint → IsNext a p kind to → q ≤ length b → drop q b ≡ slice_range a p to ++ rest → Wide to (q + (to - p)) → Shown a b p q kind to
@@ -279,8 +279,8 @@ module _ (a : List ℕ) (utf8 : IsUtf8 a) (text : HasText a) (docs : HasDocs a) 
         let long = length-between a p to adv.1 in
         let tail = after (site_gap a (same kind p to)) (parts (sites_lexemes a (t ∷ ts))) in
         let total = whole_length b (slice_range a p to) tail q (to - p) long inside e in
-        let behind : drop (q + (to - p)) b ≡ after [] (parts (sites_lexemes a (t ∷ ts))) = drop_on b (slice_range a p to) tail q (to - p) long inside e ∙ ap (λ x. after (gap_of a x p to) (parts (sites_lexemes a (t ∷ ts)))) j in
-        let shown = show t ts (q + (to - p)) l.2 (omega (arith, total)) (printed_site t ts (q + (to - p)) [] l.2 behind) in
+        let left : drop (q + (to - p)) b ≡ after [] (parts (sites_lexemes a (t ∷ ts))) = drop_on b (slice_range a p to) tail q (to - p) long inside e ∙ ap (λ x. after (gap_of a x p to) (parts (sites_lexemes a (t ∷ ts)))) j in
+        let shown = show t ts (q + (to - p)) l.2 (omega (arith, total)) (printed_site t ts (q + (to - p)) [] l.2 left) in
         show_joint kind p to q tail j next inside e (subst (λ x. Wide x (q + (to - p))) (l.1 j) (wide t (q + (to - p)) shown))
   ]
 
@@ -371,7 +371,7 @@ module _ (a : List ℕ) (utf8 : IsUtf8 a) (text : HasText a) (docs : HasDocs a) 
   joint_gap (same kind from to) = elim (joint_or_not kind) [ inl j ↦ inl (ap (λ x. gap_of a x from to) j) | inr j ↦ inr (separates a kind from to j) ]
   joint_gap (loose spacing from to) = inr (inl refl)
 
-  -- behind a site with no gap the next one is directly after it in both texts
+  -- after a site with no gap the next one is directly after it in both texts
   after_site : (s : Site) (ss : List Site) (q : ℕ) → Linked a (s ∷ ss) → IsPrinted s q ss → site_gap a s ≡ [] → IsAfter (q + (site_to s - site_from s)) ss
   after_site s [] q l e none = tt
   after_site (loose spacing p to) (t ∷ ts) q l e none = absurd (let f : [] ≡ 32 ∷ [] = sym none in cc)

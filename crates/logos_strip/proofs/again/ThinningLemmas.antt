@@ -12,7 +12,7 @@ use Rattle.logos_strip.specs.declared.places.Scope.{Scope}
 use Rattle.logos_strip.specs.declared.places.Scope.TheVariants.{Enum, Attribute, Derives, Variants, Fields}
 use Rattle.logos_strip.specs.declared.places.Place.{Place}
 use Rattle.logos_strip.specs.declared.places.Place.TheVariants.{Open, Hash, Gone, Named, Within}
-use Rattle.logos_strip.specs.Places.{goes, behind_attributed, behind_in_enum, behind_in_attribute, place_behind, scope_inside}
+use Rattle.logos_strip.specs.Places.{goes, after_attributed, after_in_enum, after_in_attribute, place_after, scope_inside}
 use Rattle.logos_strip.specs.Stripping.{alone, in_front, left, thinned, sorted}
 use Rattle.logos_strip.proofs.once.ShapeLemmas.{front_either}
 
@@ -77,28 +77,28 @@ module _ (character : ℕ) (spacing : Spacing) (span : Span) (rest : TokenList) 
   abbrev Mark : Token
   Mark = punctuation character spacing span
 
-  attributed-goes : (scope : Scope) (first place : Place) → goes scope first rest ≡ false → goes scope place (also Mark rest) ≡ false → goes scope (behind_attributed first place false Mark) rest ≡ true → (character == comma) ≡ true
+  attributed-goes : (scope : Scope) (first place : Place) → goes scope first rest ≡ false → goes scope place (also Mark rest) ≡ false → goes scope (after_attributed first place false Mark) rest ≡ true → (character == comma) ≡ true
   attributed-goes scope first Open e stays f = absurd (mark-goes scope rest (character == hash) first e f)
   attributed-goes scope first Hash e stays f = absurd (false≢true f)
   attributed-goes scope first Gone e stays f = absurd (true≢false stays)
   attributed-goes scope first Named e stays f = if_goes scope rest (character == comma) Within refl f
   attributed-goes scope first Within e stays f = if_goes scope rest (character == comma) Within refl f
 
-  enum-goes : (place : Place) → goes Enum place (also Mark rest) ≡ false → goes Enum (behind_in_enum place false Mark) rest ≡ true → (character == comma) ≡ true
+  enum-goes : (place : Place) → goes Enum place (also Mark rest) ≡ false → goes Enum (after_in_enum place false Mark) rest ≡ true → (character == comma) ≡ true
   enum-goes Open stays f = attributed-goes Enum Within Open refl stays f
   enum-goes Hash stays f = attributed-goes Enum Within Hash refl stays f
   enum-goes Gone stays f = absurd (true≢false stays)
   enum-goes Named stays f = attributed-goes Enum Within Named refl stays f
   enum-goes Within stays f = absurd (false≢true f)
 
-  path-goes : (place : Place) → goes Attribute (behind_in_attribute place Mark) rest ≡ true → (character == comma) ≡ true
+  path-goes : (place : Place) → goes Attribute (after_in_attribute place Mark) rest ≡ true → (character == comma) ≡ true
   path-goes Open f = absurd (false≢true f)
   path-goes Hash f = absurd (false≢true f)
   path-goes Gone f = absurd (false≢true f)
   path-goes Named f = absurd (false≢true f)
   path-goes Within f = absurd (false≢true f)
 
-  comma-goes : (scope : Scope) (place : Place) → goes scope place (also Mark rest) ≡ false → goes scope (place_behind scope place false Mark) rest ≡ true → (character == comma) ≡ true
+  comma-goes : (scope : Scope) (place : Place) → goes scope place (also Mark rest) ≡ false → goes scope (place_after scope place false Mark) rest ≡ true → (character == comma) ≡ true
   comma-goes Enum place stays f = enum-goes place stays f
   comma-goes Attribute place stays f = path-goes place f
   comma-goes Derives place stays f = if_goes Derives rest (character == comma) Within refl f
@@ -127,7 +127,7 @@ thins-leaf pieces inner token ls ms one joint same other stays t =
     let P : Token → Type 0 = λ u. Thins true (token_lexemes token ++ ls) (token_lexemes u ++ ms) in
     subst (λ u. P (in_front pieces u)) (sym same) (front_either P pieces token kept (subst P (sym other) kept))
 
--- punctuation in front of others, behind which the place is this one
+-- punctuation in front of others, after which the place is this one
 mark-front : (scope : Scope) (next : Place) (character : ℕ) (spacing : Spacing) (span : Span) (rest : TokenList) → (goes scope next rest ≡ true → (character == comma) ≡ true) → ThinsRun scope next rest →
     Thins true (leaf (punctuation character spacing span) ∷ lexemes rest) (token_lexemes (in_front (sorted scope next rest) (punctuation character spacing span)) ++ lexemes (left (sorted scope next rest)))
 mark-front scope next character spacing span none only t = keeps true _ (λ e. refl) t
@@ -137,16 +137,16 @@ mark-front scope next character spacing span (also token more) only t = go (goes
         Thins true (leaf (punctuation character spacing span) ∷ lexemes (also token more))
         (token_lexemes (in_front (sorted scope next (also token more)) (punctuation character spacing span)) ++ lexemes (left (sorted scope next (also token more))))
     go true e =
-        let behind = left (sorted scope (place_behind scope next true token) more) in
-        let u : Thins false (lexemes (also token more)) (lexemes behind) = rw e at t in
-        let w : Thins true (leaf (punctuation character spacing span) ∷ lexemes (also token more)) (leaf (punctuation character Alone span) ∷ lexemes behind) =
+        let after = left (sorted scope (place_after scope next true token) more) in
+        let u : Thins false (lexemes (also token more)) (lexemes after) = rw e at t in
+        let w : Thins true (leaf (punctuation character spacing span) ∷ lexemes (also token more)) (leaf (punctuation character Alone span) ∷ lexemes after) =
         loosen false character spacing span _ _ (eqb-true character comma (only e)) u in
         rw e w
     go false e =
-        let first = in_front (sorted scope (place_behind scope next false token) more) (thinned (scope_inside scope next token more) token) in
-        let behind = also first (left (sorted scope (place_behind scope next false token) more)) in
-        let u : Thins true (lexemes (also token more)) (lexemes behind) = rw e at t in
-        let w : Thins true (leaf (punctuation character spacing span) ∷ lexemes (also token more)) (leaf (punctuation character spacing span) ∷ lexemes behind) = keeps true _ (λ f. refl) u in
+        let first = in_front (sorted scope (place_after scope next false token) more) (thinned (scope_inside scope next token more) token) in
+        let after = also first (left (sorted scope (place_after scope next false token) more)) in
+        let u : Thins true (lexemes (also token more)) (lexemes after) = rw e at t in
+        let w : Thins true (leaf (punctuation character spacing span) ∷ lexemes (also token more)) (leaf (punctuation character spacing span) ∷ lexemes after) = keeps true _ (λ f. refl) u in
         rw e w
 
 group-front : (pieces : List (Option Token)) (delimiter : Delimiter) (span : Span) (inside : TokenList) → in_front pieces (group delimiter span inside) ≡ group delimiter span inside
@@ -178,12 +178,12 @@ group-left stays pieces (Some scope) delimiter span inside ls ms ih t =
     let kept = left (sorted scope Open inside) in
     rw (group-front pieces delimiter span kept) (thins-group stays (first_stays scope Open inside) delimiter span inside kept ls ms (ih scope) t)
 
--- one token that stays, with what is left behind it
-keep-token : (scope : Scope) (place : Place) (token : Token) (rest : TokenList) → goes scope place (also token rest) ≡ false → ThinsInside token → ThinsRun scope (place_behind scope place false token) rest →
+-- one token that stays, with what is left after it
+keep-token : (scope : Scope) (place : Place) (token : Token) (rest : TokenList) → goes scope place (also token rest) ≡ false → ThinsInside token → ThinsRun scope (place_after scope place false token) rest →
     Thins true (token_lexemes token ++ lexemes rest)
-    (token_lexemes (in_front (sorted scope (place_behind scope place false token) rest) (thinned (scope_inside scope place token rest) token)) ++ lexemes (left (sorted scope (place_behind scope place false token) rest)))
+    (token_lexemes (in_front (sorted scope (place_after scope place false token) rest) (thinned (scope_inside scope place token rest) token)) ++ lexemes (left (sorted scope (place_after scope place false token) rest)))
 keep-token scope place (identifier text span) rest stays ih t = thins-leaf _ (scope_inside scope place (identifier text span) rest) (identifier text span) _ _ refl refl refl refl _ t
-keep-token scope place (punctuation character spacing span) rest stays ih t = mark-front scope (place_behind scope place false (punctuation character spacing span)) character spacing span rest (comma-goes character spacing span rest scope place stays) t
+keep-token scope place (punctuation character spacing span) rest stays ih t = mark-front scope (place_after scope place false (punctuation character spacing span)) character spacing span rest (comma-goes character spacing span rest scope place stays) t
 keep-token scope place (literal text span) rest stays ih t = thins-leaf _ (scope_inside scope place (literal text span) rest) (literal text span) _ _ refl refl refl refl _ t
 keep-token scope place (doc text span) rest stays ih t = thins-leaf _ (scope_inside scope place (doc text span) rest) (doc text span) _ _ refl refl refl refl _ t
 keep-token scope place (group delimiter span inside) rest stays ih t = group-left _ _ (scope_inside scope place (group delimiter span inside) rest) delimiter span inside _ _ ih t
@@ -192,8 +192,8 @@ step : (scope : Scope) (place : Place) (token : Token) (rest : TokenList) → Th
 step scope place token rest inside ih = go (goes scope place (also token rest)) refl
   where
     go : (b : Bool) → goes scope place (also token rest) ≡ b → ThinsRun scope place (also token rest)
-    go true e = let t = drop-token (first_stays scope (place_behind scope place true token) rest) token (lexemes rest) _ (ih (place_behind scope place true token)) in rw e t
-    go false e = let t = keep-token scope place token rest e inside (ih (place_behind scope place false token)) in rw e t
+    go true e = let t = drop-token (first_stays scope (place_after scope place true token) rest) token (lexemes rest) _ (ih (place_after scope place true token)) in rw e t
+    go false e = let t = keep-token scope place token rest e inside (ih (place_after scope place false token)) in rw e t
 
 -- what is left of a run is thinned
 pub thins-run : (scope : Scope) (place : Place) (run : TokenList) → ThinsRun scope place run

@@ -10,10 +10,10 @@ use Rattle.logos_strip.specs.declared.places.Scope.{Scope}
 use Rattle.logos_strip.specs.declared.places.Scope.TheVariants.{Enum, Attribute, Derives, Variants, Fields}
 use Rattle.logos_strip.specs.declared.places.Place.{Place}
 use Rattle.logos_strip.specs.declared.places.Place.TheVariants.{Open, Hash, Gone, Named, Within}
-use Rattle.logos_strip.specs.Helpers.{is_helper_name, is_helper_path, holds_helper, begins_helper, behind_word, behind_colon, behind_colons, holds_behind, ends_entry, is_macro_name, is_macro_segment, is_macro_path, is_global_path, is_macro_entry}
-use Rattle.logos_strip.specs.Places.{begins_gone, goes, place_behind, scope_of, scope_inside}
+use Rattle.logos_strip.specs.Helpers.{is_helper_name, is_helper_path, holds_helper, begins_helper, after_word, after_colon, after_colons, holds_after, ends_entry, is_macro_name, is_macro_segment, is_macro_path, is_global_path, is_macro_entry}
+use Rattle.logos_strip.specs.Places.{begins_gone, goes, place_after, scope_of, scope_inside}
 use Rattle.logos_strip.specs.Stripping.{alone, in_front, left, thinned, sorted, stripped}
-use Rattle.logos_strip.proofs.once.ShapeLemmas.{behind-bare, is_comma-bare}
+use Rattle.logos_strip.proofs.once.ShapeLemmas.{after-bare, is_comma-bare}
 use Rattle.logos_strip.proofs.once.OnceLemmas.{stripped-once}
 
 -- the tests of runs
@@ -22,7 +22,7 @@ if_bare : (found : Bool) (run : TokenList) → (if found then Some (bare run) el
 if_bare true run = refl
 if_bare false run = refl
 
-word-bare : (word : List ℕ) (run : TokenList) → behind_word word (bare run) ≡ option_map bare (behind_word word run)
+word-bare : (word : List ℕ) (run : TokenList) → after_word word (bare run) ≡ option_map bare (after_word word run)
 word-bare word none = refl
 word-bare word (also (identifier text span) rest) = if_bare (bytes_eq text word) rest
 word-bare word (also (punctuation character spacing span) rest) = refl
@@ -30,7 +30,7 @@ word-bare word (also (literal text span) rest) = refl
 word-bare word (also (doc text span) rest) = refl
 word-bare word (also (group delimiter span inside) rest) = refl
 
-colon-bare : (run : TokenList) → behind_colon (bare run) ≡ option_map bare (behind_colon run)
+colon-bare : (run : TokenList) → after_colon (bare run) ≡ option_map bare (after_colon run)
 colon-bare none = refl
 colon-bare (also (identifier text span) rest) = refl
 colon-bare (also (punctuation character spacing span) rest) = if_bare (character == colon) rest
@@ -38,11 +38,11 @@ colon-bare (also (literal text span) rest) = refl
 colon-bare (also (doc text span) rest) = refl
 colon-bare (also (group delimiter span inside) rest) = refl
 
-mark-bare : (found : Bool) (run : TokenList) → (if found then behind_colon (bare run) else None) ≡ option_map bare (if found then behind_colon run else None)
+mark-bare : (found : Bool) (run : TokenList) → (if found then after_colon (bare run) else None) ≡ option_map bare (if found then after_colon run else None)
 mark-bare true run = colon-bare run
 mark-bare false run = refl
 
-colons-bare : (run : TokenList) → behind_colons (bare run) ≡ option_map bare (behind_colons run)
+colons-bare : (run : TokenList) → after_colons (bare run) ≡ option_map bare (after_colons run)
 colons-bare none = refl
 colons-bare (also (identifier text span) rest) = refl
 colons-bare (also (punctuation character spacing span) rest) = mark-bare (is_path_mark character spacing) rest
@@ -50,7 +50,7 @@ colons-bare (also (literal text span) rest) = refl
 colons-bare (also (doc text span) rest) = refl
 colons-bare (also (group delimiter span inside) rest) = refl
 
-holds-bare : (test : TokenList → Bool) → ((run : TokenList) → test (bare run) ≡ test run) → (found : Option TokenList) → holds_behind test (option_map bare found) ≡ holds_behind test found
+holds-bare : (test : TokenList → Bool) → ((run : TokenList) → test (bare run) ≡ test run) → (found : Option TokenList) → holds_after test (option_map bare found) ≡ holds_after test found
 holds-bare test same None = refl
 holds-bare test same (Some run) = same run
 
@@ -59,16 +59,16 @@ ends-bare none = refl
 ends-bare (also token rest) = is_comma-bare token
 
 name-bare : (run : TokenList) → is_macro_name (bare run) ≡ is_macro_name run
-name-bare run = ap (holds_behind ends_entry) (word-bare (codes "Logos") run) ∙ holds-bare ends_entry ends-bare (behind_word (codes "Logos") run)
+name-bare run = ap (holds_after ends_entry) (word-bare (codes "Logos") run) ∙ holds-bare ends_entry ends-bare (after_word (codes "Logos") run)
 
 segment-bare : (run : TokenList) → is_macro_segment (bare run) ≡ is_macro_segment run
-segment-bare run = ap (holds_behind is_macro_name) (colons-bare run) ∙ holds-bare is_macro_name name-bare (behind_colons run)
+segment-bare run = ap (holds_after is_macro_name) (colons-bare run) ∙ holds-bare is_macro_name name-bare (after_colons run)
 
 path-bare : (run : TokenList) → is_macro_path (bare run) ≡ is_macro_path run
-path-bare run = ap (holds_behind is_macro_segment) (word-bare (codes "logos") run) ∙ holds-bare is_macro_segment segment-bare (behind_word (codes "logos") run)
+path-bare run = ap (holds_after is_macro_segment) (word-bare (codes "logos") run) ∙ holds-bare is_macro_segment segment-bare (after_word (codes "logos") run)
 
 global-bare : (run : TokenList) → is_global_path (bare run) ≡ is_global_path run
-global-bare run = ap (holds_behind is_macro_path) (colons-bare run) ∙ holds-bare is_macro_path path-bare (behind_colons run)
+global-bare run = ap (holds_after is_macro_path) (colons-bare run) ∙ holds-bare is_macro_path path-bare (after_colons run)
 
 entry-bare : (run : TokenList) → is_macro_entry (bare run) ≡ is_macro_entry run
 entry-bare run =
@@ -181,12 +181,12 @@ step : (scope : Scope) (place : Place) (token : Token) (rest : TokenList) → In
 step scope place token rest inside ih =
     let gone = goes scope place (also token rest) in
     let first = piece-bare gone (scope_inside scope place (bare_token token) (bare rest)) (scope_inside scope place token rest) token (scope-bare scope place token rest) inside in
-    let next = place_behind scope place gone token in
-    let behind : sorted scope (place_behind scope place gone (bare_token token)) (bare rest) ≡ bare_pieces (sorted scope next rest) = ap (λ p. sorted scope p (bare rest)) (behind-bare scope place gone token) ∙ ih next in
+    let next = place_after scope place gone token in
+    let after : sorted scope (place_after scope place gone (bare_token token)) (bare rest) ≡ bare_pieces (sorted scope next rest) = ap (λ p. sorted scope p (bare rest)) (after-bare scope place gone token) ∙ ih next in
     let piece : Bool → Option Token = λ b. if b then None else Some (thinned (scope_inside scope place (bare_token token) (bare rest)) (bare_token token)) in
-    ap (λ b. piece b ∷ sorted scope (place_behind scope place b (bare_token token)) (bare rest)) (goes-bare scope place (also token rest))
-    ∙ ap (λ p. p ∷ sorted scope (place_behind scope place gone (bare_token token)) (bare rest)) first
-    ∙ ap (λ ps. option_map bare_token (if gone then None else Some (thinned (scope_inside scope place token rest) token)) ∷ ps) behind
+    ap (λ b. piece b ∷ sorted scope (place_after scope place b (bare_token token)) (bare rest)) (goes-bare scope place (also token rest))
+    ∙ ap (λ p. p ∷ sorted scope (place_after scope place gone (bare_token token)) (bare rest)) first
+    ∙ ap (λ ps. option_map bare_token (if gone then None else Some (thinned (scope_inside scope place token rest) token)) ∷ ps) after
 
 sorted-bare : (scope : Scope) (place : Place) (run : TokenList) → SortedBare scope place run
 sorted-bare scope place none = refl

@@ -7,21 +7,21 @@ use Rattle.logos_lexeme.specs.declared.lexeme.Span.{Span}
 use Rattle.logos_token.specs.Tokens.{Token, identifier, punctuation, literal, doc, group, TokenList, none, also}
 use Rattle.logos_item.specs.Marks.{comma, colon}
 use Rattle.logos_item.specs.Attributes.{is_path_mark}
-use Rattle.logos_strip.specs.Helpers.{is_comma, behind_word, behind_colon, behind_colons, holds_behind, ends_entry, is_macro_name, is_macro_segment, is_macro_path, is_global_path, is_macro_entry}
+use Rattle.logos_strip.specs.Helpers.{is_comma, after_word, after_colon, after_colons, holds_after, ends_entry, is_macro_name, is_macro_segment, is_macro_path, is_global_path, is_macro_entry}
 
--- the same entry comes first, up to the spacing of the comma behind it
+-- the same entry comes first, up to the spacing of the comma after it
 pub data SameEntry : TokenList → TokenList → Type 0 where
   ended : SameEntry none none
   parted : (span : Span) (spacing other : Spacing) (rest next : TokenList) → SameEntry (also (punctuation comma spacing span) rest) (also (punctuation comma other span) next)
   further : (token : Token) {rest next : TokenList} → is_comma token ≡ false → SameEntry rest next → SameEntry (also token rest) (also token next)
 
--- what is behind a word or a mark is told alike
+-- what is after a word or a mark is the same
 module _ (test : TokenList → Bool) (same : (one other : TokenList) → SameEntry one other → test one ≡ test other) where
-  if_same : (found : Bool) (one other : TokenList) → SameEntry one other → holds_behind test (if found then Some one else None) ≡ holds_behind test (if found then Some other else None)
+  if_same : (found : Bool) (one other : TokenList) → SameEntry one other → holds_after test (if found then Some one else None) ≡ holds_after test (if found then Some other else None)
   if_same true one other s = same one other s
   if_same false one other s = refl
 
-  word_same : (word : List ℕ) (one other : TokenList) → SameEntry one other → holds_behind test (behind_word word one) ≡ holds_behind test (behind_word word other)
+  word_same : (word : List ℕ) (one other : TokenList) → SameEntry one other → holds_after test (after_word word one) ≡ holds_after test (after_word word other)
   word_same word _ _ ended = refl
   word_same word _ _ (parted span spacing other rest next) = refl
   word_same word _ _ (further (identifier text span) e s) = if_same (bytes_eq text word) _ _ s
@@ -30,7 +30,7 @@ module _ (test : TokenList → Bool) (same : (one other : TokenList) → SameEnt
   word_same word _ _ (further (doc text span) e s) = refl
   word_same word _ _ (further (group delimiter span inside) e s) = refl
 
-  colon_same : (one other : TokenList) → SameEntry one other → holds_behind test (behind_colon one) ≡ holds_behind test (behind_colon other)
+  colon_same : (one other : TokenList) → SameEntry one other → holds_after test (after_colon one) ≡ holds_after test (after_colon other)
   colon_same _ _ ended = refl
   colon_same _ _ (parted span spacing other rest next) = refl
   colon_same _ _ (further (identifier text span) e s) = refl
@@ -39,7 +39,7 @@ module _ (test : TokenList → Bool) (same : (one other : TokenList) → SameEnt
   colon_same _ _ (further (doc text span) e s) = refl
   colon_same _ _ (further (group delimiter span inside) e s) = refl
 
-  mark_same : (found : Bool) (one other : TokenList) → SameEntry one other → holds_behind test (if found then behind_colon one else None) ≡ holds_behind test (if found then behind_colon other else None)
+  mark_same : (found : Bool) (one other : TokenList) → SameEntry one other → holds_after test (if found then after_colon one else None) ≡ holds_after test (if found then after_colon other else None)
   mark_same true one other s = colon_same one other s
   mark_same false one other s = refl
 
@@ -47,11 +47,11 @@ module _ (test : TokenList → Bool) (same : (one other : TokenList) → SameEnt
   comma_mark Alone = refl
   comma_mark Joint = refl
 
-  comma_none : (span : Span) (spacing : Spacing) (rest : TokenList) → holds_behind test (behind_colons (also (punctuation comma spacing span) rest)) ≡ false
+  comma_none : (span : Span) (spacing : Spacing) (rest : TokenList) → holds_after test (after_colons (also (punctuation comma spacing span) rest)) ≡ false
   comma_none span Alone rest = refl
   comma_none span Joint rest = refl
 
-  colons_same : (one other : TokenList) → SameEntry one other → holds_behind test (behind_colons one) ≡ holds_behind test (behind_colons other)
+  colons_same : (one other : TokenList) → SameEntry one other → holds_after test (after_colons one) ≡ holds_after test (after_colons other)
   colons_same _ _ ended = refl
   colons_same _ _ (parted span spacing other rest next) = comma_none span spacing rest ∙ sym (comma_none span other next)
   colons_same _ _ (further (identifier text span) e s) = refl

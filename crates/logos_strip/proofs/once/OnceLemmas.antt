@@ -14,9 +14,9 @@ use Rattle.logos_strip.specs.declared.places.Scope.TheVariants.{Enum, Attribute,
 use Rattle.logos_strip.specs.declared.places.Place.{Place}
 use Rattle.logos_strip.specs.declared.places.Place.TheVariants.{Open, Hash, Gone, Named, Within}
 use Rattle.logos_strip.specs.Helpers.{is_comma, is_helper_name, is_helper_path, holds_helper, begins_helper, is_macro_entry}
-use Rattle.logos_strip.specs.Places.{goes, behind_part, behind_start, behind_hash, behind_attributed, behind_in_enum, behind_in_attribute, place_behind, scope_of, scope_inside}
+use Rattle.logos_strip.specs.Places.{goes, after_part, after_start, after_hash, after_attributed, after_in_enum, after_in_attribute, place_after, scope_of, scope_inside}
 use Rattle.logos_strip.specs.Stripping.{alone, in_front, left, thinned, sorted, stripped}
-use Rattle.logos_strip.proofs.once.ShapeLemmas.{shape, front_either, shape-front, behind-front, scope-front}
+use Rattle.logos_strip.proofs.once.ShapeLemmas.{shape, front_either, shape-front, after-front, scope-front}
 use Rattle.logos_strip.proofs.once.EntryLemmas.{SameEntry, ended, parted, further, entry_same}
 
 -- all tokens stay
@@ -29,7 +29,7 @@ left-kept none = refl
 left-kept (also token none) = refl
 left-kept (also token (also next rest)) = ap (also token) (left-kept (also next rest))
 
--- where what goes is left behind
+-- the place where what goes ends
 abbrev settled : Place → Place
 settled Gone = Open
 settled place = place
@@ -50,7 +50,7 @@ if_place : (P : Place → Type 0) (found : Bool) (one other : Place) → P one �
 if_place P true one other a b = a
 if_place P false one other a b = b
 
-reached-path : (place : Place) (token : Token) → IsReached Attribute (place_behind Attribute place false token)
+reached-path : (place : Place) (token : Token) → IsReached Attribute (place_after Attribute place false token)
 reached-path Open (identifier text span) = if_place (IsReached Attribute) (bytes_eq text (codes "derive")) Named Within tt tt
 reached-path Open (punctuation character spacing span) = tt
 reached-path Open (literal text span) = tt
@@ -61,47 +61,47 @@ reached-path Gone token = tt
 reached-path Named token = tt
 reached-path Within token = tt
 
-reached-behind : (scope : Scope) (place : Place) (gone : Bool) (token : Token) → IsReached scope (place_behind scope place gone token)
-reached-behind Enum place gone token = tt
-reached-behind Attribute place gone token = reached-path place token
-reached-behind Derives place gone token = tt
-reached-behind Variants place gone token = tt
-reached-behind Fields place gone token = tt
+reached-after : (scope : Scope) (place : Place) (gone : Bool) (token : Token) → IsReached scope (place_after scope place gone token)
+reached-after Enum place gone token = tt
+reached-after Attribute place gone token = reached-path place token
+reached-after Derives place gone token = tt
+reached-after Variants place gone token = tt
+reached-after Fields place gone token = tt
 
 -- what stays is followed by no place in what goes
 
 if_settled : (found : Bool) (one other : Place) → settled one ≡ one → settled other ≡ other → settled (if found then one else other) ≡ (if found then one else other)
 if_settled found one other a b = if_place (λ p. settled p ≡ p) found one other a b
 
-settled-start : (other : Place) → settled other ≡ other → (token : Token) → settled (behind_start other token) ≡ behind_start other token
+settled-start : (other : Place) → settled other ≡ other → (token : Token) → settled (after_start other token) ≡ after_start other token
 settled-start other e (identifier text span) = e
 settled-start other e (punctuation character spacing span) = if_settled (character == hash) Hash other refl e
 settled-start other e (literal text span) = e
 settled-start other e (doc text span) = refl
 settled-start other e (group delimiter span inside) = e
 
-settled-hash : (token : Token) → settled (behind_hash token) ≡ behind_hash token
+settled-hash : (token : Token) → settled (after_hash token) ≡ after_hash token
 settled-hash (identifier text span) = refl
 settled-hash (punctuation character spacing span) = refl
 settled-hash (literal text span) = refl
 settled-hash (doc text span) = refl
 settled-hash (group delimiter span inside) = refl
 
-settled-attributed : (first place : Place) → settled first ≡ first → (token : Token) → settled (behind_attributed first place false token) ≡ behind_attributed first place false token
+settled-attributed : (first place : Place) → settled first ≡ first → (token : Token) → settled (after_attributed first place false token) ≡ after_attributed first place false token
 settled-attributed first Open e token = settled-start first e token
 settled-attributed first Hash e token = settled-hash token
 settled-attributed first Gone e token = refl
 settled-attributed first Named e token = if_settled (is_comma token) Open Within refl refl
 settled-attributed first Within e token = if_settled (is_comma token) Open Within refl refl
 
-settled-enum : (place : Place) (token : Token) → settled (behind_in_enum place false token) ≡ behind_in_enum place false token
+settled-enum : (place : Place) (token : Token) → settled (after_in_enum place false token) ≡ after_in_enum place false token
 settled-enum Open token = settled-attributed Within Open refl token
 settled-enum Hash token = settled-attributed Within Hash refl token
 settled-enum Gone token = settled-attributed Within Gone refl token
 settled-enum Named token = settled-attributed Within Named refl token
 settled-enum Within token = refl
 
-settled-path : (place : Place) (token : Token) → settled (behind_in_attribute place token) ≡ behind_in_attribute place token
+settled-path : (place : Place) (token : Token) → settled (after_in_attribute place token) ≡ after_in_attribute place token
 settled-path Open (identifier text span) = if_settled (bytes_eq text (codes "derive")) Named Within refl refl
 settled-path Open (punctuation character spacing span) = refl
 settled-path Open (literal text span) = refl
@@ -112,18 +112,18 @@ settled-path Gone token = refl
 settled-path Named token = refl
 settled-path Within token = refl
 
-settled-behind : (scope : Scope) (place : Place) (token : Token) → settled (place_behind scope place false token) ≡ place_behind scope place false token
-settled-behind Enum place token = settled-enum place token
-settled-behind Attribute place token = settled-path place token
-settled-behind Derives place token = if_settled (is_comma token) Open Within refl refl
-settled-behind Variants place token = settled-attributed Named place refl token
-settled-behind Fields place token = settled-attributed Within place refl token
+settled-after : (scope : Scope) (place : Place) (token : Token) → settled (place_after scope place false token) ≡ place_after scope place false token
+settled-after Enum place token = settled-enum place token
+settled-after Attribute place token = settled-path place token
+settled-after Derives place token = if_settled (is_comma token) Open Within refl refl
+settled-after Variants place token = settled-attributed Named place refl token
+settled-after Fields place token = settled-attributed Within place refl token
 
--- what goes stands where an attribute or an entry may begin, and so does what is behind it
+-- what goes stands where an attribute or an entry may begin, and so does what is after it
 abbrev GoesOpen : Scope → Place → Token → Type 0
-GoesOpen scope place token = (settled place ≡ Open) × (settled (place_behind scope place true token) ≡ Open)
+GoesOpen scope place token = (settled place ≡ Open) × (settled (place_after scope place true token) ≡ Open)
 
-gone-entry : (token : Token) → settled (place_behind Derives Gone true token) ≡ Open
+gone-entry : (token : Token) → settled (place_after Derives Gone true token) ≡ Open
 gone-entry token = if_place (λ p. settled p ≡ Open) (is_comma token) Open Gone refl refl
 
 goes-open : (scope : Scope) (place : Place) (token : Token) (run : TokenList) → IsReached scope place → goes scope place run ≡ true → GoesOpen scope place token
@@ -179,7 +179,7 @@ colon-left place (also token rest) reached = rw (attribute-goes place (also toke
 path-left : (inside : TokenList) → is_helper_path (left (sorted Attribute Open inside)) ≡ is_helper_path inside
 path-left none = refl
 path-left (also (identifier text span) rest) =
-    let next = place_behind Attribute Open false (identifier text span) in
+    let next = place_after Attribute Open false (identifier text span) in
     let more = left (sorted Attribute next rest) in
     let is : is_helper_path (also (identifier text span) more) ≡ is_helper_path (also (identifier text span) rest) =
     ap (λ b. is_helper_name text && not b) (colon-left next rest (reached-path Open (identifier text span))) in
@@ -189,7 +189,7 @@ path-left (also (literal text span) rest) = front_either (λ t. is_helper_path (
 path-left (also (doc text span) rest) = front_either (λ t. is_helper_path (also t (left (sorted Attribute Within rest))) ≡ false) (sorted Attribute Within rest) (doc text span) refl refl
 path-left (also (group delimiter span inside) rest) = front_either (λ t. is_helper_path (also t (left (sorted Attribute Within rest))) ≡ false) (sorted Attribute Within rest) (group delimiter span inside) refl refl
 
--- behind the `#` of an attribute that stays, brackets hold what they held
+-- after the `#` of an attribute that stays, brackets hold what they held
 
 brackets-left : (scope : Scope) (last : Bool) (span : Span) (inside rest more : TokenList) →
     holds_helper (also (thinned (scope_of scope Hash Bracket last) (group Bracket span inside)) more) ≡ holds_helper (also (group Bracket span inside) rest)
@@ -244,12 +244,12 @@ holds-left : (scope : Scope) (rest : TokenList) → holds_helper (left (sorted s
 holds-left scope none = refl
 holds-left scope (also (group Bracket span inside) rest) =
     let inner = scope_of scope Hash Bracket (is_none rest) in
-    let next = sorted scope (place_behind scope Hash false (group Bracket span inside)) rest in
+    let next = sorted scope (place_after scope Hash false (group Bracket span inside)) rest in
     let is = brackets-left scope (is_none rest) span inside rest (left next) in
     front_either (λ t. holds_helper (also t (left next)) ≡ holds_helper (also (group Bracket span inside) rest)) next (thinned inner (group Bracket span inside)) is
     (ap (λ t. holds_helper (also t (left next))) (alone-group inner Bracket span inside) ∙ is)
 holds-left scope (also token rest) =
-    let next = sorted scope (place_behind scope Hash false token) rest in
+    let next = sorted scope (place_after scope Hash false token) rest in
     other-left next (scope_inside scope Hash token rest) token rest (left next) tt
 
 -- no helper attribute begins with what stays
@@ -261,11 +261,11 @@ mark-shape (literal text span) rest = refl
 mark-shape (doc text span) rest = refl
 mark-shape (group delimiter span inside) rest = refl
 
-mark-left : (scope : Scope) (first : Place) (token : Token) (rest : TokenList) → begins_helper (also token rest) ≡ false → begins_helper (also token (left (sorted scope (behind_start first token) rest))) ≡ false
+mark-left : (scope : Scope) (first : Place) (token : Token) (rest : TokenList) → begins_helper (also token rest) ≡ false → begins_helper (also token (left (sorted scope (after_start first token) rest))) ≡ false
 mark-left scope first (identifier text span) rest h = refl
 mark-left scope first (punctuation character spacing span) rest h = go (character == hash) refl
   where
-    go : (b : Bool) → (character == hash) ≡ b → begins_helper (also (punctuation character spacing span) (left (sorted scope (behind_start first (punctuation character spacing span)) rest))) ≡ false
+    go : (b : Bool) → (character == hash) ≡ b → begins_helper (also (punctuation character spacing span) (left (sorted scope (after_start first (punctuation character spacing span)) rest))) ≡ false
     go true e = let f : holds_helper rest ≡ false = rw e at h in rw e (holds-left scope rest ∙ f)
     go false e = rw e refl
 mark-left scope first (literal text span) rest h = refl
@@ -273,10 +273,10 @@ mark-left scope first (doc text span) rest h = refl
 mark-left scope first (group delimiter span inside) rest h = refl
 
 helper-left : (scope : Scope) (first : Place) (pieces : List (Option Token)) (inner : Option Scope) (token : Token) (rest : TokenList) → begins_helper (also token rest) ≡ false →
-    begins_helper (also (in_front pieces (thinned inner token)) (left (sorted scope (behind_start first token) rest))) ≡ false
+    begins_helper (also (in_front pieces (thinned inner token)) (left (sorted scope (after_start first token) rest))) ≡ false
 helper-left scope first pieces inner token rest h =
     let t = in_front pieces (thinned inner token) in
-    let more = left (sorted scope (behind_start first token) rest) in
+    let more = left (sorted scope (after_start first token) rest) in
     sym (mark-shape t more) ∙ ap (λ u. begins_helper (also u more)) (shape-front pieces inner token) ∙ mark-shape token more ∙ mark-left scope first token rest h
 
 -- an entry that stays is the same
@@ -299,25 +299,25 @@ within-front : (rest : TokenList) (token : Token) → in_front (sorted Derives W
 within-front none token = refl
 within-front (also next rest) token = refl
 
-one-entry : (token : Token) (rest : TokenList) → SameEntry rest (left (sorted Derives Within rest)) → SameEntry (also token rest) (left (Some token ∷ sorted Derives (behind_part Within token) rest))
+one-entry : (token : Token) (rest : TokenList) → SameEntry rest (left (sorted Derives Within rest)) → SameEntry (also token rest) (left (Some token ∷ sorted Derives (after_part Within token) rest))
 one-entry token rest ih = go (is_comma token) refl
   where
-    go : (b : Bool) → is_comma token ≡ b → SameEntry (also token rest) (left (Some token ∷ sorted Derives (behind_part Within token) rest))
-    go true e = parted-entry token rest (sorted Derives (behind_part Within token) rest) e
+    go : (b : Bool) → is_comma token ≡ b → SameEntry (also token rest) (left (Some token ∷ sorted Derives (after_part Within token) rest))
+    go true e = parted-entry token rest (sorted Derives (after_part Within token) rest) e
     go false e =
         let more = left (sorted Derives Within rest) in
         let P : Place → Type 0 = λ p. SameEntry (also token rest) (left (Some token ∷ sorted Derives p rest)) in
-        let place : Within ≡ behind_part Within token = ap (λ b. if b then Open else Within) (sym e) in
+        let place : Within ≡ after_part Within token = ap (λ b. if b then Open else Within) (sym e) in
         subst P place (subst (λ t. SameEntry (also token rest) (also t more)) (sym (within-front rest token)) (further token e ih))
 
 entry-left : (rest : TokenList) → SameEntry rest (left (sorted Derives Within rest))
 entry-left none = ended
 entry-left (also token rest) = rw (no_scope Within token rest) (one-entry token rest (entry-left rest))
 
--- What is left of a token that stays, and of those behind it.
+-- What is left of a token that stays, and of those after it.
 module _ (scope : Scope) (place : Place) (token : Token) (rest : TokenList) where
   abbrev Next : Place
-  Next = place_behind scope place false token
+  Next = place_after scope place false token
 
   abbrev first_left : Token
   first_left = in_front (sorted scope Next rest) (thinned (scope_inside scope place token rest) token)
@@ -327,13 +327,13 @@ module _ (scope : Scope) (place : Place) (token : Token) (rest : TokenList) wher
 
 -- it stays again
 goes-left : (scope : Scope) (place : Place) (token : Token) (rest : TokenList) → goes scope place (also token rest) ≡ false → goes scope place (also (first_left scope place token rest) (rest_left scope place token rest)) ≡ false
-goes-left Enum Open token rest h = helper-left Enum Within (sorted Enum (place_behind Enum Open false token) rest) (scope_inside Enum Open token rest) token rest h
+goes-left Enum Open token rest h = helper-left Enum Within (sorted Enum (place_after Enum Open false token) rest) (scope_inside Enum Open token rest) token rest h
 goes-left Attribute Open token rest h = refl
 goes-left Derives Open token rest h =
-    let is : is_macro_entry (left (Some token ∷ sorted Derives (behind_part Within token) rest)) ≡ false = sym (entry_same _ _ (one-entry token rest (entry-left rest))) ∙ h in
+    let is : is_macro_entry (left (Some token ∷ sorted Derives (after_part Within token) rest)) ≡ false = sym (entry_same _ _ (one-entry token rest (entry-left rest))) ∙ h in
     rw (no_scope Open token rest) is
-goes-left Variants Open token rest h = helper-left Variants Named (sorted Variants (place_behind Variants Open false token) rest) (scope_inside Variants Open token rest) token rest h
-goes-left Fields Open token rest h = helper-left Fields Within (sorted Fields (place_behind Fields Open false token) rest) (scope_inside Fields Open token rest) token rest h
+goes-left Variants Open token rest h = helper-left Variants Named (sorted Variants (place_after Variants Open false token) rest) (scope_inside Variants Open token rest) token rest h
+goes-left Fields Open token rest h = helper-left Fields Within (sorted Fields (place_after Fields Open false token) rest) (scope_inside Fields Open token rest) token rest h
 goes-left scope Hash token rest h = refl
 goes-left scope Gone token rest h = absurd (true≢false h)
 goes-left scope Named token rest h = refl
@@ -375,7 +375,7 @@ scope-again scope place (group delimiter span inside) rest = scope-rest scope pl
 
 scope-left : (scope : Scope) (place : Place) (token : Token) (rest : TokenList) → scope_inside scope place (first_left scope place token rest) (rest_left scope place token rest) ≡ scope_inside scope place token rest
 scope-left scope place token rest =
-    scope-front scope place (sorted scope (place_behind scope place false token) rest) (scope_inside scope place token rest) token (rest_left scope place token rest) ∙ scope-again scope place token rest
+    scope-front scope place (sorted scope (place_after scope place false token) rest) (scope_inside scope place token rest) token (rest_left scope place token rest) ∙ scope-again scope place token rest
 
 -- and what it holds is left
 abbrev InsideOnce : Token → Type 0
@@ -403,19 +403,19 @@ thinned-front pieces (Some scope) token ih = let both = thinned-again scope toke
 abbrev Once : Scope → Place → TokenList → Type 0
 Once scope place run = sorted scope (settled place) (left (sorted scope place run)) ≡ kept (left (sorted scope place run))
 
-stays : (scope : Scope) (place : Place) (token : Token) (rest : TokenList) → goes scope place (also token rest) ≡ false → InsideOnce token → Once scope (place_behind scope place false token) rest →
+stays : (scope : Scope) (place : Place) (token : Token) (rest : TokenList) → goes scope place (also token rest) ≡ false → InsideOnce token → Once scope (place_after scope place false token) rest →
     sorted scope place (also (first_left scope place token rest) (rest_left scope place token rest)) ≡ Some (first_left scope place token rest) ∷ kept (rest_left scope place token rest)
 stays scope place token rest h inside ih =
     let first = first_left scope place token rest in
     let more = rest_left scope place token rest in
-    let next = place_behind scope place false token in
+    let next = place_after scope place false token in
     let pieces = sorted scope next rest in
     let inner = scope_inside scope place token rest in
     let again : thinned (scope_inside scope place first more) first ≡ first = ap (λ o. thinned o first) (scope-left scope place token rest) ∙ thinned-front pieces inner token inside in
-    let behind : place_behind scope place false first ≡ next = behind-front scope place false pieces inner token in
-    let there : settled next ≡ next = settled-behind scope place token in
-    let others : sorted scope (place_behind scope place false first) more ≡ kept more = ap (λ p. sorted scope p more) (behind ∙ sym there) ∙ ih in
-    rw (goes-left scope place token rest h) (ap (λ t. Some t ∷ sorted scope (place_behind scope place false first) more) again ∙ ap (λ ps. Some first ∷ ps) others)
+    let after : place_after scope place false first ≡ next = after-front scope place false pieces inner token in
+    let there : settled next ≡ next = settled-after scope place token in
+    let others : sorted scope (place_after scope place false first) more ≡ kept more = ap (λ p. sorted scope p more) (after ∙ sym there) ∙ ih in
+    rw (goes-left scope place token rest h) (ap (λ t. Some t ∷ sorted scope (place_after scope place false first) more) again ∙ ap (λ ps. Some first ∷ ps) others)
 
 stays-place : (scope : Scope) (place : Place) (run : TokenList) → goes scope place run ≡ false → settled place ≡ place
 stays-place scope Open run h = refl
@@ -429,15 +429,15 @@ step scope place token rest reached inside ih = go (goes scope place (also token
   where
     go : (b : Bool) → goes scope place (also token rest) ≡ b → Once scope place (also token rest)
     go true e =
-        let next = place_behind scope place true token in
+        let next = place_after scope place true token in
         let more = left (sorted scope next rest) in
         let open_places = goes-open scope place token (also token rest) reached e in
-        let is : sorted scope (settled place) more ≡ kept more = ap (λ p. sorted scope p more) (open_places.0 ∙ sym open_places.1) ∙ ih next (reached-behind scope place true token) in
+        let is : sorted scope (settled place) more ≡ kept more = ap (λ p. sorted scope p more) (open_places.0 ∙ sym open_places.1) ∙ ih next (reached-after scope place true token) in
         rw e is
     go false e =
         let is : sorted scope (settled place) (also (first_left scope place token rest) (rest_left scope place token rest)) ≡ Some (first_left scope place token rest) ∷ kept (rest_left scope place token rest) =
         ap (λ p. sorted scope p (also (first_left scope place token rest) (rest_left scope place token rest))) (stays-place scope place (also token rest) e)
-        ∙ stays scope place token rest e inside (ih (place_behind scope place false token) (reached-behind scope place false token)) in
+        ∙ stays scope place token rest e inside (ih (place_after scope place false token) (reached-after scope place false token)) in
         rw e is
 
 once : (scope : Scope) (place : Place) (run : TokenList) → IsReached scope place → Once scope place run

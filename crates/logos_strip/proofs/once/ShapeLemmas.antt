@@ -8,7 +8,7 @@ use Rattle.logos_strip.specs.declared.places.Scope.TheVariants.{Enum, Attribute,
 use Rattle.logos_strip.specs.declared.places.Place.{Place}
 use Rattle.logos_strip.specs.declared.places.Place.TheVariants.{Open, Hash, Gone, Named, Within}
 use Rattle.logos_strip.specs.Helpers.{is_comma}
-use Rattle.logos_strip.specs.Places.{scope_inside, behind_part, behind_start, behind_hash, behind_attributed, behind_in_enum, behind_in_attribute, place_behind}
+use Rattle.logos_strip.specs.Places.{scope_inside, after_part, after_start, after_hash, after_attributed, after_in_enum, after_in_attribute, place_after}
 use Rattle.logos_strip.specs.Stripping.{alone, in_front, thinned}
 
 abbrev pub shape : Token → Token
@@ -52,28 +52,28 @@ is_comma-shape (literal text span) = refl
 is_comma-shape (doc text span) = refl
 is_comma-shape (group delimiter span inside) = refl
 
-part-shape : (other : Place) (token : Token) → behind_part other (shape token) ≡ behind_part other token
+part-shape : (other : Place) (token : Token) → after_part other (shape token) ≡ after_part other token
 part-shape other (identifier text span) = refl
 part-shape other (punctuation character spacing span) = refl
 part-shape other (literal text span) = refl
 part-shape other (doc text span) = refl
 part-shape other (group delimiter span inside) = refl
 
-start-shape : (other : Place) (token : Token) → behind_start other (shape token) ≡ behind_start other token
+start-shape : (other : Place) (token : Token) → after_start other (shape token) ≡ after_start other token
 start-shape other (identifier text span) = refl
 start-shape other (punctuation character spacing span) = refl
 start-shape other (literal text span) = refl
 start-shape other (doc text span) = refl
 start-shape other (group delimiter span inside) = refl
 
-hash-shape : (token : Token) → behind_hash (shape token) ≡ behind_hash token
+hash-shape : (token : Token) → after_hash (shape token) ≡ after_hash token
 hash-shape (identifier text span) = refl
 hash-shape (punctuation character spacing span) = refl
 hash-shape (literal text span) = refl
 hash-shape (doc text span) = refl
 hash-shape (group delimiter span inside) = refl
 
-attributed-shape : (first place : Place) (gone : Bool) (token : Token) → behind_attributed first place gone (shape token) ≡ behind_attributed first place gone token
+attributed-shape : (first place : Place) (gone : Bool) (token : Token) → after_attributed first place gone (shape token) ≡ after_attributed first place gone token
 attributed-shape first Open true token = refl
 attributed-shape first Open false token = start-shape first token
 attributed-shape first Hash gone token = hash-shape token
@@ -81,14 +81,14 @@ attributed-shape first Gone gone token = refl
 attributed-shape first Named gone token = part-shape Within token
 attributed-shape first Within gone token = part-shape Within token
 
-enum-shape : (place : Place) (gone : Bool) (token : Token) → behind_in_enum place gone (shape token) ≡ behind_in_enum place gone token
+enum-shape : (place : Place) (gone : Bool) (token : Token) → after_in_enum place gone (shape token) ≡ after_in_enum place gone token
 enum-shape Open gone token = attributed-shape Within Open gone token
 enum-shape Hash gone token = attributed-shape Within Hash gone token
 enum-shape Gone gone token = attributed-shape Within Gone gone token
 enum-shape Named gone token = attributed-shape Within Named gone token
 enum-shape Within gone token = refl
 
-attribute-shape : (place : Place) (token : Token) → behind_in_attribute place (shape token) ≡ behind_in_attribute place token
+attribute-shape : (place : Place) (token : Token) → after_in_attribute place (shape token) ≡ after_in_attribute place token
 attribute-shape Open (identifier text span) = refl
 attribute-shape Open (punctuation character spacing span) = refl
 attribute-shape Open (literal text span) = refl
@@ -99,20 +99,20 @@ attribute-shape Gone token = refl
 attribute-shape Named token = refl
 attribute-shape Within token = refl
 
-behind-shape : (scope : Scope) (place : Place) (gone : Bool) (token : Token) → place_behind scope place gone (shape token) ≡ place_behind scope place gone token
-behind-shape Enum place gone token = enum-shape place gone token
-behind-shape Attribute place gone token = attribute-shape place token
-behind-shape Derives place true token = part-shape Gone token
-behind-shape Derives place false token = part-shape Within token
-behind-shape Variants place gone token = attributed-shape Named place gone token
-behind-shape Fields place gone token = attributed-shape Within place gone token
+after-shape : (scope : Scope) (place : Place) (gone : Bool) (token : Token) → place_after scope place gone (shape token) ≡ place_after scope place gone token
+after-shape Enum place gone token = enum-shape place gone token
+after-shape Attribute place gone token = attribute-shape place token
+after-shape Derives place true token = part-shape Gone token
+after-shape Derives place false token = part-shape Within token
+after-shape Variants place gone token = attributed-shape Named place gone token
+after-shape Fields place gone token = attributed-shape Within place gone token
 
--- behind what is left of a token the place is the same
-pub behind-front : (scope : Scope) (place : Place) (gone : Bool) (pieces : List (Option Token)) (inner : Option Scope) (token : Token) →
-    place_behind scope place gone (in_front pieces (thinned inner token)) ≡ place_behind scope place gone token
-behind-front scope place gone pieces inner token =
+-- after what is left of a token the place is the same
+pub after-front : (scope : Scope) (place : Place) (gone : Bool) (pieces : List (Option Token)) (inner : Option Scope) (token : Token) →
+    place_after scope place gone (in_front pieces (thinned inner token)) ≡ place_after scope place gone token
+after-front scope place gone pieces inner token =
     let t = in_front pieces (thinned inner token) in
-    sym (behind-shape scope place gone t) ∙ ap (place_behind scope place gone) (shape-front pieces inner token) ∙ behind-shape scope place gone token
+    sym (after-shape scope place gone t) ∙ ap (place_after scope place gone) (shape-front pieces inner token) ∙ after-shape scope place gone token
 
 scope-shape : (scope : Scope) (place : Place) (token : Token) (rest : TokenList) → scope_inside scope place (shape token) rest ≡ scope_inside scope place token rest
 scope-shape scope place (identifier text span) rest = refl
@@ -135,9 +135,9 @@ shape-bare (literal text span) = refl
 shape-bare (doc text span) = refl
 shape-bare (group delimiter span inside) = refl
 
--- behind a token without its span the place is the same
-pub behind-bare : (scope : Scope) (place : Place) (gone : Bool) (token : Token) → place_behind scope place gone (bare_token token) ≡ place_behind scope place gone token
-behind-bare scope place gone token = sym (behind-shape scope place gone (bare_token token)) ∙ ap (place_behind scope place gone) (shape-bare token) ∙ behind-shape scope place gone token
+-- after a token without its span the place is the same
+pub after-bare : (scope : Scope) (place : Place) (gone : Bool) (token : Token) → place_after scope place gone (bare_token token) ≡ place_after scope place gone token
+after-bare scope place gone token = sym (after-shape scope place gone (bare_token token)) ∙ ap (place_after scope place gone) (shape-bare token) ∙ after-shape scope place gone token
 
 pub is_comma-bare : (token : Token) → is_comma (bare_token token) ≡ is_comma token
 is_comma-bare token = sym (is_comma-shape (bare_token token)) ∙ ap is_comma (shape-bare token) ∙ is_comma-shape token

@@ -1,4 +1,4 @@
--- What is held while an enum is stripped.
+-- The writer of stripped tokens.
 use Rattle.std.specs.Prelude.{ℕ, List, [], ◌∷◌, ◌++◌, Option, Some, None}
 use Rattle.logos_token.specs.declared.token.Punct.{Punct}
 use Rattle.logos_token.specs.declared.token.views.Group.{Group}
@@ -9,20 +9,20 @@ use Rattle.logos_strip.specs.declared.places.Scope.TheVariants.{Enum, Attribute,
 use Rattle.logos_strip.specs.declared.writer.Writer.{Writer}
 use Rattle.logos_strip.specs.Stripping.{left}
 
--- the punctuation that is held back
+-- The punctuation that is held back.
 abbrev pub held : Option Punct → List (Option Token)
 held None = []
 held (Some p) = Some (punctuation p.character p.spacing p.span) ∷ []
 
--- what is written in the end, where these come behind what is written so far
+-- All trees in the end, when these follow the ones so far.
 abbrev pub completed : Writer → List (Option Token) → TokenList
 completed writer pieces = append (stream_tokens writer.stream) (left (held writer.held ++ pieces))
 
--- a group as a token
-abbrev pub token_of : Group → Token
-token_of g = group g.delimiter g.span (inside_of g)
+-- A group as a token.
+abbrev pub group_token : Group → Token
+group_token g = group g.delimiter g.span (inside_of g)
 
--- how many scopes stand inside one another, at most
+-- The most parts of an enum that can be inside this one, one in another.
 abbrev pub rank : Scope → ℕ
 rank Enum = 2
 rank Attribute = 1

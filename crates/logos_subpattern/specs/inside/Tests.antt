@@ -1,4 +1,4 @@
--- What is known while a subpattern is tested.
+-- The test of a subpattern's text.
 use Rattle.std.specs.Prelude.{ℕ, Bool, true, false, List, chars}
 use Rattle.logos_token.specs.Faults.{Fault}
 use Rattle.logos_attribute.specs.Literals.{NamedLiteral}
@@ -7,8 +7,8 @@ use Rattle.logos_subpattern.specs.PatternFaults.{Reading, Reads}
 use Rattle.logos_subpattern.specs.Substitution.{Stored}
 use Rattle.logos_subpattern.specs.Subpatterns.{reading_told}
 
--- a subpattern whose text with the former ones put in is known was added
-pub record IsTested (utf8_mode : Bool) (sub : NamedLiteral) (text : List ℕ) (before behind : List Stored) (old new : List Fault) : Type 0 where
+-- A subpattern with this text was added. The earlier subpatterns are put into the text already.
+pub record IsTested (utf8_mode : Bool) (sub : NamedLiteral) (text : List ℕ) (before after : List Stored) (old new : List Fault) : Type 0 where
   pub reading : Reading
   pub reads : Reads true false (chars text) reading
-  pub tells : Tells (reading_told utf8_mode sub text before reading) behind old new
+  pub tells : Tells (reading_told utf8_mode sub text before reading) after old new

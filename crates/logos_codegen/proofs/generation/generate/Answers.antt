@@ -6,7 +6,7 @@ pub returns-in-Err-clause-complete : goal.returns-in-Err-clause-complete
 returns-in-Err-clause-complete c = λ rules utf8 a limits.
     not_refused c.args.src.now rules utf8 _ a limits c.in-Err.ensures.err
 
-pub returns-in-Ok-code_said-clause-cut : goal.returns-in-Ok-code_said-clause-cut
-returns-in-Ok-code_said-clause-cut c =
+pub returns-in-Ok-code_of-clause-cut : goal.returns-in-Ok-code_of-clause-cut
+returns-in-Ok-code_of-clause-cut c =
     let parts = c.put_together.ensures.parts in
-    rw (parts.0, parts.1) (runs_are_cut c.args.src.now _ _ _ c.in-Ok.ensures.ok.accepted c.in-Ok-code_said.ensures.lexer)
+    rw (parts.0, parts.1) (runs_are_cut c.args.src.now _ _ _ c.in-Ok.ensures.ok.accepted c.in-Ok-code_of.ensures.lexer)

@@ -9,6 +9,6 @@ use Rattle.logos_leaf.proofs.source.add_skips.Given as goal
 
 -- what completes the rest completes the whole
 abbrev pub invariant-loop-skip : goal.invariant-loop-skip
-invariant-loop-skip l = (behind : List LeafView) (new : List Fault) →
-    SkipsAdd (names_of l.subpatterns) (map definition_view l.skip-iterator.rest.items) (map leaf_view l.leaves.items) behind l.errors new →
-    SkipsAdd (names_of l.subpatterns) (map definition_view l.fn.skips.items) (map leaf_view l.fn.leaves.items) behind l.fn.errors new
+invariant-loop-skip l = (after : List LeafView) (new : List Fault) →
+    SkipsAdd (names_of l.subpatterns) (map definition_view l.skip-iterator.rest.items) (map leaf_view l.leaves.items) after l.errors new →
+    SkipsAdd (names_of l.subpatterns) (map definition_view l.fn.skips.items) (map leaf_view l.fn.leaves.items) after l.fn.errors new

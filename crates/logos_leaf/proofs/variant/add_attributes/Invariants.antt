@@ -13,10 +13,10 @@ use Rattle.logos_leaf.proofs.variant.add_attributes.Given as goal
 -- what completes the rest completes the whole
 abbrev pub invariant-loop-attribute : goal.invariant-loop-attribute
 invariant-loop-attribute l = record {
-  kept : parser_view l.parser ≡ parser_view l.fn.parser;
-  completes : (behind : List LeafView) (new : List Fault) →
-      AttributesAdd (names_of l.subpatterns) (kind_value l.kind) (tokens_of l.rest) (map leaf_view l.leaves.items) behind l.parser.errors new →
-      AttributesAdd (names_of l.subpatterns) (kind_value l.kind) (tokens_of l.fn.attributes) (map leaf_view l.fn.leaves.items) behind l.fn.parser.errors new;
+  unchanged : parser_view l.parser ≡ parser_view l.fn.parser;
+  completes : (after : List LeafView) (new : List Fault) →
+      AttributesAdd (names_of l.subpatterns) (kind_value l.kind) (tokens_of l.rest) (map leaf_view l.leaves.items) after l.parser.errors new →
+      AttributesAdd (names_of l.subpatterns) (kind_value l.kind) (tokens_of l.fn.attributes) (map leaf_view l.fn.leaves.items) after l.fn.parser.errors new;
 }
 
 abbrev pub decreases-loop-attribute : goal.decreases-loop-attribute

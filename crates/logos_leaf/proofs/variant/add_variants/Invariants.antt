@@ -13,9 +13,9 @@ use Rattle.logos_leaf.proofs.variant.add_variants.Given as goal
 -- what completes the rest completes the whole
 abbrev pub invariant-loop-variant : goal.invariant-loop-variant
 invariant-loop-variant l = record {
-  kept : parser_view l.parser ≡ parser_view l.fn.parser;
-  completes : (behind : List LeafView) (new : List Fault) →
-      VariantsAdd (params_with l.fn.parser.types (texts l.held.keys)) (names_of l.subpatterns) (map variant_value (drop l.variant-index l.variants)) (map leaf_view l.leaves.items) behind
+  unchanged : parser_view l.parser ≡ parser_view l.fn.parser;
+  completes : (after : List LeafView) (new : List Fault) →
+      VariantsAdd (params_with l.fn.parser.types (texts l.held.keys)) (names_of l.subpatterns) (map variant_value (drop l.variant-index l.variants)) (map leaf_view l.leaves.items) after
       l.parser.errors new →
-      VariantsAdd (params_with l.fn.parser.types (texts l.held.keys)) (names_of l.subpatterns) (map variant_value l.variants) (map leaf_view l.fn.leaves.items) behind l.fn.parser.errors new;
+      VariantsAdd (params_with l.fn.parser.types (texts l.held.keys)) (names_of l.subpatterns) (map variant_value l.variants) (map leaf_view l.fn.leaves.items) after l.fn.parser.errors new;
 }

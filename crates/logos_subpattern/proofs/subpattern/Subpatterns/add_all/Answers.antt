@@ -10,7 +10,7 @@ loop-named-preserved c =
     ≡ named_literal_view c.named-item.result ∷ map named_literal_view (drop (c.loop-named.named-index + 1) c.args.list.now) =
     at_drop_more (λ xs. map named_literal_view xs) c.args.list.now c.loop-named.named-index c.named-item.result c.loop-named-test.true
     ∙ ap (λ x. named_literal_view x ∷ map named_literal_view (drop (c.loop-named.named-index + 1) c.args.list.now)) (sym c.named-item.is) in
-    λ behind new rest. c.loop-named.invariant behind new (rw left (further c.in_ok-add.ensures rest))
+    λ after new rest. c.loop-named.invariant after new (rw left (further c.in_ok-add.ensures rest))
 
 pub returns : goal.returns
 returns c =

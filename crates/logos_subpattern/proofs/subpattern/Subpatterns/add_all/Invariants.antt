@@ -7,6 +7,6 @@ use Rattle.logos_subpattern.specs.SubpatternViews.{names_of}
 use Rattle.logos_subpattern.proofs.subpattern.Subpatterns.add_all.Given as goal
 
 abbrev pub invariant-loop-named : goal.invariant-loop-named
-invariant-loop-named l = (behind : List Stored) (new : List Fault) →
-    AreAdded l.utf8_mode (map named_literal_view (drop l.named-index l.list)) (names_of l.subpatterns) behind l.errors new →
-    AreAdded l.utf8_mode (map named_literal_view l.list) [] behind l.fn.errors new
+invariant-loop-named l = (after : List Stored) (new : List Fault) →
+    AreAdded l.utf8_mode (map named_literal_view (drop l.named-index l.list)) (names_of l.subpatterns) after l.errors new →
+    AreAdded l.utf8_mode (map named_literal_view l.list) [] after l.fn.errors new

@@ -6,10 +6,10 @@ use Rattle.logos_subpattern.specs.SubpatternViews.{stored_of}
 use Rattle.logos_subpattern.proofs.SubpatternLemmas.{put_entries, put_twice, put_once}
 use Rattle.logos_subpattern.proofs.subpattern.Subpatterns.store.Goals as goal
 
-pub returns-in_ok-list_twice : goal.returns-in_ok-list_twice
-returns-in_ok-list_twice c = (
+pub returns-in_ok-report_twice : goal.returns-in_ok-report_twice
+returns-in_ok-report_twice c = (
   ap (map stored_of) c.in_ok-former.ensures.entries ∙ put_entries c.args.name.text _ c.args.self.now.map.entries,
-  c.in_ok-list_twice.ensures
+  c.in_ok-report_twice.ensures
       ∙ ap (λ (fs : List Fault). c.args.errors.now ++ fs) (sym (put_twice (ident_slice c.args.name) c.args.self.now.map.entries c.in-Some.former _ c.in_ok-former.ensures.old c.in-Some.is)),
 )
 

@@ -1,9 +1,9 @@
 use Rattle.std.proofs.lemmas.Result.{IfOk-weaker}
 use Rattle.logos_leaf.specs.Variants.{no_token, a_token}
-use Rattle.logos_leaf.proofs.variant.token_of.Goals as goal
+use Rattle.logos_leaf.proofs.variant.read_token.Goals as goal
 
 pub returns-in_default-clause-given : goal.returns-in_default-clause-given
-returns-in_default-clause-given c = no_token (rw c.in_default.is at c.in_ok-definition.ensures.ok) c.in_ok-list_token_form.ensures
+returns-in_default-clause-given c = no_token (rw c.in_default.is at c.in_ok-definition.ensures.ok) c.in_ok-report_token_form.ensures
 
 pub returns-clause-given : goal.returns-clause-given
 returns-clause-given c = IfOk-weaker c.token_leaf.result _ _ (λ leaf h. a_token (rw c.in-Some.is at c.in_ok-definition.ensures.ok) (rw c.in_ok-kind.ensures.cases at h)) c.token_leaf.ensures.ok

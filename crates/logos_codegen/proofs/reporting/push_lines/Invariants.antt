@@ -1,7 +1,7 @@
 use Rattle.std.proofs.Common.{◌≡◌, ◌++◌, map, drop, string_bytes}
 use Rattle.logos_automaton.specs.Errors.{numbers}
 use Rattle.logos_codegen.specs.Texts.{named_leaf, other_lines}
-use Rattle.logos_codegen.proofs.texts.push_lines.Given as goal
+use Rattle.logos_codegen.proofs.reporting.push_lines.Given as goal
 
 abbrev pub invariant-loop-other : goal.invariant-loop-other
 invariant-loop-other l =

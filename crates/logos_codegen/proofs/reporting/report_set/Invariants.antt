@@ -1,7 +1,7 @@
 use Rattle.std.proofs.Common.{◌≡◌, ◌++◌, map, flat_map, drop}
 use Rattle.logos_automaton.specs.Errors.{numbers}
 use Rattle.logos_codegen.specs.Texts.{named_leaf, disambiguation_faults}
-use Rattle.logos_codegen.proofs.texts.list_set.Given as goal
+use Rattle.logos_codegen.proofs.reporting.report_set.Given as goal
 
 abbrev pub invariant-loop-number : goal.invariant-loop-number
 invariant-loop-number l =

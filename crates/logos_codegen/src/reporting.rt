@@ -1,9 +1,9 @@
-//! The faults of a graph, as they are listed.
+//! Reporting the faults of a graph.
 
 ghost use Rattle.std.specs.Prelude.{◌≡◌, ◌++◌, ◌==◌, ◌∷◌, [], map, flat_map, slice_get, option_map, if◌then◌else◌, IfOk, OnOk, string_bytes};
 ghost use Rattle.std.specs.Option.{option_map_or};
 ghost use Rattle.logos_automaton.specs.Errors.{fault_of, numbers};
-ghost use Rattle.logos_codegen.specs.Texts.{named_leaf, fault_at, line_of, other_lines, empty_match_faults, disambiguation_text, disambiguation_faults, listed_of};
+ghost use Rattle.logos_codegen.specs.Texts.{named_leaf, fault_at, line_of, other_lines, empty_match_faults, disambiguation_text, disambiguation_faults, reported_as};
 
 use logos_graph::graph::GraphError;
 use logos_hir::leaf::LeafId;
@@ -12,7 +12,7 @@ use logos_token::error::{Errors, FaultCode, Memory};
 use logos_token::token::Span;
 use std::alloc::{AllocError, Global};
 
-// The leaf with this number, if there is one.
+/// Returns the leaf with this number, if there is one.
 fn leaf_at<'l, 's>(leaves: &'l [Leaf<'s>], number: LeafId) -> Option<&'l Leaf<'s>>
     ensures { option_map (λ leaf. named_leaf leaf.now) result
         ≡ slice_get (map named_leaf leaves.now) number.0 }
@@ -20,7 +20,7 @@ fn leaf_at<'l, 's>(leaves: &'l [Leaf<'s>], number: LeafId) -> Option<&'l Leaf<'s
     leaves.get(number.0)
 }
 
-// Adds the line of another leaf of an ambiguous set.
+/// Adds the line of a leaf of an ambiguous set, unless it is `leaf`.
 fn push_line(
     text: &mut String,
     leaves: &[Leaf<'_>],
@@ -40,7 +40,7 @@ fn push_line(
     }
 }
 
-// Adds the lines of the other leaves of an ambiguous set.
+/// Adds the lines of the leaves of an ambiguous set, without that of `leaf`.
 fn push_lines(
     text: &mut String,
     leaves: &[Leaf<'_>],
@@ -56,7 +56,7 @@ fn push_lines(
     Ok(())
 }
 
-// The text of a leaf's fault for an ambiguous set.
+/// Returns the message for a leaf of an ambiguous set.
 fn disambiguation_text(
     alloc: Global,
     leaves: &[Leaf<'_>],
@@ -76,9 +76,8 @@ fn disambiguation_text(
     Ok(text)
 }
 
-// Lists the fault of one leaf of an ambiguous set.
-fn list_ambiguous(
-    alloc: Global,
+/// Reports a leaf of an ambiguous set.
+fn report_ambiguous(
     leaves: &[Leaf<'_>],
     set: &[LeafId],
     number: LeafId,
@@ -89,13 +88,12 @@ fn list_ambiguous(
         (disambiguation_text (map named_leaf leaves.now) (numbers set.now) number.0
         (named_leaf leaf.now)) leaf.now.span ∷ []) }
 {
-    let text = disambiguation_text(alloc, leaves, set, number, leaf)?;
+    let text = disambiguation_text(errors.alloc(), leaves, set, number, leaf)?;
     errors.err(FaultCode::Disambiguation, text.as_str(), leaf.span)
 }
 
-// Lists the fault of the leaf with this number, if there is one.
-fn list_numbered(
-    alloc: Global,
+/// Reports the leaf with this number as one of an ambiguous set, if there is one.
+fn report_numbered(
     leaves: &[Leaf<'_>],
     set: &[LeafId],
     number: LeafId,
@@ -105,40 +103,35 @@ fn list_numbered(
         (map named_leaf leaves.now) (numbers set.now) number.0) }
 {
     match leaf_at(leaves, number) {
-        Some(leaf) => list_ambiguous(alloc, leaves, set, number, leaf, errors),
+        Some(leaf) => report_ambiguous(leaves, set, number, leaf, errors),
         None => Ok(()),
     }
 }
 
-// Lists the faults of all leaves of an ambiguous set.
-fn list_set(
-    alloc: Global,
-    leaves: &[Leaf<'_>],
-    set: &[LeafId],
-    errors: &mut Errors,
-) -> Result<(), Memory>
+/// Reports all leaves of an ambiguous set.
+fn report_set(leaves: &[Leaf<'_>], set: &[LeafId], errors: &mut Errors) -> Result<(), Memory>
     ensures { OnOk result (errors.new ≡ errors.old ++ flat_map (disambiguation_faults
         (map named_leaf leaves.now) (numbers set.now)) (numbers set.now)) }
 {
     for number in set {
-        list_numbered(alloc, leaves, set, *number, errors)?;
+        report_numbered(leaves, set, *number, errors)?;
     }
     Ok(())
 }
 
-// Lists the fault of a leaf that can match nothing.
-fn list_empty(alloc: Global, leaf: &Leaf<'_>, errors: &mut Errors) -> Result<(), Memory>
+/// Reports a leaf that can match the empty string.
+fn report_empty(leaf: &Leaf<'_>, errors: &mut Errors) -> Result<(), Memory>
     ensures { OnOk result (errors.new ≡ errors.old ++ empty_match_faults (named_leaf leaf.now)) }
 {
+    let alloc = errors.alloc();
     let text = format!(in alloc;
         "The pattern {leaf} can match the empty string, which is unsupported by logos."
     )?;
     errors.err(FaultCode::EmptyMatch, text.as_str(), leaf.span)
 }
 
-// Lists the fault of the leaf with this number, if there is one.
-fn list_empty_match(
-    alloc: Global,
+/// Reports the leaf with this number as one that can match the empty string, if there is one.
+fn report_empty_match(
     leaves: &[Leaf<'_>],
     number: LeafId,
     errors: &mut Errors,
@@ -147,26 +140,25 @@ fn list_empty_match(
         (map named_leaf leaves.now) number.0) []) }
 {
     match leaf_at(leaves, number) {
-        Some(leaf) => list_empty(alloc, leaf, errors),
+        Some(leaf) => report_empty(leaf, errors),
         None => Ok(()),
     }
 }
 
-/// Lists a fault of the leaves' graph. `item` is the span of the whole enum.
-pub(crate) fn list_fault(
-    alloc: Global,
+/// Reports a fault of the graph of these leaves. `item` is the span of the whole enum.
+pub(crate) fn report_fault(
     leaves: &[Leaf<'_>],
     item: Span,
     fault: &GraphError,
     errors: &mut Errors,
 ) -> Result<(), Memory>
-    ensures { OnOk result (errors.new ≡ errors.old ++ listed_of (map named_leaf leaves.now) item
+    ensures { OnOk result (errors.new ≡ errors.old ++ reported_as (map named_leaf leaves.now) item
         (fault_of fault.now)) }
 {
     match fault {
         GraphError::NoUniversalStart => errors.err(FaultCode::NoUniversalStart, START, item),
-        GraphError::EmptyMatch(leaf) => list_empty_match(alloc, leaves, *leaf, errors),
-        GraphError::Disambiguation(set) => list_set(alloc, leaves, set, errors),
+        GraphError::EmptyMatch(leaf) => report_empty_match(leaves, *leaf, errors),
+        GraphError::Disambiguation(set) => report_set(leaves, set, errors),
     }
 }
 

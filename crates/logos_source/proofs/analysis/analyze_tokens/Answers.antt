@@ -1,6 +1,6 @@
 use Rattle.logos_source.proofs.RefusalLemmas.{misread_ends}
 use Rattle.logos_token.specs.Views.{stream_tokens}
-use Rattle.logos_source.proofs.said.tokens_said.Goals as goal
+use Rattle.logos_source.proofs.analysis.analyze_tokens.Goals as goal
 
 pub returns-in-Err-clause-err : goal.returns-in-Err-clause-err
 returns-in-Err-clause-err c =

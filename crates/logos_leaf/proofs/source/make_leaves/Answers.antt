@@ -4,10 +4,10 @@ use Rattle.logos_type_params.specs.SelfReference.{texts}
 use Rattle.logos_type_params.specs.WrittenTypes.{params_with}
 use Rattle.logos_subpattern.specs.SubpatternViews.{names_of}
 use Rattle.logos_leaf.proofs.VariantLemmas.{param_values}
-use Rattle.logos_leaf.proofs.source.read_leaves.Goals as goal
+use Rattle.logos_leaf.proofs.source.make_leaves.Goals as goal
 
-pub returns-in-Ok-clause-said : goal.returns-in-Ok-clause-said
-returns-in-Ok-clause-said c =
+pub returns-in-Ok-clause-leaves : goal.returns-in-Ok-clause-leaves
+returns-in-Ok-clause-leaves c =
     IfOk-weaker c.leaves_with.result _ _ (λ leaves made. record {
       params = params_with c.args.parser.now.types (texts c.in_ok-held.held.keys);
       names = names_of c.in-Ok.subpatterns;

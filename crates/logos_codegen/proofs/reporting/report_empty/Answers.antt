@@ -1,6 +1,6 @@
 use Rattle.std.proofs.Common.{◌≡◌, ◌∙◌, string_bytes}
 use Rattle.logos_codegen.specs.Texts.{named_leaf, empty_match_text}
-use Rattle.logos_codegen.proofs.texts.list_empty.Goals as goal
+use Rattle.logos_codegen.proofs.reporting.report_empty.Goals as goal
 
 pub returns : goal.returns
 returns c =
