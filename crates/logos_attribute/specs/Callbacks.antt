@@ -6,7 +6,7 @@ use Rattle.logos_token.specs.declared.error.fault_code.FaultCode.TheVariants.{Ca
 use Rattle.logos_token.specs.Tokens.{TokenList, identifier, group, none, also, run_span}
 use Rattle.logos_token.specs.Punctuation.{is_alone}
 use Rattle.logos_attribute.specs.Slices.{Slice}
-use Rattle.logos_attribute.specs.Told.{Told, telling, quiet, fault, fault_also, only}
+use Rattle.logos_attribute.specs.Reports.{Report, with_faults, without_faults, fault, fault_also, only}
 
 -- `|`
 abbrev pub bar : ℕ
@@ -51,8 +51,8 @@ callback_in (also first rest) =
     else Ok (label (also first rest))
 
 -- a callback without a name; none where there is a fault
-abbrev pub callback_told : TokenList → Told (Option CallbackView)
-callback_told run = elim (callback_in run) [ Ok callback ↦ quiet (Some callback) | Err cause ↦ telling None (only cause) ]
+abbrev pub callback_report : TokenList → Report (Option CallbackView)
+callback_report run = elim (callback_in run) [ Ok callback ↦ without_faults (Some callback) | Err cause ↦ with_faults None (only cause) ]
 
 abbrev pub callback_twice : Slice → (here : Span) → Fault
 callback_twice name here = fault_also CallbackTwice (codes "Callback has been already set") here name.span
@@ -75,8 +75,8 @@ callback_again name run None = []
 callback_again name run (Some former) = twice_at name (run_span run) (view_span former)
 
 -- `callback = run` behind what was said before: the new one stands
-abbrev pub callback_set : Slice → TokenList → Option CallbackView → Told (Option CallbackView)
+abbrev pub callback_set : Slice → TokenList → Option CallbackView → Report (Option CallbackView)
 callback_set name run former = elim (callback_in run) [
-  | Ok callback ↦ telling (Some callback) (callback_again name run former)
-  | Err cause ↦ telling former (cause ∷ callback_value_fault run ∷ [])
+  | Ok callback ↦ with_faults (Some callback) (callback_again name run former)
+  | Err cause ↦ with_faults former (cause ∷ callback_value_fault run ∷ [])
 ]

@@ -11,7 +11,7 @@ use Rattle.logos_attribute.specs.declared.nested.Nested.{Nested}
 use Rattle.logos_attribute.specs.declared.nested.Nested.TheVariants.{Unnamed, Named, Unexpected}
 use Rattle.logos_attribute.specs.declared.nested.AttributeParser.{AttributeParser}
 use Rattle.logos_attribute.specs.Slices.{ident_slice, literal_slice}
-use Rattle.logos_attribute.specs.Pieces.{PieceValue, assigned, beside, grouped, keyed, Piece, unnamed, named, unexpected, pieces, behind_group, rest_after_piece, rest_after_group}
+use Rattle.logos_attribute.specs.Pieces.{PieceValue, assigned, beside, grouped, keyed, Piece, unnamed, named, unexpected, pieces, after_group, rest_after_piece, rest_after_group}
 
 abbrev pub value_of : NestedValue → PieceValue
 value_of (Assign run) = assigned (tokens_of run)
@@ -26,11 +26,11 @@ piece_of (Unexpected run) = unexpected (tokens_of run)
 
 -- the pieces that are still to come
 abbrev pub pieces_left : AttributeParser → List Piece
-pieces_left parser = if parser.behind_group then behind_group (tokens_of parser.rest) else pieces (tokens_of parser.rest)
+pieces_left parser = if parser.after_group then after_group (tokens_of parser.rest) else pieces (tokens_of parser.rest)
 
 -- the tokens that are left after the next piece
 abbrev pub rest_after : AttributeParser → TokenList
-rest_after parser = if parser.behind_group then rest_after_group (tokens_of parser.rest) else rest_after_piece (tokens_of parser.rest)
+rest_after parser = if parser.after_group then rest_after_group (tokens_of parser.rest) else rest_after_piece (tokens_of parser.rest)
 
 -- the parser gives the first of the pieces that it has still to give, and takes the comma that ends it; or there is none, and nothing changes
 abbrev pub GivesNext : AttributeParser → Option Nested → AttributeParser → Type 0

@@ -4,8 +4,8 @@
 
 pub mod callback;
 pub mod flags;
-pub mod listing;
 pub mod literal;
 pub mod nested;
 pub mod parsed;
+pub mod reporting;
 pub mod value;

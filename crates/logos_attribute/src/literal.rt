@@ -2,13 +2,13 @@
 ghost use Rattle.std.specs.Prelude.{◌≡◌, OnOk, OnErr, IfOk, option_map};
 ghost use Rattle.logos_token.specs.Views.{tokens_of};
 ghost use Rattle.logos_attribute.specs.Slices.{literal_slice};
-ghost use Rattle.logos_attribute.specs.Told.{Tells, Lists};
-ghost use Rattle.logos_attribute.specs.Literals.{literal_syntax, not_text, text_in, text_told};
-ghost use Rattle.logos_attribute.specs.Literals.{literal_told, string_in};
+ghost use Rattle.logos_attribute.specs.Reports.{IsReport, AddsFault};
+ghost use Rattle.logos_attribute.specs.Literals.{literal_syntax, not_text, text_in, text_report};
+ghost use Rattle.logos_attribute.specs.Literals.{literal_report, string_in};
 ghost use Rattle.logos_attribute.specs.LiteralViews.{literal_view};
 
-use crate::listing::list_run;
 use crate::nested::split;
+use crate::reporting::report_run;
 use logos_pattern::pattern::Literal;
 use logos_token::error::{Errors, FaultCode, Memory};
 use logos_token::token;
@@ -16,10 +16,10 @@ use logos_token::token::{TokenTree, Tokens};
 use std::alloc::Global;
 
 /// Lists a literal that is neither a string nor a byte string.
-fn list_not_text(token: token::Literal<'_>, errors: &mut Errors) -> Result<(), Memory>
+fn report_not_text(token: token::Literal<'_>, errors: &mut Errors) -> Result<(), Memory>
     ensures ok { OnOk result
-        (Lists (not_text (literal_slice token.entry)) errors.old errors.new) }
-    ensures unlisted { OnErr result (errors.new ≡ errors.old) }
+        (AddsFault (not_text (literal_slice token.entry)) errors.old errors.new) }
+    ensures unreported { OnErr result (errors.new ≡ errors.old) }
 {
     errors.err(
         FaultCode::NotText,
@@ -30,12 +30,12 @@ fn list_not_text(token: token::Literal<'_>, errors: &mut Errors) -> Result<(), M
 }
 
 /// Lists that a run is no literal. After `Memory` the faults are as before.
-pub fn list_syntax(tokens: Tokens<'_, '_>, errors: &mut Errors) -> Result<(), Memory>
+pub fn report_syntax(tokens: Tokens<'_, '_>, errors: &mut Errors) -> Result<(), Memory>
     ensures ok { OnOk result
-        (Lists (literal_syntax (tokens_of tokens.entry)) errors.old errors.new) }
-    ensures unlisted { OnErr result (errors.new ≡ errors.old) }
+        (AddsFault (literal_syntax (tokens_of tokens.entry)) errors.old errors.new) }
+    ensures unreported { OnErr result (errors.new ≡ errors.old) }
 {
-    list_run(
+    report_run(
         errors,
         FaultCode::LiteralSyntax,
         "expected a literal",
@@ -59,12 +59,12 @@ pub fn read_text<'s>(
     errors: &mut Errors,
 ) -> Result<Option<Literal<'s>>, Memory>
     ensures ok { IfOk result (λ literal.
-        Tells (text_told (literal_slice token.entry))
+        IsReport (text_report (literal_slice token.entry))
         (option_map literal_view literal) errors.old errors.new) }
-    ensures unlisted { OnErr result (errors.new ≡ errors.old) }
+    ensures unreported { OnErr result (errors.new ≡ errors.old) }
 {
     let Some(literal) = text_in(alloc, token)? else {
-        list_not_text(token, errors)?;
+        report_not_text(token, errors)?;
         return Ok(None);
     };
     Ok(Some(literal))
@@ -78,9 +78,9 @@ pub fn read_literal<'s>(
     errors: &mut Errors,
 ) -> Result<Option<Literal<'s>>, Memory>
     ensures ok { IfOk result (λ literal.
-        Tells (literal_told (tokens_of tokens.entry))
+        IsReport (literal_report (tokens_of tokens.entry))
         (option_map literal_view literal) errors.old errors.new) }
-    ensures unlisted { OnErr result (errors.new ≡ errors.old) }
+    ensures unreported { OnErr result (errors.new ≡ errors.old) }
 {
     match split(tokens) {
         None => Ok(None),
@@ -88,7 +88,7 @@ pub fn read_literal<'s>(
             read_text(alloc, token, errors)
         }
         Some(_) => {
-            list_syntax(tokens, errors)?;
+            report_syntax(tokens, errors)?;
             Ok(None)
         }
     }

@@ -7,10 +7,10 @@ ghost use Rattle.logos_token.specs.Views.{tokens_of};
 ghost use Rattle.logos_type.specs.TypeTrees.{type_tree};
 ghost use Rattle.logos_type_params.specs.TypeParams.{ReadsValue};
 ghost use Rattle.logos_attribute.specs.LiteralViews.{literal_view};
-ghost use Rattle.logos_attribute.specs.Literals.{literal_told};
+ghost use Rattle.logos_attribute.specs.Literals.{literal_report};
 ghost use Rattle.logos_attribute.specs.Nested.{pieces_left};
-ghost use Rattle.logos_attribute.specs.Pieces.{up_to_comma, behind_comma, pieces};
-ghost use Rattle.logos_attribute.specs.Told.{Tells};
+ghost use Rattle.logos_attribute.specs.Pieces.{up_to_comma, after_comma, pieces};
+ghost use Rattle.logos_attribute.specs.Reports.{IsReport};
 
 use crate::literal::read_literal;
 use crate::nested::AttributeParser;
@@ -43,14 +43,14 @@ pub trait FromRun<'s>: Sized {
     ) -> Result<Option<Self>, Memory>
         ensures read { IfOk result (λ read.
             is_read (tokens_of run.entry) read errors.old errors.new) }
-        ensures unlisted { OnErr result (errors.new ≡ errors.old) };
+        ensures unreported { OnErr result (errors.new ≡ errors.old) };
 }
 
 /// Reads a string or a byte string. Reports another literal as `NotText` at the literal, and another
 /// run as `LiteralSyntax` at the run.
 impl<'s> FromRun<'s> for Literal<'s> {
     ghost is_read = { λ run read old new.
-        Tells (literal_told run) (option_map literal_view read) old new };
+        IsReport (literal_report run) (option_map literal_view read) old new };
 
     fn from_run(
         alloc: Global,
@@ -95,19 +95,19 @@ impl<'t, 's> AttributeParser<'t, 's> {
             IfOk result (λ read. MatchOption read ⊥ (λ answer. T.is_read
             (up_to_comma (tokens_of self.old.rest)) (result_ok answer) errors.old errors.new)) }
         ensures pieces { OnOk result
-            (pieces_left self.new ≡ pieces (behind_comma (tokens_of self.old.rest))) }
+            (pieces_left self.new ≡ pieces (after_comma (tokens_of self.old.rest))) }
         ensures rest { OnOk result
-            (tokens_of self.new.rest ≡ behind_comma (tokens_of self.old.rest)) }
+            (tokens_of self.new.rest ≡ after_comma (tokens_of self.old.rest)) }
         ensures kept { OnErr result (self.new ≡ self.old) }
-        ensures unlisted { OnErr result (errors.new ≡ errors.old) }
+        ensures unreported { OnErr result (errors.new ≡ errors.old) }
     {
-        let mut behind = *self;
-        let Some(run) = behind.run() else {
-            *self = behind;
+        let mut after = *self;
+        let Some(run) = after.run() else {
+            *self = after;
             return Ok(None);
         };
         let read = T::from_run(alloc, run, errors)?;
-        *self = behind;
+        *self = after;
         match read {
             Some(value) => Ok(Some(Ok(value))),
             None => Ok(Some(Err(Reported))),

@@ -10,8 +10,8 @@ use Rattle.logos_type.specs.Parts.{Tree}
 use Rattle.logos_type.specs.Printed.{printed_type}
 use Rattle.logos_attribute.specs.Slices.{Slice}
 use Rattle.logos_attribute.specs.Pieces.{PieceValue, assigned, Piece, unnamed, named, unexpected}
-use Rattle.logos_attribute.specs.Told.{Told, telling, quiet, and_then, told_as, fault_about, only}
-use Rattle.logos_attribute.specs.Callbacks.{CallbackView, callback_told, callback_set}
+use Rattle.logos_attribute.specs.Reports.{Report, with_faults, without_faults, and_then, map_report, fault_about, only}
+use Rattle.logos_attribute.specs.Callbacks.{CallbackView, callback_report, callback_set}
 use Rattle.logos_definition.specs.Definitions.{callback_form, named_expected, unexpected_token}
 
 -- the type of errors, which is `()` where no tokens are given, the type as it was read from these tokens, if it was, and the callback that makes an error, if
@@ -57,24 +57,24 @@ error_span e = run_place e.type_run
 abbrev pub unknown_error_argument : Slice → Fault
 unknown_error_argument name = fault_about UnknownNested (codes "Unknown nested attribute: ") name (codes "\n\nExpected one of: callback")
 
-abbrev pub error_callback_told : Slice → PieceValue → ErrorView → Told ErrorView
-error_callback_told name (assigned run) e = told_as (λ callback. record e { callback = callback }) (callback_set name run e.callback)
-error_callback_told name value e = telling e (only (callback_form name))
+abbrev pub error_callback_report : Slice → PieceValue → ErrorView → Report ErrorView
+error_callback_report name (assigned run) e = map_report (λ callback. record e { callback = callback }) (callback_set name run e.callback)
+error_callback_report name value e = with_faults e (only (callback_form name))
 
 -- a named argument of `error(..)`
-abbrev pub error_named_told : Slice → PieceValue → ErrorView → Told ErrorView
-error_named_told name value e =
-    if bytes_eq name.text (codes "callback") then error_callback_told name value e
-    else telling e (only (unknown_error_argument name))
+abbrev pub error_named_report : Slice → PieceValue → ErrorView → Report ErrorView
+error_named_report name value e =
+    if bytes_eq name.text (codes "callback") then error_callback_report name value e
+    else with_faults e (only (unknown_error_argument name))
 
 -- an argument behind the type of `error(..)`; only the first of them may be a callback without a name
-abbrev pub error_argument_told : Bool → Piece → ErrorView → Told ErrorView
-error_argument_told first (unexpected run) e = telling e (only (unexpected_token run))
-error_argument_told true (unnamed run) e = told_as (λ callback. record e { callback = callback }) (callback_told run)
-error_argument_told false (unnamed run) e = telling e (only (named_expected run))
-error_argument_told first (named name value) e = error_named_told name value e
+abbrev pub error_argument_report : Bool → Piece → ErrorView → Report ErrorView
+error_argument_report first (unexpected run) e = with_faults e (only (unexpected_token run))
+error_argument_report true (unnamed run) e = map_report (λ callback. record e { callback = callback }) (callback_report run)
+error_argument_report false (unnamed run) e = with_faults e (only (named_expected run))
+error_argument_report first (named name value) e = error_named_report name value e
 
 -- all arguments behind the type
-abbrev pub error_arguments_told : Bool → List Piece → ErrorView → Told ErrorView
-error_arguments_told first [] e = quiet e
-error_arguments_told first (piece ∷ rest) e = and_then (error_argument_told first piece e) (error_arguments_told false rest)
+abbrev pub error_arguments_report : Bool → List Piece → ErrorView → Report ErrorView
+error_arguments_report first [] e = without_faults e
+error_arguments_report first (piece ∷ rest) e = and_then (error_argument_report first piece e) (error_arguments_report false rest)

@@ -17,14 +17,14 @@ pub record Meta : Type 0 where
   pub arguments : Option TokenList
 
 -- behind a name: nothing, a group, or `=` and a value; where the path goes on, it is no name
-abbrev pub behind_name : Slice → TokenList → Option Meta
-behind_name name (also (group delimiter span inside) rest) = Some (record { name = name; arguments = Some inside })
-behind_name name (also (punctuation character spacing span) rest) = if character == colon then None else Some (record { name = name; arguments = None })
-behind_name name run = Some (record { name = name; arguments = None })
+abbrev pub after_name : Slice → TokenList → Option Meta
+after_name name (also (group delimiter span inside) rest) = Some (record { name = name; arguments = Some inside })
+after_name name (also (punctuation character spacing span) rest) = if character == colon then None else Some (record { name = name; arguments = None })
+after_name name run = Some (record { name = name; arguments = None })
 
 -- what the brackets of an attribute hold
 abbrev pub meta_inside : TokenList → Option Meta
-meta_inside (also (identifier text span) rest) = behind_name (record { text = text; span = span }) rest
+meta_inside (also (identifier text span) rest) = after_name (record { text = text; span = span }) rest
 meta_inside run = None
 
 -- what an attribute is; a documentation comment has no name

@@ -6,7 +6,7 @@ use Rattle.logos_token.specs.declared.error.fault_code.FaultCode.TheVariants.{In
 use Rattle.logos_token.specs.Faults.{Fault}
 use Rattle.logos_token.specs.Tokens.{TokenList, run_span}
 use Rattle.logos_attribute.specs.Slices.{Slice}
-use Rattle.logos_attribute.specs.Told.{fault, fault_about}
+use Rattle.logos_attribute.specs.Reports.{fault, fault_about}
 
 -- something is said a second time: here, and there before
 abbrev pub once_only : FaultCode → List ℕ → (here there : Span) → List Fault

@@ -30,4 +30,4 @@ parser_view p = record {
 
 -- a call found a parser that had not failed, and left it so
 abbrev pub HasNotFailed : Parser → Parser → Type 0
-HasNotFailed before behind = (before.failed ≡ false) × (behind.failed ≡ false)
+HasNotFailed before after = (before.failed ≡ false) × (after.failed ≡ false)

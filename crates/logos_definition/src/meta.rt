@@ -3,7 +3,7 @@ ghost use Rattle.std.specs.Prelude.{◌≡◌, MatchOption, None, Some};
 ghost use Rattle.logos_token.specs.Views.{tokens_of};
 ghost use Rattle.logos_attribute.specs.Slices.{ident_slice};
 ghost use Rattle.logos_item.specs.AttributeValues.{attribute_value};
-ghost use Rattle.logos_definition.specs.Metas.{behind_name, meta_of, meta_view};
+ghost use Rattle.logos_definition.specs.Metas.{after_name, meta_of, meta_view};
 
 use logos_attribute::nested::split;
 use logos_item::Attribute;
@@ -18,10 +18,10 @@ pub struct Meta<'t, 's> {
 }
 
 /// What stands behind the name of an attribute; `None` where the path goes on.
-fn behind_name<'t, 's>(name: Ident<'s>, tokens: Tokens<'t, 's>) -> Option<Meta<'t, 's>>
+fn after_name<'t, 's>(name: Ident<'s>, tokens: Tokens<'t, 's>) -> Option<Meta<'t, 's>>
     ensures { MatchOption result
-        (behind_name (ident_slice name.entry) (tokens_of tokens.entry) ≡ None)
-        (λ meta. behind_name (ident_slice name.entry) (tokens_of tokens.entry)
+        (after_name (ident_slice name.entry) (tokens_of tokens.entry) ≡ None)
+        (λ meta. after_name (ident_slice name.entry) (tokens_of tokens.entry)
         ≡ Some (meta_view meta)) }
 {
     match tokens.first() {
@@ -45,7 +45,7 @@ pub fn meta_of<'t, 's>(attribute: Attribute<'t, 's>) -> Option<Meta<'t, 's>>
         (λ meta. meta_of (attribute_value attribute.entry) ≡ Some (meta_view meta)) }
 {
     match split(attribute.inside?)? {
-        (TokenTree::Ident(name), rest) => behind_name(name, rest),
+        (TokenTree::Ident(name), rest) => after_name(name, rest),
         _ => None,
     }
 }

@@ -60,19 +60,19 @@ impl<'s> Parser<'s> {
     ghost use Rattle.std.specs.Prelude.{◌≡◌, IfOk, OnOk, OnErr, option_map, true, false, []};
     ghost use Rattle.logos_token.specs.Views.{tokens_of};
     ghost use Rattle.logos_attribute.specs.Slices.{literal_slice};
-    ghost use Rattle.logos_attribute.specs.Told.{Tells, Lists, fault};
+    ghost use Rattle.logos_attribute.specs.Reports.{IsReport, AddsFault, fault};
     ghost use Rattle.logos_attribute.specs.Pieces.{pieces};
-    ghost use Rattle.logos_attribute.specs.Literals.{text_told};
+    ghost use Rattle.logos_attribute.specs.Literals.{text_report};
     ghost use Rattle.logos_attribute.specs.LiteralViews.{literal_view};
-    ghost use Rattle.logos_definition.specs.Definitions.{definition_told};
+    ghost use Rattle.logos_definition.specs.Definitions.{definition_report};
     ghost use Rattle.logos_definition.specs.DefinitionViews.{definition_view};
-    ghost use Rattle.logos_definition.specs.Options.{nothing_said};
+    ghost use Rattle.logos_definition.specs.Options.{no_options};
     ghost use Rattle.logos_definition.specs.Arguments.{PiecesSay};
     ghost use Rattle.logos_definition.specs.ParserViews.{parser_view, HasNotFailed};
 
     /// A parser to which nothing was said. What is read later takes memory from `alloc`.
     pub fn new(alloc: Global) -> Parser<'s>
-        ensures said { parser_view result ≡ nothing_said }
+        ensures said { parser_view result ≡ no_options }
         ensures errors { result.errors ≡ [] }
         ensures failed { result.failed ≡ false }
     {
@@ -111,7 +111,7 @@ impl<'s> Parser<'s> {
     /// Adds a fault behind the others. After `Memory` the parser has failed.
     pub fn err(&mut self, code: FaultCode, message: &str, span: Span) -> Result<(), Memory>
         ensures ok { OnOk result
-            (Lists (fault code message.now span) self.old.errors self.new.errors) }
+            (AddsFault (fault code message.now span) self.old.errors self.new.errors) }
         ensures kept { OnOk result (parser_view self.new ≡ parser_view self.old) }
         ensures going { OnOk result (HasNotFailed self.old self.new) }
         ensures err { OnErr result (self.new.failed ≡ true) }
@@ -130,8 +130,8 @@ impl<'s> Parser<'s> {
         &mut self,
         literal: token::Literal<'s>,
     ) -> Result<Option<Literal<'s>>, Memory>
-        ensures ok { IfOk result (λ read. Tells
-            (text_told (literal_slice literal.entry)) (option_map literal_view read)
+        ensures ok { IfOk result (λ read. IsReport
+            (text_report (literal_slice literal.entry)) (option_map literal_view read)
             self.old.errors self.new.errors) }
         ensures kept { OnOk result (parser_view self.new ≡ parser_view self.old) }
         ensures going { OnOk result (HasNotFailed self.old self.new) }
@@ -151,8 +151,8 @@ impl<'s> Parser<'s> {
         &mut self,
         tokens: Tokens<'_, 's>,
     ) -> Result<Option<Definition<'s>>, Memory>
-        ensures ok { IfOk result (λ definition. Tells
-            (definition_told (tokens_of tokens.entry)) (option_map definition_view definition)
+        ensures ok { IfOk result (λ definition. IsReport
+            (definition_report (tokens_of tokens.entry)) (option_map definition_view definition)
             self.old.errors self.new.errors) }
         ensures kept { OnOk result (parser_view self.new ≡ parser_view self.old) }
         ensures going { OnOk result (HasNotFailed self.old self.new) }
@@ -161,7 +161,7 @@ impl<'s> Parser<'s> {
         if self.failed {
             return Err(Memory);
         }
-        let outcome = read_definition(self.alloc, tokens, &mut self.errors);
+        let outcome = read_definition(tokens, &mut self.errors);
         self.failed = outcome.is_err();
         outcome
     }
@@ -170,9 +170,9 @@ impl<'s> Parser<'s> {
 impl<'s> Definition<'s> {
     ghost use Rattle.std.specs.Prelude.{◌≡◌, OnOk, OnErr, true};
     ghost use Rattle.logos_attribute.specs.Slices.{ident_slice};
-    ghost use Rattle.logos_attribute.specs.Told.{Tells};
+    ghost use Rattle.logos_attribute.specs.Reports.{IsReport};
     ghost use Rattle.logos_attribute.specs.Nested.{value_of};
-    ghost use Rattle.logos_definition.specs.Definitions.{named_told};
+    ghost use Rattle.logos_definition.specs.Definitions.{named_report};
     ghost use Rattle.logos_definition.specs.DefinitionViews.{definition_view};
     ghost use Rattle.logos_definition.specs.ParserViews.{parser_view, HasNotFailed};
 
@@ -180,13 +180,14 @@ impl<'s> Definition<'s> {
     /// After `Memory` the parser has failed, and the definition is as before.
     pub fn named_attr(
         &mut self,
-        alloc: Global,
+        _alloc: Global,
         name: Ident<'s>,
         value: NestedValue<'_, 's>,
         parser: &mut Parser<'s>,
     ) -> Result<(), Memory>
-        ensures ok { OnOk result (Tells
-            (named_told (ident_slice name.entry) (value_of value.entry) (definition_view self.old))
+        ensures ok { OnOk result (IsReport
+            (named_report (ident_slice name.entry) (value_of value.entry)
+            (definition_view self.old))
             (definition_view self.new) parser.old.errors parser.new.errors) }
         ensures kept { OnOk result (parser_view parser.new ≡ parser_view parser.old) }
         ensures going { OnOk result (HasNotFailed parser.old parser.new) }
@@ -196,7 +197,7 @@ impl<'s> Definition<'s> {
         if parser.failed {
             return Err(Memory);
         }
-        let outcome = self.add_named(alloc, name, value, &mut parser.errors);
+        let outcome = self.add_named(name, &value, &mut parser.errors);
         parser.failed = outcome.is_err();
         outcome
     }
@@ -205,9 +206,9 @@ impl<'s> Definition<'s> {
 impl<'s> ErrorType<'s> {
     ghost use Rattle.std.specs.Prelude.{◌≡◌, OnOk, OnErr, true};
     ghost use Rattle.logos_attribute.specs.Slices.{ident_slice};
-    ghost use Rattle.logos_attribute.specs.Told.{Tells};
+    ghost use Rattle.logos_attribute.specs.Reports.{IsReport};
     ghost use Rattle.logos_attribute.specs.Nested.{value_of};
-    ghost use Rattle.logos_definition.specs.ErrorTypes.{error_named_told};
+    ghost use Rattle.logos_definition.specs.ErrorTypes.{error_named_report};
     ghost use Rattle.logos_definition.specs.ErrorTypeViews.{error_view};
     ghost use Rattle.logos_definition.specs.ParserViews.{parser_view, HasNotFailed};
 
@@ -215,13 +216,14 @@ impl<'s> ErrorType<'s> {
     /// After `Memory` the parser has failed, and the type is as before.
     pub fn named_attr(
         &mut self,
-        alloc: Global,
+        _alloc: Global,
         name: Ident<'s>,
         value: NestedValue<'_, 's>,
         parser: &mut Parser<'s>,
     ) -> Result<(), Memory>
-        ensures ok { OnOk result (Tells
-            (error_named_told (ident_slice name.entry) (value_of value.entry) (error_view self.old))
+        ensures ok { OnOk result (IsReport
+            (error_named_report (ident_slice name.entry) (value_of value.entry)
+            (error_view self.old))
             (error_view self.new) parser.old.errors parser.new.errors) }
         ensures kept { OnOk result (parser_view parser.new ≡ parser_view parser.old) }
         ensures going { OnOk result (HasNotFailed parser.old parser.new) }
@@ -231,7 +233,7 @@ impl<'s> ErrorType<'s> {
         if parser.failed {
             return Err(Memory);
         }
-        let outcome = self.add_named(alloc, name, value, &mut parser.errors);
+        let outcome = self.add_named(name, &value, &mut parser.errors);
         parser.failed = outcome.is_err();
         outcome
     }
@@ -241,8 +243,8 @@ impl IgnoreFlags {
     ghost use Rattle.std.specs.Prelude.{◌≡◌, OnOk, OnErr, true, false};
     ghost use Rattle.logos_token.specs.Views.{tokens_of};
     ghost use Rattle.logos_attribute.specs.Slices.{ident_slice};
-    ghost use Rattle.logos_attribute.specs.Told.{Tells};
-    ghost use Rattle.logos_attribute.specs.Flags.{flags_told};
+    ghost use Rattle.logos_attribute.specs.Reports.{IsReport};
+    ghost use Rattle.logos_attribute.specs.Flags.{flags_report};
     ghost use Rattle.logos_definition.specs.ParserViews.{parser_view, HasNotFailed};
 
     /// Sets the flags in the group behind `ignore`, whose name is given, and lists the first fault
@@ -250,13 +252,13 @@ impl IgnoreFlags {
     /// failed, and the flags are as before.
     pub fn parse_group<'s>(
         &mut self,
-        alloc: Global,
+        _alloc: Global,
         name: Ident<'s>,
         tokens: Tokens<'_, 's>,
         parser: &mut Parser<'s>,
     ) -> Result<(), Memory>
-        ensures ok { OnOk result (Tells
-            (flags_told (ident_slice name.entry) false self.old.ignore_case
+        ensures ok { OnOk result (IsReport
+            (flags_report (ident_slice name.entry) false self.old.ignore_case
             (tokens_of tokens.entry))
             self.new.ignore_case parser.old.errors parser.new.errors) }
         ensures kept { OnOk result (parser_view parser.new ≡ parser_view parser.old) }
@@ -267,13 +269,7 @@ impl IgnoreFlags {
         if parser.failed {
             return Err(Memory);
         }
-        let outcome = read_flags(
-            alloc,
-            &mut self.ignore_case,
-            name,
-            tokens,
-            &mut parser.errors,
-        );
+        let outcome = read_flags(&mut self.ignore_case, name, tokens, &mut parser.errors);
         parser.failed = outcome.is_err();
         outcome
     }

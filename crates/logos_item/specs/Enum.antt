@@ -4,50 +4,50 @@ use Rattle.std.specs.Str.{bytes_eq}
 use Rattle.logos_lexeme.specs.declared.lexeme.Delimiter.TheVariants.{Brace}
 use Rattle.logos_token.specs.Tokens.{TokenList, identifier, punctuation, group, none, also, append, run_span}
 use Rattle.logos_type.specs.Parts.{Tree}
-use Rattle.logos_type_reader.specs.Table.{Fault, unsupported, misfit as type_misfit, too_deep}
+use Rattle.logos_type_reader.specs.Table.{Fault, unsupported, mismatch as type_mismatch, too_deep}
 use Rattle.logos_type_reader.specs.declared.reading.TypeFault.{TypeFault}
 use Rattle.logos_type_reader.specs.declared.reading.TypeFault.TheVariants as faults
 use Rattle.logos_type_reader.specs.TypeExprs.{IsTypeExpr, NoTypeExpr}
 use Rattle.logos_item.specs.declared.error.ReadError.{ReadError}
 use Rattle.logos_item.specs.declared.error.ReadError.TheVariants.{NotAnEnum, Grammar, TypeUnsupported, LimitTypeNesting, Memory}
 use Rattle.logos_item.specs.declared.extents.End.TheVariants.{OfField}
-use Rattle.logos_item.specs.Attributes.{Attributes, behind_visibility, announced_in, IsFront}
-use Rattle.logos_item.specs.Extents.{behind_extent}
+use Rattle.logos_item.specs.Attributes.{Attributes, after_visibility, announced_in, IsFront}
+use Rattle.logos_item.specs.Extents.{after_extent}
 use Rattle.logos_item.specs.Generics.{name_in, Generics}
 use Rattle.logos_item.specs.Groups.{Opened, parenthesis_in, brace_in}
 use Rattle.logos_item.specs.Marks.{comma, colon, equals, is_none}
-use Rattle.logos_item.specs.Rules.{Outcome, Rule, misfit, by, given, ◌>>=◌, Listed}
+use Rattle.logos_item.specs.Rules.{Outcome, Rule, mismatch, by, given, ◌>>=◌, Listed}
 use Rattle.logos_item.specs.Values.{Slice, ParameterValue}
 use Rattle.logos_item.specs.EnumValues.{Typed, FieldValue, FieldsValue, no_fields, in_parenthesis, in_braces, VariantValue, EnumValue}
 
 -- a fault of a type with these tokens
 abbrev pub type_error : TokenList → Fault → ReadError
 type_error run (unsupported span) = TypeUnsupported span
-type_error run (type_misfit span) = Grammar span
+type_error run (type_mismatch span) = Grammar span
 type_error run too_deep = LimitTypeNesting (run_span run)
 
 -- the error says what the fault does
 abbrev pub error_is : TokenList → TypeFault → ReadError → Type 0
 error_is run (faults.Unsupported span) error = error ≡ TypeUnsupported span
-error_is run (faults.Misfit span) error = error ≡ Grammar span
+error_is run (faults.Mismatch span) error = error ≡ Grammar span
 error_is run faults.LimitNesting error = error ≡ LimitTypeNesting (run_span run)
 error_is run faults.Memory error = error ≡ Memory
 
 -- The type of a field. Its tokens are all up to the comma that stands outside angle brackets, or to the end.
 pub data FieldType (run : TokenList) : Outcome Typed → Type 0 where
   fits : {type : Tree} {front rest : TokenList} →
-      IsTypeExpr run type rest → run ≡ append front (behind_extent OfField run) → FieldType run (Ok (record { type = type; run = front }, rest))
+      IsTypeExpr run type rest → run ≡ append front (after_extent OfField run) → FieldType run (Ok (record { type = type; run = front }, rest))
   fails : (fault : Fault) (front : TokenList) →
-      NoTypeExpr run fault → run ≡ append front (behind_extent OfField run) → FieldType run (Err (type_error front fault))
+      NoTypeExpr run fault → run ≡ append front (after_extent OfField run) → FieldType run (Err (type_error front fault))
 
 -- what is behind a visibility
 abbrev pub visibility_in : TokenList → Outcome (Unit {0})
-visibility_in run = Ok (tt, behind_visibility run)
+visibility_in run = Ok (tt, after_visibility run)
 
 -- `:`
 abbrev pub colon_in : TokenList → Outcome (Unit {0})
-colon_in (also (punctuation character spacing span) rest) = if character == colon then Ok (tt, rest) else misfit (also (punctuation character spacing span) rest)
-colon_in run = misfit run
+colon_in (also (punctuation character spacing span) rest) = if character == colon then Ok (tt, rest) else mismatch (also (punctuation character spacing span) rest)
+colon_in run = mismatch run
 
 -- where fields have names, a name and `:`
 abbrev pub label : Bool → Rule (Unit {0})
@@ -86,8 +86,8 @@ from_comma (also token rest) = from_comma rest
 
 -- one token or more in front of a comma, or of the end
 abbrev pub value_in : TokenList → Outcome (Unit {0})
-value_in none = misfit none
-value_in (also (punctuation character spacing span) rest) = if character == comma then misfit (also (punctuation character spacing span) rest) else Ok (tt, from_comma rest)
+value_in none = mismatch none
+value_in (also (punctuation character spacing span) rest) = if character == comma then mismatch (also (punctuation character spacing span) rest) else Ok (tt, from_comma rest)
 value_in (also token rest) = Ok (tt, from_comma rest)
 
 -- perhaps `=` and the number of a variant
@@ -122,12 +122,12 @@ where_in run = Ok (tt, run)
 pub data Body (run : TokenList) : Outcome (List VariantValue) → Type 0 where
   braced : (opened : Opened) (inner : Outcome (List VariantValue)) →
       brace_in run ≡ Some opened → variants opened.inside inner → Body run (within (λ (list : List VariantValue). list) opened.rest inner)
-  lacking : brace_in run ≡ None → Body run (misfit run)
+  lacking : brace_in run ≡ None → Body run (mismatch run)
 
 -- that no token is left
 abbrev pub end_in : TokenList → Outcome (Unit {0})
 end_in none = Ok (tt, none)
-end_in run = misfit run
+end_in run = mismatch run
 
 abbrev pub enum_of : TokenList → Slice → List ParameterValue → List VariantValue → EnumValue
 enum_of attributes name parameters list = record { attributes = attributes; name = name; parameters = parameters; variants = list }

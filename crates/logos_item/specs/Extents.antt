@@ -24,8 +24,8 @@ abbrev pub ends_arrow : Bool → ℕ → Bool
 ends_arrow arrow character = arrow && (character == greater)
 
 -- how many angle brackets are open behind a sign; the `>` of `->` closes none
-abbrev pub depth_behind : Bool → ℕ → ℕ → ℕ
-depth_behind arrow depth character =
+abbrev pub depth_after : Bool → ℕ → ℕ → ℕ
+depth_after arrow depth character =
     if character == less then depth + 1
     else (if (character == greater) && not arrow then depth - 1
     else depth)
@@ -35,20 +35,20 @@ abbrev pub is_end : End → Bool → ℕ → ℕ → Bool
 is_end end arrow depth character = (depth == 0) && (ends end character && not (ends_arrow arrow character))
 
 -- What is behind the extent, where so many angle brackets are open, and a sign may be the second of `->` or not.
-abbrev pub behind_from : End → Bool → ℕ → TokenList → TokenList
-behind_from end arrow depth none = none
-behind_from end arrow depth (also (punctuation character spacing span) rest) =
+abbrev pub after_from : End → Bool → ℕ → TokenList → TokenList
+after_from end arrow depth none = none
+after_from end arrow depth (also (punctuation character spacing span) rest) =
     if is_end end arrow depth character then also (punctuation character spacing span) rest
-    else behind_from end (begins_arrow character spacing) (depth_behind arrow depth character) rest
-behind_from end arrow depth (also token rest) = behind_from end false depth rest
+    else after_from end (begins_arrow character spacing) (depth_after arrow depth character) rest
+after_from end arrow depth (also token rest) = after_from end false depth rest
 
 -- what is behind the extent
-abbrev pub behind_extent : End → TokenList → TokenList
-behind_extent end run = behind_from end false 0 run
+abbrev pub after_extent : End → TokenList → TokenList
+after_extent end run = after_from end false 0 run
 
 -- one token of an extent is left behind, with the angle brackets that are open there
 pub record IsStep (end : End) (angles : Angles) (run : TokenList) (next : Angles) (rest : TokenList) : Type 0 where
-  pub same : behind_from end angles.arrow angles.depth run ≡ behind_from end next.arrow next.depth rest
+  pub same : after_from end angles.arrow angles.depth run ≡ after_from end next.arrow next.depth rest
   pub deeper : next.depth ≤ angles.depth + 1
   pub token : Token
   pub is : run ≡ also token rest

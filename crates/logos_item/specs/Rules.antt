@@ -13,8 +13,8 @@ abbrev pub Rule : Type 0 → Type 1
 Rule A = TokenList → Outcome A → Type 0
 
 -- nothing that stands here fits
-abbrev pub misfit : {A : Type 0} → TokenList → Outcome A
-misfit run = Err (Grammar (first_span run))
+abbrev pub mismatch : {A : Type 0} → TokenList → Outcome A
+mismatch run = Err (Grammar (first_span run))
 
 -- what a function finds
 abbrev pub by : {A : Type 0} → (TokenList → Outcome A) → Rule A
@@ -34,25 +34,25 @@ abbrev pub ◌>>=◌ : {A B : Type 0} → Rule A → (A → Rule B) → Rule B
 first >>= next = Then first next
 
 -- the tokens behind an item of a list: all where the list ends there, else those behind a comma of either spacing
-abbrev pub behind_item : (TokenList → Bool) → TokenList → Outcome (Unit {0})
-behind_item ends (also (punctuation character spacing span) rest) =
+abbrev pub after_item : (TokenList → Bool) → TokenList → Outcome (Unit {0})
+after_item ends (also (punctuation character spacing span) rest) =
     if ends (also (punctuation character spacing span) rest) then Ok (tt, also (punctuation character spacing span) rest)
     else (if character == comma then Ok (tt, rest)
-    else misfit (also (punctuation character spacing span) rest))
-behind_item ends run = if ends run then Ok (tt, run) else misfit run
+    else mismatch (also (punctuation character spacing span) rest))
+after_item ends run = if ends run then Ok (tt, run) else mismatch run
 
 -- with one more value in front
-abbrev pub behind : {A : Type 0} → A → Outcome (List A) → Outcome (List A)
-behind value (Ok read) = Ok (value ∷ read.0, read.1)
-behind value (Err error) = Err error
+abbrev pub after : {A : Type 0} → A → Outcome (List A) → Outcome (List A)
+after value (Ok read) = Ok (value ∷ read.0, read.1)
+after value (Err error) = Err error
 
 -- items with commas between them, and perhaps a comma behind the last, up to where such a list ends
 pub data Listed {A : Type 0} (ends : TokenList → Bool) (Item : Rule A) : TokenList → Outcome (List A) → Type 0 where
   ended : {run : TokenList} → ends run ≡ true → Listed ends Item run (Ok ([], run))
   further : {run rest next : TokenList} {value : A} {outcome : Outcome (List A)} →
-      ends run ≡ false → Item run (Ok (value, rest)) → behind_item ends rest ≡ Ok (tt, next) → Listed ends Item next outcome → Listed ends Item run (behind value outcome)
+      ends run ≡ false → Item run (Ok (value, rest)) → after_item ends rest ≡ Ok (tt, next) → Listed ends Item next outcome → Listed ends Item run (after value outcome)
   unparted : {run rest : TokenList} {value : A} {error : ReadError} →
-      ends run ≡ false → Item run (Ok (value, rest)) → behind_item ends rest ≡ Err error → Listed ends Item run (Err error)
+      ends run ≡ false → Item run (Ok (value, rest)) → after_item ends rest ≡ Err error → Listed ends Item run (Err error)
   stopped : {run : TokenList} {error : ReadError} → ends run ≡ false → Item run (Err error) → Listed ends Item run (Err error)
 
 -- memory ran out, or this holds of the error

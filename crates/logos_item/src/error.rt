@@ -43,6 +43,6 @@ impl<T: Drop> From<AllocFailed<T>> for ReadError {
 
 /// Where a run has its first token that does not fit.
 #[derive(Clone, Copy)]
-pub(crate) struct Misfit {
+pub(crate) struct Mismatch {
     pub span: Span,
 }

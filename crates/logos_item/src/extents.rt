@@ -3,8 +3,8 @@ ghost use Rattle.std.specs.Prelude.{◌≡◌, ◌+◌, ◌<◌, ◌≤◌, Matc
 ghost use Rattle.logos_token.specs.Tokens.{TokenList, also, punctuation};
 ghost use Rattle.logos_token.specs.Tokens.{count_of, append, IsRestOf};
 ghost use Rattle.logos_token.specs.Views.{tokens_of};
-ghost use Rattle.logos_item.specs.Extents.{ends, begins_arrow, depth_behind, is_end};
-ghost use Rattle.logos_item.specs.Extents.{behind_from, behind_extent, IsStep};
+ghost use Rattle.logos_item.specs.Extents.{ends, begins_arrow, depth_after, is_end};
+ghost use Rattle.logos_item.specs.Extents.{after_from, after_extent, IsStep};
 
 use crate::tokens::split;
 use logos_token::token::{Punct, Spacing, TokenTree, Tokens};
@@ -56,9 +56,9 @@ fn is_end(end: End, angles: Angles, character: char) -> bool
 }
 
 /// What a sign makes of the open angle brackets.
-fn depth_behind(angles: Angles, character: char) -> usize
+fn depth_after(angles: Angles, character: char) -> usize
     requires { angles.depth < 18446744073709551615 }
-    ensures value { result ≡ depth_behind angles.arrow angles.depth character }
+    ensures value { result ≡ depth_after angles.arrow angles.depth character }
     ensures bound { result ≤ angles.depth + 1 }
 {
     if character == '<' {
@@ -78,7 +78,7 @@ fn skip_token<'t, 's>(
 ) -> Option<(Angles, Tokens<'t, 's>)>
     requires { angles.depth + count_of (tokens_of tokens) < 18446744073709551616 }
     ensures { MatchOption result
-        (behind_from end angles.arrow angles.depth (tokens_of tokens.entry)
+        (after_from end angles.arrow angles.depth (tokens_of tokens.entry)
         ≡ tokens_of tokens.entry)
         (λ read. IsStep end angles (tokens_of tokens.entry) read.0 (tokens_of read.1)) }
 {
@@ -87,7 +87,7 @@ fn skip_token<'t, 's>(
             if is_end(end, angles, punct.character) {
                 return None;
             }
-            let depth = depth_behind(angles, punct.character);
+            let depth = depth_after(angles, punct.character);
             let arrow = begins_arrow(punct);
             Some((Angles { depth, arrow }, rest))
         }
@@ -103,7 +103,7 @@ fn skip_token<'t, 's>(
 
 /// What is behind an extent.
 pub(crate) fn skip_extent<'t, 's>(end: End, tokens: Tokens<'t, 's>) -> Tokens<'t, 's>
-    ensures value { tokens_of result ≡ behind_extent end (tokens_of tokens.entry) }
+    ensures value { tokens_of result ≡ after_extent end (tokens_of tokens.entry) }
     ensures shorter { count_of (tokens_of result) ≤ count_of (tokens_of tokens.entry) }
     ensures front { IsRestOf (tokens_of tokens.entry) (tokens_of result) }
 {
@@ -116,9 +116,9 @@ pub(crate) fn skip_extent<'t, 's>(end: End, tokens: Tokens<'t, 's>) -> Tokens<'t
         arrow: false,
     };
     let mut rest = tokens;
-    while let Some((next, behind)) = skip_token(end, angles, rest) {
+    while let Some((next, after)) = skip_token(end, angles, rest) {
         angles = next;
-        rest = behind;
+        rest = after;
     }
     rest
 }
@@ -126,7 +126,7 @@ pub(crate) fn skip_extent<'t, 's>(end: End, tokens: Tokens<'t, 's>) -> Tokens<'t
 /// The tokens of an extent.
 pub(crate) fn extent<'t, 's>(end: End, tokens: Tokens<'t, 's>) -> Tokens<'t, 's>
     ensures { tokens_of tokens.entry ≡
-        append (tokens_of result) (behind_extent end (tokens_of tokens.entry)) }
+        append (tokens_of result) (after_extent end (tokens_of tokens.entry)) }
 {
     tokens.before(skip_extent(end, tokens))
 }

@@ -53,7 +53,7 @@ fn error_of(run: Tokens<'_, '_>, fault: TypeFault) -> ReadError
 {
     match fault {
         TypeFault::Unsupported { span } => ReadError::TypeUnsupported { span },
-        TypeFault::Misfit { span } => ReadError::Grammar { span },
+        TypeFault::Mismatch { span } => ReadError::Grammar { span },
         TypeFault::LimitNesting => ReadError::LimitTypeNesting { span: run.span() },
         TypeFault::Memory => ReadError::Memory,
     }
@@ -144,8 +144,8 @@ fn read_fields<'t, 's>(
     let mut list = Vec::new(alloc);
     let mut rest = tokens;
     while !rest.is_empty() {
-        let (field, behind) = read_field(alloc, named, rest)?;
-        let next = skip_comma(behind)?;
+        let (field, after) = read_field(alloc, named, rest)?;
+        let next = skip_comma(after)?;
         list.push(field)?;
         rest = next;
     }

@@ -12,7 +12,7 @@ ghost use Rattle.logos_item.specs.Values.{ident_slice, head_value, parameter_val
 use crate::attributes::read_attributes;
 use crate::error::ReadError;
 use crate::extents::{End, ends, extent, skip_extent};
-use crate::tokens::{begins_with, behind_mark, grammar_at, skip_comma_or_angle, split};
+use crate::tokens::{after_mark, begins_with, grammar_at, skip_comma_or_angle, split};
 use logos_token::token::{Ident, TokenTree, Tokens};
 use std::alloc::Global;
 
@@ -206,8 +206,8 @@ fn read_parameters<'t, 's>(
     let mut list = Vec::new(alloc);
     let mut rest = tokens;
     while !begins_with('>', rest) {
-        let (parameter, behind) = read_parameter(rest)?;
-        let next = skip_comma_or_angle(behind)?;
+        let (parameter, after) = read_parameter(rest)?;
+        let next = skip_comma_or_angle(after)?;
         list.push(parameter)?;
         rest = next;
     }
@@ -236,7 +236,7 @@ pub(crate) fn read_generics<'t, 's>(
         (Ok (map parameter_value read.0.items, tokens_of read.1))) }
     ensures err { IfErr result (Stands (λ error. Generics (tokens_of tokens.entry) (Err error))) }
 {
-    let Some(inside) = behind_mark('<', tokens) else {
+    let Some(inside) = after_mark('<', tokens) else {
         return Ok((Vec::new(alloc), tokens));
     };
     let (list, rest) = read_parameters(alloc, inside)?;

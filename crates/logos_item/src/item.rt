@@ -129,9 +129,9 @@ fn read_item<'t, 's>(
     ensures err { IfErr result (Stands
         (λ error. item (tokens_of attributes.entry) (tokens_of tokens.entry) (Err error))) }
 {
-    let (name, behind_name) = read_name(tokens)?;
-    let (parameters, behind_generics) = read_generics(alloc, behind_name)?;
-    let (variants, rest) = read_body(alloc, skip_where(behind_generics))?;
+    let (name, after_name) = read_name(tokens)?;
+    let (parameters, after_generics) = read_generics(alloc, after_name)?;
+    let (variants, rest) = read_body(alloc, skip_where(after_generics))?;
     read_end(rest)?;
     Ok(ItemEnum {
         attributes,

@@ -7,11 +7,11 @@ ghost use Rattle.logos_token.specs.Tokens.{none, also, punctuation, count_of, re
 ghost use Rattle.logos_token.specs.Views.{tokens_of, tree_of};
 ghost use Rattle.logos_item.specs.declared.error.ReadError.TheVariants.{Grammar};
 ghost use Rattle.logos_item.specs.Marks.{first_span, greater, begins_with, is_none, is_outer};
-ghost use Rattle.logos_item.specs.Rules.{behind_item};
+ghost use Rattle.logos_item.specs.Rules.{after_item};
 ghost use Rattle.logos_item.specs.Generics.{name_in};
 ghost use Rattle.logos_item.specs.Values.{ident_slice};
 
-use crate::error::{Misfit, ReadError};
+use crate::error::{Mismatch, ReadError};
 use logos_token::token::{Ident, Span, TokenTree, Tokens};
 
 /// Where the first token stands; `0..0` where there is none.
@@ -24,11 +24,11 @@ pub(crate) fn first_span(tokens: Tokens<'_, '_>) -> Span
     }
 }
 
-/// A misfit at the first token.
-pub(crate) fn misfit_at(tokens: Tokens<'_, '_>) -> Misfit
+/// A mismatch at the first token.
+pub(crate) fn mismatch_at(tokens: Tokens<'_, '_>) -> Mismatch
     ensures { result.span ≡ first_span (tokens_of tokens.entry) }
 {
-    Misfit {
+    Mismatch {
         span: first_span(tokens),
     }
 }
@@ -62,7 +62,7 @@ pub(crate) fn begins_with(mark: char, tokens: Tokens<'_, '_>) -> bool
 }
 
 /// What is behind this character, if it comes first.
-pub(crate) fn behind_mark<'t, 's>(mark: char, tokens: Tokens<'t, 's>) -> Option<Tokens<'t, 's>>
+pub(crate) fn after_mark<'t, 's>(mark: char, tokens: Tokens<'t, 's>) -> Option<Tokens<'t, 's>>
     ensures { MatchOption result (begins_with mark (tokens_of tokens.entry) ≡ false)
         (λ rest. (begins_with mark (tokens_of tokens.entry) ≡ true)
         × (tokens_of rest ≡ rest_of (tokens_of tokens.entry))) }
@@ -101,9 +101,9 @@ pub(crate) fn read_name<'t, 's>(
 /// What is behind an item of a list that ends with its group.
 pub(crate) fn skip_comma<'t, 's>(tokens: Tokens<'t, 's>) -> Result<Tokens<'t, 's>, ReadError>
     ensures { MatchResult result
-        (λ rest. (behind_item is_none (tokens_of tokens.entry) ≡ Ok (tt, tokens_of rest))
+        (λ rest. (after_item is_none (tokens_of tokens.entry) ≡ Ok (tt, tokens_of rest))
         × (count_of (tokens_of rest) ≤ count_of (tokens_of tokens.entry)))
-        (λ error. behind_item is_none (tokens_of tokens.entry) ≡ Err error) }
+        (λ error. after_item is_none (tokens_of tokens.entry) ≡ Err error) }
 {
     match split(tokens) {
         None => Ok(tokens),
@@ -117,10 +117,10 @@ pub(crate) fn skip_comma_or_angle<'t, 's>(
     tokens: Tokens<'t, 's>,
 ) -> Result<Tokens<'t, 's>, ReadError>
     ensures { MatchResult result
-        (λ rest. (behind_item (begins_with greater) (tokens_of tokens.entry)
+        (λ rest. (after_item (begins_with greater) (tokens_of tokens.entry)
         ≡ Ok (tt, tokens_of rest))
         × (count_of (tokens_of rest) ≤ count_of (tokens_of tokens.entry)))
-        (λ error. behind_item (begins_with greater) (tokens_of tokens.entry) ≡ Err error) }
+        (λ error. after_item (begins_with greater) (tokens_of tokens.entry) ≡ Err error) }
 {
     match split(tokens) {
         Some((TokenTree::Punct(punct), _)) if punct.character == '>' => Ok(tokens),

@@ -109,8 +109,8 @@ pub(crate) fn read_variants<'t, 's>(
     let mut list = Vec::new(alloc);
     let mut rest = tokens;
     while !rest.is_empty() {
-        let (variant, behind) = read_variant(alloc, rest)?;
-        let next = skip_comma(behind)?;
+        let (variant, after) = read_variant(alloc, rest)?;
+        let next = skip_comma(after)?;
         list.push(variant)?;
         rest = next;
     }

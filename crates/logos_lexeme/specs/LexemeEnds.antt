@@ -58,7 +58,7 @@ ReachesQuote quote bytes from at = Until (InQuotes quote bytes) (λ i. slice_ind
 pub record IsQuoted (quote : ℕ) (bytes : List ℕ) (body to : ℕ) : Type 0 where
   pub quote_at : ℕ
   pub until : ReachesQuote quote bytes body quote_at
-  pub behind : to ≡ quote_at + 1
+  pub after : to ≡ quote_at + 1
 
 -- a quote with so many `#` behind it
 pub record IsRawEnd (count : ℕ) (bytes : List ℕ) (at : ℕ) : Type 0 where
@@ -69,12 +69,12 @@ pub record IsRawEnd (count : ℕ) (bytes : List ℕ) (at : ℕ) : Type 0 where
 pub record IsRaw (count : ℕ) (bytes : List ℕ) (body to : ℕ) : Type 0 where
   pub quote_at : ℕ
   pub first : IsFirst (IsRawEnd count bytes) body quote_at
-  pub behind : to ≡ quote_at + 1 + count
+  pub after : to ≡ quote_at + 1 + count
 
 -- `'`, a character, `'`
 pub record IsCharacter (bytes : List ℕ) (from to : ℕ) : Type 0 where
   pub quote : slice_index bytes (past bytes (from + 1)) ≡ 39
-  pub behind : to ≡ past bytes (from + 1) + 1
+  pub after : to ≡ past bytes (from + 1) + 1
 
 -- where the content of a literal begins
 abbrev pub body_of : Opening → ℕ → ℕ

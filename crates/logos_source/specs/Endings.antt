@@ -12,7 +12,7 @@ use Rattle.logos_item.specs.declared.error.ReadError.TheVariants.{NotAnEnum, Gra
 use Rattle.logos_item.specs.Enum.{Reads}
 use Rattle.logos_item.specs.EnumValues.{EnumValue}
 use Rattle.logos_type_params.specs.TypeParams.{limit_type_nesting}
-use Rattle.logos_attribute.specs.Told.{fault, only}
+use Rattle.logos_attribute.specs.Reports.{fault, only}
 
 -- the source spells an enum, whose tokens reach over the span
 pub record Says (source : List ℕ) (value : EnumValue) (item : Span) : Type 0 where

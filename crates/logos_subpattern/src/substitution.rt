@@ -1,15 +1,15 @@
 //! Subpatterns in the text of a pattern.
 ghost use Rattle.std.specs.Prelude.{◌≡◌, ℕ, List, ◌+◌, ◌<◌, ◌++◌, ◌∷◌, [], length, drop};
 ghost use Rattle.std.specs.Prelude.{option_map, chars, OnOk, IfOk, MatchOption, string_bytes};
-ghost use Rattle.logos_attribute.specs.Told.{Tells, Lists};
+ghost use Rattle.logos_attribute.specs.Reports.{IsReport, AddsFault};
 ghost use Rattle.logos_subpattern.specs.Substitution.{is_word, word_front, word_rest, closed};
 ghost use Rattle.logos_subpattern.specs.Substitution.{reference, parts, encoded};
-ghost use Rattle.logos_subpattern.specs.Substitution.{subpattern_missing, subst_told};
+ghost use Rattle.logos_subpattern.specs.Substitution.{subpattern_missing, subst_report};
 ghost use Rattle.logos_subpattern.specs.SubpatternViews.{names_of};
 ghost use Rattle.logos_subpattern.specs.inside.Parts.{part_of};
 
 use crate::subpattern::Subpatterns;
-use logos_attribute::listing::list_named;
+use logos_attribute::reporting::report_named;
 use logos_token::error::{Errors, FaultCode, Memory};
 use logos_token::token::{Ident, Span};
 use std::alloc::{AllocError, Global};
@@ -115,11 +115,10 @@ fn encoded(alloc: Global, characters: &[char]) -> Result<String, AllocError>
 
 /// Lists a name without a subpattern.
 fn list_missing(alloc: Global, name: &str, span: Span, errors: &mut Errors) -> Result<(), Memory>
-    ensures { OnOk result (Lists (subpattern_missing span name.now) errors.old errors.new) }
+    ensures { OnOk result (AddsFault (subpattern_missing span name.now) errors.old errors.new) }
 {
     let missing = Ident { text: name, span };
-    list_named(
-        alloc,
+    report_named(
         errors,
         FaultCode::SubpatternMissing,
         "Subpattern `",
@@ -130,8 +129,8 @@ fn list_missing(alloc: Global, name: &str, span: Span, errors: &mut Errors) -> R
 
 impl Text {
     ghost use Rattle.std.specs.Prelude.{OnOk};
-    ghost use Rattle.logos_attribute.specs.Told.{Tells};
-    ghost use Rattle.logos_subpattern.specs.Substitution.{part_told, name_told, text_of};
+    ghost use Rattle.logos_attribute.specs.Reports.{IsReport};
+    ghost use Rattle.logos_subpattern.specs.Substitution.{part_report, name_report, text_of};
     ghost use Rattle.logos_subpattern.specs.SubpatternViews.{names_of};
     ghost use Rattle.logos_subpattern.specs.inside.Parts.{part_of, text_view};
 
@@ -144,8 +143,8 @@ impl Text {
         span: Span,
         errors: &mut Errors,
     ) -> Result<(), Memory>
-        ensures { OnOk result (Tells
-            (name_told span name.now (text_view self.old)
+        ensures { OnOk result (IsReport
+            (name_report span name.now (text_view self.old)
             (text_of (names_of subpatterns.now) name.now))
             (text_view self.new) errors.old errors.new) }
     {
@@ -168,8 +167,8 @@ impl Text {
         span: Span,
         errors: &mut Errors,
     ) -> Result<(), Memory>
-        ensures { OnOk result (Tells
-            (part_told (names_of subpatterns.now) span (part_of part.entry) (text_view self.old))
+        ensures { OnOk result (IsReport
+            (part_report (names_of subpatterns.now) span (part_of part.entry) (text_view self.old))
             (text_view self.new) errors.old errors.new) }
     {
         match part {
@@ -200,7 +199,7 @@ fn put_together(
     errors: &mut Errors,
 ) -> Result<Option<String>, Memory>
     ensures { IfOk result (λ text.
-        Tells (subst_told (names_of subpatterns.now) span characters.now)
+        IsReport (subst_report (names_of subpatterns.now) span characters.now)
         (option_map string_bytes text) errors.old errors.new) }
 {
     let mut text = Text {
@@ -227,7 +226,7 @@ pub(crate) fn substituted(
     errors: &mut Errors,
 ) -> Result<Option<String>, Memory>
     ensures { IfOk result (λ whole.
-        Tells (subst_told (names_of subpatterns.now) span (chars text.now))
+        IsReport (subst_report (names_of subpatterns.now) span (chars text.now))
         (option_map string_bytes whole) errors.old errors.new) }
 {
     let characters = characters(alloc, text)?;

@@ -22,9 +22,9 @@ closing_text Parenthesis = codes ")"
 closing_text Bracket = codes "]"
 closing_text Brace = codes "}"
 
-abbrev pub gap_behind : Spacing → List ℕ
-gap_behind Alone = codes " "
-gap_behind Joint = []
+abbrev pub gap_after : Spacing → List ℕ
+gap_after Alone = codes " "
+gap_after Joint = []
 
 -- a comment that begins with two slashes ends with its line
 abbrev pub is_line_comment : List ℕ → Bool
@@ -39,7 +39,7 @@ abbrev mutual
   -- the lexemes of a token
   pub token_parts : Token → List Part
   token_parts (identifier text span) = spaced text ∷ []
-  token_parts (punctuation character spacing span) = (record { text = encode_utf8 character; gap = gap_behind spacing }) ∷ []
+  token_parts (punctuation character spacing span) = (record { text = encode_utf8 character; gap = gap_after spacing }) ∷ []
   token_parts (literal text span) = spaced text ∷ []
   token_parts (doc text span) = (record { text = text; gap = if is_line_comment text then 10 ∷ [] else codes " " }) ∷ []
   token_parts (group delimiter span inside) = spaced (opening_text delimiter) ∷ (run_parts inside ++ spaced (closing_text delimiter) ∷ [])

@@ -1,7 +1,7 @@
 -- The printed text of a type: its tokens with one space in between, `<`, `>` and `&` each alone, `::`, `->` and a lifetime each as one.
 use Rattle.std.specs.Prelude.{ℕ, List, [], ◌∷◌, ◌++◌, codes, fold, if◌then◌else◌, Some, None}
 use Rattle.std.specs.Char.{encode_utf8}
-use Rattle.logos_token.specs.Printing.{Part, spaced, opening_text, closing_text, gap_behind, is_line_comment, print_part}
+use Rattle.logos_token.specs.Printing.{Part, spaced, opening_text, closing_text, gap_after, is_line_comment, print_part}
 use Rattle.logos_type.specs.Parts.{Sign, word, mark, colons, arrow, value, opening, closing, reference, lifetime, kept, spaced_mark, comment, Tree, sign, name, whole, still, Trees, none, also}
 
 -- `'` and the name behind it
@@ -21,7 +21,7 @@ sign_parts (reference (Some text)) = spaced (codes "&") ∷ lifetime_parts text
 sign_parts (reference None) = spaced (codes "&") ∷ []
 sign_parts (lifetime text) = lifetime_parts text
 sign_parts (kept text) = lifetime_parts text
-sign_parts (spaced_mark character spacing) = (record { text = encode_utf8 character; gap = gap_behind spacing }) ∷ []
+sign_parts (spaced_mark character spacing) = (record { text = encode_utf8 character; gap = gap_after spacing }) ∷ []
 sign_parts (comment text) = (record { text = text; gap = if is_line_comment text then 10 ∷ [] else codes " " }) ∷ []
 
 abbrev mutual

@@ -5,7 +5,7 @@ ghost use Rattle.logos_type.specs.TypeTrees.{type_tree};
 
 use crate::type_expr::{Leaf, Part, TypeExpr};
 use logos_token::error::Memory;
-use logos_token::token::{closing_text, gap_behind, gap_behind_doc, opening_text};
+use logos_token::token::{closing_text, gap_after, gap_after_doc, opening_text};
 use std::alloc::Global;
 
 /// What is printed so far.
@@ -85,8 +85,8 @@ impl TypePrinter {
             Leaf::Reference(lifetime) => self.add_reference(lifetime),
             Leaf::Lifetime(text) => self.add_lifetime(text),
             Leaf::Kept(text) => self.add_lifetime(text),
-            Leaf::Punct(character, spacing) => self.add_character(character, gap_behind(spacing)),
-            Leaf::Doc(text) => self.add(text, gap_behind_doc(text)),
+            Leaf::Punct(character, spacing) => self.add_character(character, gap_after(spacing)),
+            Leaf::Doc(text) => self.add(text, gap_after_doc(text)),
         }
     }
 

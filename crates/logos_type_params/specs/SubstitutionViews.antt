@@ -7,4 +7,4 @@ abbrev pub IfDeep : Type 0 → TypeFault → Type 0
 IfDeep Holds faults.LimitNesting = Holds
 IfDeep Holds faults.Memory = Unit {0}
 IfDeep Holds (faults.Unsupported span) = ⊥
-IfDeep Holds (faults.Misfit span) = ⊥
+IfDeep Holds (faults.Mismatch span) = ⊥

@@ -9,7 +9,7 @@ use Rattle.logos_token.specs.declared.error.fault_code.FaultCode.TheVariants.{Ma
 use Rattle.logos_token.specs.Tokens.{Token, TokenList, none, also, run_span}
 use Rattle.logos_token.specs.Faults.{Fault}
 use Rattle.logos_type.specs.Parts.{Tree, sign, name, whole, still, Trees, none as no_part, also as and_part, tree_of}
-use Rattle.logos_type_reader.specs.Table.{Fault as Misfit, unsupported, misfit, too_deep}
+use Rattle.logos_type_reader.specs.Table.{Fault as Mismatch, unsupported, mismatch, too_deep}
 use Rattle.logos_type_reader.specs.TypeExprs.{IsTypeExpr, NoTypeExpr}
 use Rattle.logos_type_params.specs.declared.substitution.TypeParam.{TypeParam}
 use Rattle.logos_type_params.specs.declared.type_params.TypeParams.{TypeParams}
@@ -68,7 +68,7 @@ fault code message span = record { code = code; message = message; span = span; 
 
 -- a fault of a name, which stands between two texts
 abbrev pub about : FaultCode → List ℕ → Named → List ℕ → Fault
-about code before named behind = fault code ((before ++ named.text) ++ behind) named.at
+about code before named after = fault code ((before ++ named.text) ++ after) named.at
 
 abbrev pub many_lifetimes : Span → Fault
 many_lifetimes span = fault ManyLifetimes (codes "Logos types can only have one lifetime") span
@@ -93,9 +93,9 @@ abbrev pub limit_type_nesting : Span → Fault
 limit_type_nesting at = fault LimitTypeNesting type_nesting_text at
 
 -- why a value is no type
-abbrev pub value_fault : Misfit → Span → Fault
+abbrev pub value_fault : Mismatch → Span → Fault
 value_fault (unsupported span) at = type_syntax at
-value_fault (misfit span) at = type_syntax at
+value_fault (mismatch span) at = type_syntax at
 value_fault too_deep at = limit_type_nesting at
 
 -- the whole run is a type, or it is none and that is listed at this place
@@ -103,7 +103,7 @@ pub data ReadsValue (run : TokenList) (at : Span) (old new : List Fault) : Optio
   is_type : {tree : Tree} → IsTypeExpr run tree none → new ≡ old → ReadsValue run at old new (Some tree)
   goes_on : {tree : Tree} {token : Token} {rest : TokenList} → IsTypeExpr run tree (also token rest) →
       new ≡ old ++ type_syntax at ∷ [] → ReadsValue run at old new None
-  no_type : {why : Misfit} → NoTypeExpr run why → new ≡ old ++ (value_fault why at) ∷ [] → ReadsValue run at old new None
+  no_type : {why : Mismatch} → NoTypeExpr run why → new ≡ old ++ (value_fault why at) ∷ [] → ReadsValue run at old new None
 
 -- where the type stands that a name has
 abbrev pub former : List Given → List ℕ → Option Span

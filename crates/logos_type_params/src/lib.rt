@@ -4,8 +4,8 @@
 #![tactic(auto)]
 
 mod lifetimes;
-pub mod listing;
 mod names;
+pub mod reporting;
 mod self_reference;
 mod substitution;
 mod type_params;

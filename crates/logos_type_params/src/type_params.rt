@@ -18,8 +18,8 @@ mod concrete;
 mod written;
 
 use crate::lifetimes::set_lifetimes;
-use crate::listing::{list_about, list_depth, list_previous};
 use crate::names::Names;
+use crate::reporting::{report_about, report_depth, report_previous};
 use crate::self_reference::Chains;
 use crate::substitution::TypeParam;
 pub use concrete::Generics;
@@ -41,7 +41,7 @@ pub struct TypeParams<'s> {
 }
 
 /// Lists that the value at this span is no type.
-fn list_syntax(errors: &mut Errors, at: Span) -> Result<(), Memory>
+fn report_syntax(errors: &mut Errors, at: Span) -> Result<(), Memory>
     ensures ok { OnOk result (errors.new ≡ errors.old ++ type_syntax at ∷ []) }
     ensures err { OnErr result (errors.new ≡ errors.old) }
 {
@@ -49,7 +49,7 @@ fn list_syntax(errors: &mut Errors, at: Span) -> Result<(), Memory>
 }
 
 /// Lists at this span why a run is no type.
-fn list_no_type(
+fn report_no_type(
     fault: TypeFault,
     run: Tokens<'_, '_>,
     at: Span,
@@ -60,9 +60,9 @@ fn list_no_type(
     ensures err { OnErr result (errors.new ≡ errors.old) }
 {
     match fault {
-        TypeFault::Unsupported { .. } => list_syntax(errors, at),
-        TypeFault::Misfit { .. } => list_syntax(errors, at),
-        TypeFault::LimitNesting => list_depth(errors, at),
+        TypeFault::Unsupported { .. } => report_syntax(errors, at),
+        TypeFault::Mismatch { .. } => report_syntax(errors, at),
+        TypeFault::LimitNesting => report_depth(errors, at),
         TypeFault::Memory => Err(Memory),
     }
 }
@@ -84,7 +84,7 @@ fn whole_type<'s>(
     if rest.is_empty() {
         return Ok(Some(type_expr));
     }
-    list_syntax(errors, at)?;
+    report_syntax(errors, at)?;
     Ok(None)
 }
 
@@ -104,14 +104,14 @@ pub fn read_value<'s>(
     match read_type(alloc, run) {
         Ok((type_expr, rest)) => whole_type(type_expr, rest, run, at, errors),
         Err(fault) => {
-            list_no_type(fault, run, at, errors)?;
+            report_no_type(fault, run, at, errors)?;
             Ok(None)
         }
     }
 }
 
 /// Lists a lifetime where one is declared already.
-fn list_second_lifetime(is_declared: bool, span: Span, errors: &mut Errors) -> Result<(), Memory>
+fn report_second_lifetime(is_declared: bool, span: Span, errors: &mut Errors) -> Result<(), Memory>
     ensures ok { OnOk result (errors.new ≡ errors.old ++
         (if is_declared then many_lifetimes span ∷ [] else [])) }
     ensures err { OnErr result (errors.new ≡ errors.old) }
@@ -138,50 +138,38 @@ fn former<'s>(types: &IndexMap<&'s str, TypeParam<'s>>, text: &str) -> Option<Sp
 
 /// Lists that a name has a type already, which is written at this span. After an error the faults
 /// are as before.
-fn list_twice(
-    alloc: Global,
-    name: Ident<'_>,
-    former: Span,
-    errors: &mut Errors,
-) -> Result<(), Memory>
+fn report_twice(name: Ident<'_>, former: Span, errors: &mut Errors) -> Result<(), Memory>
     ensures ok { OnOk result (errors.new
         ≡ errors.old ++ given_faults (Some former) (named_of name.entry)) }
     ensures err { OnErr result (errors.new ≡ errors.old) }
 {
-    let mut found = Errors::new(alloc);
-    list_about(
-        alloc,
+    let mut found = Errors::new(errors.alloc());
+    report_about(
         &mut found,
         FaultCode::TypeTwice,
         "",
         name,
         " can only have one type assigned to it",
     )?;
-    list_previous(&mut found, former)?;
+    report_previous(&mut found, former)?;
     errors.append(found)
 }
 
 /// Lists the faults of one type more for a name that has this one, if it has one. After an error
 /// the faults are as before.
-fn list_given(
-    alloc: Global,
-    name: Ident<'_>,
-    former: Option<Span>,
-    errors: &mut Errors,
-) -> Result<(), Memory>
+fn report_given(name: Ident<'_>, former: Option<Span>, errors: &mut Errors) -> Result<(), Memory>
     ensures ok { OnOk result (errors.new
         ≡ errors.old ++ given_faults former (named_of name.entry)) }
     ensures err { OnErr result (errors.new ≡ errors.old) }
 {
     match former {
-        Some(span) => list_twice(alloc, name, span, errors),
+        Some(span) => report_twice(name, span, errors),
         None => Ok(()),
     }
 }
 
 /// Gives one type more to a name that is declared. After an error all is as before.
 fn give<'s>(
-    alloc: Global,
     types: &mut IndexMap<&'s str, TypeParam<'s>>,
     name: Ident<'s>,
     param: TypeParam<'s>,
@@ -192,10 +180,10 @@ fn give<'s>(
     ensures faults { OnOk result (errors.new ≡ errors.old ++ given_faults
         (former (map given_of types.old.entries) name.entry.text.now) (named_of name.entry)) }
     ensures kept { OnErr result (types.new.entries ≡ types.old.entries) }
-    ensures unlisted { OnErr result (errors.new ≡ errors.old) }
+    ensures unreported { OnErr result (errors.new ≡ errors.old) }
 {
     let span = former(types, name.text);
-    list_given(alloc, name, span, errors)?;
+    report_given(name, span, errors)?;
     types.insert(name.text, param)?;
     Ok(())
 }
@@ -203,7 +191,6 @@ fn give<'s>(
 /// Lists a declared name that holds itself, unless it stands among those in front. It is one of
 /// these from now on.
 fn check_name<'s>(
-    alloc: Global,
     front: &mut IndexSet<&'s str>,
     chains: &Chains<'_, 's>,
     name: Ident<'s>,
@@ -219,8 +206,7 @@ fn check_name<'s>(
     if !chains.lead_back(name.text) {
         return Ok(());
     }
-    list_about(
-        alloc,
+    report_about(
         errors,
         FaultCode::TypeHoldsItself,
         "Type parameter ",
@@ -260,9 +246,9 @@ impl<'s> TypeParams<'s> {
         ensures faults { OnOk result (errors.new ≡ errors.old ++
             (if (value_of self.old).lifetime then many_lifetimes span ∷ [] else [])) }
         ensures kept { OnErr result (value_of self.new ≡ value_of self.old) }
-        ensures unlisted { OnErr result (errors.new ≡ errors.old) }
+        ensures unreported { OnErr result (errors.new ≡ errors.old) }
     {
-        list_second_lifetime(self.lifetime, span, errors)?;
+        report_second_lifetime(self.lifetime, span, errors)?;
         self.lifetime = true;
         Ok(())
     }
@@ -293,15 +279,14 @@ impl<'s> TypeParams<'s> {
             (named_of name.entry) (tokens_of value.entry) errors.old
             (value_of self.new) errors.new) }
         ensures kept { OnErr result (value_of self.new ≡ value_of self.old) }
-        ensures unlisted { OnErr result (errors.new ≡ errors.old) }
+        ensures unreported { OnErr result (errors.new ≡ errors.old) }
     {
         let span = value.span();
         let Some(written) = read_value(self.alloc, value, span, errors)? else {
             return Ok(());
         };
         if !self.names.contains(name.text) {
-            return list_about(
-                self.alloc,
+            return report_about(
                 errors,
                 FaultCode::NotTypeParameter,
                 "",
@@ -311,7 +296,6 @@ impl<'s> TypeParams<'s> {
         }
         let part = set_lifetimes(self.alloc, &written.part)?;
         give(
-            self.alloc,
             &mut self.types,
             name,
             TypeParam {
@@ -329,7 +313,7 @@ impl<'s> TypeParams<'s> {
     pub fn check(&self, errors: &mut Errors) -> Result<(), Memory>
         ensures ok { OnOk result (AreChecked (types_of self.now) []
             (value_of self.now).names errors.old errors.new) }
-        ensures unlisted { OnErr result (errors.new ≡ errors.old) }
+        ensures unreported { OnErr result (errors.new ≡ errors.old) }
     {
         let mut found = Errors::new(self.alloc);
         self.check_all(&mut found)?;
@@ -345,7 +329,7 @@ impl<'s> TypeParams<'s> {
         let chains = Chains::new(self.alloc, &self.types)?;
         let mut front = IndexSet::new(self.alloc);
         for name in &self.names.list {
-            check_name(self.alloc, &mut front, &chains, *name, errors)?;
+            check_name(&mut front, &chains, *name, errors)?;
         }
         Ok(())
     }

@@ -8,11 +8,11 @@ use Rattle.logos_type_reader.specs.Table.{Spot, outer, Move, ends, takes, bars, 
 
 -- what comes next there
 abbrev pub next_of : Spot → Move
-next_of spot = next_at spot.place spot.run spot.behind
+next_of spot = next_at spot.place spot.run spot.outside
 
 -- behind what was read there, where this run is left
-abbrev pub behind_type : Spot → Place → TokenList → Spot
-behind_type spot place run = record { place = place; run = run; behind = spot.behind }
+abbrev pub after_type : Spot → Place → TokenList → Spot
+after_type spot place run = record { place = place; run = run; outside = spot.outside }
 
 mutual
   -- The run begins with this type, and behind it is the rest: a name, or a first token and the parts behind it, none of which bars it. Where
@@ -26,21 +26,21 @@ mutual
 
   -- the next parts there, whether one of them bars the type, and the spot behind them
   pub data IsMove : ℕ → Bool → Spot → List Tree → Spot → Type 0 where
-    a_token : {levels : ℕ} {spot : Spot} {s : Sign} {behind : Spot} → next_of spot ≡ takes s behind → IsMove levels false spot (sign s ∷ []) behind
-    a_bar : {levels : ℕ} {spot : Spot} {s : Sign} {behind : Spot} → next_of spot ≡ bars s behind → IsMove levels true spot (sign s ∷ []) behind
+    a_token : {levels : ℕ} {spot : Spot} {s : Sign} {next : Spot} → next_of spot ≡ takes s next → IsMove levels false spot (sign s ∷ []) next
+    a_bar : {levels : ℕ} {spot : Spot} {s : Sign} {next : Spot} → next_of spot ≡ bars s next → IsMove levels true spot (sign s ∷ []) next
     a_type : {levels : ℕ} {spot : Spot} {plus : Bool} {place : Place} {part : Tree} {rest : TokenList} →
-        next_of spot ≡ asks plus place → IsType levels plus spot.run part rest → IsMove levels false spot (part ∷ []) (behind_type spot place rest)
+        next_of spot ≡ asks plus place → IsType levels plus spot.run part rest → IsMove levels false spot (part ∷ []) (after_type spot place rest)
     a_still_type : {levels : ℕ} {spot : Spot} {place : Place} {part : Tree} {rest : TokenList} → next_of spot ≡ keeps_type place →
-        IsType levels true spot.run part rest → IsMove levels false spot (still (also part none) ∷ []) (behind_type spot place rest)
-    still_tokens : {levels : ℕ} {spot : Spot} {run : TokenList} {behind : Spot} → next_of spot ≡ keeps run behind → IsMove levels false spot (still (trees (still_run run)) ∷ []) behind
+        IsType levels true spot.run part rest → IsMove levels false spot (still (also part none) ∷ []) (after_type spot place rest)
+    still_tokens : {levels : ℕ} {spot : Spot} {run : TokenList} {next : Spot} → next_of spot ≡ keeps run next → IsMove levels false spot (still (trees (still_run run)) ∷ []) next
     a_nest : {levels : ℕ} {barred : Bool} {spot : Spot} {s : Sign} {inner : Spot} {place : Place} {parts : List Tree} {rest : TokenList} →
-        next_of spot ≡ nests s inner place → AreParts levels barred inner parts rest → IsMove levels barred spot (sign s ∷ parts) (behind_type spot place rest)
+        next_of spot ≡ nests s inner place → AreParts levels barred inner parts rest → IsMove levels barred spot (sign s ∷ parts) (after_type spot place rest)
 
   -- the parts from there to the end of what was begun, whether one of them bars the type, and the rest
   pub data AreParts : ℕ → Bool → Spot → List Tree → TokenList → Type 0 where
-    ended : {levels : ℕ} {spot : Spot} → next_of spot ≡ ends → AreParts levels false spot [] (outer spot.run spot.behind)
-    further : {levels : ℕ} {barred now onward : Bool} {spot behind : Spot} {front parts : List Tree} {rest : TokenList} →
-        IsMove levels now spot front behind → AreParts levels onward behind parts rest → barred ≡ (now || onward) → AreParts levels barred spot (front ++ parts) rest
+    ended : {levels : ℕ} {spot : Spot} → next_of spot ≡ ends → AreParts levels false spot [] (outer spot.run spot.outside)
+    further : {levels : ℕ} {barred now onward : Bool} {spot next : Spot} {front parts : List Tree} {rest : TokenList} →
+        IsMove levels now spot front next → AreParts levels onward next parts rest → barred ≡ (now || onward) → AreParts levels barred spot (front ++ parts) rest
 
 mutual
   -- the run begins with no type within these levels, and this is the fault from the left
@@ -68,5 +68,5 @@ mutual
   -- behind some parts nothing fits
   pub data NoParts : ℕ → Spot → Fault → Type 0 where
     here : {levels : ℕ} {spot : Spot} {fault : Fault} → NoMove levels spot fault → NoParts levels spot fault
-    later : {levels : ℕ} {now : Bool} {spot behind : Spot} {parts : List Tree} {fault : Fault} →
-        IsMove levels now spot parts behind → NoParts levels behind fault → NoParts levels spot fault
+    later : {levels : ℕ} {now : Bool} {spot next : Spot} {parts : List Tree} {fault : Fault} →
+        IsMove levels now spot parts next → NoParts levels next fault → NoParts levels spot fault

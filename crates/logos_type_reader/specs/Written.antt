@@ -230,7 +230,7 @@ mutual
   pub data Bounds : ℕ → Bool → TokenList → List Tree → TokenList → Ending → Type 0 where
     one_bound : {levels : ℕ} {run rest : TokenList} {parts : List Tree} {e : Ending} → Bound levels run parts rest e → Bounds levels false run parts rest e
     last_bound : {levels : ℕ} {run rest : TokenList} {parts : List Tree} {e : Ending} → Bound levels run parts rest e → Bounds levels true run parts rest (bounded e)
-    plus_behind : {levels : ℕ} {s : Span} {p : Spacing} {run rest : TokenList} {parts : List Tree} {e : Ending} → Bound levels run parts (also (punctuation 43 p s) rest) e →
+    plus_after : {levels : ℕ} {s : Span} {p : Spacing} {run rest : TokenList} {parts : List Tree} {e : Ending} → Bound levels run parts (also (punctuation 43 p s) rest) e →
         may_follow e (also (punctuation 43 p s) rest) ≡ true → Bounds levels true run (parts ++ (sign (mark 43) ∷ [])) rest trailing
     bounds : {levels : ℕ} {s : Span} {p : Spacing} {run others rest : TokenList} {parts back : List Tree} {e f : Ending} → Bound levels run parts (also (punctuation 43 p s) others) e →
         may_follow e (also (punctuation 43 p s) others) ≡ true → Bounds levels true others back rest f → Bounds levels true run (parts ++ (sign (mark 43) ∷ back)) rest f

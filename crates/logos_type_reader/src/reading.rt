@@ -5,8 +5,8 @@ ghost use Rattle.logos_token.specs.Views.{tokens_of, inside_of, tree_of as token
 ghost use Rattle.logos_type.specs.Parts.{tree_of, sign_of, sign, opening, closing, still, trees, also, none};
 ghost use Rattle.logos_type_reader.specs.StillRuns.{still_run, still_token};
 ghost use Rattle.logos_type_reader.specs.Table.{Spot as SpotOfRuns, outer, name_of, asks, keeps_type, nests};
-ghost use Rattle.logos_type_reader.specs.Reading.{IsType, NoType, IsMove, behind_type, next_of};
-ghost use Rattle.logos_type_reader.specs.ReadingViews.{spot_of, behind_of, IfFault, IsStep, GivesMove, GivesParts};
+ghost use Rattle.logos_type_reader.specs.Reading.{IsType, NoType, IsMove, after_type, next_of};
+ghost use Rattle.logos_type_reader.specs.ReadingViews.{spot_of, outside_of, IfFault, IsStep, GivesMove, GivesParts};
 ghost use Rattle.logos_type.specs.TypeTrees.{type_tree};
 ghost use Rattle.logos_type_reader.specs.TypeExprs.{IsTypeExpr, NoTypeExpr};
 
@@ -21,7 +21,7 @@ pub enum TypeFault {
     /// At the span stands a type that is left out.
     Unsupported { span: Span },
     /// At the span stands the first token that does not fit; `0..0` where the tokens run out.
-    Misfit { span: Span },
+    Mismatch { span: Span },
     /// More types stand inside one another than may.
     LimitNesting,
     /// Memory ran out.
@@ -56,7 +56,7 @@ impl From<Stop> for TypeFault {
     fn from(stop: Stop) -> TypeFault {
         match stop {
             Stop::Unsupported(span) => TypeFault::Unsupported { span },
-            Stop::Misfit(span) => TypeFault::Misfit { span },
+            Stop::Mismatch(span) => TypeFault::Mismatch { span },
         }
     }
 }
@@ -118,23 +118,23 @@ fn keep_group<'s>(group: Group<'_, 's>, parts: &mut Vec<Part<'s>>) -> Result<(),
 }
 
 /// What is behind all that is open there.
-fn behind_all<'t, 's>(spot: Spot<'t, 's>) -> Tokens<'t, 's>
-    ensures { tokens_of result ≡ outer (tokens_of spot.entry.run) (behind_of spot.entry.behind) }
+fn after_all<'t, 's>(spot: Spot<'t, 's>) -> Tokens<'t, 's>
+    ensures { tokens_of result ≡ outer (tokens_of spot.entry.run) (outside_of spot.entry.outside) }
 {
-    match spot.behind {
+    match spot.outside {
         Some(rest) => rest,
         None => spot.run,
     }
 }
 
 /// A place behind a type or a path that was read.
-fn behind_type<'t, 's>(spot: Spot<'t, 's>, place: Place, run: Tokens<'t, 's>) -> Spot<'t, 's>
-    ensures { spot_of result ≡ behind_type (spot_of spot.entry) place (tokens_of run.entry) }
+fn after_type<'t, 's>(spot: Spot<'t, 's>, place: Place, run: Tokens<'t, 's>) -> Spot<'t, 's>
+    ensures { spot_of result ≡ after_type (spot_of spot.entry) place (tokens_of run.entry) }
 {
     Spot {
         place,
         run,
-        behind: spot.behind,
+        outside: spot.outside,
     }
 }
 
@@ -214,7 +214,7 @@ fn move_past_type<'t, 's>(
         (map tree_of parts.new.items) result }
 {
     match type_at(alloc, levels, plus, spot.run) {
-        Ok((part, rest)) => move_past(false, part, behind_type(spot, place, rest), parts),
+        Ok((part, rest)) => move_past(false, part, after_type(spot, place, rest), parts),
         Err(fault) => Err(fault),
     }
 }
@@ -233,7 +233,7 @@ fn move_past_still_type<'t, 's>(
         (map tree_of parts.new.items) result }
 {
     match type_at(alloc, levels, true, spot.run) {
-        Ok((part, rest)) => move_past_kept(alloc, part, behind_type(spot, place, rest), parts),
+        Ok((part, rest)) => move_past_kept(alloc, part, after_type(spot, place, rest), parts),
         Err(fault) => Err(fault),
     }
 }
@@ -255,7 +255,7 @@ fn move_past_nest<'t, 's>(
     let (leaf, inner) = opening;
     add_leaf(leaf, parts)?;
     match parts_at(alloc, levels, inner, parts) {
-        Ok((barred, rest)) => Ok(Some((barred, behind_type(spot, place, rest)))),
+        Ok((barred, rest)) => Ok(Some((barred, after_type(spot, place, rest)))),
         Err(fault) => Err(fault),
     }
 }
@@ -297,7 +297,7 @@ fn move_on<'t, 's>(
     ensures { GivesMove levels (spot_of spot.entry) (map tree_of parts.old.items)
         (map tree_of parts.new.items) result }
 {
-    match next_at(spot.place, spot.run, spot.behind) {
+    match next_at(spot.place, spot.run, spot.outside) {
         Ok(step) => make_step(alloc, levels, step, spot, parts),
         Err(stop) => Err(TypeFault::from(stop)),
     }
@@ -320,7 +320,7 @@ fn parts_at<'t, 's>(
         barred = barred | bars;
         spot = next;
     }
-    Ok((barred, behind_all(spot)))
+    Ok((barred, after_all(spot)))
 }
 
 /// From the first of the tokens up to the rest.

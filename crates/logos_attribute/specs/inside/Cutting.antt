@@ -11,8 +11,8 @@ first_run none = none
 first_run (also token rest) = also token (up_to_comma rest)
 
 -- behind a name and a token that is no name, literal or group
-abbrev pub behind_mark : Slice → Token → TokenList → List Piece
-behind_mark name token rest =
+abbrev pub after_mark : Slice → Token → TokenList → List Piece
+after_mark name token rest =
     if is_alone equals token then through_comma (λ run. named name (assigned run)) rest
     else (if is_alone comma token then unnamed (also (name_token name) none) ∷ pieces rest
     else through_comma (λ run. unnamed (also (name_token name) (also token run))) rest)

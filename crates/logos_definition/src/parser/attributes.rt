@@ -1,6 +1,6 @@
 //! Attributes as wholes, and generic parameters.
 ghost use Rattle.std.specs.Prelude.{OnOk};
-ghost use Rattle.logos_attribute.specs.Told.{Lists};
+ghost use Rattle.logos_attribute.specs.Reports.{AddsFault};
 ghost use Rattle.logos_definition.specs.Attributes.{logos_form, const_generic};
 
 use crate::definition::{Definition, read_definition};
@@ -12,15 +12,15 @@ use logos_token::error::{Errors, FaultCode, Memory};
 use logos_token::token::Span;
 
 /// Lists a `logos` attribute without arguments.
-fn list_logos_form(span: Span, errors: &mut Errors) -> Result<(), Memory>
-    ensures { OnOk result (Lists (logos_form span) errors.old errors.new) }
+fn report_logos_form(span: Span, errors: &mut Errors) -> Result<(), Memory>
+    ensures { OnOk result (AddsFault (logos_form span) errors.old errors.new) }
 {
     errors.err(FaultCode::LogosForm, "Expected #[logos(...)]", span)
 }
 
 /// Lists a parameter that stands for a constant.
-fn list_const(span: Span, errors: &mut Errors) -> Result<(), Memory>
-    ensures { OnOk result (Lists (const_generic span) errors.old errors.new) }
+fn report_const(span: Span, errors: &mut Errors) -> Result<(), Memory>
+    ensures { OnOk result (AddsFault (const_generic span) errors.old errors.new) }
 {
     errors.err(
         FaultCode::ConstGeneric,
@@ -36,8 +36,8 @@ impl<'s> Parser<'s> {
     ghost use Rattle.logos_item.specs.AttributeValues.{attribute_value};
     ghost use Rattle.logos_attribute.specs.Pieces.{pieces};
     ghost use Rattle.logos_attribute.specs.Slices.{ident_slice};
-    ghost use Rattle.logos_attribute.specs.Told.{Tells};
-    ghost use Rattle.logos_definition.specs.Attributes.{parameter_told, meta_told};
+    ghost use Rattle.logos_attribute.specs.Reports.{IsReport};
+    ghost use Rattle.logos_definition.specs.Attributes.{parameter_report, meta_report};
     ghost use Rattle.logos_definition.specs.Attributes.{MetaSays, AttributeSays};
     ghost use Rattle.logos_definition.specs.DefinitionViews.{definition_view};
     ghost use Rattle.logos_definition.specs.Metas.{meta_of, meta_view};
@@ -45,8 +45,8 @@ impl<'s> Parser<'s> {
 
     /// Adds what a generic parameter says.
     fn add_parameter(&mut self, parameter: Parameter<'_, 's>) -> Result<(), Memory>
-        ensures { OnOk result (Tells
-            (parameter_told parameter.entry.kind (ident_slice parameter.entry.name)
+        ensures { OnOk result (IsReport
+            (parameter_report parameter.entry.kind (ident_slice parameter.entry.name)
             (run_span (tokens_of parameter.entry.run)) (parser_view self.old))
             (parser_view self.new) self.old.errors self.new.errors) }
     {
@@ -54,7 +54,7 @@ impl<'s> Parser<'s> {
         match parameter.kind {
             ParameterKind::Lifetime => self.types.explicit_lifetime(span, &mut self.errors),
             ParameterKind::Type => self.types.add(parameter.name),
-            ParameterKind::Const => list_const(span, &mut self.errors),
+            ParameterKind::Const => report_const(span, &mut self.errors),
         }
     }
 
@@ -62,8 +62,8 @@ impl<'s> Parser<'s> {
     /// declared; or a constant, which is listed. Faults stand at the whole parameter. After `Memory`
     /// the parser has failed.
     pub fn parse_generic(&mut self, parameter: Parameter<'_, 's>) -> Result<(), Memory>
-        ensures ok { OnOk result (Tells
-            (parameter_told parameter.entry.kind (ident_slice parameter.entry.name)
+        ensures ok { OnOk result (IsReport
+            (parameter_report parameter.entry.kind (ident_slice parameter.entry.name)
             (run_span (tokens_of parameter.entry.run)) (parser_view self.old))
             (parser_view self.new) self.old.errors self.new.errors) }
         ensures going { OnOk result (HasNotFailed self.old self.new) }
@@ -85,7 +85,7 @@ impl<'s> Parser<'s> {
     {
         match meta.arguments {
             Some(run) => self.add_pieces(AttributeParser::new(run)),
-            None => list_logos_form(span, &mut self.errors),
+            None => report_logos_form(span, &mut self.errors),
         }
     }
 
@@ -126,8 +126,8 @@ impl<'s> Parser<'s> {
         &mut self,
         attribute: Attribute<'_, 's>,
     ) -> Result<Option<Definition<'s>>, Memory>
-        ensures ok { IfOk result (λ definition. Tells
-            (meta_told (meta_of (attribute_value attribute.entry)))
+        ensures ok { IfOk result (λ definition. IsReport
+            (meta_report (meta_of (attribute_value attribute.entry)))
             (option_map definition_view definition) self.old.errors self.new.errors) }
         ensures kept { OnOk result (parser_view self.new ≡ parser_view self.old) }
         ensures going { OnOk result (HasNotFailed self.old self.new) }
@@ -146,8 +146,8 @@ impl<'s> Parser<'s> {
         &mut self,
         attribute: Attribute<'_, 's>,
     ) -> Result<Option<Definition<'s>>, Memory>
-        ensures ok { IfOk result (λ definition. Tells
-            (meta_told (meta_of (attribute_value attribute.entry)))
+        ensures ok { IfOk result (λ definition. IsReport
+            (meta_report (meta_of (attribute_value attribute.entry)))
             (option_map definition_view definition) self.old.errors self.new.errors) }
         ensures kept { OnOk result (parser_view self.new ≡ parser_view self.old) }
         ensures going { self.new.failed ≡ self.old.failed }
@@ -156,7 +156,7 @@ impl<'s> Parser<'s> {
             return Ok(None);
         };
         match meta.arguments {
-            Some(run) => read_definition(self.alloc, run, &mut self.errors),
+            Some(run) => read_definition(run, &mut self.errors),
             None => Ok(None),
         }
     }

@@ -2,7 +2,7 @@
 ghost use Rattle.std.specs.Prelude.{◌≡◌, ◌++◌, OnOk, Some};
 ghost use Rattle.logos_token.specs.Views.{tokens_of};
 ghost use Rattle.logos_attribute.specs.Slices.{ident_slice};
-ghost use Rattle.logos_attribute.specs.Told.{Lists};
+ghost use Rattle.logos_attribute.specs.Reports.{AddsFault};
 ghost use Rattle.logos_definition.specs.OptionFaults.{once_only, utf8_twice, extras_twice};
 ghost use Rattle.logos_definition.specs.OptionFaults.{error_twice, export_twice, skip_form};
 ghost use Rattle.logos_definition.specs.OptionFaults.{skip_group, utf8_value, utf8_form};
@@ -11,13 +11,12 @@ ghost use Rattle.logos_definition.specs.OptionFaults.{export_form, subpattern_fo
 ghost use Rattle.logos_definition.specs.OptionFaults.{source_old, unknown_logos, invalid_nested};
 ghost use Rattle.logos_definition.specs.OptionFaults.{type_form};
 
-use logos_attribute::listing::{list_form, list_named, list_run};
+use logos_attribute::reporting::{report_form, report_named, report_run};
 use logos_token::error::{Errors, FaultCode, Memory};
 use logos_token::token::{Ident, Span, Tokens};
-use std::alloc::Global;
 
 /// Lists that something is said here, and was said there before.
-fn list_twice(
+fn report_twice(
     errors: &mut Errors,
     code: FaultCode,
     message: &str,
@@ -32,10 +31,10 @@ fn list_twice(
 }
 
 /// Lists that the mode was said before, and where.
-pub(super) fn list_mode_twice(here: Span, there: Span, errors: &mut Errors) -> Result<(), Memory>
+pub(super) fn report_mode_twice(here: Span, there: Span, errors: &mut Errors) -> Result<(), Memory>
     ensures { OnOk result (errors.new ≡ errors.old ++ utf8_twice here (Some there)) }
 {
-    list_twice(
+    report_twice(
         errors,
         FaultCode::Utf8Twice,
         "Utf8 mode can be defined only once",
@@ -45,10 +44,14 @@ pub(super) fn list_mode_twice(here: Span, there: Span, errors: &mut Errors) -> R
 }
 
 /// Lists that extras were said before, and where.
-pub(super) fn list_extras_twice(here: Span, there: Span, errors: &mut Errors) -> Result<(), Memory>
+pub(super) fn report_extras_twice(
+    here: Span,
+    there: Span,
+    errors: &mut Errors,
+) -> Result<(), Memory>
     ensures { OnOk result (errors.new ≡ errors.old ++ extras_twice here (Some there)) }
 {
-    list_twice(
+    report_twice(
         errors,
         FaultCode::ExtrasTwice,
         "Extras can be defined only once",
@@ -58,10 +61,10 @@ pub(super) fn list_extras_twice(here: Span, there: Span, errors: &mut Errors) ->
 }
 
 /// Lists that a type of errors was said before, and where.
-pub(super) fn list_error_twice(here: Span, there: Span, errors: &mut Errors) -> Result<(), Memory>
+pub(super) fn report_error_twice(here: Span, there: Span, errors: &mut Errors) -> Result<(), Memory>
     ensures { OnOk result (errors.new ≡ errors.old ++ error_twice here (Some there)) }
 {
-    list_twice(
+    report_twice(
         errors,
         FaultCode::ErrorTwice,
         "Error type can be defined only once",
@@ -71,10 +74,14 @@ pub(super) fn list_error_twice(here: Span, there: Span, errors: &mut Errors) -> 
 }
 
 /// Lists that a path was said before, and where.
-pub(super) fn list_export_twice(here: Span, there: Span, errors: &mut Errors) -> Result<(), Memory>
+pub(super) fn report_export_twice(
+    here: Span,
+    there: Span,
+    errors: &mut Errors,
+) -> Result<(), Memory>
     ensures { OnOk result (errors.new ≡ errors.old ++ export_twice here (Some there)) }
 {
-    list_twice(
+    report_twice(
         errors,
         FaultCode::ExportTwice,
         "Export path can be defined only once",
@@ -84,10 +91,10 @@ pub(super) fn list_export_twice(here: Span, there: Span, errors: &mut Errors) ->
 }
 
 /// Lists another form of `skip`.
-pub(super) fn list_skip_form(name: Ident<'_>, errors: &mut Errors) -> Result<(), Memory>
-    ensures { OnOk result (Lists (skip_form (ident_slice name.entry)) errors.old errors.new) }
+pub(super) fn report_skip_form(name: Ident<'_>, errors: &mut Errors) -> Result<(), Memory>
+    ensures { OnOk result (AddsFault (skip_form (ident_slice name.entry)) errors.old errors.new) }
 {
-    list_form(
+    report_form(
         errors,
         FaultCode::SkipForm,
         "Expected: #[logos(skip \"regex literal\")] or #[logos(skip(...))]",
@@ -96,10 +103,10 @@ pub(super) fn list_skip_form(name: Ident<'_>, errors: &mut Errors) -> Result<(),
 }
 
 /// Lists another form of `utf8`.
-pub(super) fn list_utf8_form(name: Ident<'_>, errors: &mut Errors) -> Result<(), Memory>
-    ensures { OnOk result (Lists (utf8_form (ident_slice name.entry)) errors.old errors.new) }
+pub(super) fn report_utf8_form(name: Ident<'_>, errors: &mut Errors) -> Result<(), Memory>
+    ensures { OnOk result (AddsFault (utf8_form (ident_slice name.entry)) errors.old errors.new) }
 {
-    list_form(
+    report_form(
         errors,
         FaultCode::Utf8Form,
         "Expected: #[logos(utf8 = true)]",
@@ -108,10 +115,10 @@ pub(super) fn list_utf8_form(name: Ident<'_>, errors: &mut Errors) -> Result<(),
 }
 
 /// Lists another form of `extras`.
-pub(super) fn list_extras_form(name: Ident<'_>, errors: &mut Errors) -> Result<(), Memory>
-    ensures { OnOk result (Lists (extras_form (ident_slice name.entry)) errors.old errors.new) }
+pub(super) fn report_extras_form(name: Ident<'_>, errors: &mut Errors) -> Result<(), Memory>
+    ensures { OnOk result (AddsFault (extras_form (ident_slice name.entry)) errors.old errors.new) }
 {
-    list_form(
+    report_form(
         errors,
         FaultCode::ExtrasForm,
         "Expected: #[logos(extras = SomeType)]",
@@ -120,10 +127,10 @@ pub(super) fn list_extras_form(name: Ident<'_>, errors: &mut Errors) -> Result<(
 }
 
 /// Lists another form of `crate`.
-pub(super) fn list_crate_form(name: Ident<'_>, errors: &mut Errors) -> Result<(), Memory>
-    ensures { OnOk result (Lists (crate_form (ident_slice name.entry)) errors.old errors.new) }
+pub(super) fn report_crate_form(name: Ident<'_>, errors: &mut Errors) -> Result<(), Memory>
+    ensures { OnOk result (AddsFault (crate_form (ident_slice name.entry)) errors.old errors.new) }
 {
-    list_form(
+    report_form(
         errors,
         FaultCode::CrateForm,
         "Expected: #[logos(crate = path::to::logos)]",
@@ -132,10 +139,10 @@ pub(super) fn list_crate_form(name: Ident<'_>, errors: &mut Errors) -> Result<()
 }
 
 /// Lists another form of `export_dir`.
-pub(super) fn list_export_form(name: Ident<'_>, errors: &mut Errors) -> Result<(), Memory>
-    ensures { OnOk result (Lists (export_form (ident_slice name.entry)) errors.old errors.new) }
+pub(super) fn report_export_form(name: Ident<'_>, errors: &mut Errors) -> Result<(), Memory>
+    ensures { OnOk result (AddsFault (export_form (ident_slice name.entry)) errors.old errors.new) }
 {
-    list_form(
+    report_form(
         errors,
         FaultCode::ExportForm,
         "Expected #[logos(export_dir = \"path/to/export/dir\")]",
@@ -144,10 +151,11 @@ pub(super) fn list_export_form(name: Ident<'_>, errors: &mut Errors) -> Result<(
 }
 
 /// Lists another form of `subpattern`.
-pub(super) fn list_subpattern_form(name: Ident<'_>, errors: &mut Errors) -> Result<(), Memory>
-    ensures { OnOk result (Lists (subpattern_form (ident_slice name.entry)) errors.old errors.new) }
+pub(super) fn report_subpattern_form(name: Ident<'_>, errors: &mut Errors) -> Result<(), Memory>
+    ensures { OnOk result
+        (AddsFault (subpattern_form (ident_slice name.entry)) errors.old errors.new) }
 {
-    list_form(
+    report_form(
         errors,
         FaultCode::SubpatternForm,
         "Expected: #[logos(subpattern name = r\"regex\")]",
@@ -156,10 +164,10 @@ pub(super) fn list_subpattern_form(name: Ident<'_>, errors: &mut Errors) -> Resu
 }
 
 /// Lists another form of `error`.
-pub(super) fn list_error_form(name: Ident<'_>, errors: &mut Errors) -> Result<(), Memory>
-    ensures { OnOk result (Lists (error_form (ident_slice name.entry)) errors.old errors.new) }
+pub(super) fn report_error_form(name: Ident<'_>, errors: &mut Errors) -> Result<(), Memory>
+    ensures { OnOk result (AddsFault (error_form (ident_slice name.entry)) errors.old errors.new) }
 {
-    list_form(
+    report_form(
         errors,
         FaultCode::ErrorForm,
         "Expected: #[logos(error = SomeType)] or #[logos(error(SomeType[, callback))]",
@@ -168,10 +176,10 @@ pub(super) fn list_error_form(name: Ident<'_>, errors: &mut Errors) -> Result<()
 }
 
 /// Lists the name `source`, in place of which `utf8` stands.
-pub(super) fn list_source_old(name: Ident<'_>, errors: &mut Errors) -> Result<(), Memory>
-    ensures { OnOk result (Lists (source_old (ident_slice name.entry)) errors.old errors.new) }
+pub(super) fn report_source_old(name: Ident<'_>, errors: &mut Errors) -> Result<(), Memory>
+    ensures { OnOk result (AddsFault (source_old (ident_slice name.entry)) errors.old errors.new) }
 {
-    list_form(
+    report_form(
         errors,
         FaultCode::SourceOld,
         "The `source` attribute is deprecated. Use the `utf8` attribute instead",
@@ -180,10 +188,10 @@ pub(super) fn list_source_old(name: Ident<'_>, errors: &mut Errors) -> Result<()
 }
 
 /// Lists a `skip(..)` without a literal in front.
-pub(super) fn list_skip_group(tokens: Tokens<'_, '_>, errors: &mut Errors) -> Result<(), Memory>
-    ensures { OnOk result (Lists (skip_group (tokens_of tokens.entry)) errors.old errors.new) }
+pub(super) fn report_skip_group(tokens: Tokens<'_, '_>, errors: &mut Errors) -> Result<(), Memory>
+    ensures { OnOk result (AddsFault (skip_group (tokens_of tokens.entry)) errors.old errors.new) }
 {
-    list_run(
+    report_run(
         errors,
         FaultCode::SkipGroup,
         "Expected #[logos(skip(\"regex literal\"[, [callback = ] callback, priority = priority]))]",
@@ -192,10 +200,10 @@ pub(super) fn list_skip_group(tokens: Tokens<'_, '_>, errors: &mut Errors) -> Re
 }
 
 /// Lists a mode that is neither `true` nor `false`.
-pub(super) fn list_utf8_value(tokens: Tokens<'_, '_>, errors: &mut Errors) -> Result<(), Memory>
-    ensures { OnOk result (Lists (utf8_value (tokens_of tokens.entry)) errors.old errors.new) }
+pub(super) fn report_utf8_value(tokens: Tokens<'_, '_>, errors: &mut Errors) -> Result<(), Memory>
+    ensures { OnOk result (AddsFault (utf8_value (tokens_of tokens.entry)) errors.old errors.new) }
 {
-    list_run(
+    report_run(
         errors,
         FaultCode::Utf8Value,
         "Expected a boolean literal: expected boolean literal",
@@ -204,17 +212,22 @@ pub(super) fn list_utf8_value(tokens: Tokens<'_, '_>, errors: &mut Errors) -> Re
 }
 
 /// Lists a path that is a byte string.
-pub(super) fn list_export_bytes(tokens: Tokens<'_, '_>, errors: &mut Errors) -> Result<(), Memory>
-    ensures { OnOk result (Lists (export_bytes (tokens_of tokens.entry)) errors.old errors.new) }
+pub(super) fn report_export_bytes(tokens: Tokens<'_, '_>, errors: &mut Errors) -> Result<(), Memory>
+    ensures { OnOk result
+        (AddsFault (export_bytes (tokens_of tokens.entry)) errors.old errors.new) }
 {
-    list_run(errors, FaultCode::ExportBytes, "Expected a &str", tokens)
+    report_run(errors, FaultCode::ExportBytes, "Expected a &str", tokens)
 }
 
 /// Lists tokens that are no argument.
-pub(super) fn list_invalid_nested(tokens: Tokens<'_, '_>, errors: &mut Errors) -> Result<(), Memory>
-    ensures { OnOk result (Lists (invalid_nested (tokens_of tokens.entry)) errors.old errors.new) }
+pub(super) fn report_invalid_nested(
+    tokens: Tokens<'_, '_>,
+    errors: &mut Errors,
+) -> Result<(), Memory>
+    ensures { OnOk result
+        (AddsFault (invalid_nested (tokens_of tokens.entry)) errors.old errors.new) }
 {
-    list_run(
+    report_run(
         errors,
         FaultCode::InvalidNested,
         "Invalid nested attribute",
@@ -223,15 +236,11 @@ pub(super) fn list_invalid_nested(tokens: Tokens<'_, '_>, errors: &mut Errors) -
 }
 
 /// Lists a name that no option has.
-pub(super) fn list_unknown_logos(
-    alloc: Global,
-    name: Ident<'_>,
-    errors: &mut Errors,
-) -> Result<(), Memory>
-    ensures { OnOk result (Lists (unknown_logos (ident_slice name.entry)) errors.old errors.new) }
+pub(super) fn report_unknown_logos(name: Ident<'_>, errors: &mut Errors) -> Result<(), Memory>
+    ensures { OnOk result
+        (AddsFault (unknown_logos (ident_slice name.entry)) errors.old errors.new) }
 {
-    list_named(
-        alloc,
+    report_named(
         errors,
         FaultCode::UnknownLogos,
         "Unknown nested attribute #[logos(",
@@ -241,10 +250,10 @@ pub(super) fn list_unknown_logos(
 }
 
 /// Lists another form of `type`.
-pub(super) fn list_type_form(name: Ident<'_>, errors: &mut Errors) -> Result<(), Memory>
-    ensures { OnOk result (Lists (type_form (ident_slice name.entry)) errors.old errors.new) }
+pub(super) fn report_type_form(name: Ident<'_>, errors: &mut Errors) -> Result<(), Memory>
+    ensures { OnOk result (AddsFault (type_form (ident_slice name.entry)) errors.old errors.new) }
 {
-    list_form(
+    report_form(
         errors,
         FaultCode::TypeForm,
         "Expected: #[logos(type T = SomeType)]",

@@ -99,8 +99,8 @@ fn character_opening(source: &str, at: usize) -> Option<Opening>
     if byte_at(source, at) == b'\\' {
         return Some(Opening::Apostrophes(Content::Text));
     }
-    let behind = at + char_at(source, at).len_utf8();
-    if byte_at(source, behind) == b'\'' {
+    let after = at + char_at(source, at).len_utf8();
+    if byte_at(source, after) == b'\'' {
         return Some(Opening::Character);
     }
     None
@@ -258,11 +258,11 @@ fn single_kind(source: &str, at: usize) -> Option<Kind>
     ensures { result ≡ single_kind source.now at }
 {
     let c = char_at(source, at);
-    let behind = past(source, at);
+    let after = past(source, at);
     if is_mark(c) {
-        return Some(Kind::Punctuation(spacing(source, behind)));
+        return Some(Kind::Punctuation(spacing(source, after)));
     }
-    if c == '\'' && is_start(char_at(source, behind)) {
+    if c == '\'' && is_start(char_at(source, after)) {
         return Some(Kind::Punctuation(Spacing::Joint));
     }
     if c == '\u{FEFF}' && at == 0 {

@@ -298,7 +298,7 @@ as-one content other xs e = ap (λ c. held_as c xs) e
 module _ (text : List ℕ) where
   quotes-held : (content other : Content) (end : ℕ) (xs : List ℕ) → Ends text 0 (Quotes content) end → HoldsIn text (Quotes content) end other xs → held_in text (Quotes content) ≡ held_as other xs
   quotes-held content other end xs e h =
-      let whole : end - 1 ≡ e.quote_at = omega (arith, e.behind) in
+      let whole : end - 1 ≡ e.quote_at = omega (arith, e.after) in
       let closing = closing-quote text content in
       let inside = quote-within text (body_of (Quotes content) 0) e.quote_at e.until in
       let filled : Holds true content text (body_of (Quotes content) 0) e.quote_at xs = rw whole at (subst (λ c. Holds true c text (body_of (Quotes content) 0) (end - 1) xs) refl h.1) in
@@ -306,7 +306,7 @@ module _ (text : List ℕ) where
 
   raw-held : (content other : Content) (count end : ℕ) (xs : List ℕ) → Ends text 0 (Raw content count) end → HoldsIn text (Raw content count) end other xs → held_in text (Raw content count) ≡ held_as other xs
   raw-held content other count end xs e h =
-      let whole : end - 1 - count ≡ e.quote_at = omega (arith, e.behind) in
+      let whole : end - 1 - count ≡ e.quote_at = omega (arith, e.after) in
       let closing = closing-raw count text content in
       let inside = closing.inside (body_of (Raw content count) 0) e.quote_at e.first in
       let filled : Holds false content text (body_of (Raw content count) 0) e.quote_at xs = rw whole at h.1 in

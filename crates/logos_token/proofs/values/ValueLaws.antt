@@ -24,7 +24,7 @@ use Rattle.logos_lexeme.specs.declared.lexeme.openings.Opening.TheVariants.{Spac
 use Rattle.logos_token.specs.LiteralValues.{HoldsIn, BeginsWithString, IsValue}
 use Rattle.logos_token.specs.inside.ValueReads.{IsHeld}
 use Rattle.logos_lexeme.proofs.EndLaws.{Ends-one}
-use Rattle.logos_lexeme.proofs.CharacterLaws.{boundary-behind}
+use Rattle.logos_lexeme.proofs.CharacterLaws.{boundary-after}
 use Rattle.logos_lexeme.proofs.BodyLaws.{Says-one, Says-moves}
 
 module _ (escapes : Bool) (content : Content) (bytes : List ℕ) where
@@ -145,9 +145,9 @@ module _ (escapes : Bool) (bytes : List ℕ) (at next : ℕ) where
 
 module _ (escapes : Bool) (bytes : List ℕ) (utf8 : IsUtf8 bytes) (at next : ℕ) where
   escape-boundary : (held : List ℕ) → IsEscape Text bytes at next held → IsCharBoundary bytes next
-  escape-boundary held (simple e s v) = let a = simple_ascii (get_or bytes (at + 1) 0) s in boundary-behind bytes utf8 (at + 1) next (omega (arith, a.0)) (omega (arith, a.1)) (omega arith)
-  escape-boundary held (hex h v) = let a = hex_ascii (get_or bytes (at + 3) 0) h.second in boundary-behind bytes utf8 (at + 3) next (omega (arith, a.0)) (omega (arith, a.1)) (omega arith)
-  escape-boundary held (unicode {brace} c u v) = let e = u.closes in boundary-behind bytes utf8 brace next (omega arith) (omega arith) v
+  escape-boundary held (simple e s v) = let a = simple_ascii (get_or bytes (at + 1) 0) s in boundary-after bytes utf8 (at + 1) next (omega (arith, a.0)) (omega (arith, a.1)) (omega arith)
+  escape-boundary held (hex h v) = let a = hex_ascii (get_or bytes (at + 3) 0) h.second in boundary-after bytes utf8 (at + 3) next (omega (arith, a.0)) (omega (arith, a.1)) (omega arith)
+  escape-boundary held (unicode {brace} c u v) = let e = u.closes in boundary-after bytes utf8 brace next (omega arith) (omega arith) v
 
   last_blank : IsContinuation bytes at next → (at + 1 < next) × (is_blank (get_or bytes (next - 1) 0) ≡ true)
   last_blank k =
@@ -156,14 +156,14 @@ module _ (escapes : Bool) (bytes : List ℕ) (utf8 : IsUtf8 bytes) (at next : �
       (ahead, true_from_ne_false (is_blank (get_or bytes (next - 1) 0)) (k.blanks.first (next - 1) (omega arith) (omega arith)))
 
   pub says-boundary : (held : List ℕ) → Says escapes Text bytes at next held → (get_or bytes at 0 ≡ 13) ⊎ (get_or bytes at 0 ≡ 92) → IsCharBoundary bytes next
-  says-boundary held (plain e a v) (inl f) = boundary-behind bytes utf8 at next (omega arith) (omega arith) v
-  says-boundary held (plain e a v) (inr f) = boundary-behind bytes utf8 at next (omega arith) (omega arith) v
-  says-boundary held (return r) f = let e = r.1 in boundary-behind bytes utf8 (at + 1) next (omega arith) (omega arith) (omega (arith, r.2))
+  says-boundary held (plain e a v) (inl f) = boundary-after bytes utf8 at next (omega arith) (omega arith) v
+  says-boundary held (plain e a v) (inr f) = boundary-after bytes utf8 at next (omega arith) (omega arith) v
+  says-boundary held (return r) f = let e = r.1 in boundary-after bytes utf8 (at + 1) next (omega arith) (omega arith) (omega (arith, r.2))
   says-boundary held (escape t e) f = escape-boundary held e
   says-boundary held (continuation t k) f =
       let b = last_blank k in
       let a = blank_ascii (get_or bytes (next - 1) 0) b.1 in
-      boundary-behind bytes utf8 (next - 1) next (omega (arith, a.0)) (omega (arith, a.1)) (omega (arith, b.0))
+      boundary-after bytes utf8 (next - 1) next (omega (arith, a.0)) (omega (arith, a.1)) (omega (arith, b.0))
 
 pub special_ascii : (bytes : List ℕ) (at : ℕ) → (get_or bytes at 0 ≡ 13) ⊎ (get_or bytes at 0 ≡ 92) → get_or bytes at 0 < 128
 special_ascii bytes at (inl e) = omega arith

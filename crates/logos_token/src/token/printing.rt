@@ -4,7 +4,7 @@ ghost use Rattle.logos_token.specs.PrintedAgain.{SpellsAgain, IsRunOf, EndsJoint
 ghost use Rattle.logos_token.specs.Spelling.{Spells};
 ghost use Rattle.logos_token.specs.Tokens.{TokenList, none};
 ghost use Rattle.logos_token.specs.Views.{tokens_of};
-ghost use Rattle.logos_token.specs.Printing.{opening_text, closing_text, gap_behind, is_line_comment, printed};
+ghost use Rattle.logos_token.specs.Printing.{opening_text, closing_text, gap_after, is_line_comment, printed};
 ghost use Rattle.logos_token.specs.inside.PrintingSteps.{printed_of, PrintsOn, LeavesFewer};
 
 use crate::error::Memory;
@@ -52,8 +52,8 @@ pub fn closing_text(delimiter: Delimiter) -> &'static str
 }
 
 /// What parts a punctuation from the next lexeme.
-pub fn gap_behind(spacing: Spacing) -> &'static str
-    ensures { result.now ≡ gap_behind spacing }
+pub fn gap_after(spacing: Spacing) -> &'static str
+    ensures { result.now ≡ gap_after spacing }
 {
     match spacing {
         Spacing::Alone => " ",
@@ -62,7 +62,7 @@ pub fn gap_behind(spacing: Spacing) -> &'static str
 }
 
 /// What parts a documentation comment from the next lexeme: the line's end behind a line comment.
-pub fn gap_behind_doc(text: &str) -> &'static str
+pub fn gap_after_doc(text: &str) -> &'static str
     ensures { result.now ≡ (if is_line_comment text.now then 10 ∷ [] else codes " ") }
 {
     match text.as_bytes() {
@@ -108,10 +108,10 @@ impl Printer {
         match tree {
             TokenTree::Ident(ident) => self.add(ident.text, " ")?,
             TokenTree::Punct(punct) => {
-                self.add_character(punct.character, gap_behind(punct.spacing))?
+                self.add_character(punct.character, gap_after(punct.spacing))?
             }
             TokenTree::Literal(literal) => self.add(literal.text, " ")?,
-            TokenTree::Doc(doc) => self.add(doc.text, gap_behind_doc(doc.text))?,
+            TokenTree::Doc(doc) => self.add(doc.text, gap_after_doc(doc.text))?,
             TokenTree::Group(group) => {
                 self.add(opening_text(group.delimiter), " ")?;
                 return Ok(Some(group));

@@ -6,7 +6,7 @@ ghost use Rattle.logos_type_params.specs.Generics.{type_of, generics_of, no_conc
 ghost use Rattle.logos_type_params.specs.inside.Checks.{CopiesName};
 
 use super::TypeParams;
-use crate::listing::list_about;
+use crate::reporting::report_about;
 use crate::substitution::TypeParam;
 use indexmap::{IndexMap, IndexSet};
 use logos_token::error::{Errors, FaultCode, Memory};
@@ -54,11 +54,10 @@ fn copy_concrete<'s>(
 }
 
 /// Lists that a declared name has no type.
-fn list_missing(alloc: Global, name: Ident<'_>, errors: &mut Errors) -> Result<(), Memory>
+fn report_missing(name: Ident<'_>, errors: &mut Errors) -> Result<(), Memory>
     ensures { OnOk result (errors.new ≡ errors.old ++ no_concrete_type (named_of name.entry) ∷ []) }
 {
-    list_about(
-        alloc,
+    report_about(
         errors,
         FaultCode::NoConcreteType,
         "Generic type parameter without a concrete type\n\nDefine a concrete type Logos can use: #[logos(type ",
@@ -68,8 +67,7 @@ fn list_missing(alloc: Global, name: Ident<'_>, errors: &mut Errors) -> Result<(
 }
 
 /// Adds the type of a declared name, or lists that it has none.
-fn add_or_list<'s>(
-    alloc: Global,
+fn add_or_report<'s>(
     found: Option<TypeExpr<'s>>,
     name: Ident<'s>,
     types: &mut Vec<TypeExpr<'s>>,
@@ -81,7 +79,7 @@ fn add_or_list<'s>(
         errors.old ++ and_fault (option_map type_tree found.entry) (named_of name.entry) []) }
 {
     let Some(type_expr) = found else {
-        return list_missing(alloc, name, errors);
+        return report_missing(name, errors);
     };
     types.push(type_expr)?;
     Ok(())
@@ -89,7 +87,6 @@ fn add_or_list<'s>(
 
 /// The types of declared names, in order; where one has none, that is listed.
 fn copy_types<'s>(
-    alloc: Global,
     names: &[Ident<'s>],
     types: &IndexMap<&'s str, TypeParam<'s>>,
     errors: &mut Errors,
@@ -99,11 +96,12 @@ fn copy_types<'s>(
     ensures faults { OnOk result (errors.new ≡ errors.old
         ++ missing_types (map given_of types.now.entries) [] (map named_of names.now)) }
 {
+    let alloc = errors.alloc();
     let mut front = IndexSet::new(alloc);
     let mut copies = Vec::new(alloc);
     for name in names {
         let found = copy_concrete(&mut front, types, *name)?;
-        add_or_list(alloc, found, *name, &mut copies, errors)?;
+        add_or_report(found, *name, &mut copies, errors)?;
     }
     Ok(copies)
 }
@@ -146,11 +144,11 @@ impl<'s> TypeParams<'s> {
             generics (value_of self.now)) }
         ensures faults { OnOk result (errors.new ≡ errors.old ++ missing_types
             (value_of self.now).types [] (value_of self.now).names) }
-        ensures unlisted { OnErr result (errors.new ≡ errors.old) }
+        ensures unreported { OnErr result (errors.new ≡ errors.old) }
     {
         let mut missing = Errors::new(self.alloc);
         let names = self.names.list.as_slice();
-        let types = copy_types(self.alloc, names, &self.types, &mut missing)?;
+        let types = copy_types(names, &self.types, &mut missing)?;
         errors.append(missing)?;
         Ok(bracketed(self.lifetime, types))
     }

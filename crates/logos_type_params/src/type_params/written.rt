@@ -7,7 +7,7 @@ ghost use Rattle.logos_type_params.specs.Substitution.{param_value};
 ghost use Rattle.logos_type_params.specs.inside.Checks.{AsksName};
 
 use super::TypeParams;
-use crate::listing::list_depth;
+use crate::reporting::report_depth;
 use crate::self_reference::Chains;
 use crate::substitution::{Replacing, type_after};
 use indexmap::IndexSet;
@@ -39,10 +39,10 @@ fn leave_written<'s>(
 ) -> Result<TypeExpr<'s>, Memory>
     ensures same { IfOk result (λ left. type_tree left ≡ type_tree written.now) }
     ensures faults { OnOk result (errors.new ≡ errors.old ++ limit_type_nesting span ∷ []) }
-    ensures unlisted { OnErr result (errors.new ≡ errors.old) }
+    ensures unreported { OnErr result (errors.new ≡ errors.old) }
 {
     let left = written.clone()?;
-    list_depth(errors, span)?;
+    report_depth(errors, span)?;
     Ok(left)
 }
 
@@ -80,7 +80,7 @@ impl<'s> TypeParams<'s> {
     ) -> Result<TypeExpr<'s>, Memory>
         ensures ok { IfOk result (λ got. GetsType (params_with self.now (texts held.now.keys))
             (type_tree written.now) span errors.old errors.new (type_tree got)) }
-        ensures unlisted { OnErr result (errors.new ≡ errors.old) }
+        ensures unreported { OnErr result (errors.new ≡ errors.old) }
     {
         let params = Replacing {
             types: &self.types,

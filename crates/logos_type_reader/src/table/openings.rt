@@ -30,7 +30,7 @@ fn reference_lifetime(run: Tokens<'_, '_>) -> First
     let name = run.rest().rest();
     match look(name) {
         Look::Word => Ok(Start::Lead(false, Lead::ReferenceLifetime, Place::Referent)),
-        _ => Err(Stop::Misfit(first_span(name))),
+        _ => Err(Stop::Mismatch(first_span(name))),
     }
 }
 
@@ -83,7 +83,7 @@ fn mark_first(mark: char, run: Tokens<'_, '_>) -> First
         _ if begins_colons(run) => {
             Ok(Start::Lead(false, Lead::Colons, Place::Colons(PathKind::Plain, false)))
         }
-        _ => Err(Stop::Misfit(first_span(run))),
+        _ => Err(Stop::Mismatch(first_span(run))),
     }
 }
 
@@ -97,7 +97,7 @@ fn start_at(plus: bool, run: Tokens<'_, '_>) -> First
         Look::Group(Delimiter::Parenthesis) => Ok(Start::Open(Place::List)),
         Look::Group(Delimiter::Bracket) => Ok(Start::Open(Place::Element)),
         Look::Mark(mark, _) => mark_first(mark, run),
-        _ => Err(Stop::Misfit(first_span(run))),
+        _ => Err(Stop::Mismatch(first_span(run))),
     }
 }
 

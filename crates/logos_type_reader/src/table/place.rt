@@ -134,14 +134,14 @@ pub(crate) enum Place {
 }
 
 /// The run behind the group that is open, if one is.
-pub(crate) type Behind<'t, 's> = Option<Tokens<'t, 's>>;
+pub(crate) type Outside<'t, 's> = Option<Tokens<'t, 's>>;
 
 /// A place, the run that is left there, and where this run is what a group holds, the run behind the group.
 #[derive(Clone, Copy)]
 pub(crate) struct Spot<'t, 's> {
     pub place: Place,
     pub run: Tokens<'t, 's>,
-    pub behind: Behind<'t, 's>,
+    pub outside: Outside<'t, 's>,
 }
 
 /// What comes next.
@@ -253,7 +253,7 @@ pub(crate) enum Stop {
     /// At the span stands a type that is left out.
     Unsupported(Span),
     /// At the span stands a token that does not fit.
-    Misfit(Span),
+    Mismatch(Span),
 }
 
 /// What is to be done at a place, or why nothing fits.

@@ -2,7 +2,7 @@
 ghost use Rattle.std.specs.Prelude.{◌≡◌};
 ghost use Rattle.logos_token.specs.Tokens.{rest_of};
 ghost use Rattle.logos_token.specs.Views.{tokens_of};
-ghost use Rattle.logos_type_reader.specs.Table.{misfits, first_span, begins_colons, begins_mark, begins_arrow, begins_dots, begins_parenthesis, begins_bound, typing, goes_on};
+ghost use Rattle.logos_type_reader.specs.Table.{mismatches, first_span, begins_colons, begins_mark, begins_arrow, begins_dots, begins_parenthesis, begins_bound, typing, goes_on};
 ghost use Rattle.logos_type_reader.specs.ReadingViews.{spot_of};
 ghost use Rattle.logos_type_reader.specs.inside.Actions.{Looks, first_text, begins_word, IsAction};
 
@@ -141,15 +141,15 @@ pub(super) fn begins_bound(run: Tokens<'_, '_>) -> bool
 }
 
 /// That the first token that is left does not fit.
-pub(super) fn misfit(at: &Spot<'_, '_>) -> Next
-    ensures { IsAction result (spot_of at.now) (misfits (tokens_of at.now.run)) }
+pub(super) fn mismatch(at: &Spot<'_, '_>) -> Next
+    ensures { IsAction result (spot_of at.now) (mismatches (tokens_of at.now.run)) }
 {
-    Err(Stop::Misfit(first_span(at.run)))
+    Err(Stop::Mismatch(first_span(at.run)))
 }
 
 /// That the second token that is left does not fit.
-pub(super) fn misfit_behind(at: &Spot<'_, '_>) -> Next
-    ensures { IsAction result (spot_of at.now) (misfits (rest_of (tokens_of at.now.run))) }
+pub(super) fn mismatch_after(at: &Spot<'_, '_>) -> Next
+    ensures { IsAction result (spot_of at.now) (mismatches (rest_of (tokens_of at.now.run))) }
 {
-    Err(Stop::Misfit(first_span(at.run.rest())))
+    Err(Stop::Mismatch(first_span(at.run.rest())))
 }

@@ -8,37 +8,36 @@ use logos_token::token::{Ident, Span};
 use std::alloc::Global;
 
 /// A text between two others.
-fn joined(alloc: Global, before: &str, text: &str, behind: &str) -> Result<String, Memory>
+fn joined(alloc: Global, before: &str, text: &str, after: &str) -> Result<String, Memory>
     ensures { IfOk result (λ message.
-        string_bytes message ≡ (before.now ++ text.now) ++ behind.now) }
+        string_bytes message ≡ (before.now ++ text.now) ++ after.now) }
 {
     let mut message = String::from_str(alloc, before)?;
     message.push_str(text)?;
-    message.push_str(behind)?;
+    message.push_str(after)?;
     Ok(message)
 }
 
 /// Lists a fault of a name, which stands between two texts in the message. After an error the
 /// faults are as before.
-pub fn list_about(
-    alloc: Global,
+pub fn report_about(
     errors: &mut Errors,
     code: FaultCode,
     before: &str,
     name: Ident<'_>,
-    behind: &str,
+    after: &str,
 ) -> Result<(), Memory>
     ensures ok { OnOk result (errors.new
-        ≡ errors.old ++ (about code before.now (named_of name.entry) behind.now) ∷ []) }
+        ≡ errors.old ++ (about code before.now (named_of name.entry) after.now) ∷ []) }
     ensures err { OnErr result (errors.new ≡ errors.old) }
 {
-    let message = joined(alloc, before, name.text, behind)?;
+    let message = joined(errors.alloc(), before, name.text, after)?;
     errors.err(code, message.as_str(), name.span)?;
     Ok(())
 }
 
 /// Lists that something was given before, at this span. After an error the faults are as before.
-pub fn list_previous(errors: &mut Errors, at: Span) -> Result<(), Memory>
+pub fn report_previous(errors: &mut Errors, at: Span) -> Result<(), Memory>
     ensures ok { OnOk result (errors.new ≡ errors.old ++ previous at ∷ []) }
     ensures err { OnErr result (errors.new ≡ errors.old) }
 {
@@ -54,7 +53,7 @@ pub fn type_nesting_text() -> &'static str
 
 /// Lists that more types stand inside one another in the value at this span than may. After an error
 /// the faults are as before.
-pub(crate) fn list_depth(errors: &mut Errors, at: Span) -> Result<(), Memory>
+pub(crate) fn report_depth(errors: &mut Errors, at: Span) -> Result<(), Memory>
     ensures ok { OnOk result (errors.new ≡ errors.old ++ limit_type_nesting at ∷ []) }
     ensures err { OnErr result (errors.new ≡ errors.old) }
 {

@@ -3,55 +3,55 @@ ghost use Rattle.std.specs.Prelude.{◌≡◌, OnOk, OnErr};
 ghost use Rattle.logos_token.specs.Tokens.{run_span};
 ghost use Rattle.logos_token.specs.Views.{tokens_of};
 ghost use Rattle.logos_attribute.specs.Slices.{ident_slice};
-ghost use Rattle.logos_attribute.specs.Told.{Lists, fault, fault_about};
+ghost use Rattle.logos_attribute.specs.Reports.{AddsFault, fault, fault_about};
 
 use logos_token::error::{Errors, FaultCode, Memory};
 use logos_token::token::{Ident, Tokens};
-use logos_type_params::listing::list_about;
-use std::alloc::Global;
+use logos_type_params::reporting::report_about;
 
 /// Lists a fault of a name, which stands between two texts in the message. After `Memory` the faults
 /// are as before.
-pub fn list_named(
-    alloc: Global,
+pub fn report_named(
     errors: &mut Errors,
     code: FaultCode,
     before: &str,
     name: Ident<'_>,
-    behind: &str,
+    after: &str,
 ) -> Result<(), Memory>
-    ensures ok { OnOk result (Lists (fault_about code before.now (ident_slice name.entry) behind.now)
+    ensures ok { OnOk result
+        (AddsFault (fault_about code before.now (ident_slice name.entry) after.now)
         errors.old errors.new) }
-    ensures unlisted { OnErr result (errors.new ≡ errors.old) }
+    ensures unreported { OnErr result (errors.new ≡ errors.old) }
 {
-    list_about(alloc, errors, code, before, name, behind)
+    report_about(errors, code, before, name, after)
 }
 
 /// Lists a fault of a run. After `Memory` the faults are as before.
-pub fn list_run(
+pub fn report_run(
     errors: &mut Errors,
     code: FaultCode,
     message: &str,
     tokens: Tokens<'_, '_>,
 ) -> Result<(), Memory>
     ensures ok { OnOk result
-        (Lists (fault code message.now (run_span (tokens_of tokens.entry))) errors.old errors.new) }
-    ensures unlisted { OnErr result (errors.new ≡ errors.old) }
+        (AddsFault (fault code message.now (run_span (tokens_of tokens.entry)))
+        errors.old errors.new) }
+    ensures unreported { OnErr result (errors.new ≡ errors.old) }
 {
     errors.err(code, message, tokens.span())?;
     Ok(())
 }
 
 /// Lists a fault at a name. After `Memory` the faults are as before.
-pub fn list_form(
+pub fn report_form(
     errors: &mut Errors,
     code: FaultCode,
     message: &str,
     name: Ident<'_>,
 ) -> Result<(), Memory>
     ensures ok { OnOk result
-        (Lists (fault code message.now (ident_slice name.entry).span) errors.old errors.new) }
-    ensures unlisted { OnErr result (errors.new ≡ errors.old) }
+        (AddsFault (fault code message.now (ident_slice name.entry).span) errors.old errors.new) }
+    ensures unreported { OnErr result (errors.new ≡ errors.old) }
 {
     errors.err(code, message, name.span)?;
     Ok(())
