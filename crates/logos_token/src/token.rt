@@ -1,4 +1,4 @@
-//! Tokens of a source text.
+//! The tokens of a source text.
 
 mod entry;
 mod laws;
@@ -36,7 +36,8 @@ pub struct Literal<'s> {
     pub span: Span,
 }
 
-/// A documentation comment, as it stands in the source. A line comment is without its end.
+/// A documentation comment, as it stands in the source. A line comment does not include the end of
+/// its line.
 #[derive(Clone, Copy)]
 pub struct Doc<'s> {
     pub text: &'s str,

@@ -1,4 +1,4 @@
-//! Printing types.
+//! Prints types.
 ghost use Rattle.std.specs.Prelude.{◌≡◌, IfOk, string_bytes};
 ghost use Rattle.logos_type.specs.Printed.{printed_type};
 ghost use Rattle.logos_type.specs.TypeTrees.{type_tree};
@@ -8,11 +8,11 @@ use logos_token::error::Memory;
 use logos_token::token::{closing_text, gap_after, gap_after_doc, opening_text};
 use std::alloc::Global;
 
-/// What is printed so far.
+/// The text printed so far.
 #[derive(Drop)]
 pub(crate) struct TypePrinter {
     text: String,
-    /// What parts it from the next lexeme.
+    /// The gap to print before the next lexeme.
     gap: &'static str,
 }
 
@@ -24,7 +24,7 @@ impl TypePrinter {
     ghost use Rattle.logos_type.specs.Printed.{lifetime_parts, sign_parts, type_parts};
     ghost use Rattle.logos_type.specs.inside.Printer.{printed_of};
 
-    /// Adds a lexeme.
+    /// Prints a lexeme and remembers the gap after it.
     fn add(&mut self, text: &str, gap: &'static str) -> Result<(), Memory>
         ensures { OnOk result (printed_of self.new ≡
             print_part (printed_of self.old) (record { text = text.now; gap = gap.now })) }
@@ -35,7 +35,7 @@ impl TypePrinter {
         Ok(())
     }
 
-    /// Adds a lexeme of one character.
+    /// Prints a lexeme of one character and remembers the gap after it.
     fn add_character(&mut self, character: char, gap: &'static str) -> Result<(), Memory>
         ensures { OnOk result (printed_of self.new ≡
             print_part (printed_of self.old)
@@ -47,7 +47,7 @@ impl TypePrinter {
         Ok(())
     }
 
-    /// Adds a lifetime.
+    /// Prints a lifetime.
     fn add_lifetime(&mut self, text: &str) -> Result<(), Memory>
         ensures { OnOk result (printed_of self.new ≡
             fold print_part (printed_of self.old) (lifetime_parts text.now)) }
@@ -56,7 +56,7 @@ impl TypePrinter {
         self.add(text, " ")
     }
 
-    /// Adds `&`, and the lifetime behind it, if there is one.
+    /// Prints `&`, and the lifetime after it if there is one.
     fn add_reference(&mut self, lifetime: Option<&str>) -> Result<(), Memory>
         ensures { OnOk result (printed_of self.new ≡
             fold print_part (printed_of self.old)
@@ -69,7 +69,7 @@ impl TypePrinter {
         }
     }
 
-    /// Adds a token.
+    /// Prints a token.
     fn add_leaf(&mut self, leaf: Leaf<'_>) -> Result<(), Memory>
         ensures { OnOk result (printed_of self.new ≡
             fold print_part (printed_of self.old) (sign_parts (sign_of leaf.entry))) }
@@ -84,13 +84,13 @@ impl TypePrinter {
             Leaf::Close(delimiter) => self.add(closing_text(delimiter), " "),
             Leaf::Reference(lifetime) => self.add_reference(lifetime),
             Leaf::Lifetime(text) => self.add_lifetime(text),
-            Leaf::Kept(text) => self.add_lifetime(text),
+            Leaf::OtherLifetime(text) => self.add_lifetime(text),
             Leaf::Punct(character, spacing) => self.add_character(character, gap_after(spacing)),
             Leaf::Doc(text) => self.add(text, gap_after_doc(text)),
         }
     }
 
-    /// Adds a part.
+    /// Prints a part.
     pub(crate) fn add_part(&mut self, part: &Part<'_>) -> Result<(), Memory>
         ensures { OnOk result (printed_of self.new ≡
             fold print_part (printed_of self.old) (type_parts (tree_of part.now))) }
@@ -108,8 +108,13 @@ impl TypePrinter {
     }
 }
 
-/// The text of a type: its tokens with one space in between, where `<`, `>` and `&` stand alone, and `::`, `->` and
-/// a lifetime are one. The tokens of an array's length and of braces keep their spacing.
+/// Returns the text of a type: its tokens with a space between each two. `<`, `>` and `&` stand
+/// alone; `::`, `->` and a lifetime are one lexeme each. The tokens of an array's length and of
+/// braces keep their spacing.
+///
+/// # Errors
+///
+/// `Memory` if there is not enough memory.
 pub fn print_type(alloc: Global, type_expr: &TypeExpr<'_>) -> Result<String, Memory>
     ensures { IfOk result (λ text. string_bytes text ≡ printed_type (type_tree type_expr.now)) }
 {

@@ -14,7 +14,7 @@ use Rattle.logos_type_reader.specs.declared.table.place.BoundKind.TheVariants.{L
 use Rattle.logos_type_reader.specs.declared.table.place.Binder.TheVariants.{OfFunction, OfTrait}
 use Rattle.logos_type_reader.specs.declared.table.place.Place.{Place}
 use Rattle.logos_type_reader.specs.declared.table.place.Place.TheVariants as place
-use Rattle.logos_type.specs.Parts.{Sign, Tree, sign, name, whole, still, trees, none as no_part_left, also as and_part, word, mark, colons, arrow, value, opening, closing, reference, kept}
+use Rattle.logos_type.specs.Parts.{Sign, Tree, sign, name, whole, still, trees, none as no_part_left, also as and_part, word, mark, colons, arrow, value, opening, closing, reference, other_lifetime}
 use Rattle.logos_type_reader.specs.StillRuns.{still_run}
 use Rattle.logos_type_reader.specs.Table as table
 use Rattle.logos_type_reader.specs.Table.{Spot, outer, Move, ends, takes, bars, asks, keeps_type, keeps, nests, stops, First, starts, refused, begin, name_of, is_reserved, goes_on, begins_colons, begins_arrow, begins_mark, begins_bound, begins_dots, typing, argued, next_at, name_end, after_two, to}
@@ -480,7 +480,7 @@ module _ {After : Parts} where
   for_closed : {s : Span} {p : Spacing} {run rest : TokenList} {parts : List Tree} → After run parts rest → InFor After (also (punctuation 62 p s) run) (sign (mark 62) ∷ parts) rest
   for_closed a = in_for no_lifetime a
 
-  for_lifetime : {s t : Span} {p : Spacing} {text : List ℕ} {run rest : TokenList} {parts : List Tree} → AfterFor After run parts rest → InFor After (also (punctuation 39 p s) (also (identifier text t) run)) (sign (kept text) ∷ parts) rest
+  for_lifetime : {s t : Span} {p : Spacing} {text : List ℕ} {run rest : TokenList} {parts : List Tree} → AfterFor After run parts rest → InFor After (also (punctuation 39 p s) (also (identifier text t) run)) (sign (other_lifetime text) ∷ parts) rest
   for_lifetime (for_comma (in_for l a)) = in_for (lifetimes l) a
   for_lifetime (for_angle a) = in_for last_lifetime a
 

@@ -33,7 +33,7 @@ pub record Inward (run : TokenList) (spot : Spot) : Type 0 where
 abbrev pub Moves : TokenList → Option TokenList → Move → Type 0
 Moves run outside (takes s spot) = Onward run outside spot
 Moves run outside (bars s spot) = Onward run outside spot
-Moves run outside (keeps kept spot) = Onward run outside spot
+Moves run outside (keeps taken spot) = Onward run outside spot
 Moves run outside (nests s spot p) = Inward run spot
 Moves run outside m = Unit {0}
 

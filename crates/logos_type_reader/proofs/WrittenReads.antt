@@ -14,7 +14,7 @@ use Rattle.logos_type_reader.specs.declared.table.place.Binder.{Binder}
 use Rattle.logos_type_reader.specs.declared.table.place.Binder.TheVariants.{OfFunction, OfTrait}
 use Rattle.logos_type_reader.specs.declared.table.place.Place.{Place}
 use Rattle.logos_type_reader.specs.declared.table.place.Place.TheVariants as place
-use Rattle.logos_type.specs.Parts.{Sign, Tree, sign, whole, still, trees, none as no_part_left, also as and_part, word, mark, colons, arrow, value, opening, closing, reference, kept}
+use Rattle.logos_type.specs.Parts.{Sign, Tree, sign, whole, still, trees, none as no_part_left, also as and_part, word, mark, colons, arrow, value, opening, closing, reference, other_lifetime}
 use Rattle.logos_type_reader.specs.StillRuns.{still_run}
 use Rattle.logos_type_reader.specs.Table.{Spot, Move, ends, takes, asks, keeps_type, keeps, nests, First, starts, refused, unsupported, begin, name_of, is_reserved, goes_on, begins_colons, begins_arrow, begins_mark, begins_bound, begins_dots, typing, argued, argument_lifetime, next_at, name_end, path_move, after_bound, after_for}
 use Rattle.logos_type_reader.specs.Reading.{IsType, just_name, formed, a_token, a_bar, a_type as part_type, a_still_type, still_tokens, a_nest, AreParts, ended, further as part}
@@ -498,7 +498,7 @@ self_goes_on : (s t : Span) (p : Spacing) (run : TokenList) → next_at place.Se
 unfolding next_at
 self_goes_on s t p run = refl
 
-bound_lifetime : (plus : Bool) (s t : Span) (p : Spacing) (text : List ℕ) (run : TokenList) → next_at (place.Bound plus) (also (punctuation 39 p s) (also (identifier text t) run)) None ≡ takes (kept text) (at (place.BoundEnd plus) run None)
+bound_lifetime : (plus : Bool) (s t : Span) (p : Spacing) (text : List ℕ) (run : TokenList) → next_at (place.Bound plus) (also (punctuation 39 p s) (also (identifier text t) run)) None ≡ takes (other_lifetime text) (at (place.BoundEnd plus) run None)
 unfolding next_at
 bound_lifetime plus s t p text run = refl
 
@@ -538,7 +538,7 @@ for_closes : (binder : Binder) (s : Span) (p : Spacing) (run : TokenList) (b : O
 unfolding next_at
 for_closes binder s p run b = refl
 
-for_lifetime : (binder : Binder) (s t : Span) (p : Spacing) (text : List ℕ) (run : TokenList) (b : Option TokenList) → next_at (place.ForList binder) (also (punctuation 39 p s) (also (identifier text t) run)) b ≡ takes (kept text) (at (place.ForEnd binder) run b)
+for_lifetime : (binder : Binder) (s t : Span) (p : Spacing) (text : List ℕ) (run : TokenList) (b : Option TokenList) → next_at (place.ForList binder) (also (punctuation 39 p s) (also (identifier text t) run)) b ≡ takes (other_lifetime text) (at (place.ForEnd binder) run b)
 unfolding next_at
 for_lifetime binder s t p text run b = refl
 

@@ -1,4 +1,4 @@
-//! The written form of a type, place by place: what may come next.
+//! The grammar of types, place by place: what can come next.
 ghost use Rattle.logos_token.specs.Views.{tokens_of};
 ghost use Rattle.logos_type_reader.specs.Table.{next_at};
 ghost use Rattle.logos_type_reader.specs.ReadingViews.{outside_of, spot_of, IsStep};
@@ -35,7 +35,7 @@ use paths::{
 pub(crate) use place::{Place, Spot, Step, Stop};
 use place::{Action, BoundKind, Next, Outside, PathKind};
 
-/// What is to be done at a place inside a type.
+/// Returns what is to be done at a place inside a type.
 #[tactic(auto, unfolding(crate::specs::Table::next_at))]
 fn action_at(at: &Spot<'_, '_>) -> Next
     ensures { IsAction result (spot_of at.now)
@@ -94,7 +94,7 @@ fn action_at(at: &Spot<'_, '_>) -> Next
     }
 }
 
-/// What comes next at a place inside a type.
+/// Returns the next step at a place inside a type.
 pub(crate) fn next_at<'t, 's>(
     place: Place,
     run: Tokens<'t, 's>,

@@ -1,4 +1,4 @@
-//! What opens at a place of a source text.
+//! Classifies what opens at a byte offset of a source text.
 
 ghost use Rattle.std.specs.Prelude.{◌≡◌, ◌+◌, ◌<◌, ◌≤◌, min, length, slice_index};
 ghost use Rattle.std.specs.Char.{is_ascii_digit};
@@ -8,7 +8,7 @@ ghost use Rattle.logos_lexeme.specs.LexemeOpenings.{hashes, raw_opening, string_
 use crate::lexeme::characters::{byte_at, char_at, is_mark, is_space, is_start, past};
 use crate::lexeme::{Delimiter, Kind, Spacing};
 
-/// What a literal holds.
+/// What a literal can hold.
 #[derive(Clone, Copy)]
 pub enum Content {
     /// Characters.
@@ -19,7 +19,7 @@ pub enum Content {
     C,
 }
 
-/// What opens at a place.
+/// The lexemes and gaps by how they open.
 #[derive(Clone, Copy)]
 pub enum Opening {
     /// White space.
@@ -42,7 +42,7 @@ pub enum Opening {
     Character,
     /// A lexeme of one character.
     Single(Kind),
-    /// Nothing.
+    /// Nothing opens.
     Nothing,
 }
 
@@ -344,7 +344,7 @@ pub fn opening_at(source: &str, at: usize) -> Opening
     other_opening(source, at)
 }
 
-/// Returns the kind of the lexeme that opens so.
+/// Returns the kind of the lexeme or gap that opens so.
 pub(crate) fn kind_of(opens: Opening) -> Kind
     ensures { result ≡ kind_of opens }
 {

@@ -68,7 +68,7 @@ module _ (escapes : Bool) (content : Content) (bytes : List ℕ) (closes : ℕ �
 
   nothing_more : (at to : ℕ) (held : List ℕ) → at ≡ to → Holds escapes content bytes at to held → held ≡ []
   nothing_more at to held e none = refl
-  nothing_more at to held e (more {mid = mid} {said = said} {rest = rest} s h f) = absurd (omega (arith, Says-moves escapes content bytes at mid said s, Holds-le escapes content bytes mid to rest h))
+  nothing_more at to held e (more {mid = mid} {first = said} {rest = rest} s h f) = absurd (omega (arith, Says-moves escapes content bytes at mid said s, Holds-le escapes content bytes mid to rest h))
 
   still_open : (at to : ℕ) → Close at to → to < at + 0 → (b : Bool) → closes at ≡ b → ⊥
   still_open at to c l true e = let f = closing.one at to e c in omega arith
@@ -77,7 +77,7 @@ module _ (escapes : Bool) (content : Content) (bytes : List ℕ) (closes : ℕ �
   goes : (most at to : ℕ) (held : List ℕ) → closes at ≡ false → Close at to → ((next : ℕ) (rest : List ℕ) → Close next to → Holds escapes content bytes next to rest → at < next → from most next ≡ Some rest) →
       Holds escapes content bytes at to held → behind most (piece_at escapes content bytes at) ≡ Some held
   goes most at to held e c all none = absurd (let f = closing.ahead at to e c in omega arith)
-  goes most at to held e c all (more {mid = mid} {said = said} {rest = rest} s h f) =
+  goes most at to held e c all (more {mid = mid} {first = said} {rest = rest} s h f) =
       let others = all mid rest (closing.back at mid to said e s c) h (Says-moves escapes content bytes at mid said s) in
       rw (piece-all content bytes at escapes mid said s) (rw others (ap Some (sym f)))
 

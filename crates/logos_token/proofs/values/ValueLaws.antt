@@ -30,20 +30,20 @@ use Rattle.logos_lexeme.proofs.BodyLaws.{Says-one, Says-moves}
 module _ (escapes : Bool) (content : Content) (bytes : List ℕ) where
   pub Holds-le : (at to : ℕ) (held : List ℕ) → Holds escapes content bytes at to held → at ≤ to
   Holds-le at to held none = omega arith
-  Holds-le at to held (more {mid = mid} {said = said} {rest = rest} s h e) = omega (arith, Says-moves escapes content bytes at mid said s, Holds-le mid to rest h)
+  Holds-le at to held (more {mid = mid} {first = said} {rest = rest} s h e) = omega (arith, Says-moves escapes content bytes at mid said s, Holds-le mid to rest h)
 
   -- the first piece is the one that stands there
   first_piece : (at next to : ℕ) (said held : List ℕ) → Says escapes content bytes at next said → at < to → Holds escapes content bytes at to held → (rest : List ℕ) × Holds escapes content bytes next to rest
   first_piece at next to said held s ahead none = absurd (omega arith)
-  first_piece at next to said held s ahead (more {mid = mid} {said = other} {rest = rest} t h e) =
+  first_piece at next to said held s ahead (more {mid = mid} {first = other} {rest = rest} t h e) =
       (rest, subst (λ m. Holds escapes content bytes m to rest) (Says-one escapes content bytes at mid next other said t s).0 h)
 
   -- a span holds the same bytes, however it is cut
   Holds-one : (at to end : ℕ) (xs ys : List ℕ) → Holds escapes content bytes at to xs → Holds escapes content bytes at end ys → to ≡ end → xs ≡ ys
   Holds-one at to end xs ys none none d = refl
-  Holds-one at to end xs ys none (more {mid = mid} {said = said} {rest = rest} s h e) d = absurd (omega (arith, Says-moves escapes content bytes at mid said s, Holds-le mid end rest h))
-  Holds-one at to end xs ys (more {mid = mid} {said = said} {rest = rest} s h e) none d = absurd (omega (arith, Says-moves escapes content bytes at mid said s, Holds-le mid to rest h))
-  Holds-one at to end xs ys (more {mid = mid} {said = said} {rest = rest} s h e) (more {mid = next} {said = other} {rest = others} t i f) d =
+  Holds-one at to end xs ys none (more {mid = mid} {first = said} {rest = rest} s h e) d = absurd (omega (arith, Says-moves escapes content bytes at mid said s, Holds-le mid end rest h))
+  Holds-one at to end xs ys (more {mid = mid} {first = said} {rest = rest} s h e) none d = absurd (omega (arith, Says-moves escapes content bytes at mid said s, Holds-le mid to rest h))
+  Holds-one at to end xs ys (more {mid = mid} {first = said} {rest = rest} s h e) (more {mid = next} {first = other} {rest = others} t i f) d =
       let same = Says-one escapes content bytes at mid next said other s t in
       let rests = Holds-one mid to end rest others h (subst (λ n. Holds escapes content bytes n end others) (sym same.0) i) d in
       e ∙ ap (λ ws. ws ++ rest) same.1 ∙ ap (λ ws. other ++ ws) rests ∙ sym f
@@ -71,7 +71,7 @@ module _ (escapes : Bool) (content : Content) (bytes : List ℕ) where
 
   no_piece : (at to : ℕ) (held : List ℕ) → at < to → ((next : ℕ) (said : List ℕ) → Says escapes content bytes at next said → ⊥) → Holds escapes content bytes at to held → ⊥
   no_piece at to held ahead other none = omega arith
-  no_piece at to held ahead other (more {mid = mid} {said = said} s h e) = other mid said s
+  no_piece at to held ahead other (more {mid = mid} {first = said} s h e) = other mid said s
 
   pub rest-stuck : (at to : ℕ) → at < to → ((next : ℕ) (said : List ℕ) → Says escapes content bytes at next said → ⊥) → (held : List ℕ) → Holds escapes content bytes at to held → ⊥
   rest-stuck at to ahead other held h = no_piece at to held ahead other h

@@ -1,4 +1,4 @@
--- What is printed so far of a type.
+-- The text printed so far of a type.
 use Rattle.std.specs.Prelude.{string_bytes}
 use Rattle.logos_type.specs.declared.print.TypePrinter.{TypePrinter}
 use Rattle.logos_token.specs.Printing.{Printed}

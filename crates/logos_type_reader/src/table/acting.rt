@@ -1,4 +1,4 @@
-//! What comes next, by what is to be done with the run that is left.
+//! Turns an action into the next step, with the tokens that are left.
 ghost use Rattle.std.specs.Prelude.{◌≡◌, Ok};
 ghost use Rattle.logos_token.specs.Tokens.{none};
 ghost use Rattle.logos_token.specs.Views.{tokens_of, inside_of};
@@ -12,7 +12,7 @@ use crate::table::tokens::{first_span, first_text};
 use logos_token::token::{Delimiter, Group, TokenTree, Tokens};
 use logos_type::Leaf;
 
-/// What is taken from the front of a run.
+/// Returns the token that a lead takes from the front of a run.
 fn lead_leaf<'s>(lead: Lead, run: Tokens<'_, 's>) -> Leaf<'s>
     ensures { sign_of result ≡ lead_sign lead (tokens_of run.entry) }
 {
@@ -26,23 +26,23 @@ fn lead_leaf<'s>(lead: Lead, run: Tokens<'_, 's>) -> Leaf<'s>
         Lead::Reference => Leaf::Reference(None),
         Lead::ReferenceLifetime => Leaf::Reference(Some(first_text(run.rest().rest()))),
         Lead::Lifetime => Leaf::Lifetime(first_text(run.rest())),
-        Lead::Kept => Leaf::Kept(first_text(run.rest())),
+        Lead::OtherLifetime => Leaf::OtherLifetime(first_text(run.rest())),
         Lead::Group(delimiter) => Leaf::Open(delimiter),
     }
 }
 
-/// The run behind that.
+/// Returns the run after that token.
 fn after_lead<'t, 's>(lead: Lead, run: Tokens<'t, 's>) -> Tokens<'t, 's>
     ensures { tokens_of result ≡ after_lead lead (tokens_of run.entry) }
 {
     match lead {
-        Lead::Colons | Lead::Arrow | Lead::Lifetime | Lead::Kept => run.rest().rest(),
+        Lead::Colons | Lead::Arrow | Lead::Lifetime | Lead::OtherLifetime => run.rest().rest(),
         Lead::Dots | Lead::ReferenceLifetime => run.rest().rest().rest(),
         _ => run.rest(),
     }
 }
 
-/// A group, where none is open yet.
+/// Returns the step that opens a group. Only one group can be open at a time.
 fn open<'t, 's>(
     group: Group<'t, 's>,
     place: Place,
@@ -63,7 +63,7 @@ fn open<'t, 's>(
     Ok(Step::Take(Leaf::Open(group.delimiter), inner))
 }
 
-/// The group that comes first, where none is open yet.
+/// Returns the step that opens the group which comes first.
 fn open_first<'t, 's>(
     place: Place,
     run: Tokens<'t, 's>,
@@ -78,7 +78,7 @@ fn open_first<'t, 's>(
     }
 }
 
-/// At the end of what a group holds, in front of the place behind it.
+/// Returns the step that closes the group, and goes on at `place` after it.
 fn close<'t, 's>(delimiter: Delimiter, place: Place, outside: Outside<'t, 's>) -> Step<'t, 's>
     ensures { IsStep (Ok result) (closes delimiter place (outside_of outside.entry)) }
 {
@@ -93,7 +93,8 @@ fn close<'t, 's>(delimiter: Delimiter, place: Place, outside: Outside<'t, 's>) -
     Step::Take(Leaf::Close(delimiter), after)
 }
 
-/// All tokens of the run, which stay as they are, and behind them this place.
+/// Returns the step that takes all tokens of the run without reading types in them, and goes on at
+/// `place`.
 fn keep<'t, 's>(place: Place, run: Tokens<'t, 's>, outside: Outside<'t, 's>) -> Step<'t, 's>
     ensures { IsStep (Ok result)
         (keeps (tokens_of run.entry) (to place none (outside_of outside.entry))) }
@@ -106,7 +107,7 @@ fn keep<'t, 's>(place: Place, run: Tokens<'t, 's>, outside: Outside<'t, 's>) -> 
     Step::Keep(run, after)
 }
 
-/// The run behind what is taken, and this place.
+/// Returns the spot after a lead.
 fn after<'t, 's>(
     lead: Lead,
     place: Place,
@@ -123,7 +124,7 @@ fn after<'t, 's>(
     }
 }
 
-/// What comes next, where this is to be done with the run that is left.
+/// Returns the next step for an action and the run that is left.
 pub(super) fn act<'t, 's>(
     action: Action,
     run: Tokens<'t, 's>,
@@ -150,7 +151,7 @@ pub(super) fn act<'t, 's>(
     }
 }
 
-/// The group with which a type begins, in front of this place in it.
+/// Returns the group with which a type begins, and the place inside it.
 fn open_type<'t, 's>(place: Place, run: Tokens<'t, 's>) -> Result<Opening<'t, 's>, Stop>
     ensures { IsFirst result (opens_type place (tokens_of run.entry)) }
 {
@@ -169,7 +170,7 @@ fn open_type<'t, 's>(place: Place, run: Tokens<'t, 's>) -> Result<Opening<'t, 's
     })
 }
 
-/// The first token of a type that begins like this.
+/// Returns the first token of a type that begins so.
 pub(super) fn begin_by<'t, 's>(start: Start, run: Tokens<'t, 's>) -> Result<Opening<'t, 's>, Stop>
     ensures { IsFirst result (begun start (tokens_of run.entry)) }
 {

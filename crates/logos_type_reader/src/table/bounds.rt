@@ -1,4 +1,4 @@
-//! Bounds, and the lifetimes of `for<..>`.
+//! Bounds, and the lifetimes in `for<..>`.
 ghost use Rattle.std.specs.Prelude.{◌≡◌};
 ghost use Rattle.logos_token.specs.Tokens.{rest_of};
 ghost use Rattle.logos_token.specs.Views.{tokens_of};
@@ -12,7 +12,7 @@ use crate::table::place::{Action, Binder, BoundKind, Lead, Look, Next, PathKind,
 use crate::table::tokens::{begins_bound, begins_word, look, mismatch, mismatch_after};
 use logos_token::token::Delimiter;
 
-/// The place behind a bound.
+/// Returns the place after a bound.
 fn after_bound(kind: BoundKind) -> Place
     ensures { result ≡ after_bound kind }
 {
@@ -22,18 +22,18 @@ fn after_bound(kind: BoundKind) -> Place
     }
 }
 
-/// At `'` where a bound stands.
+/// Returns the step at `'` where a bound stands.
 fn bound_lifetime_step(plus: bool, at: &Spot<'_, '_>) -> Next
     ensures { IsAction result (spot_of at.now)
         (bound_lifetime_move plus (rest_of (tokens_of at.now.run)) (outside_of at.now.outside)) }
 {
     match look(at.run.rest()) {
-        Look::Word => Ok(Action::Take(Lead::Kept, Place::BoundEnd(plus))),
+        Look::Word => Ok(Action::Take(Lead::OtherLifetime, Place::BoundEnd(plus))),
         _ => mismatch_after(at),
     }
 }
 
-/// Where the path of a bound stands, perhaps behind `for<..>`.
+/// Returns the step where the path of a bound stands, perhaps after `for<..>`.
 pub(super) fn trait_step(kind: BoundKind, at: &Spot<'_, '_>) -> Next
     ensures { IsAction result (spot_of at.now)
         (trait_move kind (tokens_of at.now.run) (outside_of at.now.outside)) }
@@ -46,7 +46,7 @@ pub(super) fn trait_step(kind: BoundKind, at: &Spot<'_, '_>) -> Next
     }
 }
 
-/// Where the path of a bound stands, behind `for<..>`.
+/// Returns the step where the path of a bound stands, after `for<..>`.
 pub(super) fn trait_path_step(kind: BoundKind, at: &Spot<'_, '_>) -> Next
     ensures { IsAction result (spot_of at.now)
         (path_move OfBound (after_bound kind) (tokens_of at.now.run)) }
@@ -54,7 +54,7 @@ pub(super) fn trait_path_step(kind: BoundKind, at: &Spot<'_, '_>) -> Next
     path_step(PathKind::OfBound, after_bound(kind), at)
 }
 
-/// Where `?` may stand in front of it, too.
+/// Returns the step where a `?` can stand before the path of a bound.
 pub(super) fn question_step(kind: BoundKind, at: &Spot<'_, '_>) -> Next
     ensures { IsAction result (spot_of at.now)
         (question_move kind (tokens_of at.now.run) (outside_of at.now.outside)) }
@@ -65,7 +65,7 @@ pub(super) fn question_step(kind: BoundKind, at: &Spot<'_, '_>) -> Next
     }
 }
 
-/// Where a bound stands.
+/// Returns the step where a bound stands.
 pub(super) fn bound_step(plus: bool, at: &Spot<'_, '_>) -> Next
     ensures { IsAction result (spot_of at.now)
         (bound_move plus (tokens_of at.now.run) (outside_of at.now.outside)) }
@@ -77,7 +77,7 @@ pub(super) fn bound_step(plus: bool, at: &Spot<'_, '_>) -> Next
     }
 }
 
-/// Behind a bound.
+/// Returns the step after a bound.
 pub(super) fn bound_end_step(plus: bool, at: &Spot<'_, '_>) -> Next
     ensures { IsAction result (spot_of at.now)
         (bound_end_move plus (tokens_of at.now.run) (outside_of at.now.outside)) }
@@ -88,7 +88,7 @@ pub(super) fn bound_end_step(plus: bool, at: &Spot<'_, '_>) -> Next
     }
 }
 
-/// Behind the `+` behind a bound.
+/// Returns the step after a `+` that follows a bound.
 pub(super) fn further_step(at: &Spot<'_, '_>) -> Next
     ensures { IsAction result (spot_of at.now)
         (further_move (tokens_of at.now.run) (outside_of at.now.outside)) }
@@ -99,7 +99,7 @@ pub(super) fn further_step(at: &Spot<'_, '_>) -> Next
     Ok(Action::End)
 }
 
-/// Behind a path in the parentheses of a bound.
+/// Returns the step after a path in the parentheses of a bound.
 pub(super) fn enclosed_end_step(plus: bool, at: &Spot<'_, '_>) -> Next
     ensures { IsAction result (spot_of at.now)
         (enclosed_end_move plus (tokens_of at.now.run) (outside_of at.now.outside)) }
@@ -110,7 +110,7 @@ pub(super) fn enclosed_end_step(plus: bool, at: &Spot<'_, '_>) -> Next
     }
 }
 
-/// The place behind `for<..>`.
+/// Returns the place after `for<..>`.
 fn after_for(binder: Binder) -> Place
     ensures { result ≡ after_for binder }
 {
@@ -120,7 +120,7 @@ fn after_for(binder: Binder) -> Place
     }
 }
 
-/// Behind `for`.
+/// Returns the step after `for`.
 pub(super) fn for_step(binder: Binder, at: &Spot<'_, '_>) -> Next
     ensures { IsAction result (spot_of at.now)
         (for_move binder (tokens_of at.now.run) (outside_of at.now.outside)) }
@@ -131,18 +131,18 @@ pub(super) fn for_step(binder: Binder, at: &Spot<'_, '_>) -> Next
     }
 }
 
-/// At `'` in `for<..>`.
+/// Returns the step at `'` in `for<..>`.
 fn for_lifetime_step(binder: Binder, at: &Spot<'_, '_>) -> Next
     ensures { IsAction result (spot_of at.now)
         (for_lifetime_move binder (rest_of (tokens_of at.now.run)) (outside_of at.now.outside)) }
 {
     match look(at.run.rest()) {
-        Look::Word => Ok(Action::Take(Lead::Kept, Place::ForEnd(binder))),
+        Look::Word => Ok(Action::Take(Lead::OtherLifetime, Place::ForEnd(binder))),
         _ => mismatch_after(at),
     }
 }
 
-/// In `for<..>`, where a lifetime may stand.
+/// Returns the step in `for<..>`, where a lifetime may stand.
 pub(super) fn for_list_step(binder: Binder, at: &Spot<'_, '_>) -> Next
     ensures { IsAction result (spot_of at.now)
         (for_list_move binder (tokens_of at.now.run) (outside_of at.now.outside)) }
@@ -154,7 +154,7 @@ pub(super) fn for_list_step(binder: Binder, at: &Spot<'_, '_>) -> Next
     }
 }
 
-/// Behind a lifetime in `for<..>`.
+/// Returns the step after a lifetime in `for<..>`.
 pub(super) fn for_end_step(binder: Binder, at: &Spot<'_, '_>) -> Next
     ensures { IsAction result (spot_of at.now)
         (for_end_move binder (tokens_of at.now.run) (outside_of at.now.outside)) }

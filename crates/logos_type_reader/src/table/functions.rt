@@ -1,4 +1,4 @@
-//! Functions.
+//! Function types.
 ghost use Rattle.logos_token.specs.Views.{tokens_of};
 ghost use Rattle.logos_type_reader.specs.Table.{linked_move, unsafe_move, qualified_move, extern_move, function_move, taken_value, taken_move, typed_move, one_taken_move, variadic_move, variadic_end_move};
 ghost use Rattle.logos_type_reader.specs.ReadingViews.{outside_of, spot_of};
@@ -8,7 +8,7 @@ use crate::table::place::{Action, Lead, Look, Next, Place, Spot};
 use crate::table::tokens::{begins_dots, begins_word, is_typing, look, mismatch};
 use logos_token::token::Delimiter;
 
-/// Behind `extern` and its literal.
+/// Returns the step after `extern` and its literal.
 pub(super) fn linked_step(at: &Spot<'_, '_>) -> Next
     ensures { IsAction result (spot_of at.now)
         (linked_move (tokens_of at.now.run) (outside_of at.now.outside)) }
@@ -19,7 +19,7 @@ pub(super) fn linked_step(at: &Spot<'_, '_>) -> Next
     }
 }
 
-/// Behind `unsafe`.
+/// Returns the step after `unsafe`.
 pub(super) fn unsafe_step(at: &Spot<'_, '_>) -> Next
     ensures { IsAction result (spot_of at.now)
         (unsafe_move (tokens_of at.now.run) (outside_of at.now.outside)) }
@@ -30,7 +30,7 @@ pub(super) fn unsafe_step(at: &Spot<'_, '_>) -> Next
     }
 }
 
-/// Behind the `for<..>` of a function.
+/// Returns the step after the `for<..>` of a function.
 pub(super) fn qualified_step(at: &Spot<'_, '_>) -> Next
     ensures { IsAction result (spot_of at.now)
         (qualified_move (tokens_of at.now.run) (outside_of at.now.outside)) }
@@ -41,7 +41,7 @@ pub(super) fn qualified_step(at: &Spot<'_, '_>) -> Next
     }
 }
 
-/// Behind `extern`.
+/// Returns the step after `extern`.
 pub(super) fn extern_step(at: &Spot<'_, '_>) -> Next
     ensures { IsAction result (spot_of at.now)
         (extern_move (tokens_of at.now.run) (outside_of at.now.outside)) }
@@ -52,7 +52,7 @@ pub(super) fn extern_step(at: &Spot<'_, '_>) -> Next
     }
 }
 
-/// Behind `fn`.
+/// Returns the step after `fn`.
 pub(super) fn function_step(at: &Spot<'_, '_>) -> Next
     ensures { IsAction result (spot_of at.now)
         (function_move (tokens_of at.now.run) (outside_of at.now.outside)) }
@@ -63,7 +63,7 @@ pub(super) fn function_step(at: &Spot<'_, '_>) -> Next
     }
 }
 
-/// Where a type that a function takes begins, or `...`.
+/// Returns the step where the type of a parameter begins, or `...`.
 pub(super) fn taken_value_step(at: &Spot<'_, '_>) -> Next
     ensures { IsAction result (spot_of at.now)
         (taken_value (tokens_of at.now.run) (outside_of at.now.outside)) }
@@ -74,7 +74,7 @@ pub(super) fn taken_value_step(at: &Spot<'_, '_>) -> Next
     Ok(Action::Ask(true, Place::OneTaken))
 }
 
-/// Among what a function takes.
+/// Returns the step among the parameters of a function.
 pub(super) fn taken_step(at: &Spot<'_, '_>) -> Next
     ensures { IsAction result (spot_of at.now)
         (taken_move (tokens_of at.now.run) (outside_of at.now.outside)) }
@@ -86,7 +86,7 @@ pub(super) fn taken_step(at: &Spot<'_, '_>) -> Next
     }
 }
 
-/// Between a name and `:`.
+/// Returns the step between a name and `:`.
 pub(super) fn typed_step(at: &Spot<'_, '_>) -> Next
     ensures { IsAction result (spot_of at.now)
         (typed_move (tokens_of at.now.run) (outside_of at.now.outside)) }
@@ -97,7 +97,7 @@ pub(super) fn typed_step(at: &Spot<'_, '_>) -> Next
     }
 }
 
-/// Behind one type that a function takes.
+/// Returns the step after one parameter of a function.
 pub(super) fn one_taken_step(at: &Spot<'_, '_>) -> Next
     ensures { IsAction result (spot_of at.now)
         (one_taken_move (tokens_of at.now.run) (outside_of at.now.outside)) }
@@ -109,7 +109,7 @@ pub(super) fn one_taken_step(at: &Spot<'_, '_>) -> Next
     }
 }
 
-/// Behind `...`.
+/// Returns the step after `...`.
 pub(super) fn variadic_step(at: &Spot<'_, '_>) -> Next
     ensures { IsAction result (spot_of at.now)
         (variadic_move (tokens_of at.now.run) (outside_of at.now.outside)) }
@@ -121,7 +121,7 @@ pub(super) fn variadic_step(at: &Spot<'_, '_>) -> Next
     }
 }
 
-/// Behind the `,` behind `...`.
+/// Returns the step after a `,` that follows `...`.
 pub(super) fn variadic_end_step(at: &Spot<'_, '_>) -> Next
     ensures { IsAction result (spot_of at.now)
         (variadic_end_move (tokens_of at.now.run) (outside_of at.now.outside)) }

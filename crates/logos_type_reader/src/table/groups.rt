@@ -8,7 +8,7 @@ use crate::table::place::{Action, Lead, Look, Next, PathKind, Place, Spot};
 use crate::table::tokens::{begins_colons, begins_word, look, mismatch};
 use logos_token::token::Delimiter;
 
-/// Behind `&` and its lifetime.
+/// Returns the step after `&` and its lifetime.
 pub(super) fn referent_step(at: &Spot<'_, '_>) -> Next
     ensures { IsAction result (spot_of at.now)
         (referent_move (tokens_of at.now.run) (outside_of at.now.outside)) }
@@ -19,7 +19,7 @@ pub(super) fn referent_step(at: &Spot<'_, '_>) -> Next
     }
 }
 
-/// Behind `*`.
+/// Returns the step after `*`.
 pub(super) fn pointer_step(at: &Spot<'_, '_>) -> Next
     ensures { IsAction result (spot_of at.now)
         (pointer_move (tokens_of at.now.run) (outside_of at.now.outside)) }
@@ -32,7 +32,7 @@ pub(super) fn pointer_step(at: &Spot<'_, '_>) -> Next
     }
 }
 
-/// In parentheses, where a type may begin.
+/// Returns the step in parentheses, where a type may begin.
 pub(super) fn list_step(at: &Spot<'_, '_>) -> Next
     ensures { IsAction result (spot_of at.now)
         (list_move (tokens_of at.now.run) (outside_of at.now.outside)) }
@@ -43,7 +43,7 @@ pub(super) fn list_step(at: &Spot<'_, '_>) -> Next
     }
 }
 
-/// Behind a type in parentheses.
+/// Returns the step after a type in parentheses.
 pub(super) fn list_end_step(at: &Spot<'_, '_>) -> Next
     ensures { IsAction result (spot_of at.now)
         (list_end_move (tokens_of at.now.run) (outside_of at.now.outside)) }
@@ -55,7 +55,7 @@ pub(super) fn list_end_step(at: &Spot<'_, '_>) -> Next
     }
 }
 
-/// Behind a type in brackets.
+/// Returns the step after a type in brackets.
 pub(super) fn element_end_step(at: &Spot<'_, '_>) -> Next
     ensures { IsAction result (spot_of at.now)
         (element_end_move (tokens_of at.now.run) (outside_of at.now.outside)) }
@@ -67,7 +67,7 @@ pub(super) fn element_end_step(at: &Spot<'_, '_>) -> Next
     }
 }
 
-/// Behind the `;` of an array.
+/// Returns the step after the `;` of an array.
 pub(super) fn length_step(at: &Spot<'_, '_>) -> Next
     ensures { IsAction result (spot_of at.now)
         (length_move (tokens_of at.now.run) (outside_of at.now.outside)) }
@@ -78,7 +78,7 @@ pub(super) fn length_step(at: &Spot<'_, '_>) -> Next
     }
 }
 
-/// Behind the type behind `<`.
+/// Returns the step after the type that follows `<`.
 pub(super) fn self_end_step(at: &Spot<'_, '_>) -> Next
     ensures { IsAction result (spot_of at.now)
         (self_end_move (tokens_of at.now.run) (outside_of at.now.outside)) }
@@ -90,7 +90,7 @@ pub(super) fn self_end_step(at: &Spot<'_, '_>) -> Next
     }
 }
 
-/// Behind the path behind `as`.
+/// Returns the step after the path that follows `as`.
 pub(super) fn self_trait_end_step(at: &Spot<'_, '_>) -> Next
     ensures { IsAction result (spot_of at.now)
         (self_trait_end_move (tokens_of at.now.run) (outside_of at.now.outside)) }
@@ -101,7 +101,7 @@ pub(super) fn self_trait_end_step(at: &Spot<'_, '_>) -> Next
     }
 }
 
-/// Behind the `>` of `<T as P>`.
+/// Returns the step after the `>` of `<T as P>`.
 pub(super) fn self_closed_step(at: &Spot<'_, '_>) -> Next
     ensures { IsAction result (spot_of at.now)
         (self_closed_move (tokens_of at.now.run) (outside_of at.now.outside)) }

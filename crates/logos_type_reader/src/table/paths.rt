@@ -12,7 +12,7 @@ use crate::table::tokens::{
 };
 use logos_token::token::Delimiter;
 
-/// What the path is once it has had arguments.
+/// Returns the kind of a path that has had arguments.
 fn argued(kind: PathKind) -> PathKind
     ensures { result ≡ argued kind }
 {
@@ -22,7 +22,7 @@ fn argued(kind: PathKind) -> PathKind
     }
 }
 
-/// Behind the last name of a path.
+/// Returns the step after the last name of a path.
 fn name_end(kind: PathKind, at: &Spot<'_, '_>) -> Next
     ensures { IsAction result (spot_of at.now)
         (name_end kind (tokens_of at.now.run) (outside_of at.now.outside)) }
@@ -36,7 +36,7 @@ fn name_end(kind: PathKind, at: &Spot<'_, '_>) -> Next
     }
 }
 
-/// Behind the arguments of a name.
+/// Returns the step after the arguments of a name.
 pub(super) fn segments_step(kind: PathKind, at: &Spot<'_, '_>) -> Next
     ensures { IsAction result (spot_of at.now)
         (segments_move kind (tokens_of at.now.run) (outside_of at.now.outside)) }
@@ -47,7 +47,7 @@ pub(super) fn segments_step(kind: PathKind, at: &Spot<'_, '_>) -> Next
     Ok(Action::End)
 }
 
-/// Behind a name of a path.
+/// Returns the step after a name of a path.
 pub(super) fn named_step(kind: PathKind, at: &Spot<'_, '_>) -> Next
     ensures { IsAction result (spot_of at.now)
         (named_move kind (tokens_of at.now.run) (outside_of at.now.outside)) }
@@ -60,7 +60,7 @@ pub(super) fn named_step(kind: PathKind, at: &Spot<'_, '_>) -> Next
     }
 }
 
-/// Behind the `!` of a macro.
+/// Returns the step after the `!` of a macro.
 pub(super) fn macro_step(at: &Spot<'_, '_>) -> Next
     ensures { IsAction result (spot_of at.now)
         (macro_move (tokens_of at.now.run) (outside_of at.now.outside)) }
@@ -71,7 +71,7 @@ pub(super) fn macro_step(at: &Spot<'_, '_>) -> Next
     }
 }
 
-/// Behind the parentheses of a path or of a function.
+/// Returns the step after the parentheses of a path or of a function.
 pub(super) fn output_step(at: &Spot<'_, '_>) -> Next
     ensures { IsAction result (spot_of at.now)
         (output_move (tokens_of at.now.run) (outside_of at.now.outside)) }
@@ -82,7 +82,7 @@ pub(super) fn output_step(at: &Spot<'_, '_>) -> Next
     Ok(Action::End)
 }
 
-/// In the parentheses of a path, where a type may begin.
+/// Returns the step in the parentheses of a path, where a type may begin.
 pub(super) fn inputs_step(at: &Spot<'_, '_>) -> Next
     ensures { IsAction result (spot_of at.now)
         (inputs_move (tokens_of at.now.run) (outside_of at.now.outside)) }
@@ -93,7 +93,7 @@ pub(super) fn inputs_step(at: &Spot<'_, '_>) -> Next
     }
 }
 
-/// Behind a type in the parentheses of a path.
+/// Returns the step after a type in the parentheses of a path.
 pub(super) fn input_end_step(at: &Spot<'_, '_>) -> Next
     ensures { IsAction result (spot_of at.now)
         (input_end_move (tokens_of at.now.run) (outside_of at.now.outside)) }
@@ -105,7 +105,7 @@ pub(super) fn input_end_step(at: &Spot<'_, '_>) -> Next
     }
 }
 
-/// Behind `::`.
+/// Returns the step after `::`.
 pub(super) fn colons_step(kind: PathKind, arguments: bool, at: &Spot<'_, '_>) -> Next
     ensures { IsAction result (spot_of at.now)
         (colons_move kind arguments (tokens_of at.now.run) (outside_of at.now.outside)) }
@@ -119,7 +119,7 @@ pub(super) fn colons_step(kind: PathKind, arguments: bool, at: &Spot<'_, '_>) ->
     }
 }
 
-/// At `'` among arguments.
+/// Returns the step at `'` among arguments.
 fn lifetime_step(kind: PathKind, at: &Spot<'_, '_>) -> Next
     ensures { IsAction result (spot_of at.now)
         (lifetime_move kind (rest_of (tokens_of at.now.run)) (outside_of at.now.outside)) }
@@ -128,12 +128,12 @@ fn lifetime_step(kind: PathKind, at: &Spot<'_, '_>) -> Next
         return mismatch_after(at);
     };
     match kind {
-        PathKind::OfBound => Ok(Action::Take(Lead::Kept, Place::ArgumentEnd(kind))),
+        PathKind::OfBound => Ok(Action::Take(Lead::OtherLifetime, Place::ArgumentEnd(kind))),
         _ => Ok(Action::Take(Lead::Lifetime, Place::ArgumentEnd(kind))),
     }
 }
 
-/// At a name among arguments.
+/// Returns the step at a name among arguments.
 fn argument_word(kind: PathKind, at: &Spot<'_, '_>) -> Next
     ensures { IsAction result (spot_of at.now)
         (argument_word kind (first_text (tokens_of at.now.run)) (rest_of (tokens_of at.now.run))
@@ -149,7 +149,7 @@ fn argument_word(kind: PathKind, at: &Spot<'_, '_>) -> Next
     Ok(Action::Ask(true, Place::ArgumentEnd(kind)))
 }
 
-/// Among arguments.
+/// Returns the step among arguments.
 pub(super) fn arguments_step(kind: PathKind, at: &Spot<'_, '_>) -> Next
     ensures { IsAction result (spot_of at.now)
         (arguments_move kind (tokens_of at.now.run) (outside_of at.now.outside)) }
@@ -164,7 +164,7 @@ pub(super) fn arguments_step(kind: PathKind, at: &Spot<'_, '_>) -> Next
     }
 }
 
-/// In braces that are an argument.
+/// Returns the step in braces that are an argument.
 pub(super) fn braced_step(kind: PathKind, at: &Spot<'_, '_>) -> Next
     ensures { IsAction result (spot_of at.now)
         (braced_move kind (tokens_of at.now.run) (outside_of at.now.outside)) }
@@ -175,7 +175,7 @@ pub(super) fn braced_step(kind: PathKind, at: &Spot<'_, '_>) -> Next
     }
 }
 
-/// Between a name and `=`.
+/// Returns the step between a name and `=`.
 pub(super) fn equals_step(kind: PathKind, at: &Spot<'_, '_>) -> Next
     ensures { IsAction result (spot_of at.now)
         (equals_move kind (tokens_of at.now.run) (outside_of at.now.outside)) }
@@ -186,7 +186,7 @@ pub(super) fn equals_step(kind: PathKind, at: &Spot<'_, '_>) -> Next
     }
 }
 
-/// Between a name and `:` among arguments.
+/// Returns the step between a name and `:` among arguments.
 pub(super) fn constrained_step(kind: PathKind, at: &Spot<'_, '_>) -> Next
     ensures { IsAction result (spot_of at.now)
         (constrained_move kind (tokens_of at.now.run) (outside_of at.now.outside)) }
@@ -201,7 +201,7 @@ pub(super) fn constrained_step(kind: PathKind, at: &Spot<'_, '_>) -> Next
     }
 }
 
-/// Behind an argument.
+/// Returns the step after an argument.
 pub(super) fn argument_end_step(kind: PathKind, at: &Spot<'_, '_>) -> Next
     ensures { IsAction result (spot_of at.now)
         (argument_end_move kind (tokens_of at.now.run) (outside_of at.now.outside)) }
@@ -213,7 +213,7 @@ pub(super) fn argument_end_step(kind: PathKind, at: &Spot<'_, '_>) -> Next
     }
 }
 
-/// Where a path begins, in front of the place behind it.
+/// Returns the step where a path begins. `next` is the place after it.
 pub(super) fn path_step(kind: PathKind, next: Place, at: &Spot<'_, '_>) -> Next
     ensures { IsAction result (spot_of at.now) (path_move kind next (tokens_of at.now.run)) }
 {

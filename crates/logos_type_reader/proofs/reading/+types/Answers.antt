@@ -96,7 +96,7 @@ move_past_type-returns-in-Err t c = asked_fault c.args.levels (spot_of c.args.sp
 
 pub move_past_still_type-returns-in-Ok : goal.move_past_still_type-returns-in-Ok
 move_past_still_type-returns-in-Ok t c =
-    c.move_past_kept.ensures c.args.levels (spot_of c.args.spot) (rw c.after_type.ensures (a_still_type c.requires c.in-Ok.ensures.ok))
+    c.move_past_still.ensures c.args.levels (spot_of c.args.spot) (rw c.after_type.ensures (a_still_type c.requires c.in-Ok.ensures.ok))
 
 pub move_past_still_type-returns-in-Err : goal.move_past_still_type-returns-in-Err
 move_past_still_type-returns-in-Err t c = still_fault c.args.levels (spot_of c.args.spot) _ _ c.requires c.in-Err.ensures.err
