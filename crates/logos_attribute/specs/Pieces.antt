@@ -82,26 +82,26 @@ abbrev mutual
       if is_alone comma token then piece none ∷ pieces rest
       else through_comma (λ run. piece (also token run)) rest
 
--- the tokens without the lone comma that stands first, if one does
+-- the tokens without a lone comma that comes first
 abbrev pub without_comma : TokenList → TokenList
 without_comma none = none
 without_comma (also token rest) = if is_alone comma token then rest else also token rest
 
--- What is left after a piece that begins with a name: the tokens after the comma that ends the piece. After a group that is the lone comma that
--- follows directly, if one does; the comma that stands in place of `=` after two names does not end the piece. `rest` follows the name.
+-- The tokens that are left after a piece that begins with a name: those after the comma that ends the piece. After a group that is the lone comma
+-- that follows directly, if one does. A comma in the place of `=` after two names does not end the piece. `rest` follows the name.
 abbrev pub rest_after_name : TokenList → TokenList
 rest_after_name none = none
 rest_after_name (also (group delimiter span inside) rest) = without_comma rest
 rest_after_name (also (identifier text span) rest) = after_comma (rest_of rest)
 rest_after_name (also token rest) = after_comma (also token rest)
 
--- What is left after the first piece: the tokens after the comma that ends it. A comma that is its first token does not end it.
+-- The tokens that are left after the first piece: those after the comma that ends it. A comma that is its first token does not end it.
 abbrev pub rest_after_piece : TokenList → TokenList
 rest_after_piece none = none
 rest_after_piece (also (identifier text span) rest) = rest_after_name rest
 rest_after_piece (also token rest) = after_comma rest
 
--- the same where the first piece follows a name and a group
+-- the same if the first piece follows a name and a group
 abbrev pub rest_after_group : TokenList → TokenList
 rest_after_group none = none
 rest_after_group (also token rest) = if is_alone comma token then rest_after_piece rest else after_comma rest

@@ -1,4 +1,4 @@
-//! Callbacks, as arguments of attributes say them.
+//! Reads callbacks in the arguments of attributes.
 ghost use Rattle.std.specs.Prelude.{◌≡◌, ◌++◌, ◌∷◌, [], IfOk, OnOk, OnErr, option_map};
 ghost use Rattle.logos_token.specs.Tokens.{run_span};
 ghost use Rattle.logos_token.specs.Views.{tokens_of};
@@ -18,23 +18,23 @@ use logos_token::token::{Ident, Span, TokenTree, Tokens};
 use logos_token::util::is_punct;
 use std::alloc::Global;
 
-/// A callback as runs of tokens, which are not copied yet.
+/// A callback as views of tokens.
 #[derive(Clone, Copy)]
 enum CallbackRun<'t, 's> {
-    /// Tokens that name a function.
+    /// The tokens that name a function.
     Label(Tokens<'t, 's>),
-    /// A parameter and a body.
+    /// The parameter and the body of a closure.
     Inline(Ident<'s>, Tokens<'t, 's>),
 }
 
-/// Why tokens are no callback.
+/// The reasons why a run is not a callback.
 #[derive(Clone, Copy)]
 enum CallbackFault {
     Closure,
     Body,
 }
 
-/// The body of a closure.
+/// Returns the closure with this parameter whose body comes next.
 fn body_in<'t, 's>(
     arg: Ident<'s>,
     tokens: Tokens<'t, 's>,
@@ -49,7 +49,7 @@ fn body_in<'t, 's>(
     }
 }
 
-/// What stands behind the parameter of a closure.
+/// Returns the closure with this parameter, after which `|` and the body come next.
 fn bar_in<'t, 's>(
     arg: Ident<'s>,
     tokens: Tokens<'t, 's>,
@@ -64,7 +64,7 @@ fn bar_in<'t, 's>(
     }
 }
 
-/// What stands behind the first bar of a closure.
+/// Returns the closure whose parameter comes next.
 fn parameter_in<'t, 's>(tokens: Tokens<'t, 's>) -> Result<CallbackRun<'t, 's>, CallbackFault>
     ensures { (span : Span) → read_view span result ≡ parameter_in span (tokens_of tokens.entry) }
 {
@@ -74,7 +74,7 @@ fn parameter_in<'t, 's>(tokens: Tokens<'t, 's>) -> Result<CallbackRun<'t, 's>, C
     }
 }
 
-/// The callback that a run is.
+/// Returns the callback that a run is.
 fn callback_in<'t, 's>(tokens: Tokens<'t, 's>) -> Result<CallbackRun<'t, 's>, CallbackFault>
     ensures { read_view (run_span (tokens_of tokens.entry)) result
         ≡ callback_in (tokens_of tokens.entry) }
@@ -86,7 +86,7 @@ fn callback_in<'t, 's>(tokens: Tokens<'t, 's>) -> Result<CallbackRun<'t, 's>, Ca
     }
 }
 
-/// The callback with tokens of its own.
+/// Copies the tokens of a callback.
 fn copied<'s>(alloc: Global, run: CallbackRun<'_, 's>, span: Span) -> Result<Callback<'s>, Memory>
     ensures { IfOk result (λ callback. callback_view callback ≡ run_view span run.entry) }
 {
@@ -99,7 +99,7 @@ fn copied<'s>(alloc: Global, run: CallbackRun<'_, 's>, span: Span) -> Result<Cal
     }
 }
 
-/// Lists that tokens are no closure.
+/// Reports that a run is not a closure.
 fn report_closure(errors: &mut Errors, span: Span) -> Result<(), Memory>
     ensures ok { OnOk result (AddsFault (callback_closure span) errors.old errors.new) }
     ensures unreported { OnErr result (errors.new ≡ errors.old) }
@@ -112,7 +112,7 @@ fn report_closure(errors: &mut Errors, span: Span) -> Result<(), Memory>
     Ok(())
 }
 
-/// Lists that a closure has no body.
+/// Reports that a closure has no body.
 fn report_body(errors: &mut Errors, span: Span) -> Result<(), Memory>
     ensures ok { OnOk result (AddsFault (callback_body span) errors.old errors.new) }
     ensures unreported { OnErr result (errors.new ≡ errors.old) }
@@ -121,7 +121,7 @@ fn report_body(errors: &mut Errors, span: Span) -> Result<(), Memory>
     Ok(())
 }
 
-/// Lists why tokens are no callback.
+/// Reports why a run is not a callback.
 fn report_callback(errors: &mut Errors, cause: CallbackFault, span: Span) -> Result<(), Memory>
     ensures ok { OnOk result (AddsFault (callback_fault span cause) errors.old errors.new) }
     ensures unreported { OnErr result (errors.new ≡ errors.old) }
@@ -133,8 +133,12 @@ fn report_callback(errors: &mut Errors, cause: CallbackFault, span: Span) -> Res
     Ok(())
 }
 
-/// The callback that a run without a name is; `None` where it is none, which was listed. After
-/// `Memory` the faults are as before.
+/// Reads a callback that has no name before it. Reports a run that is not a callback, and returns
+/// `None` for it.
+///
+/// # Errors
+///
+/// `Memory` if there is not enough memory. The faults are then unchanged.
 pub fn read_callback<'s>(
     tokens: Tokens<'_, 's>,
     errors: &mut Errors,
@@ -154,7 +158,8 @@ pub fn read_callback<'s>(
     }
 }
 
-/// Lists that a callback was set before, and where. After an error the faults are as before.
+/// Reports a second callback, and the place of the first one. After an error the faults are
+/// unchanged.
 fn report_again(
     errors: &mut Errors,
     name: Ident<'_>,
@@ -181,8 +186,8 @@ fn report_again(
     errors.append(found)
 }
 
-/// Lists why the tokens that are assigned to a name are no callback. After an error the faults are
-/// as before.
+/// Reports why the value of `callback = ..` is not a callback. After an error the faults are
+/// unchanged.
 fn report_no_callback(errors: &mut Errors, cause: CallbackFault, span: Span) -> Result<(), Memory>
     ensures ok { OnOk result (errors.new
         ≡ errors.old ++ callback_fault span cause ∷ callback_no_value span ∷ []) }
@@ -194,9 +199,12 @@ fn report_no_callback(errors: &mut Errors, cause: CallbackFault, span: Span) -> 
     errors.append(found)
 }
 
-/// Sets the callback that is assigned to a name, in place of the former one, which is listed. A run
-/// that is no callback is listed and sets nothing. After `Memory` the callback and the faults are
-/// as before.
+/// Sets the callback of `callback = ..`, in place of a former one, which is reported. Reports a run
+/// that is not a callback, and sets nothing then.
+///
+/// # Errors
+///
+/// `Memory` if there is not enough memory. The callback and the faults are then unchanged.
 pub fn set_callback<'s>(
     callback: &mut Option<Callback<'s>>,
     name: Ident<'s>,

@@ -1,4 +1,4 @@
-//! The flags in `ignore(..)`.
+//! Reads the flags in `ignore(..)`.
 ghost use Rattle.std.specs.Prelude.{◌≡◌, OnOk, OnErr, IfOk, false, string_bytes};
 ghost use Rattle.logos_token.specs.Tokens.{also, none};
 ghost use Rattle.logos_token.specs.Views.{tokens_of, tree_of};
@@ -17,7 +17,7 @@ use logos_token::token::{Ident, TokenTree, Tokens, print};
 use logos_token::util::{is_punct, push_escaped};
 use std::alloc::Global;
 
-/// The printed text of the first tree of a run.
+/// Returns the printed text of the first tree of a run.
 fn first_printed(
     alloc: Global,
     tokens: Tokens<'_, '_>,
@@ -31,7 +31,7 @@ fn first_printed(
     Ok(text)
 }
 
-/// Lists a token where a comma should stand, the first of a run.
+/// Reports the first token of a run, which stands where a comma should.
 fn report_no_comma(
     tokens: Tokens<'_, '_>,
     tree: TokenTree<'_, '_>,
@@ -50,7 +50,7 @@ fn report_no_comma(
     Ok(())
 }
 
-/// Lists the flag `ascii_case`.
+/// Reports the flag `ascii_case`.
 fn report_ascii(flag: Ident<'_>, errors: &mut Errors) -> Result<(), Memory>
     ensures { OnOk result
         (AddsFault (ignore_ascii (ident_slice flag.entry)) errors.old errors.new) }
@@ -63,7 +63,7 @@ fn report_ascii(flag: Ident<'_>, errors: &mut Errors) -> Result<(), Memory>
     )
 }
 
-/// Lists a flag other than `case`.
+/// Reports a flag other than `case`.
 fn report_other(flag: Ident<'_>, errors: &mut Errors) -> Result<(), Memory>
     ensures { OnOk result (AddsFault (other_flag (ident_slice flag.entry)) errors.old errors.new) }
 {
@@ -79,7 +79,7 @@ fn report_other(flag: Ident<'_>, errors: &mut Errors) -> Result<(), Memory>
     )
 }
 
-/// Lists that there is no flag.
+/// Reports that there is no flag.
 fn report_none(name: Ident<'_>, errors: &mut Errors) -> Result<(), Memory>
     ensures { OnOk result
         (AddsFault (ignore_empty (ident_slice name.entry)) errors.old errors.new) }
@@ -92,8 +92,8 @@ fn report_none(name: Ident<'_>, errors: &mut Errors) -> Result<(), Memory>
     )
 }
 
-/// What stands behind the comma behind `case`; `None` where no comma is there, and a fault was
-/// listed where another token is.
+/// Returns the tokens after the comma that follows `case`. `None` if no comma is there; reports a
+/// token that is there in its place.
 fn after_flag<'t, 's>(
     tokens: Tokens<'t, 's>,
     errors: &mut Errors,
@@ -111,7 +111,8 @@ fn after_flag<'t, 's>(
     Ok(None)
 }
 
-/// What stands behind `case`, where that comes first; else the reading ends, perhaps with a fault.
+/// Returns the tokens after `case` if that comes first. `None` if it does not, and the reading of
+/// flags ends; reports what is wrong if anything is.
 fn read_case<'t, 's>(
     name: Ident<'s>,
     found: bool,
@@ -143,7 +144,7 @@ fn read_case<'t, 's>(
     }
 }
 
-/// Sets what flags say, and lists the first fault among them. After an error some may be set.
+/// Sets what the flags say, and reports the first fault among them. After an error some can be set.
 fn set_flags<'s>(
     ignore_case: &mut bool,
     name: Ident<'s>,
@@ -167,9 +168,12 @@ fn set_flags<'s>(
     Ok(())
 }
 
-/// Sets what the flags in the group behind `ignore` say, whose name is given, and lists the first
-/// fault among them; the flags in front of it stay set. After `Memory` the flag and the faults are
-/// as before.
+/// Sets what the flags in the group after `ignore` say, and reports the first fault among them.
+/// `name` is the word `ignore`. The flags before a fault stay set.
+///
+/// # Errors
+///
+/// `Memory` if there is not enough memory. The flag and the faults are then unchanged.
 pub fn read_flags<'s>(
     ignore_case: &mut bool,
     name: Ident<'s>,

@@ -1,4 +1,5 @@
-//! Attributes of an enum and its variants: the pieces of their arguments, and the values in them.
+//! Reads the arguments of attributes on an enum and its variants: their pieces, and the values in
+//! these.
 
 #![tactic(auto)]
 

@@ -1,4 +1,4 @@
-//! The strings and byte strings in an attribute's argument.
+//! Reads strings and byte strings in an attribute's argument.
 ghost use Rattle.std.specs.Prelude.{◌≡◌, OnOk, OnErr, IfOk, option_map};
 ghost use Rattle.logos_token.specs.Views.{tokens_of};
 ghost use Rattle.logos_attribute.specs.Slices.{literal_slice};
@@ -15,7 +15,7 @@ use logos_token::token;
 use logos_token::token::{TokenTree, Tokens};
 use std::alloc::Global;
 
-/// Lists a literal that is neither a string nor a byte string.
+/// Reports a literal that is neither a string nor a byte string.
 fn report_not_text(token: token::Literal<'_>, errors: &mut Errors) -> Result<(), Memory>
     ensures ok { OnOk result
         (AddsFault (not_text (literal_slice token.entry)) errors.old errors.new) }
@@ -29,7 +29,11 @@ fn report_not_text(token: token::Literal<'_>, errors: &mut Errors) -> Result<(),
     Ok(())
 }
 
-/// Lists that a run is no literal. After `Memory` the faults are as before.
+/// Reports that a run is not a literal.
+///
+/// # Errors
+///
+/// `Memory` if there is not enough memory. The faults are then unchanged.
 pub fn report_syntax(tokens: Tokens<'_, '_>, errors: &mut Errors) -> Result<(), Memory>
     ensures ok { OnOk result
         (AddsFault (literal_syntax (tokens_of tokens.entry)) errors.old errors.new) }
@@ -43,7 +47,7 @@ pub fn report_syntax(tokens: Tokens<'_, '_>, errors: &mut Errors) -> Result<(), 
     )
 }
 
-/// The string or byte string that a literal is; `None` where it is another one.
+/// Returns the string or byte string that a literal is. `None` if it is neither.
 fn text_in<'s>(alloc: Global, token: token::Literal<'s>) -> Result<Option<Literal<'s>>, Memory>
     ensures { IfOk result (λ literal.
         option_map literal_view literal ≡ text_in (literal_slice token.entry)) }
@@ -51,8 +55,12 @@ fn text_in<'s>(alloc: Global, token: token::Literal<'s>) -> Result<Option<Litera
     Ok(Literal::read(alloc, &token)?)
 }
 
-/// The string or byte string that a literal is; `None` where it is another one, which was listed.
-/// After `Memory` the faults are as before.
+/// Reads a literal as a string or byte string. Reports any other literal, and returns `None` for
+/// it.
+///
+/// # Errors
+///
+/// `Memory` if there is not enough memory. The faults are then unchanged.
 pub fn read_text<'s>(
     alloc: Global,
     token: token::Literal<'s>,
@@ -70,8 +78,12 @@ pub fn read_text<'s>(
     Ok(Some(literal))
 }
 
-/// The string or byte string that a run is; `None` where it is none, which was listed, and where it
-/// has no token. After `Memory` the faults are as before.
+/// Reads a run as a string or byte string. Reports any other run that has tokens. Returns `None`
+/// for any other run.
+///
+/// # Errors
+///
+/// `Memory` if there is not enough memory. The faults are then unchanged.
 pub fn read_literal<'s>(
     alloc: Global,
     tokens: Tokens<'_, 's>,
@@ -94,7 +106,11 @@ pub fn read_literal<'s>(
     }
 }
 
-/// The string or byte string that a run is; `None` where it is none.
+/// Returns the string or byte string that a run is. `None` if it is neither.
+///
+/// # Errors
+///
+/// `Memory` if there is not enough memory.
 pub fn string_in<'s>(alloc: Global, tokens: Tokens<'_, 's>) -> Result<Option<Literal<'s>>, Memory>
     ensures { IfOk result (λ literal.
         option_map literal_view literal ≡ string_in (tokens_of tokens.entry)) }

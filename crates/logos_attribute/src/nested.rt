@@ -1,4 +1,4 @@
-//! The pieces of an attribute's argument: views of its tokens, which copy nothing.
+//! Cuts the argument of an attribute into pieces: views of its tokens, which copy nothing.
 ghost use Rattle.std.specs.Prelude.{◌≡◌, MatchOption, []};
 ghost use Rattle.logos_token.specs.Tokens.{Token, TokenList, none, also, append, rest_of};
 ghost use Rattle.logos_token.specs.Views.{tokens_of, tree_of};
@@ -22,7 +22,7 @@ pub enum NestedValue<'t, 's> {
     Assign(Tokens<'t, 's>),
     /// `name "literal"`
     Literal(Literal<'s>),
-    /// `name(..)`, with what is inside.
+    /// `name(..)`, with the tokens inside.
     Group(Tokens<'t, 's>),
     /// `name ident = ..`
     KeywordAssign(Ident<'s>, Tokens<'t, 's>),
@@ -317,7 +317,7 @@ impl<'t, 's> AttributeParser<'t, 's> {
     }
 
     /// Takes the tokens up to the next comma that cuts, and that comma, and returns these tokens.
-    /// `None` where no token stands before that comma.
+    /// `None` if no token comes before that comma.
     pub fn run(&mut self) -> Option<Tokens<'t, 's>>
         ensures run { MatchOption result
             (up_to_comma (tokens_of self.old.rest) ≡ none)

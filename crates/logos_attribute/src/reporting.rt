@@ -1,4 +1,4 @@
-//! Faults with a text of the source in their message.
+//! Reports faults whose messages have texts of the source in them. Each function adds one fault.
 ghost use Rattle.std.specs.Prelude.{◌≡◌, OnOk, OnErr};
 ghost use Rattle.logos_token.specs.Tokens.{run_span};
 ghost use Rattle.logos_token.specs.Views.{tokens_of};
@@ -9,8 +9,11 @@ use logos_token::error::{Errors, FaultCode, Memory};
 use logos_token::token::{Ident, Tokens};
 use logos_type_params::reporting::report_about;
 
-/// Lists a fault of a name, which stands between two texts in the message. After `Memory` the faults
-/// are as before.
+/// Reports a fault of a name. The message has the name between two texts.
+///
+/// # Errors
+///
+/// `Memory` if there is not enough memory. The faults are then unchanged.
 pub fn report_named(
     errors: &mut Errors,
     code: FaultCode,
@@ -26,7 +29,11 @@ pub fn report_named(
     report_about(errors, code, before, name, after)
 }
 
-/// Lists a fault of a run. After `Memory` the faults are as before.
+/// Reports a fault at the span of a run.
+///
+/// # Errors
+///
+/// `Memory` if there is not enough memory. The faults are then unchanged.
 pub fn report_run(
     errors: &mut Errors,
     code: FaultCode,
@@ -42,7 +49,11 @@ pub fn report_run(
     Ok(())
 }
 
-/// Lists a fault at a name. After `Memory` the faults are as before.
+/// Reports a fault at the span of a name.
+///
+/// # Errors
+///
+/// `Memory` if there is not enough memory. The faults are then unchanged.
 pub fn report_form(
     errors: &mut Errors,
     code: FaultCode,

@@ -1,4 +1,4 @@
--- What the generic parameters and the attributes of an enum say.
+-- The generic parameters and the attributes of an enum.
 use Rattle.std.specs.Prelude.{◌≡◌, List, [], ◌∷◌, ◌++◌, true, false, Bool, codes, Option, Some, None, if◌then◌else◌}
 use Rattle.std.specs.Str.{bytes_eq}
 use Rattle.logos_lexeme.specs.declared.lexeme.Span.{Span}
@@ -23,40 +23,40 @@ logos_form span = fault LogosForm (codes "Expected #[logos(...)]") span
 abbrev pub const_generic : Span → Fault
 const_generic span = fault ConstGeneric (codes "Logos doesn't support const generics.") span
 
--- a lifetime that is declared at this place
+-- the report of a lifetime that is declared at this span
 abbrev pub lifetime_report : Span → OptionsView → Report OptionsView
 lifetime_report span o =
     with_faults (with_types o (record { names = o.types.names; types = o.types.types; lifetime = true }))
     (if o.types.lifetime then only (many_lifetimes span) else [])
 
--- a type parameter of this name
+-- the report of a type parameter with this name
 abbrev pub name_report : Slice → OptionsView → Report OptionsView
 name_report name o =
     without_faults (with_types o (record { names = o.types.names ++ (record { text = name.text; at = name.span }) ∷ []; types = o.types.types; lifetime = o.types.lifetime }))
 
--- what a generic parameter of this kind says, whose tokens stand at this place
+-- the report of a generic parameter of this kind, whose tokens have this span
 abbrev pub parameter_report : ParameterKind → Slice → Span → OptionsView → Report OptionsView
 parameter_report kinds.Lifetime name span o = lifetime_report span o
 parameter_report kinds.Type name span o = name_report name o
 parameter_report kinds.Const name span o = with_faults o (only (const_generic span))
 
--- the name of the attribute is `logos`
+-- whether the name of the attribute is `logos`
 abbrev pub is_logos : Option Meta → Bool
 is_logos None = false
 is_logos (Some meta) = bytes_eq meta.name.text (codes "logos")
 
--- what a `logos` attribute at this place says
+-- the result of a `logos` attribute at this span
 pub data MetaSays (o : OptionsView) (o' : OptionsView) (old new : List Fault) (meta : Meta) (span : Span) : Type 0 where
   no_arguments : meta.arguments ≡ None → o' ≡ o → AddsFault (logos_form span) old new → MetaSays o o' old new meta span
   with_arguments : {run : TokenList} → meta.arguments ≡ Some run → PiecesSay o o' old new (pieces run) → MetaSays o o' old new meta span
 
--- what an attribute of an enum says: nothing, unless its name is `logos`
+-- the result of an attribute of an enum: nothing changes, unless its name is `logos`
 pub data AttributeSays (o : OptionsView) (o' : OptionsView) (old new : List Fault) (attribute : AttributeValue) : Type 0 where
   other_name : is_logos (meta_of attribute) ≡ false → o' ≡ o → new ≡ old → AttributeSays o o' old new attribute
   a_logos : {meta : Meta} → meta_of attribute ≡ Some meta → bytes_eq meta.name.text (codes "logos") ≡ true → MetaSays o o' old new meta attribute.span →
       AttributeSays o o' old new attribute
 
--- the definition in the arguments of an attribute whose path is one identifier
+-- the report of the definition in the arguments of an attribute whose path is one identifier
 abbrev pub arguments_report : Option TokenList → Report (Option DefinitionView)
 arguments_report None = without_faults None
 arguments_report (Some run) = definition_report run

@@ -1,4 +1,4 @@
--- Definitions: the literal of a `token`, `regex` or `skip(..)`, and the arguments behind it.
+-- Definitions: the literal of a `token`, `regex` or `skip(..)`, and the arguments after it.
 use Rattle.std.specs.Prelude.{ℕ, Bool, true, false, List, [], ◌∷◌, codes, Option, Some, None, if◌then◌else◌}
 use Rattle.std.specs.Str.{bytes_eq}
 use Rattle.logos_token.specs.Faults.{Fault}
@@ -20,11 +20,11 @@ pub record DefinitionView : Type 0 where
   pub allow_greedy : Option Bool
   pub ignore_case : Bool
 
--- a literal alone
+-- a literal without arguments
 abbrev pub plain : LiteralView → DefinitionView
 plain literal = record { literal = literal; priority = None; callback = None; allow_greedy = None; ignore_case = false }
 
--- a fault where something was said before
+-- the fault of a second value
 abbrev pub again : {A : Type 0} → Option A → Fault → List Fault
 again None f = []
 again (Some former) f = only f
@@ -62,14 +62,14 @@ named_expected run = fault NamedExpected (codes "Expected a named argument at th
 abbrev pub unexpected_token : TokenList → Fault
 unexpected_token run = fault UnexpectedToken (codes "Unexpected token in attribute") (run_span run)
 
--- `priority = run` behind what was said before: the new one stands
+-- the report of `priority = run` after former arguments: the new priority replaces the former one
 abbrev pub priority_set : TokenList → Option ℕ → Report (Option ℕ)
 priority_set run former = elim (number_in run) [
   | Some priority ↦ with_faults (Some priority) (again former (priority_twice run))
   | None ↦ with_faults former (only (priority_value run))
 ]
 
--- `allow_greedy = run` behind what was said before: the new one stands
+-- the report of `allow_greedy = run` after former arguments: the new value replaces the former one
 abbrev pub greedy_set : TokenList → Option Bool → Report (Option Bool)
 greedy_set run former = elim (boolean_in run) [
   | Some allow ↦ with_faults (Some allow) (again former (greedy_twice run))
@@ -92,7 +92,7 @@ abbrev pub greedy_report : Slice → PieceValue → DefinitionView → Report De
 greedy_report name (assigned run) d = map_report (λ allow. record d { allow_greedy = allow }) (greedy_set run d.allow_greedy)
 greedy_report name value d = with_faults d (only (greedy_form name))
 
--- a named argument
+-- the report of a named argument
 abbrev pub named_report : Slice → PieceValue → DefinitionView → Report DefinitionView
 named_report name value d =
     if bytes_eq name.text (codes "priority") then priority_report name value d
@@ -101,23 +101,23 @@ named_report name value d =
     else (if bytes_eq name.text (codes "allow_greedy") then greedy_report name value d
     else with_faults d (only (unknown_nested name)))))
 
--- an argument behind the literal; only the first of them may be a callback without a name
+-- the report of an argument after the literal; only the first one can be a callback without a name
 abbrev pub argument_report : Bool → Piece → DefinitionView → Report DefinitionView
 argument_report first (unexpected run) d = with_faults d (only (unexpected_token run))
 argument_report true (unnamed run) d = map_report (λ callback. record d { callback = callback }) (callback_report run)
 argument_report false (unnamed run) d = with_faults d (only (named_expected run))
 argument_report first (named name value) d = named_report name value d
 
--- all arguments behind the literal
+-- the report of all arguments after the literal
 abbrev pub arguments_report : Bool → List Piece → DefinitionView → Report DefinitionView
 arguments_report first [] d = without_faults d
 arguments_report first (piece ∷ rest) d = and_then (argument_report first piece d) (arguments_report false rest)
 
--- the arguments behind a literal, if there is one
+-- the report of the arguments after a literal, if there is one
 abbrev pub definition_after : TokenList → Option LiteralView → Report (Option DefinitionView)
 definition_after rest None = without_faults None
 definition_after rest (Some literal) = map_report (λ d. Some d) (arguments_report true (pieces rest) (plain literal))
 
--- what is in the parenthesis of `token`, `regex` or `skip`
+-- the report of the tokens in the parentheses of `token`, `regex` or `skip`
 abbrev pub definition_report : TokenList → Report (Option DefinitionView)
 definition_report run = and_then (literal_report (up_to_comma run)) (definition_after (after_comma run))

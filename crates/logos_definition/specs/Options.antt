@@ -14,17 +14,17 @@ use Rattle.logos_definition.specs.Definitions.{DefinitionView, plain, definition
 use Rattle.logos_definition.specs.ErrorTypes.{ErrorView, error_span, error_alone}
 use Rattle.logos_definition.specs.OptionFaults.{utf8_twice, extras_twice, error_twice, export_twice, skip_form, skip_group, utf8_value, utf8_form, extras_form, crate_form, export_bytes, export_form, subpattern_form, error_form, source_old, unknown_logos}
 
--- whether inputs are UTF-8, and where that is said
+-- whether inputs are UTF-8, and where the source gives that
 pub record ModeView : Type 0 where
   pub value : Bool
   pub span : Span
 
--- the path of the chart that is exported, and where it is said
+-- the path of the exported chart, and where the source gives it
 pub record ExportView : Type 0 where
   pub path : List ℕ
   pub span : Span
 
--- what was said so far
+-- the options given so far
 pub record OptionsView : Type 0 where
   pub utf8 : Option ModeView
   pub skips : List DefinitionView
@@ -35,14 +35,14 @@ pub record OptionsView : Type 0 where
   pub export_path : Option ExportView
   pub types : Value
 
--- where nothing was said
+-- no options are given
 abbrev pub no_options : OptionsView
 no_options = record { utf8 = None; skips = []; extras = None; subpatterns = []; error_type = None; logos_path = None; export_path = None; types = record { names = []; types = []; lifetime = false } }
 
 abbrev pub more_skips : OptionsView → DefinitionView → OptionsView
 more_skips o definition = record o { skips = o.skips ++ definition ∷ [] }
 
--- a literal of `skip`, if it is a text
+-- a literal of `skip`, if it is a string or byte string
 abbrev pub skip_plain : OptionsView → Option LiteralView → OptionsView
 skip_plain o None = o
 skip_plain o (Some literal) = more_skips o (plain literal)
@@ -74,7 +74,7 @@ abbrev pub extras_report : Slice → PieceValue → OptionsView → Report Optio
 extras_report name (assigned run) o = extras_set run o
 extras_report name value o = with_faults o (only (extras_form name))
 
--- the last path stands, without a fault
+-- the last path replaces the former ones, without a fault
 abbrev pub crate_report : Slice → PieceValue → OptionsView → Report OptionsView
 crate_report name (assigned run) o = without_faults (record o { logos_path = Some run })
 crate_report name value o = with_faults o (only (crate_form name))
@@ -82,7 +82,7 @@ crate_report name value o = with_faults o (only (crate_form name))
 abbrev pub path_set : TokenList → List ℕ → OptionsView → Report OptionsView
 path_set run path o = with_faults (record o { export_path = Some (record { path = path; span = run_span run }) }) (export_twice (run_span run) (option_map (λ e. e.span) o.export_path))
 
--- what the literal of a path holds
+-- the path that a literal holds
 abbrev pub held_path : TokenList → OptionsView → Held → Report OptionsView
 held_path run o (of_text path) = path_set run path o
 held_path run o (of_bytes bytes) = with_faults o (only (export_bytes run))
@@ -105,16 +105,16 @@ abbrev pub subpattern_report : Slice → PieceValue → OptionsView → Report O
 subpattern_report name (keyed second run) o = subpattern_set second run o (string_in run)
 subpattern_report name value o = with_faults o (only (subpattern_form name))
 
--- a type of errors that is said here, behind what was said before
+-- the report of an error type after former options
 abbrev pub error_set : TokenList → ErrorView → OptionsView → Report OptionsView
 error_set run error o = with_faults (record o { error_type = Some error }) (error_twice (run_span run) (option_map error_span o.error_type))
 
--- `error = run`
+-- the report of `error = run`
 abbrev pub error_report : Slice → PieceValue → OptionsView → Report OptionsView
 error_report name (assigned run) o = error_set run (error_alone run) o
 error_report name value o = with_faults o (only (error_form name))
 
--- a named argument whose value is no text
+-- the report of `utf8`, `extras` or `crate`, and of `source` and unknown names
 abbrev pub setting_report : Slice → PieceValue → OptionsView → Report OptionsView
 setting_report name value o =
     if bytes_eq name.text (codes "utf8") then utf8_report name value o
@@ -123,7 +123,7 @@ setting_report name value o =
     else (if bytes_eq name.text (codes "source") then with_faults o (only (source_old name))
     else with_faults o (only (unknown_logos name)))))
 
--- an argument with a name that says no type
+-- the report of a named argument other than `error` and `type`
 abbrev pub option_report : Slice → PieceValue → OptionsView → Report OptionsView
 option_report name value o =
     if bytes_eq name.text (codes "skip") then skip_report name value o

@@ -1,4 +1,4 @@
--- What a parser was told so far.
+-- The options that a value of type `Parser` stands for.
 use Rattle.std.specs.Prelude.{◌≡◌, false, map, option_map, string_bytes}
 use Rattle.logos_token.specs.Views.{stream_tokens}
 use Rattle.logos_attribute.specs.LiteralViews.{named_literal_view}

@@ -1,4 +1,4 @@
-//! Definitions: the literal of a `token`, `regex` or `skip(..)`, and the arguments behind it.
+//! Reads definitions: the literal of a `token`, `regex` or `skip(..)`, and the arguments after it.
 ghost use Rattle.std.specs.Prelude.{◌≡◌, OnOk, OnErr, IfOk, option_map};
 ghost use Rattle.logos_token.specs.Views.{tokens_of};
 ghost use Rattle.logos_attribute.specs.Slices.{ident_slice};
@@ -24,18 +24,19 @@ use logos_pattern::pattern::Literal;
 use logos_token::error::{Errors, Memory};
 use logos_token::token::{Ident, Tokens};
 
-/// The literal of a `token`, `regex` or `skip`, and what stands behind it.
+/// The literal of a `token`, `regex` or `skip`, and the arguments after it.
 #[derive(Drop)]
 pub struct Definition<'s> {
     pub literal: Literal<'s>,
     pub priority: Option<usize>,
     pub callback: Option<Callback<'s>>,
-    /// Whether a greedy repetition of a dot is allowed, if that is said.
+    /// The value of `allow_greedy`, if it is given: whether a greedy repetition of a dot is
+    /// allowed.
     pub allow_greedy: Option<bool>,
     pub ignore_flags: IgnoreFlags,
 }
 
-/// Sets a priority, in place of the former one. After an error that is as before.
+/// Sets the priority, in place of a former one, which is reported. After an error it is unchanged.
 fn set_priority(
     priority: &mut Option<usize>,
     tokens: Tokens<'_, '_>,
@@ -57,8 +58,8 @@ fn set_priority(
     Ok(())
 }
 
-/// Sets whether a greedy dot is allowed, in place of what was said before. After an error that is
-/// as before.
+/// Sets the value of `allow_greedy`, in place of a former one, which is reported. After an error it
+/// is unchanged.
 fn set_greedy(
     allow: &mut Option<bool>,
     tokens: Tokens<'_, '_>,
@@ -92,7 +93,7 @@ impl<'s> Definition<'s> {
     ghost use Rattle.logos_definition.specs.Definitions.{argument_report, arguments_report};
     ghost use Rattle.logos_definition.specs.DefinitionViews.{definition_view};
 
-    /// The literal with nothing behind it.
+    /// Returns the definition with this literal and no arguments.
     pub fn new(literal: Literal<'s>) -> Definition<'s>
         ensures { definition_view result ≡ plain (literal_view literal.entry) }
     {
@@ -105,7 +106,7 @@ impl<'s> Definition<'s> {
         }
     }
 
-    /// Adds what `priority` says. After an error the definition is as before.
+    /// Adds the argument `priority`. After an error the definition is unchanged.
     fn add_priority(
         &mut self,
         name: Ident<'s>,
@@ -125,7 +126,7 @@ impl<'s> Definition<'s> {
         Ok(())
     }
 
-    /// Adds what `callback` says. After an error the definition is as before.
+    /// Adds the argument `callback`. After an error the definition is unchanged.
     fn add_callback(
         &mut self,
         name: Ident<'s>,
@@ -147,7 +148,7 @@ impl<'s> Definition<'s> {
         Ok(())
     }
 
-    /// Adds the flags in `ignore(..)`. After an error the definition is as before.
+    /// Adds the flags in `ignore(..)`. After an error the definition is unchanged.
     fn add_ignore(
         &mut self,
         name: Ident<'s>,
@@ -168,7 +169,7 @@ impl<'s> Definition<'s> {
         Ok(())
     }
 
-    /// Adds what `allow_greedy` says. After an error the definition is as before.
+    /// Adds the argument `allow_greedy`. After an error the definition is unchanged.
     fn add_greedy(
         &mut self,
         name: Ident<'s>,
@@ -187,7 +188,7 @@ impl<'s> Definition<'s> {
         Ok(())
     }
 
-    /// Adds a named argument, and lists its faults. After an error the definition is as before.
+    /// Adds a named argument, and reports its faults. After an error the definition is unchanged.
     pub(crate) fn add_named(
         &mut self,
         name: Ident<'s>,
@@ -214,7 +215,7 @@ impl<'s> Definition<'s> {
         report_unknown(name, errors)
     }
 
-    /// Adds an argument behind the literal; only the first may be a callback without a name.
+    /// Adds an argument after the literal. Only the first one can be a callback without a name.
     fn add_argument(
         &mut self,
         first: bool,
@@ -239,7 +240,7 @@ impl<'s> Definition<'s> {
         Ok(())
     }
 
-    /// Adds all arguments behind the literal.
+    /// Adds all arguments after the literal.
     fn add_arguments(
         &mut self,
         pieces: AttributeParser<'_, 's>,
@@ -259,8 +260,9 @@ impl<'s> Definition<'s> {
     }
 }
 
-/// What is in the parenthesis of `token`, `regex` or `skip`; `None` where it has no literal in
-/// front, which was listed if it has tokens there. After `Memory` nothing is told of the faults.
+/// Reads the definition in the parentheses of `token`, `regex` or `skip`. `None` if these do not
+/// begin with a literal; tokens in place of the literal are reported. After `Memory` some of the
+/// faults can have been added.
 pub(crate) fn read_definition<'s>(
     tokens: Tokens<'_, 's>,
     errors: &mut Errors,

@@ -1,4 +1,4 @@
-//! The type of errors, and what makes one.
+//! Reads error types and their callbacks.
 ghost use Rattle.std.specs.Prelude.{OnOk, IfOk, option_map, true};
 ghost use Rattle.logos_type.specs.TypeTrees.{type_tree};
 ghost use Rattle.logos_token.specs.Views.{tokens_of};
@@ -23,18 +23,18 @@ use logos_type::{TypeExpr, print_type};
 use logos_type_params::read_value;
 use std::alloc::Global;
 
-/// The type of errors, and what makes one.
+/// The error type of a lexer, and the callback that makes an error.
 #[derive(Drop)]
 pub struct ErrorType<'s> {
-    /// The tokens of the type; it is `()` where there are none.
+    /// The tokens of the type. Without tokens the type is `()`.
     pub ty: MaybeVoid<'s>,
-    /// The type as it was read from these tokens, if it was: in `error(..)`, and not behind `error =`.
+    /// The type as it was read from these tokens: in `error(..)`, but not after `error =`.
     pub type_expr: Option<TypeExpr<'s>>,
-    /// What makes an error, if something is called for it.
+    /// The callback that makes an error, if there is one.
     pub callback: Option<Callback<'s>>,
 }
 
-/// Lists a name that no argument of `error(..)` has.
+/// Reports an unknown name in `error(..)`.
 fn report_unknown(name: Ident<'_>, errors: &mut Errors) -> Result<(), Memory>
     ensures { OnOk result
         (AddsFault (unknown_error_argument (ident_slice name.entry)) errors.old errors.new) }
@@ -60,7 +60,7 @@ impl<'s> ErrorType<'s> {
     ghost use Rattle.logos_definition.specs.ErrorTypes.{error_arguments_report};
     ghost use Rattle.logos_definition.specs.ErrorTypeViews.{error_view};
 
-    /// The type of these tokens, without a callback.
+    /// Returns the error type of these tokens, without a callback.
     pub fn new(ty: TokenStream<'s>) -> ErrorType<'s>
         ensures { error_view result ≡ error_alone (stream_tokens ty.entry) }
     {
@@ -71,7 +71,7 @@ impl<'s> ErrorType<'s> {
         }
     }
 
-    /// The type `()`, without a callback. It takes no memory.
+    /// Returns the error type `()`, without a callback. This takes no memory.
     pub fn default(_alloc: Global) -> ErrorType<'s>
         ensures { error_view result ≡ no_error }
     {
@@ -82,9 +82,12 @@ impl<'s> ErrorType<'s> {
         }
     }
 
-    /// The text of the type: that of a type where it was read, else that of its tokens, or of `()`
-    /// where there are none. Its lifetimes and parameters are those that are written. It fails only
-    /// where there is no memory.
+    /// Returns the text of the type: of the type that was read if it was, or else of its tokens, or
+    /// `()` if there are none. Its lifetimes and parameters are those of the source.
+    ///
+    /// # Errors
+    ///
+    /// `Memory` if there is not enough memory.
     pub fn print(&self, alloc: Global) -> Result<String, Memory>
         ensures { IfOk result (λ text. string_bytes text ≡ error_text (error_view self.now)) }
     {
@@ -94,8 +97,8 @@ impl<'s> ErrorType<'s> {
         }
     }
 
-    /// Where the type stands in the source: from its first token to its last, and 0..0 where it has
-    /// no token.
+    /// Returns the span of the type in the source, from its first token to its last one, or `0..0`
+    /// if it has no tokens.
     pub fn span(&self) -> Span
         ensures { result ≡ error_span (error_view self.now) }
     {
@@ -105,7 +108,7 @@ impl<'s> ErrorType<'s> {
         }
     }
 
-    /// Adds what `callback` says. After an error the type is as before.
+    /// Adds the argument `callback`. After an error the type is unchanged.
     fn add_callback(
         &mut self,
         name: Ident<'s>,
@@ -127,7 +130,7 @@ impl<'s> ErrorType<'s> {
         Ok(())
     }
 
-    /// Adds a named argument, and lists its faults. After an error the type is as before.
+    /// Adds a named argument, and reports its faults. After an error the type is unchanged.
     pub(crate) fn add_named(
         &mut self,
         name: Ident<'s>,
@@ -145,7 +148,7 @@ impl<'s> ErrorType<'s> {
         report_unknown(name, errors)
     }
 
-    /// Adds an argument behind the type; only the first may be a callback without a name.
+    /// Adds an argument after the type. Only the first one can be a callback without a name.
     fn add_argument(
         &mut self,
         first: bool,
@@ -170,7 +173,7 @@ impl<'s> ErrorType<'s> {
         Ok(())
     }
 
-    /// Adds all arguments behind the type.
+    /// Adds all arguments after the type.
     pub(crate) fn add_arguments(
         &mut self,
         pieces: AttributeParser<'_, 's>,
@@ -190,7 +193,7 @@ impl<'s> ErrorType<'s> {
     }
 }
 
-/// Lists that no type stands in `error(..)`.
+/// Reports that `error(..)` has no type.
 fn report_empty(group: Tokens<'_, '_>, errors: &mut Errors) -> Result<(), Memory>
     ensures { OnOk result (AddsFault (error_empty (tokens_of group.entry)) errors.old errors.new) }
 {
@@ -202,8 +205,8 @@ fn report_empty(group: Tokens<'_, '_>, errors: &mut Errors) -> Result<(), Memory
     )
 }
 
-/// The type of errors, as it was read from a run, with the arguments behind it, of which the first may be a callback without a
-/// name.
+/// Returns the error type that was read from the run, with the arguments after it. The first of
+/// them can be a callback without a name.
 fn with_arguments<'s>(
     run: Tokens<'_, 's>,
     type_expr: TypeExpr<'s>,
@@ -224,7 +227,8 @@ fn with_arguments<'s>(
     Ok(error)
 }
 
-/// What `error(..)` says; nothing where it has no type, which is listed at the whole group.
+/// Reads the error type in `error(..)`. Reports a group without a type, at the whole group, and
+/// returns `None` for it.
 pub(crate) fn error_in<'s>(
     group: Tokens<'_, 's>,
     errors: &mut Errors,

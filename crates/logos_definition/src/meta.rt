@@ -1,4 +1,4 @@
-//! The names and the arguments of attributes.
+//! Reads the names and the arguments of attributes.
 ghost use Rattle.std.specs.Prelude.{◌≡◌, MatchOption, None, Some};
 ghost use Rattle.logos_token.specs.Views.{tokens_of};
 ghost use Rattle.logos_attribute.specs.Slices.{ident_slice};
@@ -13,11 +13,12 @@ use logos_token::token::{Ident, TokenTree, Tokens};
 #[derive(Clone, Copy)]
 pub struct Meta<'t, 's> {
     pub name: Ident<'s>,
-    /// What its group holds; `None` where it has none.
+    /// The tokens inside its group. `None` if it has no group.
     pub arguments: Option<Tokens<'t, 's>>,
 }
 
-/// What stands behind the name of an attribute; `None` where the path goes on.
+/// Returns the attribute with this name, whose tokens after the name come next. `None` if its path
+/// goes on.
 fn after_name<'t, 's>(name: Ident<'s>, tokens: Tokens<'t, 's>) -> Option<Meta<'t, 's>>
     ensures { MatchOption result
         (after_name (ident_slice name.entry) (tokens_of tokens.entry) ≡ None)
@@ -37,8 +38,8 @@ fn after_name<'t, 's>(name: Ident<'s>, tokens: Tokens<'t, 's>) -> Option<Meta<'t
     }
 }
 
-/// The name and the arguments of an attribute; `None` where its path is not one identifier, and for
-/// a documentation comment.
+/// Returns the name and the arguments of an attribute. `None` if its path is not one identifier,
+/// and for a documentation comment.
 pub fn meta_of<'t, 's>(attribute: Attribute<'t, 's>) -> Option<Meta<'t, 's>>
     ensures { MatchOption result
         (meta_of (attribute_value attribute.entry) ≡ None)

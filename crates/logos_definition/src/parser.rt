@@ -1,4 +1,4 @@
-//! What the attributes of an enum say.
+//! Reads the attributes of an enum.
 
 mod attributes;
 mod faults;
@@ -19,24 +19,25 @@ use logos_token::util::MaybeVoid;
 use logos_type_params::TypeParams;
 use std::alloc::Global;
 
-/// Whether inputs are UTF-8, and where that is said.
+/// Whether inputs are UTF-8, and where the source gives that.
 #[derive(Clone, Copy)]
 pub struct Utf8Mode {
     pub value: bool,
-    /// The value in the source.
+    /// The span of the value in the source.
     pub span: Span,
 }
 
-/// The path of the chart that is exported, and where it is said.
+/// The path of the exported chart, and where the source gives it.
 #[derive(Drop)]
 pub struct ExportPath {
     pub path: String,
-    /// The value in the source.
+    /// The span of the value in the source.
     pub span: Span,
 }
 
-/// What the attributes of an enum say, and the faults found in them. Where memory ran out in a call
-/// that changes it, it has failed, and each later call answers `Memory`.
+/// Collects the options that the attributes of an enum give, and the faults found in them. If
+/// memory runs out in a call that changes it, the parser has failed, and each later call answers
+/// `Memory`.
 #[derive(Drop)]
 pub struct Parser<'s> {
     pub errors: Errors,
@@ -50,7 +51,7 @@ pub struct Parser<'s> {
     /// The path of the crate that the printed text uses.
     pub logos_path: Option<TokenStream<'s>>,
     pub export_path: Option<ExportPath>,
-    /// The declared type parameters, and the types that are given to them.
+    /// The declared type parameters, and the types given to them.
     pub types: TypeParams<'s>,
     alloc: Global,
     failed: bool,
@@ -70,7 +71,7 @@ impl<'s> Parser<'s> {
     ghost use Rattle.logos_definition.specs.Arguments.{PiecesSay};
     ghost use Rattle.logos_definition.specs.ParserViews.{parser_view, HasNotFailed};
 
-    /// A parser to which nothing was said. What is read later takes memory from `alloc`.
+    /// Returns a parser without options. It takes its memory from `alloc`.
     pub fn new(alloc: Global) -> Parser<'s>
         ensures said { parser_view result ≡ no_options }
         ensures errors { result.errors ≡ [] }
@@ -91,8 +92,11 @@ impl<'s> Parser<'s> {
         }
     }
 
-    /// Adds the arguments in the parenthesis of a `logos` attribute, and lists their faults. After
-    /// `Memory` the parser has failed.
+    /// Adds the arguments in the parentheses of a `logos` attribute, and reports their faults.
+    ///
+    /// # Errors
+    ///
+    /// `Memory` if there is not enough memory. The parser has then failed.
     pub fn read_logos(&mut self, tokens: Tokens<'_, 's>) -> Result<(), Memory>
         ensures ok { OnOk result (PiecesSay
             (parser_view self.old) (parser_view self.new) self.old.errors self.new.errors
@@ -108,7 +112,11 @@ impl<'s> Parser<'s> {
         outcome
     }
 
-    /// Adds a fault behind the others. After `Memory` the parser has failed.
+    /// Adds a fault after the others.
+    ///
+    /// # Errors
+    ///
+    /// `Memory` if there is not enough memory. The parser has then failed.
     pub fn err(&mut self, code: FaultCode, message: &str, span: Span) -> Result<(), Memory>
         ensures ok { OnOk result
             (AddsFault (fault code message.now span) self.old.errors self.new.errors) }
@@ -124,8 +132,12 @@ impl<'s> Parser<'s> {
         outcome
     }
 
-    /// The string or byte string that a literal is; `None` where it is another one, which was
-    /// listed. After `Memory` the parser has failed.
+    /// Reads a literal as a string or byte string. Reports any other literal, and returns `None`
+    /// for it.
+    ///
+    /// # Errors
+    ///
+    /// `Memory` if there is not enough memory. The parser has then failed.
     pub fn parse_literal(
         &mut self,
         literal: token::Literal<'s>,
@@ -145,8 +157,12 @@ impl<'s> Parser<'s> {
         outcome
     }
 
-    /// The definition in the parenthesis of a `token` or `regex`; `None` where it has no literal in
-    /// front, which was listed if it has tokens there. After `Memory` the parser has failed.
+    /// Reads the definition in the parentheses of a `token` or `regex`. `None` if these do not
+    /// begin with a literal; tokens in place of the literal are reported.
+    ///
+    /// # Errors
+    ///
+    /// `Memory` if there is not enough memory. The parser has then failed.
     pub fn parse_definition(
         &mut self,
         tokens: Tokens<'_, 's>,
@@ -176,8 +192,13 @@ impl<'s> Definition<'s> {
     ghost use Rattle.logos_definition.specs.DefinitionViews.{definition_view};
     ghost use Rattle.logos_definition.specs.ParserViews.{parser_view, HasNotFailed};
 
-    /// Adds a named argument, and lists its faults in the parser, of which it changes nothing else.
-    /// After `Memory` the parser has failed, and the definition is as before.
+    /// Adds a named argument, and reports its faults in `parser`, of which nothing else changes.
+    /// Memory is taken from the allocator of `parser`.
+    ///
+    /// # Errors
+    ///
+    /// `Memory` if there is not enough memory. The parser has then failed, and the definition is
+    /// unchanged.
     pub fn named_attr(
         &mut self,
         _alloc: Global,
@@ -212,8 +233,13 @@ impl<'s> ErrorType<'s> {
     ghost use Rattle.logos_definition.specs.ErrorTypeViews.{error_view};
     ghost use Rattle.logos_definition.specs.ParserViews.{parser_view, HasNotFailed};
 
-    /// Adds a named argument, and lists its faults in the parser, of which it changes nothing else.
-    /// After `Memory` the parser has failed, and the type is as before.
+    /// Adds a named argument, and reports its faults in `parser`, of which nothing else changes.
+    /// Memory is taken from the allocator of `parser`.
+    ///
+    /// # Errors
+    ///
+    /// `Memory` if there is not enough memory. The parser has then failed, and the type is
+    /// unchanged.
     pub fn named_attr(
         &mut self,
         _alloc: Global,
@@ -247,9 +273,14 @@ impl IgnoreFlags {
     ghost use Rattle.logos_attribute.specs.Flags.{flags_report};
     ghost use Rattle.logos_definition.specs.ParserViews.{parser_view, HasNotFailed};
 
-    /// Sets the flags in the group behind `ignore`, whose name is given, and lists the first fault
-    /// among them in the parser, of which it changes nothing else. After `Memory` the parser has
-    /// failed, and the flags are as before.
+    /// Sets the flags in the group after `ignore`, and reports the first fault among them in
+    /// `parser`, of which nothing else changes. `name` is the word `ignore`. Memory is taken from
+    /// the allocator of `parser`.
+    ///
+    /// # Errors
+    ///
+    /// `Memory` if there is not enough memory. The parser has then failed, and the flags are
+    /// unchanged.
     pub fn parse_group<'s>(
         &mut self,
         _alloc: Global,

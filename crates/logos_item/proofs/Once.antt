@@ -3,7 +3,7 @@ use Rattle.std.proofs.Common.{◌≡◌, ◌+◌, Bool, true, false, List, Optio
 use Rattle.logos_token.specs.Tokens.{TokenList, none, also, append, count_of}
 use Rattle.logos_token.proofs.reading.CountLemmas.{token_count-positive}
 use Rattle.logos_item.specs.declared.error.ReadError.{ReadError}
-use Rattle.logos_item.specs.Rules.{Outcome, Rule, by, given, Then, Listed, after, after_item}
+use Rattle.logos_item.specs.Rules.{Outcome, Rule, by, given, Then, Listed, preceded_by, after_item}
 use Rattle.logos_item.specs.Rules.Then.{goes, stops}
 use Rattle.logos_item.specs.Rules.Listed.{ended, further, unparted, stopped}
 use Rattle.logos_item.specs.Attributes.{Attributes, announced_in, IsFront}
@@ -75,7 +75,7 @@ module _ {A : Type 0} (ends : TokenList → Bool) (Item : Rule A) (item-once : O
       let t : after_item ends rest ≡ Ok (tt, next') = subst (λ (r : TokenList). after_item ends r ≡ Ok (tt, next')) (sym (same-rest value value' rest rest' s)) q in
       let n = same-rest tt tt next next' (sym p ∙ t) in
       let m' : Listed ends Item next outcome' = subst (λ (r : TokenList). Listed ends Item r outcome') (sym n) m in
-      ap (after value) (once-listed next outcome outcome' l m') ∙ ap (λ (v : A). after v outcome') (same-value value value' rest rest' s)
+      ap (preceded_by value) (once-listed next outcome outcome' l m') ∙ ap (λ (v : A). preceded_by v outcome') (same-value value value' rest rest' s)
   once-listed run one other (further {rest} {value} e i p l) (unparted {rest = rest'} {value = value'} {error} f j q) =
       let s = item-once run _ _ i j in
       let t : after_item ends rest ≡ Err error = subst (λ (r : TokenList). after_item ends r ≡ Err error) (sym (same-rest value value' rest rest' s)) q in

@@ -18,7 +18,7 @@ abbrev pub name_in : TokenList → Outcome Slice
 name_in (also (identifier text span) rest) = Ok (record { text = text; span = span }, rest)
 name_in run = mismatch run
 
--- a name, which is that of a parameter of this kind
+-- a name, as that of a parameter of this kind
 abbrev pub head_of : ParameterKind → TokenList → Outcome Head
 head_of kind (also (identifier text span) rest) = Ok (record { kind = kind; name = record { text = text; span = span } }, rest)
 head_of kind run = mismatch run
@@ -29,7 +29,7 @@ head_in (also (punctuation character spacing span) rest) = if character == quote
 head_in (also (identifier text span) rest) = if bytes_eq text (codes "const") then head_of Const rest else head_of «Type» (also (identifier text span) rest)
 head_in run = mismatch run
 
--- at least one token of an extent, and what is behind it
+-- at least one token of an extent, and the tokens after it
 abbrev pub some_in : End → TokenList → Outcome (Unit {0})
 some_in end (also (punctuation character spacing span) rest) =
     if ends end character then mismatch (also (punctuation character spacing span) rest)
@@ -37,39 +37,39 @@ some_in end (also (punctuation character spacing span) rest) =
 some_in end none = mismatch none
 some_in end run = Ok (tt, after_extent end run)
 
--- behind a name, perhaps `:` and bounds
+-- after a name: an optional `:` and bounds
 abbrev pub bounds_in : TokenList → Outcome (Unit {0})
 bounds_in (also (punctuation character spacing span) rest) =
     if character == colon then Ok (tt, after_extent OfBounds rest)
     else Ok (tt, also (punctuation character spacing span) rest)
 bounds_in run = Ok (tt, run)
 
--- behind the name of a constant, `:` and a type
+-- after the name of a constant: `:` and a type
 abbrev pub constant_in : TokenList → Outcome (Unit {0})
 constant_in (also (punctuation character spacing span) rest) = if character == colon then some_in OfBounds rest else mismatch (also (punctuation character spacing span) rest)
 constant_in run = mismatch run
 
--- behind bounds, perhaps `=` and a default
+-- after bounds: an optional `=` and default
 abbrev pub default_in : TokenList → Outcome (Unit {0})
 default_in (also (punctuation character spacing span) rest) =
     if character == equals then some_in OfDefault rest
     else Ok (tt, also (punctuation character spacing span) rest)
 default_in run = Ok (tt, run)
 
--- behind the name of a parameter: bounds of a lifetime, bounds and a default of a type, the type and a default of a constant
+-- after the name of a parameter: bounds of a lifetime, bounds and a default of a type, or the type and a default of a constant
 abbrev pub tail : ParameterKind → Rule (Unit {0})
 tail Lifetime = by bounds_in
 tail «Type» = by bounds_in >>= λ _. by default_in
 tail Const = by constant_in >>= λ _. by default_in
 
--- a parameter: attributes, a kind with a name, and what stands behind that
+-- a parameter: attributes, a kind with a name, and what follows that
 abbrev pub shape : Rule Head
 shape = Attributes >>= λ _. by head_in >>= λ head. tail head.kind >>= λ _. given head
 
 abbrev pub parameter_of : Head → TokenList → ParameterValue
 parameter_of head run = record { kind = head.kind; name = head.name; run = run }
 
--- a parameter, with all its tokens: up to the comma or the `>` behind it
+-- a parameter with all its tokens, up to the comma or the `>` after it
 pub data OneParameter (run : TokenList) : Outcome ParameterValue → Type 0 where
   stands : {head : Head} {front rest : TokenList} →
       shape run (Ok (head, rest)) → run ≡ append front (after_extent OfDefault run) → OneParameter run (Ok (parameter_of head front, rest))
@@ -84,7 +84,7 @@ closing_in run = mismatch run
 abbrev pub parameters : Rule (List ParameterValue)
 parameters = Listed (begins_with greater) OneParameter >>= λ list. by closing_in >>= λ _. given list
 
--- parameters in angle brackets, if `<` stands there
+-- parameters in angle brackets, if `<` stands here
 pub data Generics (run : TokenList) : Outcome (List ParameterValue) → Type 0 where
   listed : {outcome : Outcome (List ParameterValue)} → begins_with less run ≡ true → parameters (rest_of run) outcome → Generics run outcome
   absent : begins_with less run ≡ false → Generics run (Ok ([], run))

@@ -1,4 +1,4 @@
-//! Attributes, and a visibility.
+//! Reads attributes and visibilities.
 ghost use Rattle.std.specs.Prelude.{◌≡◌, ◌<◌, ◌≤◌, List, Ok, Err, Some, None};
 ghost use Rattle.std.specs.Prelude.{MatchOption, MatchResult, IfSome, IfOk, IfErr};
 ghost use Rattle.logos_token.specs.Tokens.{none, also, punctuation, count_of, IsRestOf};
@@ -14,7 +14,7 @@ use crate::error::{Mismatch, ReadError};
 use crate::tokens::{grammar_at, is_outer, mismatch_at, split};
 use logos_token::token::{Delimiter, Punct, Spacing, Span, TokenTree, Tokens};
 
-/// Whether a punctuation is the first `:` of `::`, by its spacing.
+/// Returns whether punctuation is the first `:` of `::`, by its spacing.
 fn is_path_mark(punct: Punct) -> bool
     ensures { result ≡ is_path_mark punct.character punct.spacing }
 {
@@ -24,7 +24,7 @@ fn is_path_mark(punct: Punct) -> bool
     }
 }
 
-/// That no token is left.
+/// Checks that no token is left.
 fn read_end(tokens: Tokens<'_, '_>) -> Result<(), Mismatch>
     ensures { MatchResult result (λ _. end_mismatch (tokens_of tokens.entry) ≡ None)
         (λ mismatch. end_mismatch (tokens_of tokens.entry) ≡ Some mismatch.span) }
@@ -35,7 +35,7 @@ fn read_end(tokens: Tokens<'_, '_>) -> Result<(), Mismatch>
     }
 }
 
-/// That a token is left.
+/// Checks that a token is left.
 fn read_value(tokens: Tokens<'_, '_>) -> Result<(), Mismatch>
     ensures { MatchResult result (λ _. value_mismatch (tokens_of tokens.entry) ≡ None)
         (λ mismatch. value_mismatch (tokens_of tokens.entry) ≡ Some mismatch.span) }
@@ -48,7 +48,7 @@ fn read_value(tokens: Tokens<'_, '_>) -> Result<(), Mismatch>
     }
 }
 
-/// What is behind an identifier of a path.
+/// Returns the tokens after the identifier that must come first.
 fn read_segment<'t, 's>(tokens: Tokens<'t, 's>) -> Result<Tokens<'t, 's>, Mismatch>
     ensures { MatchResult result
         (λ rest. (segment_mismatch (tokens_of tokens.entry) ≡ path_mismatch (tokens_of rest))
@@ -61,7 +61,7 @@ fn read_segment<'t, 's>(tokens: Tokens<'t, 's>) -> Result<Tokens<'t, 's>, Mismat
     }
 }
 
-/// What is behind the second `:` of `::` and an identifier.
+/// Returns the tokens after the second `:` of `::` and an identifier.
 fn read_colon<'t, 's>(tokens: Tokens<'t, 's>) -> Result<Tokens<'t, 's>, Mismatch>
     ensures { MatchResult result
         (λ rest. (colon_mismatch (tokens_of tokens.entry) ≡ path_mismatch (tokens_of rest))
@@ -74,7 +74,8 @@ fn read_colon<'t, 's>(tokens: Tokens<'t, 's>) -> Result<Tokens<'t, 's>, Mismatch
     }
 }
 
-/// What is behind a punctuation that stands behind a path, where the path goes on; `None` where it is well formed to its end.
+/// Takes one step along what follows a path, whose next token is `punct`: returns the tokens after
+/// `::` and an identifier, or `None` if the path ends and all is well formed.
 fn path_step_at<'t, 's>(
     punct: Punct,
     tokens: Tokens<'t, 's>,
@@ -92,7 +93,8 @@ fn path_step_at<'t, 's>(
     Err(Mismatch { span: punct.span })
 }
 
-/// What is behind one more `::` and identifier of a path; `None` where what is behind the path is well formed to its end.
+/// Takes one step along what follows a path: returns the tokens after `::` and an identifier, or
+/// `None` if the path ends and all is well formed.
 fn path_step<'t, 's>(tokens: Tokens<'t, 's>) -> Result<Option<Tokens<'t, 's>>, Mismatch>
     ensures { IsPathStep (tokens_of tokens.entry) result }
 {
@@ -107,7 +109,7 @@ fn path_step<'t, 's>(tokens: Tokens<'t, 's>) -> Result<Option<Tokens<'t, 's>>, M
     }
 }
 
-/// That what is behind the first identifier of an attribute's path is well formed.
+/// Checks what follows the first identifier of an attribute's path.
 fn read_path(tokens: Tokens<'_, '_>) -> Result<(), Mismatch>
     ensures { MatchResult result (λ _. path_mismatch (tokens_of tokens.entry) ≡ None)
         (λ mismatch. path_mismatch (tokens_of tokens.entry) ≡ Some mismatch.span) }
@@ -119,7 +121,7 @@ fn read_path(tokens: Tokens<'_, '_>) -> Result<(), Mismatch>
     Ok(())
 }
 
-/// That what the brackets of an attribute hold is well formed.
+/// Checks the tokens inside the brackets of an attribute.
 fn check_attribute(tokens: Tokens<'_, '_>) -> Result<(), Mismatch>
     ensures { MatchResult result (λ _. attribute_mismatch (tokens_of tokens.entry) ≡ None)
         (λ mismatch. attribute_mismatch (tokens_of tokens.entry) ≡ Some mismatch.span) }
@@ -134,7 +136,7 @@ fn check_attribute(tokens: Tokens<'_, '_>) -> Result<(), Mismatch>
     }
 }
 
-/// What is behind the brackets of an attribute, behind whose `#` the tokens are.
+/// Returns the tokens after the brackets of an attribute. The tokens given are those after its `#`.
 fn skip_brackets<'t, 's>(tokens: Tokens<'t, 's>) -> Result<Tokens<'t, 's>, ReadError>
     ensures value { MatchResult result
         (λ rest. (after_hash (tokens_of tokens.entry) ≡ after_attributes (tokens_of rest))
@@ -153,7 +155,7 @@ fn skip_brackets<'t, 's>(tokens: Tokens<'t, 's>) -> Result<Tokens<'t, 's>, ReadE
     }
 }
 
-/// What is behind an attribute that comes first; `None` where none comes first.
+/// Returns the tokens after the attribute that comes first. `None` if no attribute comes first.
 fn skip_attribute<'t, 's>(tokens: Tokens<'t, 's>) -> Result<Option<Tokens<'t, 's>>, ReadError>
     ensures value { MatchResult result
         (λ found. MatchOption found
@@ -173,7 +175,7 @@ fn skip_attribute<'t, 's>(tokens: Tokens<'t, 's>) -> Result<Option<Tokens<'t, 's
     }
 }
 
-/// All attributes that come first, and what is behind them.
+/// Returns the attributes that come first, and the tokens after them.
 pub(crate) fn read_attributes<'t, 's>(
     tokens: Tokens<'t, 's>,
 ) -> Result<(Tokens<'t, 's>, Tokens<'t, 's>), ReadError>
@@ -190,7 +192,7 @@ pub(crate) fn read_attributes<'t, 's>(
     Ok((tokens.before(rest), rest))
 }
 
-/// What is behind a parenthesis, if one comes first.
+/// Returns the tokens after the parentheses if they come first, or else all tokens.
 fn skip_parenthesis<'t, 's>(tokens: Tokens<'t, 's>) -> Tokens<'t, 's>
     ensures value { tokens_of result ≡ after_parenthesis (tokens_of tokens.entry) }
     ensures shorter { count_of (tokens_of result) ≤ count_of (tokens_of tokens.entry) }
@@ -201,7 +203,7 @@ fn skip_parenthesis<'t, 's>(tokens: Tokens<'t, 's>) -> Tokens<'t, 's>
     }
 }
 
-/// What is behind a visibility, if one comes first.
+/// Returns the tokens after a visibility if one comes first, or else all tokens.
 pub(crate) fn skip_visibility<'t, 's>(tokens: Tokens<'t, 's>) -> Tokens<'t, 's>
     ensures value { tokens_of result ≡ after_visibility (tokens_of tokens.entry) }
     ensures shorter { count_of (tokens_of result) ≤ count_of (tokens_of tokens.entry) }
@@ -212,7 +214,7 @@ pub(crate) fn skip_visibility<'t, 's>(tokens: Tokens<'t, 's>) -> Tokens<'t, 's>
     }
 }
 
-/// What is behind `enum`, which comes first.
+/// Returns the tokens after `enum`, or `None` if it does not come first.
 pub(crate) fn skip_keyword<'t, 's>(tokens: Tokens<'t, 's>) -> Option<Tokens<'t, 's>>
     ensures { MatchOption result (after_keyword (tokens_of tokens.entry) ≡ None)
         (λ rest. after_keyword (tokens_of tokens.entry) ≡ Some (tokens_of rest)) }

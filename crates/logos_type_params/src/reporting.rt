@@ -1,4 +1,4 @@
-//! Faults of names and types: each function lists one.
+//! Reports faults of names and types. Each function adds one fault.
 ghost use Rattle.std.specs.Prelude.{◌≡◌, ◌++◌, ◌∷◌, [], IfOk, OnOk, OnErr, string_bytes};
 ghost use Rattle.logos_type_params.specs.TypeParams.{named_of, about, previous};
 ghost use Rattle.logos_type_params.specs.TypeParams.{type_nesting_text, limit_type_nesting};
@@ -7,7 +7,7 @@ use logos_token::error::{Errors, FaultCode, Memory};
 use logos_token::token::{Ident, Span};
 use std::alloc::Global;
 
-/// A text between two others.
+/// Returns three texts in a row.
 fn joined(alloc: Global, before: &str, text: &str, after: &str) -> Result<String, Memory>
     ensures { IfOk result (λ message.
         string_bytes message ≡ (before.now ++ text.now) ++ after.now) }
@@ -18,8 +18,11 @@ fn joined(alloc: Global, before: &str, text: &str, after: &str) -> Result<String
     Ok(message)
 }
 
-/// Lists a fault of a name, which stands between two texts in the message. After an error the
-/// faults are as before.
+/// Reports a fault of a name. The message has the name between two texts.
+///
+/// # Errors
+///
+/// `Memory` if there is not enough memory. The faults are then unchanged.
 pub fn report_about(
     errors: &mut Errors,
     code: FaultCode,
@@ -36,7 +39,11 @@ pub fn report_about(
     Ok(())
 }
 
-/// Lists that something was given before, at this span. After an error the faults are as before.
+/// Reports the span of an earlier value, after the fault that is about it.
+///
+/// # Errors
+///
+/// `Memory` if there is not enough memory. The faults are then unchanged.
 pub fn report_previous(errors: &mut Errors, at: Span) -> Result<(), Memory>
     ensures ok { OnOk result (errors.new ≡ errors.old ++ previous at ∷ []) }
     ensures err { OnErr result (errors.new ≡ errors.old) }
@@ -44,15 +51,15 @@ pub fn report_previous(errors: &mut Errors, at: Span) -> Result<(), Memory>
     errors.err(FaultCode::Previous, "Previously assigned here", at)
 }
 
-/// The message of the fault that more types stand inside one another than may.
+/// Returns the message of the fault that too many types stand inside one another.
 pub fn type_nesting_text() -> &'static str
     ensures { result.now ≡ type_nesting_text }
 {
     "limit LimitTypeNesting passed"
 }
 
-/// Lists that more types stand inside one another in the value at this span than may. After an error
-/// the faults are as before.
+/// Reports that too many types stand inside one another in the value at this span. After an error
+/// the faults are unchanged.
 pub(crate) fn report_depth(errors: &mut Errors, at: Span) -> Result<(), Memory>
     ensures ok { OnOk result (errors.new ≡ errors.old ++ limit_type_nesting at ∷ []) }
     ensures err { OnErr result (errors.new ≡ errors.old) }

@@ -1,4 +1,4 @@
-//! The declared parameters of an enum.
+//! Holds the declared type parameters of an enum and the types given to them.
 ghost use Rattle.std.specs.Prelude.{◌≡◌, ◌++◌, ◌∷◌, [], Some, None, map, IfOk, OnOk, OnErr};
 ghost use Rattle.std.specs.Prelude.{if◌then◌else◌, option_map};
 ghost use Rattle.logos_token.specs.Views.{tokens_of};
@@ -30,17 +30,17 @@ use logos_type::TypeExpr;
 use logos_type_reader::{TypeFault, read_type};
 use std::alloc::Global;
 
-/// The declared parameters of an enum, and the types that are given to them.
+/// The declared type parameters of an enum, and the types given to them.
 #[derive(Drop)]
 pub struct TypeParams<'s> {
     names: Names<'s>,
-    /// The types, by the names that they are given to.
+    /// The types, by the names of the parameters to which they are given.
     types: IndexMap<&'s str, TypeParam<'s>>,
     lifetime: bool,
     alloc: Global,
 }
 
-/// Lists that the value at this span is no type.
+/// Reports that the value at this span is not a type.
 fn report_syntax(errors: &mut Errors, at: Span) -> Result<(), Memory>
     ensures ok { OnOk result (errors.new ≡ errors.old ++ type_syntax at ∷ []) }
     ensures err { OnErr result (errors.new ≡ errors.old) }
@@ -48,7 +48,7 @@ fn report_syntax(errors: &mut Errors, at: Span) -> Result<(), Memory>
     errors.err(FaultCode::TypeSyntax, "not a type", at)
 }
 
-/// Lists at this span why a run is no type.
+/// Reports at this span why a run is not a type.
 fn report_no_type(
     fault: TypeFault,
     run: Tokens<'_, '_>,
@@ -67,8 +67,8 @@ fn report_no_type(
     }
 }
 
-/// The type with which a run begins, if nothing is left behind it; else that is listed at this
-/// span.
+/// Returns the type with which a run begins if no tokens are left after it. Reports at this span
+/// that the run is not a type if some are.
 fn whole_type<'s>(
     type_expr: TypeExpr<'s>,
     rest: Tokens<'_, 's>,
@@ -88,9 +88,12 @@ fn whole_type<'s>(
     Ok(None)
 }
 
-/// The type that the whole run is; where it is none, that is listed at this span, as `TypeSyntax`,
-/// or `LimitTypeNesting` where it nests deeper than types may. After an error the faults are as
-/// before.
+/// Reads the whole run as a type. If it is not a type, reports `TypeSyntax` at the span `at`, or
+/// `LimitTypeNesting` if the type nests too deep, and returns `None`.
+///
+/// # Errors
+///
+/// `Memory` if there is not enough memory. The faults are then unchanged.
 pub fn read_value<'s>(
     alloc: Global,
     run: Tokens<'_, 's>,
@@ -110,7 +113,7 @@ pub fn read_value<'s>(
     }
 }
 
-/// Lists a lifetime where one is declared already.
+/// Reports a lifetime if one is declared already.
 fn report_second_lifetime(is_declared: bool, span: Span, errors: &mut Errors) -> Result<(), Memory>
     ensures ok { OnOk result (errors.new ≡ errors.old ++
         (if is_declared then many_lifetimes span ∷ [] else [])) }
@@ -126,7 +129,7 @@ fn report_second_lifetime(is_declared: bool, span: Span, errors: &mut Errors) ->
     )
 }
 
-/// Where the type stands that a name has.
+/// Returns the span of the type given to a name, or `None` if none is.
 fn former<'s>(types: &IndexMap<&'s str, TypeParam<'s>>, text: &str) -> Option<Span>
     ensures { result ≡ former (map given_of types.now.entries) text.now }
 {
@@ -136,8 +139,8 @@ fn former<'s>(types: &IndexMap<&'s str, TypeParam<'s>>, text: &str) -> Option<Sp
     }
 }
 
-/// Lists that a name has a type already, which is written at this span. After an error the faults
-/// are as before.
+/// Reports that a type is already given to a name, and its span. After an error the faults are
+/// unchanged.
 fn report_twice(name: Ident<'_>, former: Span, errors: &mut Errors) -> Result<(), Memory>
     ensures ok { OnOk result (errors.new
         ≡ errors.old ++ given_faults (Some former) (named_of name.entry)) }
@@ -155,8 +158,8 @@ fn report_twice(name: Ident<'_>, former: Span, errors: &mut Errors) -> Result<()
     errors.append(found)
 }
 
-/// Lists the faults of one type more for a name that has this one, if it has one. After an error
-/// the faults are as before.
+/// Reports a second type for a name if a first one is given to it. After an error the faults are
+/// unchanged.
 fn report_given(name: Ident<'_>, former: Option<Span>, errors: &mut Errors) -> Result<(), Memory>
     ensures ok { OnOk result (errors.new
         ≡ errors.old ++ given_faults former (named_of name.entry)) }
@@ -168,7 +171,8 @@ fn report_given(name: Ident<'_>, former: Option<Span>, errors: &mut Errors) -> R
     }
 }
 
-/// Gives one type more to a name that is declared. After an error all is as before.
+/// Gives a type to a declared name, in place of a former one, which is reported. After an error
+/// everything is unchanged.
 fn give<'s>(
     types: &mut IndexMap<&'s str, TypeParam<'s>>,
     name: Ident<'s>,
@@ -188,8 +192,7 @@ fn give<'s>(
     Ok(())
 }
 
-/// Lists a declared name that holds itself, unless it stands among those in front. It is one of
-/// these from now on.
+/// Reports a declared name that holds itself, unless it is in `front`, and adds it to `front`.
 fn check_name<'s>(
     front: &mut IndexSet<&'s str>,
     chains: &Chains<'_, 's>,
@@ -223,7 +226,7 @@ impl<'s> TypeParams<'s> {
     ghost use Rattle.logos_type_params.specs.TypeParams.{IsSet};
     ghost use Rattle.logos_type_params.specs.WrittenTypes.{types_of};
 
-    /// Without a parameter. What is added later takes memory from `alloc`.
+    /// Returns an empty list of parameters, which takes its memory from `alloc`.
     pub fn new(alloc: Global) -> TypeParams<'s>
         ensures { value_of result ≡ record { names = []; types = []; lifetime = false } }
     {
@@ -235,8 +238,12 @@ impl<'s> TypeParams<'s> {
         }
     }
 
-    /// Notes a lifetime parameter at this span; more than one is listed. After an error all is as
-    /// before.
+    /// Notes that a lifetime parameter is declared. Reports a second one as `ManyLifetimes` at this
+    /// span.
+    ///
+    /// # Errors
+    ///
+    /// `Memory` if there is not enough memory. Everything is then unchanged.
     pub fn explicit_lifetime(&mut self, span: Span, errors: &mut Errors) -> Result<(), Memory>
         ensures value { OnOk result (value_of self.new ≡ record {
           names = (value_of self.old).names;
@@ -253,7 +260,11 @@ impl<'s> TypeParams<'s> {
         Ok(())
     }
 
-    /// Declares a type parameter of this name. After an error all is as before.
+    /// Declares a type parameter with this name.
+    ///
+    /// # Errors
+    ///
+    /// `Memory` if there is not enough memory. The parameters are then unchanged.
     pub fn add(&mut self, name: Ident<'s>) -> Result<(), Memory>
         ensures ok { OnOk result (value_of self.new ≡ record {
           names = (value_of self.old).names ++ named_of name.entry ∷ [];
@@ -266,9 +277,14 @@ impl<'s> TypeParams<'s> {
         Ok(())
     }
 
-    /// Gives the type that the value is to a declared name. Where the value is no type, or the name
-    /// is not declared, that is listed, and nothing is given; where it has a type, that is listed
-    /// with both places, and the new one is meant from now on. After an error all is as before.
+    /// Gives the type that `value` spells to the declared parameter `name`. Reports a value that is
+    /// not a type, as `TypeSyntax` or `LimitTypeNesting`, and a name that is not declared, as
+    /// `NotTypeParameter`; nothing is given then. Reports a second type as `TypeTwice`, with the
+    /// place of the first one; the second one is given then.
+    ///
+    /// # Errors
+    ///
+    /// `Memory` if there is not enough memory. Everything is then unchanged.
     pub fn set(
         &mut self,
         name: Ident<'s>,
@@ -307,9 +323,13 @@ impl<'s> TypeParams<'s> {
         )
     }
 
-    /// Lists each parameter whose types lead back to it, in order of declaration. A name that is
-    /// declared again is not listed again. The time grows with the sizes of all types. Only want of
-    /// memory is an error; after it the faults are as before.
+    /// Reports each parameter whose types lead back to it, as `TypeHoldsItself`, in order of
+    /// declaration. A name that is declared twice is reported once. This takes time linear in the
+    /// sizes of all types.
+    ///
+    /// # Errors
+    ///
+    /// `Memory` if there is not enough memory. The faults are then unchanged.
     pub fn check(&self, errors: &mut Errors) -> Result<(), Memory>
         ensures ok { OnOk result (AreChecked (types_of self.now) []
             (value_of self.now).names errors.old errors.new) }
@@ -320,8 +340,8 @@ impl<'s> TypeParams<'s> {
         errors.append(found)
     }
 
-    /// Lists each parameter whose types lead back to it, in order of declaration. After an error
-    /// some of the faults may be listed.
+    /// Reports each parameter whose types lead back to it, in order of declaration. After an error
+    /// some of the faults can have been added.
     fn check_all(&self, errors: &mut Errors) -> Result<(), Memory>
         ensures { OnOk result (AreChecked (types_of self.now) []
             (value_of self.now).names errors.old errors.new) }

@@ -1,4 +1,4 @@
-//! The faults of definitions: each function lists one.
+//! Reports faults of definitions. Each function adds one fault.
 ghost use Rattle.std.specs.Prelude.{OnOk};
 ghost use Rattle.logos_token.specs.Views.{tokens_of};
 ghost use Rattle.logos_attribute.specs.Slices.{ident_slice};
@@ -13,7 +13,7 @@ use logos_attribute::reporting::{report_form, report_named, report_run};
 use logos_token::error::{Errors, FaultCode, Memory};
 use logos_token::token::{Ident, Tokens};
 
-/// Lists that a run is no number.
+/// Reports a priority that is not a number.
 pub(super) fn report_priority_value(
     tokens: Tokens<'_, '_>,
     errors: &mut Errors,
@@ -29,7 +29,7 @@ pub(super) fn report_priority_value(
     )
 }
 
-/// Lists a second priority.
+/// Reports a second priority.
 pub(super) fn report_priority_twice(
     tokens: Tokens<'_, '_>,
     errors: &mut Errors,
@@ -45,7 +45,7 @@ pub(super) fn report_priority_twice(
     )
 }
 
-/// Lists another form of `priority`.
+/// Reports an unknown form of `priority`.
 pub(super) fn report_priority_form(name: Ident<'_>, errors: &mut Errors) -> Result<(), Memory>
     ensures { OnOk result
         (AddsFault (priority_form (ident_slice name.entry)) errors.old errors.new) }
@@ -58,7 +58,7 @@ pub(super) fn report_priority_form(name: Ident<'_>, errors: &mut Errors) -> Resu
     )
 }
 
-/// Lists that a run is neither `true` nor `false`.
+/// Reports an `allow_greedy` that is neither `true` nor `false`.
 pub(super) fn report_greedy_value(tokens: Tokens<'_, '_>, errors: &mut Errors) -> Result<(), Memory>
     ensures { OnOk result
         (AddsFault (greedy_value (tokens_of tokens.entry)) errors.old errors.new) }
@@ -71,7 +71,7 @@ pub(super) fn report_greedy_value(tokens: Tokens<'_, '_>, errors: &mut Errors) -
     )
 }
 
-/// Lists a second `allow_greedy`.
+/// Reports a second `allow_greedy`.
 pub(super) fn report_greedy_twice(tokens: Tokens<'_, '_>, errors: &mut Errors) -> Result<(), Memory>
     ensures { OnOk result
         (AddsFault (greedy_twice (tokens_of tokens.entry)) errors.old errors.new) }
@@ -84,7 +84,7 @@ pub(super) fn report_greedy_twice(tokens: Tokens<'_, '_>, errors: &mut Errors) -
     )
 }
 
-/// Lists another form of `allow_greedy`.
+/// Reports an unknown form of `allow_greedy`.
 pub(super) fn report_greedy_form(name: Ident<'_>, errors: &mut Errors) -> Result<(), Memory>
     ensures { OnOk result (AddsFault (greedy_form (ident_slice name.entry)) errors.old errors.new) }
 {
@@ -96,7 +96,7 @@ pub(super) fn report_greedy_form(name: Ident<'_>, errors: &mut Errors) -> Result
     )
 }
 
-/// Lists another form of `callback`.
+/// Reports an unknown form of `callback`.
 pub(crate) fn report_callback_form(name: Ident<'_>, errors: &mut Errors) -> Result<(), Memory>
     ensures { OnOk result
         (AddsFault (callback_form (ident_slice name.entry)) errors.old errors.new) }
@@ -109,7 +109,7 @@ pub(crate) fn report_callback_form(name: Ident<'_>, errors: &mut Errors) -> Resu
     )
 }
 
-/// Lists another form of `ignore`.
+/// Reports an unknown form of `ignore`.
 pub(super) fn report_ignore_form(name: Ident<'_>, errors: &mut Errors) -> Result<(), Memory>
     ensures { OnOk result (AddsFault (ignore_form (ident_slice name.entry)) errors.old errors.new) }
 {
@@ -121,7 +121,7 @@ pub(super) fn report_ignore_form(name: Ident<'_>, errors: &mut Errors) -> Result
     )
 }
 
-/// Lists a name that no argument has.
+/// Reports an unknown name.
 pub(super) fn report_unknown(name: Ident<'_>, errors: &mut Errors) -> Result<(), Memory>
     ensures { OnOk result
         (AddsFault (unknown_nested (ident_slice name.entry)) errors.old errors.new) }
@@ -135,7 +135,7 @@ pub(super) fn report_unknown(name: Ident<'_>, errors: &mut Errors) -> Result<(),
     )
 }
 
-/// Lists tokens that belong to no argument.
+/// Reports tokens that belong to no argument.
 pub(crate) fn report_unexpected(tokens: Tokens<'_, '_>, errors: &mut Errors) -> Result<(), Memory>
     ensures { OnOk result
         (AddsFault (unexpected_token (tokens_of tokens.entry)) errors.old errors.new) }
@@ -148,7 +148,7 @@ pub(crate) fn report_unexpected(tokens: Tokens<'_, '_>, errors: &mut Errors) -> 
     )
 }
 
-/// Lists an argument without a name.
+/// Reports an argument without a name.
 pub(crate) fn report_named_expected(
     tokens: Tokens<'_, '_>,
     errors: &mut Errors,

@@ -1,4 +1,5 @@
-//! The faults of the options of a lexer: each function lists one, or one with the former place.
+//! Reports faults of the options of a lexer. Each function adds one fault, or one and the place of
+//! the former value.
 ghost use Rattle.std.specs.Prelude.{◌≡◌, ◌++◌, OnOk, Some};
 ghost use Rattle.logos_token.specs.Views.{tokens_of};
 ghost use Rattle.logos_attribute.specs.Slices.{ident_slice};
@@ -15,7 +16,7 @@ use logos_attribute::reporting::{report_form, report_named, report_run};
 use logos_token::error::{Errors, FaultCode, Memory};
 use logos_token::token::{Ident, Span, Tokens};
 
-/// Lists that something is said here, and was said there before.
+/// Reports a second value, and the place of the former one.
 fn report_twice(
     errors: &mut Errors,
     code: FaultCode,
@@ -30,7 +31,7 @@ fn report_twice(
     Ok(())
 }
 
-/// Lists that the mode was said before, and where.
+/// Reports a second UTF-8 mode, and the place of the former one.
 pub(super) fn report_mode_twice(here: Span, there: Span, errors: &mut Errors) -> Result<(), Memory>
     ensures { OnOk result (errors.new ≡ errors.old ++ utf8_twice here (Some there)) }
 {
@@ -43,7 +44,7 @@ pub(super) fn report_mode_twice(here: Span, there: Span, errors: &mut Errors) ->
     )
 }
 
-/// Lists that extras were said before, and where.
+/// Reports a second type of extras, and the place of the former one.
 pub(super) fn report_extras_twice(
     here: Span,
     there: Span,
@@ -60,7 +61,7 @@ pub(super) fn report_extras_twice(
     )
 }
 
-/// Lists that a type of errors was said before, and where.
+/// Reports a second error type, and the place of the former one.
 pub(super) fn report_error_twice(here: Span, there: Span, errors: &mut Errors) -> Result<(), Memory>
     ensures { OnOk result (errors.new ≡ errors.old ++ error_twice here (Some there)) }
 {
@@ -73,7 +74,7 @@ pub(super) fn report_error_twice(here: Span, there: Span, errors: &mut Errors) -
     )
 }
 
-/// Lists that a path was said before, and where.
+/// Reports a second export path, and the place of the former one.
 pub(super) fn report_export_twice(
     here: Span,
     there: Span,
@@ -90,7 +91,7 @@ pub(super) fn report_export_twice(
     )
 }
 
-/// Lists another form of `skip`.
+/// Reports an unknown form of `skip`.
 pub(super) fn report_skip_form(name: Ident<'_>, errors: &mut Errors) -> Result<(), Memory>
     ensures { OnOk result (AddsFault (skip_form (ident_slice name.entry)) errors.old errors.new) }
 {
@@ -102,7 +103,7 @@ pub(super) fn report_skip_form(name: Ident<'_>, errors: &mut Errors) -> Result<(
     )
 }
 
-/// Lists another form of `utf8`.
+/// Reports an unknown form of `utf8`.
 pub(super) fn report_utf8_form(name: Ident<'_>, errors: &mut Errors) -> Result<(), Memory>
     ensures { OnOk result (AddsFault (utf8_form (ident_slice name.entry)) errors.old errors.new) }
 {
@@ -114,7 +115,7 @@ pub(super) fn report_utf8_form(name: Ident<'_>, errors: &mut Errors) -> Result<(
     )
 }
 
-/// Lists another form of `extras`.
+/// Reports an unknown form of `extras`.
 pub(super) fn report_extras_form(name: Ident<'_>, errors: &mut Errors) -> Result<(), Memory>
     ensures { OnOk result (AddsFault (extras_form (ident_slice name.entry)) errors.old errors.new) }
 {
@@ -126,7 +127,7 @@ pub(super) fn report_extras_form(name: Ident<'_>, errors: &mut Errors) -> Result
     )
 }
 
-/// Lists another form of `crate`.
+/// Reports an unknown form of `crate`.
 pub(super) fn report_crate_form(name: Ident<'_>, errors: &mut Errors) -> Result<(), Memory>
     ensures { OnOk result (AddsFault (crate_form (ident_slice name.entry)) errors.old errors.new) }
 {
@@ -138,7 +139,7 @@ pub(super) fn report_crate_form(name: Ident<'_>, errors: &mut Errors) -> Result<
     )
 }
 
-/// Lists another form of `export_dir`.
+/// Reports an unknown form of `export_dir`.
 pub(super) fn report_export_form(name: Ident<'_>, errors: &mut Errors) -> Result<(), Memory>
     ensures { OnOk result (AddsFault (export_form (ident_slice name.entry)) errors.old errors.new) }
 {
@@ -150,7 +151,7 @@ pub(super) fn report_export_form(name: Ident<'_>, errors: &mut Errors) -> Result
     )
 }
 
-/// Lists another form of `subpattern`.
+/// Reports an unknown form of `subpattern`.
 pub(super) fn report_subpattern_form(name: Ident<'_>, errors: &mut Errors) -> Result<(), Memory>
     ensures { OnOk result
         (AddsFault (subpattern_form (ident_slice name.entry)) errors.old errors.new) }
@@ -163,7 +164,7 @@ pub(super) fn report_subpattern_form(name: Ident<'_>, errors: &mut Errors) -> Re
     )
 }
 
-/// Lists another form of `error`.
+/// Reports an unknown form of `error`.
 pub(super) fn report_error_form(name: Ident<'_>, errors: &mut Errors) -> Result<(), Memory>
     ensures { OnOk result (AddsFault (error_form (ident_slice name.entry)) errors.old errors.new) }
 {
@@ -175,7 +176,7 @@ pub(super) fn report_error_form(name: Ident<'_>, errors: &mut Errors) -> Result<
     )
 }
 
-/// Lists the name `source`, in place of which `utf8` stands.
+/// Reports the name `source`, which `utf8` has replaced.
 pub(super) fn report_source_old(name: Ident<'_>, errors: &mut Errors) -> Result<(), Memory>
     ensures { OnOk result (AddsFault (source_old (ident_slice name.entry)) errors.old errors.new) }
 {
@@ -187,7 +188,7 @@ pub(super) fn report_source_old(name: Ident<'_>, errors: &mut Errors) -> Result<
     )
 }
 
-/// Lists a `skip(..)` without a literal in front.
+/// Reports a `skip(..)` that does not begin with a literal.
 pub(super) fn report_skip_group(tokens: Tokens<'_, '_>, errors: &mut Errors) -> Result<(), Memory>
     ensures { OnOk result (AddsFault (skip_group (tokens_of tokens.entry)) errors.old errors.new) }
 {
@@ -199,7 +200,7 @@ pub(super) fn report_skip_group(tokens: Tokens<'_, '_>, errors: &mut Errors) -> 
     )
 }
 
-/// Lists a mode that is neither `true` nor `false`.
+/// Reports a UTF-8 mode that is neither `true` nor `false`.
 pub(super) fn report_utf8_value(tokens: Tokens<'_, '_>, errors: &mut Errors) -> Result<(), Memory>
     ensures { OnOk result (AddsFault (utf8_value (tokens_of tokens.entry)) errors.old errors.new) }
 {
@@ -211,7 +212,7 @@ pub(super) fn report_utf8_value(tokens: Tokens<'_, '_>, errors: &mut Errors) -> 
     )
 }
 
-/// Lists a path that is a byte string.
+/// Reports an export path that is a byte string.
 pub(super) fn report_export_bytes(tokens: Tokens<'_, '_>, errors: &mut Errors) -> Result<(), Memory>
     ensures { OnOk result
         (AddsFault (export_bytes (tokens_of tokens.entry)) errors.old errors.new) }
@@ -219,7 +220,7 @@ pub(super) fn report_export_bytes(tokens: Tokens<'_, '_>, errors: &mut Errors) -
     report_run(errors, FaultCode::ExportBytes, "Expected a &str", tokens)
 }
 
-/// Lists tokens that are no argument.
+/// Reports tokens that are not an argument.
 pub(super) fn report_invalid_nested(
     tokens: Tokens<'_, '_>,
     errors: &mut Errors,
@@ -235,7 +236,7 @@ pub(super) fn report_invalid_nested(
     )
 }
 
-/// Lists a name that no option has.
+/// Reports an unknown name.
 pub(super) fn report_unknown_logos(name: Ident<'_>, errors: &mut Errors) -> Result<(), Memory>
     ensures { OnOk result
         (AddsFault (unknown_logos (ident_slice name.entry)) errors.old errors.new) }
@@ -249,7 +250,7 @@ pub(super) fn report_unknown_logos(name: Ident<'_>, errors: &mut Errors) -> Resu
     )
 }
 
-/// Lists another form of `type`.
+/// Reports an unknown form of `type`.
 pub(super) fn report_type_form(name: Ident<'_>, errors: &mut Errors) -> Result<(), Memory>
     ensures { OnOk result (AddsFault (type_form (ident_slice name.entry)) errors.old errors.new) }
 {

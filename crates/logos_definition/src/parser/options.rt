@@ -1,4 +1,4 @@
-//! The arguments of `logos(..)`, one after another.
+//! Adds the arguments of `logos(..)` one by one.
 
 use crate::definition::{Definition, read_definition};
 use crate::error_type::{ErrorType, error_in};
@@ -39,7 +39,7 @@ impl<'s> Parser<'s> {
     ghost use Rattle.logos_definition.specs.Arguments.{ErrorSays, TypeSays, PieceSays, PiecesSay};
     ghost use Rattle.logos_definition.specs.ParserViews.{parser_view};
 
-    /// Sets the mode that is assigned, in place of the former one.
+    /// Sets the UTF-8 mode, in place of a former one.
     fn set_mode(&mut self, tokens: Tokens<'_, 's>) -> Result<(), Memory>
         ensures { OnOk result (IsReport (mode_set (tokens_of tokens.entry) (parser_view self.old))
             (parser_view self.new) self.old.errors self.new.errors) }
@@ -54,7 +54,7 @@ impl<'s> Parser<'s> {
         Ok(())
     }
 
-    /// Adds what `utf8` says.
+    /// Adds the argument `utf8`.
     fn add_utf8(&mut self, name: Ident<'s>, value: &NestedValue<'_, 's>) -> Result<(), Memory>
         ensures { OnOk result (IsReport
             (utf8_report (ident_slice name.entry) (value_of value.now) (parser_view self.old))
@@ -67,7 +67,7 @@ impl<'s> Parser<'s> {
         Ok(())
     }
 
-    /// Sets the extras that are assigned, in place of the former ones.
+    /// Sets the type of extras, in place of a former one.
     fn set_extras(&mut self, tokens: Tokens<'_, 's>) -> Result<(), Memory>
         ensures { OnOk result (IsReport (extras_set (tokens_of tokens.entry) (parser_view self.old))
             (parser_view self.new) self.old.errors self.new.errors) }
@@ -79,7 +79,7 @@ impl<'s> Parser<'s> {
         Ok(())
     }
 
-    /// Adds what `extras` says.
+    /// Adds the argument `extras`.
     fn add_extras(&mut self, name: Ident<'s>, value: &NestedValue<'_, 's>) -> Result<(), Memory>
         ensures { OnOk result (IsReport
             (extras_report (ident_slice name.entry) (value_of value.now) (parser_view self.old))
@@ -92,7 +92,7 @@ impl<'s> Parser<'s> {
         Ok(())
     }
 
-    /// Adds what `crate` says: the path stands in place of the former one.
+    /// Adds the argument `crate`. Its path replaces a former one.
     fn add_crate(&mut self, name: Ident<'s>, value: &NestedValue<'_, 's>) -> Result<(), Memory>
         ensures { OnOk result (IsReport
             (crate_report (ident_slice name.entry) (value_of value.now) (parser_view self.old))
@@ -107,7 +107,7 @@ impl<'s> Parser<'s> {
         Ok(())
     }
 
-    /// Sets the path of the exported chart, in place of the former one.
+    /// Sets the path of the exported chart, in place of a former one.
     fn set_path(&mut self, tokens: Tokens<'_, 's>, path: String) -> Result<(), Memory>
         ensures { OnOk result (IsReport
             (path_set (tokens_of tokens.entry) (string_bytes path) (parser_view self.old))
@@ -137,7 +137,7 @@ impl<'s> Parser<'s> {
         Ok(())
     }
 
-    /// Adds what `export_dir` says.
+    /// Adds the argument `export_dir`.
     fn add_export(&mut self, name: Ident<'s>, value: &NestedValue<'_, 's>) -> Result<(), Memory>
         ensures { OnOk result (IsReport
             (export_report (ident_slice name.entry) (value_of value.now) (parser_view self.old))
@@ -153,7 +153,7 @@ impl<'s> Parser<'s> {
         Ok(())
     }
 
-    /// Adds a subpattern of this name.
+    /// Adds a subpattern with this name.
     fn set_subpattern(&mut self, name: Ident<'s>, tokens: Tokens<'_, 's>) -> Result<(), Memory>
         ensures { OnOk result (IsReport
             (subpattern_set (ident_slice name.entry) (tokens_of tokens.entry)
@@ -167,7 +167,7 @@ impl<'s> Parser<'s> {
         Ok(())
     }
 
-    /// Adds what `subpattern` says.
+    /// Adds the argument `subpattern`.
     fn add_subpattern(&mut self, name: Ident<'s>, value: &NestedValue<'_, 's>) -> Result<(), Memory>
         ensures { OnOk result (IsReport
             (subpattern_report (ident_slice name.entry) (value_of value.now)
@@ -181,7 +181,7 @@ impl<'s> Parser<'s> {
         Ok(())
     }
 
-    /// Sets the type of errors that a run says, in place of the former one.
+    /// Sets the error type, in place of a former one. `tokens` is the value in the source.
     fn set_error(&mut self, tokens: Tokens<'_, 's>, error: ErrorType<'s>) -> Result<(), Memory>
         ensures { OnOk result (IsReport
             (error_set (tokens_of tokens.entry) (error_view error.entry) (parser_view self.old))
@@ -193,7 +193,7 @@ impl<'s> Parser<'s> {
         Ok(())
     }
 
-    /// Adds what `error` says of a type alone.
+    /// Adds the argument `error` in any other form than `error(..)`.
     fn add_error_alone(
         &mut self,
         name: Ident<'s>,
@@ -213,7 +213,7 @@ impl<'s> Parser<'s> {
         Ok(())
     }
 
-    /// Adds what `error(..)` says, and whether the arguments behind it are read.
+    /// Adds the argument `error(..)`. Returns whether the arguments after it are read.
     fn add_error_group(&mut self, name: Ident<'s>, group: Tokens<'_, 's>) -> Result<bool, Memory>
         ensures { IfOk result (λ goes_on. ErrorSays (ident_slice name.entry)
             (parser_view self.old) (parser_view self.new) self.old.errors self.new.errors
@@ -226,7 +226,7 @@ impl<'s> Parser<'s> {
         Ok(true)
     }
 
-    /// Adds what `error` says, and whether the arguments behind it are read.
+    /// Adds the argument `error`. Returns whether the arguments after it are read.
     fn add_error(&mut self, name: Ident<'s>, value: &NestedValue<'_, 's>) -> Result<bool, Memory>
         ensures { IfOk result (λ goes_on. ErrorSays (ident_slice name.entry)
             (parser_view self.old) (parser_view self.new) self.old.errors self.new.errors
@@ -239,7 +239,7 @@ impl<'s> Parser<'s> {
         Ok(true)
     }
 
-    /// Adds what `type` says.
+    /// Adds the argument `type`.
     fn add_type(&mut self, name: Ident<'s>, value: &NestedValue<'_, 's>) -> Result<(), Memory>
         ensures { OnOk result (TypeSays (ident_slice name.entry)
             (parser_view self.old) (parser_view self.new) self.old.errors self.new.errors
@@ -254,7 +254,7 @@ impl<'s> Parser<'s> {
         Ok(())
     }
 
-    /// Adds the literal of a `skip`.
+    /// Adds the literal of `skip "..."`.
     fn skip_text(&mut self, token: token::Literal<'s>) -> Result<(), Memory>
         ensures { OnOk result (IsReport
             (map_report (skip_plain (parser_view self.old))
@@ -281,7 +281,7 @@ impl<'s> Parser<'s> {
         Ok(())
     }
 
-    /// Adds what `skip` says.
+    /// Adds the argument `skip`.
     fn add_skip(&mut self, name: Ident<'s>, value: &NestedValue<'_, 's>) -> Result<(), Memory>
         ensures { OnOk result (IsReport
             (skip_report (ident_slice name.entry) (value_of value.now) (parser_view self.old))
@@ -295,7 +295,7 @@ impl<'s> Parser<'s> {
         Ok(())
     }
 
-    /// Adds an argument that says no pattern, path or type of errors.
+    /// Adds the argument `utf8`, `extras` or `crate`, and reports `source` and unknown names.
     fn add_setting(&mut self, name: Ident<'s>, value: &NestedValue<'_, 's>) -> Result<(), Memory>
         ensures { OnOk result (IsReport
             (setting_report (ident_slice name.entry) (value_of value.now) (parser_view self.old))
@@ -316,7 +316,7 @@ impl<'s> Parser<'s> {
         report_unknown_logos(name, &mut self.errors)
     }
 
-    /// Adds an argument with a name that says no type.
+    /// Adds a named argument other than `error` and `type`.
     fn add_plain(&mut self, name: Ident<'s>, value: &NestedValue<'_, 's>) -> Result<(), Memory>
         ensures { OnOk result (IsReport
             (option_report (ident_slice name.entry) (value_of value.now) (parser_view self.old))
@@ -334,7 +334,7 @@ impl<'s> Parser<'s> {
         self.add_setting(name, value)
     }
 
-    /// Adds an argument with a name, and whether those behind it are read.
+    /// Adds a named argument. Returns whether the arguments after it are read.
     fn add_named(&mut self, name: Ident<'s>, value: &NestedValue<'_, 's>) -> Result<bool, Memory>
         ensures { IfOk result (PieceSays
             (parser_view self.old) (parser_view self.new) self.old.errors self.new.errors
@@ -351,7 +351,7 @@ impl<'s> Parser<'s> {
         Ok(true)
     }
 
-    /// Adds an argument, and whether those behind it are read.
+    /// Adds an argument. Returns whether the arguments after it are read.
     fn add_piece(&mut self, piece: Nested<'_, 's>) -> Result<bool, Memory>
         ensures { IfOk result (PieceSays
             (parser_view self.old) (parser_view self.new) self.old.errors self.new.errors
@@ -365,7 +365,7 @@ impl<'s> Parser<'s> {
         Ok(true)
     }
 
-    /// Adds all arguments, or those up to one behind which none is read.
+    /// Adds the arguments in order, up to one after which no more are read.
     pub(super) fn add_pieces(&mut self, pieces: AttributeParser<'_, 's>) -> Result<(), Memory>
         ensures { OnOk result (PiecesSay
             (parser_view self.old) (parser_view self.new) self.old.errors self.new.errors
