@@ -215,7 +215,7 @@ pub fn set_callback<'s>(
         (callback_set (ident_slice name.entry) (tokens_of tokens.entry)
         (option_map callback_view callback.old))
         (option_map callback_view callback.new) errors.old errors.new) }
-    ensures kept { OnErr result (callback.new ≡ callback.old) }
+    ensures unchanged { OnErr result (callback.new ≡ callback.old) }
     ensures unreported { OnErr result (errors.new ≡ errors.old) }
 {
     let span = tokens.span();

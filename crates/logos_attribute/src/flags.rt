@@ -183,7 +183,7 @@ pub fn read_flags<'s>(
     ensures ok { OnOk result (IsReport
         (flags_report (ident_slice name.entry) false ignore_case.old (tokens_of tokens.entry))
         ignore_case.new errors.old errors.new) }
-    ensures kept { OnErr result (ignore_case.new ≡ ignore_case.old) }
+    ensures unchanged { OnErr result (ignore_case.new ≡ ignore_case.old) }
     ensures unreported { OnErr result (errors.new ≡ errors.old) }
 {
     let mut set = *ignore_case;

@@ -98,7 +98,7 @@ impl<'t, 's> AttributeParser<'t, 's> {
             (pieces_left self.new ≡ pieces (after_comma (tokens_of self.old.rest))) }
         ensures rest { OnOk result
             (tokens_of self.new.rest ≡ after_comma (tokens_of self.old.rest)) }
-        ensures kept { OnErr result (self.new ≡ self.old) }
+        ensures unchanged { OnErr result (self.new ≡ self.old) }
         ensures unreported { OnErr result (errors.new ≡ errors.old) }
     {
         let mut after = *self;

@@ -73,7 +73,7 @@ impl<'s> Parser<'s> {
 
     /// Returns a parser without options. It takes its memory from `alloc`.
     pub fn new(alloc: Global) -> Parser<'s>
-        ensures said { parser_view result ≡ no_options }
+        ensures options { parser_view result ≡ no_options }
         ensures errors { result.errors ≡ [] }
         ensures failed { result.failed ≡ false }
     {
@@ -120,7 +120,7 @@ impl<'s> Parser<'s> {
     pub fn err(&mut self, code: FaultCode, message: &str, span: Span) -> Result<(), Memory>
         ensures ok { OnOk result
             (AddsFault (fault code message.now span) self.old.errors self.new.errors) }
-        ensures kept { OnOk result (parser_view self.new ≡ parser_view self.old) }
+        ensures options { OnOk result (parser_view self.new ≡ parser_view self.old) }
         ensures going { OnOk result (HasNotFailed self.old self.new) }
         ensures err { OnErr result (self.new.failed ≡ true) }
     {
@@ -145,7 +145,7 @@ impl<'s> Parser<'s> {
         ensures ok { IfOk result (λ read. IsReport
             (text_report (literal_slice literal.entry)) (option_map literal_view read)
             self.old.errors self.new.errors) }
-        ensures kept { OnOk result (parser_view self.new ≡ parser_view self.old) }
+        ensures options { OnOk result (parser_view self.new ≡ parser_view self.old) }
         ensures going { OnOk result (HasNotFailed self.old self.new) }
         ensures err { OnErr result (self.new.failed ≡ true) }
     {
@@ -170,7 +170,7 @@ impl<'s> Parser<'s> {
         ensures ok { IfOk result (λ definition. IsReport
             (definition_report (tokens_of tokens.entry)) (option_map definition_view definition)
             self.old.errors self.new.errors) }
-        ensures kept { OnOk result (parser_view self.new ≡ parser_view self.old) }
+        ensures options { OnOk result (parser_view self.new ≡ parser_view self.old) }
         ensures going { OnOk result (HasNotFailed self.old self.new) }
         ensures err { OnErr result (self.new.failed ≡ true) }
     {
@@ -210,7 +210,7 @@ impl<'s> Definition<'s> {
             (named_report (ident_slice name.entry) (value_of value.entry)
             (definition_view self.old))
             (definition_view self.new) parser.old.errors parser.new.errors) }
-        ensures kept { OnOk result (parser_view parser.new ≡ parser_view parser.old) }
+        ensures options { OnOk result (parser_view parser.new ≡ parser_view parser.old) }
         ensures going { OnOk result (HasNotFailed parser.old parser.new) }
         ensures err { OnErr result (parser.new.failed ≡ true) }
         ensures unchanged { OnErr result (self.new ≡ self.old) }
@@ -251,7 +251,7 @@ impl<'s> ErrorType<'s> {
             (error_named_report (ident_slice name.entry) (value_of value.entry)
             (error_view self.old))
             (error_view self.new) parser.old.errors parser.new.errors) }
-        ensures kept { OnOk result (parser_view parser.new ≡ parser_view parser.old) }
+        ensures options { OnOk result (parser_view parser.new ≡ parser_view parser.old) }
         ensures going { OnOk result (HasNotFailed parser.old parser.new) }
         ensures err { OnErr result (parser.new.failed ≡ true) }
         ensures unchanged { OnErr result (self.new ≡ self.old) }
@@ -292,7 +292,7 @@ impl IgnoreFlags {
             (flags_report (ident_slice name.entry) false self.old.ignore_case
             (tokens_of tokens.entry))
             self.new.ignore_case parser.old.errors parser.new.errors) }
-        ensures kept { OnOk result (parser_view parser.new ≡ parser_view parser.old) }
+        ensures options { OnOk result (parser_view parser.new ≡ parser_view parser.old) }
         ensures going { OnOk result (HasNotFailed parser.old parser.new) }
         ensures err { OnErr result (parser.new.failed ≡ true) }
         ensures unchanged { OnErr result (self.new ≡ self.old) }

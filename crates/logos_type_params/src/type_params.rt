@@ -183,7 +183,7 @@ fn give<'s>(
         ≡ given_more (given_of (name.entry.text, param.entry)) (map given_of types.old.entries)) }
     ensures faults { OnOk result (errors.new ≡ errors.old ++ given_faults
         (former (map given_of types.old.entries) name.entry.text.now) (named_of name.entry)) }
-    ensures kept { OnErr result (types.new.entries ≡ types.old.entries) }
+    ensures unchanged { OnErr result (types.new.entries ≡ types.old.entries) }
     ensures unreported { OnErr result (errors.new ≡ errors.old) }
 {
     let span = former(types, name.text);
@@ -252,7 +252,7 @@ impl<'s> TypeParams<'s> {
         }) }
         ensures faults { OnOk result (errors.new ≡ errors.old ++
             (if (value_of self.old).lifetime then many_lifetimes span ∷ [] else [])) }
-        ensures kept { OnErr result (value_of self.new ≡ value_of self.old) }
+        ensures unchanged { OnErr result (value_of self.new ≡ value_of self.old) }
         ensures unreported { OnErr result (errors.new ≡ errors.old) }
     {
         report_second_lifetime(self.lifetime, span, errors)?;
@@ -271,7 +271,7 @@ impl<'s> TypeParams<'s> {
           types = (value_of self.old).types;
           lifetime = (value_of self.old).lifetime;
         }) }
-        ensures kept { OnErr result (value_of self.new ≡ value_of self.old) }
+        ensures unchanged { OnErr result (value_of self.new ≡ value_of self.old) }
     {
         self.names.push(name)?;
         Ok(())
@@ -294,7 +294,7 @@ impl<'s> TypeParams<'s> {
         ensures ok { OnOk result (IsSet (value_of self.old)
             (named_of name.entry) (tokens_of value.entry) errors.old
             (value_of self.new) errors.new) }
-        ensures kept { OnErr result (value_of self.new ≡ value_of self.old) }
+        ensures unchanged { OnErr result (value_of self.new ≡ value_of self.old) }
         ensures unreported { OnErr result (errors.new ≡ errors.old) }
     {
         let span = value.span();

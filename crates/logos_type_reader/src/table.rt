@@ -23,8 +23,8 @@ use functions::{
     taken_value_step, typed_step, unsafe_step, variadic_end_step, variadic_step,
 };
 use groups::{
-    element_end_step, length_step, list_end_step, list_step, pointer_step, referent_step,
-    self_closed_step, self_end_step, self_trait_end_step,
+    element_end_step, length_step, pointer_step, referent_step, self_closed_step, self_end_step,
+    self_trait_end_step, tuple_end_step, tuple_step,
 };
 use logos_token::token::{Delimiter, Tokens};
 pub(crate) use openings::{begin, read_name};
@@ -64,8 +64,8 @@ fn action_at(at: &Spot<'_, '_>) -> Next
         Place::Referent => referent_step(at),
         Place::Pointer => pointer_step(at),
         Place::Target => Ok(Action::Ask(false, Place::End)),
-        Place::List => list_step(at),
-        Place::ListEnd => list_end_step(at),
+        Place::List => tuple_step(at),
+        Place::ListEnd => tuple_end_step(at),
         Place::Element => Ok(Action::Ask(true, Place::ElementEnd)),
         Place::ElementEnd => element_end_step(at),
         Place::Length => length_step(at),

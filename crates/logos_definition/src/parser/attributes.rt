@@ -87,7 +87,7 @@ impl<'s> Parser<'s> {
         ensures ok { IfOk result (λ definition. IsReport
             (meta_report (meta_of (attribute_value attribute.entry)))
             (option_map definition_view definition) self.old.errors self.new.errors) }
-        ensures kept { OnOk result (parser_view self.new ≡ parser_view self.old) }
+        ensures options { OnOk result (parser_view self.new ≡ parser_view self.old) }
         ensures going { OnOk result (HasNotFailed self.old self.new) }
         ensures err { OnErr result (self.new.failed ≡ true) }
     {
@@ -107,7 +107,7 @@ impl<'s> Parser<'s> {
         ensures ok { IfOk result (λ definition. IsReport
             (meta_report (meta_of (attribute_value attribute.entry)))
             (option_map definition_view definition) self.old.errors self.new.errors) }
-        ensures kept { OnOk result (parser_view self.new ≡ parser_view self.old) }
+        ensures options { OnOk result (parser_view self.new ≡ parser_view self.old) }
         ensures going { self.new.failed ≡ self.old.failed }
     {
         let Some(meta) = meta_of(attribute) else {

@@ -85,7 +85,7 @@ impl<'s> Parser<'s> {
             ≡ generics (value_of self.old.types)) }
         ensures faults { OnOk result (self.new.errors ≡ self.old.errors ++ missing_types
             (value_of self.old.types).types [] (value_of self.old.types).names) }
-        ensures kept { OnOk result (parser_view self.new ≡ parser_view self.old) }
+        ensures options { OnOk result (parser_view self.new ≡ parser_view self.old) }
         ensures going { OnOk result (HasNotFailed self.old self.new) }
         ensures err { OnErr result (self.new.failed ≡ true) }
     {
@@ -101,7 +101,7 @@ impl<'s> Parser<'s> {
     fn written_type(&mut self, written: &TypeExpr<'s>, span: Span) -> Result<TypeExpr<'s>, Memory>
         ensures got { IfOk result (λ got. GetsUnheld self.old.types (type_tree written.now) span
             self.old.errors self.new.errors (type_tree got)) }
-        ensures kept { parser_view self.new ≡ parser_view self.old }
+        ensures options { parser_view self.new ≡ parser_view self.old }
         ensures going { self.new.failed ≡ self.old.failed }
     {
         let held = self.types.held_names()?;
@@ -120,7 +120,7 @@ impl<'s> Parser<'s> {
     pub fn get_type(&mut self, written: &TypeExpr<'s>, span: Span) -> Result<TypeExpr<'s>, Memory>
         ensures ok { IfOk result (λ got. GetsUnheld self.old.types (type_tree written.now) span
             self.old.errors self.new.errors (type_tree got)) }
-        ensures kept { OnOk result (parser_view self.new ≡ parser_view self.old) }
+        ensures options { OnOk result (parser_view self.new ≡ parser_view self.old) }
         ensures going { OnOk result (HasNotFailed self.old self.new) }
         ensures err { OnErr result (self.new.failed ≡ true) }
     {

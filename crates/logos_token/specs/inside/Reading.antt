@@ -50,7 +50,7 @@ pub record IsRead (bytes : List ℕ) (to : ℕ) (entries : List EntryValue) (beg
   pub current : TokenList
   pub openings : AreOpenings bytes frames
   pub nested : frame_lexemes frames current ≡ seen bytes pieces
-  pub kept : frame_entries frames current ≡ entries
+  pub held : frame_entries frames current ≡ entries
   pub places : frame_places frames ≡ begun
 
 -- unless there is an error, a next piece of this kind is read too

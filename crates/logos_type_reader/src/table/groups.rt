@@ -33,7 +33,7 @@ pub(super) fn pointer_step(at: &Spot<'_, '_>) -> Next
 }
 
 /// Returns the step in parentheses, where a type may begin.
-pub(super) fn list_step(at: &Spot<'_, '_>) -> Next
+pub(super) fn tuple_step(at: &Spot<'_, '_>) -> Next
     ensures { IsAction result (spot_of at.now)
         (list_move (tokens_of at.now.run) (outside_of at.now.outside)) }
 {
@@ -44,7 +44,7 @@ pub(super) fn list_step(at: &Spot<'_, '_>) -> Next
 }
 
 /// Returns the step after a type in parentheses.
-pub(super) fn list_end_step(at: &Spot<'_, '_>) -> Next
+pub(super) fn tuple_end_step(at: &Spot<'_, '_>) -> Next
     ensures { IsAction result (spot_of at.now)
         (list_end_move (tokens_of at.now.run) (outside_of at.now.outside)) }
 {
