@@ -1,5 +1,17 @@
 //! Reads the attributes of an enum.
 
+/// Makes a call that changes a parser, unless the parser has failed. It has failed after an error.
+macro_rules! unless_failed {
+    ($parser:expr, $call:expr) => {{
+        if $parser.failed {
+            return Err(Memory);
+        }
+        let outcome = $call;
+        $parser.failed = outcome.is_err();
+        outcome
+    }};
+}
+
 mod attributes;
 mod faults;
 mod options;
@@ -104,12 +116,7 @@ impl<'s> Parser<'s> {
         ensures going { OnOk result (HasNotFailed self.old self.new) }
         ensures err { OnErr result (self.new.failed ≡ true) }
     {
-        if self.failed {
-            return Err(Memory);
-        }
-        let outcome = self.add_pieces(AttributeParser::new(tokens));
-        self.failed = outcome.is_err();
-        outcome
+        unless_failed!(self, self.add_pieces(AttributeParser::new(tokens)))
     }
 
     /// Adds a fault after the others.
@@ -124,12 +131,7 @@ impl<'s> Parser<'s> {
         ensures going { OnOk result (HasNotFailed self.old self.new) }
         ensures err { OnErr result (self.new.failed ≡ true) }
     {
-        if self.failed {
-            return Err(Memory);
-        }
-        let outcome = self.errors.err(code, message, span);
-        self.failed = outcome.is_err();
-        outcome
+        unless_failed!(self, self.errors.err(code, message, span))
     }
 
     /// Reads a literal as a string or byte string. Reports any other literal, and returns `None`
@@ -149,12 +151,7 @@ impl<'s> Parser<'s> {
         ensures going { OnOk result (HasNotFailed self.old self.new) }
         ensures err { OnErr result (self.new.failed ≡ true) }
     {
-        if self.failed {
-            return Err(Memory);
-        }
-        let outcome = read_text(self.alloc, literal, &mut self.errors);
-        self.failed = outcome.is_err();
-        outcome
+        unless_failed!(self, read_text(self.alloc, literal, &mut self.errors))
     }
 
     /// Reads the definition in the parentheses of a `token` or `regex`. `None` if these do not
@@ -174,12 +171,7 @@ impl<'s> Parser<'s> {
         ensures going { OnOk result (HasNotFailed self.old self.new) }
         ensures err { OnErr result (self.new.failed ≡ true) }
     {
-        if self.failed {
-            return Err(Memory);
-        }
-        let outcome = read_definition(tokens, &mut self.errors);
-        self.failed = outcome.is_err();
-        outcome
+        unless_failed!(self, read_definition(tokens, &mut self.errors))
     }
 }
 
@@ -215,12 +207,7 @@ impl<'s> Definition<'s> {
         ensures err { OnErr result (parser.new.failed ≡ true) }
         ensures unchanged { OnErr result (self.new ≡ self.old) }
     {
-        if parser.failed {
-            return Err(Memory);
-        }
-        let outcome = self.add_named(name, &value, &mut parser.errors);
-        parser.failed = outcome.is_err();
-        outcome
+        unless_failed!(parser, self.add_named(name, &value, &mut parser.errors))
     }
 }
 
@@ -256,12 +243,7 @@ impl<'s> ErrorType<'s> {
         ensures err { OnErr result (parser.new.failed ≡ true) }
         ensures unchanged { OnErr result (self.new ≡ self.old) }
     {
-        if parser.failed {
-            return Err(Memory);
-        }
-        let outcome = self.add_named(name, &value, &mut parser.errors);
-        parser.failed = outcome.is_err();
-        outcome
+        unless_failed!(parser, self.add_named(name, &value, &mut parser.errors))
     }
 }
 
@@ -297,11 +279,9 @@ impl IgnoreFlags {
         ensures err { OnErr result (parser.new.failed ≡ true) }
         ensures unchanged { OnErr result (self.new ≡ self.old) }
     {
-        if parser.failed {
-            return Err(Memory);
-        }
-        let outcome = read_flags(&mut self.ignore_case, name, tokens, &mut parser.errors);
-        parser.failed = outcome.is_err();
-        outcome
+        unless_failed!(
+            parser,
+            read_flags(&mut self.ignore_case, name, tokens, &mut parser.errors)
+        )
     }
 }

@@ -9,7 +9,7 @@ mod views;
 
 pub use laws::{prints_back, prints_runs_back};
 pub use logos_lexeme::lexeme::{Delimiter, LexicalKind, Spacing, Span};
-pub use printing::{closing_text, gap_after, gap_after_doc, opening_text, print};
+pub use printing::{Printer, closing_text, gap_after, gap_after_doc, opening_text, print};
 pub use reader::{TokenError, spelled_in_order, spells_once, tokenize};
 pub use value::LiteralValue;
 pub use views::{Group, TokenIter, TokenStream, TokenTree, Tokens};

@@ -65,12 +65,7 @@ impl<'s> Parser<'s> {
         ensures going { OnOk result (HasNotFailed self.old self.new) }
         ensures err { OnErr result (self.new.failed ≡ true) }
     {
-        if self.failed {
-            return Err(Memory);
-        }
-        let outcome = self.add_attribute(attribute);
-        self.failed = outcome.is_err();
-        outcome
+        unless_failed!(self, self.add_attribute(attribute))
     }
 
     /// Reads the definition in the arguments of a `token` or `regex` attribute. `None` if the
@@ -91,12 +86,7 @@ impl<'s> Parser<'s> {
         ensures going { OnOk result (HasNotFailed self.old self.new) }
         ensures err { OnErr result (self.new.failed ≡ true) }
     {
-        if self.failed {
-            return Err(Memory);
-        }
-        let outcome = self.definition_in(attribute);
-        self.failed = outcome.is_err();
-        outcome
+        unless_failed!(self, self.definition_in(attribute))
     }
 
     /// Does what `parse_definition_attr` does, without asking whether the parser has failed.

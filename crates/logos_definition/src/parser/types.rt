@@ -65,12 +65,7 @@ impl<'s> Parser<'s> {
         ensures going { OnOk result (HasNotFailed self.old self.new) }
         ensures err { OnErr result (self.new.failed ≡ true) }
     {
-        if self.failed {
-            return Err(Memory);
-        }
-        let outcome = self.add_parameter(parameter);
-        self.failed = outcome.is_err();
-        outcome
+        unless_failed!(self, self.add_parameter(parameter))
     }
 
     /// Returns the generic arguments that follow the enum's name: `'s` if a lifetime is declared,
@@ -89,12 +84,7 @@ impl<'s> Parser<'s> {
         ensures going { OnOk result (HasNotFailed self.old self.new) }
         ensures err { OnErr result (self.new.failed ≡ true) }
     {
-        if self.failed {
-            return Err(Memory);
-        }
-        let outcome = self.types.generics(&mut self.errors);
-        self.failed = outcome.is_err();
-        outcome
+        unless_failed!(self, self.types.generics(&mut self.errors))
     }
 
     /// Does what `get_type` does, without asking whether the parser has failed.
@@ -124,11 +114,6 @@ impl<'s> Parser<'s> {
         ensures going { OnOk result (HasNotFailed self.old self.new) }
         ensures err { OnErr result (self.new.failed ≡ true) }
     {
-        if self.failed {
-            return Err(Memory);
-        }
-        let outcome = self.written_type(written, span);
-        self.failed = outcome.is_err();
-        outcome
+        unless_failed!(self, self.written_type(written, span))
     }
 }

@@ -1,16 +1,11 @@
 -- What is known while tokens are printed.
-use Rattle.std.specs.Prelude.{◌≡◌, ℕ, ◌+◌, ◌*◌, ◌<◌, List, [], ◌∷◌, ◌++◌, fold, string_bytes, Option, IfSome, MatchOption}
-use Rattle.logos_token.specs.declared.token.printing.Printer.{Printer}
+use Rattle.std.specs.Prelude.{◌≡◌, ℕ, ◌+◌, ◌*◌, ◌<◌, List, [], ◌∷◌, ◌++◌, fold, Option, IfSome, MatchOption}
 use Rattle.logos_token.specs.declared.token.printing.Outer.{Outer}
 use Rattle.logos_token.specs.declared.token.views.Tokens.{Tokens}
 use Rattle.logos_token.specs.declared.token.views.Group.{Group}
 use Rattle.logos_token.specs.Tokens.{Token, group, TokenList, count_of}
 use Rattle.logos_token.specs.Views.{tokens_of, inside_of}
 use Rattle.logos_token.specs.Printing.{Part, opening_text, closing_text, spaced, token_parts, run_parts, Printed, print_part}
-
--- the text printed so far
-abbrev pub printed_of : Printer → Printed
-printed_of printer = record { text = string_bytes printer.text; gap = printer.gap.now }
 
 -- the lexemes after the groups that are open; the innermost group is last in the list
 abbrev pub outer_parts : List Outer → List Part

@@ -5,15 +5,16 @@ ghost use Rattle.logos_token.specs.Spelling.{Spells};
 ghost use Rattle.logos_token.specs.Tokens.{TokenList, none};
 ghost use Rattle.logos_token.specs.Views.{tokens_of};
 ghost use Rattle.logos_token.specs.Printing.{opening_text, closing_text, gap_after, is_line_comment, printed};
-ghost use Rattle.logos_token.specs.inside.PrintingSteps.{printed_of, PrintsOn, LeavesFewer};
+ghost use Rattle.logos_token.specs.PrinterViews.{printed_of};
+ghost use Rattle.logos_token.specs.inside.PrintingSteps.{PrintsOn, LeavesFewer};
 
 use crate::error::Memory;
 use crate::token::{Delimiter, Group, Spacing, TokenTree, Tokens};
 use std::alloc::Global;
 
-/// The text printed so far.
+/// Prints lexemes one by one, each with the gap after it.
 #[derive(Drop)]
-struct Printer {
+pub struct Printer {
     /// The lexemes so far.
     text: String,
     /// The gap to print before the next lexeme.
@@ -73,14 +74,33 @@ pub fn gap_after_doc(text: &str) -> &'static str
 }
 
 impl Printer {
-    ghost use Rattle.std.specs.Prelude.{◌≡◌, OnOk, IfOk};
+    ghost use Rattle.std.specs.Prelude.{◌≡◌, [], OnOk, IfOk, string_bytes};
     ghost use Rattle.std.specs.Char.{encode_utf8};
     ghost use Rattle.logos_token.specs.Views.{tree_of};
     ghost use Rattle.logos_token.specs.Printing.{print_part};
-    ghost use Rattle.logos_token.specs.inside.PrintingSteps.{printed_of, PrintsTree};
+    ghost use Rattle.logos_token.specs.PrinterViews.{printed_of};
+    ghost use Rattle.logos_token.specs.inside.PrintingSteps.{PrintsTree};
 
-    /// Prints a lexeme and remembers the gap after it.
-    fn add(&mut self, text: &str, gap: &'static str) -> Result<(), Memory>
+    /// Returns a printer of nothing so far. It takes its memory from `alloc`.
+    pub fn new(alloc: Global) -> Printer
+        ensures { printed_of result ≡ record { text = []; gap = [] } }
+    {
+        Printer {
+            text: String::new(alloc),
+            gap: "",
+        }
+    }
+
+    /// Returns the text printed so far, without the gap after its last lexeme.
+    pub fn into_text(self) -> String
+        ensures { string_bytes result ≡ (printed_of self.entry).text }
+    {
+        self.text
+    }
+
+    /// Prints a lexeme, and the gap before it. `gap` is the gap after it. After an error a part of
+    /// it can have been printed.
+    pub fn add(&mut self, text: &str, gap: &'static str) -> Result<(), Memory>
         ensures { OnOk result (printed_of self.new ≡
             print_part (printed_of self.old) (record { text = text.now; gap = gap.now })) }
     {
@@ -90,8 +110,8 @@ impl Printer {
         Ok(())
     }
 
-    /// Prints a lexeme of one character and remembers the gap after it.
-    fn add_character(&mut self, character: char, gap: &'static str) -> Result<(), Memory>
+    /// Prints a lexeme of one character in the same way.
+    pub fn add_character(&mut self, character: char, gap: &'static str) -> Result<(), Memory>
         ensures { OnOk result (printed_of self.new ≡ print_part
             (printed_of self.old) (record { text = encode_utf8 character; gap = gap.now })) }
     {
@@ -181,10 +201,7 @@ pub fn print(alloc: Global, run: Tokens<'_, '_>) -> Result<String, Memory>
         (EndsJoint (tokens_of run.entry) → ⊥) →
         SpellsAgain (string_bytes text) (tokens_of run.entry)) }
 {
-    let mut printer = Printer {
-        text: String::new(alloc),
-        gap: "",
-    };
+    let mut printer = Printer::new(alloc);
     let mut outer = Vec::new(alloc);
     let mut rest = run;
     'trees: while let Some(next) = step(&mut printer, &mut outer, rest)? {
