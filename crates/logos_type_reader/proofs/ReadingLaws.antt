@@ -40,7 +40,7 @@ data PartsOf (n : ℕ) (b : Bool) (spot : Spot) (ps : List Tree) (rest : TokenLi
 
 parts_of : {n : ℕ} {b : Bool} {spot : Spot} {ps : List Tree} {rest : TokenList} → AreParts n b spot ps rest → PartsOf n b spot ps rest
 parts_of (ended e) = none_follow e refl refl refl
-parts_of (further {now = now} {onward = onward} {outside = outside} {front = front} {parts = others} m a e) = some_follow now onward front others outside e refl m a
+parts_of (further {now = now} {onward = onward} {next = outside} {front = front} {parts = others} m a e) = some_follow now onward front others outside e refl m a
 
 -- what type there can be
 data TypeOf (n : ℕ) (plus : Bool) (run : TokenList) (t : Tree) (rest : TokenList) : Type 0 where
