@@ -349,13 +349,13 @@ module _ (text : List ℕ) where
       let k = kind_of_held content (held_from true content (is_quote text) text (length text) body) other xs h e f in
       let filled = held-some true content text (is_quote text) (ReachesQuote 34 text) (closing-quote text content) (length text) body xs k.1 in
       let whole : filled.0 ≡ filled.0 + 1 - 1 = omega arith in
-      (filled.0 + 1, record { quote_at = filled.0; until = filled.1; behind = refl }, (k.0, rw whole at filled.2))
+      (filled.0 + 1, record { quote_at = filled.0; until = filled.1; after = refl }, (k.0, rw whole at filled.2))
   in-back (Raw content count) other xs h e f =
       let body = body_of (Raw content count) 0 in
       let k = kind_of_held content (held_from false content (is_raw_quote count text) text (length text) body) other xs h e f in
       let filled = held-some false content text (is_raw_quote count text) (Close count text) (closing-raw count text content) (length text) body xs k.1 in
       let whole : filled.0 ≡ filled.0 + 1 + count - 1 - count = omega arith in
-      (filled.0 + 1 + count, record { quote_at = filled.0; first = filled.1; behind = refl }, (k.0, rw whole at filled.2))
+      (filled.0 + 1 + count, record { quote_at = filled.0; first = filled.1; after = refl }, (k.0, rw whole at filled.2))
   in-back Space other xs h e f = absurd (cc)
   in-back (Line kind) other xs h e f = absurd (cc)
   in-back (Block kind) other xs h e f = absurd (cc)

@@ -93,7 +93,7 @@ impl Printer {
 
     /// Returns the text printed so far, without the gap after its last lexeme.
     pub fn into_text(self) -> String
-        ensures { string_bytes result ≡ (printed_of self.entry).text }
+        ensures { string_bytes result ≡ (printed_of self).text }
     {
         self.text
     }
