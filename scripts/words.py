@@ -18,13 +18,12 @@ import sys
 ROOT = os.path.dirname(os.path.dirname(os.path.realpath(__file__)))
 GLOSSARY = "docs/GLOSSARY.md"
 # With fewer that pass, files or rows were lost, or are no longer read.
-LEAST = 60
+LEAST = 75
 # The crates and pages that are not clean yet. An entry goes when none of these words is left in it.
 NOT_YET = """
-logos_attribute logos_automaton logos_calls logos_code logos_codegen logos_commands logos_cycles logos_definition logos_generator logos_graph
-logos_hir logos_item logos_leaf logos_lexeme logos_machine logos_pattern logos_pattern_tokens logos_places logos_program logos_reduce
-logos_source logos_strip logos_subpattern logos_syntax logos_text logos_token logos_type logos_type_params logos_type_reader
-docs/DECISIONS.md docs/DEFINITIONS.md docs/DIFFERENCES.md docs/FAULTS.md docs/MAP.md docs/PROOFS.md
+logos_automaton logos_calls logos_code logos_codegen logos_commands logos_generator logos_graph logos_hir logos_machine logos_pattern
+logos_pattern_tokens logos_places logos_program logos_reduce logos_syntax logos_text
+docs/DEFINITIONS.md docs/MAP.md
 """.split()
 # Each entry of the glossary's last table: the words in a name, and the pattern in a sentence.
 UNUSED = {

@@ -15,7 +15,7 @@ use Rattle.logos_machine.specs.declared.machine.Item.{Item as TheItem}
 use Rattle.logos_code.specs.declared.action.Action.{Action}
 use Rattle.logos_code.specs.declared.action.Action.TheVariants.{Emit, Skip, Error}
 use Rattle.logos_measures.specs.Measure.{is_text}
-use Rattle.logos_attribute.specs.Told.{only}
+use Rattle.logos_attribute.specs.Reports.{only}
 use Rattle.logos_leaf.specs.Leaves.{LeafView}
 use Rattle.logos_code.specs.Order.{AreInOrder, Parts, IsLeftOut}
 use Rattle.logos_code.specs.Runs.{CodeFinds, Runs}

@@ -6,7 +6,7 @@ use Rattle.std.proofs.lemmas.List.Elements.{Contains-append_left, Contains-push,
 use Rattle.std.proofs.lemmas.List.Sums.{sum_by-set}
 use Rattle.std.proofs.lemmas.Bool.{cases_eq}
 use Rattle.std.specs.List.{Contains, count_by}
-use Rattle.logos_cycles.specs.inside.Reached.{Reaches, IsFound}
+use Rattle.logos_cycles.specs.inside.Traversals.{Reaches, IsFound}
 use Rattle.logos_cycles.proofs.ListLemmas.{front, contains_cases, contains_first, contains_next, contains_none, contains_past}
 
 -- nothing is added

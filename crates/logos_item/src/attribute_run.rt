@@ -1,4 +1,4 @@
-//! The attributes of a run, one after another.
+//! Takes the attributes of a run one by one.
 ghost use Rattle.std.specs.Prelude.{◌≡◌, ◌<◌, Some, None, MatchOption};
 ghost use Rattle.logos_token.specs.Tokens.{count_of};
 ghost use Rattle.logos_token.specs.Views.{tokens_of};
@@ -8,16 +8,17 @@ use crate::groups::open_bracket;
 use crate::tokens::split;
 use logos_token::token::{Span, TokenTree, Tokens};
 
-/// An attribute in front of an enum, a variant or a field.
+/// An attribute of an enum, a variant or a field.
 #[derive(Clone, Copy)]
 pub struct Attribute<'t, 's> {
-    /// From `#` to the end of the brackets, or that of the documentation comment.
+    /// The span from `#` to the end of the brackets, or that of the documentation comment.
     pub span: Span,
-    /// What the brackets hold; `None` for a documentation comment.
+    /// The tokens inside the brackets. `None` for a documentation comment.
     pub inside: Option<Tokens<'t, 's>>,
 }
 
-/// The first of a run of attributes, and what is behind it; `None` where none comes first, so where none is left.
+/// Returns the first attribute of a run of attributes, and the tokens after it. `None` if the run
+/// is empty.
 pub fn split_attribute<'t, 's>(
     tokens: Tokens<'t, 's>,
 ) -> Option<(Attribute<'t, 's>, Tokens<'t, 's>)>

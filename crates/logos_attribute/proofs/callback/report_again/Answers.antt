@@ -1,8 +1,8 @@
 use Rattle.std.proofs.Common.{◌∙◌}
 use Rattle.std.proofs.lemmas.Result.{on_ok_weaker}
-use Rattle.logos_attribute.proofs.ToldLemmas.{listed_alone}
+use Rattle.logos_attribute.proofs.ReportLemmas.{listed_alone}
 use Rattle.logos_attribute.proofs.CallbackLemmas.{span_view}
-use Rattle.logos_attribute.proofs.callback.list_again.Goals as goal
+use Rattle.logos_attribute.proofs.callback.report_again.Goals as goal
 
 pub returns-clause-ok : goal.returns-clause-ok
 returns-clause-ok c = on_ok_weaker c.append.result

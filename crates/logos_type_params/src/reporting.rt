@@ -1,4 +1,4 @@
-//! Faults of names and types: each function lists one.
+//! Reports faults of names and types. Each function adds one fault.
 ghost use Rattle.std.specs.Prelude.{◌≡◌, ◌++◌, ◌∷◌, [], IfOk, OnOk, OnErr, string_bytes};
 ghost use Rattle.logos_type_params.specs.TypeParams.{named_of, about, previous};
 ghost use Rattle.logos_type_params.specs.TypeParams.{type_nesting_text, limit_type_nesting};
@@ -7,54 +7,60 @@ use logos_token::error::{Errors, FaultCode, Memory};
 use logos_token::token::{Ident, Span};
 use std::alloc::Global;
 
-/// A text between two others.
-fn joined(alloc: Global, before: &str, text: &str, behind: &str) -> Result<String, Memory>
+/// Returns three texts in a row.
+fn joined(alloc: Global, before: &str, text: &str, after: &str) -> Result<String, Memory>
     ensures { IfOk result (λ message.
-        string_bytes message ≡ (before.now ++ text.now) ++ behind.now) }
+        string_bytes message ≡ (before.now ++ text.now) ++ after.now) }
 {
     let mut message = String::from_str(alloc, before)?;
     message.push_str(text)?;
-    message.push_str(behind)?;
+    message.push_str(after)?;
     Ok(message)
 }
 
-/// Lists a fault of a name, which stands between two texts in the message. After an error the
-/// faults are as before.
-pub fn list_about(
-    alloc: Global,
+/// Reports a fault of a name. The message has the name between two texts.
+///
+/// # Errors
+///
+/// `Memory` if there is not enough memory. The faults are then unchanged.
+pub fn report_about(
     errors: &mut Errors,
     code: FaultCode,
     before: &str,
     name: Ident<'_>,
-    behind: &str,
+    after: &str,
 ) -> Result<(), Memory>
     ensures ok { OnOk result (errors.new
-        ≡ errors.old ++ (about code before.now (named_of name.entry) behind.now) ∷ []) }
+        ≡ errors.old ++ (about code before.now (named_of name.entry) after.now) ∷ []) }
     ensures err { OnErr result (errors.new ≡ errors.old) }
 {
-    let message = joined(alloc, before, name.text, behind)?;
+    let message = joined(errors.alloc(), before, name.text, after)?;
     errors.err(code, message.as_str(), name.span)?;
     Ok(())
 }
 
-/// Lists that something was given before, at this span. After an error the faults are as before.
-pub fn list_previous(errors: &mut Errors, at: Span) -> Result<(), Memory>
+/// Reports the span of an earlier value, after the fault that is about it.
+///
+/// # Errors
+///
+/// `Memory` if there is not enough memory. The faults are then unchanged.
+pub fn report_previous(errors: &mut Errors, at: Span) -> Result<(), Memory>
     ensures ok { OnOk result (errors.new ≡ errors.old ++ previous at ∷ []) }
     ensures err { OnErr result (errors.new ≡ errors.old) }
 {
     errors.err(FaultCode::Previous, "Previously assigned here", at)
 }
 
-/// The message of the fault that more types stand inside one another than may.
+/// Returns the message of the fault that too many types stand inside one another.
 pub fn type_nesting_text() -> &'static str
     ensures { result.now ≡ type_nesting_text }
 {
     "limit LimitTypeNesting passed"
 }
 
-/// Lists that more types stand inside one another in the value at this span than may. After an error
-/// the faults are as before.
-pub(crate) fn list_depth(errors: &mut Errors, at: Span) -> Result<(), Memory>
+/// Reports that too many types stand inside one another in the value at this span. After an error
+/// the faults are unchanged.
+pub(crate) fn report_depth(errors: &mut Errors, at: Span) -> Result<(), Memory>
     ensures ok { OnOk result (errors.new ≡ errors.old ++ limit_type_nesting at ∷ []) }
     ensures err { OnErr result (errors.new ≡ errors.old) }
 {

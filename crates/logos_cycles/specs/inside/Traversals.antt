@@ -1,8 +1,8 @@
--- The nodes to which one leads, as far as they are found.
+-- The nodes that a traversal has found.
 use Rattle.std.specs.Prelude.{◌≡◌, ◌<◌, ◌+◌, ◌⊎◌, ℕ, List, Bool, true, false, not, Contains, length, slice_index_or}
 use Rattle.std.specs.List.{count_by}
 
--- the node is found
+-- whether the node is found
 abbrev pub IsFound : List Bool → ℕ → Type 0
 IsFound found node = slice_index_or found node false ≡ true
 
@@ -10,7 +10,7 @@ IsFound found node = slice_index_or found node false ≡ true
 abbrev pub left_in : List Bool → List ℕ → ℕ
 left_in found waiting = count_by not found + length waiting
 
--- Those of the targets that are nodes are found, and no other; those that were not wait.
+-- Each of the targets that is a node is found afterwards, and no other node is added. Those that were added wait.
 pub record Reaches (targets : List ℕ) (found : List Bool) (waiting : List ℕ)
     (found' : List Bool) (waiting' : List ℕ) : Type 0 where
   pub same_length : length found' ≡ length found

@@ -1,8 +1,8 @@
--- Lists of faults that grow, and steps that list none.
+-- Lists of faults that grow, and steps that report none.
 use Rattle.std.proofs.Common.{◌≡◌, Bool, true, false, Some, None, List, [], ◌∷◌, ◌++◌, ◌∙◌, ap, sym, refl, append_assoc}
 use Rattle.std.proofs.lemmas.List.{append-nil}
 use Rattle.logos_token.specs.Faults.{Fault}
-use Rattle.logos_attribute.specs.Told.{Told, Tells}
+use Rattle.logos_attribute.specs.Reports.{Report, IsReport}
 
 -- ---- what is not equal
 
@@ -35,8 +35,8 @@ grows_same {old} e = grows_by [] (e ∙ sym (append-nil old))
 pub grows_then : {old mid new : List Fault} → Grows old mid → Grows mid new → Grows old new
 grows_then {old} g h = grows_by (g.added ++ h.added) (h.is ∙ (ap (λ (xs : List Fault). xs ++ h.added) g.is ∙ append_assoc old g.added h.added))
 
-pub told_grows : {A : Type 0} (told : Told A) {value : A} {old new : List Fault} → Tells told value old new → Grows old new
-told_grows told t = grows_by told.faults t.1
+pub report_grows : {A : Type 0} (report : Report A) {value : A} {old new : List Fault} → IsReport report value old new → Grows old new
+report_grows report t = grows_by report.faults t.1
 
 pub no_front : (f : Fault) (fs : List Fault) → f ∷ fs ≡ [] → ⊥
 no_front f fs e = cc
@@ -63,5 +63,5 @@ none_added {added = added} (x ∷ xs) g e = absurd (no_front x (xs ++ added) (sy
 pub added_none : {old new added : List Fault} → new ≡ old ++ added → added ≡ [] → new ≡ old
 added_none {old} g e = g ∙ (ap (λ (xs : List Fault). old ++ xs) e ∙ append-nil old)
 
-pub told_once : {A : Type 0} {told other : Told A} {x y : A} {new old' new' : List Fault} (old : List Fault) → told ≡ other → new ≡ [] → Tells told x old new → Tells other y old' new' → Agree x y old' new'
-told_once old e n t u = (added_none u.1 (sym (ap (λ k. k.faults) e) ∙ none_added old t.1 n), t.0 ∙ (ap (λ k. k.value) e ∙ sym u.0))
+pub report_once : {A : Type 0} {report other : Report A} {x y : A} {new old' new' : List Fault} (old : List Fault) → report ≡ other → new ≡ [] → IsReport report x old new → IsReport other y old' new' → Agree x y old' new'
+report_once old e n t u = (added_none u.1 (sym (ap (λ k. k.faults) e) ∙ none_added old t.1 n), t.0 ∙ (ap (λ k. k.value) e ∙ sym u.0))
