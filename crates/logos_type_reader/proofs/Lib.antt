@@ -5,3 +5,8 @@ pub mod ReadingTotal
 pub mod DepthReading
 pub mod WrittenReads
 pub mod ReadWritten
+pub mod SameSigns
+pub mod TableLocal
+pub mod BeginLocal
+pub mod FaultPlaces
+pub mod TypesLocal

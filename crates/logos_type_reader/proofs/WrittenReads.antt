@@ -16,7 +16,7 @@ use Rattle.logos_type_reader.specs.declared.table.place.Place.{Place}
 use Rattle.logos_type_reader.specs.declared.table.place.Place.TheVariants as place
 use Rattle.logos_type.specs.Parts.{Sign, Tree, sign, whole, still, trees, none as no_part_left, also as and_part, word, mark, colons, arrow, value, opening, closing, reference, other_lifetime}
 use Rattle.logos_type_reader.specs.StillRuns.{still_run}
-use Rattle.logos_type_reader.specs.Table.{Spot, Move, ends, takes, asks, keeps_type, keeps, nests, First, starts, refused, unsupported, begin, name_of, is_reserved, goes_on, begins_colons, begins_arrow, begins_mark, begins_bound, begins_dots, typing, argued, argument_lifetime, next_at, name_end, path_move, after_bound, after_for}
+use Rattle.logos_type_reader.specs.Table.{Spot, Move, ends, takes, asks, keeps_type, keeps, nests, First, starts, unsupported, begin, name_of, is_reserved, goes_on, begins_colons, begins_arrow, begins_mark, begins_bound, begins_dots, typing, argued, argument_lifetime, next_at, name_end, path_move, after_bound, after_for}
 use Rattle.logos_type_reader.specs.Reading.{IsType, just_name, formed, a_token, a_bar, a_type as part_type, a_still_type, still_tokens, a_nest, AreParts, ended, further as part}
 use Rattle.logos_type_reader.specs.Written.{Ending, closed, named, plain_named, applied, taking, bounded, trailing, may_follow, name_ending, begins_mut, begins_named_argument, begins_parameter, Lifetimes, in_angles, LifetimeList, no_lifetime, last_lifetime, lifetimes, Written, a_name, a_form, Form, path, rooted, qualified, borrowed, borrowed_for, slice, array, tuple, trait_object, bound_function, function, pointer_const, pointer_mut, Referent, shared, mutable, Listed as ListedTypes, nothing, single, several, Qualified, of_type, of_trait, AnyPath, from_name, from_root, Path, last, longer, Longer, member, angled, angled_member, called, giving, Angled, plain, turbofish, Arguments, finished, final, further, Argument, a_lifetime, a_literal, empty_braces, braces, a_type, a_binding, Bounds, one_bound, last_bound, plus_after, bounds, Bound, lifetime_bound, trait_bound, enclosed, Questioned, unquestioned, questioned, Trait, unbound, for_all, Function, not_safe, safe, Linked, linked, linked_as, unlinked, Taking, takes_only, takes_and_gives, Parameters, no_parameter, last_parameter, parameters, Parameter, unnamed, with_name}
 

@@ -5,3 +5,4 @@ pub mod ReadingViews
 pub mod TypeExprs
 pub mod Written
 pub mod inside
+pub mod FaultPlaces

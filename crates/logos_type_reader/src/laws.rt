@@ -5,6 +5,7 @@ ghost use Rattle.logos_type.specs.Parts.{Tree};
 ghost use Rattle.logos_type_reader.specs.Table.{Fault, too_deep};
 ghost use Rattle.logos_type_reader.specs.Reading.{IsType, NoType};
 ghost use Rattle.logos_type_reader.specs.Written.{Ending, Written, may_follow};
+ghost use Rattle.logos_type_reader.specs.FaultPlaces.{FaultPlace, IsAt, SameSign};
 ghost use Rattle.logos_type_reader.specs.TypeExprs.{IsTypeExpr, NoTypeExpr};
 ghost use Rattle.logos_type.specs.Depth.{depth};
 
@@ -69,4 +70,15 @@ pub fn read_is_written()
     ensures { (levels : ℕ) (plus : Bool) (run rest : TokenList) (tree : Tree) →
         IsType levels plus run tree rest → (ending : Ending)
         × Written levels plus run tree rest ending × (may_follow ending rest ≡ true) }
+{}
+
+/// A fault has a place in its run, unless types nest too deep. Each run with the same tokens in front of this place and the same
+/// sign at it has the fault, too, so none of them begins with a written type.
+pub fn fault_place()
+    ensures place { (levels : ℕ) (plus : Bool) (run : TokenList) (fault : Fault) →
+        NoType levels plus run fault → (fault ≡ too_deep) ⊎ FaultPlace levels plus run fault }
+    ensures no_type { (levels : ℕ) (plus : Bool) (run : TokenList) (fault : Fault)
+        (place : FaultPlace levels plus run fault) (other left rest : TokenList) (tree : Tree)
+        (ending : Ending) → IsAt place.front other left → SameSign place.left left →
+        Written levels plus other tree rest ending → may_follow ending rest ≡ true → ⊥ }
 {}

@@ -7,7 +7,7 @@ mod reading;
 mod table;
 
 pub use laws::{
-    levels_only_limit, limit_is_depth, one_outcome, read_is_written, reads_written, some_outcome,
-    type_is_front,
+    fault_place, levels_only_limit, limit_is_depth, one_outcome, read_is_written, reads_written,
+    some_outcome, type_is_front,
 };
 pub use reading::{TYPE_NESTING, TypeFault, read_type};
