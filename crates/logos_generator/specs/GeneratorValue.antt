@@ -1,4 +1,4 @@
--- What contracts see of a generator, and what a code value keeps of it.
+-- What contracts see of a generator, and what a code value has of it.
 use Rattle.std.specs.Prelude.{◌≡◌, ℕ, Bool, List, [], map, Option, option_map}
 use Rattle.logos_type.specs.TypeTrees.{type_tree}
 use Rattle.logos_pattern.specs.Leaf.{CallbackValue, callback_value, KindValue, kind_value}
@@ -19,7 +19,7 @@ pub record GeneratorValue : Type 0 where
 abbrev pub fresh : Kept → GraphValue → GeneratorValue
 fresh given graph = record { given = given; graph = graph; tests = []; jumps = [] }
 
--- what becomes of the matches of a leaf, a type by its parts and its callback by its tokens
+-- what the lexer does with the matches of a leaf: its kind, with a type by its parts, and its callback by its tokens
 pub record LeafValue : Type 0 where
   pub kind : KindValue
   pub callback : Option CallbackValue
@@ -30,14 +30,14 @@ leaf_value leaf = record { kind = kind_value leaf.kind; callback = option_map ca
 abbrev pub code_leaf_value : CodeLeaf → LeafValue
 code_leaf_value leaf = record { kind = kind_value leaf.kind; callback = option_map callback_value leaf.callback }
 
--- the same shape and name, a type of the same parts, and the same tokens of what is called
+-- The shape and the name are the same, the type has the same parts, and the error callback the same tokens.
 pub record IsCopy (given kept : Kept) : Type 0 where
   pub shape : kept.shape ≡ given.shape
   pub name : kept.name ≡ given.name
   pub this : type_tree kept.this ≡ type_tree given.this
   pub error_callback : option_map callback_value kept.error_callback ≡ option_map callback_value given.error_callback
 
--- the code keeps what its generator was given, and for each leaf of the graph what becomes of its matches
+-- The code has copies of what its generator was given, and of the kind and the callback of each leaf of the graph.
 pub record KeepsGiven (given : Kept) (graph : GraphValue) (code : CodeValue) : Type 0 where
   pub copy : IsCopy given code.kept
   pub leaves : map code_leaf_value code.kept_leaves ≡ map leaf_value graph.leaves

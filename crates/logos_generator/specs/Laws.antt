@@ -1,4 +1,4 @@
--- What the laws of the definitions say.
+-- The statements of the laws.
 use Rattle.std.specs.Prelude.{◌≡◌, ℕ, ◌↔◌, Bool, true, IsCharBoundary, List, map}
 use Rattle.std.specs.List.{All}
 use Rattle.logos_measures.specs.Measure.{is_text}
@@ -25,7 +25,7 @@ RunsAreItems callback = (rules : List Rule) (utf8 : Bool) (code : CodeValue) (by
     IsLexer rules utf8 code → IsInput utf8 bytes →
     Runs code callback bytes from items ↔ Items rules callback utf8 bytes from items
 
--- The next item of a lexer's code, and the place behind it, are those of maximal munch.
+-- The next item of a lexer's code, and the place after it, are those of maximal munch.
 abbrev pub NextIsTheNext : Callback → Type 0
 NextIsTheNext callback = (rules : List Rule) (utf8 : Bool) (code : CodeValue) (bytes : List ℕ) (from : ℕ) (item : Item) (end : ℕ) →
     IsLexer rules utf8 code → IsInput utf8 bytes →
@@ -37,7 +37,7 @@ LexersAgree callback = (rules : List Rule) (utf8 : Bool) (code other : CodeValue
     IsLexer rules utf8 code → IsLexer rules utf8 other → IsInput utf8 bytes →
     Runs code callback bytes from items ↔ Runs other callback bytes from items
 
--- Where all rules match text alone, each item of a run from between two characters of a text starts and ends between characters.
+-- If all rules match text alone, each item of a run from a character boundary of a text starts and ends at character boundaries.
 abbrev pub RunsAreCut : Callback → Type 0
 RunsAreCut callback = (rules : List Rule) (code : CodeValue) (bytes : List ℕ) (from : ℕ) (items : List Item) →
     IsLexer rules true code → All (λ rule. is_text rule.tree ≡ true) rules →

@@ -23,13 +23,13 @@ led_by state b = option_map (λ edge. edge.1) (find (λ edge. is_in edge.0 b) st
 abbrev pub leads : CodeValue → ℕ → CodeState → ℕ → Option ℕ
 leads code s made b = if stays code made.fast_loop b then Some s else target code made.fork b
 
--- the state s of the graph is made into this state of the code
+-- State s of the graph is made into this state of the code.
 pub record Makes (code : CodeValue) (s : ℕ) (state : GraphState) (made : CodeState) : Type 0 where
   pub mark : made.mark ≡ mark_made state.state_type
   pub bytes : (b : ℕ) → b < 256 → leads code s made b ≡ led_by state b
   pub end : made.at_end ≡ state.eoi
 
--- the end leads to a state with a late mark, which has no end edge
+-- The end leads to a state with a late mark and without an end edge.
 pub record IsLast (graph : List GraphState) (t : ℕ) : Type 0 where
   pub state : GraphState
   pub is : slice_get graph t ≡ Some state
@@ -37,12 +37,12 @@ pub record IsLast (graph : List GraphState) (t : ℕ) : Type 0 where
   pub late : mark_made state.state_type ≡ Some (record { leaf = leaf; late = true })
   pub no_end : state.eoi ≡ None
 
--- a finished graph: what the edges of a state lead to is there
+-- The graph is finished: each state that an edge leads to exists.
 pub record IsClosed (graph : List GraphState) (state : GraphState) : Type 0 where
   pub bytes : (b t : ℕ) → b < 256 → led_by state b ≡ Some t → (next : GraphState) × (slice_get graph t ≡ Some next)
   pub end : (t : ℕ) → state.eoi ≡ Some t → IsLast graph t
 
--- the code is made from the graph, state by state
+-- The code is made from the graph, state by state.
 pub record IsMade (graph : List GraphState) (utf8 : Bool) (code : CodeValue) : Type 0 where
   pub root : code.root ≡ 0
   pub mode : code.utf8 ≡ utf8

@@ -16,11 +16,11 @@ is_other s b e = not (e.1 == s) && is_in e.0 b
 abbrev pub leads_beside : ℕ → List Edge → ℕ → Option ℕ
 leads_beside s edges b = option_map (λ e. e.1) (find (is_other s b) edges)
 
--- an entry that is written where the byte is hit and nothing was written before
+-- an entry after the target was written, if the byte is hit and the entry led nowhere before
 abbrev pub hit : Bool → ℕ → Option ℕ → Option ℕ
 hit b target entry = option_or entry (if b then Some target else None)
 
--- the list begins with what there was
+-- The new list begins with the old one.
 abbrev pub Extends : {A : Type 0} → List A → List A → Type 0
 Extends {A} old new = (more : List A) × (new ≡ old ++ more)
 
@@ -28,7 +28,7 @@ Extends {A} old new = (more : List A) × (new ≡ old ++ more)
 pub record IsSetOf (ranges : List (ℕ × ℕ)) (set : List Bool) : Type 0 where
   pub members : (b : ℕ) → b < 256 → slice_index_or set b false ≡ is_in ranges b
 
--- The target whose edge is left out of a fork: the state itself, or a number that no state has.
+-- the state to which a fork has no edge: the state itself, or a number that no state has
 abbrev pub left_out : Bool → ℕ → ℕ
 left_out ignore_self s = if ignore_self then s else 4294967295
 

@@ -1,4 +1,4 @@
--- What a code value that is made of a graph does.
+-- What the code value of a graph does.
 use Rattle.std.specs.Prelude.{ℕ, ◌+◌, ◌-◌, ◌≤◌, ◌↔◌, Bool, List, length}
 use Rattle.logos_hir.specs.Text.{IsBytes}
 use Rattle.logos_automaton.specs.Munch.{Found}
@@ -7,8 +7,8 @@ use Rattle.logos_graph.specs.Found.{GraphFinds}
 use Rattle.logos_code.specs.Code.{CodeValue}
 use Rattle.logos_code.specs.Runs.{Tries, CodeFinds}
 
--- the code does at each place of each input what the graph does, and a try enters at most two states
--- more than there are bytes left
+-- The code finds at each place of each input what the graph finds, and a try enters at most two states
+-- more than there are bytes left.
 pub record RunsAs (graph : List GraphState) (utf8 : Bool) (code : CodeValue) : Type 0 where
   pub same : (bytes : List ℕ) (from : ℕ) (found : Found) → IsBytes bytes → CodeFinds code bytes from found ↔ GraphFinds graph utf8 bytes from found
   pub steps : (bytes : List ℕ) (from n : ℕ) (found : Found) → IsBytes bytes → from ≤ length bytes → Tries code bytes from found n → n ≤ (length bytes - from) + 2

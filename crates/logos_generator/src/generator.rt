@@ -1,4 +1,4 @@
-//! From a graph to a code value.
+//! Turns a graph into a code value.
 
 ghost use Rattle.std.specs.Prelude.{◌≡◌, [], IfOk, OnOk, OnErr, map, option_copied};
 ghost use Rattle.logos_graph.specs.View.{rule_of};
@@ -10,11 +10,11 @@ ghost use Rattle.logos_generator.specs.StateView.{leaf_use};
 
 mod fork;
 mod leaves;
+mod node_tables;
 mod nodes;
 mod states;
 mod tests_by_bits;
 
-use indexmap::IndexSet;
 pub use logos_code::code::Config;
 use logos_code::code::{Code, Kept};
 use logos_graph::graph::Graph;
@@ -22,6 +22,7 @@ use logos_pattern::leaf::Callback;
 use logos_token::error::Memory;
 use logos_token::token::Ident;
 use logos_type::TypeExpr;
+use node_tables::NodeTables;
 pub use nodes::{FastLoop, FastLoopMacro, TakeAction, fast_loop_macro};
 use states::code_of;
 use std::alloc::{AllocError, Global};
@@ -35,10 +36,8 @@ pub struct Generator<'g, 's> {
     this: &'g TypeExpr<'s>,
     graph: &'g Graph<'s>,
     error_callback: Option<&'g Callback<'s>>,
-    /// The byte sets that nodes test by bits, by the numbers of their tests.
-    tests: IndexSet<[bool; 256]>,
-    /// The jump tables of nodes, by their numbers.
-    jumps: IndexSet<[u32; 256]>,
+    /// The tables of the nodes that were made.
+    tables: NodeTables,
 }
 
 impl<'g, 's> Model for Generator<'g, 's> {
@@ -65,8 +64,8 @@ impl<'g, 's> Model for Generator<'g, 's> {
         error_callback = option_copied g.error_callback;
       };
       graph = g.graph.now;
-      tests = g.tests.keys;
-      jumps = g.jumps.keys;
+      tests = g.tables.tests.keys;
+      jumps = g.tables.jumps.keys;
     } };
 
     ghost invariant = { λ g. g.graph.now.faults ≡ [] };
@@ -98,8 +97,7 @@ impl<'g, 's> Generator<'g, 's> {
             this,
             graph,
             error_callback,
-            tests: IndexSet::new(alloc),
-            jumps: IndexSet::new(alloc),
+            tables: NodeTables::new(alloc),
         }
     }
 
@@ -124,51 +122,37 @@ impl<'g, 's> Generator<'g, 's> {
         ensures same { (self.new.given ≡ self.old.given) × (self.new.graph ≡ self.old.graph) }
         ensures error { OnErr result (self.new ≡ self.old) }
     {
-        let mut tests = IndexSet::new(alloc);
-        let mut jumps = IndexSet::new(alloc);
-        match self.code(alloc, &mut tests, &mut jumps) {
+        let mut tables = NodeTables::new(alloc);
+        match self.code(alloc, &mut tables) {
             Ok(code) => {
-                self.tests = tests;
-                self.jumps = jumps;
+                self.tables = tables;
                 Ok(code)
             }
             Err(_) => Err(Memory),
         }
     }
 
-    /// Makes the code. Its tests and jump tables are put into empty sets, by their numbers.
-    fn code(
-        &self,
-        alloc: Global,
-        tests: &mut IndexSet<[bool; 256]>,
-        jumps: &mut IndexSet<[u32; 256]>,
-    ) -> Result<Code<'s>, AllocError>
-        requires tests { tests.old.keys ≡ [] }
-        requires jumps { jumps.old.keys ≡ [] }
+    /// Makes the code. Its tests and jump tables are added to empty tables.
+    fn code(&self, alloc: Global, tables: &mut NodeTables) -> Result<Code<'s>, AllocError>
+        requires tests { tables.old.tests.keys ≡ [] }
+        requires jumps { tables.old.jumps.keys ≡ [] }
         ensures runs { IfOk result (λ code. RunsAs self.now.graph.states self.now.graph.utf8 code) }
         ensures mode { IfOk result (λ code. code.utf8 ≡ self.now.graph.utf8) }
         ensures leaves { IfOk result (λ code. code.leaves ≡ map leaf_use self.now.graph.leaves) }
         ensures nodes { IfOk result (HasNodesOf self.now.graph.states) }
-        ensures tests { OnOk result (tests.new.keys ≡ tests_of self.now.graph.states) }
-        ensures jumps { OnOk result (jumps.new.keys ≡ jump_tables_of self.now.graph.states) }
+        ensures tests { OnOk result (tables.new.tests.keys ≡ tests_of self.now.graph.states) }
+        ensures jumps { OnOk result (tables.new.jumps.keys ≡ jump_tables_of self.now.graph.states) }
         ensures kept { IfOk result (λ code. IsCopy self.now.given code.kept) }
         ensures kept_leaves { IfOk result
             (λ code. map code_leaf_value code.kept_leaves ≡ map leaf_value self.now.graph.leaves) }
     {
         match self.kept() {
-            Ok(kept) => code_of(
-                alloc,
-                tests,
-                jumps,
-                kept,
-                self.graph,
-                self.graph.iter_states(),
-            ),
+            Ok(kept) => code_of(alloc, tables, kept, self.graph, self.graph.iter_states()),
             Err(error) => Err(error),
         }
     }
 
-    /// Copies what a code keeps.
+    /// Returns copies of what the generator was given, for the code.
     fn kept(&self) -> Result<Kept<'s>, AllocError>
         ensures { IfOk result (IsCopy self.now.given) }
     {

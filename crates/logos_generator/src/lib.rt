@@ -1,4 +1,4 @@
-//! From graphs to code values. Code values and the machine that runs them are handed on.
+//! Turns graphs into code values. Hands on code values, and the machine that runs them.
 
 #![tactic(auto)]
 

@@ -1,16 +1,16 @@
--- What a tree is measured by: a number that fits, valid text, a greedy dot.
+-- What is asked of a tree: whether a number fits, whether its literals are text, and whether it repeats a dot greedily.
 use Rattle.std.specs.Prelude.{ℕ, ◌^◌, Bool, true, false, ◌&&◌, ◌||◌, nat_lt, List, [], ◌∷◌, Option, Some, None, if◌then◌else◌, ◌==◌}
 use Rattle.std.specs.List.{list_all}
 use Rattle.std.specs.Cmp.Lexicographic.{pointwise}
 use Rattle.std.specs.Str.{is_utf8}
 use Rattle.logos_hir.specs.Tree.{Tree, empty, literal, byte_class, char_class, look, repetition, capture, concat, alternation, Trees, none, also}
 
--- the number, if a `usize` holds it
+-- the number, if it fits `usize`
 abbrev pub fitted : ℕ → Option ℕ
 fitted n = if nat_lt n (2 ^ 64) then Some n else None
 
 abbrev mutual
-  -- each literal is UTF-8, and each class of bytes holds ASCII only
+  -- Each literal is UTF-8, and each class of bytes holds ASCII only.
   pub is_text : Tree → Bool
   is_text empty = true
   is_text (literal text) = is_utf8 text
@@ -43,7 +43,7 @@ is_dot (byte_class ranges) = is_all 255 ranges
 is_dot t = false
 
 abbrev mutual
-  -- An unbounded greedy repetition of a dot, outside of other repetitions.
+  -- The tree has an unbounded greedy repetition of a dot, outside other repetitions.
   pub has_greedy_dot : Tree → Bool
   has_greedy_dot empty = false
   has_greedy_dot (literal text) = false

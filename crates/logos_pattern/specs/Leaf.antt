@@ -1,4 +1,4 @@
--- What a leaf's fields say.
+-- The fields of a leaf, as values.
 use Rattle.std.specs.Prelude.{ℕ, Bool, true, false, List, ◌++◌, codes, is_some, if◌then◌else◌}
 use Rattle.logos_hir.specs.Tree.{Tree}
 use Rattle.logos_hir.specs.Hir.{tree_of}
@@ -24,17 +24,17 @@ pattern_tree pattern = tree_of pattern.hir
 abbrev pub source_of : Pattern → List ℕ
 source_of pattern = pattern.source.now
 
--- the pattern is a token's
+-- The pattern is that of a `token`.
 abbrev pub is_token : Pattern → Bool
 is_token pattern = pattern.is_literal
 
--- matches are left out
+-- The lexer skips the matches.
 abbrev pub is_skip : VariantKind → Bool
 is_skip (UnitVariant name) = false
 is_skip (Value name type) = false
 is_skip Skip = true
 
--- what a match gives: a variant without a field, one with a field of this type, or nothing
+-- what the lexer returns for a match: a variant without a field, one with a field of this type, or nothing
 pub data KindValue : Type 0 where
   plain : (name : Ident) → KindValue
   holding : (name : Ident) (type : TypeTree) → KindValue
@@ -45,12 +45,12 @@ kind_value (UnitVariant name) = plain name
 kind_value (Value name type) = holding name (type_tree type)
 kind_value Skip = skipped
 
--- where a callback stands: from its first token to its last
+-- the span of a callback: from its first token to its last
 abbrev pub callback_span : Callback → Span
 callback_span (Label tokens) = run_span (stream_tokens tokens)
 callback_span (Inline inline) = inline.span
 
--- a callback by its tokens: those that name a function, or those of a body with a parameter
+-- a callback by its tokens: those of a function's name, or a parameter and those of a body
 pub data CallbackValue : Type 0 where
   named : (tokens : TokenList) → CallbackValue
   written : (arg : Ident) (body : TokenList) (span : Span) → CallbackValue
@@ -62,7 +62,7 @@ abbrev pub callback_value : Callback → CallbackValue
 callback_value (Label tokens) = named (stream_tokens tokens)
 callback_value (Inline inline) = inline_value inline
 
--- it is asked what becomes of a match
+-- The leaf has a callback.
 abbrev pub asks : Leaf → Bool
 asks leaf = is_some leaf.callback
 
@@ -70,7 +70,7 @@ asks leaf = is_some leaf.callback
 abbrev pub pattern_text : Pattern → List ℕ
 pattern_text pattern = codes "#[" ++ (if is_token pattern then codes "token" else codes "regex") ++ codes "(" ++ source_of pattern ++ codes ")]"
 
--- how what a match gives prints
+-- how the kind of a leaf prints
 abbrev pub kind_text : VariantKind → List ℕ
 kind_text (UnitVariant name) = codes "::" ++ name.text.now
 kind_text (Value name type) = codes "::" ++ name.text.now ++ codes "(_)"

@@ -1,4 +1,4 @@
--- What the literal of a `token`, `regex` or `skip` says.
+-- The literal of a `token`, `regex` or `skip`.
 use Rattle.std.specs.Prelude.{ℕ, ◌*◌, Bool, true, false, List, length, string_bytes}
 use Rattle.logos_token.specs.declared.token.Literal.{Literal as LiteralToken}
 use Rattle.logos_token.specs.declared.token.value.LiteralValue.{LiteralValue}
@@ -7,12 +7,12 @@ use Rattle.logos_pattern.specs.declared.pattern.literal.Literal.{Literal}
 use Rattle.logos_pattern.specs.declared.pattern.literal.Literal.TheVariants.{Utf8, Bytes}
 use Rattle.logos_pattern.specs.Escaping.{escaped_text, escaped_bytes}
 
--- it is a string, and no byte string
+-- The literal is a string, so its pattern matches characters.
 abbrev pub is_unicode : Literal → Bool
 is_unicode (Utf8 string) = true
 is_unicode (Bytes bytes) = false
 
--- the token that it is
+-- the token that it was read from
 abbrev pub token_of : Literal → LiteralToken
 token_of (Utf8 string) = string.token
 token_of (Bytes bytes) = bytes.token
@@ -22,12 +22,12 @@ abbrev pub held_value : Literal → LiteralValue
 held_value (Utf8 string) = TextValue string.value
 held_value (Bytes bytes) = BytesValue bytes.value
 
--- the bytes that it holds
+-- the bytes of its value
 abbrev pub held_bytes : Literal → List ℕ
 held_bytes (Utf8 string) = string_bytes string.value
 held_bytes (Bytes bytes) = bytes.value.items
 
--- the priority of a token of it by default
+-- the default priority of a `token` with this literal
 abbrev pub literal_value : Literal → ℕ
 literal_value literal = 2 * length (held_bytes literal)
 

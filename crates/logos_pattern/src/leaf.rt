@@ -1,4 +1,4 @@
-//! Leaves of a lexer: a pattern, its priority, and what becomes of its matches.
+//! The leaves of a lexer: each is a pattern with its priority, its kind and its callback.
 
 ghost use Rattle.std.specs.Prelude.{◌≡◌, Some};
 ghost use Rattle.logos_pattern.specs.Leaf.{kind_text, leaf_text, kind_value, callback_span, callback_value, inline_value};
@@ -11,39 +11,39 @@ pub use logos_type::TypeExpr;
 use std::alloc::AllocError;
 use std::fmt;
 
-/// What a match of a leaf gives.
+/// What the lexer returns for a match of a leaf.
 #[derive(Drop)]
 pub enum VariantKind<'s> {
     /// A variant without a field.
     Unit(Ident<'s>),
     /// A variant with a field of this type.
     Value(Ident<'s>, TypeExpr<'s>),
-    /// Nothing: the match is left out.
+    /// Nothing: the lexer skips the match.
     Skip,
 }
 
-/// What is called on a match.
+/// A function that the lexer calls on a match.
 #[derive(Drop)]
 pub enum Callback<'s> {
-    /// Tokens that name a function.
+    /// The tokens of a function's name.
     Label(TokenStream<'s>),
-    /// A body with a parameter.
+    /// A closure that is written out.
     Inline(InlineCallback<'s>),
 }
 
-/// A callback that is written out, as `|lex| body`.
+/// A callback that is written out as `|lex| body`.
 #[derive(Drop)]
 pub struct InlineCallback<'s> {
     /// The parameter.
     pub arg: Ident<'s>,
     pub body: TokenStream<'s>,
-    /// The whole callback in the source.
+    /// The span of the whole callback in the source, in bytes.
     pub span: Span,
 }
 
 impl<'s> Callback<'s> {
-    /// Where it stands in the source: a label from its first token to its last, and 0..0 if it has
-    /// no token.
+    /// Returns the callback's span in the source, in bytes: that of a label reaches from its first token to its
+    /// last, and is 0..0 if it has no token.
     pub fn span(&self) -> Span
         ensures { result ≡ callback_span self.now }
     {
@@ -100,20 +100,20 @@ impl Clone for InlineCallback<'_> {
     }
 }
 
-/// A pattern with its priority and what becomes of its matches.
+/// A pattern with its priority, and what the lexer does with its matches.
 #[derive(Drop)]
 pub struct Leaf<'s> {
     pub pattern: Pattern<'s>,
-    /// The pattern's literal in the source.
+    /// The span of the pattern's literal in the source, in bytes.
     pub span: Span,
     pub priority: usize,
     pub kind: VariantKind<'s>,
-    /// What is called on a match, if anything is.
+    /// The function that the lexer calls on a match, if there is one.
     pub callback: Option<Callback<'s>>,
 }
 
 impl<'s> Leaf<'s> {
-    /// A leaf that skips, of priority 0 and without a callback.
+    /// Returns a leaf that skips its matches, of priority 0 and without a callback.
     pub fn new(span: Span, pattern: Pattern<'s>) -> Leaf<'s>
         ensures { result ≡ record {
           pattern = pattern.entry;
@@ -132,7 +132,7 @@ impl<'s> Leaf<'s> {
         }
     }
 
-    /// The leaf with this priority.
+    /// Returns the leaf with this priority.
     pub fn priority(mut self, priority: usize) -> Leaf<'s>
         ensures { result ≡ record self.entry { priority = priority } }
     {
@@ -140,7 +140,7 @@ impl<'s> Leaf<'s> {
         self
     }
 
-    /// The leaf whose matches give this.
+    /// Returns the leaf with this kind.
     pub fn variant_kind(mut self, kind: VariantKind<'s>) -> Leaf<'s>
         ensures { result ≡ record self.entry { kind = kind.entry } }
     {
@@ -148,7 +148,7 @@ impl<'s> Leaf<'s> {
         self
     }
 
-    /// The leaf whose matches this is called on.
+    /// Returns the leaf with this callback, or with none.
     pub fn callback(mut self, callback: Option<Callback<'s>>) -> Leaf<'s>
         ensures { result ≡ record self.entry { callback = callback.entry } }
     {

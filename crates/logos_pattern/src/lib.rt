@@ -1,4 +1,4 @@
-//! Patterns of a lexer: their trees, what a tree matches, and leaves.
+//! The patterns and the leaves of a lexer.
 
 #![tactic(auto)]
 

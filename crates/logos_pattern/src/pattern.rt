@@ -1,4 +1,4 @@
-//! Patterns.
+//! Patterns, which are read from the text of a literal.
 
 ghost use Rattle.std.specs.Prelude.{◌≡◌, ◌≤◌, ◌++◌, ℕ, chars, IfOk, IfErr, IsTrue, Some};
 ghost use Rattle.logos_hir.specs.Hir.{tree_of, literal_tree};
@@ -27,7 +27,7 @@ use logos_token::error::Memory;
 use std::alloc::{AllocError, Global};
 use std::fmt;
 
-/// A pattern: its tree, and the text that it was read from.
+/// A pattern: its tree, and the literal that it was read from.
 #[derive(Drop)]
 pub struct Pattern<'s> {
     is_literal: bool,
@@ -36,12 +36,14 @@ pub struct Pattern<'s> {
 }
 
 impl<'s> Pattern<'s> {
-    /// Reads a pattern. It begins with the flag `u` as `unicode` says, with the flag `i` as
-    /// `ignore_case` says, and with all others off. `source` is the literal that the pattern was
-    /// written as, which `is_literal` says to be no regular expression.
+    /// Reads the pattern that `regex` spells. At its start the flag `u` is on if `unicode` holds, the flag `i` is on if
+    /// `ignore_case` holds, and all others are off. `source` is the literal that the pattern was written as, and
+    /// `is_literal` whether that is the literal of a `token`.
     ///
-    /// Groups, brackets and operators may nest 250 deep; above that the answer is
-    /// `LimitPatternNesting`. What the grammar does not allow is `Syntax`.
+    /// # Errors
+    /// Returns `Syntax` if the text breaks the grammar, with the kind and the byte offset of the fault;
+    /// `LimitPatternNesting` if groups, brackets and operators nest more than 250 deep; and `Memory` when memory runs
+    /// out.
     pub fn compile(
         alloc: Global,
         is_literal: bool,
@@ -50,17 +52,17 @@ impl<'s> Pattern<'s> {
         unicode: bool,
         ignore_case: bool,
     ) -> Result<Pattern<'s>, PatternError>
-        // What is read is spelled so.
+        // The tree that is returned is the one that the text spells.
         ensures found { IfOk result (λ p. IsFound (first_flags unicode ignore_case)
             (chars regex.now) (tree_of p.hir)) }
-        // What is refused has no tree, or only one that is nested too deep, or memory ran out.
+        // A text that is refused has no tree, or only one that is nested too deeply, or memory ran out.
         ensures refused { IfErr result (Refuses (first_flags unicode ignore_case)
             (chars regex.now)) }
-        // Behind some beginning of what is refused as too deep, more than 250 groups, brackets and
+        // After some beginning of a text that is refused as too deep, more than 250 groups, brackets and
         // operators are around one place.
         ensures deep { IfErr result (λ e. e ≡ errors.LimitPatternNesting →
             IsTooDeep (first_flags unicode ignore_case) (chars regex.now)) }
-        // What has a tree within the limit is read.
+        // A text that has a tree within the limit is read.
         ensures complete { (depth : ℕ) → depth ≤ 250 →
             IsSpelled (first_flags unicode ignore_case) (chars regex.now) depth →
             IfErr result (λ e. e ≡ errors.Memory) }
@@ -86,8 +88,10 @@ impl<'s> Pattern<'s> {
         })
     }
 
-    /// The pattern of a `token`: it matches the bytes that the literal holds, and nothing else.
-    /// It fails only where there is no memory.
+    /// Returns the pattern of a `token`, which matches the bytes of the literal's value and nothing else.
+    ///
+    /// # Errors
+    /// Returns `Memory` when memory runs out.
     pub fn compile_lit(alloc: Global, literal: &Literal<'s>) -> Result<Pattern<'s>, Memory>
         ensures tree { IfOk result (λ pattern. pattern_tree pattern ≡
             literal_tree (held_bytes literal.now)) }
@@ -103,45 +107,45 @@ impl<'s> Pattern<'s> {
         })
     }
 
-    /// The priority of a `regex` or `skip` where none is given: the value of the tree, or `None`
-    /// where that passes `usize`. A `token` has `token_priority` instead.
+    /// Returns the default priority of a `regex` or `skip`, which its tree decides, or `None` if it does not fit
+    /// `usize`. A `token` has `token_priority` instead.
     pub fn priority(&self) -> Option<usize>
         ensures { result ≡ fitted (value (pattern_tree self.now)) }
     {
         measure::priority(&self.hir)
     }
 
-    /// Whether a greedy repetition without an upper bound repeats a dot: a class of all characters
-    /// or of all bytes, perhaps without LF, or without CR and LF. Looks through captures,
-    /// concatenations and alternations, and not into the body of a repetition.
+    /// Returns whether a greedy repetition without an upper bound repeats a dot: a class of all characters
+    /// or of all bytes, of all but LF, or of all but CR and LF. Looks through captures, concatenations and
+    /// alternations, and not into the body of a repetition.
     pub fn check_for_greedy_all(&self) -> bool
         ensures { result ≡ has_greedy_dot (pattern_tree self.now) }
     {
         measure::check_for_greedy_all(&self.hir)
     }
 
-    /// Whether each literal of the tree is UTF-8, and each class of bytes holds ASCII only.
+    /// Returns whether each literal of the tree is UTF-8, and each class of bytes holds ASCII only.
     pub fn is_utf8(&self) -> bool
         ensures { result ≡ is_text (pattern_tree self.now) }
     {
         measure::is_utf8(&self.hir)
     }
 
-    /// The tree.
+    /// Returns the pattern's tree.
     pub fn hir(&self) -> &Hir
         ensures { tree_of result.now ≡ pattern_tree self.now }
     {
         &self.hir
     }
 
-    /// The text that the pattern was read from, with its quotes.
+    /// Returns the literal that the pattern was read from, with its quotes.
     pub fn source(&self) -> &'s str
         ensures { result.now ≡ source_of self.now }
     {
         self.source
     }
 
-    /// Whether the pattern is a `token`'s, and no `regex`.
+    /// Returns whether the pattern is that of a `token`.
     pub fn is_literal(&self) -> bool
         ensures { result ≡ is_token self.now }
     {
@@ -159,7 +163,7 @@ impl fmt::Display for Pattern<'_> {
     }
 }
 
-/// The tree that matches these bytes.
+/// Returns the tree that matches these bytes alone.
 fn literal_hir(alloc: Global, bytes: &[u8]) -> Result<Hir, AllocError>
     ensures { IfOk result (λ hir. tree_of hir ≡ literal_tree bytes.now) }
 {
@@ -169,7 +173,7 @@ fn literal_hir(alloc: Global, bytes: &[u8]) -> Result<Hir, AllocError>
     Ok(Hir::Literal(Vec::from_slice(alloc, bytes)?))
 }
 
-/// The priority of a `token` where none is given: twice the number of bytes that its literal holds.
+/// Returns the default priority of a `token`: twice the number of bytes of its literal's value.
 pub fn token_priority(literal: &Literal<'_>) -> usize
     ensures { result ≡ literal_value literal.now }
 {

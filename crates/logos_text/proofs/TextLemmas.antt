@@ -23,13 +23,13 @@ items_added g xs i whole text l all = sym (append-nil text) ∙ ap (λ rest. tex
 pub parts : (a : List ℕ) {b c : List ℕ} (u v : List ℕ) → b ≡ a ++ u → c ≡ b ++ v → c ≡ a ++ (u ++ v)
 parts a u v e f = f ∙ ap (λ w. w ++ v) e ∙ append_assoc a u v
 
-stand_behind : (ys : List (List ℕ)) (u v : List ℕ) → StandInOrder ys v → StandInOrder ys (u ++ v)
-stand_behind [] u v k = tt
-stand_behind (y ∷ ys) u v k =
+stand_after : (ys : List (List ℕ)) (u v : List ℕ) → StandInOrder ys v → StandInOrder ys (u ++ v)
+stand_after [] u v k = tt
+stand_after (y ∷ ys) u v k =
     (u ++ k.0, k.1, ap (λ w. u ++ w) k.2 ∙ sym (append_assoc u k.0 (y ++ k.1)), k.3)
 
 stand_together : (xs ys : List (List ℕ)) (u v : List ℕ) → StandInOrder xs u → StandInOrder ys v → StandInOrder (xs ++ ys) (u ++ v)
-stand_together [] ys u v h k = stand_behind ys u v k
+stand_together [] ys u v h k = stand_after ys u v k
 stand_together (x ∷ xs) ys u v h k =
     (h.0, h.1 ++ v, ap (λ w. w ++ v) h.2 ∙ append_assoc h.0 (x ++ h.1) v ∙ ap (λ w. h.0 ++ w) (append_assoc x h.1 v), stand_together xs ys h.1 v h.3 k)
 
@@ -42,8 +42,8 @@ adds_both {xs} {ys} {a} {b} {c} p q = record {
 }
 
 -- something is printed behind
-pub grows_behind : {xs : List (List ℕ)} {a b c : List ℕ} → Adds xs a b → Grows b c → Adds xs a c
-grows_behind {xs} {a} {b} {c} p q = subst (λ texts. Adds texts a c) (append-nil xs) (adds_both p q)
+pub grows_after : {xs : List (List ℕ)} {a b c : List ℕ} → Adds xs a b → Grows b c → Adds xs a c
+grows_after {xs} {a} {b} {c} p q = subst (λ texts. Adds texts a c) (append-nil xs) (adds_both p q)
 
 -- a text is printed
 pub adds_text : {a b : List ℕ} (text : List ℕ) → b ≡ a ++ text → Adds (text ∷ []) a b

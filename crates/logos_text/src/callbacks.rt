@@ -1,4 +1,4 @@
-//! The text of callbacks.
+//! Prints callbacks.
 ghost use Rattle.std.specs.Prelude.{◌≡◌, OnOk, [], string_bytes};
 ghost use Rattle.logos_token.specs.Views.{tokens_of, tree_of};
 ghost use Rattle.logos_text.specs.Gaps.{gap_after, gap_of};
@@ -10,7 +10,7 @@ use logos_token::error::Memory;
 use logos_token::token::{TokenTree, Tokens, gap_after_doc, print};
 use std::alloc::Global;
 
-/// Adds the call of a callback.
+/// Appends the call of a callback.
 pub(crate) fn push_call(
     alloc: Global,
     text: &mut String,
@@ -24,7 +24,7 @@ pub(crate) fn push_call(
     }
 }
 
-/// Adds the call of a callback that the source names.
+/// Appends the call of a callback that is the name of a function.
 fn push_label(alloc: Global, text: &mut String, label: Tokens<'_, '_>) -> Result<(), Memory>
     ensures { OnOk result (Grows (string_bytes text.old) (string_bytes text.new)) }
 {
@@ -32,7 +32,7 @@ fn push_label(alloc: Global, text: &mut String, label: Tokens<'_, '_>) -> Result
     push(text, "( lex ) ")
 }
 
-/// Adds a callback that the source spells out, with its argument before its body.
+/// Appends a callback that is written out: its parameter, and then its body.
 fn push_inline(
     alloc: Global,
     text: &mut String,
@@ -46,7 +46,7 @@ fn push_inline(
     push(text, "} ")
 }
 
-/// Adds tokens, and the gap after them.
+/// Appends tokens, and the gap after them.
 pub(crate) fn push_tokens(
     alloc: Global,
     text: &mut String,

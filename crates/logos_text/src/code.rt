@@ -1,4 +1,4 @@
-//! The text of a whole code.
+//! Prints a whole code.
 ghost use Rattle.std.specs.Prelude.{IfOk, OnOk, string_bytes};
 ghost use Rattle.logos_code.specs.CodeView.{code_of};
 ghost use Rattle.logos_text.specs.Standing.{Adds, Grows, StandInOrder};
@@ -17,9 +17,12 @@ use logos_token::error::Memory;
 use logos_type::print_type;
 use std::alloc::Global;
 
-/// The Rust text of a code, as the body of a function: its tokens, parted as `print` parts them. The texts of all bit tables by
-/// number, and behind them those of the conditions of all forks, by states and by the fork's order, stand in it without overlap.
-/// It fails only where there is no memory.
+/// Returns the Rust text of a code, as the body of a function: its tokens, with the gaps that `print` puts between tokens. The texts
+/// of all bit tables, by their numbers, are parts of it, and after them those of the conditions of all forks, by states and in the
+/// fork's order, without overlap.
+///
+/// # Errors
+/// Returns `Memory` when memory runs out.
 pub fn text(alloc: Global, code: &Code<'_>) -> Result<String, Memory>
     ensures { IfOk result (λ text. StandInOrder (texts_of code.now) (string_bytes text)) }
 {
@@ -30,8 +33,10 @@ pub fn text(alloc: Global, code: &Code<'_>) -> Result<String, Memory>
     Ok(text)
 }
 
-/// The Rust text of a code as `text` gives it, with the implementation of `Logos` around it. It fails only where there is no
-/// memory.
+/// Returns the Rust text of a code as `text` does, with the implementation of `Logos` around it.
+///
+/// # Errors
+/// Returns `Memory` when memory runs out.
 pub fn text_in(alloc: Global, code: &Code<'_>, around: Around<'_>) -> Result<String, Memory>
     ensures { IfOk result (λ text. StandInOrder (texts_of code.now) (string_bytes text)) }
 {
@@ -44,7 +49,7 @@ pub fn text_in(alloc: Global, code: &Code<'_>, around: Around<'_>) -> Result<Str
     Ok(text)
 }
 
-/// Adds all of a code.
+/// Appends the body of a lexer.
 fn push_code(
     alloc: Global,
     text: &mut String,
@@ -62,7 +67,7 @@ fn push_code(
     Ok(())
 }
 
-/// Adds the macros, with fast loops over blocks of eight bytes.
+/// Appends the macros, with fast loops over blocks of eight bytes.
 fn push_macros(text: &mut String, root: usize, names: Names<'_>) -> Result<(), Memory>
     ensures { OnOk result (Grows (string_bytes text.old) (string_bytes text.new)) }
 {
@@ -70,7 +75,7 @@ fn push_macros(text: &mut String, root: usize, names: Names<'_>) -> Result<(), M
     push_take_action_macro(text, root, names)
 }
 
-/// Adds the functions of matches and errors, and what stands in front of the states.
+/// Appends the functions for matches and errors, and the text before the states.
 fn push_functions(
     alloc: Global,
     text: &mut String,

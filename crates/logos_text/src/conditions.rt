@@ -1,4 +1,4 @@
-//! The text of conditions.
+//! Prints conditions.
 ghost use Rattle.std.specs.Prelude.{◌≡◌, ◌++◌, ◌∷◌, [], ◌==◌, ◌<◌, OnOk, map, codes, string_bytes};
 ghost use Rattle.std.specs.List.{flat_map, join_by};
 ghost use Rattle.logos_byte_class.specs.Bytes.{comparison_of};
@@ -12,14 +12,14 @@ use logos_byte_class::byte_class::Comparisons;
 use logos_code::code::{Condition, Config};
 use logos_token::error::Memory;
 
-/// Whether the byte is written as a character.
+/// Returns whether the byte is written as a character between quotes.
 fn is_quoted(byte: u8) -> bool
     ensures { result ≡ is_quoted byte }
 {
     matches!(byte, b'!'..=b'}') & (byte != b'`')
 }
 
-/// Adds a byte that is an end of a range.
+/// Appends a byte that is an end of a range.
 fn push_end(text: &mut String, byte: u8) -> Result<(), Memory>
     ensures { OnOk result (string_bytes text.new ≡ string_bytes text.old ++ end_text byte) }
 {
@@ -35,7 +35,7 @@ fn push_end(text: &mut String, byte: u8) -> Result<(), Memory>
     Ok(())
 }
 
-/// Adds a character between quotes.
+/// Appends a character between quotes.
 fn push_quoted(text: &mut String, character: char) -> Result<(), Memory>
     requires { character < 128 }
     ensures { OnOk result (string_bytes text.new
@@ -47,7 +47,7 @@ fn push_quoted(text: &mut String, character: char) -> Result<(), Memory>
     Ok(())
 }
 
-/// Adds that the byte is not this one.
+/// Appends that the byte is not this one.
 fn push_exception(text: &mut String, byte: u8) -> Result<(), Memory>
     ensures { OnOk result (string_bytes text.new ≡ string_bytes text.old ++ exception_text byte) }
 {
@@ -55,7 +55,7 @@ fn push_exception(text: &mut String, byte: u8) -> Result<(), Memory>
     Ok(())
 }
 
-/// Adds that the byte is none of these.
+/// Appends that the byte is none of these.
 fn push_exceptions(text: &mut String, bytes: &[u8]) -> Result<(), Memory>
     ensures { OnOk result (string_bytes text.new
         ≡ string_bytes text.old ++ flat_map exception_text bytes.now) }
@@ -66,7 +66,7 @@ fn push_exceptions(text: &mut String, bytes: &[u8]) -> Result<(), Memory>
     Ok(())
 }
 
-/// Adds a comparison: with one byte, or with the ends of a range.
+/// Appends a comparison: with one byte, or with the ends of a range.
 fn push_comparison(text: &mut String, comparison: &Comparisons) -> Result<(), Memory>
     ensures { OnOk result (string_bytes text.new
         ≡ string_bytes text.old ++ comparison_text (comparison_of comparison.now)) }
@@ -79,7 +79,7 @@ fn push_comparison(text: &mut String, comparison: &Comparisons) -> Result<(), Me
     push_between(text, first, last, &comparison.except)
 }
 
-/// Adds that the byte is this one.
+/// Appends that the byte is this one.
 fn push_single(text: &mut String, byte: u8) -> Result<(), Memory>
     ensures { OnOk result (string_bytes text.new ≡ string_bytes text.old ++ single_text byte) }
 {
@@ -89,7 +89,7 @@ fn push_single(text: &mut String, byte: u8) -> Result<(), Memory>
     Ok(())
 }
 
-/// Adds that the byte lies between these, and is no exception.
+/// Appends that the byte is from `first` to `last`, and is not an exception.
 fn push_between(text: &mut String, first: u8, last: u8, except: &[u8]) -> Result<(), Memory>
     ensures { OnOk result (string_bytes text.new
         ≡ string_bytes text.old ++ between_text first last except.now) }
@@ -104,7 +104,7 @@ fn push_between(text: &mut String, first: u8, last: u8, except: &[u8]) -> Result
     Ok(())
 }
 
-/// Adds a comparison behind a former one.
+/// Appends `||` and a comparison.
 fn push_next_comparison(text: &mut String, comparison: &Comparisons) -> Result<(), Memory>
     ensures { OnOk result (string_bytes text.new
         ≡ string_bytes text.old ++ codes " || " ++ comparison_text (comparison_of comparison.now)) }
@@ -113,7 +113,7 @@ fn push_next_comparison(text: &mut String, comparison: &Comparisons) -> Result<(
     push_comparison(text, comparison)
 }
 
-/// Adds comparisons behind a former one.
+/// Appends comparisons, each after `||`.
 fn push_next_comparisons(text: &mut String, comparisons: &[Comparisons]) -> Result<(), Memory>
     ensures { OnOk result (string_bytes text.new ≡ string_bytes text.old
         ++ flat_map (λ c. codes " || " ++ comparison_text c) (map comparison_of comparisons.now)) }
@@ -124,7 +124,7 @@ fn push_next_comparisons(text: &mut String, comparisons: &[Comparisons]) -> Resu
     Ok(())
 }
 
-/// Adds the comparisons, with `||` between them.
+/// Appends the comparisons, with `||` between them.
 fn push_comparisons(text: &mut String, comparisons: &[Comparisons]) -> Result<(), Memory>
     ensures { OnOk result (string_bytes text.new ≡ string_bytes text.old
         ++ join_by comparison_text (codes " || ") (map comparison_of comparisons.now)) }
@@ -136,7 +136,7 @@ fn push_comparisons(text: &mut String, comparisons: &[Comparisons]) -> Result<()
     push_next_comparisons(text, rest)
 }
 
-/// Adds the bit of the test with this number.
+/// Appends the bit of the test with this number.
 pub(crate) fn push_bit(text: &mut String, test: usize) -> Result<(), Memory>
     ensures { OnOk result (string_bytes text.new ≡ string_bytes text.old ++ bit_text test) }
 {
@@ -146,7 +146,7 @@ pub(crate) fn push_bit(text: &mut String, test: usize) -> Result<(), Memory>
     Ok(())
 }
 
-/// Adds what a byte is tested by, as an expression of type `bool`.
+/// Appends the test of a byte, as an expression of type `bool`.
 fn push_test(text: &mut String, test: &Condition) -> Result<(), Memory>
     ensures { OnOk result (string_bytes text.new
         ≡ string_bytes text.old ++ test_text (condition_of test.now)) }
@@ -158,7 +158,7 @@ fn push_test(text: &mut String, test: &Condition) -> Result<(), Memory>
     Ok(())
 }
 
-/// Adds that the bit of the test with this number is set.
+/// Appends that the bit of the test with this number is set.
 fn push_bit_test(text: &mut String, test: usize) -> Result<(), Memory>
     ensures { OnOk result (string_bytes text.new
         ≡ string_bytes text.old ++ bit_text test ++ codes " != 0") }
@@ -168,7 +168,7 @@ fn push_bit_test(text: &mut String, test: usize) -> Result<(), Memory>
     Ok(())
 }
 
-/// Adds the step to a state.
+/// Appends the step to a state.
 pub(crate) fn push_transition(text: &mut String, target: usize, shape: Config) -> Result<(), Memory>
     ensures { OnOk result (string_bytes text.new
         ≡ string_bytes text.old ++ transition_text target shape) }
@@ -181,7 +181,7 @@ pub(crate) fn push_transition(text: &mut String, target: usize, shape: Config) -
     Ok(())
 }
 
-/// Adds a condition, and what is done where it holds.
+/// Appends a condition, and the step that is taken if it holds.
 pub(crate) fn push_condition(
     text: &mut String,
     test: &Condition,

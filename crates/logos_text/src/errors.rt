@@ -1,4 +1,4 @@
-//! The text of the function that makes errors.
+//! Prints the function that makes errors.
 ghost use Rattle.std.specs.Prelude.{OnOk, string_bytes};
 ghost use Rattle.logos_text.specs.Standing.{Grows};
 
@@ -10,7 +10,7 @@ use logos_token::error::Memory;
 use logos_token::token::Tokens;
 use std::alloc::Global;
 
-/// Adds the function that makes errors.
+/// Appends the function `_make_error`, which makes the error of a text that no leaf matches.
 pub(crate) fn push_make_error(
     alloc: Global,
     text: &mut String,
@@ -28,7 +28,7 @@ pub(crate) fn push_make_error(
     push(text, "} ")
 }
 
-/// Adds the body of the function that makes errors.
+/// Appends the body of that function: the default error, or the call of the error callback.
 fn push_error_body(
     alloc: Global,
     text: &mut String,
@@ -45,7 +45,7 @@ fn push_error_body(
     push_error_call(alloc, text, callback)
 }
 
-/// Adds the call of the error callback.
+/// Appends the call of the error callback.
 fn push_error_call(alloc: Global, text: &mut String, callback: &Callback<'_>) -> Result<(), Memory>
     ensures { OnOk result (Grows (string_bytes text.old) (string_bytes text.new)) }
 {
@@ -57,7 +57,7 @@ fn push_error_call(alloc: Global, text: &mut String, callback: &Callback<'_>) ->
     }
 }
 
-/// Adds the call of an error callback that is named.
+/// Appends the call of an error callback that is the name of a function.
 fn push_error_label(alloc: Global, text: &mut String, label: Tokens<'_, '_>) -> Result<(), Memory>
     ensures { OnOk result (Grows (string_bytes text.old) (string_bytes text.new)) }
 {
@@ -66,7 +66,7 @@ fn push_error_label(alloc: Global, text: &mut String, label: Tokens<'_, '_>) -> 
     push(text, "( lex ) ; error . into ( ) ")
 }
 
-/// Adds an error callback that stands in the source, with its argument in front of its body.
+/// Appends an error callback that is written out: its parameter, and then its body.
 fn push_error_inline(
     alloc: Global,
     text: &mut String,

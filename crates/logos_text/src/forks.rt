@@ -1,4 +1,4 @@
-//! The text of forks.
+//! Prints forks.
 ghost use Rattle.std.specs.Prelude.{◌∷◌, [], OnOk, map, string_bytes};
 ghost use Rattle.logos_code.specs.CodeView.{branch_of, fork_of};
 ghost use Rattle.logos_text.specs.Standing.{Adds, Grows};
@@ -10,7 +10,7 @@ use logos_code::code::{CodeParts, Condition, Config, Fork, NOWHERE};
 use logos_token::error::Memory;
 use std::alloc::Global;
 
-/// Adds a branch, and a space.
+/// Appends a branch, and a space.
 fn push_branch(text: &mut String, branch: &(Condition, usize), shape: Config) -> Result<(), Memory>
     ensures { OnOk result (Adds (branch_text shape (branch_of branch.now) ∷ [])
         (string_bytes text.old) (string_bytes text.new)) }
@@ -19,7 +19,7 @@ fn push_branch(text: &mut String, branch: &(Condition, usize), shape: Config) ->
     push(text, " ")
 }
 
-/// Adds the branches.
+/// Appends the branches, in order.
 fn push_branches(
     text: &mut String,
     branches: &[(Condition, usize)],
@@ -34,7 +34,7 @@ fn push_branches(
     Ok(())
 }
 
-/// Adds an entry of a jump table, the one of this byte.
+/// Appends the entry of this byte in a jump table.
 fn push_jump(text: &mut String, byte: usize, entry: u32, shape: Config) -> Result<(), Memory>
     ensures { OnOk result (Grows (string_bytes text.old) (string_bytes text.new)) }
 {
@@ -52,7 +52,7 @@ fn push_jump(text: &mut String, byte: usize, entry: u32, shape: Config) -> Resul
     Ok(())
 }
 
-/// The entry of a byte that leads nowhere.
+/// Returns the text of the entry of a byte that leads nowhere.
 fn nowhere(shape: Config) -> &'static str {
     if shape.use_state_machine_codegen {
         "None"
@@ -61,7 +61,7 @@ fn nowhere(shape: Config) -> &'static str {
     }
 }
 
-/// Adds the entries of a jump table.
+/// Appends the entries of a jump table.
 fn push_jumps(text: &mut String, table: &[u32; 256], shape: Config) -> Result<(), Memory>
     ensures { OnOk result (Grows (string_bytes text.old) (string_bytes text.new)) }
 {
@@ -71,7 +71,7 @@ fn push_jumps(text: &mut String, table: &[u32; 256], shape: Config) -> Result<()
     Ok(())
 }
 
-/// Adds a jump to the next value of the state.
+/// Appends a jump by a table, in the shape with a loop: it sets the state.
 fn push_step(text: &mut String, table: &[u32; 256], shape: Config) -> Result<(), Memory>
     ensures { OnOk result (Grows (string_bytes text.old) (string_bytes text.new)) }
 {
@@ -83,7 +83,7 @@ fn push_step(text: &mut String, table: &[u32; 256], shape: Config) -> Result<(),
     )
 }
 
-/// The states that a jump table names, each once and ascending.
+/// Returns the numbers of the states that a jump table leads to, each once and ascending.
 fn targets_of(alloc: Global, table: &[u32; 256]) -> Result<Vec<u32>, Memory> {
     let mut targets = Vec::from_slice(alloc, table)?;
     targets.sort_unstable();
@@ -94,7 +94,7 @@ fn targets_of(alloc: Global, table: &[u32; 256]) -> Result<Vec<u32>, Memory> {
     Ok(targets)
 }
 
-/// Adds the name of state `target`, with a comma in front of all but the first.
+/// Appends the name of state `target`, with a comma before all but the first.
 fn push_next_name(text: &mut String, n: usize, target: u32) -> Result<(), Memory>
     ensures { OnOk result (Grows (string_bytes text.old) (string_bytes text.new)) }
 {
@@ -103,7 +103,7 @@ fn push_next_name(text: &mut String, n: usize, target: u32) -> Result<(), Memory
     Ok(())
 }
 
-/// Adds the names of the states that a jump leads to.
+/// Appends the names of the states that a jump leads to.
 fn push_next_names(text: &mut String, targets: &[u32]) -> Result<(), Memory>
     ensures { OnOk result (Grows (string_bytes text.old) (string_bytes text.new)) }
 {
@@ -113,7 +113,7 @@ fn push_next_names(text: &mut String, targets: &[u32]) -> Result<(), Memory>
     Ok(())
 }
 
-/// Adds the call of state `target`, with a comma in front of all but the first.
+/// Appends the match arm that calls state `target`, with a comma before all but the first.
 fn push_next_arm(text: &mut String, n: usize, target: u32, shape: Config) -> Result<(), Memory>
     ensures { OnOk result (Grows (string_bytes text.old) (string_bytes text.new)) }
 {
@@ -123,7 +123,7 @@ fn push_next_arm(text: &mut String, n: usize, target: u32, shape: Config) -> Res
     push(text, " } ")
 }
 
-/// Adds the calls of the states that a jump leads to.
+/// Appends the match arms that call the states that a jump leads to.
 fn push_next_arms(text: &mut String, targets: &[u32], shape: Config) -> Result<(), Memory>
     ensures { OnOk result (Grows (string_bytes text.old) (string_bytes text.new)) }
 {
@@ -133,7 +133,7 @@ fn push_next_arms(text: &mut String, targets: &[u32], shape: Config) -> Result<(
     Ok(())
 }
 
-/// Adds a jump table of the states that it leads to.
+/// Appends a jump table, with an enum of the states that it leads to.
 fn push_next_table(
     text: &mut String,
     table: &[u32; 256],
@@ -154,7 +154,7 @@ fn push_next_table(
     push_jumps(text, table, shape)
 }
 
-/// Adds a jump to the function of a state.
+/// Appends a jump by a table, in the shape with a function for each state: it calls one.
 fn push_call(
     alloc: Global,
     text: &mut String,
@@ -170,7 +170,7 @@ fn push_call(
     push(text, "LogosNextState :: ___ => { } , } offset -= 1 ; ")
 }
 
-/// Adds a jump by a table.
+/// Appends a jump by a table.
 fn push_by_table(
     alloc: Global,
     text: &mut String,
@@ -188,7 +188,7 @@ fn push_by_table(
     push_call(alloc, text, table, shape)
 }
 
-/// Adds where a byte leads.
+/// Appends a fork: the step of each byte.
 pub(crate) fn push_ways(
     alloc: Global,
     text: &mut String,

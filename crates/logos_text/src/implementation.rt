@@ -1,4 +1,4 @@
-//! The text around the body of a lexer.
+//! Prints the implementation of `Logos` around the body of a lexer.
 ghost use Rattle.std.specs.Prelude.{OnOk, string_bytes};
 ghost use Rattle.logos_text.specs.Standing.{Grows};
 
@@ -8,7 +8,7 @@ use logos_token::error::Memory;
 /// `gap_after` gives after them.
 #[derive(Clone, Copy)]
 pub struct Around<'p> {
-    /// The path of the library.
+    /// The path of the `logos` library.
     pub logos: &'p str,
     /// The type of errors.
     pub error: &'p str,
@@ -18,7 +18,7 @@ pub struct Around<'p> {
     pub source: &'p str,
 }
 
-/// Adds the text before a body.
+/// Appends the text before a body.
 pub(crate) fn push_front(text: &mut String, around: Around<'_>, this: &str) -> Result<(), Memory>
     ensures { OnOk result (Grows (string_bytes text.old) (string_bytes text.new)) }
 {
@@ -27,7 +27,7 @@ pub(crate) fn push_front(text: &mut String, around: Around<'_>, this: &str) -> R
     push_uses(text, around.logos, this)
 }
 
-/// Adds the head of the implementation, and its associated types.
+/// Appends the head of the implementation, and its associated types.
 fn push_head(text: &mut String, around: Around<'_>, this: &str) -> Result<(), Memory>
     ensures { OnOk result (Grows (string_bytes text.old) (string_bytes text.new)) }
 {
@@ -42,7 +42,7 @@ fn push_head(text: &mut String, around: Around<'_>, this: &str) -> Result<(), Me
     Ok(())
 }
 
-/// Adds the signature of the function that lexes.
+/// Appends the signature of the function that lexes.
 fn push_signature(text: &mut String, logos: &str) -> Result<(), Memory>
     ensures { OnOk result (Grows (string_bytes text.old) (string_bytes text.new)) }
 {
@@ -53,7 +53,7 @@ fn push_signature(text: &mut String, logos: &str) -> Result<(), Memory>
     Ok(())
 }
 
-/// Adds the names that the body uses.
+/// Appends the imports of the names that the body uses.
 fn push_uses(text: &mut String, logos: &str, this: &str) -> Result<(), Memory>
     ensures { OnOk result (Grows (string_bytes text.old) (string_bytes text.new)) }
 {

@@ -1,4 +1,4 @@
-//! The text of leaves, and of what becomes of their matches.
+//! Prints the leaves, and what the lexer does with their matches.
 ghost use Rattle.std.specs.Prelude.{OnOk, string_bytes};
 ghost use Rattle.logos_text.specs.Standing.{Grows};
 
@@ -11,7 +11,7 @@ use logos_token::error::Memory;
 use logos_type::print_type;
 use std::alloc::Global;
 
-/// Adds the names of the leaves with their numbers.
+/// Appends the enum of the leaves, each with its number.
 pub(crate) fn push_leaf_names(text: &mut String, count: usize) -> Result<(), Memory>
     ensures { OnOk result (Grows (string_bytes text.old) (string_bytes text.new)) }
 {
@@ -22,7 +22,7 @@ pub(crate) fn push_leaf_names(text: &mut String, count: usize) -> Result<(), Mem
     push(text, "} ")
 }
 
-/// Adds the name of a leaf with its number.
+/// Appends the variant of a leaf with its number.
 fn push_leaf_name(text: &mut String, leaf: usize) -> Result<(), Memory>
     ensures { OnOk result (Grows (string_bytes text.old) (string_bytes text.new)) }
 {
@@ -31,7 +31,7 @@ fn push_leaf_name(text: &mut String, leaf: usize) -> Result<(), Memory>
     Ok(())
 }
 
-/// Adds the function that says what becomes of a match.
+/// Appends the function `_get_action`, which returns what a match, or an error, gives.
 pub(crate) fn push_get_action(
     alloc: Global,
     text: &mut String,
@@ -49,7 +49,7 @@ pub(crate) fn push_get_action(
     push(text, "} } ")
 }
 
-/// Adds the arms of all leaves.
+/// Appends the match arms of all leaves.
 fn push_arms(
     alloc: Global,
     text: &mut String,
@@ -70,7 +70,7 @@ fn push_arms(
     Ok(())
 }
 
-/// Adds the arm of leaf number n.
+/// Appends the match arm of leaf number n.
 fn push_arm(
     alloc: Global,
     text: &mut String,
@@ -86,7 +86,7 @@ fn push_arm(
     push(text, "} ")
 }
 
-/// Adds what becomes of a match of the leaf.
+/// Appends the body of a leaf's arm: the call of its callback, if it has one, and what a match gives.
 fn push_leaf(
     alloc: Global,
     text: &mut String,
@@ -104,7 +104,7 @@ fn push_leaf(
     push_result(alloc, text, &leaf.kind, names)
 }
 
-/// Adds what a match of the leaf gives where nothing is called.
+/// Appends what a match gives if the leaf has no callback.
 fn push_plain(text: &mut String, kind: &VariantKind<'_>, names: Names<'_>) -> Result<(), Memory>
     ensures { OnOk result (Grows (string_bytes text.old) (string_bytes text.new)) }
 {
@@ -115,7 +115,7 @@ fn push_plain(text: &mut String, kind: &VariantKind<'_>, names: Names<'_>) -> Re
     }
 }
 
-/// Adds that a match gives a variant without a field.
+/// Appends that a match gives a variant without a field.
 fn push_unit(text: &mut String, variant: &str, names: Names<'_>) -> Result<(), Memory>
     ensures { OnOk result (Grows (string_bytes text.old) (string_bytes text.new)) }
 {
@@ -124,7 +124,7 @@ fn push_unit(text: &mut String, variant: &str, names: Names<'_>) -> Result<(), M
     Ok(())
 }
 
-/// Adds that a match gives a variant whose field is the slice.
+/// Appends that a match gives a variant whose field is the slice that was matched.
 fn push_value(text: &mut String, variant: &str, names: Names<'_>) -> Result<(), Memory>
     ensures { OnOk result (Grows (string_bytes text.old) (string_bytes text.new)) }
 {
@@ -136,7 +136,7 @@ fn push_value(text: &mut String, variant: &str, names: Names<'_>) -> Result<(), 
     Ok(())
 }
 
-/// Adds what a match of the leaf gives by what was called.
+/// Appends what a match gives by the callback's answer.
 fn push_result(
     alloc: Global,
     text: &mut String,
@@ -155,7 +155,7 @@ fn push_result(
     }
 }
 
-/// Adds what a match that is left out gives by what was called.
+/// Appends what a match of a skip gives by the callback's answer.
 fn push_skip_result(text: &mut String, names: Names<'_>) -> Result<(), Memory>
     ensures { OnOk result (Grows (string_bytes text.old) (string_bytes text.new)) }
 {
@@ -167,7 +167,7 @@ fn push_skip_result(text: &mut String, names: Names<'_>) -> Result<(), Memory>
     Ok(())
 }
 
-/// Adds what a match of a variant without a field gives by what was called.
+/// Appends what a match gives by the callback's answer, of a variant without a field.
 fn push_unit_result(text: &mut String, variant: &str, names: Names<'_>) -> Result<(), Memory>
     ensures { OnOk result (Grows (string_bytes text.old) (string_bytes text.new)) }
 {
@@ -180,7 +180,7 @@ fn push_unit_result(text: &mut String, variant: &str, names: Names<'_>) -> Resul
     Ok(())
 }
 
-/// Adds what a match of a variant with a field of this type gives by what was called.
+/// Appends what a match gives by the callback's answer, of a variant with a field of this type.
 fn push_value_result(
     text: &mut String,
     variant: &str,

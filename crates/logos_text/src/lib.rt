@@ -1,4 +1,4 @@
-//! The Rust text of a code value.
+//! Prints a code value as Rust text.
 
 #![tactic(auto)]
 

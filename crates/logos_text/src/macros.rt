@@ -1,4 +1,4 @@
-//! The text of the macros.
+//! Prints the macros of a lexer.
 ghost use Rattle.std.specs.Prelude.{OnOk, string_bytes};
 ghost use Rattle.logos_text.specs.Standing.{Grows};
 
@@ -6,7 +6,7 @@ use crate::names::Names;
 use crate::pieces::push;
 use logos_token::error::Memory;
 
-/// Adds the macro of fast loops over blocks of this many bytes.
+/// Appends the macro `_fast_loop`, which reads blocks of `factor` bytes.
 pub(crate) fn push_fast_loop_macro(text: &mut String, factor: usize) -> Result<(), Memory>
     ensures { OnOk result (Grows (string_bytes text.old) (string_bytes text.new)) }
 {
@@ -22,7 +22,7 @@ pub(crate) fn push_fast_loop_macro(text: &mut String, factor: usize) -> Result<(
     Ok(())
 }
 
-/// Adds the tests of the bytes of a block.
+/// Appends the tests of the bytes of a block.
 fn push_block_tests(text: &mut String, factor: usize) -> Result<(), Memory>
     ensures { OnOk result (Grows (string_bytes text.old) (string_bytes text.new)) }
 {
@@ -35,7 +35,7 @@ fn push_block_tests(text: &mut String, factor: usize) -> Result<(), Memory>
     Ok(())
 }
 
-/// Adds the macro of what is done where nothing leads on.
+/// Appends the macro `_take_action`, which ends a try: it returns an item, or starts the next try after a skip.
 pub(crate) fn push_take_action_macro(
     text: &mut String,
     root: usize,
@@ -54,7 +54,7 @@ pub(crate) fn push_take_action_macro(
     )
 }
 
-/// Adds the step back to the root.
+/// Appends the step back to the root.
 fn push_restart(text: &mut String, root: usize, names: Names<'_>) -> Result<(), Memory>
     ensures { OnOk result (Grows (string_bytes text.old) (string_bytes text.new)) }
 {

@@ -1,9 +1,9 @@
-//! The names that a text speaks of.
+//! The names that all parts of a text use.
 ghost use Rattle.std.specs.Prelude.{◌≡◌};
 
 use logos_code::code::{CodeParts, Config};
 
-/// What all parts of a text print: its shape, the name of the enum, and the type that the enum is.
+/// What all parts of a text use: its shape, the name of the enum, and the enum as a type.
 #[derive(Clone, Copy)]
 pub(crate) struct Names<'p> {
     pub(crate) shape: Config,
@@ -12,7 +12,7 @@ pub(crate) struct Names<'p> {
 }
 
 impl<'p> Names<'p> {
-    /// What all parts of this code's text print.
+    /// Returns the names for the text of this code, where `this` is the enum as a type.
     pub(crate) fn new(parts: &'p CodeParts<'_>, this: &'p str) -> Names<'p>
         ensures { result.shape ≡ parts.now.kept.shape }
     {

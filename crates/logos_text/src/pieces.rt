@@ -1,10 +1,10 @@
-//! Adding to a text that grows.
+//! Appends to a text.
 ghost use Rattle.std.specs.Prelude.{◌≡◌, ◌++◌, OnOk, string_bytes};
 ghost use Rattle.logos_text.specs.Standing.{Grows};
 
 use logos_token::error::Memory;
 
-/// Adds a part.
+/// Appends a part.
 pub(crate) fn push_str(text: &mut String, part: &str) -> Result<(), Memory>
     ensures { OnOk result (string_bytes text.new ≡ string_bytes text.old ++ part.now) }
 {
@@ -12,7 +12,7 @@ pub(crate) fn push_str(text: &mut String, part: &str) -> Result<(), Memory>
     Ok(())
 }
 
-/// Adds what is neither a condition nor a table.
+/// Appends a part that is neither a condition nor a table.
 pub(crate) fn push(text: &mut String, part: &str) -> Result<(), Memory>
     ensures { OnOk result (Grows (string_bytes text.old) (string_bytes text.new)) }
 {
@@ -20,7 +20,7 @@ pub(crate) fn push(text: &mut String, part: &str) -> Result<(), Memory>
     Ok(())
 }
 
-/// What parts item number n from the former one.
+/// Returns the text before item number n of a list: a comma, but nothing before the first.
 pub(crate) fn comma_before(n: usize) -> &'static str {
     if n == 0 { "" } else { ", " }
 }

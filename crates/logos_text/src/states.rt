@@ -1,4 +1,4 @@
-//! The text of states.
+//! Prints states.
 ghost use Rattle.std.specs.Prelude.{OnOk, map, string_bytes};
 ghost use Rattle.std.specs.List.{flat_map};
 ghost use Rattle.logos_code.specs.CodeView.{state_of};
@@ -13,7 +13,7 @@ use logos_code::code::{CodeParts, CodeState, Config, Mark};
 use logos_token::error::Memory;
 use std::alloc::Global;
 
-/// Adds the fast loop by the test with this number, if there is one.
+/// Appends the fast loop by the test with this number, if there is one.
 fn push_fast_loop(text: &mut String, fast_loop: Option<usize>) -> Result<(), Memory>
     ensures { OnOk result (Grows (string_bytes text.old) (string_bytes text.new)) }
 {
@@ -25,12 +25,12 @@ fn push_fast_loop(text: &mut String, fast_loop: Option<usize>) -> Result<(), Mem
     push(text, " == 0 } _fast_loop ! ( lex , loop_test , offset ) ; ")
 }
 
-/// How far the end of a match is behind the offset.
+/// Returns what to subtract from the offset to get the end of a match: one byte if its mark is late.
 fn distance(late: bool) -> &'static str {
     if late { " - 1" } else { "" }
 }
 
-/// Adds that a match ends here, if the state marks one.
+/// Appends that a match ends here, if the state has a mark.
 fn push_mark(text: &mut String, mark: Option<Mark>) -> Result<(), Memory>
     ensures { OnOk result (Grows (string_bytes text.old) (string_bytes text.new)) }
 {
@@ -46,7 +46,7 @@ fn push_mark(text: &mut String, mark: Option<Mark>) -> Result<(), Memory>
     Ok(())
 }
 
-/// Adds what the root does where nothing was read.
+/// Appends what the root does at the end of the input if no byte was read: it returns `None`.
 fn push_nothing_read(text: &mut String, is_root: bool) -> Result<(), Memory>
     ensures { OnOk result (Grows (string_bytes text.old) (string_bytes text.new)) }
 {
@@ -56,7 +56,7 @@ fn push_nothing_read(text: &mut String, is_root: bool) -> Result<(), Memory>
     push(text, "if lex . offset ( ) == offset { return None } ")
 }
 
-/// Adds where the end of the input leads.
+/// Appends the step of the end of the input, if it leads to a state.
 fn push_at_end(text: &mut String, at_end: Option<usize>, shape: Config) -> Result<(), Memory>
     ensures { OnOk result (Grows (string_bytes text.old) (string_bytes text.new)) }
 {
@@ -68,7 +68,7 @@ fn push_at_end(text: &mut String, at_end: Option<usize>, shape: Config) -> Resul
     push(text, " ")
 }
 
-/// Adds what state number s begins with: an arm of the loop, or the signature of a function.
+/// Appends the start of state number s: a match arm, or the signature of a function.
 fn push_head(text: &mut String, s: usize, names: Names<'_>) -> Result<(), Memory>
     ensures { OnOk result (Grows (string_bytes text.old) (string_bytes text.new)) }
 {
@@ -84,7 +84,7 @@ fn push_head(text: &mut String, s: usize, names: Names<'_>) -> Result<(), Memory
     Ok(())
 }
 
-/// Adds what a state does before it looks at a byte.
+/// Appends what a state does before it looks at a byte.
 fn push_before(
     text: &mut String,
     s: usize,
@@ -102,8 +102,8 @@ fn push_before(
     )
 }
 
-/// Adds what a state does at the end of the input, and what it does where nothing leads on.
-fn push_behind(
+/// Appends what a state does at the end of the input, and what it does when no byte leads on.
+fn push_after(
     text: &mut String,
     is_root: bool,
     at_end: Option<usize>,
@@ -120,7 +120,7 @@ fn push_behind(
     )
 }
 
-/// Adds state number s.
+/// Appends state number s.
 fn push_state(
     alloc: Global,
     text: &mut String,
@@ -134,11 +134,11 @@ fn push_state(
 {
     push_before(text, s, state, names)?;
     push_ways(alloc, text, &state.fork, parts, names.shape)?;
-    push_behind(text, s == parts.root, state.at_end, names.shape)?;
+    push_after(text, s == parts.root, state.at_end, names.shape)?;
     Ok(())
 }
 
-/// Adds the states.
+/// Appends the states, by their numbers.
 pub(crate) fn push_states(
     alloc: Global,
     text: &mut String,
@@ -155,7 +155,7 @@ pub(crate) fn push_states(
     Ok(())
 }
 
-/// Adds the names of states, sorted as texts.
+/// Appends the names of the states, sorted as texts.
 fn push_state_names(alloc: Global, text: &mut String, count: usize) -> Result<(), Memory>
     ensures { OnOk result (Grows (string_bytes text.old) (string_bytes text.new)) }
 {
@@ -166,7 +166,7 @@ fn push_state_names(alloc: Global, text: &mut String, count: usize) -> Result<()
     Ok(())
 }
 
-/// Adds the name of a state, with a comma in front of all but the first.
+/// Appends the name of a state, with a comma before all but the first.
 fn push_state_name(text: &mut String, n: usize, name: &str) -> Result<(), Memory>
     ensures { OnOk result (Grows (string_bytes text.old) (string_bytes text.new)) }
 {
@@ -175,7 +175,7 @@ fn push_state_name(text: &mut String, n: usize, name: &str) -> Result<(), Memory
     Ok(())
 }
 
-/// The names of this many states, sorted as texts.
+/// Returns the names of `count` states, sorted as texts.
 fn state_names(alloc: Global, count: usize) -> Result<Vec<String>, Memory> {
     let mut names = Vec::new(alloc);
     for s in 0..count {
@@ -185,7 +185,7 @@ fn state_names(alloc: Global, count: usize) -> Result<Vec<String>, Memory> {
     Ok(names)
 }
 
-/// Adds what stands in front of the states.
+/// Appends the text before the states: nothing in the shape with a function for each state.
 pub(crate) fn push_opening(
     alloc: Global,
     text: &mut String,
@@ -207,7 +207,7 @@ pub(crate) fn push_opening(
     Ok(())
 }
 
-/// Adds what stands behind the states.
+/// Appends the text after the states.
 pub(crate) fn push_closing(text: &mut String, root: usize, shape: Config) -> Result<(), Memory>
     ensures { OnOk result (Grows (string_bytes text.old) (string_bytes text.new)) }
 {

@@ -1,4 +1,4 @@
-//! The text of bit tables.
+//! Prints bit tables.
 ghost use Rattle.std.specs.Prelude.{◌≡◌, ◌++◌, ◌∷◌, [], OnOk, codes, string_bytes};
 ghost use Rattle.std.specs.List.{flat_map, join_by};
 ghost use Rattle.logos_text.specs.Texts.{entry_text, table_text, table_texts};
@@ -7,7 +7,7 @@ ghost use Rattle.logos_text.specs.Standing.{Adds};
 use crate::pieces::{push, push_str};
 use logos_token::error::Memory;
 
-/// Adds an entry.
+/// Appends an entry.
 fn push_entry(text: &mut String, entry: u8) -> Result<(), Memory>
     ensures { OnOk result (string_bytes text.new ≡ string_bytes text.old ++ entry_text entry) }
 {
@@ -15,7 +15,7 @@ fn push_entry(text: &mut String, entry: u8) -> Result<(), Memory>
     Ok(())
 }
 
-/// Adds an entry behind a former one.
+/// Appends a comma and an entry.
 fn push_next_entry(text: &mut String, entry: u8) -> Result<(), Memory>
     ensures { OnOk result (string_bytes text.new
         ≡ string_bytes text.old ++ codes " , " ++ entry_text entry) }
@@ -24,7 +24,7 @@ fn push_next_entry(text: &mut String, entry: u8) -> Result<(), Memory>
     push_entry(text, entry)
 }
 
-/// Adds entries behind a former one.
+/// Appends entries, each after a comma.
 fn push_next_entries(text: &mut String, entries: &[u8]) -> Result<(), Memory>
     ensures { OnOk result (string_bytes text.new ≡ string_bytes text.old
         ++ flat_map (λ entry. codes " , " ++ entry_text entry) entries.now) }
@@ -35,7 +35,7 @@ fn push_next_entries(text: &mut String, entries: &[u8]) -> Result<(), Memory>
     Ok(())
 }
 
-/// Adds the entries, with commas between them.
+/// Appends the entries, with commas between them.
 fn push_entries(text: &mut String, entries: &[u8]) -> Result<(), Memory>
     ensures { OnOk result (string_bytes text.new
         ≡ string_bytes text.old ++ join_by entry_text (codes " , ") entries.now) }
@@ -47,7 +47,7 @@ fn push_entries(text: &mut String, entries: &[u8]) -> Result<(), Memory>
     push_next_entries(text, rest)
 }
 
-/// Adds the bit table with this number.
+/// Appends the bit table with this number.
 fn push_table(text: &mut String, n: usize, entries: &[u8; 256]) -> Result<(), Memory>
     ensures { OnOk result (string_bytes text.new
         ≡ string_bytes text.old ++ table_text n entries.now) }
@@ -58,7 +58,7 @@ fn push_table(text: &mut String, n: usize, entries: &[u8; 256]) -> Result<(), Me
     Ok(())
 }
 
-/// Adds a table, and a space.
+/// Appends a table, and a space.
 fn push_next_table(text: &mut String, n: usize, entries: &[u8; 256]) -> Result<(), Memory>
     ensures { OnOk result (Adds (table_text n entries.now ∷ []) (string_bytes text.old)
         (string_bytes text.new)) }
@@ -68,7 +68,7 @@ fn push_next_table(text: &mut String, n: usize, entries: &[u8; 256]) -> Result<(
     Ok(())
 }
 
-/// Adds the bit tables.
+/// Appends the bit tables, by their numbers.
 pub(crate) fn push_tables(text: &mut String, tables: &[[u8; 256]]) -> Result<(), Memory>
     ensures { OnOk result (Adds (table_texts 0 tables.now) (string_bytes text.old)
         (string_bytes text.new)) }

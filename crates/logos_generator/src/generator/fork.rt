@@ -1,4 +1,4 @@
-//! Forks of states, and their fast loops.
+//! Makes forks and fast loops.
 ghost use Rattle.std.specs.Prelude.{◌≡◌, ◌<◌, ◌≤◌, ◌↔◌, ◌&&◌, ◌==◌, ℕ, true, IfOk, OnOk};
 ghost use Rattle.std.specs.Prelude.{OnErr, IsTrue, [], ◌∷◌, length, map, option_map};
 ghost use Rattle.std.specs.Prelude.{find, nat_le, slice_index, None};
@@ -14,6 +14,7 @@ ghost use Rattle.logos_generator.specs.Numbering.{branch_uses, fork_uses};
 ghost use Rattle.logos_generator.specs.Numbering.{fork_tables, jump_table, with_tables};
 ghost use Rattle.logos_generator.specs.StateView.{AddsBranch};
 
+use super::node_tables::NodeTables;
 use super::tests_by_bits::add_test;
 use indexmap::IndexSet;
 use logos_byte_class::byte_class::{ByteClass, Comparisons};
@@ -55,27 +56,26 @@ fn edge_back<'e>(edges: &'e [(ByteClass, State)], state: usize) -> Option<&'e By
 /// Makes the fork of a state, without the edge back to it: a table for more than two edges, else conditions.
 pub(super) fn impl_fork(
     alloc: Global,
-    tests: &mut IndexSet<[bool; 256]>,
-    jumps: &mut IndexSet<[u32; 256]>,
+    tables: &mut NodeTables,
     edges: &[(ByteClass, State)],
     state: usize,
 ) -> Result<Fork, AllocError>
     requires separated { All (λ edge. AreSeparated (ranges_of edge.0)) edges.now }
     requires targets { All (λ edge. state_number edge.1 < 4294967295) edges.now }
-    ensures tests { Extends tests.old.keys tests.new.keys }
-    ensures jumps { Extends jumps.old.keys jumps.new.keys }
+    ensures tests { Extends tables.old.tests.keys tables.new.tests.keys }
+    ensures jumps { Extends tables.old.jumps.keys tables.new.jumps.keys }
     ensures is { IfOk result (λ fork.
-        IsForkOf tests.new.keys state (map edge_of edges.now) (fork_of jumps.new.keys fork)) }
-    ensures numbers { OnOk result (tests.new.keys
-        ≡ numbered tests.old.keys (fork_uses state (map edge_of edges.now))) }
-    ensures tables { OnOk result (jumps.new.keys
-        ≡ with_tables jumps.old.keys (fork_tables state (map edge_of edges.now))) }
+        IsForkOf tables.new.tests.keys state (map edge_of edges.now) (fork_of tables.new.jumps.keys fork)) }
+    ensures numbers { OnOk result (tables.new.tests.keys
+        ≡ numbered tables.old.tests.keys (fork_uses state (map edge_of edges.now))) }
+    ensures tables { OnOk result (tables.new.jumps.keys
+        ≡ with_tables tables.old.jumps.keys (fork_tables state (map edge_of edges.now))) }
 {
     if edges.len() > 2 {
-        let (k, _) = jumps.insert_full(table_of(edges, state))?;
+        let (k, _) = tables.jumps.insert_full(table_of(edges, state))?;
         return Ok(Fork::Table(k));
     }
-    Ok(Fork::Conditions(conditions_of(alloc, tests, edges, state)?))
+    Ok(Fork::Conditions(conditions_of(alloc, &mut tables.tests, edges, state)?))
 }
 
 /// Returns the jump table of a state's edges, without the edge back to it.

@@ -1,4 +1,4 @@
-//! The nodes of a code, one by one.
+//! Makes the nodes of a code one by one.
 ghost use Rattle.std.specs.Prelude.{◌≡◌, ◌≤◌, ◌<◌, OnOk, OnErr, IfOk, length};
 ghost use Rattle.logos_byte_class.specs.Bytes.{ranges_of};
 ghost use Rattle.logos_graph.specs.GraphView.{graph_state_of, state_number};
@@ -25,7 +25,7 @@ pub struct FastLoop {
     pub test: usize,
 }
 
-/// What is done where nothing leads on; a match that is left out begins the next try in this state.
+/// The macro that ends a try. After a match that is skipped, the next try begins in the state with this number.
 #[derive(Clone, Copy, Debug, PartialEq, Eq)]
 pub struct TakeAction {
     pub restart: usize,
@@ -37,7 +37,7 @@ pub struct FastLoopMacro {
     pub unroll_factor: usize,
 }
 
-/// The macro of fast loops over blocks of this many bytes, at least one.
+/// Returns the macro of fast loops over blocks of this many bytes, which must be at least one.
 pub fn fast_loop_macro(unroll_factor: usize) -> FastLoopMacro
     requires { 1 ≤ unroll_factor }
     ensures { result ≡ record { unroll_factor = unroll_factor } }
@@ -64,18 +64,12 @@ impl<'s> Generator<'_, 's> {
         ensures error { OnErr result (self.new ≡ self.old) }
     {
         let left_out = left_out(ignore_self, state.index());
-        let (tests, jumps) = (self.tests.len(), self.jumps.len());
-        match impl_fork(
-            alloc,
-            &mut self.tests,
-            &mut self.jumps,
-            &state_data.normal,
-            left_out,
-        ) {
+        let (tests, jumps) = (self.tables.tests.len(), self.tables.jumps.len());
+        match impl_fork(alloc, &mut self.tables, &state_data.normal, left_out) {
             Ok(fork) => Ok(fork),
             Err(_) => {
-                self.tests.truncate(tests);
-                self.jumps.truncate(jumps);
+                self.tables.tests.truncate(tests);
+                self.tables.jumps.truncate(jumps);
                 Err(Memory)
             }
         }
@@ -96,7 +90,7 @@ impl<'s> Generator<'_, 's> {
         ensures error { OnErr result (self.new ≡ self.old) }
     {
         let data = self.graph.get_state(state);
-        match maybe_impl_fast_loop(&mut self.tests, &data.normal, state.index())? {
+        match maybe_impl_fast_loop(&mut self.tables.tests, &data.normal, state.index())? {
             Some(test) => Ok(Some(FastLoop { test })),
             None => Ok(None),
         }
@@ -115,11 +109,11 @@ impl<'s> Generator<'_, 's> {
         ensures is { IfOk result (MakesLoopOver self.old self.new (ranges_of self_edge.now)) }
         ensures error { OnErr result (self.new ≡ self.old) }
     {
-        let test = add_test(&mut self.tests, self_edge)?;
+        let test = add_test(&mut self.tables.tests, self_edge)?;
         Ok(FastLoop { test })
     }
 
-    /// Makes a code's leaf of a leaf: its kind, and a copy of its callback.
+    /// Returns the code's leaf for a leaf: its kind, and a copy of its callback.
     ///
     /// # Errors
     /// Returns `Memory` when memory runs out.
@@ -129,7 +123,7 @@ impl<'s> Generator<'_, 's> {
         Ok(leaf_made(leaf)?)
     }
 
-    /// Returns what is done where nothing leads on.
+    /// Returns the macro that ends a try.
     pub fn take_action_macro(&self) -> TakeAction
         ensures { result ≡ record { restart = 0 } }
     {
@@ -143,7 +137,7 @@ impl<'s> Generator<'_, 's> {
     pub fn render_luts(&self, alloc: Global) -> Result<Vec<[u8; 256]>, Memory>
         ensures { IfOk result (λ tables. tables.items ≡ bit_tables_of self.now.tests) }
     {
-        Ok(tables_of(alloc, self.tests.as_slice())?)
+        Ok(tables_of(alloc, self.tables.tests.as_slice())?)
     }
 
     /// Returns the jump tables of all forks made so far, by their numbers: after `generate`, those of the code. An entry is the number
@@ -154,11 +148,12 @@ impl<'s> Generator<'_, 's> {
     pub fn render_jump_tables(&self, alloc: Global) -> Result<Vec<[u32; 256]>, Memory>
         ensures { IfOk result (λ tables. tables.items ≡ self.now.jumps) }
     {
-        Ok(Vec::from_slice(alloc, self.jumps.as_slice())?)
+        Ok(Vec::from_slice(alloc, self.tables.jumps.as_slice())?)
     }
 }
 
-/// The target whose edge is left out of a fork; no state has the other number.
+/// Returns the number of the state to which a fork has no edge: the state itself if `ignore_self` holds, else a number that no state
+/// has.
 fn left_out(ignore_self: bool, state: usize) -> usize
     ensures { result ≡ left_out ignore_self state }
 {

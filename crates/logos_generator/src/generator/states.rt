@@ -1,4 +1,4 @@
-//! The states of a code, made of a graph's states.
+//! Makes the states of a code from those of a graph.
 ghost use Rattle.std.specs.Prelude.{◌≡◌, ◌<◌, [], IfOk, OnOk, length, map, option_map};
 ghost use Rattle.std.specs.List.{All, range_with_len};
 ghost use Rattle.logos_generator.specs.Runs.{RunsAs};
@@ -17,28 +17,27 @@ ghost use Rattle.logos_generator.specs.StateView.{leaf_use, AreStatesOf, AreTabl
 
 use super::fork::{impl_fork, maybe_impl_fast_loop};
 use super::leaves::leaves_of;
+use super::node_tables::NodeTables;
 use super::tests_by_bits::tables_of;
-use indexmap::IndexSet;
 use logos_code::code::{Code, CodeParts, CodeState, Kept, Mark};
 use logos_code::make_code;
 use logos_graph::graph::{Graph, State, StateData, StateType, States};
 use std::alloc::{AllocError, Global};
 
-/// Makes the code of a graph. Its tests and jump tables go into empty sets, in the order of their numbers.
+/// Makes the code of a graph. Its tests and jump tables are added to empty tables.
 pub(super) fn code_of<'s>(
     alloc: Global,
-    tests: &mut IndexSet<[bool; 256]>,
-    jumps: &mut IndexSet<[u32; 256]>,
+    tables: &mut NodeTables,
     kept: Kept<'s>,
     graph: &Graph<'s>,
     states: States,
 ) -> Result<Code<'s>, AllocError>
     requires finished { IsFinished graph.now.states (length graph.now.leaves) }
     requires states { states_left states ≡ range_with_len 0 (length graph.now.states) }
-    requires tests { tests.old.keys ≡ [] }
-    requires jumps { jumps.old.keys ≡ [] }
-    ensures tests { OnOk result (tests.new.keys ≡ tests_of graph.now.states) }
-    ensures jumps { OnOk result (jumps.new.keys ≡ jump_tables_of graph.now.states) }
+    requires tests { tables.old.tests.keys ≡ [] }
+    requires jumps { tables.old.jumps.keys ≡ [] }
+    ensures tests { OnOk result (tables.new.tests.keys ≡ tests_of graph.now.states) }
+    ensures jumps { OnOk result (tables.new.jumps.keys ≡ jump_tables_of graph.now.states) }
     ensures nodes { IfOk result (HasNodesOf graph.now.states) }
     ensures runs { IfOk result (λ code. RunsAs graph.now.states graph.now.utf8 code) }
     ensures mode { IfOk result (λ code. code.utf8 ≡ graph.now.utf8) }
@@ -47,13 +46,13 @@ pub(super) fn code_of<'s>(
     ensures kept_leaves { IfOk result
         (λ code. map code_leaf_value code.kept_leaves ≡ map leaf_value graph.now.leaves) }
 {
-    let tables = tables_made(alloc, tests, jumps, graph, states)?;
+    let made = tables_made(alloc, tables, graph, states)?;
     let leaves = leaves_of(alloc, graph.leaves())?;
     let parts = CodeParts {
         kept,
-        states: tables.states,
-        bit_tables: tables.bit_tables,
-        jump_tables: tables.jump_tables,
+        states: made.states,
+        bit_tables: made.bit_tables,
+        jump_tables: made.jump_tables,
         leaves,
         root: 0,
         utf8: graph.utf8_mode(),
@@ -61,7 +60,7 @@ pub(super) fn code_of<'s>(
     make_code(alloc, parts)
 }
 
-/// The states of a code, and the tables that they name.
+/// The states of a code, and the tables that they use.
 #[derive(Drop)]
 struct Tables {
     states: Vec<CodeState>,
@@ -72,23 +71,22 @@ struct Tables {
 /// Makes the states of the code, and their tables.
 fn tables_made(
     alloc: Global,
-    tests: &mut IndexSet<[bool; 256]>,
-    jumps: &mut IndexSet<[u32; 256]>,
+    tables: &mut NodeTables,
     graph: &Graph,
     states: States,
 ) -> Result<Tables, AllocError>
     requires codable { All IsCodable graph.now.states }
     requires states { states_left states ≡ range_with_len 0 (length graph.now.states) }
-    requires tests { tests.old.keys ≡ [] }
-    requires jumps { jumps.old.keys ≡ [] }
-    ensures tests { OnOk result (tests.new.keys ≡ tests_of graph.now.states) }
-    ensures jumps { OnOk result (jumps.new.keys ≡ jump_tables_of graph.now.states) }
+    requires tests { tables.old.tests.keys ≡ [] }
+    requires jumps { tables.old.jumps.keys ≡ [] }
+    ensures tests { OnOk result (tables.new.tests.keys ≡ tests_of graph.now.states) }
+    ensures jumps { OnOk result (tables.new.jumps.keys ≡ jump_tables_of graph.now.states) }
     ensures tables { IfOk result (λ tables. AreTablesOf graph.now.states tables.states.items
         tables.bit_tables.items tables.jump_tables.items) }
 {
-    let states = states_of(alloc, tests, jumps, graph, states)?;
-    let bit_tables = tables_of(alloc, tests.as_slice())?;
-    let jump_tables = Vec::from_slice(alloc, jumps.as_slice())?;
+    let states = states_of(alloc, tables, graph, states)?;
+    let bit_tables = tables_of(alloc, tables.tests.as_slice())?;
+    let jump_tables = Vec::from_slice(alloc, tables.jumps.as_slice())?;
     Ok(Tables {
         states,
         bit_tables,
@@ -99,23 +97,22 @@ fn tables_made(
 /// Makes the states of the code, in the order of the graph's states.
 fn states_of(
     alloc: Global,
-    tests: &mut IndexSet<[bool; 256]>,
-    jumps: &mut IndexSet<[u32; 256]>,
+    tables: &mut NodeTables,
     graph: &Graph,
     states: States,
 ) -> Result<Vec<CodeState>, AllocError>
     requires codable { All IsCodable graph.now.states }
     requires states { states_left states ≡ range_with_len 0 (length graph.now.states) }
     ensures are { IfOk result (λ made.
-        AreStatesOf tests.new.keys jumps.new.keys graph.now.states made.items) }
-    ensures numbers { OnOk result (tests.new.keys
-        ≡ numbered tests.old.keys (uses_from 0 graph.now.states)) }
-    ensures tables { OnOk result (jumps.new.keys
-        ≡ with_tables jumps.old.keys (tables_from 0 graph.now.states)) }
+        AreStatesOf tables.new.tests.keys tables.new.jumps.keys graph.now.states made.items) }
+    ensures numbers { OnOk result (tables.new.tests.keys
+        ≡ numbered tables.old.tests.keys (uses_from 0 graph.now.states)) }
+    ensures tables { OnOk result (tables.new.jumps.keys
+        ≡ with_tables tables.old.jumps.keys (tables_from 0 graph.now.states)) }
 {
     let mut made = Vec::new(alloc);
     for state in states {
-        made.push(state_made(alloc, tests, jumps, graph.get_state(state), state.index())?)?;
+        made.push(state_made(alloc, tables, graph.get_state(state), state.index())?)?;
     }
     Ok(made)
 }
@@ -123,23 +120,22 @@ fn states_of(
 /// Makes a state of the code from state `s` of the graph.
 fn state_made(
     alloc: Global,
-    tests: &mut IndexSet<[bool; 256]>,
-    jumps: &mut IndexSet<[u32; 256]>,
+    tables: &mut NodeTables,
     state: &StateData,
     s: usize,
 ) -> Result<CodeState, AllocError>
     requires { IsCodable (graph_state_of state.now) }
-    ensures tests { OnOk result (Extends tests.old.keys tests.new.keys) }
-    ensures jumps { OnOk result (Extends jumps.old.keys jumps.new.keys) }
+    ensures tests { OnOk result (Extends tables.old.tests.keys tables.new.tests.keys) }
+    ensures jumps { OnOk result (Extends tables.old.jumps.keys tables.new.jumps.keys) }
     ensures is { IfOk result (λ made.
-        IsStateOf tests.new.keys s (graph_state_of state.now) (state_of jumps.new.keys made)) }
-    ensures numbers { OnOk result (tests.new.keys
-        ≡ numbered tests.old.keys (state_uses s (graph_state_of state.now).normal)) }
-    ensures tables { OnOk result (jumps.new.keys
-        ≡ with_tables jumps.old.keys (fork_tables s (graph_state_of state.now).normal)) }
+        IsStateOf tables.new.tests.keys s (graph_state_of state.now) (state_of tables.new.jumps.keys made)) }
+    ensures numbers { OnOk result (tables.new.tests.keys
+        ≡ numbered tables.old.tests.keys (state_uses s (graph_state_of state.now).normal)) }
+    ensures tables { OnOk result (tables.new.jumps.keys
+        ≡ with_tables tables.old.jumps.keys (fork_tables s (graph_state_of state.now).normal)) }
 {
-    let fast_loop = maybe_impl_fast_loop(tests, &state.normal, s)?;
-    let fork = impl_fork(alloc, tests, jumps, &state.normal, s)?;
+    let fast_loop = maybe_impl_fast_loop(&mut tables.tests, &state.normal, s)?;
+    let fork = impl_fork(alloc, tables, &state.normal, s)?;
     Ok(CodeState {
         fast_loop,
         mark: mark_made(&state.state_type),

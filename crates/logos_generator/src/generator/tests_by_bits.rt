@@ -1,4 +1,4 @@
-//! Tests of bytes by bits of tables.
+//! Makes tests of bytes by the bits of tables.
 ghost use Rattle.std.specs.Prelude.{◌≡◌, ◌+◌, ◌*◌, ◌<◌, ◌≤◌, ◌/◌, ◌∷◌, [], ℕ, Some};
 ghost use Rattle.std.specs.Prelude.{IfOk, OnOk, OnErr, length, slice_get, if◌then◌else◌};
 ghost use Rattle.std.specs.Bool.{beq};
@@ -13,7 +13,7 @@ use indexmap::IndexSet;
 use logos_byte_class::byte_class::ByteClass;
 use std::alloc::{AllocError, Global};
 
-/// The number of the test for the bytes of the class. Classes with the same bytes share it.
+/// Returns the number of the test for the bytes of the class, and adds the test if it is new. Classes with the same bytes share a test.
 pub(super) fn add_test(
     tests: &mut IndexSet<[bool; 256]>,
     class: &ByteClass,
@@ -28,7 +28,7 @@ pub(super) fn add_test(
     Ok(k)
 }
 
-/// The number of the test for these bytes.
+/// Returns the number of the test for this set of bytes, and adds the test if it is new.
 fn add_set(tests: &mut IndexSet<[bool; 256]>, set: [bool; 256]) -> Result<usize, AllocError>
     ensures long { length set ≡ 256 }
     ensures keys { OnOk result (tests.new.keys ≡ insert_key (pointwise beq) tests.old.keys set) }
@@ -39,7 +39,7 @@ fn add_set(tests: &mut IndexSet<[bool; 256]>, set: [bool; 256]) -> Result<usize,
     Ok(k)
 }
 
-/// The tables of all tests: test k is bit k mod 8 of table k / 8.
+/// Returns the tables of all tests: test k is bit k mod 8 of table k / 8.
 pub(super) fn tables_of(alloc: Global, tests: &[[bool; 256]]) -> Result<Vec<[u8; 256]>, AllocError>
     ensures tests { IfOk result (λ tables. (k b : ℕ) → b < 256 →
         passes_test tables.items k b ≡ tests_byte tests.now k b) }
@@ -53,7 +53,7 @@ pub(super) fn tables_of(alloc: Global, tests: &[[bool; 256]]) -> Result<Vec<[u8;
     Ok(tables)
 }
 
-/// Table j.
+/// Returns table j.
 fn table_at(tests: &[[bool; 256]], j: usize) -> [u8; 256]
     requires { 8 * j < length tests.now }
     ensures { result ≡ bit_table tests.now j }
@@ -65,7 +65,7 @@ fn table_at(tests: &[[bool; 256]], j: usize) -> [u8; 256]
     table
 }
 
-/// The entry of table j for a byte: bit i is the test 8 * j + i.
+/// Returns the entry of table j for the byte `b`: bit i is test 8 * j + i.
 fn entry_of(tests: &[[bool; 256]], j: usize, b: usize) -> u8
     requires table { 8 * j < length tests.now }
     requires byte { b < 256 }
@@ -78,7 +78,7 @@ fn entry_of(tests: &[[bool; 256]], j: usize, b: usize) -> u8
     bits
 }
 
-/// Whether the test with this number holds for the byte, as a bit.
+/// Returns the bit of test number `k` for the byte `b`: 1 if there is such a test and it holds, else 0.
 fn bit_of(tests: &[[bool; 256]], k: usize, b: usize) -> u8
     requires { b < 256 }
     ensures { result ≡ (if tests_byte tests.now k b then 1 else 0) }

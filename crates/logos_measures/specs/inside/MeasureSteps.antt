@@ -1,4 +1,4 @@
--- Words for the steps of the measures.
+-- The steps of the measures.
 use Rattle.std.specs.Prelude.{ℕ, min}
 use Rattle.logos_hir.specs.Tree.{Trees, none, also}
 use Rattle.logos_measures.specs.Priority.{value}

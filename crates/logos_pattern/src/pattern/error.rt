@@ -1,3 +1,3 @@
-//! Why a pattern could not be read.
+//! The faults of a pattern.
 
 pub use logos_pattern_tokens::error::{Kind, PatternError};

@@ -1,4 +1,4 @@
-//! String literals with their values.
+//! The literals of patterns, with their values.
 
 ghost use Rattle.std.specs.Prelude.{◌≡◌, ◌<◌, ◌++◌, OnOk, string_bytes};
 ghost use Rattle.std.specs.List.{flat_map};
@@ -10,14 +10,14 @@ use logos_token::token;
 use logos_token::token::{LiteralValue, Span};
 use std::alloc::{AllocError, Global};
 
-/// A string and its value.
+/// A string literal and its value.
 #[derive(Drop)]
 pub struct StringLiteral<'s> {
     token: token::Literal<'s>,
     value: String,
 }
 
-/// A byte string and its value.
+/// A byte string literal and its value.
 #[derive(Drop)]
 pub struct ByteStringLiteral<'s> {
     token: token::Literal<'s>,
@@ -27,13 +27,13 @@ pub struct ByteStringLiteral<'s> {
 /// The literal of a `token`, `regex` or `skip`.
 #[derive(Drop)]
 pub enum Literal<'s> {
-    /// A string, which speaks of characters.
+    /// A string: its pattern matches characters.
     Utf8(StringLiteral<'s>),
-    /// A byte string, which speaks of bytes.
+    /// A byte string: its pattern matches bytes.
     Bytes(ByteStringLiteral<'s>),
 }
 
-/// Whether the character has a meaning of its own in a pattern.
+/// Returns whether the character means something other than itself in a pattern.
 fn is_metacharacter(character: char) -> bool
     ensures { result ≡ is_metacharacter character }
 {
@@ -43,7 +43,7 @@ fn is_metacharacter(character: char) -> bool
     .contains(&character)
 }
 
-/// A hexadecimal digit.
+/// Returns a hexadecimal digit in upper case.
 fn upper_digit(value: u8) -> char
     requires { value < 16 }
     ensures { result ≡ upper_digit value }
@@ -54,7 +54,7 @@ fn upper_digit(value: u8) -> char
     char::from(b'A' + (value - 10))
 }
 
-/// Adds a character that is to stand for itself.
+/// Pushes the text of a pattern that matches the character alone.
 fn push_character(text: &mut String, character: char) -> Result<(), AllocError>
     ensures { OnOk result (string_bytes text.new ≡
         string_bytes text.old ++ escaped_character character) }
@@ -65,7 +65,7 @@ fn push_character(text: &mut String, character: char) -> Result<(), AllocError>
     text.push(character)
 }
 
-/// Adds the characters of a string, which are to stand for themselves.
+/// Pushes the text of a pattern that matches the string alone.
 fn push_text(text: &mut String, value: &str) -> Result<(), AllocError>
     ensures { OnOk result (string_bytes text.new ≡
         string_bytes text.old ++ flat_map escaped_character (chars value.now)) }
@@ -76,7 +76,8 @@ fn push_text(text: &mut String, value: &str) -> Result<(), AllocError>
     Ok(())
 }
 
-/// Adds a byte of a byte string.
+/// Pushes a byte of a byte string as the text of a pattern. If `literal` holds, that pattern matches the byte
+/// alone.
 fn push_byte(text: &mut String, literal: bool, byte: u8) -> Result<(), AllocError>
     ensures { OnOk result (string_bytes text.new ≡
         string_bytes text.old ++ escaped_byte literal byte) }
@@ -92,7 +93,8 @@ fn push_byte(text: &mut String, literal: bool, byte: u8) -> Result<(), AllocErro
     text.push(char::from(byte))
 }
 
-/// Adds the bytes of a byte string.
+/// Pushes the bytes of a byte string as the text of a pattern. If `literal` holds, that pattern matches these
+/// bytes alone.
 fn push_bytes(text: &mut String, literal: bool, value: &[u8]) -> Result<(), AllocError>
     ensures { OnOk result (string_bytes text.new ≡
         string_bytes text.old ++ escaped_bytes literal value.now) }
@@ -108,8 +110,11 @@ impl<'s> Literal<'s> {
     ghost use Rattle.logos_token.specs.LiteralValues.{IsValue};
     ghost use Rattle.logos_pattern.specs.Literals.{token_of, held_value, is_unicode, held_bytes, escaped};
 
-    /// The string or byte string that a token is, with its value. `None` where it is another
-    /// literal. A suffix is left to the caller. It fails only where there is no memory.
+    /// Reads the value of a token that is a string or a byte string. Returns `None` for any other literal. Does not
+    /// look at the token's suffix.
+    ///
+    /// # Errors
+    /// Returns `Memory` when memory runs out.
     pub fn read(alloc: Global, token: &token::Literal<'s>) -> Result<Option<Literal<'s>>, Memory>
         ensures token { IfOk result (λ read. IfSome read (λ literal. token_of literal ≡
             token.now)) }
@@ -128,7 +133,7 @@ impl<'s> Literal<'s> {
         }
     }
 
-    /// The token as it stands in the source.
+    /// Returns the token that the literal was read from.
     pub fn token(&self) -> token::Literal<'s>
         ensures { result ≡ token_of self.now }
     {
@@ -138,7 +143,7 @@ impl<'s> Literal<'s> {
         }
     }
 
-    /// Whether it is a string, and no byte string.
+    /// Returns whether the literal is a string, so that its pattern matches characters.
     pub fn unicode(&self) -> bool
         ensures { result ≡ is_unicode self.now }
     {
@@ -148,14 +153,14 @@ impl<'s> Literal<'s> {
         }
     }
 
-    /// Where it stands in the source.
+    /// Returns the literal's span in the source, in bytes.
     pub fn span(&self) -> Span
         ensures { result ≡ (token_of self.now).span }
     {
         self.token().span
     }
 
-    /// The bytes that it holds: of a string the UTF-8 of its value.
+    /// Returns the bytes of the literal's value. Those of a string are its UTF-8.
     pub fn value(&self) -> &[u8]
         ensures { result.now ≡ held_bytes self.now }
     {
@@ -165,9 +170,12 @@ impl<'s> Literal<'s> {
         }
     }
 
-    /// The value as the text of a pattern: of a byte string each byte above 7F stands as `\xNN`.
-    /// With `literal` a `\` stands before each of ``\ . + * ? ( ) | [ ] { } ^ $ # & - ~``, so that
-    /// the pattern matches the value and nothing else. It fails only where there is no memory.
+    /// Returns the value as the text of a pattern, in which each byte of a byte string above 7F is `\xNN`. If
+    /// `literal` holds, each of ``\ . + * ? ( ) | [ ] { } ^ $ # & - ~`` has a `\` before it, so that the pattern
+    /// matches the value and nothing else.
+    ///
+    /// # Errors
+    /// Returns `Memory` when memory runs out.
     pub fn escape(&self, alloc: Global, literal: bool) -> Result<String, Memory>
         ensures { IfOk result (λ text. string_bytes text ≡ escaped self.now literal) }
     {

@@ -14,4 +14,4 @@ continued old start new e h = subst (λ (v : GeneratorValue). Continues v new) e
 pub returns-clause-continues : goal.returns-clause-continues
 returns-clause-continues c =
     whatever_is_given c.match-branch-2.result _
-    (continued _ _ _ c.self.view_is (record { given = refl; graph = refl; tests = c.in_ok-test.ensures.grows; jumps = ([], sym (append-nil c.self.inside.jumps.keys)) }))
+    (continued _ _ _ c.self.view_is (record { given = refl; graph = refl; tests = c.in_ok-test.ensures.grows; jumps = ([], sym (append-nil c.self.inside.tables.jumps.keys)) }))

@@ -25,7 +25,7 @@ returns-then-edges-gt2-clause-is c =
     )
 
 pub returns-then-edges-gt2-clause-jumps : goal.returns-then-edges-gt2-clause-jumps
-returns-then-edges-gt2-clause-jumps c = rw c.in_ok-k.ensures.keys (tables_grow c.args.jumps.now.keys c.table_of.result)
+returns-then-edges-gt2-clause-jumps c = rw c.in_ok-k.ensures.keys (tables_grow c.args.tables.now.jumps.keys c.table_of.result)
 
 -- there are more than two edges
 many : (edges : List (ByteClass × State)) → 2 < length edges → nat_le (length (map edge_of edges)) 2 ≡ false

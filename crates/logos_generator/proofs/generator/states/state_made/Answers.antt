@@ -18,7 +18,7 @@ impl_fork-requires-clause-targets c =
 
 pub returns-clause-is : goal.returns-clause-is
 returns-clause-is c = record {
-  fast_loop = IsLoopOf-later c.maybe_impl_fast_loop.new.tests.keys c.impl_fork.new.tests.keys c.in_ok-fork.ensures.tests c.args.s
+  fast_loop = IsLoopOf-later c.maybe_impl_fast_loop.new.tests.keys c.impl_fork.new.tables.tests.keys c.in_ok-fork.ensures.tests c.args.s
       (map edge_of c.args.state.now.normal.items) _ (rw c.deref.ensures.value at c.in_ok-fast_loop.ensures.is);
   mark = c.mark_made.ensures;
   fork = rw c.deref-2.ensures.value at c.in_ok-fork.ensures.is;
@@ -28,9 +28,9 @@ returns-clause-is c = record {
 pub returns-clause-numbers : goal.returns-clause-numbers
 returns-clause-numbers c =
     let edges = map edge_of c.args.state.now.normal.items in
-    let first : c.maybe_impl_fast_loop.new.tests.keys ≡ numbered c.args.tests.now.keys (loop_uses c.args.s edges) = rw c.deref.ensures.value at c.in_ok-fast_loop.ensures.numbers in
-    let second : c.impl_fork.new.tests.keys ≡ numbered c.maybe_impl_fast_loop.new.tests.keys (fork_uses c.args.s edges) = rw c.deref-2.ensures.value at c.in_ok-fork.ensures.numbers in
-    second ∙ ap (λ tests. numbered tests (fork_uses c.args.s edges)) first ∙ sym (numbered_both c.args.tests.now.keys (loop_uses c.args.s edges) (fork_uses c.args.s edges))
+    let first : c.maybe_impl_fast_loop.new.tests.keys ≡ numbered c.args.tables.now.tests.keys (loop_uses c.args.s edges) = rw c.deref.ensures.value at c.in_ok-fast_loop.ensures.numbers in
+    let second : c.impl_fork.new.tables.tests.keys ≡ numbered c.maybe_impl_fast_loop.new.tests.keys (fork_uses c.args.s edges) = rw c.deref-2.ensures.value at c.in_ok-fork.ensures.numbers in
+    second ∙ ap (λ tests. numbered tests (fork_uses c.args.s edges)) first ∙ sym (numbered_both c.args.tables.now.tests.keys (loop_uses c.args.s edges) (fork_uses c.args.s edges))
 
 pub returns-clause-tables : goal.returns-clause-tables
 returns-clause-tables c = rw c.deref-2.ensures.value at c.in_ok-fork.ensures.tables

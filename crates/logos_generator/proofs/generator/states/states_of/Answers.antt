@@ -48,20 +48,20 @@ loop-state-preserved c =
     let t = YieldsList-turn (road (length c.args.graph.now.states) c.requires.states cc) c.loop-state.yielded _ c.loop-state.yielded_by _ _ c.in-Some.state c.in-Some.is c.next.ensures.steps in
     let n = number_at (length c.args.graph.now.states) (length c.loop-state.yielded) (state_number c.in-Some.state) t in
     let made = c.in_ok-state_made.ensures in
-    let here = subst (λ s. IsStateOf c.state_made.new.tests.keys s (graph_state_of c.get_state.result.now) (state_of c.state_made.new.jumps.keys c.in_ok-state_made.field-0)) (c.index.ensures ∙ n.0) made.is in
+    let here = subst (λ s. IsStateOf c.state_made.new.tables.tests.keys s (graph_state_of c.get_state.result.now) (state_of c.state_made.new.tables.jumps.keys c.in_ok-state_made.field-0)) (c.index.ensures ∙ n.0) made.is in
     let items = c.in_ok-push.ensures.items in
     let count = c.loop-state.invariant.count in
     let at : slice_get c.args.graph.now.states (length c.loop-state.yielded) ≡ Some (graph_state_of c.get_state.result.now) =
     subst (λ k. slice_get c.args.graph.now.states k ≡ Some (graph_state_of c.get_state.result.now)) n.0 c.get_state.ensures.state in
-    let numbers = subst (λ s. c.state_made.new.tests.keys ≡ numbered c.loop-state.tests.keys (state_uses s (graph_state_of c.get_state.result.now).normal)) (c.index.ensures ∙ n.0) made.numbers in
-    let tables = subst (λ s. c.state_made.new.jumps.keys ≡ with_tables c.loop-state.jumps.keys (fork_tables s (graph_state_of c.get_state.result.now).normal)) (c.index.ensures ∙ n.0) made.tables in
+    let numbers = subst (λ s. c.state_made.new.tables.tests.keys ≡ numbered c.loop-state.tables.tests.keys (state_uses s (graph_state_of c.get_state.result.now).normal)) (c.index.ensures ∙ n.0) made.numbers in
+    let tables = subst (λ s. c.state_made.new.tables.jumps.keys ≡ with_tables c.loop-state.tables.jumps.keys (fork_tables s (graph_state_of c.get_state.result.now).normal)) (c.index.ensures ∙ n.0) made.tables in
     let next : length (c.loop-state.yielded ++ c.in-Some.state ∷ []) ≡ length c.loop-state.yielded + 1 = length-append c.loop-state.yielded (c.in-Some.state ∷ []) in
     record {
       numbers = rw next (states_numbered c.args.graph.now.states (length c.loop-state.yielded) (graph_state_of c.get_state.result.now) _ _ _ at numbers c.loop-state.invariant.numbers);
       tables = rw next (states_tabled c.args.graph.now.states (length c.loop-state.yielded) (graph_state_of c.get_state.result.now) _ _ _ at tables c.loop-state.invariant.tables);
       count = ap length items ∙ omega (arith, length-append c.loop-state.made.items (c.in_ok-state_made.field-0 ∷ []), count, length-append c.loop-state.yielded (c.in-Some.state ∷ []));
       each = λ k state l e.
-          states_turn c.loop-state.tests.keys c.state_made.new.tests.keys c.loop-state.jumps.keys c.state_made.new.jumps.keys made.tests made.jumps
+          states_turn c.loop-state.tables.tests.keys c.state_made.new.tables.tests.keys c.loop-state.tables.jumps.keys c.state_made.new.tables.jumps.keys made.tests made.jumps
           c.args.graph.now.states c.loop-state.made.items c.push.new.self.items (length c.loop-state.yielded) (graph_state_of c.get_state.result.now) c.in_ok-state_made.field-0
           count items at here c.loop-state.invariant.each k state (omega (arith, l, length-append c.loop-state.yielded (c.in-Some.state ∷ []))) e;
     }

@@ -8,9 +8,9 @@ use Rattle.logos_generator.proofs.generator.states.states_of.Given as goal
 -- the states so far are made
 abbrev pub invariant-loop-state : goal.invariant-loop-state
 invariant-loop-state l = record {
-  numbers : numbered l.tests.keys (uses_from (length l.yielded) (drop (length l.yielded) l.graph.states)) ≡ numbered l.initial.tests.keys (uses_from 0 l.graph.states);
-  tables : with_tables l.jumps.keys (tables_from (length l.yielded) (drop (length l.yielded) l.graph.states)) ≡ with_tables l.initial.jumps.keys (tables_from 0 l.graph.states);
+  numbers : numbered l.tables.tests.keys (uses_from (length l.yielded) (drop (length l.yielded) l.graph.states)) ≡ numbered l.initial.tables.tests.keys (uses_from 0 l.graph.states);
+  tables : with_tables l.tables.jumps.keys (tables_from (length l.yielded) (drop (length l.yielded) l.graph.states)) ≡ with_tables l.initial.tables.jumps.keys (tables_from 0 l.graph.states);
   count : length l.made.items ≡ length l.yielded;
   each : (k : ℕ) (state : GraphState) → k < length l.yielded → slice_get l.graph.states k ≡ Some state →
-      IsSomeAnd (slice_get l.made.items k) (λ made. IsStateOf l.tests.keys k state (state_of l.jumps.keys made));
+      IsSomeAnd (slice_get l.made.items k) (λ made. IsStateOf l.tables.tests.keys k state (state_of l.tables.jumps.keys made));
 }

@@ -13,12 +13,12 @@ returns-clause-jumps c = c.in_ok-states.ensures.tables ∙ ap (λ jumps. with_ta
 pub returns-clause-tables : goal.returns-clause-tables
 returns-clause-tables c =
     let graph = c.args.graph.now.states in
-    let all : c.states_of.new.tests.keys ≡ tests_of graph = c.in_ok-states.ensures.numbers ∙ ap (λ tests. numbered tests (uses_from 0 graph)) c.requires.tests in
+    let all : c.states_of.new.tables.tests.keys ≡ tests_of graph = c.in_ok-states.ensures.numbers ∙ ap (λ tests. numbered tests (uses_from 0 graph)) c.requires.tests in
     let same : c.as_slice.result.now ≡ tests_of graph = c.as_slice.ensures.keys ∙ all in
     let same_jumps = c.in_ok-jump_tables.ensures.items ∙ c.as_slice-2.ensures.keys in
     record {
       are = subst (λ (t : List (List Bool)). AreStatesOf t c.in_ok-jump_tables.jump_tables.items graph c.in_ok-states.states.items) all
-          (subst (λ (j : List (List ℕ)). AreStatesOf c.states_of.new.tests.keys j graph c.in_ok-states.states.items) (sym same_jumps) c.in_ok-states.ensures.are);
+          (subst (λ (j : List (List ℕ)). AreStatesOf c.states_of.new.tables.tests.keys j graph c.in_ok-states.states.items) (sym same_jumps) c.in_ok-states.ensures.are);
       hold = rw same at c.in_ok-bit_tables.ensures.tests;
       fit = rw same at c.in_ok-bit_tables.ensures.long;
       tables = rw same at c.in_ok-bit_tables.ensures.are;

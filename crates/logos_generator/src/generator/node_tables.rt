@@ -1,0 +1,28 @@
+//! The tables that the nodes of a code share.
+ghost use Rattle.std.specs.Prelude.{◌≡◌, []};
+
+use indexmap::IndexSet;
+use std::alloc::Global;
+
+/// The tables that the nodes of a code share.
+#[derive(Drop)]
+pub(super) struct NodeTables {
+    /// The byte sets that nodes test by bits, by the numbers of their tests.
+    pub tests: IndexSet<[bool; 256]>,
+    /// The jump tables of nodes, by their numbers.
+    pub jumps: IndexSet<[u32; 256]>,
+}
+
+impl NodeTables {
+    /// Returns tables without a test and without a jump table. They take their memory from `alloc` when they grow; this call takes
+    /// none.
+    pub(super) fn new(alloc: Global) -> NodeTables
+        ensures tests { result.tests.keys ≡ [] }
+        ensures jumps { result.jumps.keys ≡ [] }
+    {
+        NodeTables {
+            tests: IndexSet::new(alloc),
+            jumps: IndexSet::new(alloc),
+        }
+    }
+}
