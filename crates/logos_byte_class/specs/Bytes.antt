@@ -14,7 +14,7 @@ bounds r = (range_inclusive_start r, range_inclusive_end r)
 abbrev pub ranges_of : ByteClass → List (ℕ × ℕ)
 ranges_of class = map bounds class.ranges.items
 
--- the byte is in the class
+-- The byte is in the class.
 abbrev pub has_byte : ByteClass → ℕ → Bool
 has_byte class b = is_in (ranges_of class) b
 
@@ -38,27 +38,27 @@ comparison_of c = record { first = range_inclusive_start c.range; last = range_i
 abbrev pub is_among : List ℕ → ℕ → Bool
 is_among bs b = list_any (λ c. c == b) bs
 
--- the comparison holds for the byte
+-- The comparison holds for the byte.
 abbrev pub compares : Comparison → ℕ → Bool
 compares c b = nat_le c.first b && nat_le b c.last && not (is_among c.except b)
 
--- one of the comparisons holds for the byte
+-- One of the comparisons holds for the byte.
 abbrev pub some_compares : List Comparison → ℕ → Bool
 some_compares cs b = list_any (λ c. compares c b) cs
 
--- A range in front of comparisons. The first one takes it in if just one byte lies between them, which becomes an exception.
+-- A range before comparisons. The first comparison takes it in if just one byte lies between them, which becomes an exception.
 abbrev pub join : ℕ × ℕ → List Comparison → List Comparison
 join r [] = record { first = r.0; last = r.1; except = [] } ∷ []
 join r (c ∷ cs) =
     if c.first == r.1 + 2 then record { first = r.0; last = c.last; except = (r.1 + 1) ∷ c.except } ∷ cs
     else record { first = r.0; last = r.1; except = [] } ∷ c ∷ cs
 
--- the comparisons that a list of ranges comes down to
+-- the comparisons for a list of ranges
 abbrev pub joined : List (ℕ × ℕ) → List Comparison
 joined [] = []
 joined (r ∷ rest) = join r (joined rest)
 
--- How many operations test a byte: one for a single byte, else one for each end that a byte can pass; and one for each exception.
+-- the number of operations that test a byte: one for a single byte, else one for each end that a byte can pass; and one for each exception
 abbrev pub operations : Comparison → ℕ
 operations c =
     (if c.first == c.last then 1 else (if nat_lt 0 c.first then 1 else 0) + (if nat_lt c.last 255 then 1 else 0)) + length c.except
