@@ -1,4 +1,4 @@
--- What stands behind a backslash, read from the front.
+-- What comes after a backslash, read from the front.
 use Rattle.std.specs.Prelude.{ℕ, Bool, true, false, not, ◌||◌, ◌&&◌, nat_le, nat_lt, ◌==◌, [], ◌∷◌, length, take, drop, Option, Some, None, option_map, if◌then◌else◌}
 use Rattle.std.specs.Char.{is_ascii_alphanumeric}
 use Rattle.unicode.specs.declared.sets.Set.{Set}
@@ -8,7 +8,7 @@ use Rattle.logos_pattern_tokens.specs.declared.token.Atom.{Atom}
 use Rattle.logos_pattern_tokens.specs.declared.token.Atom.TheVariants.{Character, Byte, TextStart, TextEnd, Boundary, Perl as PerlClass, Property}
 use Rattle.logos_pattern_tokens.specs.Token.{Text, ◌>>=◌, is_among, hex_from, scalar_of, cut_at}
 
--- ASCII but `[0-9A-Za-z<>]`: an escape of it is the character itself
+-- an ASCII character other than `[0-9A-Za-z<>]`: an escape of it is the character itself
 abbrev pub is_escapable : ℕ → Bool
 is_escapable c = nat_lt c 128 && not (is_ascii_alphanumeric c || is_among c (60 ∷ 62 ∷ []))
 
@@ -38,7 +38,7 @@ abbrev pub begins : ℕ → Text → Bool
 begins d [] = false
 begins d (c ∷ rest) = c == d
 
--- names with `=`, `:` or a leading `^` have a form of their own
+-- The name has `=` or `:`, or begins with `^`.
 abbrev pub is_form : Text → Bool
 is_form name = is_among 61 name || is_among 58 name || begins 94 name
 
@@ -56,16 +56,16 @@ property_at negated (c ∷ rest) =
     if c == 123 then cut_at 125 rest >>= (λ x. property_of negated x.0 x.1)
     else property_of negated (c ∷ []) rest
 
--- hex digits up to `}`
+-- hexadecimal digits up to `}`
 unfoldable pub braces_at : Text → Option (Atom × Text)
 braces_at text = cut_at 125 text >>= λ x. if length x.0 == 0 then None else option_map (λ n. (Character n, x.1)) (scalar_of x.0)
 
--- so many hex digits
+-- a number of hexadecimal digits
 unfoldable pub fixed_at : ℕ → Text → Option (Atom × Text)
 fixed_at width text =
     if nat_le width (length text) then option_map (λ n. (Character n, drop width text)) (scalar_of (take width text)) else None
 
--- two hex digits
+-- two hexadecimal digits
 unfoldable pub byte_at : Text → Option (Atom × Text)
 byte_at text = if nat_le 2 (length text) then option_map (λ n. (Byte n, drop 2 text)) (hex_from 0 (take 2 text)) else None
 
@@ -78,11 +78,11 @@ hex_at letter (c ∷ rest) =
     else if letter == 117 then fixed_at 4 (c ∷ rest)
     else fixed_at 8 (c ∷ rest)
 
--- a word boundary, but not with a brace behind it
+-- a word boundary; a fault if a brace follows
 unfoldable pub boundary_at : Text → Option (Atom × Text)
 boundary_at text = if begins 123 text then None else Some (Boundary false, text)
 
--- a character that is escaped, or a class by its letter
+-- an escape by one character
 unfoldable pub single_at : ℕ → Text → Option (Atom × Text)
 single_at c rest = option_map (λ a. (a, rest)) (single_of c)
 

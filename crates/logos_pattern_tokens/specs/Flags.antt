@@ -12,7 +12,7 @@ abbrev pub set_once : Option Bool → Bool → Option (Option Bool)
 set_once None on = Some (Some on)
 set_once (Some was) on = None
 
--- one more letter of `i m s U u R`: none where it is no such letter, or stood before
+-- the setting with one more letter; a fault if it is not one of `i m s U u R`, or came before
 abbrev pub with_letter : Change → Bool → ℕ → Option Change
 with_letter change on letter =
     if letter == 105 then option_map (λ f. record change { ignore_case = f }) (set_once change.ignore_case on)
@@ -23,7 +23,7 @@ with_letter change on letter =
     else if letter == 82 then option_map (λ f. record change { crlf = f }) (set_once change.crlf on)
     else None
 
--- the letters turn their flags on, or off, after what was changed before them
+-- The letters turn their flags on, or off, in addition to what was changed before.
 pub data Letters : Change → Bool → List ℕ → Change → Type 0 where
   no_letter : (change : Change) (on : Bool) → Letters change on [] change
   a_letter : (change next last : Change) (on : Bool) (letter : ℕ) (letters : List ℕ) →
@@ -35,7 +35,7 @@ pub data Settings : List ℕ → Change → Type 0 where
   some_off : (on off : List ℕ) (half change : Change) → 0 < length off → Letters no_change true on half →
       Letters half false off change → Settings (on ++ 45 ∷ off) change
 
--- the flags behind a setting
+-- the flags after a setting
 abbrev pub flags_after : Change → Flags → Flags
 flags_after change flags = record {
   unicode = unwrap_or change.unicode flags.unicode;

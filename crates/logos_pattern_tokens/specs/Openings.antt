@@ -1,4 +1,4 @@
--- What stands behind an opening parenthesis, read from the front.
+-- What comes after an opening parenthesis, read from the front.
 use Rattle.std.specs.Prelude.{ℕ, Bool, true, false, ◌||◌, ◌&&◌, ◌==◌, [], ◌∷◌, Option, Some, None, option_map, if◌then◌else◌}
 use Rattle.std.specs.List.{list_all}
 use Rattle.unicode.specs.Binary.{is_alphabetic}
@@ -34,7 +34,7 @@ unfoldable pub python_at : Text → Option (Token × Text)
 python_at [] = None
 python_at (c ∷ rest) = if c == 60 then name_at rest else None
 
--- a dash turns the letters behind it off
+-- a dash, which turns off the flags of the letters after it
 unfoldable pub dash : Letters → Option Letters
 dash s = if s.on then Some (record s { on = false; pending = true }) else None
 
@@ -43,7 +43,7 @@ next_letter s c =
     if c == 45 then dash s
     else option_map (λ change. record s { change = change; pending = false }) (with_letter s.change s.on c)
 
--- the token that ends the letters, where none is missing
+-- the token at the end of the letters, if no letter is missing
 unfoldable pub setting_end : Letters → Token → Text → Option (Token × Text)
 setting_end s token rest = if s.pending then None else Some (token, rest)
 

@@ -9,12 +9,12 @@ use Rattle.logos_pattern_tokens.specs.Token.{Text, Token, atom, bar, opens, clos
 use Rattle.logos_pattern_tokens.specs.Escapes.{single_of, plain_property}
 use Rattle.logos_pattern_tokens.specs.Openings.{is_name}
 
--- the text does not begin with the character
+-- The text does not begin with the character.
 abbrev pub NotBegins : ℕ → Text → Type 0
 NotBegins d [] = Unit {0}
 NotBegins d (c ∷ rest) = c ≢ d
 
--- the character is not in the text
+-- The text does not contain the character.
 abbrev pub Lacks : ℕ → Text → Type 0
 Lacks d [] = Unit {0}
 Lacks d (c ∷ rest) = (c ≢ d) × Lacks d rest
@@ -25,12 +25,12 @@ abbrev pub AreDigits : Text → Type 0
 AreDigits [] = Unit {0}
 AreDigits (c ∷ rest) = (is_digit c ≡ true) × AreDigits rest
 
--- the number that more digits make of the number before them
+-- the number that the digits write, as a continuation of the number before them
 abbrev pub value_from : ℕ → Text → ℕ
 value_from n [] = n
 value_from n (c ∷ rest) = value_from (n * 10 + (c - 48)) rest
 
--- the digits write the number
+-- The digits write the number.
 pub record Writes (digits : Text) (n : ℕ) : Type 0 where
   pub some_digit : 0 < length digits
   pub digits_only : AreDigits digits
@@ -52,7 +52,7 @@ pub data Counts : Text → ℕ → Option ℕ → Type 0 where
 abbrev pub property_letter : Bool → ℕ
 property_letter negated = if negated then 80 else 112
 
--- The text, which stands behind a backslash, begins with the rest of an escape, and rest follows it.
+-- The text, which comes after a backslash, begins with the rest of an escape, and `rest` follows it.
 pub data Escapes : Atom → Text → Text → Type 0 where
   single : (c : ℕ) (a : Atom) (rest : Text) → single_of c ≡ Some a → Escapes a (c ∷ rest) rest
   -- `\xHH`, `\uHHHH`, `\UHHHHHHHH`
@@ -62,7 +62,7 @@ pub data Escapes : Atom → Text → Text → Type 0 where
   -- `\x{H..}`, `\u{H..}`, `\U{H..}`
   any_digits : (letter : ℕ) (digits rest : Text) (n : ℕ) → is_among letter (120 ∷ 117 ∷ 85 ∷ []) ≡ true → 0 < length digits → scalar_of digits ≡ Some n →
       Escapes (Character n) (letter ∷ 123 ∷ digits ++ 125 ∷ rest) rest
-  -- `\b`, with no brace behind it
+  -- `\b`, with no brace after it
   boundary : (rest : Text) → NotBegins 123 rest → Escapes (Boundary false) (98 ∷ rest) rest
   -- `\pX`, `\p{name}`
   property : (negated : Bool) (c : ℕ) (rest : Text) (set : Set) → c ≢ 123 → plain_property (c ∷ []) ≡ Some set →
@@ -72,7 +72,7 @@ pub data Escapes : Atom → Text → Text → Type 0 where
 
 -- ---- tokens
 
--- The text begins with the token, and rest follows it. A `?` right after an operator belongs to it.
+-- The text begins with the token, and the rest follows it. A `?` right after an operator belongs to the operator.
 pub data Takes : Token → Text → Text → Type 0 where
   bare : (c : ℕ) (rest : Text) → is_meta c ≡ false → Takes (atom (Character c)) (c ∷ rest) rest
   escaped : (a : Atom) (text rest : Text) → Escapes a text rest → Takes (atom a) (92 ∷ text) rest

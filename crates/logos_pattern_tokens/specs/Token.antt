@@ -51,7 +51,7 @@ token_view values.Close = closes
 token_view (values.Setting change) = sets change
 token_view (values.Repeat op) = repeats op
 
--- What a function returned, seen by a view, is what reading gives, memory aside.
+-- What a function returned is, by its view, what reading gives, unless memory ran out.
 abbrev pub Gives : {X Y : Type 0} → (X → Y) → Result X Fault → Option Y → Type 0
 Gives view (Ok x) read = read ≡ Some (view x)
 Gives view (Err (faults.Syntax kind)) read = read ≡ None
@@ -67,7 +67,7 @@ o >>= f = option_and_then f o
 abbrev pub is_among : ℕ → List ℕ → Bool
 is_among c = list_any (λ d. d == c)
 
--- `\ . + * ? ( ) | [ { ^ $`, which do not stand for themselves
+-- one of `\ . + * ? ( ) | [ { ^ $`, which mean something other than themselves
 abbrev pub is_meta : ℕ → Bool
 is_meta c = is_among c (92 ∷ 46 ∷ 43 ∷ 42 ∷ 63 ∷ 40 ∷ 41 ∷ 124 ∷ 91 ∷ 123 ∷ 94 ∷ 36 ∷ [])
 
@@ -76,11 +76,11 @@ is_digit c = nat_le 48 c && nat_le c 57
 
 -- ---- numbers
 
--- the value of a hex digit
+-- the value of a hexadecimal digit
 abbrev pub hex_digit : ℕ → Option ℕ
 hex_digit c = if nat_lt (digit_value c) 16 then Some (digit_value c) else None
 
--- the number that the hex digits write, behind the number before them
+-- the number that the hexadecimal digits write, as a continuation of the number before them
 abbrev pub hex_from : ℕ → Text → Option ℕ
 hex_from n [] = Some n
 hex_from n (c ∷ rest) = hex_digit c >>= λ d. hex_from (n * 16 + d) rest
@@ -88,11 +88,11 @@ hex_from n (c ∷ rest) = hex_digit c >>= λ d. hex_from (n * 16 + d) rest
 abbrev pub only_scalar : ℕ → Option ℕ
 only_scalar n = if scalar n then Some n else None
 
--- the Unicode scalar value that the hex digits write
+-- the Unicode scalar value whose number the hexadecimal digits write
 unfoldable pub scalar_of : Text → Option ℕ
 scalar_of digits = hex_from 0 digits >>= only_scalar
 
--- the number that the digits at the front write, and how it goes on from the digits before them
+-- the number that the digits at the front write, as a continuation of the number before them, and the rest
 abbrev pub number_from : ℕ → Text → ℕ × Text
 number_from n [] = (n, [])
 number_from n (c ∷ rest) = if is_digit c then number_from (n * 10 + (c - 48)) rest else (n, c ∷ rest)
@@ -105,7 +105,7 @@ unfoldable pub number_at : Text → Option (ℕ × Text)
 number_at [] = None
 number_at (c ∷ rest) = if is_digit c then fits (number_from 0 (c ∷ rest)) else None
 
--- what stands before the first such character, and behind it
+-- what comes before the first such character, and what comes after it
 abbrev pub cut_at : ℕ → Text → Option (Text × Text)
 cut_at end [] = None
 cut_at end (c ∷ rest) = if c == end then Some ([], rest) else option_map (λ x. (c ∷ x.0, x.1)) (cut_at end rest)

@@ -1,4 +1,4 @@
-//! Numbers in a pattern, and the operators with counts.
+//! Reads the numbers of a pattern, and operators with counts.
 
 ghost use Rattle.std.specs.Prelude.{◌≡◌, ◌==◌, option_map, position};
 ghost use Rattle.logos_pattern_tokens.specs.Token.{Gives, token_view, is_digit, hex_digit, hex_from, scalar_of, cut_at, number_from, fits, number_at, lazy_at, count_end, order_at, most_at, bounds_at, count_at};
@@ -6,14 +6,18 @@ ghost use Rattle.logos_pattern_tokens.specs.Token.{Gives, token_view, is_digit, 
 use crate::error::{Fault, Kind};
 use crate::token::{Operator, Token};
 
-/// The value of a hex digit.
+/// Returns the value of a hexadecimal digit, or `None` for any other character.
 pub fn hex_digit(c: char) -> Option<u32>
     ensures { result ≡ hex_digit c }
 {
     c.to_digit(16)
 }
 
-/// The Unicode scalar value that hex digits write.
+/// Returns the Unicode scalar value whose number the hexadecimal digits write.
+///
+/// # Errors
+/// From the left, `HexSyntax` at a character that is not a hexadecimal digit, and `HexNotScalar` where
+/// the number passes 10FFFF. `HexNotScalar` also if the number is that of a surrogate.
 pub fn scalar_of(digits: &[char]) -> Result<char, Fault>
     ensures { Gives (λ n. n) result (scalar_of digits.now) }
 {
@@ -33,7 +37,8 @@ pub fn scalar_of(digits: &[char]) -> Result<char, Fault>
     }
 }
 
-/// What stands before the first such character, and behind it.
+/// Splits the text at the first `end`: returns what is before it and what is after it, or `None` if the
+/// text has no `end`.
 pub fn cut_at(end: char, text: &[char]) -> Option<(&[char], &[char])>
     ensures { option_map (λ x. (x.0.now, x.1.now)) result ≡ cut_at end text.now }
 {
@@ -43,21 +48,22 @@ pub fn cut_at(end: char, text: &[char]) -> Option<(&[char], &[char])>
     }
 }
 
-/// Where the character stands first.
+/// Returns the index of the first `end` in the text.
 fn place_of(end: char, text: &[char]) -> Option<usize>
     ensures { result ≡ position (λ c. c == end) text.now }
 {
     text.iter().position(|c| *c == end)
 }
 
-/// Whether it is an ASCII digit.
+/// Returns whether the character is an ASCII digit.
 fn is_digit(c: char) -> bool
     ensures { result ≡ is_digit c }
 {
     '0' <= c && c <= '9'
 }
 
-/// The digits at the front, behind a number. A number of 2^32 and more is not read.
+/// Reads the digits at the front as a continuation of the number `start`, and returns the number and the
+/// rest of the text; `None` if the number is 2^32 or more.
 fn number_from(start: u32, text: &[char]) -> Option<(u32, &[char])>
     ensures { option_map (λ x. (x.0, x.1.now)) result ≡ fits (number_from start text.now) }
 {
@@ -81,7 +87,11 @@ fn number_from(start: u32, text: &[char]) -> Option<(u32, &[char])>
     }
 }
 
-/// The number at the front, and what follows it.
+/// Reads the number at the front, and returns it with the rest of the text.
+///
+/// # Errors
+/// `Unclosed` if the text is empty, `CountSyntax` if it does not begin with a digit, and `CountTooLarge` if the
+/// number is 2^32 or more.
 #[tactic(auto, unfolding(crate::specs::Token::number_at))]
 fn number_at(text: &[char]) -> Result<(u32, &[char]), Fault>
     ensures { Gives (λ x. (x.0, x.1.now)) result (number_at text.now) }
@@ -95,7 +105,7 @@ fn number_at(text: &[char]) -> Result<(u32, &[char]), Fault>
     }
 }
 
-/// An operator with these counts, which a `?` behind it makes lazy.
+/// Returns the operator with these counts, which is lazy if a `?` comes next, and the rest of the text.
 #[tactic(auto, unfolding(crate::specs::Token::lazy_at))]
 pub fn lazy_at<'t>(least: u32, most: Option<u32>, text: &'t [char]) -> (Token<'t>, &'t [char])
     ensures token { token_view result.0 ≡ (lazy_at least most text.now).0 }
@@ -121,7 +131,10 @@ pub fn lazy_at<'t>(least: u32, most: Option<u32>, text: &'t [char]) -> (Token<'t
     }
 }
 
-/// The brace after the counts.
+/// Reads the brace after the counts, and the `?` that may follow it.
+///
+/// # Errors
+/// `Unclosed` if the text is empty, and `CountSyntax` if it begins with another character.
 #[tactic(auto, unfolding(crate::specs::Token::count_end))]
 fn count_end<'t>(
     least: u32,
@@ -137,7 +150,10 @@ fn count_end<'t>(
     }
 }
 
-/// What follows `{n,`.
+/// Reads what comes after `{n,`.
+///
+/// # Errors
+/// Those of `number_at` and `count_end`, and `CountOrder` if the second count is less than the first.
 #[tactic(auto, unfolding(crate::specs::Token::most_at, crate::specs::Token::order_at))]
 fn most_at(least: u32, text: &[char]) -> Result<(Token<'_>, &[char]), Fault>
     ensures { Gives (λ x. (token_view x.0, x.1.now)) result (most_at least text.now) }
@@ -155,7 +171,10 @@ fn most_at(least: u32, text: &[char]) -> Result<(Token<'_>, &[char]), Fault>
     }
 }
 
-/// What follows `{n`.
+/// Reads what comes after `{n`.
+///
+/// # Errors
+/// `Unclosed` if the text is empty, and else those of `most_at` or `count_end`.
 #[tactic(auto, unfolding(crate::specs::Token::bounds_at))]
 fn bounds_at(least: u32, text: &[char]) -> Result<(Token<'_>, &[char]), Fault>
     ensures { Gives (λ x. (token_view x.0, x.1.now)) result (bounds_at least text.now) }
@@ -167,7 +186,11 @@ fn bounds_at(least: u32, text: &[char]) -> Result<(Token<'_>, &[char]), Fault>
     }
 }
 
-/// What follows `{`.
+/// Reads an operator with counts, from after its `{`: returns its token and the rest of the text.
+///
+/// # Errors
+/// `Unclosed` if the text ends before `}`, `CountSyntax` if no counts come next, `CountTooLarge` if a
+/// count is 2^32 or more, and `CountOrder` if the second one is less than the first.
 #[tactic(auto, unfolding(crate::specs::Token::count_at))]
 pub fn count_at(text: &[char]) -> Result<(Token<'_>, &[char]), Fault>
     ensures { Gives (λ x. (token_view x.0, x.1.now)) result (count_at text.now) }

@@ -1,4 +1,4 @@
-//! Why a pattern could not be read.
+//! The faults of a pattern.
 
 ghost use Rattle.std.specs.Prelude.{◌≡◌};
 ghost use Rattle.logos_pattern_tokens.specs.declared.error.Fault.TheVariants as faults;
@@ -10,63 +10,63 @@ use std::alloc::{AllocError, AllocFailed};
 /// What is wrong with a pattern.
 #[derive(Clone, Copy, Debug, PartialEq, Eq)]
 pub enum Kind {
-    /// A group, a bracket or a brace that is still open at the end.
+    /// A group, a bracket or a brace is still open at the end.
     Unclosed,
-    /// A closing parenthesis without an open group.
+    /// A parenthesis closes, and no group is open.
     Unopened,
-    /// An operator with nothing before it that it could repeat.
+    /// An operator has nothing before it that it could repeat.
     NothingToRepeat,
-    /// Braces that are no counts.
+    /// Braces do not hold counts.
     CountSyntax,
-    /// A least count that is above the greatest one.
+    /// The least count is greater than the greatest count.
     CountOrder,
-    /// A count of 2^32 or more.
+    /// A count is 2^32 or more.
     CountTooLarge,
-    /// The flag `x`.
+    /// The flag `x` is not supported.
     FlagUnsupported,
-    /// What stands behind `(?` is no flag setting.
+    /// What comes after `(?` is not a flag setting.
     FlagSyntax,
-    /// Look-around, and names of groups that are no names or stand twice.
+    /// Look-around, or a group whose name is malformed or was given before.
     GroupSyntax,
-    /// A backslash with nothing behind it that could be escaped.
+    /// A backslash comes before something that it cannot escape.
     EscapeUnknown,
-    /// An escape by number whose digits are missing or no digits.
+    /// An escape by number has no digits, too few, or characters that are not digits.
     HexSyntax,
-    /// An escape by number that gives no Unicode scalar value.
+    /// The number of an escape is not that of a Unicode scalar value.
     HexNotScalar,
-    /// A range whose first end is above its last one, or that has a class as an end.
+    /// A range begins after its end, or a class is one of its ends.
     ClassRange,
-    /// A property that has no set.
+    /// No set of characters has this property's name.
     UnknownProperty,
-    /// A property with a value, or negated by `^`.
+    /// A property has a value, or is negated by `^`.
     PropertyForm,
-    /// A property, or a character outside ASCII in a bracket, where bytes are matched.
+    /// A property, or a character outside ASCII in a bracket, where the pattern matches bytes.
     NotInBytes,
-    /// A word boundary where characters are matched.
+    /// A word boundary where the pattern matches characters.
     UnicodeWordBoundary,
-    /// A word boundary by `\b{..}`, `\<` or `\>`.
+    /// A word boundary is written as `\b{..}`, `\<` or `\>`.
     WordBoundaryForm,
 }
 
-/// Why a pattern has no tree here.
+/// Why a pattern was refused.
 #[derive(Debug, Drop)]
 pub enum PatternError {
-    /// The text breaks the grammar. `at` is a byte offset in the text.
+    /// The text breaks the grammar. `at` is the byte offset of the fault in the text.
     Syntax { kind: Kind, at: usize },
-    /// Groups, brackets and operators nest too deep.
+    /// Groups, brackets and operators nest too deeply.
     LimitPatternNesting,
-    /// An allocation was refused.
+    /// Memory ran out.
     Memory,
 }
 
-/// Why there is no token at the front of a text.
+/// Why no token could be read at the front of a text.
 #[derive(Drop)]
 pub enum Fault {
     Syntax(Kind),
     Memory,
 }
 
-/// Why reading stops, with the number of characters that are left at the place.
+/// Why reading stopped. `left` is the number of characters from the fault to the end of the text.
 #[derive(Drop)]
 pub enum Stop {
     Syntax { kind: Kind, left: usize },

@@ -1,4 +1,4 @@
-//! What stands behind a backslash.
+//! Reads what comes after a backslash.
 
 ghost use Rattle.std.specs.Prelude.{◌≡◌, MatchResult};
 ghost use Rattle.logos_pattern_tokens.specs.Token.{Gives, is_among};
@@ -11,14 +11,16 @@ use logos_hir::property::{PerlKind, property_named};
 use std::alloc::Global;
 use unicode::sets::Set;
 
-/// Whether a backslash lets the character stand for itself.
+/// Returns whether an escape of the character is the character itself: an ASCII character that is not a
+/// letter, a digit, `<` or `>`.
 fn is_escapable(c: char) -> bool
     ensures { result ≡ is_escapable c }
 {
     c.is_ascii() && !(c.is_ascii_alphanumeric() || c == '<' || c == '>')
 }
 
-/// The escapes of one character: itself, another character, or a class.
+/// Returns what an escape by this one character is: the character itself, another one, a class or a
+/// look; `None` if there is no such escape.
 fn single_of(c: char) -> Option<Atom>
     ensures { result ≡ single_of c }
 {
@@ -45,21 +47,25 @@ fn single_of(c: char) -> Option<Atom>
     }
 }
 
-/// Whether the character stands in the name.
+/// Returns whether the name contains the character.
 fn contains(name: &[char], c: char) -> bool
     ensures { result ≡ is_among c name.now }
 {
     name.contains(&c)
 }
 
-/// Whether the name has a value, or is negated.
+/// Returns whether the name has a value, or is negated by `^`.
 fn is_form(name: &[char]) -> bool
     ensures { result ≡ is_form name.now }
 {
     contains(name, '=') || contains(name, ':') || matches!(name, ['^', ..])
 }
 
-/// The set of a property's name.
+/// Returns the set of characters of the property with this name.
+///
+/// # Errors
+/// `PropertyForm` if the name has a value or is negated, `UnknownProperty` if no property has it, and
+/// `Memory`.
 #[tactic(auto, unfolding(crate::specs::Escapes::plain_property))]
 fn plain_property(alloc: Global, name: &[char]) -> Result<Set, Fault>
     ensures { Gives (λ set. set) result (plain_property name.now) }
@@ -73,7 +79,10 @@ fn plain_property(alloc: Global, name: &[char]) -> Result<Set, Fault>
     }
 }
 
-/// The property with this name.
+/// Returns the atom of the property with this name, and the rest of the text.
+///
+/// # Errors
+/// Those of `plain_property`.
 #[tactic(auto, unfolding(crate::specs::Escapes::property_of))]
 fn property_of<'t>(
     alloc: Global,
@@ -87,7 +96,11 @@ fn property_of<'t>(
     Ok((Atom::Property(set, negated), rest))
 }
 
-/// A property in braces, or of one character.
+/// Reads the name of a property, in braces or of one character.
+///
+/// # Errors
+/// `Unclosed` if a brace is not closed; of a name of one character, and without one, `UnknownProperty`;
+/// else those of `plain_property`.
 #[tactic(auto, unfolding(crate::specs::Escapes::property_at))]
 fn property_at(alloc: Global, negated: bool, text: &[char]) -> Result<(Atom, &[char]), Fault>
     ensures { Gives (λ x. (x.0, x.1.now)) result (property_at negated text.now) }
@@ -108,7 +121,11 @@ fn property_at(alloc: Global, negated: bool, text: &[char]) -> Result<(Atom, &[c
     }
 }
 
-/// Hex digits up to a brace.
+/// Reads hexadecimal digits up to a closing brace.
+///
+/// # Errors
+/// `Unclosed` if no brace closes and only digits come, `HexSyntax` if there is no digit or another
+/// character, and `HexNotScalar`.
 #[tactic(auto, unfolding(crate::specs::Escapes::braces_at))]
 fn braces_at(text: &[char]) -> Result<(Atom, &[char]), Fault>
     ensures { Gives (λ x. (x.0, x.1.now)) result (braces_at text.now) }
@@ -123,7 +140,7 @@ fn braces_at(text: &[char]) -> Result<(Atom, &[char]), Fault>
     Ok((Atom::Character(c), rest))
 }
 
-/// What is wrong with digits that no brace follows.
+/// Returns the fault of digits that no brace follows.
 fn digits_fault(digits: &[char]) -> Kind {
     if digits.iter().all(|c| hex_digit(*c).is_some()) {
         Kind::Unclosed
@@ -132,7 +149,10 @@ fn digits_fault(digits: &[char]) -> Kind {
     }
 }
 
-/// So many hex digits.
+/// Reads `width` hexadecimal digits.
+///
+/// # Errors
+/// `HexSyntax` if there are fewer digits, and `HexNotScalar`.
 #[tactic(auto, unfolding(crate::specs::Escapes::fixed_at))]
 fn fixed_at(width: usize, text: &[char]) -> Result<(Atom, &[char]), Fault>
     ensures { Gives (λ x. (x.0, x.1.now)) result (fixed_at width text.now) }
@@ -145,7 +165,10 @@ fn fixed_at(width: usize, text: &[char]) -> Result<(Atom, &[char]), Fault>
     Ok((Atom::Character(c), rest))
 }
 
-/// Two hex digits.
+/// Reads two hexadecimal digits, which give a byte.
+///
+/// # Errors
+/// `HexSyntax` if there are fewer digits.
 #[tactic(auto, unfolding(crate::specs::Escapes::byte_at))]
 fn byte_at(text: &[char]) -> Result<(Atom, &[char]), Fault>
     ensures { Gives (λ x. (x.0, x.1.now)) result (byte_at text.now) }
@@ -159,7 +182,10 @@ fn byte_at(text: &[char]) -> Result<(Atom, &[char]), Fault>
     }
 }
 
-/// What follows `\x`, `\u` or `\U`.
+/// Reads what comes after `\x`, `\u` or `\U`; `letter` is which of them.
+///
+/// # Errors
+/// `HexSyntax` if the text is empty; else those of `braces_at`, `byte_at` or `fixed_at`.
 #[tactic(auto, unfolding(crate::specs::Escapes::hex_at))]
 fn hex_at(letter: char, text: &[char]) -> Result<(Atom, &[char]), Fault>
     ensures { Gives (λ x. (x.0, x.1.now)) result (hex_at letter text.now) }
@@ -175,7 +201,10 @@ fn hex_at(letter: char, text: &[char]) -> Result<(Atom, &[char]), Fault>
     }
 }
 
-/// A word boundary, but not one in braces.
+/// Reads what comes after `\b`: nothing, as this is a word boundary.
+///
+/// # Errors
+/// `WordBoundaryForm` if a brace follows.
 #[tactic(auto, unfolding(crate::specs::Escapes::boundary_at))]
 fn boundary_at(text: &[char]) -> Result<(Atom, &[char]), Fault>
     ensures { Gives (λ x. (x.0, x.1.now)) result (boundary_at text.now) }
@@ -186,7 +215,7 @@ fn boundary_at(text: &[char]) -> Result<(Atom, &[char]), Fault>
     }
 }
 
-/// What is wrong with an escape of this character.
+/// Returns the fault of a backslash before a character that it cannot escape.
 fn no_escape(c: char) -> Kind {
     match c {
         '<' | '>' => Kind::WordBoundaryForm,
@@ -194,7 +223,10 @@ fn no_escape(c: char) -> Kind {
     }
 }
 
-/// A character that is escaped, or a class by its letter.
+/// Returns what the escape by the character `c` is, and the rest of the text.
+///
+/// # Errors
+/// `WordBoundaryForm` for `<` and `>`, and `EscapeUnknown` if there is no such escape.
 #[tactic(auto, unfolding(crate::specs::Escapes::single_at))]
 fn single_at(c: char, rest: &[char]) -> Result<(Atom, &[char]), Fault>
     ensures { Gives (λ x. (x.0, x.1.now)) result (single_at c rest.now) }
@@ -205,7 +237,11 @@ fn single_at(c: char, rest: &[char]) -> Result<(Atom, &[char]), Fault>
     }
 }
 
-/// What follows a backslash.
+/// Reads an escape, from after its backslash: returns the atom and the rest of the text.
+///
+/// # Errors
+/// `EscapeUnknown` if the text is empty or begins with a character that cannot be escaped; else the
+/// fault of the escape; and `Memory`.
 #[tactic(auto, unfolding(crate::specs::Escapes::escape_at))]
 pub fn escape_at(alloc: Global, text: &[char]) -> Result<(Atom, &[char]), Fault>
     ensures { Gives (λ x. (x.0, x.1.now)) result (escape_at text.now) }

@@ -1,4 +1,4 @@
-//! What stands behind an opening parenthesis.
+//! Reads what comes after an opening parenthesis.
 
 ghost use Rattle.std.specs.Prelude.{◌≡◌};
 ghost use Rattle.logos_pattern_tokens.specs.Flags.{no_change, set_once, with_letter};
@@ -10,14 +10,14 @@ use crate::error::{Fault, Kind};
 use crate::token::{Change, Opening, Token};
 use unicode::properties::{GeneralCategory, GeneralCategoryGroup, is_alphabetic};
 
-/// Whether a name may start with the character.
+/// Returns whether a group's name may start with the character.
 fn is_name_start(c: char) -> bool
     ensures { result ≡ is_name_start c }
 {
     c == '_' || is_alphabetic(c)
 }
 
-/// Whether a name may go on with the character.
+/// Returns whether a group's name may have the character after its first one.
 fn is_name_part(c: char) -> bool
     ensures { result ≡ is_name_part c }
 {
@@ -26,14 +26,14 @@ fn is_name_part(c: char) -> bool
         || matches!(c, '.' | '[' | ']')
 }
 
-/// Whether a name may go on with each of the characters.
+/// Returns whether a group's name may have each of the characters after its first one.
 fn are_name_parts(text: &[char]) -> bool
     ensures { result ≡ are_name_parts text.now }
 {
     text.iter().all(|c| is_name_part(*c))
 }
 
-/// Whether it is the name of a group.
+/// Returns whether the text is the name of a group.
 fn is_name(text: &[char]) -> bool
     ensures { result ≡ is_name text.now }
 {
@@ -43,7 +43,7 @@ fn is_name(text: &[char]) -> bool
     }
 }
 
-/// What is wrong with a name that no `>` follows.
+/// Returns the fault of a name that no `>` follows.
 fn name_fault(text: &[char]) -> Kind {
     if text.is_empty() || is_name(text) {
         Kind::Unclosed
@@ -52,7 +52,11 @@ fn name_fault(text: &[char]) -> Kind {
     }
 }
 
-/// What follows `(?<` or `(?P<`.
+/// Reads what comes after `(?<` or `(?P<`.
+///
+/// # Errors
+/// `Unclosed` if the text is a name, or empty, and has no `>`; else `GroupSyntax` if no name comes before
+/// the `>`.
 #[tactic(auto, unfolding(crate::specs::Openings::name_at))]
 fn name_at(text: &[char]) -> Result<(Token<'_>, &[char]), Fault>
     ensures { Gives (λ x. (token_view x.0, x.1.now)) result (name_at text.now) }
@@ -66,7 +70,11 @@ fn name_at(text: &[char]) -> Result<(Token<'_>, &[char]), Fault>
     Ok((Token::Open(Opening::Named(name)), rest))
 }
 
-/// What follows `(?P`.
+/// Reads what comes after `(?P`.
+///
+/// # Errors
+/// `Unclosed` if the text is empty, `FlagSyntax` if it does not begin with `<`, and else those of
+/// `name_at`.
 #[tactic(auto, unfolding(crate::specs::Openings::python_at))]
 fn python_at(text: &[char]) -> Result<(Token<'_>, &[char]), Fault>
     ensures { Gives (λ x. (token_view x.0, x.1.now)) result (python_at text.now) }
@@ -78,17 +86,17 @@ fn python_at(text: &[char]) -> Result<(Token<'_>, &[char]), Fault>
     }
 }
 
-/// The letters of a flag setting so far.
+/// The letters of a flag setting that were read so far.
 #[derive(Clone, Copy)]
 pub struct Letters {
     change: Change,
-    /// The letters stand before the dash.
+    /// Whether no dash was read yet, so that the letters turn flags on.
     on: bool,
-    /// A letter has to follow.
+    /// Whether a letter has to come next.
     pending: bool,
 }
 
-/// A flag setting that leaves each flag.
+/// Returns the flag setting that changes no flag.
 fn no_change() -> Change
     ensures { result ≡ no_change }
 {
@@ -102,7 +110,10 @@ fn no_change() -> Change
     }
 }
 
-/// A flag is set once.
+/// Returns the new setting of a flag that is turned on or off.
+///
+/// # Errors
+/// `FlagSyntax` if it was set before.
 fn set_once(flag: Option<bool>, on: bool) -> Result<Option<bool>, Fault>
     ensures { Gives (λ x. x) result (set_once flag on) }
 {
@@ -112,7 +123,10 @@ fn set_once(flag: Option<bool>, on: bool) -> Result<Option<bool>, Fault>
     }
 }
 
-/// A flag setting with one more letter, which turns its flag on or off.
+/// Returns the flag setting with one more letter, which turns its flag on or off.
+///
+/// # Errors
+/// `FlagUnsupported` for `x`, and `FlagSyntax` if the letter is that of no flag or came before.
 fn with_letter(change: Change, on: bool, letter: char) -> Result<Change, Fault>
     ensures { Gives (λ x. x) result (with_letter change on letter) }
 {
@@ -130,7 +144,10 @@ fn with_letter(change: Change, on: bool, letter: char) -> Result<Change, Fault>
     Ok(next)
 }
 
-/// A dash turns off the letters behind it.
+/// Returns the letters with a dash after them: it turns off the flags of the letters that come next.
+///
+/// # Errors
+/// `FlagSyntax` if there was a dash before.
 #[tactic(auto, unfolding(crate::specs::Openings::dash))]
 fn dash(letters: Letters) -> Result<Letters, Fault>
     ensures { Gives (λ x. x) result (dash letters) }
@@ -146,7 +163,10 @@ fn dash(letters: Letters) -> Result<Letters, Fault>
     }
 }
 
-/// A letter or the dash behind other letters.
+/// Returns the letters with one more letter, or with a dash.
+///
+/// # Errors
+/// Those of `dash` and `with_letter`.
 #[tactic(auto, unfolding(crate::specs::Openings::next_letter))]
 fn next_letter(letters: Letters, c: char) -> Result<Letters, Fault>
     ensures { Gives (λ x. x) result (next_letter letters c) }
@@ -162,7 +182,10 @@ fn next_letter(letters: Letters, c: char) -> Result<Letters, Fault>
     })
 }
 
-/// The token at the end of a flag setting.
+/// Returns the token that a flag setting ends with, and the rest of the text.
+///
+/// # Errors
+/// `FlagSyntax` if a letter has to come next.
 #[tactic(auto, unfolding(crate::specs::Openings::setting_end))]
 fn setting_end<'t>(
     letters: Letters,
@@ -179,7 +202,10 @@ fn setting_end<'t>(
     }
 }
 
-/// Letters up to `)` or `:`.
+/// Reads the letters of a flag setting up to `)` or `:`.
+///
+/// # Errors
+/// `Unclosed` if the text ends before; else those of `next_letter` and `setting_end`, from the left.
 fn letters_from(start: Letters, text: &[char]) -> Result<(Token<'_>, &[char]), Fault>
     ensures { Gives (λ x. (token_view x.0, x.1.now)) result (letters_from start text.now) }
 {
@@ -198,7 +224,10 @@ fn letters_from(start: Letters, text: &[char]) -> Result<(Token<'_>, &[char]), F
     Err(Fault::Syntax(Kind::Unclosed))
 }
 
-/// What follows `(?`.
+/// Reads what comes after `(?`.
+///
+/// # Errors
+/// `Unclosed` if the text is empty; else those of `name_at`, `python_at` or `letters_from`.
 #[tactic(auto, unfolding(crate::specs::Openings::option_at))]
 fn option_at(text: &[char]) -> Result<(Token<'_>, &[char]), Fault>
     ensures { Gives (λ x. (token_view x.0, x.1.now)) result (option_at text.now) }
@@ -212,7 +241,7 @@ fn option_at(text: &[char]) -> Result<(Token<'_>, &[char]), Fault>
     }
 }
 
-/// The letters before the first one.
+/// Returns the state before the first letter.
 fn no_letters() -> Letters
     ensures { result ≡ no_letters }
 {
@@ -223,7 +252,11 @@ fn no_letters() -> Letters
     }
 }
 
-/// What follows an opening parenthesis.
+/// Reads what comes after an opening parenthesis: returns the token of the group or of the flag setting,
+/// and the rest of the text.
+///
+/// # Errors
+/// `Unclosed`, `GroupSyntax`, `FlagSyntax` or `FlagUnsupported`: the first fault from the left.
 #[tactic(auto, unfolding(crate::specs::Openings::group_at))]
 pub fn group_at(text: &[char]) -> Result<(Token<'_>, &[char]), Fault>
     ensures { Gives (λ x. (token_view x.0, x.1.now)) result (group_at text.now) }

@@ -1,4 +1,4 @@
-//! Reads the token at the front of a text, outside brackets.
+//! Reads one token from the front of a text, outside brackets.
 
 ghost use Rattle.std.specs.Prelude.{◌≡◌};
 ghost use Rattle.logos_pattern_tokens.specs.Token.{Gives, token_view};
@@ -11,7 +11,10 @@ use crate::openings::group_at;
 use crate::token::{Atom, Token};
 use std::alloc::Global;
 
-/// What follows a backslash, as a token.
+/// Reads an escape, from after its backslash, as a token.
+///
+/// # Errors
+/// Those of `escape_at`.
 #[tactic(auto, unfolding(crate::specs::Reader::escape_token_at))]
 fn escape_token_at(alloc: Global, text: &[char]) -> Result<(Token<'_>, &[char]), Fault>
     ensures { Gives (λ x. (token_view x.0, x.1.now)) result (escape_token_at text.now) }
@@ -20,7 +23,11 @@ fn escape_token_at(alloc: Global, text: &[char]) -> Result<(Token<'_>, &[char]),
     Ok((Token::Atom(atom), rest))
 }
 
-/// The token at the front, and what follows it. A bracket has none.
+/// Reads the token at the front of the text, and returns it with the rest of the text. The text must not
+/// begin with `[`: brackets have a reader of their own, and here a `[` is `Unclosed`.
+///
+/// # Errors
+/// `Unclosed` if the text is empty; else the fault of the token, and `Memory`.
 #[tactic(auto, unfolding(crate::specs::Reader::token_at))]
 pub fn token_at(alloc: Global, text: &[char]) -> Result<(Token<'_>, &[char]), Fault>
     ensures { Gives (λ x. (token_view x.0, x.1.now)) result (token_at text.now) }

@@ -1,26 +1,26 @@
-//! The tokens of a pattern outside brackets, and what they are made of.
+//! The tokens of a pattern outside brackets.
 
 use logos_hir::property::PerlKind;
 use unicode::sets::Set;
 
-/// The flags that hold at a place of a pattern.
+/// The flags that are on at a place of a pattern.
 #[derive(Clone, Copy)]
 pub struct Flags {
-    /// `u`: the pattern matches characters, else bytes.
+    /// `u`: the pattern matches characters; else it matches bytes.
     pub unicode: bool,
-    /// `i`: letters stand for both cases.
+    /// `i`: letters match in both cases.
     pub ignore_case: bool,
-    /// `m`: `^` and `$` hold at lines.
+    /// `m`: `^` and `$` match at the start and the end of each line.
     pub multi_line: bool,
-    /// `s`: `.` stands for line ends too.
+    /// `s`: `.` matches line ends too.
     pub dot_all: bool,
-    /// `U`: operators are lazy without `?`.
+    /// `U`: operators are lazy without `?`, and greedy with it.
     pub swap_greed: bool,
     /// `R`: lines end with CR, LF or CR LF.
     pub crlf: bool,
 }
 
-/// What a flag setting does to each flag: turn it on, turn it off, or leave it.
+/// What a flag setting does to each flag: it turns the flag on or off, or leaves it (`None`).
 #[derive(Clone, Copy)]
 pub struct Change {
     pub unicode: Option<bool>,
@@ -31,7 +31,8 @@ pub struct Change {
     pub crlf: Option<bool>,
 }
 
-/// A repetition: `most` is `None` where there is no upper bound.
+/// An operator that repeats: the least and the greatest count, where `most` is `None` if there is no upper
+/// bound, and whether a `?` makes it lazy.
 #[derive(Clone, Copy)]
 pub struct Operator {
     pub least: u32,
@@ -39,12 +40,12 @@ pub struct Operator {
     pub lazy: bool,
 }
 
-/// What can be repeated and has no parts. A `bool` says whether it is negated.
+/// A part of a pattern that can be repeated and has no parts itself. A `bool` is whether it is negated.
 #[derive(Clone, Copy)]
 pub enum Atom {
-    /// A bare character, or any escape of one but `\xNN`.
+    /// A character, or an escape of one other than `\xNN`.
     Character(char),
-    /// `\xNN`: a byte where bytes are matched, else the character with this number.
+    /// `\xNN`: a byte where the pattern matches bytes, else the character with this number.
     Byte(u8),
     /// `.`
     Dot,

@@ -5,11 +5,11 @@ use Rattle.logos_pattern_tokens.specs.declared.bracket.token.Lead.{Lead}
 use Rattle.logos_hir.specs.declared.sets.operands.SetOperator.{SetOperator}
 
 mutual
-  -- whether it is negated, the literals at its front, and what follows them
+  -- whether the bracket is negated, the literals at its front, and what comes after them
   pub data Bracket : Type 0 where
     bracket : Bool → Lead → Operands → Bracket
 
-  -- operands parted by operators
+  -- operands with operators between them
   pub data Operands : Type 0 where
     lone : Members → Operands
     joined : Operands → SetOperator → Members → Operands

@@ -25,7 +25,7 @@ symbol_of (atoms.Character c) = Some (Character c)
 symbol_of (atoms.Byte b) = Some (Byte b)
 symbol_of _ = None
 
--- the last end of a range
+-- the end of a range, after its `-`
 unfoldable pub last_at : Text → Option (Symbol × Text)
 last_at [] = None
 last_at (c ∷ rest) =
@@ -39,7 +39,7 @@ range_token a x = if nat_le (code_of a) (code_of x.0) then Some (tokens.Item (it
 unfoldable pub range_at : Symbol → Text → Option (BracketToken × Text)
 range_at a rest = if begins_range rest then last_at (drop 1 rest) >>= range_token a else Some (tokens.Item (items.One a), rest)
 
--- a class, which begins no range
+-- a class, which cannot begin a range
 unfoldable pub lone_at : Item → Text → Option (BracketToken × Text)
 lone_at item rest = if begins_range rest then None else Some (tokens.Item item, rest)
 
@@ -56,7 +56,7 @@ item_at (c ∷ rest) = if c == 92 then escape_at rest >>= (λ x. escape_item x.0
 
 -- ---- openings
 
--- the number of dashes at the front, behind those before them
+-- the number of dashes at the front, added to a count
 abbrev pub dashes_from : ℕ → Text → ℕ × Text
 dashes_from n [] = (n, [])
 dashes_from n (c ∷ rest) = if c == 45 then dashes_from (n + 1) rest else (n, c ∷ rest)
@@ -73,7 +73,7 @@ open_at text =
 
 -- ---- classes of ASCII characters
 
--- `]` behind the name
+-- `]` after `[:name:`
 unfoldable pub class_end : Bool → Text → Text → Option (BracketToken × Text)
 class_end negated name [] = None
 class_end negated name (c ∷ rest) = if c == 93 then option_map (λ kind. (tokens.Item (items.Ascii kind negated), rest)) (ascii_named name) else None

@@ -35,12 +35,12 @@ abbrev mutual
 
 -- ---- characters
 
--- the number of a character, or of a byte
+-- the number of a character or of a byte
 abbrev pub code_of : Symbol → ℕ
 code_of (Character c) = c
 code_of (Byte b) = b
 
--- The text begins with a character or an escape of one, and rest follows it.
+-- The text begins with a character or an escape of one, and the rest follows it.
 pub data Symbols : Symbol → Text → Text → Type 0 where
   plain : (c : ℕ) (rest : Text) → c ≢ 92 → Symbols (Character c) (c ∷ rest) rest
   escaped : (c : ℕ) (text rest : Text) → Escapes (atoms.Character c) text rest → Symbols (Character c) (92 ∷ text) rest
@@ -52,7 +52,7 @@ operator_letter Intersection = 38
 operator_letter Difference = 45
 operator_letter SymmetricDifference = 126
 
--- an operator, a bracket and an end do not begin an item
+-- The text begins with no operator, no `[` and no `]`, so an item may begin here.
 abbrev pub begins_operator : ℕ → Text → Bool
 begins_operator c [] = false
 begins_operator c (d ∷ rest) = (c == d) && ((c == 38) || ((c == 45) || (c == 126)))
@@ -61,7 +61,7 @@ abbrev pub begins_item : Text → Bool
 begins_item [] = false
 begins_item (c ∷ rest) = not ((c == 91) || ((c == 93) || begins_operator c rest))
 
--- a `-` that is neither before `]` nor the first of two makes a range
+-- A range goes on here: with a `-` that comes before neither `]` nor another `-`.
 abbrev pub begins_range : Text → Bool
 begins_range [] = false
 begins_range (c ∷ []) = false
@@ -77,25 +77,25 @@ class_text name negated = 58 ∷ (if negated then 94 ∷ [] else []) ++ name ++ 
 abbrev pub IsClass : Text → AsciiKind → Type 0
 IsClass name kind = Lacks 58 name × (ascii_named name ≡ Some kind)
 
--- the text, which stands behind a bracket, does not make it the front of such a class
+-- The text, which comes after `[`, does not begin with such a class.
 abbrev pub NoClass : Text → Type 0
 NoClass text = (name : Text) (kind : AsciiKind) (negated : Bool) (rest : Text) → IsClass name kind → text ≢ class_text name negated ++ rest
 
 -- ---- openings
 
--- any number of `-`, or one `]`, in front of the rest
+-- Any number of `-`, or one `]`, comes before the rest.
 pub data Leads : Lead → Text → Text → Type 0 where
   dashes : (n : ℕ) (rest : Text) → NotBegins 45 rest → (n ≡ 0 → NotBegins 93 rest) → Leads (Dashes n) (replicate n 45 ++ rest) rest
   one_bracket : (rest : Text) → Leads LoneBracket (93 ∷ rest) rest
 
--- `^` for the complement, and literals, behind a bracket
+-- After `[` comes `^` for the complement, or not, and then the literals.
 pub data Opens : Bool → Lead → Text → Text → Type 0 where
   positive : (lead : Lead) (text rest : Text) → NotBegins 94 text → Leads lead text rest → Opens false lead text rest
   negative : (lead : Lead) (text rest : Text) → Leads lead text rest → Opens true lead (94 ∷ text) rest
 
 -- ---- tokens
 
--- The text, which is inside brackets, begins with the token, and rest follows it.
+-- The text, which is inside brackets, begins with the token, and the rest follows it.
 pub data BracketTakes : BracketToken → Text → Text → Type 0 where
   closes : (rest : Text) → BracketTakes tokens.Close (93 ∷ rest) rest
   operator : (op : SetOperator) (rest : Text) → BracketTakes (tokens.Operator op) (operator_letter op ∷ operator_letter op ∷ rest) rest
@@ -109,11 +109,11 @@ pub data BracketTakes : BracketToken → Text → Text → Type 0 where
   property : (set : Set) (negated : Bool) (text rest : Text) → Escapes (atoms.Property set negated) text rest → begins_range rest ≡ false →
       BracketTakes (tokens.Item (items.Property set negated)) (92 ∷ text) rest
 
--- the text is these tokens and then rest
+-- The text is these tokens and then the rest.
 abbrev pub BracketCuts : Text → List BracketToken → Text → Type 0
 BracketCuts text [] rest = text ≡ rest
 BracketCuts text (token ∷ others) rest = (after : Text) × BracketTakes token text after × BracketCuts after others rest
 
--- The text, which stands behind `[`, is the bracket and then rest.
+-- The text, which comes after `[`, is the rest of the bracket and then `rest`.
 abbrev pub Encloses : Bracket → Text → Text → Type 0
 Encloses (bracket negated lead inside) text rest = (after : Text) × Opens negated lead text after × BracketCuts after (operands_tokens inside ++ tokens.Close ∷ []) rest

@@ -1,4 +1,4 @@
-//! The tokens inside brackets, read one by one from the front.
+//! Reads one token from the front of a text, inside brackets.
 
 ghost use Rattle.std.specs.Prelude.{◌≡◌, ◌+◌, ◌≤◌, Option, Some, MatchOption, option_map};
 ghost use Rattle.logos_pattern_tokens.specs.Token.{Gives};
@@ -14,7 +14,7 @@ use logos_hir::property::AsciiKind;
 use logos_hir::sets::operands::SetOperator;
 use std::alloc::Global;
 
-/// The number of a character or of a byte.
+/// Returns the number of the character or of the byte.
 pub fn code_of(symbol: Symbol) -> u32
     ensures { result ≡ code_of symbol }
 {
@@ -24,7 +24,7 @@ pub fn code_of(symbol: Symbol) -> u32
     }
 }
 
-/// A `-` that is neither before `]` nor the first of two.
+/// Returns whether a range goes on here: with a `-` that comes before neither `]` nor another `-`.
 fn begins_range(text: &[char]) -> bool
     ensures { result ≡ begins_range text.now }
 {
@@ -34,7 +34,7 @@ fn begins_range(text: &[char]) -> bool
     }
 }
 
-/// Whether the character and the next one are an operator.
+/// Returns whether the character `c` and the next one are an operator: `&&`, `--` or `~~`.
 fn begins_operator(c: char, rest: &[char]) -> bool
     ensures { result ≡ begins_operator c rest.now }
 {
@@ -44,7 +44,7 @@ fn begins_operator(c: char, rest: &[char]) -> bool
     }
 }
 
-/// An escape that is a character.
+/// Returns the character or the byte that an escape is, or `None` if it is something else.
 fn symbol_of(atom: Atom) -> Option<Symbol>
     ensures { result ≡ symbol_of atom }
 {
@@ -55,7 +55,7 @@ fn symbol_of(atom: Atom) -> Option<Symbol>
     }
 }
 
-/// What is wrong with an escape as an end of a range.
+/// Returns the fault of an escape that is not a character and stands as the end of a range.
 fn no_symbol(atom: Atom) -> Kind {
     match atom {
         Atom::Perl(_, _) | Atom::Property(_, _) => Kind::ClassRange,
@@ -63,7 +63,11 @@ fn no_symbol(atom: Atom) -> Kind {
     }
 }
 
-/// The last end of a range.
+/// Reads the end of a range, from after its `-`.
+///
+/// # Errors
+/// `Unclosed` if the text is empty, `ClassRange` if a class comes next, `EscapeUnknown` if another escape
+/// does that is not a character; else those of `escape_at`.
 #[tactic(auto, unfolding(crate::specs::bracket::Reader::last_at))]
 fn last_at(alloc: Global, text: &[char]) -> Result<(Symbol, &[char]), Fault>
     ensures { Gives (λ x. (x.0, x.1.now)) result (last_at text.now) }
@@ -81,7 +85,10 @@ fn last_at(alloc: Global, text: &[char]) -> Result<(Symbol, &[char]), Fault>
     }
 }
 
-/// The range from one end to the other, which is not before it.
+/// Returns the range from `first` to `last`, and the rest of the text.
+///
+/// # Errors
+/// `ClassRange` if `last` is less than `first`.
 #[tactic(auto, unfolding(crate::specs::bracket::Reader::range_token))]
 fn range_token<'t>(
     first: Symbol,
@@ -96,7 +103,11 @@ fn range_token<'t>(
     Ok((BracketToken::Item(Item::Range(first, last)), rest))
 }
 
-/// A character, or the range that it begins.
+/// Reads what comes after the character `first`: returns the range that it begins, if it does, or the
+/// character alone.
+///
+/// # Errors
+/// Those of `last_at` and `range_token`.
 #[tactic(auto, unfolding(crate::specs::bracket::Reader::range_at))]
 fn range_at(alloc: Global, first: Symbol, rest: &[char]) -> Result<(BracketToken, &[char]), Fault>
     ensures { Gives (λ x. (x.0, x.1.now)) result (range_at first rest.now) }
@@ -108,7 +119,10 @@ fn range_at(alloc: Global, first: Symbol, rest: &[char]) -> Result<(BracketToken
     range_token(first, last, after)
 }
 
-/// A class, which begins no range.
+/// Returns the class as an item, and the rest of the text.
+///
+/// # Errors
+/// `ClassRange` if a range goes on here, since a class cannot be the start of one.
 #[tactic(auto, unfolding(crate::specs::bracket::Reader::lone_at))]
 fn lone_at(item: Item, rest: &[char]) -> Result<(BracketToken, &[char]), Fault>
     ensures { Gives (λ x. (x.0, x.1.now)) result (lone_at item rest.now) }
@@ -119,7 +133,11 @@ fn lone_at(item: Item, rest: &[char]) -> Result<(BracketToken, &[char]), Fault>
     Ok((BracketToken::Item(item), rest))
 }
 
-/// The item that begins with an escape.
+/// Reads what comes after an escape: returns the item that begins with it.
+///
+/// # Errors
+/// `EscapeUnknown` if the escape is neither a character nor a class; else those of `range_at` or
+/// `lone_at`.
 #[tactic(auto, unfolding(crate::specs::bracket::Reader::escape_item))]
 fn escape_item(alloc: Global, atom: Atom, rest: &[char]) -> Result<(BracketToken, &[char]), Fault>
     ensures { Gives (λ x. (x.0, x.1.now)) result (escape_item atom rest.now) }
@@ -133,7 +151,10 @@ fn escape_item(alloc: Global, atom: Atom, rest: &[char]) -> Result<(BracketToken
     }
 }
 
-/// A character, a range or a class.
+/// Reads an item: a character, a range or a class.
+///
+/// # Errors
+/// `Unclosed` if the text is empty; else the fault of the item, and `Memory`.
 #[tactic(auto, unfolding(crate::specs::bracket::Reader::item_at))]
 fn item_at(alloc: Global, text: &[char]) -> Result<(BracketToken, &[char]), Fault>
     ensures { Gives (λ x. (x.0, x.1.now)) result (item_at text.now) }
@@ -148,7 +169,7 @@ fn item_at(alloc: Global, text: &[char]) -> Result<(BracketToken, &[char]), Faul
     }
 }
 
-/// The dashes at the front.
+/// Returns the number of dashes at the front, and the rest of the text.
 fn dashes_at(text: &[char]) -> (usize, &[char])
     ensures count { result.0 ≡ (dashes_from 0 text.now).0 }
     ensures rest { result.1.now ≡ (dashes_from 0 text.now).1 }
@@ -162,7 +183,7 @@ fn dashes_at(text: &[char]) -> (usize, &[char])
     (count, rest)
 }
 
-/// The literals behind `[` or `[^`.
+/// Reads the literals after `[` or `[^`: one `]`, or else all dashes that come there.
 #[tactic(auto, unfolding(crate::specs::bracket::Reader::lead_at))]
 fn lead_at(text: &[char]) -> (Lead, &[char])
     ensures lead { result.0 ≡ (lead_at text.now).0 }
@@ -177,7 +198,8 @@ fn lead_at(text: &[char]) -> (Lead, &[char])
     }
 }
 
-/// What follows `[`: whether it is negated, and the literals at its front.
+/// Reads what comes after `[`: returns whether `^` negates the bracket, the literals after that, and the
+/// rest of the text.
 #[tactic(auto, unfolding(crate::specs::bracket::Reader::open_at))]
 pub fn open_at(text: &[char]) -> (bool, Lead, &[char])
     ensures negated { result.0 ≡ (open_at text.now).0 }
@@ -196,7 +218,8 @@ pub fn open_at(text: &[char]) -> (bool, Lead, &[char])
     }
 }
 
-/// The bracket behind the name of a class.
+/// Reads the `]` after `[:name:`. Returns `None` if it is not there, or no class of ASCII characters has
+/// the name.
 #[tactic(auto, unfolding(crate::specs::bracket::Reader::class_end))]
 fn class_end<'t>(
     negated: bool,
@@ -214,7 +237,7 @@ fn class_end<'t>(
     }
 }
 
-/// The class with the name up to a colon.
+/// Reads `name:]`. Returns `None` if the text does not begin so with the name of a class.
 #[tactic(auto, unfolding(crate::specs::bracket::Reader::name_end))]
 fn name_end(negated: bool, text: &[char]) -> Option<(BracketToken, &[char])>
     ensures { option_map (λ x. (x.0, x.1.now)) result ≡ name_end negated text.now }
@@ -225,7 +248,7 @@ fn name_end(negated: bool, text: &[char]) -> Option<(BracketToken, &[char])>
     }
 }
 
-/// What follows `[:`, if it is a class.
+/// Reads `name:]` or `^name:]`. Returns `None` if the text does not begin so.
 #[tactic(auto, unfolding(crate::specs::bracket::Reader::colon_at))]
 fn colon_at(text: &[char]) -> Option<(BracketToken, &[char])>
     ensures { option_map (λ x. (x.0, x.1.now)) result ≡ colon_at text.now }
@@ -237,7 +260,7 @@ fn colon_at(text: &[char]) -> Option<(BracketToken, &[char])>
     }
 }
 
-/// What follows `[`, if it is a class.
+/// Reads `:name:]` or `:^name:]`, a class of ASCII characters. Returns `None` if the text does not begin so.
 #[tactic(auto, unfolding(crate::specs::bracket::Reader::class_at))]
 fn class_at(text: &[char]) -> Option<(BracketToken, &[char])>
     ensures { option_map (λ x. (x.0, x.1.now)) result ≡ class_at text.now }
@@ -248,7 +271,8 @@ fn class_at(text: &[char]) -> Option<(BracketToken, &[char])>
     }
 }
 
-/// What follows `[` inside a bracket: a class, or else a nested bracket.
+/// Reads what comes after `[` inside a bracket: a class of ASCII characters, or else the start of a nested
+/// bracket.
 #[tactic(auto, unfolding(crate::specs::bracket::Reader::inner_at))]
 fn inner_at(text: &[char]) -> (BracketToken, &[char])
     ensures token { result.0 ≡ (inner_at text.now).0 }
@@ -263,7 +287,7 @@ fn inner_at(text: &[char]) -> (BracketToken, &[char])
     }
 }
 
-/// The operator that is this character twice.
+/// Returns the operator that is written as this character twice.
 fn operator_of(c: char) -> SetOperator
     ensures { result ≡ operator_of c }
 {
@@ -274,7 +298,10 @@ fn operator_of(c: char) -> SetOperator
     }
 }
 
-/// The token at the front, and what follows it.
+/// Reads the token at the front of the text, which is inside brackets, and returns it with the rest.
+///
+/// # Errors
+/// `Unclosed` if the text is empty; else the fault of the token, and `Memory`.
 #[tactic(auto, unfolding(crate::specs::bracket::Reader::bracket_token_at))]
 pub fn bracket_token_at(alloc: Global, text: &[char]) -> Result<(BracketToken, &[char]), Fault>
     ensures { Gives (λ x. (x.0, x.1.now)) result (bracket_token_at text.now) }

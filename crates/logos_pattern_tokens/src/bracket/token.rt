@@ -4,16 +4,16 @@ use logos_hir::property::{AsciiKind, PerlKind};
 use logos_hir::sets::operands::SetOperator;
 use unicode::sets::Set;
 
-/// A character in a bracket.
+/// A character or a byte in a bracket.
 #[derive(Clone, Copy)]
 pub enum Symbol {
-    /// A bare character, or any escape of one but `\xNN`.
+    /// A character, or an escape of one other than `\xNN`.
     Character(char),
-    /// `\xNN`
+    /// `\xNN`: a byte where the pattern matches bytes, else the character with this number
     Byte(u8),
 }
 
-/// A part of an operand without a bracket of its own. A `bool` says whether it is negated.
+/// A part of an operand that is not a nested bracket. A `bool` is whether it is negated.
 #[derive(Clone, Copy)]
 pub enum Item {
     One(Symbol),
@@ -27,10 +27,10 @@ pub enum Item {
     Ascii(AsciiKind, bool),
 }
 
-/// The literals that stand behind `[` or `[^` before anything else.
+/// The literals right after `[` or `[^`, where they have no other meaning.
 #[derive(Clone, Copy)]
 pub enum Lead {
-    /// So many `-`, perhaps none.
+    /// This number of `-`, which may be 0.
     Dashes(usize),
     /// One `]`.
     Bracket,
@@ -40,7 +40,7 @@ pub enum Lead {
 #[derive(Clone, Copy)]
 pub enum BracketToken {
     Item(Item),
-    /// `[` or `[^`, and the literals behind it.
+    /// `[` or `[^` (then the `bool` is true), and the literals after it.
     Open(bool, Lead),
     Operator(SetOperator),
     /// `]`
