@@ -24,11 +24,11 @@ use Rattle.logos_syntax.specs.Written.{Branches, first, next, Items, nothing, pi
 abbrev pub one_of : Flags → Set → Tree
 one_of flags set = if flags.unicode then one_char_of set else one_byte_of set
 
--- the number, and under `i` what has the same letter
+-- the number alone, or under `i` also what differs from it in case alone
 abbrev pub same_as : Flags → ℕ → Set
 same_as flags c = case_closure flags (only_chars (λ d. d == c))
 
--- A character stands for itself. Outside ASCII it has no other case where bytes are matched.
+-- A character stands for itself. Outside ASCII it has no other case if the pattern matches bytes.
 abbrev pub character_tree : Flags → ℕ → Tree
 character_tree flags c =
     if flags.ignore_case && (flags.unicode || nat_lt c 128) then one_of flags (same_as flags c) else literal (encode_utf8 c)
@@ -62,7 +62,7 @@ atom_tree flags (Boundary negated) = look (if negated then WordAsciiNegate else 
 atom_tree flags (Perl kind negated) = one_of flags (set_or_complement flags negated (case_closure flags (only_chars (perl_set kind flags.unicode))))
 atom_tree flags (Property set negated) = one_of flags (set_or_complement flags negated (case_closure flags (only_chars (in_set set))))
 
--- word boundaries where bytes are matched, properties where characters are
+-- A word boundary is allowed if the pattern matches bytes, and a property if it matches characters.
 abbrev pub atom_fits : Flags → Atom → Bool
 atom_fits flags (Character c) = true
 atom_fits flags (Byte b) = true
@@ -75,7 +75,7 @@ atom_fits flags (Boundary negated) = not flags.unicode
 atom_fits flags (Perl kind negated) = true
 atom_fits flags (Property set negated) = flags.unicode
 
--- a token that may stand where these flags hold
+-- These flags allow the token.
 abbrev pub TokenFits : Flags → Token → Type 0
 TokenFits flags (atom a) = atom_fits flags a ≡ true
 TokenFits flags (bracketed b) = BracketFits flags b
@@ -119,7 +119,7 @@ abbrev mutual
 abbrev pub written_tree : Flags → Branches → Tree
 written_tree flags bs = alternation_of (branch_list flags bs)
 
--- ---- what may stand under the flags
+-- ---- what the flags allow
 
 abbrev mutual
   pub BranchesFit : Flags → Branches → Type 0
@@ -157,7 +157,7 @@ abbrev mutual
 
 -- ---- the whole text
 
--- The text spells the tree under the flags. So many groups, brackets and repetitions are around one place, at most.
+-- The text spells the tree under the flags. The number is the greatest number of groups, brackets and repetitions around one place.
 pub record Spells (flags : Flags) (text : Text) (tree : Tree) (depth : ℕ) : Type 0 where
   pub written : Branches
   pub cut : Cuts text (branches_tokens written) []
@@ -166,20 +166,20 @@ pub record Spells (flags : Flags) (text : Text) (tree : Tree) (depth : ℕ) : Ty
   pub is_tree : written_tree flags written ≡ tree
   pub is_depth : branches_depth written ≡ depth
 
--- the text spells some tree
+-- The text spells some tree.
 abbrev pub IsSpelled : Flags → Text → ℕ → Type 0
 IsSpelled flags text depth = (tree : Tree) × Spells flags text tree depth
 
--- the text spells the tree, nested within the limit
+-- The text spells the tree, and nests within the limit.
 abbrev pub IsFound : Flags → Text → Tree → Type 0
 IsFound flags text tree = (depth : ℕ) × (depth ≤ 250) × Spells flags text tree depth
 
--- what an error says of the text
+-- what an error means for the text
 abbrev pub Refuses : Flags → Text → PatternError → Type 0
 Refuses flags text (errors.Syntax kind at) = (depth : ℕ) → IsSpelled flags text depth → ⊥
 Refuses flags text errors.LimitPatternNesting = (depth : ℕ) → IsSpelled flags text depth → 250 < depth
 Refuses flags text errors.Memory = Unit {0}
 
--- the flags at the beginning of a pattern
+-- the flags at the start of a pattern
 abbrev pub first_flags : Bool → Bool → Flags
 first_flags unicode ignore_case = record { unicode = unicode; ignore_case = ignore_case; multi_line = false; dot_all = false; swap_greed = false; crlf = false }

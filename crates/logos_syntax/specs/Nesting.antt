@@ -29,13 +29,13 @@ around_tokens outermost = []
 around_tokens (within around inside opening) =
     (around_tokens around ++ branches_tokens inside) ++ opens opening ∷ []
 
--- the flags at the front of the innermost group
+-- the flags at the start of the innermost group
 abbrev pub around_flags : Flags → Around → Flags
 around_flags flags outermost = flags
 around_flags flags (within around inside opening) =
     inner_flags opening (branches_flags (around_flags flags around) inside)
 
--- what is written may stand where it stands
+-- The flags allow what is written.
 abbrev pub AroundFits : Flags → Around → Type 0
 AroundFits flags outermost = Unit {0}
 AroundFits flags (within around inside opening) =
@@ -47,7 +47,7 @@ around_depth outermost = 0
 around_depth (within around inside opening) =
     max (groups_open around + branches_depth inside) (around_depth around)
 
--- A beginning of the text is a beginning of a pattern, and rest follows it.
+-- A beginning of the text is a beginning of a pattern, and the rest follows it.
 pub record Front (flags : Flags) (text rest : Text) : Type 0 where
   pub around : Around
   -- what is written in the innermost group
@@ -61,13 +61,13 @@ pub record Front (flags : Flags) (text rest : Text) : Type 0 where
 abbrev pub front_depth : {flags : Flags} {text rest : Text} → Front flags text rest → ℕ
 front_depth front = max (groups_open front.around + branches_depth front.inside) (around_depth front.around)
 
--- the flags behind it
+-- the flags after it
 abbrev pub front_flags : {flags : Flags} {text rest : Text} → Front flags text rest → Flags
 front_flags {flags = flags} front = branches_flags (around_flags flags front.around) front.inside
 
 -- ---- brackets
 
--- Behind the tokens of a bracket as many brackets are open as the last number says, where as many are as the first one says.
+-- After the tokens of a bracket, the last number of brackets is open, if the first number was open before them.
 -- The outermost one stays open.
 pub data LeavesOpen : ℕ → List BracketToken → ℕ → Type 0 where
   done : (n : ℕ) → LeavesOpen n [] n
@@ -77,7 +77,7 @@ pub data LeavesOpen : ℕ → List BracketToken → ℕ → Type 0 where
       LeavesOpen n (tokens.Open negated lead ∷ others) m
   closing : (n m : ℕ) (others : List BracketToken) → LeavesOpen (suc n) others m → LeavesOpen (suc (suc n)) (tokens.Close ∷ others) m
 
--- A beginning of the text, which stands behind the opening of a bracket, leaves so many brackets open.
+-- A beginning of the text, which comes after the opening of a bracket, leaves this number of brackets open.
 pub record InsideFront (flags : Flags) (text : Text) (count : ℕ) : Type 0 where
   pub written : List BracketToken
   pub rest : Text
@@ -85,18 +85,18 @@ pub record InsideFront (flags : Flags) (text : Text) (count : ℕ) : Type 0 wher
   pub fits : TokensFit flags written
   pub leaves : LeavesOpen 1 written count
 
--- A beginning of the text, which stands behind `[`, leaves so many brackets open, the one of that `[` among them.
+-- A beginning of the text, which comes after `[`, leaves this number of brackets open, with the one of that `[`.
 pub record BracketFront (flags : Flags) (text : Text) (count : ℕ) : Type 0 where
   pub negated : Bool
   pub lead : Lead
-  pub behind : Text
-  pub opens : Opens negated lead text behind
-  pub inside : InsideFront flags behind count
+  pub following : Text
+  pub opens : Opens negated lead text following
+  pub inside : InsideFront flags following count
 
 -- ---- the limit
 
--- behind a beginning of the text more than 250 groups, brackets and operators are around one place
+-- After a beginning of the text, more than 250 groups, brackets and operators are around one place.
 pub data IsTooDeep (flags : Flags) (text : Text) : Type 0 where
   by_groups : (rest : Text) (front : Front flags text rest) → 250 < front_depth front → IsTooDeep flags text
-  by_brackets : (behind : Text) (front : Front flags text (91 ∷ behind)) (count : ℕ) →
-      BracketFront (front_flags front) behind count → 250 < groups_open front.around + count → IsTooDeep flags text
+  by_brackets : (following : Text) (front : Front flags text (91 ∷ following)) (count : ℕ) →
+      BracketFront (front_flags front) following count → 250 < groups_open front.around + count → IsTooDeep flags text

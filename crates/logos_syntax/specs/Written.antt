@@ -1,4 +1,4 @@
--- A pattern as it is written, from the left: each front of a group's inside is the inside of a group.
+-- A pattern as it is written, from the left. Each beginning of a group's inside is itself the inside of a group.
 use Rattle.std.specs.Prelude.{◌≡◌, false, List, [], ◌∷◌, ◌++◌, bytes_eq}
 use Rattle.std.specs.List.{list_any}
 use Rattle.logos_pattern_tokens.specs.declared.token.Flags.{Flags}
@@ -12,7 +12,7 @@ use Rattle.logos_pattern_tokens.specs.bracket.Spelling.{Encloses}
 use Rattle.logos_pattern_tokens.specs.Spelling.{Takes}
 
 mutual
-  -- the inside of a group: branches parted by `|`
+  -- the inside of a group: branches with `|` between them
   pub data Branches : Type 0 where
     first : Items → Branches
     next : Branches → Items → Branches
@@ -49,19 +49,19 @@ abbrev mutual
   piece_tokens (group opening bs) = opens opening ∷ branches_tokens bs ++ closes ∷ []
   piece_tokens (repeated p op) = piece_tokens p ++ repeats op ∷ []
 
--- The text begins with the token, and rest follows it.
+-- The text begins with the token, and the rest follows it.
 pub data Starts : Token → Text → Text → Type 0 where
   taken : (t : Token) (text rest : Text) → Takes t text rest → Starts t text rest
   enclosed : (b : Bracket) (text rest : Text) → Encloses b text rest → Starts (bracketed b) (91 ∷ text) rest
 
--- the text is these tokens and then rest
+-- The text is these tokens and then the rest.
 abbrev pub Cuts : Text → List Token → Text → Type 0
 Cuts text [] rest = text ≡ rest
 Cuts text (token ∷ tokens) rest = (after : Text) × Starts token text after × Cuts after tokens rest
 
 -- ---- names
 
--- the name of a group is none of those before it
+-- The name of a group differs from all names before it.
 abbrev pub IsNew : List Text → Token → Type 0
 IsNew seen (opens (named name)) = list_any (bytes_eq name) seen ≡ false
 IsNew seen _ = Unit {0}
@@ -70,7 +70,7 @@ abbrev pub with_name : List Text → Token → List Text
 with_name seen (opens (named name)) = name ∷ seen
 with_name seen _ = seen
 
--- no two groups have one name, nor one of the names seen before
+-- No two groups have the same name, and none has a name that was seen before.
 abbrev pub NamesDiffer : List Text → List Token → Type 0
 NamesDiffer seen [] = Unit {0}
 NamesDiffer seen (token ∷ tokens) = IsNew seen token × NamesDiffer (with_name seen token) tokens

@@ -1,4 +1,4 @@
-//! Brackets: what stands in them, and the set that they mean.
+//! Reads brackets into the sets that they stand for.
 
 pub(crate) mod parser;
 pub(crate) mod stack;

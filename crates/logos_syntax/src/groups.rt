@@ -1,4 +1,4 @@
-//! Puts tokens together to a tree, with the groups that are open on a stack.
+//! The stack of the groups that are open while a pattern is read, which makes the tree.
 
 ghost use Rattle.std.specs.Prelude.{◌≤◌, ◌≡◌, ◌+◌, ◌<◌, length, map, IfOk, OnOk, Some, unwrap_or, vec_len};
 ghost use Rattle.logos_hir.specs.Hir.{tree_of};
@@ -20,8 +20,8 @@ use logos_pattern_tokens::token::{Atom, Change, Flags, Opening, Operator, Token}
 use std::alloc::{AllocError, Global};
 use std::mem;
 
-/// A tree, how deep its innermost place is in the whole pattern, and the number of characters from
-/// its first one on.
+/// A tree, the depth of its innermost place in the whole pattern, and the number of characters from its start
+/// to the end of the text.
 #[derive(Drop)]
 pub(crate) struct Part {
     tree: Hir,
@@ -30,24 +30,24 @@ pub(crate) struct Part {
     ghost shallow: { depth ≤ 250 },
 }
 
-/// The inside of a group so far.
+/// The inside of an open group, as far as it was read.
 #[derive(Drop)]
 pub(crate) struct OpenGroup {
     flags: Flags,
-    /// The group is a capture.
+    /// Whether the group is a capture.
     captured: bool,
     branches: Vec<Hir>,
     parts: Vec<Hir>,
-    /// What an operator would repeat.
+    /// The part that an operator would repeat, if one may come next.
     last: Option<Part>,
-    /// How deep its innermost place is in the whole pattern.
+    /// The depth of its innermost place in the whole pattern.
     inner: usize,
-    /// The number of characters from its opening on.
+    /// The number of characters from its opening to the end of the text.
     left: usize,
     ghost shallow: { inner ≤ 250 },
 }
 
-/// The groups that are open.
+/// The groups that are open, the innermost on top. The outermost one is the whole pattern.
 #[derive(Drop)]
 pub(crate) struct Groups {
     top: OpenGroup,
@@ -56,14 +56,14 @@ pub(crate) struct Groups {
     ghost shallow: { vec_len below ≤ 250 },
 }
 
-/// What a flag is behind a setting.
+/// Returns the flag after a setting that turns it on or off, or leaves it.
 fn set_or(change: Option<bool>, flag: bool) -> bool
     ensures { result ≡ unwrap_or change flag }
 {
     change.unwrap_or(flag)
 }
 
-/// The flags behind a flag setting.
+/// Returns the flags after a flag setting.
 fn flags_after(change: Change, flags: Flags) -> Flags
     ensures { result ≡ flags_after change flags }
 {
@@ -77,7 +77,7 @@ fn flags_after(change: Change, flags: Flags) -> Flags
     }
 }
 
-/// The flags inside a group.
+/// Returns the flags at the start of a group's inside.
 fn inner_flags(opening: Opening<'_>, flags: Flags) -> Flags
     ensures { result ≡ inner_flags (opening_view opening.entry) flags }
 {
@@ -87,7 +87,7 @@ fn inner_flags(opening: Opening<'_>, flags: Flags) -> Flags
     }
 }
 
-/// Whether the group is a capture.
+/// Returns whether a group that opens so is a capture.
 fn captures(opening: Opening<'_>) -> bool
     ensures { result ≡ captures (opening_view opening.entry) }
 {
@@ -97,14 +97,14 @@ fn captures(opening: Opening<'_>) -> bool
     }
 }
 
-/// Whether the operator takes as many as it can.
+/// Returns whether the operator is greedy.
 fn is_greedy(flags: Flags, op: Operator) -> bool
     ensures { result ≡ is_greedy flags op }
 {
     if flags.swap_greed { op.lazy } else { !op.lazy }
 }
 
-/// A group that may be a capture.
+/// Returns the tree of a group, which is a capture if `captured` holds.
 fn group_tree(alloc: Global, captured: bool, tree: Hir) -> Result<Hir, AllocError>
     ensures { IfOk result (λ hir. simplest_tree hir ≡ group_tree captured (simplest_tree tree)) }
 {
@@ -118,7 +118,7 @@ impl OpenGroup {
     ghost use Rattle.logos_syntax.specs.inside.Groups.{Group, fresh, all_parts, put, set, next_branch, all_branches, whole_tree, repeat};
     ghost use Rattle.logos_syntax.specs.inside.GroupsView.{part_view, group_view, Repeats};
 
-    /// A group of which nothing is read but its opening.
+    /// Returns a group of which only the opening was read. `level` is the number of groups around its inside.
     fn new(alloc: Global, flags: Flags, captured: bool, level: usize, left: usize) -> OpenGroup
         requires { level ≤ 250 }
         ensures { group_view result ≡ fresh flags captured level }
@@ -134,7 +134,7 @@ impl OpenGroup {
         }
     }
 
-    /// Nothing is left that an operator could repeat.
+    /// Moves the part that an operator could repeat to the parts that none can.
     fn settle(&mut self) -> Result<(), AllocError>
         ensures { OnOk result (group_view self.new ≡ set (group_view self.old) self.old.flags) }
     {
@@ -144,7 +144,7 @@ impl OpenGroup {
         Ok(())
     }
 
-    /// Adds what an operator could repeat.
+    /// Adds a part that an operator could repeat.
     fn put(&mut self, part: Part) -> Result<(), AllocError>
         ensures { OnOk result (group_view self.new ≡ put (group_view self.old) (part_view part)) }
     {
@@ -154,7 +154,7 @@ impl OpenGroup {
         Ok(())
     }
 
-    /// Sets the flags for what follows.
+    /// Sets the flags for what comes next.
     fn set(&mut self, flags: Flags) -> Result<(), AllocError>
         ensures { OnOk result (group_view self.new ≡ set (group_view self.old) flags) }
     {
@@ -174,7 +174,7 @@ impl OpenGroup {
         Ok(())
     }
 
-    /// The whole group, once it is closed.
+    /// Returns the tree of the group, as if it ended here.
     fn finish(mut self, alloc: Global) -> Result<Hir, AllocError>
         ensures { IfOk result (λ hir. simplest_tree hir ≡ whole_tree (group_view self)) }
     {
@@ -183,7 +183,10 @@ impl OpenGroup {
         group_tree(alloc, captured, simplify::either(self.branches))
     }
 
-    /// Repeats what stands last.
+    /// Repeats the last part. `left` is the number of characters from the operator to the end of the text.
+    ///
+    /// # Errors
+    /// `NothingToRepeat` if there is no such part, `LimitPatternNesting`, and `Memory`.
     fn repeat(&mut self, alloc: Global, op: Operator, left: usize) -> Result<(), Stop>
         ensures { Repeats result (repeat (group_view self.old) op (group_view self.old).last)
             (group_view self.new) }
@@ -212,7 +215,7 @@ impl Groups {
     ghost use Rattle.logos_syntax.specs.inside.Groups.{State, start, whole_tree, step};
     ghost use Rattle.logos_syntax.specs.inside.GroupsView.{state_view, Steps, Ends};
 
-    /// The whole pattern as a group that nothing is read of.
+    /// Returns the stack at the start of a pattern of `left` characters.
     pub(crate) fn new(alloc: Global, flags: Flags, left: usize) -> Groups
         ensures { state_view result ≡ start flags }
     {
@@ -222,14 +225,14 @@ impl Groups {
         }
     }
 
-    /// The flags that hold here.
+    /// Returns the flags that are on here.
     pub(crate) fn flags(&self) -> Flags
         ensures { result ≡ (state_view self.now).top.flags }
     {
         self.top.flags
     }
 
-    /// How many groups are open.
+    /// Returns the number of groups that are open, without the whole pattern.
     pub(crate) fn depth(&self) -> usize
         ensures depth { result ≡ length (state_view self.now).below }
         ensures shallow { result ≤ 250 }
@@ -237,12 +240,13 @@ impl Groups {
         self.below.len()
     }
 
-    /// The number of characters from the innermost opening on.
+    /// Returns the number of characters from the innermost opening to the end of the text.
     pub(crate) fn opening(&self) -> usize {
         self.top.left
     }
 
-    /// The number of characters from the first one on of what an operator would repeat.
+    /// Returns the number of characters from the start of the part that an operator would repeat to the end of the
+    /// text.
     pub(crate) fn repeated(&self) -> Option<usize> {
         match &self.top.last {
             Some(part) => Some(part.left),
@@ -251,6 +255,9 @@ impl Groups {
     }
 
     /// Adds an atom.
+    ///
+    /// # Errors
+    /// `UnicodeWordBoundary` or `NotInBytes` if the flags do not allow the atom, and `Memory`.
     fn atom(&mut self, alloc: Global, atom: Atom, left: usize) -> Result<(), Stop>
         ensures { Steps (state_view self.old) (token_atom atom) result (state_view self.new) }
     {
@@ -267,7 +274,7 @@ impl Groups {
         Ok(())
     }
 
-    /// Puts the set of a bracket.
+    /// Adds a bracket by its set.
     pub(crate) fn class(
         &mut self,
         alloc: Global,
@@ -287,6 +294,9 @@ impl Groups {
     }
 
     /// Opens a group.
+    ///
+    /// # Errors
+    /// `LimitPatternNesting`, and `Memory`.
     fn open(&mut self, alloc: Global, opening: Opening<'_>, left: usize) -> Result<(), Stop>
         ensures { Steps (state_view self.old) (opens (opening_view opening.entry)) result
             (state_view self.new) }
@@ -303,6 +313,9 @@ impl Groups {
     }
 
     /// Closes the innermost group.
+    ///
+    /// # Errors
+    /// `Unopened` if no group is open, and `Memory`.
     fn close(&mut self, alloc: Global, left: usize) -> Result<(), Stop>
         ensures { Steps (state_view self.old) closes result (state_view self.new) }
     {
@@ -328,14 +341,20 @@ impl Groups {
         Ok(self.top.set(flags)?)
     }
 
-    /// Repeats what stands last in the innermost group.
+    /// Repeats the last part of the innermost group.
+    ///
+    /// # Errors
+    /// Those of `OpenGroup::repeat`.
     fn repeat(&mut self, alloc: Global, op: Operator, left: usize) -> Result<(), Stop>
         ensures { Steps (state_view self.old) (repeats op) result (state_view self.new) }
     {
         self.top.repeat(alloc, op, left)
     }
 
-    /// Takes the next token.
+    /// Takes the next token. `left` is the number of characters from the token to the end of the text.
+    ///
+    /// # Errors
+    /// The fault of the token here, `LimitPatternNesting`, or `Memory`.
     pub(crate) fn step(&mut self, alloc: Global, token: Token<'_>, left: usize) -> Result<(), Stop>
         ensures { Steps (state_view self.old) (token_view token.entry) result
             (state_view self.new) }
@@ -350,7 +369,10 @@ impl Groups {
         }
     }
 
-    /// The whole pattern, if no group is open.
+    /// Returns the tree of the whole pattern.
+    ///
+    /// # Errors
+    /// `Unclosed` if a group is still open, and `Memory`.
     pub(crate) fn finish(self, alloc: Global) -> Result<Hir, Stop>
         ensures { Ends result (state_view self) }
     {
@@ -365,7 +387,7 @@ impl Groups {
     }
 }
 
-/// What is wrong with an atom that may not stand where it stands.
+/// Returns the fault of an atom that the flags do not allow.
 fn unfit_kind(atom: Atom) -> Kind {
     match atom {
         Atom::Boundary(_) => Kind::UnicodeWordBoundary,

@@ -1,4 +1,4 @@
-//! The grammar of patterns: reads a text into the tree that it spells.
+//! Reads a pattern's text by the grammar into the tree that it spells.
 
 #![tactic(auto)]
 

@@ -1,4 +1,4 @@
-//! The names of groups, of which no two are equal.
+//! The names of groups, no two of which may be equal.
 
 ghost use Rattle.std.specs.Prelude.{◌≡◌, ◌∷◌, [], List, not, bytes_eq, IfOk};
 ghost use Rattle.std.specs.List.{list_any};
@@ -8,7 +8,7 @@ use logos_pattern_tokens::token::{Opening, Token};
 use std::alloc::{AllocError, Global};
 use std::collections::BTreeSet;
 
-/// The names that stand in a pattern so far.
+/// The names of the groups that were read.
 #[derive(Drop)]
 pub(crate) struct Names {
     seen: BTreeSet<Vec<char>>,
@@ -17,7 +17,7 @@ pub(crate) struct Names {
 impl Names {
     ghost use Rattle.logos_syntax.specs.inside.Names.{HasNames, Admits};
 
-    /// No names.
+    /// Returns the empty set of names.
     pub(crate) fn new(alloc: Global) -> Names
         ensures { HasNames result [] }
     {
@@ -26,7 +26,7 @@ impl Names {
         }
     }
 
-    /// Adds a name, and says whether it is a new one.
+    /// Adds a name, and returns whether it is new.
     fn add(&mut self, alloc: Global, name: &[char]) -> Result<bool, AllocError>
         ensures { (seen : List Text) → HasNames self.old seen →
             IfOk result (λ added. (added ≡ not (list_any (bytes_eq name.now) seen)) ×
@@ -36,7 +36,8 @@ impl Names {
         Ok(self.seen.insert(key)?)
     }
 
-    /// Adds the name of a group, if it has one, and says whether it is a new one.
+    /// Adds the name of the group that the token opens, if it has one, and returns whether it is new. Returns `true`
+    /// for all other tokens.
     pub(crate) fn admit(&mut self, alloc: Global, token: Token<'_>) -> Result<bool, AllocError>
         ensures { (seen : List Text) → HasNames self.old seen →
             IfOk result (λ admitted. Admits seen (token_view token.entry) admitted self.new) }

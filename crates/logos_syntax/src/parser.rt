@@ -9,7 +9,7 @@ ghost use Rattle.logos_hir.specs.Hir.{tree_of};
 ghost use Rattle.logos_pattern_tokens.specs.declared.error.PatternError.TheVariants as errors;
 ghost use Rattle.logos_syntax.specs.Nesting.{IsTooDeep};
 ghost use Rattle.logos_syntax.specs.Grammar.{Spells, IsFound, Refuses};
-ghost use Rattle.logos_syntax.specs.inside.Reading.{StopsText, TellsText};
+ghost use Rattle.logos_syntax.specs.inside.Reading.{StopsText, IfDeepText};
 
 use crate::bracket::parser::{read_bracket, stop_for};
 use crate::groups::Groups;
@@ -34,7 +34,7 @@ impl Parser {
     ghost use Rattle.logos_syntax.specs.inside.Groups.{start};
     ghost use Rattle.logos_syntax.specs.inside.Reading.{ReadsToken, ReadsSimple};
 
-    /// A parser at the front of a text of so many characters.
+    /// Returns a parser at the front of a text of `left` characters.
     fn new(alloc: Global, flags: Flags, left: usize) -> Parser
         ensures groups { state_view result.groups ≡ start flags }
         ensures names { HasNames result.names [] }
@@ -45,7 +45,7 @@ impl Parser {
         }
     }
 
-    /// The place of a fault at the front of the text.
+    /// Returns the stop for a fault of the token at the front of the text.
     fn stop(&self, fault: Fault, text: &[char]) -> Stop
         ensures { IsStopOf fault result }
     {
@@ -59,7 +59,8 @@ impl Parser {
         }
     }
 
-    /// The place of a fault of counts: that of what they would repeat.
+    /// Returns the stop for a fault of counts, which is at the start of the part that they would repeat. A brace
+    /// that is not closed is a fault at the brace, and so are counts with nothing to repeat.
     fn count_stop(&self, kind: Kind, left: usize) -> Stop
         ensures { IsStopOf (faults.Syntax kind) result }
     {
@@ -73,7 +74,10 @@ impl Parser {
         }
     }
 
-    /// Reads a bracket from behind its first character.
+    /// Reads a bracket, from after its `[`, and returns the rest of the text.
+    ///
+    /// # Errors
+    /// The first fault of the bracket, `LimitPatternNesting`, or `Memory`.
     fn bracket<'t>(&mut self, alloc: Global, inside: &'t [char]) -> Result<&'t [char], Stop>
         ensures { (seen : List Text) → HasNames self.old.names seen →
             ReadsToken (state_view self.old.groups) seen (91 ∷ inside.now) result
@@ -89,7 +93,10 @@ impl Parser {
         Ok(rest)
     }
 
-    /// Reads a token that is no bracket.
+    /// Reads a token that does not begin a bracket, and returns the rest of the text.
+    ///
+    /// # Errors
+    /// The fault of the token, `LimitPatternNesting`, or `Memory`.
     fn simple<'t>(&mut self, alloc: Global, text: &'t [char]) -> Result<&'t [char], Stop>
         ensures { (seen : List Text) → HasNames self.old.names seen →
             ReadsSimple (state_view self.old.groups) seen text.now result
@@ -111,7 +118,10 @@ impl Parser {
         Ok(rest)
     }
 
-    /// Reads the token at the front.
+    /// Reads the token or the bracket at the front, and returns the rest of the text.
+    ///
+    /// # Errors
+    /// Its first fault, `LimitPatternNesting`, or `Memory`.
     fn token<'t>(&mut self, alloc: Global, text: &'t [char]) -> Result<&'t [char], Stop>
         ensures { (seen : List Text) → HasNames self.old.names seen →
             ReadsToken (state_view self.old.groups) seen text.now result
@@ -127,7 +137,7 @@ impl Parser {
     }
 }
 
-/// What is wrong with the opening of a group.
+/// Returns the kind of a fault of a group's opening: `GroupSyntax` for look-around.
 fn group_kind(kind: Kind, text: &[char]) -> Kind {
     match text {
         ['(', '?', '=' | '!', ..] => Kind::GroupSyntax,
@@ -136,10 +146,13 @@ fn group_kind(kind: Kind, text: &[char]) -> Kind {
 }
 
 /// Reads the whole text.
+///
+/// # Errors
+/// The first fault from the left, `LimitPatternNesting`, or `Memory`.
 fn run(alloc: Global, flags: Flags, text: &[char]) -> Result<Hir, Stop>
     ensures found { IfOk result (λ hir. IsFound flags text.now (tree_of hir)) }
     ensures stopped { IfErr result (StopsText flags text.now) }
-    ensures deep { IfErr result (TellsText flags text.now) }
+    ensures deep { IfErr result (IfDeepText flags text.now) }
 {
     let mut parser = Parser::new(alloc, flags, text.len());
     let mut rest = text;
@@ -152,7 +165,7 @@ fn run(alloc: Global, flags: Flags, text: &[char]) -> Result<Hir, Stop>
     parser.groups.finish(alloc)
 }
 
-/// The number of bytes of the characters.
+/// Returns the number of bytes of the characters in UTF-8.
 fn byte_len(text: &[char]) -> usize {
     let mut len: usize = 0;
     for c in text {
@@ -161,7 +174,7 @@ fn byte_len(text: &[char]) -> usize {
     len
 }
 
-/// The error of a fault where so many characters are left.
+/// Returns the error for a fault at the place from which `left` characters are left.
 fn syntax_at(text: &[char], kind: Kind, left: usize) -> PatternError
     ensures { (at : ℕ) × (result ≡ errors.Syntax kind at) }
 {
@@ -172,11 +185,11 @@ fn syntax_at(text: &[char], kind: Kind, left: usize) -> PatternError
     }
 }
 
-/// The error of a stop, by the place where it is.
+/// Returns the error for a stop.
 fn error_at(text: &[char], stop: Stop) -> PatternError
     ensures refused { (flags : FlagsValue) (t : Text) → StopsText flags t stop →
         Refuses flags t result }
-    ensures deep { (flags : FlagsValue) (t : Text) → TellsText flags t stop →
+    ensures deep { (flags : FlagsValue) (t : Text) → IfDeepText flags t stop →
         result ≡ errors.LimitPatternNesting → IsTooDeep flags t }
 {
     match stop {
@@ -186,23 +199,24 @@ fn error_at(text: &[char], stop: Stop) -> PatternError
     }
 }
 
-/// The characters of a text.
+/// Returns the characters of the text.
 fn characters(alloc: Global, regex: &str) -> Result<Vec<char>, AllocError>
     ensures { IfOk result (λ v. v.items ≡ chars regex.now) }
 {
     regex.chars().collect(alloc)
 }
 
-/// Reads a pattern under the flags that hold at its beginning.
+/// Reads a pattern under the flags that are on at its start, and returns its tree.
 ///
-/// What the grammar does not allow is `Syntax`, with the byte offset of the place in the text.
-/// Where groups, brackets and operators nest more than 250 deep, the answer is
-/// `LimitPatternNesting`, and where memory runs out it is `Memory`.
+/// # Errors
+/// `Syntax` if the text breaks the grammar, with the kind and the byte offset of the fault;
+/// `LimitPatternNesting` if groups, brackets and operators nest more than 250 deep; and `Memory` when memory
+/// runs out.
 pub fn parse(alloc: Global, flags: Flags, regex: &str) -> Result<Hir, PatternError>
     ensures found { IfOk result (λ hir. IsFound flags (chars regex.now) (tree_of hir)) }
-    // What is refused has no tree, or only one that is nested too deep, or memory ran out.
+    // A text that is refused has no tree, or only one that is nested too deeply, or memory ran out.
     ensures refused { IfErr result (Refuses flags (chars regex.now)) }
-    // Behind some beginning of what is refused as too deep, more than 250 are around one place.
+    // After some beginning of a text that is refused as too deep, more than 250 are around one place.
     ensures deep { IfErr result (λ e. e ≡ errors.LimitPatternNesting →
         IsTooDeep flags (chars regex.now)) }
 {

@@ -1,4 +1,4 @@
-//! The trees of what can be repeated and has no parts.
+//! Turns atoms into trees.
 
 ghost use Rattle.std.specs.Prelude.{◌≡◌, ◌==◌, IfOk, encode_utf8, if◌then◌else◌};
 ghost use Rattle.logos_hir.specs.Tree.{literal};
@@ -16,7 +16,7 @@ use logos_hir::sets::RangeSet;
 use logos_pattern_tokens::token::{Atom, Flags};
 use std::alloc::{AllocError, Global};
 
-/// One character, or one byte, of the set.
+/// Returns the tree of one character, or of one byte, of the set.
 pub(crate) fn one_of(alloc: Global, flags: Flags, set: RangeSet) -> Result<Hir, AllocError>
     ensures { IfOk result (λ hir. tree_of hir ≡ one_of flags (set_of set)) }
 {
@@ -26,7 +26,7 @@ pub(crate) fn one_of(alloc: Global, flags: Flags, set: RangeSet) -> Result<Hir, 
     build::byte_class(alloc, set)
 }
 
-/// The number, and under `i` what has the same letter.
+/// Returns the set of the number alone, or if `i` is on also of what differs from it in case alone.
 fn same_as(alloc: Global, flags: Flags, code: u32) -> Result<RangeSet, AllocError>
     ensures { IfOk result (λ set. set_of set ≡ same_as flags code) }
 {
@@ -34,7 +34,7 @@ fn same_as(alloc: Global, flags: Flags, code: u32) -> Result<RangeSet, AllocErro
     case_closure(alloc, flags, only)
 }
 
-/// The bytes of a character.
+/// Returns the tree of a character's bytes.
 fn encoding(alloc: Global, c: char) -> Result<Hir, AllocError>
     ensures { IfOk result (λ hir. tree_of hir ≡ literal (encode_utf8 c)) }
 {
@@ -43,7 +43,7 @@ fn encoding(alloc: Global, c: char) -> Result<Hir, AllocError>
     Ok(Hir::Literal(Vec::from_slice(alloc, bytes)?))
 }
 
-/// A character by itself, under `i` in each case.
+/// Returns the tree of a character, or if `i` is on of the character in each case.
 fn character(alloc: Global, flags: Flags, c: char) -> Result<Hir, AllocError>
     ensures { IfOk result (λ hir. tree_of hir ≡ character_tree flags c) }
 {
@@ -53,7 +53,7 @@ fn character(alloc: Global, flags: Flags, c: char) -> Result<Hir, AllocError>
     encoding(alloc, c)
 }
 
-/// A byte, or the character with its number.
+/// Returns the tree of a byte, or of the character with its number if the pattern matches characters.
 fn byte(alloc: Global, flags: Flags, b: u8) -> Result<Hir, AllocError>
     ensures { IfOk result (λ hir. tree_of hir ≡ byte_tree flags b) }
 {
@@ -66,7 +66,7 @@ fn byte(alloc: Global, flags: Flags, b: u8) -> Result<Hir, AllocError>
     Ok(Hir::Literal(Vec::from_slice(alloc, &[b])?))
 }
 
-/// All but line ends, under `s` all.
+/// Returns the set of a dot: all but line ends, or all if `s` is on.
 fn dot_set(alloc: Global, flags: Flags) -> Result<RangeSet, AllocError>
     ensures { IfOk result (λ set. set_of set ≡ dot_set flags) }
 {
@@ -81,7 +81,7 @@ fn dot_set(alloc: Global, flags: Flags) -> Result<RangeSet, AllocError>
     RangeSet::from_ranges(alloc, &[Range::new(0, 9), Range::new(11, last)])
 }
 
-/// What `^` asks for.
+/// Returns the look of `^`.
 fn start_look(flags: Flags) -> Look
     ensures { result ≡ start_look flags }
 {
@@ -92,7 +92,7 @@ fn start_look(flags: Flags) -> Look
     }
 }
 
-/// What `$` asks for.
+/// Returns the look of `$`.
 fn end_look(flags: Flags) -> Look
     ensures { result ≡ end_look flags }
 {
@@ -103,7 +103,7 @@ fn end_look(flags: Flags) -> Look
     }
 }
 
-/// A word boundary, or a place that is none.
+/// Returns the look of a word boundary, or of its opposite.
 fn boundary(negated: bool) -> Look
     ensures { result ≡ (if negated then Look.WordAsciiNegate else Look.WordAscii) }
 {
@@ -114,7 +114,7 @@ fn boundary(negated: bool) -> Look
     }
 }
 
-/// One of a class, or of its complement.
+/// Returns the tree of one member of a class, or of its complement.
 fn class(alloc: Global, flags: Flags, negated: bool, set: RangeSet) -> Result<Hir, AllocError>
     ensures { IfOk result (λ hir. tree_of hir ≡
         one_of flags (set_or_complement flags negated (case_closure flags (set_of set)))) }
@@ -127,7 +127,7 @@ fn class(alloc: Global, flags: Flags, negated: bool, set: RangeSet) -> Result<Hi
     )
 }
 
-/// The tree of an atom.
+/// Returns the tree of an atom under the flags.
 pub(crate) fn atom_tree(alloc: Global, flags: Flags, atom: Atom) -> Result<Hir, AllocError>
     ensures { IfOk result (λ hir. tree_of hir ≡ atom_tree flags atom) }
 {
@@ -150,7 +150,8 @@ pub(crate) fn atom_tree(alloc: Global, flags: Flags, atom: Atom) -> Result<Hir, 
     }
 }
 
-/// Word boundaries stand where bytes are matched, properties where characters are.
+/// Returns whether the atom is allowed under the flags: a word boundary if the pattern matches bytes, and a
+/// property if it matches characters.
 pub(crate) fn atom_fits(flags: Flags, atom: Atom) -> bool
     ensures { result ≡ atom_fits flags atom }
 {

@@ -16,7 +16,7 @@ use Rattle.logos_pattern_tokens.specs.bracket.Spelling.{Opens, Encloses}
 use Rattle.logos_syntax.specs.bracket.Meaning.{BracketFits, bracket_depth}
 use Rattle.logos_pattern_tokens.specs.bracket.Reader.{open_at, bracket_token_at}
 use Rattle.logos_syntax.specs.inside.BracketStack.{Frames}
-use Rattle.logos_syntax.specs.inside.BracketView.{IsStopOf, Denies, NoStep, TooDeep, BracketSteps, ReadsInside, ReadsBracket, TellsInside, TellsBracket}
+use Rattle.logos_syntax.specs.inside.BracketView.{IsStopOf, Denies, NoStep, TooDeep, BracketSteps, ReadsInside, ReadsBracket, IfDeepInside, IfDeepBracket}
 use Rattle.std.proofs.lemmas.Bool.{eqb-true}
 use Rattle.logos_pattern_tokens.proofs.BracketTokens.{open_taken}
 use Rattle.logos_syntax.proofs.brackets.Levels.{length-below_of, size}
@@ -77,12 +77,12 @@ whole_bracket flags base text n d rest (Ok x) o h = record {
   is_depth = h.is_depth;
   shallow = h.shallow;
 }
-whole_bracket flags base text n d rest (Err e) o h = (refuted (Denies flags base e) n d text rest o h.0, tells e h.1)
+whole_bracket flags base text n d rest (Err e) o h = (refuted (Denies flags base e) n d text rest o h.0, is_deep e h.1)
   where
-    tells : (e : Stop) → TellsInside flags base e rest → TellsBracket flags base e text
-    tells (stops.Syntax kind left) i = tt
-    tells stops.LimitPatternNesting i = (i.0, record { negated = n; lead = d; behind = rest; opens = o; inside = i.1 }, i.2)
-    tells stops.Memory i = tt
+    is_deep : (e : Stop) → IfDeepInside flags base e rest → IfDeepBracket flags base e text
+    is_deep (stops.Syntax kind left) i = tt
+    is_deep stops.LimitPatternNesting i = (i.0, record { negated = n; lead = d; following = rest; opens = o; inside = i.1 }, i.2)
+    is_deep stops.Memory i = tt
 
 pub bracket_at : (flags : Flags) (base : ℕ) (text : Text) (n : Bool) (d : Lead) (rest : Text) (r : Result (BracketValue × Bor Text) Stop) → n ≡ (open_at text).0 → d ≡ (open_at text).1 → rest ≡ (open_at text).2 → ReadsInside flags base n d rest r → ReadsBracket flags base text r
 bracket_at flags base text n d rest r en ed er h =

@@ -13,7 +13,7 @@ use Rattle.logos_pattern_tokens.specs.bracket.Reader.{open_at, bracket_token_at}
 use Rattle.logos_pattern_tokens.proofs.BracketTokens.{open_taken}
 use Rattle.logos_syntax.specs.Nesting.{LeavesOpen, done, item, operator, opening, closing, InsideFront}
 use Rattle.logos_syntax.specs.inside.BracketStack.{Frames}
-use Rattle.logos_syntax.specs.inside.BracketView.{IsStopOf, BracketSteps, TellsInside, TellsBracket}
+use Rattle.logos_syntax.specs.inside.BracketView.{IsStopOf, BracketSteps, IfDeepInside, IfDeepBracket}
 use Rattle.logos_syntax.proofs.brackets.Levels.{Level, Stack, bottom, over, Place, size, starting, walk, walk_more, length-below_of}
 use Rattle.logos_syntax.proofs.brackets.Texts.{InBracket, cuts_more, taken, fits_more}
 
@@ -48,33 +48,33 @@ module _ (flags : Flags) (base : ℕ) (negated : Bool) (lead : Lead) (text here 
       }
 
   -- what a step that stopped says of the text
-  pub told_inside : (token : BracketToken) (after : Text) (stop : Stop) (new : Frames) → bracket_token_at here ≡ Some (token, after) → BracketSteps flags base s token (Err stop) new → TellsInside flags base stop text
-  told_inside token after (stops.Syntax kind left) new e h = tt
-  told_inside token after stops.Memory new e h = tt
-  told_inside (Item i) after stops.LimitPatternNesting new e none = absurd none
-  told_inside (Operator op) after stops.LimitPatternNesting new e none = absurd none
-  told_inside Close after stops.LimitPatternNesting new e none = absurd none
-  told_inside (Open n d) after stops.LimitPatternNesting new e deep =
+  pub deep_inside : (token : BracketToken) (after : Text) (stop : Stop) (new : Frames) → bracket_token_at here ≡ Some (token, after) → BracketSteps flags base s token (Err stop) new → IfDeepInside flags base stop text
+  deep_inside token after (stops.Syntax kind left) new e h = tt
+  deep_inside token after stops.Memory new e h = tt
+  deep_inside (Item i) after stops.LimitPatternNesting new e none = absurd none
+  deep_inside (Operator op) after stops.LimitPatternNesting new e none = absurd none
+  deep_inside Close after stops.LimitPatternNesting new e none = absurd none
+  deep_inside (Open n d) after stops.LimitPatternNesting new e deep =
       let below : length s.below ≡ size r.place.stack = ap (λ (x : Frames). length x.below) r.frames ∙ length-below_of flags base r.place.stack in
       (_, opens_here n d after e, omega arith)
 
 -- a fault is no limit
-pub untold_inside : (flags : Flags) (base : ℕ) (text : Text) (fault : Fault) (stop : Stop) → IsStopOf fault stop → TellsInside flags base stop text
-untold_inside flags base text (faults.Syntax kind) (stops.Syntax other left) h = tt
-untold_inside flags base text (faults.Syntax kind) stops.LimitPatternNesting h = absurd h
-untold_inside flags base text (faults.Syntax kind) stops.Memory h = tt
-untold_inside flags base text faults.Memory (stops.Syntax other left) h = tt
-untold_inside flags base text faults.Memory stops.LimitPatternNesting h = absurd h
-untold_inside flags base text faults.Memory stops.Memory h = tt
+pub shallow_inside : (flags : Flags) (base : ℕ) (text : Text) (fault : Fault) (stop : Stop) → IsStopOf fault stop → IfDeepInside flags base stop text
+shallow_inside flags base text (faults.Syntax kind) (stops.Syntax other left) h = tt
+shallow_inside flags base text (faults.Syntax kind) stops.LimitPatternNesting h = absurd h
+shallow_inside flags base text (faults.Syntax kind) stops.Memory h = tt
+shallow_inside flags base text faults.Memory (stops.Syntax other left) h = tt
+shallow_inside flags base text faults.Memory stops.LimitPatternNesting h = absurd h
+shallow_inside flags base text faults.Memory stops.Memory h = tt
 
 -- the bracket itself is too deep
-pub told_at_once : (flags : Flags) (base : ℕ) (text : Text) → 250 ≤ base → TellsBracket flags base stops.LimitPatternNesting text
-told_at_once flags base text h = (
+pub deep_at_once : (flags : Flags) (base : ℕ) (text : Text) → 250 ≤ base → IfDeepBracket flags base stops.LimitPatternNesting text
+deep_at_once flags base text h = (
   1,
   record {
     negated = (open_at text).0;
     lead = (open_at text).1;
-    behind = (open_at text).2;
+    following = (open_at text).2;
     opens = open_taken text;
     inside = record { written = []; rest = (open_at text).2; cut = refl; fits = tt; leaves = done 1 };
   },

@@ -163,18 +163,18 @@ same_whole os qs text rest after h k = from (compare (operands_tokens os ++ Clos
 record SameOpening (n m : Bool) (d e : Lead) (rest after : Text) : Type 0 where
   sign : n ≡ m
   lead : d ≡ e
-  behind : rest ≡ after
+  following : rest ≡ after
 
 one_opening : (n m : Bool) (d e : Lead) (text rest after : Text) → Opens n d text rest → Opens m e text after → SameOpening n m d e rest after
 one_opening n m d e text rest after a b =
     let same : ◌≡◌ {A = Bool × Lead × Text} (n, d, rest) (m, e, after) = sym (open_is n d text rest a) ∙ open_is m e text after b in
-    record { sign = ap (λ (x : Bool × Lead × Text). x.0) same; lead = ap (λ (x : Bool × Lead × Text). x.1) same; behind = ap (λ (x : Bool × Lead × Text). x.2) same }
+    record { sign = ap (λ (x : Bool × Lead × Text). x.0) same; lead = ap (λ (x : Bool × Lead × Text). x.1) same; following = ap (λ (x : Bool × Lead × Text). x.2) same }
 
 -- a text begins with at most one bracket
 pub one_bracket : (a b : Bracket) (text rest after : Text) → Encloses a text rest → Encloses b text after → (a ≡ b) × (rest ≡ after)
 one_bracket (bracket n d os) (bracket m e qs) text rest after h k =
     let o = one_opening n m d e text h.0 k.0 h.1 k.1 in
-    let w = same_whole os qs h.0 rest after h.2 (subst (λ x. BracketCuts x (operands_tokens qs ++ Close ∷ []) after) (sym o.behind) k.2) in
+    let w = same_whole os qs h.0 rest after h.2 (subst (λ x. BracketCuts x (operands_tokens qs ++ Close ∷ []) after) (sym o.following) k.2) in
     (ap (λ x. bracket x d os) o.sign ∙ ap (λ x. bracket m x os) o.lead ∙ ap (bracket m e) w.0, w.1)
 
 -- ---- refusals
@@ -189,7 +189,7 @@ pub refuted : (Claim : Bracket → Type 0) (negated : Bool) (lead : Lead) (text 
 refuted Claim negated lead text after o h (bracket m e os) rest k =
     let same = one_opening negated m lead e text after k.0 o k.1 in
     subst (λ x. Claim (bracket x e os)) same.sign (subst (λ x. Claim (bracket negated x os)) same.lead
-    (h os rest (subst (λ x. BracketCuts x (operands_tokens os ++ Close ∷ []) rest) (sym same.behind) k.2)))
+    (h os rest (subst (λ x. BracketCuts x (operands_tokens os ++ Close ∷ []) rest) (sym same.following) k.2)))
 
 -- there is no token
 pub no_token : (Claim : Bracket → Type 0) (negated : Bool) (lead : Lead) (text here : Text) (p : Place) → HasWalked negated lead text here p → bracket_token_at here ≡ None → Refuted Claim negated lead text

@@ -13,10 +13,10 @@ use Rattle.logos_syntax.specs.Written.{branches_tokens, taken as start_taken, Cu
 use Rattle.logos_syntax.specs.Grammar.{BranchesFit, branches_depth}
 use Rattle.logos_syntax.specs.Nesting.{Around, outermost, within, groups_open, around_tokens, around_flags, AroundFits, around_depth, Front, front_flags, BracketFront, IsTooDeep, by_groups, by_brackets}
 use Rattle.logos_syntax.specs.inside.Groups.{State, deepest, deepest_below}
-use Rattle.logos_syntax.specs.inside.BracketView.{IsStopOf, TellsBracket}
+use Rattle.logos_syntax.specs.inside.BracketView.{IsStopOf, IfDeepBracket}
 use Rattle.logos_syntax.specs.inside.GroupsView.{Steps, Ends}
 use Rattle.logos_syntax.specs.inside.Names.{Admits}
-use Rattle.logos_syntax.specs.inside.Reading.{IsDeepAt, token_deep, bracket_deep, TellsToken, TellsText, names_behind, HasRead}
+use Rattle.logos_syntax.specs.inside.Reading.{IsDeepAt, token_deep, bracket_deep, IfDeepToken, IfDeepText, names_after, HasRead}
 use Rattle.logos_syntax.proofs.patterns.Levels.{Stack, bottom, over, Place, level_inside, state_of, below_of, size, length-below_of, flags_inside, depth_inside}
 use Rattle.logos_syntax.proofs.patterns.Levels as levels
 use Rattle.logos_syntax.proofs.patterns.Reading.{stack_tokens, tokens_of, StackFits, IsRead, is_read}
@@ -96,44 +96,44 @@ module _ (flags : Flags) (text rest : Text) (s : State) (names : Names) (r : Has
       ∙ ap (λ (f : Flags). branches_flags f (level_inside read.place.level)) (sym (flags_around flags read.place.stack))
 
 -- a bracket in it opens too deep
-pub deep_brackets : (flags : Flags) (text behind : Text) (s : State) (names : Names) → (r : HasRead flags text (91 ∷ behind) s names) → (count : ℕ) → BracketFront s.top.flags behind count →
+pub deep_brackets : (flags : Flags) (text following : Text) (s : State) (names : Names) → (r : HasRead flags text (91 ∷ following) s names) → (count : ℕ) → BracketFront s.top.flags following count →
     250 < length s.below + count → IsTooDeep flags text
-deep_brackets flags text behind s names r count b deep =
-    let n = open_groups flags text (91 ∷ behind) s names r in
-    by_brackets behind (front flags text (91 ∷ behind) s names r) count
-    (subst (λ f. BracketFront f behind count) (flags_here flags text (91 ∷ behind) s names r) b) (omega arith)
+deep_brackets flags text following s names r count b deep =
+    let n = open_groups flags text (91 ∷ following) s names r in
+    by_brackets following (front flags text (91 ∷ following) s names r) count
+    (subst (λ f. BracketFront f following count) (flags_here flags text (91 ∷ following) s names r) b) (omega arith)
 
 -- what a stop at a token says of the text
-pub told : (flags : Flags) (text rest : Text) (s : State) (names others : Names) (stop : Stop) → (r : HasRead flags text rest s names) → TellsToken stop s (names_behind [] r.tokens) rest others → TellsText flags text stop
-told flags text rest s names others (stops.Syntax kind left) r h = tt
-told flags text rest s names others stops.Memory r h = tt
-told flags text rest s names others stops.LimitPatternNesting r h = from rest r h
+pub deep_text : (flags : Flags) (text rest : Text) (s : State) (names others : Names) (stop : Stop) → (r : HasRead flags text rest s names) → IfDeepToken stop s (names_after [] r.tokens) rest others → IfDeepText flags text stop
+deep_text flags text rest s names others (stops.Syntax kind left) r h = tt
+deep_text flags text rest s names others stops.Memory r h = tt
+deep_text flags text rest s names others stops.LimitPatternNesting r h = from rest r h
   where
-    from : (rest : Text) → (r : HasRead flags text rest s names) → IsDeepAt s (names_behind [] r.tokens) others rest → IsTooDeep flags text
+    from : (rest : Text) → (r : HasRead flags text rest s names) → IsDeepAt s (names_after [] r.tokens) others rest → IsTooDeep flags text
     from rest r (token_deep text2 after new g deep) = deep_groups flags text after new others (reads_on flags text rest after s new names others r g) deep
-    from rest r (bracket_deep behind count b deep) = deep_brackets flags text behind s names r count b deep
+    from rest r (bracket_deep following count b deep) = deep_brackets flags text following s names r count b deep
 
 -- a fault is no limit
-pub untold : (fault : Fault) (stop : Stop) (s : State) (seen : List Text) (text : Text) (names : Names) → IsStopOf fault stop → TellsToken stop s seen text names
-untold (faults.Syntax kind) (stops.Syntax other left) s seen text names h = tt
-untold (faults.Syntax kind) stops.LimitPatternNesting s seen text names h = absurd h
-untold (faults.Syntax kind) stops.Memory s seen text names h = tt
-untold faults.Memory (stops.Syntax other left) s seen text names h = tt
-untold faults.Memory stops.LimitPatternNesting s seen text names h = absurd h
-untold faults.Memory stops.Memory s seen text names h = tt
+pub shallow_token : (fault : Fault) (stop : Stop) (s : State) (seen : List Text) (text : Text) (names : Names) → IsStopOf fault stop → IfDeepToken stop s seen text names
+shallow_token (faults.Syntax kind) (stops.Syntax other left) s seen text names h = tt
+shallow_token (faults.Syntax kind) stops.LimitPatternNesting s seen text names h = absurd h
+shallow_token (faults.Syntax kind) stops.Memory s seen text names h = tt
+shallow_token faults.Memory (stops.Syntax other left) s seen text names h = tt
+shallow_token faults.Memory stops.LimitPatternNesting s seen text names h = absurd h
+shallow_token faults.Memory stops.Memory s seen text names h = tt
 
 -- what a bracket that stops says
-pub bracket_told : (s : State) (seen : List Text) (text : Text) (names : Names) (flags : Flags) (base : ℕ) (stop : Stop) → flags ≡ s.top.flags → base ≡ length s.below → TellsBracket flags base stop text → TellsToken stop s seen (91 ∷ text) names
-bracket_told s seen text names flags base (stops.Syntax kind left) set is h = tt
-bracket_told s seen text names flags base stops.Memory set is h = tt
-bracket_told s seen text names flags base stops.LimitPatternNesting set is h =
+pub bracket_is_deep : (s : State) (seen : List Text) (text : Text) (names : Names) (flags : Flags) (base : ℕ) (stop : Stop) → flags ≡ s.top.flags → base ≡ length s.below → IfDeepBracket flags base stop text → IfDeepToken stop s seen (91 ∷ text) names
+bracket_is_deep s seen text names flags base (stops.Syntax kind left) set is h = tt
+bracket_is_deep s seen text names flags base stops.Memory set is h = tt
+bracket_is_deep s seen text names flags base stops.LimitPatternNesting set is h =
     bracket_deep text h.0 (subst (λ f. BracketFront f text h.0) set h.1) (let deep = h.2 in omega arith)
 
 -- what a step that stops says
-pub step_told : (s u : State) (seen : List Text) (text rest : Text) (token : Token) (names : Names) (stop : Stop) → token_at text ≡ Some (token, rest) → Admits seen token true names → Steps s token (Err stop) u → TellsToken stop s seen text names
-step_told s u seen text rest token names (stops.Syntax kind left) is new h = tt
-step_told s u seen text rest token names stops.Memory is new h = tt
-step_told s u seen text rest token names stops.LimitPatternNesting is new h =
+pub step_is_deep : (s u : State) (seen : List Text) (text rest : Text) (token : Token) (names : Names) (stop : Stop) → token_at text ≡ Some (token, rest) → Admits seen token true names → Steps s token (Err stop) u → IfDeepToken stop s seen text names
+step_is_deep s u seen text rest token names (stops.Syntax kind left) is new h = tt
+step_is_deep s u seen text rest token names stops.Memory is new h = tt
+step_is_deep s u seen text rest token names stops.LimitPatternNesting is new h =
     token_deep text rest h.1.0 (record {
       token = token;
       starts = start_taken token text rest (taken_here text rest token is);
@@ -144,8 +144,8 @@ step_told s u seen text rest token names stops.LimitPatternNesting is new h =
     }) h.1.2
 
 -- the end is not too deep
-pub ended_told : (flags : Flags) (text : Text) (s : State) (r : Result Hir Stop) → Ends r s → IfErr r (TellsText flags text)
-ended_told flags text s (Ok hir) h = tt
-ended_told flags text s (Err (stops.Syntax kind left)) h = tt
-ended_told flags text s (Err stops.LimitPatternNesting) h = absurd h
-ended_told flags text s (Err stops.Memory) h = tt
+pub ended_is_deep : (flags : Flags) (text : Text) (s : State) (r : Result Hir Stop) → Ends r s → IfErr r (IfDeepText flags text)
+ended_is_deep flags text s (Ok hir) h = tt
+ended_is_deep flags text s (Err (stops.Syntax kind left)) h = tt
+ended_is_deep flags text s (Err stops.LimitPatternNesting) h = absurd h
+ended_is_deep flags text s (Err stops.Memory) h = tt

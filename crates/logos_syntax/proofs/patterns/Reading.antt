@@ -31,12 +31,12 @@ pub no_runs : (s u : State) → Runs s [] u → s ≡ u
 no_runs s u (stays t) = refl
 
 -- a run on more tokens begins with a run on fewer
-pub runs_behind : (s t u : State) (xs ys : List Token) → Runs s xs t → Runs s (xs ++ ys) u → Runs t ys u
-runs_behind s t u xs ys (stays v) r = r
-runs_behind s t u xs ys (goes v w last token tokens fit moves k) r =
+pub runs_after : (s t u : State) (xs ys : List Token) → Runs s xs t → Runs s (xs ++ ys) u → Runs t ys u
+runs_after s t u xs ys (stays v) r = r
+runs_after s t u xs ys (goes v w last token tokens fit moves k) r =
     let f = first_of_runs v u token (tokens ++ ys) r in
     let same : f.then ≡ w = (let h = f.moves in cc) in
-    runs_behind w last u tokens ys k (subst (λ z. Runs z (tokens ++ ys) u) same f.others)
+    runs_after w last u tokens ys k (subst (λ z. Runs z (tokens ++ ys) u) same f.others)
 
 -- ---- what is read is a pattern
 

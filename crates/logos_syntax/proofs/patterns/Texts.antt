@@ -27,13 +27,13 @@ use Rattle.logos_syntax.specs.Grammar.{written_tree, branches_depth, TokenFits, 
 use Rattle.logos_syntax.specs.inside.Groups.{State, start, whole_tree, step, Runs, stays, deepest}
 use Rattle.logos_syntax.specs.inside.GroupsView.{Steps, Ends}
 use Rattle.logos_syntax.specs.inside.Names.{HasNames, Admits}
-use Rattle.logos_syntax.specs.inside.Reading.{GoesOn, StopsAt, ReadsToken, ReadsSimple, names_behind, HasRead, StopsText}
+use Rattle.logos_syntax.specs.inside.Reading.{GoesOn, StopsAt, ReadsToken, ReadsSimple, names_after, HasRead, StopsText}
 use Rattle.logos_pattern_tokens.proofs.Picks.{IsTaken}
 use Rattle.logos_pattern_tokens.proofs.TokenLemmas.{is_taken, taken_is}
 use Rattle.logos_syntax.proofs.brackets.Texts.{one_bracket}
 use Rattle.logos_pattern_tokens.proofs.Shorter.{takes_some, encloses_some}
 use Rattle.logos_syntax.proofs.patterns.Levels.{bottom}
-use Rattle.logos_syntax.proofs.patterns.Reading.{runs_on, runs_once, first_of_runs, no_runs, runs_behind, is_read, whole_runs, whole_depth, runs_deeper, is_whole, level_of, tree_level_of, at_level}
+use Rattle.logos_syntax.proofs.patterns.Reading.{runs_on, runs_once, first_of_runs, no_runs, runs_after, is_read, whole_runs, whole_depth, runs_deeper, is_whole, level_of, tree_level_of, at_level}
 
 abbrev Taken : Type 0
 Taken = Token × Text
@@ -97,24 +97,24 @@ no_cut (u ∷ us) h = absurd (nothing_starts u h.0 h.1)
 
 -- ---- names
 
-pub names_more : (seen : List Text) (ts : List Token) (t : Token) → names_behind seen (ts ++ t ∷ []) ≡ with_name (names_behind seen ts) t
+pub names_more : (seen : List Text) (ts : List Token) (t : Token) → names_after seen (ts ++ t ∷ []) ≡ with_name (names_after seen ts) t
 names_more seen [] t = refl
 names_more seen (u ∷ us) t = names_more (with_name seen u) us t
 
-pub differ_more : (seen : List Text) (ts : List Token) (t : Token) → NamesDiffer seen ts → IsNew (names_behind seen ts) t → NamesDiffer seen (ts ++ t ∷ [])
+pub differ_more : (seen : List Text) (ts : List Token) (t : Token) → NamesDiffer seen ts → IsNew (names_after seen ts) t → NamesDiffer seen (ts ++ t ∷ [])
 differ_more seen [] t h k = (k, tt)
 differ_more seen (u ∷ us) t h k = (h.0, differ_more (with_name seen u) us t h.1 k)
 
-differ_behind : (seen : List Text) (ts us : List Token) → NamesDiffer seen (ts ++ us) → NamesDiffer (names_behind seen ts) us
-differ_behind seen [] us h = h
-differ_behind seen (t ∷ ts) us h = differ_behind (with_name seen t) ts us h.1
+differ_after : (seen : List Text) (ts us : List Token) → NamesDiffer seen (ts ++ us) → NamesDiffer (names_after seen ts) us
+differ_after seen [] us h = h
+differ_after seen (t ∷ ts) us h = differ_after (with_name seen t) ts us h.1
 
 -- ---- what the parser has read
 
 pub nothing_read : (flags : Flags) (text : Text) (s : State) (names : Names) → s ≡ start flags → HasNames names [] → HasRead flags text text s names
 nothing_read flags text s names is has = record { tokens = []; cut = refl; run = subst (Runs (start flags) []) (sym is) (stays (start flags)); differ = tt; has = has }
 
-pub reads_on : (flags : Flags) (text rest after : Text) (s u : State) (names others : Names) → (r : HasRead flags text rest s names) → GoesOn s (names_behind [] r.tokens) rest u others after → HasRead flags text after u others
+pub reads_on : (flags : Flags) (text rest after : Text) (s u : State) (names others : Names) → (r : HasRead flags text rest s names) → GoesOn s (names_after [] r.tokens) rest u others after → HasRead flags text after u others
 reads_on flags text rest after s u names others r g = record {
   tokens = r.tokens ++ g.token ∷ [];
   cut = cuts_more text r.tokens rest g.token after r.cut g.starts;
@@ -130,23 +130,23 @@ record Later (flags : Flags) (rest : Text) (s : State) (names : List Text) (writ
   run : Runs s more (at_level flags bottom (level_of written))
   differ : NamesDiffer names more
 
-later : (flags : Flags) (text rest : Text) (s : State) (names : Names) (r : HasRead flags text rest s names) (tree : Tree) (depth : ℕ) → (p : Spells flags text tree depth) → Later flags rest s (names_behind [] r.tokens) p.written
+later : (flags : Flags) (text rest : Text) (s : State) (names : Names) (r : HasRead flags text rest s names) (tree : Tree) (depth : ℕ) → (p : Spells flags text tree depth) → Later flags rest s (names_after [] r.tokens) p.written
 later flags text rest s names r tree depth p =
     let split = cuts_split r.tokens (branches_tokens p.written) text rest r.cut p.cut in
     record {
       more = split.0;
       cut = split.2;
-      run = runs_behind (start flags) s (at_level flags bottom (level_of p.written)) r.tokens split.0 r.run (subst (λ x. Runs (start flags) x (at_level flags bottom (level_of p.written))) split.1 (whole_runs flags p.written p.fit));
-      differ = differ_behind [] r.tokens split.0 (subst (NamesDiffer []) split.1 p.names);
+      run = runs_after (start flags) s (at_level flags bottom (level_of p.written)) r.tokens split.0 r.run (subst (λ x. Runs (start flags) x (at_level flags bottom (level_of p.written))) split.1 (whole_runs flags p.written p.fit));
+      differ = differ_after [] r.tokens split.0 (subst (NamesDiffer []) split.1 p.names);
     }
 
 -- ---- refusals
 
 -- what the parser stops at says of the text
-pub stopped : (flags : Flags) (text rest : Text) (s : State) (names : Names) (stop : Stop) → (r : HasRead flags text rest s names) → 0 < length rest → ((t : Token) (after : Text) → Starts t rest after → StopsAt stop s (names_behind [] r.tokens) t) → StopsText flags text stop
+pub stopped : (flags : Flags) (text rest : Text) (s : State) (names : Names) (stop : Stop) → (r : HasRead flags text rest s names) → 0 < length rest → ((t : Token) (after : Text) → Starts t rest after → StopsAt stop s (names_after [] r.tokens) t) → StopsText flags text stop
 stopped flags text rest s names (stops.Syntax kind left) r some stop = λ depth spelled. let l = later flags text rest s names r spelled.0 depth spelled.1 in from _ l.more l.cut l.run l.differ
   where
-    from : (u : State) (more : List Token) → Cuts rest more [] → Runs s more u → NamesDiffer (names_behind [] r.tokens) more → ⊥
+    from : (u : State) (more : List Token) → Cuts rest more [] → Runs s more u → NamesDiffer (names_after [] r.tokens) more → ⊥
     from u [] ended run differ = let e = ap length ended in omega arith
     from u (t ∷ ts) cut run differ =
         let f = first_of_runs s u t ts run in
@@ -201,7 +201,7 @@ one flags text a b m n p q =
     let last = at_level flags bottom (level_of p.written) in
     let end = at_level flags bottom (level_of q.written) in
     let ran : Runs (start flags) (branches_tokens p.written ++ []) end = subst (λ x. Runs (start flags) x end) (tokens ∙ sym (append-nil (branches_tokens p.written))) (whole_runs flags q.written q.fit) in
-    let states : last ≡ end = no_runs last end (runs_behind (start flags) last end (branches_tokens p.written) [] (whole_runs flags p.written p.fit) ran) in
+    let states : last ≡ end = no_runs last end (runs_after (start flags) last end (branches_tokens p.written) [] (whole_runs flags p.written p.fit) ran) in
     let trees : written_tree flags p.written ≡ written_tree flags q.written = sym (tree_level_of flags p.written) ∙ ap (λ (s : State). whole_tree s.top) states ∙ tree_level_of flags q.written in
     let depths : branches_depth p.written ≡ branches_depth q.written = sym (whole_depth flags p.written) ∙ ap deepest states ∙ whole_depth flags q.written in
     (sym p.is_tree ∙ trees ∙ q.is_tree, sym p.is_depth ∙ depths ∙ q.is_depth)

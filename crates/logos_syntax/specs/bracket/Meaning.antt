@@ -21,7 +21,7 @@ use Rattle.logos_pattern_tokens.specs.bracket.Spelling.{code_of, bracket_tokens}
 abbrev pub last_of : Flags → ℕ
 last_of flags = if flags.unicode then 0x10FFFF else 255
 
--- a set as the flags have it: under `i` with all that has the same letters
+-- the set, or under `i` the set with all that differs from a member in case alone
 abbrev pub case_closure : Flags → Set → Set
 case_closure flags set = if flags.ignore_case then (if flags.unicode then fold_case set else fold_ascii set) else set
 
@@ -29,7 +29,7 @@ case_closure flags set = if flags.ignore_case then (if flags.unicode then fold_c
 abbrev pub set_or_complement : Flags → Bool → Set → Set
 set_or_complement flags negated set = if negated then complement (last_of flags) set else set
 
--- the set of an item without its negation, before the flags
+-- the set of an item, without its negation and as if `i` were off
 abbrev pub item_test : Flags → Item → Set
 item_test flags (items.One s) = λ c. c == code_of s
 item_test flags (items.Range a b) = in_range (code_of a, code_of b)
@@ -67,14 +67,14 @@ abbrev mutual
   members_set flags before (member ms item) = union (members_set flags before ms) (item_set flags item)
   members_set flags before (nested ms b) = union (members_set flags before ms) (bracket_set flags b)
 
--- ---- what may stand under the flags
+-- ---- what the flags allow
 
--- where bytes are matched, a character is ASCII
+-- If the pattern matches bytes, a character must be ASCII.
 abbrev pub symbol_fits : Flags → Symbol → Bool
 symbol_fits flags (Character c) = flags.unicode || nat_lt c 128
 symbol_fits flags (Byte b) = true
 
--- where bytes are matched, there are no properties
+-- If the pattern matches bytes, an item must be ASCII and not a property.
 abbrev pub item_fits : Flags → Item → Bool
 item_fits flags (items.One s) = symbol_fits flags s
 item_fits flags (items.Range a b) = symbol_fits flags a && symbol_fits flags b
@@ -92,7 +92,7 @@ TokensFit flags (tokens.Close ∷ others) = TokensFit flags others
 abbrev pub BracketFits : Flags → Bracket → Type 0
 BracketFits flags b = TokensFit flags (bracket_tokens b)
 
--- ---- how deep brackets stand in each other
+-- ---- how deeply brackets nest
 
 abbrev mutual
   pub bracket_depth : Bracket → ℕ

@@ -9,14 +9,14 @@ use Rattle.logos_hir.specs.Sets.{Set, union}
 use Rattle.logos_syntax.specs.bracket.Meaning.{set_or_complement, item_set, lead_set}
 use Rattle.logos_hir.specs.Operands.{combination}
 
--- the inside of a bracket so far
+-- the inside of an open bracket, as far as it was read
 pub record Frame : Type 0 where
   pub negated : Bool
-  -- what the operands before make, and the operator behind them
+  -- the set of the operands that were ended by an operator, and the operator after them
   pub before : Option (Set × SetOperator)
-  -- the operand so far
+  -- the operand that is being read
   pub here : Set
-  -- how deep its innermost place is in the whole pattern
+  -- the depth of its innermost place in the whole pattern
   pub inner : ℕ
 
 pub record Frames : Type 0 where
@@ -31,11 +31,11 @@ abbrev pub with_before : Option (Set × SetOperator) → Set → Set
 with_before None set = set
 with_before (Some before) set = combination before.1 before.0 set
 
--- all operands so far
+-- the set of the operands that were read
 abbrev pub value : Frame → Set
 value f = with_before f.before f.here
 
--- the bracket, once it is closed
+-- the set of the bracket, as if it ended here
 abbrev pub whole : Flags → Frame → Set
 whole flags f = set_or_complement flags f.negated (value f)
 
@@ -43,7 +43,7 @@ abbrev pub close : Flags → Frame → List Frame → Option Frames
 close flags f [] = None
 close flags f (g ∷ gs) = Some (record { top = record g { here = union g.here (whole flags f); inner = max g.inner f.inner }; below = gs })
 
--- The step of a token, so many groups and brackets around the whole bracket.
+-- The step of a token, with this number of groups and brackets around the whole bracket.
 abbrev pub bracket_step : Flags → ℕ → Frames → BracketToken → Option Frames
 bracket_step flags base s (Item item) = Some (record s { top = record s.top { here = union s.top.here (item_set flags item) } })
 bracket_step flags base s (Open negated lead) = Some (record { top = fresh_frame negated lead (base + length s.below + 2); below = s.top ∷ s.below })

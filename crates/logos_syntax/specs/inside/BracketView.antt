@@ -35,7 +35,7 @@ frame_view f = record {
 abbrev pub frames_view : FramesValue → Frames
 frames_view m = record { top = frame_view m.top; below = reverse (map frame_view m.below.items) }
 
--- the token makes no step: an item that may not stand here, or the end of the whole bracket
+-- The token is no step: it is an item that the flags do not allow, or the end of the whole bracket.
 abbrev pub NoStep : Flags → Frames → BracketToken → Type 0
 NoStep flags s (Item item) = item_fits flags item ≡ false
 NoStep flags s (Open negated lead) = ⊥
@@ -47,7 +47,7 @@ abbrev pub TooDeep : ℕ → Frames → BracketToken → Type 0
 TooDeep base s (Open negated lead) = 250 < base + length s.below + 2
 TooDeep base s _ = ⊥
 
--- the token may stand where the flags hold
+-- The flags allow the token.
 abbrev pub MayStand : Flags → BracketToken → Type 0
 MayStand flags (Item item) = item_fits flags item ≡ true
 MayStand flags _ = Unit {0}
@@ -58,7 +58,7 @@ BracketSteps flags base old token (Err (stops.Syntax kind left)) new = NoStep fl
 BracketSteps flags base old token (Err stops.LimitPatternNesting) new = TooDeep base old token
 BracketSteps flags base old token (Err stops.Memory) new = Unit {0}
 
--- the set, and how deep it is, of a bracket whose inside stands at the text
+-- the set and the depth of a bracket whose inside is at the front of the text
 pub record IsInside (flags : Flags) (base : ℕ) (negated : Bool) (lead : Lead) (text : Text) (found : BracketValue) (rest : Text) : Type 0 where
   pub inside : Operands
   pub cut : BracketCuts text (operands_tokens inside ++ Close ∷ []) rest
@@ -67,30 +67,30 @@ pub record IsInside (flags : Flags) (base : ℕ) (negated : Bool) (lead : Lead) 
   pub is_depth : found.depth ≡ base + bracket_depth (bracket negated lead inside)
   pub shallow : found.depth ≤ 250
 
--- what a reader that stopped says of a bracket
+-- what a stop means for a bracket
 abbrev pub Denies : Flags → ℕ → Stop → Bracket → Type 0
 Denies flags base (stops.Syntax kind left) b = BracketFits flags b → ⊥
 Denies flags base stops.LimitPatternNesting b = 250 < base + bracket_depth b
 Denies flags base stops.Memory b = Unit {0}
 
--- a stop at the limit names a beginning that is too deep
-abbrev pub TellsInside : Flags → ℕ → Stop → Text → Type 0
-TellsInside flags base (stops.Syntax kind left) text = Unit {0}
-TellsInside flags base stops.LimitPatternNesting text = (count : ℕ) × InsideFront flags text count × (250 < base + count)
-TellsInside flags base stops.Memory text = Unit {0}
+-- If a reader stops at the limit, some beginning is too deep.
+abbrev pub IfDeepInside : Flags → ℕ → Stop → Text → Type 0
+IfDeepInside flags base (stops.Syntax kind left) text = Unit {0}
+IfDeepInside flags base stops.LimitPatternNesting text = (count : ℕ) × InsideFront flags text count × (250 < base + count)
+IfDeepInside flags base stops.Memory text = Unit {0}
 
-abbrev pub TellsBracket : Flags → ℕ → Stop → Text → Type 0
-TellsBracket flags base (stops.Syntax kind left) text = Unit {0}
-TellsBracket flags base stops.LimitPatternNesting text = (count : ℕ) × BracketFront flags text count × (250 < base + count)
-TellsBracket flags base stops.Memory text = Unit {0}
+abbrev pub IfDeepBracket : Flags → ℕ → Stop → Text → Type 0
+IfDeepBracket flags base (stops.Syntax kind left) text = Unit {0}
+IfDeepBracket flags base stops.LimitPatternNesting text = (count : ℕ) × BracketFront flags text count × (250 < base + count)
+IfDeepBracket flags base stops.Memory text = Unit {0}
 
 abbrev pub ReadsInside : Flags → ℕ → Bool → Lead → Text → Result (BracketValue × Bor Text) Stop → Type 0
 ReadsInside flags base negated lead text (Ok x) = IsInside flags base negated lead text x.0 x.1.now
 ReadsInside flags base negated lead text (Err e) =
     ((inside : Operands) (rest : Text) → BracketCuts text (operands_tokens inside ++ Close ∷ []) rest → Denies flags base e (bracket negated lead inside))
-    × TellsInside flags base e text
+    × IfDeepInside flags base e text
 
--- the set, and how deep it is, of a bracket that stands at the text, behind `[`
+-- the set and the depth of a bracket that is at the front of the text, without its `[`
 pub record IsBracketValue (flags : Flags) (base : ℕ) (text : Text) (found : BracketValue) (rest : Text) : Type 0 where
   pub written : Bracket
   pub encloses : Encloses written text rest
@@ -103,7 +103,7 @@ abbrev pub ReadsBracket : Flags → ℕ → Text → Result (BracketValue × Bor
 ReadsBracket flags base text (Ok x) = IsBracketValue flags base text x.0 x.1.now
 ReadsBracket flags base text (Err e) =
     ((b : Bracket) (rest : Text) → Encloses b text rest → Denies flags base e b)
-    × TellsBracket flags base e text
+    × IfDeepBracket flags base e text
 
 -- a fault as a stop
 abbrev pub IsStopOf : Fault → Stop → Type 0

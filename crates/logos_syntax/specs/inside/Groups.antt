@@ -11,17 +11,17 @@ use Rattle.logos_syntax.specs.Written.{inner_flags}
 use Rattle.logos_syntax.specs.bracket.Meaning.{bracket_depth}
 use Rattle.logos_syntax.specs.Grammar.{atom_tree, class_tree, captures, group_tree, is_greedy, TokenFits}
 
--- a tree, and how deep its innermost place is in the whole pattern
+-- a tree, and the depth of its innermost place in the whole pattern
 abbrev pub Part : Type 0
 Part = Tree × ℕ
 
--- the inside of a group so far
+-- the inside of an open group, as far as it was read
 pub record Group : Type 0 where
   pub flags : Flags
   pub captured : Bool
   pub branches : List Tree
   pub parts : List Tree
-  -- what an operator would repeat
+  -- the part that an operator would repeat
   pub last : Option Part
   pub inner : ℕ
 
@@ -69,7 +69,7 @@ abbrev pub repeat : Group → Operator → Option Part → Option Group
 repeat g op None = None
 repeat g op (Some part) = Some (record g { last = Some (repetition_part g.flags op part); inner = max g.inner (part.1 + 1) })
 
--- the step of a token that may stand here
+-- the step of a token that the flags allow
 abbrev pub step : State → Token → Option State
 step s (atom a) = Some (record s { top = put s.top (atom_tree s.top.flags a, length s.below) })
 step s (bracketed b) = Some (record s { top = put s.top (class_tree s.top.flags b, length s.below + bracket_depth b) })
@@ -79,12 +79,12 @@ step s closes = close s.top s.below
 step s (sets change) = Some (record s { top = set s.top (flags_after change s.top.flags) })
 step s (repeats op) = option_map (λ g. record s { top = g }) (repeat s.top op s.top.last)
 
--- the parser reads tokens, each of which may stand where it stands
+-- The parser reads tokens, each of which the flags at its place allow.
 pub data Runs : State → List Token → State → Type 0 where
   stays : (s : State) → Runs s [] s
   goes : (s t u : State) (token : Token) (tokens : List Token) → TokenFits s.top.flags token → step s token ≡ Some t → Runs t tokens u → Runs s (token ∷ tokens) u
 
--- the innermost place so far
+-- the depth of the innermost place so far
 abbrev pub deepest_below : List Group → ℕ
 deepest_below [] = 0
 deepest_below (g ∷ gs) = max g.inner (deepest_below gs)

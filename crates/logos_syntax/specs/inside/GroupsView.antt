@@ -29,7 +29,7 @@ group_view l = record {
 abbrev pub state_view : Groups → State
 state_view m = record { top = group_view m.top; below = reverse (map group_view m.below.items) }
 
--- what a step did, or why there is none: the token does not fit, or a place is too deep
+-- What a step did, or why there is none: the flags do not allow the token, or a place is too deep.
 abbrev pub Steps : State → Token → Result (Unit {0}) Stop → State → Type 0
 Steps old token (Ok _) new = TokenFits old.top.flags token × (step old token ≡ Some new)
 Steps old token (Err (stops.Syntax kind left)) new = TokenFits old.top.flags token → step old token ≡ None

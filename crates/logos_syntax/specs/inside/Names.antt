@@ -6,10 +6,10 @@ use Rattle.logos_syntax.specs.declared.names.Names.{Names}
 use Rattle.logos_pattern_tokens.specs.Token.{Text, Token}
 use Rattle.logos_syntax.specs.Written.{IsNew, with_name}
 
--- they are these
+-- The names are these.
 abbrev pub HasNames : Names → List Text → Type 0
 HasNames names seen = (name : Text) → list_any (λ k. bytes_eq name k.items) names.seen.keys ≡ list_any (bytes_eq name) seen
 
--- whether a token may stand behind these names, and the names behind it
+-- whether a token may come after these names, and the names after it
 abbrev pub Admits : List Text → Token → Bool → Names → Type 0
 Admits seen token admitted new = MatchBool admitted (IsNew seen token × HasNames new (with_name seen token)) (IsNew seen token → ⊥)

@@ -15,7 +15,7 @@ use Rattle.logos_syntax.specs.inside.Names.{HasNames}
 
 -- ---- one token
 
--- a token stands at the text, may stand there behind these names, and the parser goes on
+-- The text begins with a token that is allowed after these names, and the parser goes on after it.
 pub record GoesOn (old : State) (seen : List Text) (text : Text) (new : State) (names : Names) (rest : Text) : Type 0 where
   pub token : Token
   pub starts : Starts token text rest
@@ -24,59 +24,59 @@ pub record GoesOn (old : State) (seen : List Text) (text : Text) (new : State) (
   pub moves : step old token ≡ Some new
   pub has : HasNames names (with_name seen token)
 
--- what a stop says of a token that stands at the text
+-- what a stop means for a token at the front of the text
 abbrev pub StopsAt : Stop → State → List Text → Token → Type 0
 StopsAt (stops.Syntax kind left) old seen token = TokenFits old.top.flags token → IsNew seen token → step old token ≡ None
 StopsAt stops.LimitPatternNesting old seen token = (new : State) × (step old token ≡ Some new) × (250 < deepest new)
 StopsAt stops.Memory old seen token = Unit {0}
 
--- at the text the parser gets too deep: behind a token, or in a bracket
+-- The parser gets too deep at the front of the text: after a token, or in a bracket.
 pub data IsDeepAt (old : State) (seen : List Text) (names : Names) : Text → Type 0 where
   token_deep : (text rest : Text) (new : State) → GoesOn old seen text new names rest → 250 < deepest new → IsDeepAt old seen names text
-  bracket_deep : (behind : Text) (count : ℕ) → BracketFront old.top.flags behind count → 250 < length old.below + count → IsDeepAt old seen names (91 ∷ behind)
+  bracket_deep : (following : Text) (count : ℕ) → BracketFront old.top.flags following count → 250 < length old.below + count → IsDeepAt old seen names (91 ∷ following)
 
 -- a stop at the limit is at such a place
-abbrev pub TellsToken : Stop → State → List Text → Text → Names → Type 0
-TellsToken (stops.Syntax kind left) old seen text names = Unit {0}
-TellsToken stops.LimitPatternNesting old seen text names = IsDeepAt old seen names text
-TellsToken stops.Memory old seen text names = Unit {0}
+abbrev pub IfDeepToken : Stop → State → List Text → Text → Names → Type 0
+IfDeepToken (stops.Syntax kind left) old seen text names = Unit {0}
+IfDeepToken stops.LimitPatternNesting old seen text names = IsDeepAt old seen names text
+IfDeepToken stops.Memory old seen text names = Unit {0}
 
 abbrev pub ReadsToken : State → List Text → Text → Result (Bor Text) Stop → State → Names → Type 0
 ReadsToken old seen text (Ok rest) new names = GoesOn old seen text new names rest.now
 ReadsToken old seen text (Err stop) new names =
     ((token : Token) (rest : Text) → Starts token text rest → StopsAt stop old seen token)
-    × TellsToken stop old seen text names
+    × IfDeepToken stop old seen text names
 
--- the same of tokens that are no brackets
+-- the same for tokens that do not begin a bracket
 abbrev pub ReadsSimple : State → List Text → Text → Result (Bor Text) Stop → State → Names → Type 0
 ReadsSimple old seen text (Ok rest) new names = GoesOn old seen text new names rest.now
 ReadsSimple old seen text (Err stop) new names =
     ((token : Token) (rest : Text) → Takes token text rest → StopsAt stop old seen token)
-    × TellsToken stop old seen text names
+    × IfDeepToken stop old seen text names
 
 -- ---- the whole text
 
--- the names behind these tokens
-abbrev pub names_behind : List Text → List Token → List Text
-names_behind seen [] = seen
-names_behind seen (token ∷ tokens) = names_behind (with_name seen token) tokens
+-- the names after these tokens
+abbrev pub names_after : List Text → List Token → List Text
+names_after seen [] = seen
+names_after seen (token ∷ tokens) = names_after (with_name seen token) tokens
 
--- these tokens of the text are read, up to rest
+-- These tokens of the text are read, up to the rest.
 pub record HasRead (flags : Flags) (text rest : Text) (s : State) (names : Names) : Type 0 where
   pub tokens : List Token
   pub cut : Cuts text tokens rest
   pub run : Runs (start flags) tokens s
   pub differ : NamesDiffer [] tokens
-  pub has : HasNames names (names_behind [] tokens)
+  pub has : HasNames names (names_after [] tokens)
 
--- what a stop says of the text
+-- what a stop means for the text
 abbrev pub StopsText : Flags → Text → Stop → Type 0
 StopsText flags text (stops.Syntax kind left) = (depth : ℕ) → IsSpelled flags text depth → ⊥
 StopsText flags text stops.LimitPatternNesting = (depth : ℕ) → IsSpelled flags text depth → 250 < depth
 StopsText flags text stops.Memory = Unit {0}
 
--- what a stop at the limit says of the text
-abbrev pub TellsText : Flags → Text → Stop → Type 0
-TellsText flags text (stops.Syntax kind left) = Unit {0}
-TellsText flags text stops.LimitPatternNesting = IsTooDeep flags text
-TellsText flags text stops.Memory = Unit {0}
+-- what a stop at the limit means for the text
+abbrev pub IfDeepText : Flags → Text → Stop → Type 0
+IfDeepText flags text (stops.Syntax kind left) = Unit {0}
+IfDeepText flags text stops.LimitPatternNesting = IsTooDeep flags text
+IfDeepText flags text stops.Memory = Unit {0}

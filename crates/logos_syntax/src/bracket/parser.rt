@@ -9,9 +9,10 @@ use logos_pattern_tokens::error::{Fault, Kind, Stop};
 use logos_pattern_tokens::token::Flags;
 use std::alloc::Global;
 
-/// The number of characters from the brace of an escape on that no brace closes.
+/// Returns the number of characters from the brace of an escape that is not closed to the end of the text,
+/// or the length of the text if there is no such escape.
 fn left_at_brace(text: &[char]) -> usize {
-    let mut rest = behind_braces(text);
+    let mut rest = after_braces(text);
     while let [_, after @ ..] = rest {
         if let ['\\', _, '{', ..] = rest {
             return rest.len().saturating_sub(2);
@@ -21,15 +22,15 @@ fn left_at_brace(text: &[char]) -> usize {
     text.len()
 }
 
-/// What stands behind the last closing brace.
-fn behind_braces(text: &[char]) -> &[char] {
+/// Returns the text from its last closing brace on, or all of it if it has none.
+fn after_braces(text: &[char]) -> &[char] {
     match text.iter().rposition(|c| *c == '}') {
         Some(at) if at < text.len() => &text[at..],
         _ => text,
     }
 }
 
-/// The place of a fault at the front of the text.
+/// Returns the stop for a fault of the token at the front of `rest`.
 pub(crate) fn stop_for(flags: Flags, fault: Fault, rest: &[char]) -> Stop
     ensures { IsStopOf fault result }
 {
@@ -46,7 +47,8 @@ pub(crate) fn stop_for(flags: Flags, fault: Fault, rest: &[char]) -> Stop
     }
 }
 
-/// Where bytes are matched, no property is looked at.
+/// Returns the kind of a fault under the flags: if the pattern matches bytes, each fault of a property's name
+/// is `NotInBytes`.
 fn property_kind(flags: Flags, kind: Kind) -> Kind {
     match kind {
         Kind::UnknownProperty | Kind::PropertyForm if !flags.unicode => Kind::NotInBytes,
@@ -54,7 +56,11 @@ fn property_kind(flags: Flags, kind: Kind) -> Kind {
     }
 }
 
-/// Reads what stands behind the opening of a bracket, up to its end.
+/// Reads what comes after the opening of a bracket, up to its end: returns its set, how deeply it nests, and
+/// the rest of the text. `base` is the number of groups that are open around it.
+///
+/// # Errors
+/// The first fault from the left, `LimitPatternNesting`, or `Memory`.
 fn read_inside(
     alloc: Global,
     flags: Flags,
@@ -86,7 +92,11 @@ fn read_inside(
     })
 }
 
-/// Reads a bracket from behind its first character, with so many groups around it.
+/// Reads a bracket, from after its `[`: returns its set, how deeply it nests, and the rest of the text. `base`
+/// is the number of groups that are open around it.
+///
+/// # Errors
+/// The first fault from the left, `LimitPatternNesting`, or `Memory`.
 pub(crate) fn read_bracket(
     alloc: Global,
     flags: Flags,

@@ -1,4 +1,4 @@
-//! Reads a bracket, with the brackets that are open in it on a stack.
+//! The stack of the brackets that are open while a bracket is read.
 
 ghost use Rattle.std.specs.Prelude.{◌≡◌, ◌+◌, ◌≤◌, ◌<◌, [], IfOk, OnOk, MatchBool, vec_len, length};
 ghost use Rattle.logos_hir.specs.Hir.{pairs};
@@ -14,10 +14,10 @@ use logos_pattern_tokens::token::Flags;
 use std::alloc::{AllocError, Global};
 use std::mem;
 
-/// How many groups, brackets and repetitions may be around one place.
+/// The greatest number of groups, brackets and repetitions around one place.
 pub(crate) const MAX_NESTING: usize = 250;
 
-/// How a bracket opens, and the number of characters from there on.
+/// How a bracket opens. `left` is the number of characters from its `[` to the end of the text.
 #[derive(Clone, Copy)]
 pub(crate) struct BracketOpening {
     pub negated: bool,
@@ -25,24 +25,24 @@ pub(crate) struct BracketOpening {
     pub left: usize,
 }
 
-/// The inside of a bracket so far.
+/// The inside of an open bracket, as far as it was read.
 #[derive(Drop)]
 pub(crate) struct Frame {
     negated: bool,
-    /// The operands before.
+    /// The operands that were ended by an operator.
     before: OperandRuns,
-    /// The operator behind them.
+    /// The operator after them.
     operator: Option<SetOperator>,
-    /// The operand so far.
+    /// The ranges of the operand that is being read.
     ranges: Vec<Range>,
-    /// How deep its innermost place is in the whole pattern.
+    /// The depth of its innermost place in the whole pattern.
     inner: usize,
-    /// The number of characters from its opening on.
+    /// The number of characters from its `[` to the end of the text.
     left: usize,
     ghost shallow: { inner ≤ 250 },
 }
 
-/// The brackets that are open.
+/// The brackets that are open, the innermost on top.
 #[derive(Drop)]
 pub(crate) struct Frames {
     top: Frame,
@@ -51,7 +51,7 @@ pub(crate) struct Frames {
     ghost shallow: { vec_len below ≤ 250 },
 }
 
-/// The set of a bracket, and how deep its innermost place is in the whole pattern.
+/// The set of a bracket, and the depth of its innermost place in the whole pattern.
 #[derive(Drop)]
 pub(crate) struct BracketValue {
     pub set: RangeSet,
@@ -63,7 +63,8 @@ impl Frame {
     ghost use Rattle.logos_syntax.specs.inside.BracketStack.{fresh_frame, value, whole};
     ghost use Rattle.logos_syntax.specs.inside.BracketView.{frame_view};
 
-    /// A bracket of which nothing is read but its opening.
+    /// Returns a bracket of which only the opening was read. `level` is the number of groups and brackets around
+    /// its inside.
     fn new(alloc: Global, opening: BracketOpening, level: usize) -> Result<Frame, AllocError>
         requires { level ≤ 250 }
         ensures { IfOk result (λ f. frame_view f ≡ fresh_frame opening.negated opening.lead level) }
@@ -78,7 +79,7 @@ impl Frame {
         })
     }
 
-    /// All operands so far.
+    /// Returns the set of the operands that were read.
     fn value(&self, alloc: Global) -> Result<RangeSet, AllocError>
         ensures { IfOk result (λ set. set_of set ≡ value (frame_view self.now)) }
     {
@@ -89,7 +90,7 @@ impl Frame {
         }
     }
 
-    /// The bracket, once it is closed.
+    /// Returns the set of the bracket, as if it ended here.
     fn whole(&self, alloc: Global, flags: Flags) -> Result<RangeSet, AllocError>
         ensures { IfOk result (λ set. set_of set ≡ whole flags (frame_view self.now)) }
     {
@@ -103,7 +104,7 @@ impl Frames {
     ghost use Rattle.logos_syntax.specs.inside.BracketStack.{fresh_frame, whole};
     ghost use Rattle.logos_syntax.specs.inside.BracketView.{frame_view, frames_view, BracketSteps};
 
-    /// One bracket that is open.
+    /// Returns a stack with this one bracket. `level` is the number of groups and brackets around its inside.
     pub(crate) fn new(
         alloc: Global,
         opening: BracketOpening,
@@ -119,7 +120,7 @@ impl Frames {
         })
     }
 
-    /// The token ends the outermost bracket.
+    /// Returns whether the token ends the outermost bracket.
     pub(crate) fn ends_by(&self, token: BracketToken) -> bool
         ensures { MatchBool result ((token ≡ BracketToken.Close) ×
             ((frames_view self.now).below ≡ [])) (token ≡
@@ -131,12 +132,12 @@ impl Frames {
         }
     }
 
-    /// The number of characters from the innermost opening on.
+    /// Returns the number of characters from the innermost `[` to the end of the text.
     pub(crate) fn left(&self) -> usize {
         self.top.left
     }
 
-    /// The whole bracket, once it is closed.
+    /// Returns the set and the depth of the outermost bracket, which must be the only one open.
     pub(crate) fn finish(&self, alloc: Global, flags: Flags) -> Result<BracketValue, AllocError>
         ensures { IfOk result (λ found. (set_of found.set ≡
             whole flags (frames_view self.now).top) ×
@@ -150,6 +151,9 @@ impl Frames {
     }
 
     /// Adds an item to the innermost bracket.
+    ///
+    /// # Errors
+    /// `NotInBytes` if the flags do not allow the item, and `Memory`.
     fn item(
         &mut self,
         alloc: Global,
@@ -172,6 +176,9 @@ impl Frames {
     }
 
     /// Opens a bracket in the innermost one.
+    ///
+    /// # Errors
+    /// `LimitPatternNesting`, and `Memory`.
     fn open(
         &mut self,
         alloc: Global,
@@ -193,7 +200,10 @@ impl Frames {
         Ok(())
     }
 
-    /// Ends the operand of the innermost bracket.
+    /// Ends the operand of the innermost bracket with an operator.
+    ///
+    /// # Errors
+    /// `Memory` alone.
     fn operator(
         &mut self,
         alloc: Global,
@@ -212,7 +222,10 @@ impl Frames {
         Ok(())
     }
 
-    /// Closes the innermost bracket, which stands in another one.
+    /// Closes the innermost bracket, which must be inside another one.
+    ///
+    /// # Errors
+    /// `Unopened` if it is not, and `Memory`.
     fn close(&mut self, alloc: Global, flags: Flags, base: usize, left: usize) -> Result<(), Stop>
         ensures { BracketSteps flags base (frames_view self.old) BracketToken.Close result
             (frames_view self.new) }
@@ -230,7 +243,11 @@ impl Frames {
         Ok(())
     }
 
-    /// Takes the next token.
+    /// Takes the next token. `left` is the number of characters from the token to the end of the text, and `base`
+    /// the number of groups around the outermost bracket.
+    ///
+    /// # Errors
+    /// The fault of the token here, `LimitPatternNesting`, or `Memory`.
     pub(crate) fn step(
         &mut self,
         alloc: Global,

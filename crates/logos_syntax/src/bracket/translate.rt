@@ -1,4 +1,4 @@
-//! The sets that the items of a bracket stand for.
+//! Turns the items of a bracket into the sets that they stand for.
 
 ghost use Rattle.std.specs.Prelude.{◌≡◌, ◌==◌, ◌∷◌, [], IfOk, IfSome, OnOk};
 ghost use Rattle.logos_hir.specs.Hir.{pairs};
@@ -18,14 +18,14 @@ use logos_pattern_tokens::bracket::token::{Item, Lead, Symbol};
 use logos_pattern_tokens::token::Flags;
 use std::alloc::{AllocError, Global};
 
-/// The last character, or the last byte.
+/// Returns the last character, or the last byte if the pattern matches bytes.
 fn last_of(flags: Flags) -> char
     ensures { result ≡ last_of flags }
 {
     if flags.unicode { char::MAX } else { '\u{FF}' }
 }
 
-/// Under `i` the set with all that has the same letters.
+/// Returns the set itself, or if `i` is on the set with all that differs from a member in case alone.
 pub(crate) fn case_closure(
     alloc: Global,
     flags: Flags,
@@ -42,7 +42,7 @@ pub(crate) fn case_closure(
     fold_ascii(alloc, &set)
 }
 
-/// The set, or its complement.
+/// Returns the set, or its complement if `negated` holds.
 pub(crate) fn set_or_complement(
     flags: Flags,
     negated: bool,
@@ -56,21 +56,21 @@ pub(crate) fn set_or_complement(
     Ok(set)
 }
 
-/// The numbers of a range.
+/// Returns the set of the numbers from `first` to `last`.
 fn range_set(alloc: Global, first: u32, last: u32) -> Result<RangeSet, AllocError>
     ensures { IfOk result (λ set. set_of set ≡ members ((first, last) ∷ [])) }
 {
     RangeSet::from_ranges(alloc, &[Range { first, last }])
 }
 
-/// Just this number.
+/// Returns the set of this one number.
 pub(crate) fn number_set(alloc: Global, code: u32) -> Result<RangeSet, AllocError>
     ensures { IfOk result (λ set. set_of set ≡ only_chars (λ c. c == code)) }
 {
     range_set(alloc, code, code)
 }
 
-/// The characters from one symbol to the other.
+/// Returns the set of the characters or bytes from `first` to `last`.
 fn symbols_set(alloc: Global, first: Symbol, last: Symbol) -> Result<RangeSet, AllocError>
     ensures { IfOk result (λ set. set_of set ≡ only_chars
         (in_range (code_of first, code_of last))) }
@@ -78,7 +78,7 @@ fn symbols_set(alloc: Global, first: Symbol, last: Symbol) -> Result<RangeSet, A
     range_set(alloc, code_of(first), code_of(last))
 }
 
-/// The set of an item without its negation, before the flags.
+/// Returns the set of an item, without its negation and as if `i` were off.
 fn item_test(alloc: Global, flags: Flags, item: Item) -> Result<RangeSet, AllocError>
     ensures { IfOk result (λ set. set_of set ≡ only_chars (item_test flags item)) }
 {
@@ -91,7 +91,7 @@ fn item_test(alloc: Global, flags: Flags, item: Item) -> Result<RangeSet, AllocE
     }
 }
 
-/// Whether the item is negated.
+/// Returns whether the item is negated.
 fn is_negated(item: Item) -> bool
     ensures { result ≡ is_negated item }
 {
@@ -101,7 +101,7 @@ fn is_negated(item: Item) -> bool
     }
 }
 
-/// The set of an item.
+/// Returns the set of an item.
 fn item_set(alloc: Global, flags: Flags, item: Item) -> Result<RangeSet, AllocError>
     ensures { IfOk result (λ set. set_of set ≡ item_set flags item) }
 {
@@ -110,7 +110,8 @@ fn item_set(alloc: Global, flags: Flags, item: Item) -> Result<RangeSet, AllocEr
     set_or_complement(flags, is_negated(item), same_letters)
 }
 
-/// The ends of an item that is a range as it stands.
+/// Returns the ends of an item whose set is one range that needs no work: a character, a byte or a range
+/// while `i` is off.
 fn plain_ends(flags: Flags, item: Item) -> Option<(u32, u32)>
     ensures { IfSome result (λ ends. item_set flags item ≡ members (ends ∷ [])) }
 {
@@ -124,7 +125,7 @@ fn plain_ends(flags: Flags, item: Item) -> Option<(u32, u32)>
     }
 }
 
-/// Adds the set of an item.
+/// Pushes the ranges of an item's set.
 pub(crate) fn push_item(
     alloc: Global,
     ranges: &mut Vec<Range>,
@@ -140,7 +141,7 @@ pub(crate) fn push_item(
     }
 }
 
-/// Adds a range.
+/// Pushes a range.
 fn push_range(ranges: &mut Vec<Range>, first: u32, last: u32) -> Result<(), AllocError>
     ensures { OnOk result (members (pairs ranges.new.items) ≡
         union (members (pairs ranges.old.items)) (members ((first, last) ∷ []))) }
@@ -149,7 +150,7 @@ fn push_range(ranges: &mut Vec<Range>, first: u32, last: u32) -> Result<(), Allo
     Ok(())
 }
 
-/// Adds a set.
+/// Pushes the ranges of a set.
 pub(crate) fn push_set(ranges: &mut Vec<Range>, set: &RangeSet) -> Result<(), AllocError>
     ensures { OnOk result (members (pairs ranges.new.items) ≡
         union (members (pairs ranges.old.items)) (set_of set.now)) }
@@ -158,7 +159,7 @@ pub(crate) fn push_set(ranges: &mut Vec<Range>, set: &RangeSet) -> Result<(), Al
     Ok(())
 }
 
-/// The literals at the front of a bracket.
+/// Returns the ranges of the literals at the front of a bracket.
 pub(crate) fn lead_ranges(alloc: Global, lead: Lead) -> Result<Vec<Range>, AllocError>
     ensures { IfOk result (λ ranges. members (pairs ranges.items) ≡ lead_set lead) }
 {
@@ -169,7 +170,8 @@ pub(crate) fn lead_ranges(alloc: Global, lead: Lead) -> Result<Vec<Range>, Alloc
     }
 }
 
-/// Where bytes are matched, a character is ASCII.
+/// Returns whether the symbol is allowed under the flags: if the pattern matches bytes, a character must be
+/// ASCII.
 fn symbol_fits(flags: Flags, symbol: Symbol) -> bool
     ensures { result ≡ symbol_fits flags symbol }
 {
@@ -179,7 +181,8 @@ fn symbol_fits(flags: Flags, symbol: Symbol) -> bool
     }
 }
 
-/// Where bytes are matched, characters are ASCII, and there are no properties.
+/// Returns whether the item is allowed under the flags: if the pattern matches bytes, its characters must be
+/// ASCII, and it must not be a property.
 pub(crate) fn item_fits(flags: Flags, item: Item) -> bool
     ensures { result ≡ item_fits flags item }
 {

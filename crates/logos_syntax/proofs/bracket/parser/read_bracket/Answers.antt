@@ -1,5 +1,5 @@
 use Rattle.logos_syntax.proofs.brackets.Answered.{bracket_at, deep_bracket}
-use Rattle.logos_syntax.proofs.brackets.LeavesLemmas.{told_at_once}
+use Rattle.logos_syntax.proofs.brackets.LeavesLemmas.{deep_at_once}
 use Rattle.logos_syntax.proofs.bracket.parser.read_bracket.Goals as goal
 
 pub returns : goal.returns
@@ -10,4 +10,4 @@ returns c =
 pub returns-then-base-ge-MAX_NESTING : goal.returns-then-base-ge-MAX_NESTING
 returns-then-base-ge-MAX_NESTING c =
     let deep = c.if-base-ge-MAX_NESTING.true in
-    (deep_bracket c.args.flags c.args.base c.args.text.now deep, told_at_once c.args.flags c.args.base c.args.text.now deep)
+    (deep_bracket c.args.flags c.args.base c.args.text.now deep, deep_at_once c.args.flags c.args.base c.args.text.now deep)

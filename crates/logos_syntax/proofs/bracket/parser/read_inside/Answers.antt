@@ -4,7 +4,7 @@ use Rattle.logos_pattern_tokens.specs.bracket.Reader.{bracket_token_at}
 use Rattle.logos_syntax.specs.inside.BracketView.{frames_view}
 use Rattle.logos_syntax.proofs.brackets.Texts.{at_opening, one_step, closed}
 use Rattle.logos_syntax.proofs.brackets.Answered.{faulted, stopped, unclosed, empty_text}
-use Rattle.logos_syntax.proofs.brackets.LeavesLemmas.{untold_inside, told_inside}
+use Rattle.logos_syntax.proofs.brackets.LeavesLemmas.{shallow_inside, deep_inside}
 use Rattle.logos_pattern_tokens.proofs.Shorter.{shorter_bracket}
 use Rattle.logos_syntax.proofs.bracket.parser.read_inside.Goals as goal
 
@@ -14,7 +14,7 @@ loop-rest-init c = at_opening c.args.flags c.args.base c.args.opening.negated c.
 pub returns-in-Err : goal.returns-in-Err
 returns-in-Err c = (
   faulted c.args.flags c.args.base c.args.opening.negated c.args.opening.lead c.args.text.now c.loop-rest.rest.now _ c.loop-rest.invariant c.in-Err.fault c.stop_for.result c.in-Err.ensures c.stop_for.ensures,
-  untold_inside c.args.flags c.args.base c.args.text.now c.in-Err.fault c.stop_for.result c.stop_for.ensures,
+  shallow_inside c.args.flags c.args.base c.args.text.now c.in-Err.fault c.stop_for.result c.stop_for.ensures,
 )
 
 pub returns-then-ends_by : goal.returns-then-ends_by
@@ -28,7 +28,7 @@ returns-then-ends_by c =
 pub returns-in-Err-step : goal.returns-in-Err-step
 returns-in-Err-step c = (
   stopped c.args.flags c.args.base c.args.opening.negated c.args.opening.lead c.args.text.now c.loop-rest.rest.now (frames_view c.loop-rest.frames) c.loop-rest.invariant c.in-Ok.found.0 c.in-Ok.found.1.now c.in-Err-step.stop _ c.in-Ok.ensures c.if-ends_by.ensures c.in-Err-step.ensures,
-  told_inside c.args.flags c.args.base c.args.opening.negated c.args.opening.lead c.args.text.now c.loop-rest.rest.now (frames_view c.loop-rest.frames) c.loop-rest.invariant c.in-Ok.found.0 c.in-Ok.found.1.now c.in-Err-step.stop _ c.in-Ok.ensures c.in-Err-step.ensures,
+  deep_inside c.args.flags c.args.base c.args.opening.negated c.args.opening.lead c.args.text.now c.loop-rest.rest.now (frames_view c.loop-rest.frames) c.loop-rest.invariant c.in-Ok.found.0 c.in-Ok.found.1.now c.in-Err-step.stop _ c.in-Ok.ensures c.in-Err-step.ensures,
 )
 
 pub loop-rest-smaller : goal.loop-rest-smaller

@@ -1,12 +1,12 @@
 use Rattle.logos_syntax.specs.inside.GroupsView.{state_view}
-use Rattle.logos_syntax.proofs.patterns.Fronts.{bracket_told}
+use Rattle.logos_syntax.proofs.patterns.Fronts.{bracket_is_deep}
 use Rattle.logos_syntax.proofs.patterns.Texts.{bracket_stops, bracket_goes}
 use Rattle.logos_syntax.proofs.parser.Parser.bracket.Goals as goal
 
 pub returns-in-Err : goal.returns-in-Err
 returns-in-Err c = λ seen h. (
   bracket_stops (state_view c.args.self.now.groups) seen c.args.inside.now c.flags-flags.result c.depth.result c.in-Err.stop c.flags-flags.ensures c.depth.ensures.depth c.in-Err.ensures.0,
-  bracket_told (state_view c.args.self.now.groups) seen c.args.inside.now _ c.flags-flags.result c.depth.result c.in-Err.stop c.flags-flags.ensures c.depth.ensures.depth c.in-Err.ensures.1,
+  bracket_is_deep (state_view c.args.self.now.groups) seen c.args.inside.now _ c.flags-flags.result c.depth.result c.in-Err.stop c.flags-flags.ensures c.depth.ensures.depth c.in-Err.ensures.1,
 )
 
 pub returns : goal.returns
