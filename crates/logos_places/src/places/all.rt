@@ -13,16 +13,20 @@ use crate::places::set::first_from;
 use crate::places::step::{Reading, step};
 use std::alloc::{AllocError, Global};
 
-/// What a step gives.
+/// The step of several trees by a byte.
 #[derive(Drop)]
-pub struct Reached {
-    /// The places that read the byte.
+pub struct JointStep {
+    /// The places that read the byte, ascending.
     pub places: Vec<usize>,
-    /// The numbers of the trees that can be left in front of it.
+    /// The numbers of the trees that can be left before the byte, ascending.
     pub left: Vec<usize>,
 }
 
-/// Where the places of each tree begin, and where those of the last one end.
+/// Returns where the places of each tree begin, and where those of the last tree end.
+///
+/// # Errors
+///
+/// Returns `AllocError` when memory runs out.
 pub fn starts_of(alloc: Global, nodes: &[Node]) -> Result<Vec<usize>, AllocError>
     requires fits { width_of (map core_of nodes.now) < 2 ^ 64 }
     requires measured { AreMeasured nodes.now }
@@ -40,7 +44,7 @@ pub fn starts_of(alloc: Global, nodes: &[Node]) -> Result<Vec<usize>, AllocError
     Ok(starts)
 }
 
-/// The tree from `from` on that has the place.
+/// Returns the number of the tree, from `from` on, that has the place.
 fn tree_at(starts: &[usize], from: usize, place: usize) -> usize
     requires some { from + 1 < length starts.now }
     requires low { slice_index starts.now from ≤ place }
@@ -63,7 +67,7 @@ fn tree_at(starts: &[usize], from: usize, place: usize) -> usize
     low
 }
 
-/// The first tree from `from` on that is entered or holds a mark; their count if there is none.
+/// Returns the number of the first tree from `from` on that is entered or has a mark, or the number of trees if there is none.
 pub fn next_tree(starts: &[usize], marks: &[usize], entered: bool, from: usize) -> usize
     requires rising { IsRising marks.now }
     requires within { from < length starts.now }
@@ -89,7 +93,11 @@ pub fn next_tree(starts: &[usize], marks: &[usize], entered: bool, from: usize) 
     tree_at(starts, from, marks[i])
 }
 
-/// Adds the number if it is one of them.
+/// Adds the number if `is_one` is true.
+///
+/// # Errors
+///
+/// Returns `AllocError` when memory runs out.
 fn note(numbers: &mut Vec<usize>, number: usize, is_one: bool) -> Result<(), AllocError>
     ensures { OnOk result (numbers.new.items ≡
         (if is_one then numbers.old.items ++ number ∷ [] else numbers.old.items)) }
@@ -100,24 +108,28 @@ fn note(numbers: &mut Vec<usize>, number: usize, is_one: bool) -> Result<(), All
     Ok(())
 }
 
-/// One more byte for each tree, where all are entered or none is.
+/// Makes the step of each tree by a byte, where all trees are entered or none is.
+///
+/// # Errors
+///
+/// Returns `AllocError` when memory runs out.
 pub fn step_all(
     alloc: Global,
     nodes: &[Node],
     starts: &[usize],
     entered: bool,
     by: Reading<'_>,
-) -> Result<Reached, AllocError>
+) -> Result<JointStep, AllocError>
     requires fits { width_of (map core_of nodes.now) < 2 ^ 64 }
     requires measured { AreMeasured nodes.now }
     requires starts { AreStarts nodes.now starts.now }
     requires rising { IsRising by.marks.now }
-    ensures places { IfOk result (λ reached.
+    ensures places { IfOk result (λ step.
         ReadBy (map core_of nodes.now) (test_at by.entry.at) by.entry.byte
-        (Has by.entry.marks.now) (IsTrue entered) reached.places.items) }
-    ensures left { IfOk result (λ reached.
+        (Has by.entry.marks.now) (IsTrue entered) step.places.items) }
+    ensures left { IfOk result (λ step.
         LeftBy (map core_of nodes.now) (test_at by.entry.at) (Has by.entry.marks.now)
-        (IsTrue entered) reached.left.items) }
+        (IsTrue entered) step.left.items) }
 {
     let mut places = Vec::new(alloc);
     let mut left = Vec::new(alloc);
@@ -128,10 +140,14 @@ pub fn step_all(
         note(&mut left, number, leaves)?;
         number = next_tree(starts, by.marks, entered, number + 1);
     }
-    Ok(Reached { places, left })
+    Ok(JointStep { places, left })
 }
 
-/// The numbers of the trees that can be left at this place.
+/// Returns the numbers of the trees that can be left at this place, ascending.
+///
+/// # Errors
+///
+/// Returns `AllocError` when memory runs out.
 pub fn exits_all(
     alloc: Global,
     nodes: &[Node],
