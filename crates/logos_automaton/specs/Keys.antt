@@ -37,17 +37,17 @@ abbrev pub dead_state : State
 dead_state = record { places = []; kind = kind.Unseen; matches = [] }
 
 -- what is kept of the byte x, by which these places are reached: something only if there are places and looks
-abbrev pub kept_of : Bool → List ℕ → ℕ → Kind
-kept_of looks [] x = kind.Unseen
-kept_of false (p ∷ places) x = kind.Unseen
-kept_of true (p ∷ places) x = kind_of_byte x
+abbrev pub next_kind : Bool → List ℕ → ℕ → Kind
+next_kind looks [] x = kind.Unseen
+next_kind false (p ∷ places) x = kind.Unseen
+next_kind true (p ∷ places) x = kind_of_byte x
 
 module _ (ts : List Core) (looks : Bool) where
   -- the byte x leads from one state to the next
   pub record IsNext (s : State) (x : ℕ) (next : State) : Type 0 where
     pub places : ReadBy ts (test_at (record { before = s.kind; after = Some x })) x (Has s.places) (IsTrue (is_start s.kind)) next.places
     pub matches : LeftBy ts (test_at (record { before = s.kind; after = Some x })) (Has s.places) (IsTrue (is_start s.kind)) next.matches
-    pub kind : next.kind ≡ kept_of looks next.places x
+    pub kind : next.kind ≡ next_kind looks next.places x
 
 -- the end leads from one state to the next
 pub record IsLast (ts : List Core) (s next : State) : Type 0 where

@@ -1,6 +1,6 @@
-//! Bytes that no pattern tells apart.
+//! Bytes that no pattern distinguishes.
 ghost use Rattle.std.specs.Prelude.{◌≡◌, ◌∷◌, ◌++◌, ◌<◌, ℕ, [], IsTrue, IsFalse, IfOk, OnOk, false, length, map, slice_index_or, if◌then◌else◌};
-ghost use Rattle.logos_automaton.specs.inside.Alike.{IsAlike, IsTold, AreTold, AreKindBytes, AreFirstBytes};
+ghost use Rattle.logos_automaton.specs.inside.Alike.{IsAlike, AreStartsOf, AreClassStarts, AreKindBytes, AreFirstBytes};
 ghost use Rattle.logos_places.specs.Core as core;
 ghost use Rattle.logos_places.specs.Kinds.{kind_of_byte};
 ghost use Rattle.logos_places.specs.Marks.{IsRising, Has};
@@ -27,7 +27,7 @@ fn differ(row: Option<usize>, other: Option<usize>) -> bool
     }
 }
 
-/// Whether the bytes can be told apart by the literal.
+/// Whether the bytes can be distinguished by the literal.
 fn literal_tells(text: &[u8], one: u8, other: u8) -> bool
     ensures { IsFalse result → IsAlike (spelled text.now) one other }
 {
@@ -39,7 +39,7 @@ fn literal_tells(text: &[u8], one: u8, other: u8) -> bool
     false
 }
 
-/// Whether the bytes can be told apart by the class of characters.
+/// Whether the bytes can be distinguished by the class of characters.
 fn table_tells(table: &Table, one: u8, other: u8) -> bool
     ensures { IsFalse result → IsAlike (core.character (reader_of table.now)) one other }
 {
@@ -54,7 +54,7 @@ fn table_tells(table: &Table, one: u8, other: u8) -> bool
     false
 }
 
-/// Whether the bytes can be told apart by the tree.
+/// Whether the bytes can be distinguished by the tree.
 #[cycle(tells)]
 fn tells(node: &Node, one: u8, other: u8) -> bool
     ensures { IsFalse result → IsAlike (core_of node.now) one other }
@@ -80,12 +80,12 @@ fn tells(node: &Node, one: u8, other: u8) -> bool
 
 /// The bytes that a tree tells apart from the one before.
 #[derive(Drop)]
-pub struct Told {
+pub struct ClassStarts {
     pub bytes: Vec<u8>,
 }
 
 /// Adds the byte if it is one of them.
-fn note(bytes: &mut Vec<u8>, byte: u8, is_one: bool) -> Result<(), AllocError>
+pub fn note(bytes: &mut Vec<u8>, byte: u8, is_one: bool) -> Result<(), AllocError>
     ensures { OnOk result (bytes.new.items ≡
         (if is_one then bytes.old.items ++ byte ∷ [] else bytes.old.items)) }
 {
@@ -96,28 +96,28 @@ fn note(bytes: &mut Vec<u8>, byte: u8, is_one: bool) -> Result<(), AllocError>
 }
 
 /// The bytes that the tree tells apart from the one before.
-fn told_by(alloc: Global, node: &Node) -> Result<Told, AllocError>
-    ensures { IfOk result (λ told. IsTold (core_of node.now) told.bytes.items 256) }
+fn class_starts_of(alloc: Global, node: &Node) -> Result<ClassStarts, AllocError>
+    ensures { IfOk result (λ starts. AreStartsOf (core_of node.now) starts.bytes.items 256) }
 {
     let mut bytes = Vec::new(alloc);
     for byte in 1..256usize {
-        let is_told = tells(node, (byte - 1) as u8, byte as u8);
-        note(&mut bytes, byte as u8, is_told)?;
+        let is_start = tells(node, (byte - 1) as u8, byte as u8);
+        note(&mut bytes, byte as u8, is_start)?;
     }
-    Ok(Told { bytes })
+    Ok(ClassStarts { bytes })
 }
 
 /// The bytes that each tree tells apart from the one before.
-pub fn told_by_each(alloc: Global, nodes: &[Node]) -> Result<Vec<Told>, AllocError>
-    ensures { IfOk result (λ told. AreTold nodes.now told.items (length nodes.now)) }
+pub fn class_starts(alloc: Global, nodes: &[Node]) -> Result<Vec<ClassStarts>, AllocError>
+    ensures { IfOk result (λ lists. AreClassStarts nodes.now lists.items (length nodes.now)) }
 {
-    let mut told = Vec::new(alloc);
+    let mut lists = Vec::new(alloc);
     let mut number = 0;
     while number < nodes.len() {
-        told.push(told_by(alloc, &nodes[number])?)?;
+        lists.push(class_starts_of(alloc, &nodes[number])?)?;
         number += 1;
     }
-    Ok(told)
+    Ok(lists)
 }
 
 /// Whether looks can tell the bytes apart.
@@ -139,7 +139,7 @@ pub fn kind_bytes() -> [bool; 256]
 }
 
 /// Marks the bytes.
-fn add_bytes(bytes: &[u8], first: &mut [bool; 256])
+pub fn add_bytes(bytes: &[u8], first: &mut [bool; 256])
     ensures { (byte : ℕ) → byte < 256 → slice_index_or first.new byte false ≡ false →
         (slice_index_or first.old byte false ≡ false) × ¬ (Has bytes.now byte) }
 {
@@ -152,13 +152,13 @@ fn add_bytes(bytes: &[u8], first: &mut [bool; 256])
 pub fn first_bytes(
     nodes: &[Node],
     starts: &[usize],
-    told: &[Told],
+    class_starts: &[ClassStarts],
     kinds: &[bool; 256],
     marks: &[usize],
     entered: bool,
 ) -> [bool; 256]
     requires starts { AreStarts nodes.now starts.now }
-    requires told { AreTold nodes.now told.now (length nodes.now) }
+    requires class_starts { AreClassStarts nodes.now class_starts.now (length nodes.now) }
     requires kinds { AreKindBytes kinds.now }
     requires rising { IsRising marks.now }
     ensures { AreFirstBytes (map core_of nodes.now) (Has marks.now) (IsTrue entered) result }
@@ -166,7 +166,7 @@ pub fn first_bytes(
     let mut first = *kinds;
     let mut number = next_tree(starts, marks, entered, 0);
     while number < nodes.len() {
-        add_bytes(&told[number].bytes, &mut first);
+        add_bytes(&class_starts[number].bytes, &mut first);
         number = next_tree(starts, marks, entered, number + 1);
     }
     first

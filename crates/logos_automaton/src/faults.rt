@@ -142,7 +142,7 @@ fn in_order(alloc: Global, sets: &BTreeSet<Vec<usize>>) -> Result<Vec<Vec<LeafId
     Ok(named)
 }
 
-/// The sets of leaves that can't be told apart: each is once there, and they ascend.
+/// The sets of leaves that length and priority do not distinguish, each once and in ascending order.
 pub fn ambiguous_sets(
     alloc: Global,
     rules: &[RuleView<'_>],
@@ -169,7 +169,7 @@ fn empty_matches(alloc: Global, passed: Vec<LeafId>) -> Result<Vec<GraphError>, 
     Ok(errors)
 }
 
-/// The faults of sets that can't be told apart.
+/// The faults of sets of leaves that length and priority do not distinguish.
 fn disambiguations(alloc: Global, sets: Vec<Vec<LeafId>>) -> Result<Vec<GraphError>, AllocError>
     ensures { IfOk result (λ errors. map fault_of errors.items ≡
         map disambiguation (map (λ set. numbers set.items) sets.items)) }

@@ -26,8 +26,8 @@ pub struct Key {
 }
 
 /// What is kept of a byte by which these places are reached.
-fn kept_of(looks: bool, places: &[usize], byte: u8) -> Kind
-    ensures { result ≡ keys.kept_of looks places.now byte }
+pub fn next_kind(looks: bool, places: &[usize], byte: u8) -> Kind
+    ensures { result ≡ keys.next_kind looks places.now byte }
 {
     if looks && !places.is_empty() {
         kind_of(byte)
@@ -81,7 +81,7 @@ pub fn step_key(
     };
     let reached = step_all(alloc, nodes, starts, is_start(key.kind), by)?;
     Ok(Key {
-        kind: kept_of(looks, &reached.places, byte),
+        kind: next_kind(looks, &reached.places, byte),
         places: reached.places,
         matches: reached.left,
     })

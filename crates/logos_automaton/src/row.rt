@@ -1,9 +1,13 @@
 //! The targets of the states of an automaton, while it is built.
-ghost use Rattle.std.specs.Prelude.{Bool, ℕ, ◌≡◌, ◌^◌, ◌<◌, ◌+◌, IfOk, IfSome, OnOk, length, slice_index};
-ghost use Rattle.logos_automaton.specs.inside.Prepared.{IsPrepared, cores_of};
-ghost use Rattle.logos_automaton.specs.Keys.{AreRising, AreReached, AreFirstIn, Extends, LeadsTo, EndsIn, IsRow};
+ghost use Rattle.std.specs.Prelude.{Bool, List, ℕ, ◌≡◌, ◌^◌, ◌<◌, ◌≤◌, ◌+◌, IfOk, IfSome, IsFalse, OnOk, length, slice_index};
+ghost use Rattle.logos_automaton.specs.inside.Alike.{AreKindBytes};
+ghost use Rattle.logos_automaton.specs.inside.Prepared.{IsCacheOf, IsPrepared, cores_of};
+ghost use Rattle.logos_automaton.specs.inside.Steps.{Foresees, IsNotStart, state_after};
+ghost use Rattle.logos_automaton.specs.Keys.{AreRising, AreReached, AreFirstIn, Extends, Grows, IsAt, LeadsTo, EndsIn, IsRow};
+ghost use Rattle.logos_places.specs.Core.{Core};
 
 use crate::alike::first_bytes;
+use crate::cache::{LiveTree, StateSteps, StepCache};
 use crate::key::{Key, end_key, is_start, number_of, step_key};
 use crate::trees::Trees;
 use indexmap::IndexSet;
@@ -103,7 +107,7 @@ fn first_in(trees: &Trees<'_>, states: &IndexSet<Key>, state: usize) -> [bool; 2
         Some(key) => first_bytes(
             trees.nodes,
             trees.starts,
-            trees.told,
+            trees.class_starts,
             trees.kinds,
             &key.places,
             is_start(key.kind),
@@ -112,8 +116,8 @@ fn first_in(trees: &Trees<'_>, states: &IndexSet<Key>, state: usize) -> [bool; 2
     }
 }
 
-/// All targets of a state by bytes.
-pub fn row_of(
+/// Returns all targets of a state by bytes, where its steps serve no other state.
+fn plain_row(
     alloc: Global,
     trees: &Trees<'_>,
     states: &mut IndexSet<Key>,
@@ -138,6 +142,168 @@ pub fn row_of(
         row[byte] = next_target(alloc, trees, states, state, byte as u8, known)?;
     }
     Ok(row)
+}
+
+/// Returns the target of a state by a byte, by the steps of its live trees.
+///
+/// # Errors
+///
+/// Returns `AllocError` when memory runs out.
+fn target_by(
+    alloc: Global,
+    steps: StateSteps<'_>,
+    states: &mut IndexSet<Key>,
+    byte: u8,
+) -> Result<u32, AllocError>
+    requires few { length states.old.keys < 2 ^ 31 }
+    ensures extends { (ts : List Core) (i : ℕ) →
+        Foresees ts steps.entry.looks states.old.keys i steps.entry.steps.now steps.entry.lives.now →
+        OnOk result (Extends ts steps.entry.looks states.old.keys states.new.keys 1) }
+    ensures grows { OnOk result (Grows states.old.keys states.new.keys) }
+    ensures few { OnOk result (length states.new.keys ≤ length states.old.keys + 1) }
+    ensures at { IfOk result (λ target. IsAt states.new.keys target
+        (state_after steps.entry.looks steps.entry.steps.now steps.entry.lives.now byte)) }
+{
+    let made = steps.next_key(alloc, byte)?;
+    let target = number_of(states, made)?;
+    Ok(target as u32)
+}
+
+/// Returns the target of a state by a byte, where it may be known by the byte before.
+///
+/// # Errors
+///
+/// Returns `AllocError` when memory runs out.
+fn known_or_target_by(
+    alloc: Global,
+    steps: StateSteps<'_>,
+    states: &mut IndexSet<Key>,
+    byte: u8,
+    known: Option<u32>,
+) -> Result<u32, AllocError>
+    requires few { length states.old.keys < 2 ^ 31 }
+    requires known { IfSome known (λ target. IsAt states.old.keys target
+        (state_after steps.looks steps.steps.now steps.lives.now byte)) }
+    ensures extends { (ts : List Core) (i : ℕ) →
+        Foresees ts steps.entry.looks states.old.keys i steps.entry.steps.now steps.entry.lives.now →
+        OnOk result (Extends ts steps.entry.looks states.old.keys states.new.keys 1) }
+    ensures grows { OnOk result (Grows states.old.keys states.new.keys) }
+    ensures few { OnOk result (length states.new.keys ≤ length states.old.keys + 1) }
+    ensures at { IfOk result (λ target. IsAt states.new.keys target
+        (state_after steps.entry.looks steps.entry.steps.now steps.entry.lives.now byte)) }
+{
+    match known {
+        Some(target) => Ok(target),
+        None => target_by(alloc, steps, states, byte),
+    }
+}
+
+/// Returns all targets of a state by bytes, by the steps of its live trees.
+///
+/// # Errors
+///
+/// Returns `AllocError` when memory runs out.
+fn row_by(
+    alloc: Global,
+    steps: StateSteps<'_>,
+    kinds: &[bool; 256],
+    states: &mut IndexSet<Key>,
+) -> Result<DraftRow, AllocError>
+    requires few { length states.old.keys < 2 ^ 30 }
+    requires kinds { AreKindBytes kinds.now }
+    ensures extends { (ts : List Core) (i : ℕ) →
+        Foresees ts steps.entry.looks states.old.keys i steps.entry.steps.now steps.entry.lives.now →
+        OnOk result (Extends ts steps.entry.looks states.old.keys states.new.keys 257) }
+    ensures row { (ts : List Core) (i : ℕ) →
+        Foresees ts steps.entry.looks states.old.keys i steps.entry.steps.now steps.entry.lives.now →
+        IfOk result (λ row. IsRow ts steps.entry.looks states.new.keys i row 256) }
+    ensures wide { IfOk result (λ row. length row ≡ 256) }
+{
+    let first = steps.changes(kinds);
+    let mut row = [0; 256];
+    row[0] = target_by(alloc, steps, states, 0)?;
+    for byte in 1..256 {
+        let known = (!first[byte]).then_some(row[byte - 1]);
+        row[byte] = known_or_target_by(alloc, steps, states, byte as u8, known)?;
+    }
+    Ok(row)
+}
+
+/// Returns the live trees of a state that is not the start.
+///
+/// # Errors
+///
+/// Returns `AllocError` when memory runs out.
+fn live_in(
+    alloc: Global,
+    trees: &Trees<'_>,
+    cache: &mut StepCache,
+    states: &IndexSet<Key>,
+    state: usize,
+) -> Result<Vec<LiveTree>, AllocError>
+    requires prepared { IsPrepared trees.now }
+    requires cached { IsCacheOf trees.now cache.old }
+    requires within { state < length states.now.keys }
+    requires rising { AreRising states.now.keys }
+    requires entered { IsNotStart states.now.keys state }
+    ensures cached { OnOk result (IsCacheOf trees.now cache.new) }
+    ensures foresees { IfOk result (λ lives. Foresees (cores_of trees.now) trees.now.looks
+        states.now.keys state cache.new.steps.items lives.items) }
+{
+    match states.get_index(state) {
+        Some(key) => cache.live_trees(alloc, trees, key),
+        None => unreachable!(),
+    }
+}
+
+/// Returns whether a state is the start.
+fn is_start_at(states: &IndexSet<Key>, state: usize) -> bool
+    requires within { state < length states.now.keys }
+    ensures { IsFalse result → IsNotStart states.now.keys state }
+{
+    match states.get_index(state) {
+        Some(key) => is_start(key.kind),
+        None => unreachable!(),
+    }
+}
+
+/// Returns all targets of a state by bytes. The start enters every tree, and its steps serve no other state, so they are not
+/// kept.
+///
+/// # Errors
+///
+/// Returns `AllocError` when memory runs out.
+pub fn row_of(
+    alloc: Global,
+    trees: &Trees<'_>,
+    cache: &mut StepCache,
+    states: &mut IndexSet<Key>,
+    state: usize,
+) -> Result<DraftRow, AllocError>
+    requires prepared { IsPrepared trees.now }
+    requires cached { IsCacheOf trees.now cache.old }
+    requires within { state < length states.old.keys }
+    requires rising { AreRising states.old.keys }
+    requires reached { AreReached (cores_of trees.now) trees.now.looks states.old.keys }
+    requires few { length states.old.keys < 2 ^ 30 }
+    ensures cached { OnOk result (IsCacheOf trees.now cache.new) }
+    ensures extends { OnOk result (Extends (cores_of trees.now)
+        trees.now.looks states.old.keys states.new.keys 257) }
+    ensures row { IfOk result (λ row.
+        IsRow (cores_of trees.now) trees.now.looks states.new.keys state row 256) }
+    ensures wide { IfOk result (λ row. length row ≡ 256) }
+{
+    if is_start_at(states, state) {
+        return plain_row(alloc, trees, states, state);
+    }
+    cache.trim();
+    let lives = live_in(alloc, trees, cache, states, state)?;
+    let steps = StateSteps {
+        lives: &lives,
+        steps: &cache.steps,
+        looks: trees.looks,
+    };
+    row_by(alloc, steps, trees.kinds, states)
 }
 
 /// The row in half the room, where each target has a number below 65,536.

@@ -1,5 +1,5 @@
 //! What the states of an automaton are built from.
-use crate::alike::Told;
+use crate::alike::ClassStarts;
 use logos_places::node::Node;
 
 /// The trees of an automaton, and what was found of them before its first state.
@@ -11,7 +11,7 @@ pub struct Trees<'n> {
     /// Whether something is kept of the last byte, since some tree has a look.
     pub looks: bool,
     /// The bytes that each tree tells apart from the one before.
-    pub told: &'n [Told],
+    pub class_starts: &'n [ClassStarts],
     /// The bytes that looks can tell apart from the one before.
     pub kinds: &'n [bool; 256],
 }

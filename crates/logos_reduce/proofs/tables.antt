@@ -1,3 +1,4 @@
+pub mod HashLemmas
 pub mod PushLemmas
 pub mod RowLemmas
 pub mod EdgeLemmas

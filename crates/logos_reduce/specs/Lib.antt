@@ -1,6 +1,7 @@
 pub mod Edges
 pub mod Rows
 pub mod RowsView
+pub mod Stored
 pub mod Table
 pub mod Raw
 pub mod Settle

@@ -1,5 +1,6 @@
 -- Rows of targets.
-use Rattle.std.specs.Prelude.{◌≡◌, ◌<◌, ℕ, zero, suc, List, [], map, length, Option, Some, None, slice_index, slice_index_or}
+use Rattle.std.specs.Prelude.{◌≡◌, ◌<◌, ◌+◌, ◌==◌, ◌++◌, ℕ, zero, suc, List, [], ◌∷◌, if◌then◌else◌, map, length, Option, Some, None, slice_index, slice_index_or}
+use Rattle.std.specs.Hash as fed
 
 -- what an entry of a row stands for: 0 is no target, and else the entry is one more than the state
 abbrev pub target_of : ℕ → Option ℕ
@@ -10,7 +11,7 @@ target_of (suc t) = Some t
 abbrev pub target_by : List ℕ → ℕ → Option ℕ
 target_by row k = target_of (slice_index row k)
 
--- the rows at these places among the kept ones
+-- the rows at these places among those that are stored
 abbrev pub rows_at : List ℕ → List (List ℕ) → List (List ℕ)
 rows_at places kept = map (λ place. slice_index_or kept place []) places
 
@@ -25,3 +26,8 @@ IsClosed n rows = (s k t : ℕ) → s < n → target_in rows s k ≡ Some t → 
 -- each row has an entry for each symbol
 abbrev pub AreWide : List (List ℕ) → Type 0
 AreWide rows = (i : ℕ) → i < length rows → length (slice_index_or rows i []) ≡ 257
+
+-- what is hashed of the entries of a row from the symbol k on: each that differs from the one before, which is `last`, with its symbol
+abbrev pub changes_fed : ℕ → ℕ → List ℕ → List (List ℕ)
+changes_fed k last [] = []
+changes_fed k last (entry ∷ entries) = (if entry == last then [] else fed.usize k ++ fed.u32 entry) ++ changes_fed (k + 1) entry entries

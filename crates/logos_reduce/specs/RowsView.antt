@@ -1,7 +1,8 @@
 -- The rows of a list, in their order.
 use Rattle.std.specs.Prelude.{ℕ, List}
 use Rattle.logos_reduce.specs.Rows.{rows_at}
+use Rattle.logos_reduce.specs.Stored.{rows_in}
 use Rattle.logos_reduce.specs.declared.rows.Rows.{Rows}
 
 abbrev pub rows_of : Rows → List (List ℕ)
-rows_of rows = rows_at rows.places.items rows.kept.keys
+rows_of rows = rows_at rows.places.items (rows_in rows.stored.keys)

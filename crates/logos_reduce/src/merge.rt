@@ -6,9 +6,9 @@ ghost use Rattle.logos_reduce.specs.Table.{size, to};
 ghost use Rattle.logos_reduce.specs.Rows.{target_by};
 
 pub mod blocks;
-mod hints;
 pub(crate) mod refine;
 mod twins;
+mod worklist;
 
 use crate::merge::blocks::{Blocks, Split, by_marks};
 use crate::merge::refine::{block_of, refine};

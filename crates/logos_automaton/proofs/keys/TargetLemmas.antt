@@ -4,7 +4,7 @@ use Rattle.std.proofs.lemmas.List.{get_or-set_other}
 use Rattle.std.proofs.lemmas.Grind.{get_or-set_at}
 use Rattle.logos_automaton.specs.inside.Alike.{AreReadAlike}
 use Rattle.logos_places.specs.Core.{Core}
-use Rattle.logos_automaton.specs.Keys.{State, Grows, Extends, LeadsTo, EndsIn, IsAt, IsNext, IsRow, kept_of, is_start, state_of}
+use Rattle.logos_automaton.specs.Keys.{State, Grows, Extends, LeadsTo, EndsIn, IsAt, IsNext, IsRow, next_kind, is_start, state_of}
 use Rattle.logos_places.specs.Kinds.{kind_of_byte}
 use Rattle.logos_places.specs.Marks.{Has}
 use Rattle.logos_automaton.specs.declared.key.Key.{Key}
@@ -54,15 +54,15 @@ module _ (ts : List Core) (looks : Bool) where
       rw put (subst (λ k. LeadsTo ts looks b i k target) (sym e) new))
       (below_or_same x n below)
 
-  same_kept : (places : List ℕ) (x y : ℕ) → kind_of_byte x ≡ kind_of_byte y → kept_of looks places x ≡ kept_of looks places y
+  same_kept : (places : List ℕ) (x y : ℕ) → kind_of_byte x ≡ kind_of_byte y → next_kind looks places x ≡ next_kind looks places y
   same_kept places x y e = go looks places
     where
-      go : (b : Bool) (places : List ℕ) → kept_of b places x ≡ kept_of b places y
+      go : (b : Bool) (places : List ℕ) → next_kind b places x ≡ next_kind b places y
       go b [] = refl
       go false (p ∷ places) = refl
       go true (p ∷ places) = e
 
-  -- a byte that is not told apart leads to the same state
+  -- a byte that is not distinguished from another leads to the same state
   next_alike : (s next : State) (x y : ℕ) → AreReadAlike ts (Has s.places) (IsTrue (is_start s.kind)) x y → kind_of_byte x ≡ kind_of_byte y → IsNext ts looks s x next → IsNext ts looks s y next
   next_alike s next x y alike e h =
       let test = test_after x y e s.kind in
@@ -92,3 +92,26 @@ module _ (ts : List Core) (looks : Bool) where
         to_is = h.to_is;
         next = next_alike h.from h.to x y (subst (λ (r : State). AreReadAlike ts (Has r.places) (IsTrue (is_start r.kind)) x y) same alike) e h.next;
       }
+
+-- a number stands for one state
+pub same_state_at : (ks : List Key) (i : ℕ) (s r : State) → IsAt ks i s → IsAt ks i r → s ≡ r
+same_state_at ks i s r a b = sym a.same ∙ ap state_of (some_same (sym a.is ∙ b.is)) ∙ b.same
+  where
+    some_same : {j k : Key} → Some j ≡ Some k → j ≡ k
+    some_same e = cc
+
+-- one more target, by the state that each byte leads to
+pub at_more : (a b : List Key) (row : List ℕ) (after : ℕ → State) (n target : ℕ) → Grows a b → n < length row → ((x : ℕ) → x < n → IsAt a (slice_index row x) (after x)) → IsAt b target (after n) →
+    (x : ℕ) → x < n + 1 → IsAt b (slice_index (set row n target) x) (after x)
+at_more a b row after n target g lt all new x below =
+    ⊎_elim
+    (λ (l : x < n).
+    let kept : slice_index (set row n target) x ≡ slice_index row x = get_or-set_other row n x target 0 (λ e. omega (arith, e, l)) in
+    rw kept (g.keeps (slice_index row x) (after x) (all x l)))
+    (λ (e : x ≡ n).
+    let put : slice_index (set row n target) x ≡ target = get_or-set_at row n x target 0 e lt in
+    rw put (subst (λ k. IsAt b target (after k)) (sym e) new))
+    (below_or_same_at x n below)
+  where
+    below_or_same_at : (a b : ℕ) → a < b + 1 → (a < b) ⊎ (a ≡ b)
+    below_or_same_at a b lt = grind arith

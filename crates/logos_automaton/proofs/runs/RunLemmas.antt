@@ -4,7 +4,7 @@ use Rattle.std.proofs.lemmas.Option.{same_Some}
 use Rattle.logos_hir.specs.Text.{byte_before, byte_after}
 use Rattle.logos_hir.specs.declared.hir.Look.{Look}
 use Rattle.logos_places.specs.Core.{Core, void, empty, byte_in, character, look, cat, alt, plus, width, IsFree, holds_at, Exits, Steps}
-use Rattle.logos_automaton.specs.Keys.{State, start_state, IsNext, IsLast, is_start, kept_of}
+use Rattle.logos_automaton.specs.Keys.{State, start_state, IsNext, IsLast, is_start, next_kind}
 use Rattle.logos_places.specs.Kinds.{test_at, kind_of_byte, kind_before, is_word_byte}
 use Rattle.logos_places.specs.Marks.{Has, IsSet}
 use Rattle.logos_automaton.specs.Munch.{Rule, RuleMatches}
@@ -238,12 +238,12 @@ module _ (w : List ℕ) where
             go false false true e = true≢false (sym e)
             go false false false e = true≢false (sym e)
 
-        not_start : (looks : Bool) (places : List ℕ) → IsTrue (is_start (kept_of looks places x)) → ⊥
+        not_start : (looks : Bool) (places : List ℕ) → IsTrue (is_start (next_kind looks places x)) → ⊥
         not_start looks [] e = true≢false (sym e)
         not_start false (p ∷ places) e = true≢false (sym e)
         not_start true (p ∷ places) e = never_start e
 
-        kept : (looks : Bool) (places : List ℕ) → next.places ≡ places → next.kind ≡ kept_of looks places x → (looks ≡ false → AreFree ts) →
+        kept : (looks : Bool) (places : List ℕ) → next.places ≡ places → next.kind ≡ next_kind looks places x → (looks ≡ false → AreFree ts) →
             AreFree ts ⊎ ((suc m ≡ 0 → ⊥) × (next.places ≡ [])) ⊎ (next.kind ≡ kind_before (byte_before w (suc m)))
         kept looks [] e k f = inr (inl (λ z. omega (arith, z), e))
         kept false (p ∷ places) e k f = inl (f refl)

@@ -5,7 +5,7 @@ use Rattle.std.proofs.lemmas.Bool.{cases_lt}
 use Rattle.std.proofs.lemmas.Option.{same_Some, slice_get-get_or, slice_get_past}
 use Rattle.logos_hir.specs.Text.{IsBytes}
 use Rattle.logos_places.specs.Core.{Core}
-use Rattle.logos_automaton.specs.Keys.{State, start_state, dead_state, IsAt, AreDistinct, AreReached, IsReached, at_start, by_byte, by_end, IsNext, IsLast, is_start, kept_of, IsBuilt, automaton_of}
+use Rattle.logos_automaton.specs.Keys.{State, start_state, dead_state, IsAt, AreDistinct, AreReached, IsReached, at_start, by_byte, by_end, IsNext, IsLast, is_start, next_kind, IsBuilt, automaton_of}
 use Rattle.logos_automaton.specs.Automaton.{Automaton, dfa_next, dfa_after, dfa_at_end, IsTotal}
 use Rattle.logos_automaton.specs.declared.key.Key.{Key}
 use Rattle.logos_automaton.proofs.runs.DfaLemmas.{at_within, after_more, next_is, end_is, matches_at}
@@ -16,7 +16,7 @@ use Rattle.logos_places.proofs.steps.StepLemmas.{iff_trans, iff_sym}
 pub next_same : (ts : List Core) (looks : Bool) (s : State) (x : ℕ) (n m : State) → IsNext ts looks s x n → IsNext ts looks s x m → n ≡ m
 next_same ts looks s x n m f g =
     let e : n.places ≡ m.places = same_rising n.places m.places f.places.set.rising g.places.set.rising (λ q. iff_trans (f.places.has q) (iff_sym (g.places.has q))) in
-    same_state_as n m e (f.kind ∙ ap (λ xs. kept_of looks xs x) e ∙ sym g.kind)
+    same_state_as n m e (f.kind ∙ ap (λ xs. next_kind looks xs x) e ∙ sym g.kind)
     (same_rising n.matches m.matches f.matches.set.rising g.matches.set.rising (λ k. iff_trans (f.matches.has k) (iff_sym (g.matches.has k))))
 
 -- and so does the end

@@ -10,7 +10,7 @@ ghost use Rattle.logos_graph.specs.View.{rules_of};
 ghost use Rattle.logos_automaton.specs.Automaton.{IsTotal, ReadsOneByteLate};
 ghost use Rattle.logos_automaton.specs.declared.errors.BuildError.TheVariants.{Memory, LimitSize};
 
-use super::reduction::least_table;
+use super::reduction::reduce_table;
 use super::{BuildError, Config, Graph, GraphError};
 use crate::leaves::{is_size_within, rule_views};
 use crate::raw_table::raw_table;
@@ -96,7 +96,7 @@ fn finished<'s>(
     ensures err { IfErr result (λ e. e ≡ Memory) }
 {
     let table = raw_table(alloc, &leaves, &dfa)?;
-    let reduced = least_table(alloc, table, 0)?;
+    let reduced = reduce_table(alloc, table, 0)?;
     Ok(Graph::finished(alloc, leaves, config, dfa, reduced)?)
 }
 

@@ -17,8 +17,16 @@ use logos_reduce::reduction::{Reduction, reduce};
 use logos_reduce::table::Table;
 use std::alloc::{AllocError, Global};
 
-/// The least table that finds what an automaton with late marks finds, from the root on.
-pub(crate) fn least_table(alloc: Global, table: Table, root: usize) -> Result<Reduction, AllocError>
+/// Returns the least table that finds what an automaton with late marks finds, from the root on.
+///
+/// # Errors
+///
+/// Returns `AllocError` when memory runs out.
+pub(crate) fn reduce_table(
+    alloc: Global,
+    table: Table,
+    root: usize,
+) -> Result<Reduction, AllocError>
     requires { root < size table }
     ensures finds { IfOk result (λ r. (rules : List Rule) (graph : List GraphState) (utf8 : Bool) →
         IsRaw table root → AllStart rules → MarksOneByteLate rules (edges table) root →

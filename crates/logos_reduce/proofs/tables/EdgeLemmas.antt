@@ -1,6 +1,7 @@
 -- Where the edges of a table are.
 use Rattle.std.proofs.Common.{◌≡◌, ℕ, ◌<◌, ◌≤◌, Option, None, Some, option_map, refl, arith}
 use Rattle.std.proofs.lemmas.List.{get_or_past}
+use Rattle.logos_reduce.specs.Stored.{rows_in}
 use Rattle.logos_reduce.specs.Merge.{target_block}
 use Rattle.logos_reduce.specs.Table.{size, to, mark}
 use Rattle.logos_reduce.specs.RowsView.{rows_of}
@@ -16,7 +17,7 @@ edge_within table s k t e =
 
 pub edge_symbol : (table : Table) (s k t : ℕ) → to table s k ≡ Some t → k < 257
 edge_symbol table s k t e =
-    symbol_below (rows_of table.rows) (rows_wide table.rows.places.items table.rows.kept.keys (λ i l. table.rows.placed i (omega arith)) table.rows.wide) s k t e
+    symbol_below (rows_of table.rows) (rows_wide table.rows.places.items (rows_in table.rows.stored.keys) (λ i l. table.rows.placed i (omega arith)) table.rows.wide) s k t e
 
 pub no_edge : (table : Table) (s k : ℕ) → size table ≤ s → to table s k ≡ None
 no_edge table s k l = let n = table.same_len in no_source (rows_of table.rows) s k (omega arith)

@@ -9,7 +9,7 @@ ghost use Rattle.logos_reduce.specs.Rows.{target_by};
 
 use crate::lists::{add, empty_lists, file, predecessors};
 use crate::merge::blocks::Blocks;
-use crate::merge::hints::Hints;
+use crate::merge::worklist::Worklist;
 use crate::merge::twins::{Work, split_on};
 use crate::rows::{Row, WIDTH, target_at};
 use crate::table::Table;
@@ -150,8 +150,8 @@ fn split_by_symbol(
     ensures finer { IfOk result (λ w.
         IsFiner (size table.now) (slice_index w.blocks.items) (slice_index work.blocks.items)) }
     ensures falls { IfOk result (λ w.
-        2 * (vec_len w.lists - vec_len w.splits) + vec_len w.hints.todo
-        ≤ 2 * (vec_len work.lists - vec_len work.splits) + vec_len work.hints.todo) }
+        2 * (vec_len w.lists - vec_len w.splits) + vec_len w.worklist.todo
+        ≤ 2 * (vec_len work.lists - vec_len work.splits) + vec_len work.worklist.todo) }
     ensures block_in { IfOk result (λ w. by.now.block < vec_len w.splits) }
     ensures sources { IfOk result
         (λ w. AreSources (size table.now)
@@ -213,8 +213,8 @@ fn split_by_block(
     ensures finer { IfOk result (λ w.
         IsFiner (size table.now) (slice_index w.blocks.items) (slice_index work.blocks.items)) }
     ensures falls { IfOk result (λ w.
-        2 * (vec_len w.lists - vec_len w.splits) + vec_len w.hints.todo
-        ≤ 2 * (vec_len work.lists - vec_len work.splits) + vec_len work.hints.todo) }
+        2 * (vec_len w.lists - vec_len w.splits) + vec_len w.worklist.todo
+        ≤ 2 * (vec_len work.lists - vec_len work.splits) + vec_len work.worklist.todo) }
 {
     let mut split = work;
     for k in 0..WIDTH {
@@ -226,23 +226,23 @@ fn split_by_block(
 impl Work {
     /// The next block to look at.
     fn next(&mut self) -> Option<usize>
-        ensures some { OnSome result (vec_len self.new.hints.todo + 1
-            ≡ vec_len self.old.hints.todo) }
+        ensures some { OnSome result (vec_len self.new.worklist.todo + 1
+            ≡ vec_len self.old.worklist.todo) }
         ensures blocks { self.new.blocks ≡ self.old.blocks }
         ensures splits { self.new.splits ≡ self.old.splits }
         ensures lists { self.new.lists ≡ self.old.lists }
     {
-        self.hints.next()
+        self.worklist.next()
     }
 
     /// Notes that a block was looked at.
     fn finish(&mut self, block: usize)
-        ensures todo { vec_len self.new.hints.todo ≡ vec_len self.old.hints.todo }
+        ensures todo { vec_len self.new.worklist.todo ≡ vec_len self.old.worklist.todo }
         ensures blocks { self.new.blocks ≡ self.old.blocks }
         ensures splits { self.new.splits ≡ self.old.splits }
         ensures lists { self.new.lists ≡ self.old.lists }
     {
-        self.hints.finish(block);
+        self.worklist.finish(block);
     }
 
     /// The blocks alone.
@@ -255,7 +255,7 @@ impl Work {
             lists: _,
             twins: _,
             splits,
-            hints: _,
+            worklist: _,
         } = self;
         Blocks { of: blocks, splits }
     }
@@ -288,14 +288,14 @@ fn start(alloc: Global, blocks: Blocks, room: usize) -> Result<Work, AllocError>
 {
     let Blocks { of, splits } = blocks;
     let lists = filed_states(alloc, &of, room)?;
-    let hints = Hints::new(alloc, &of, splits.len(), room)?;
+    let worklist = Worklist::new(alloc, &of, splits.len(), room)?;
     let twins = vec![in alloc; 0; room]?;
     Ok(Work {
         blocks: of,
         lists,
         twins,
         splits,
-        hints,
+        worklist,
     })
 }
 
@@ -318,8 +318,8 @@ fn look_at(
     ensures finer { IfOk result (λ w.
         IsFiner (size table.now) (slice_index w.blocks.items) (slice_index work.blocks.items)) }
     ensures falls { IfOk result (λ w.
-        2 * (vec_len w.lists - vec_len w.splits) + vec_len w.hints.todo
-        ≤ 2 * (vec_len work.lists - vec_len work.splits) + vec_len work.hints.todo) }
+        2 * (vec_len w.lists - vec_len w.splits) + vec_len w.worklist.todo
+        ≤ 2 * (vec_len work.lists - vec_len work.splits) + vec_len work.worklist.todo) }
 {
     if work.splits.len() <= b {
         return Ok(work);

@@ -6,22 +6,22 @@ ghost use Rattle.logos_reduce.specs.inside.Lists.{AreFiled, landing, HaveMoved};
 
 use crate::lists::file;
 use crate::merge::blocks::Split;
-use crate::merge::hints::Hints;
+use crate::merge::worklist::Worklist;
 use std::alloc::{AllocError, Global};
 
 /// The blocks of the hit states.
 fn homes_of(
     alloc: Global,
-    hints: &mut Hints,
+    worklist: &mut Worklist,
     blocks: &Vec<usize>,
     hits: &Vec<usize>,
 ) -> Result<Vec<usize>, AllocError>
     requires hits_in { (i : ℕ) → i < vec_len hits.now →
         slice_index hits.now.items i < vec_len blocks.now }
     requires within { (s : ℕ) → s < vec_len blocks.now →
-        slice_index blocks.now.items s < vec_len hints.old.sizes }
-    ensures todo { vec_len hints.new.todo ≡ vec_len hints.old.todo }
-    ensures sizes { vec_len hints.new.sizes ≡ vec_len hints.old.sizes }
+        slice_index blocks.now.items s < vec_len worklist.old.sizes }
+    ensures todo { vec_len worklist.new.todo ≡ vec_len worklist.old.todo }
+    ensures sizes { vec_len worklist.new.sizes ≡ vec_len worklist.old.sizes }
     ensures homes { IfOk result (λ h.
         (vec_len h ≡ vec_len hits.now) × ((i : ℕ) → i < vec_len hits.now →
         slice_index h.items i ≡ slice_index blocks.now.items (slice_index hits.now.items i))) }
@@ -29,39 +29,39 @@ fn homes_of(
     let mut homes = Vec::new(alloc);
     for s in hits {
         let home = blocks[*s];
-        hints.count_hit(home);
+        worklist.count_hit(home);
         homes.push(home)?;
     }
     Ok(homes)
 }
 
 /// A new block for a block, if it is cut and has none yet.
-fn choose_twin(
-    hints: &mut Hints,
+fn add_twin(
+    worklist: &mut Worklist,
     twins: &mut Vec<usize>,
     splits: &mut Vec<Split>,
     fresh: usize,
     block: usize,
     symbol: usize,
 ) -> Result<(), AllocError>
-    requires room { vec_len twins.old ≡ vec_len hints.old.sizes }
+    requires room { vec_len twins.old ≡ vec_len worklist.old.sizes }
     requires fits { vec_len splits.old ≤ vec_len twins.old }
     requires older { fresh ≤ vec_len splits.old }
     requires block_in { block < fresh }
     requires below { (c : ℕ) → slice_index twins.old.items c < vec_len splits.old }
     requires twins { AreTwins fresh symbol twins.old.items splits.old.items }
     ensures len { vec_len twins.new ≡ vec_len twins.old }
-    ensures sizes { vec_len hints.new.sizes ≡ vec_len hints.old.sizes }
+    ensures sizes { vec_len worklist.new.sizes ≡ vec_len worklist.old.sizes }
     ensures fits { OnOk result (vec_len splits.new ≤ vec_len twins.old) }
-    ensures todo { OnOk result (vec_len hints.new.todo + vec_len splits.old
-        ≤ vec_len hints.old.todo + vec_len splits.new) }
+    ensures todo { OnOk result (vec_len worklist.new.todo + vec_len splits.old
+        ≤ vec_len worklist.old.todo + vec_len splits.new) }
     ensures below { OnOk result ((c : ℕ) → slice_index twins.new.items c < vec_len splits.new) }
     ensures twins { OnOk result (AreTwins fresh symbol twins.new.items splits.new.items) }
     ensures goes_on { OnOk result (Continues splits.old.items splits.new.items) }
 {
     let twin = splits.len();
-    if twin < twins.len() && twins[block] < fresh && hints.is_cut(block) {
-        hints.part(block, twin)?;
+    if twin < twins.len() && twins[block] < fresh && worklist.is_cut(block) {
+        worklist.part(block, twin)?;
         splits.push(Split {
             parent: block,
             symbol: Some(symbol),
@@ -72,23 +72,23 @@ fn choose_twin(
 }
 
 /// New blocks for the blocks that are cut.
-fn choose_twins(
-    hints: &mut Hints,
+fn add_twins(
+    worklist: &mut Worklist,
     twins: &mut Vec<usize>,
     splits: &mut Vec<Split>,
     homes: &Vec<usize>,
     symbol: usize,
 ) -> Result<(), AllocError>
-    requires room { vec_len twins.old ≡ vec_len hints.old.sizes }
+    requires room { vec_len twins.old ≡ vec_len worklist.old.sizes }
     requires fits { vec_len splits.old ≤ vec_len twins.old }
     requires homes_in { (i : ℕ) → i < vec_len homes.now →
         slice_index homes.now.items i < vec_len splits.old }
     requires below { (c : ℕ) → slice_index twins.old.items c < vec_len splits.old }
     ensures len { vec_len twins.new ≡ vec_len twins.old }
-    ensures sizes { vec_len hints.new.sizes ≡ vec_len hints.old.sizes }
+    ensures sizes { vec_len worklist.new.sizes ≡ vec_len worklist.old.sizes }
     ensures fits { OnOk result (vec_len splits.new ≤ vec_len twins.old) }
-    ensures todo { OnOk result (vec_len hints.new.todo + vec_len splits.old
-        ≤ vec_len hints.old.todo + vec_len splits.new) }
+    ensures todo { OnOk result (vec_len worklist.new.todo + vec_len splits.old
+        ≤ vec_len worklist.old.todo + vec_len splits.new) }
     ensures below { OnOk result ((c : ℕ) → slice_index twins.new.items c < vec_len splits.new) }
     ensures twins { OnOk result
         (AreTwins (vec_len splits.old) symbol twins.new.items splits.new.items) }
@@ -96,48 +96,48 @@ fn choose_twins(
 {
     let fresh = splits.len();
     for home in homes {
-        choose_twin(hints, twins, splits, fresh, *home, symbol)?;
+        add_twin(worklist, twins, splits, fresh, *home, symbol)?;
     }
     Ok(())
 }
 
 /// Forgets the hits of these blocks.
-fn forget_all(hints: &mut Hints, homes: &Vec<usize>)
+fn forget_all(worklist: &mut Worklist, homes: &Vec<usize>)
     requires { (i : ℕ) → i < vec_len homes.now →
-        slice_index homes.now.items i < vec_len hints.old.sizes }
-    ensures todo { vec_len hints.new.todo ≡ vec_len hints.old.todo }
-    ensures sizes { vec_len hints.new.sizes ≡ vec_len hints.old.sizes }
+        slice_index homes.now.items i < vec_len worklist.old.sizes }
+    ensures todo { vec_len worklist.new.todo ≡ vec_len worklist.old.todo }
+    ensures sizes { vec_len worklist.new.sizes ≡ vec_len worklist.old.sizes }
 {
     for home in homes {
-        hints.forget(*home);
+        worklist.forget(*home);
     }
 }
 
 /// New blocks for the blocks that are cut, whose hits are forgotten then.
-fn choose_once(
-    hints: &mut Hints,
+fn cut_hit_blocks(
+    worklist: &mut Worklist,
     twins: &mut Vec<usize>,
     splits: &mut Vec<Split>,
     homes: &Vec<usize>,
     symbol: usize,
 ) -> Result<(), AllocError>
-    requires room { vec_len twins.old ≡ vec_len hints.old.sizes }
+    requires room { vec_len twins.old ≡ vec_len worklist.old.sizes }
     requires fits { vec_len splits.old ≤ vec_len twins.old }
     requires homes_in { (i : ℕ) → i < vec_len homes.now →
         slice_index homes.now.items i < vec_len splits.old }
     requires below { (c : ℕ) → slice_index twins.old.items c < vec_len splits.old }
     ensures len { vec_len twins.new ≡ vec_len twins.old }
-    ensures sizes { vec_len hints.new.sizes ≡ vec_len hints.old.sizes }
+    ensures sizes { vec_len worklist.new.sizes ≡ vec_len worklist.old.sizes }
     ensures fits { OnOk result (vec_len splits.new ≤ vec_len twins.old) }
-    ensures todo { OnOk result (vec_len hints.new.todo + vec_len splits.old
-        ≤ vec_len hints.old.todo + vec_len splits.new) }
+    ensures todo { OnOk result (vec_len worklist.new.todo + vec_len splits.old
+        ≤ vec_len worklist.old.todo + vec_len splits.new) }
     ensures below { OnOk result ((c : ℕ) → slice_index twins.new.items c < vec_len splits.new) }
     ensures twins { OnOk result
         (AreTwins (vec_len splits.old) symbol twins.new.items splits.new.items) }
     ensures goes_on { OnOk result (Continues splits.old.items splits.new.items) }
 {
-    choose_twins(hints, twins, splits, homes, symbol)?;
-    forget_all(hints, homes);
+    add_twins(worklist, twins, splits, homes, symbol)?;
+    forget_all(worklist, homes);
     Ok(())
 }
 
@@ -229,12 +229,12 @@ pub struct Work {
     pub lists: Vec<Vec<usize>>,
     pub twins: Vec<usize>,
     pub splits: Vec<Split>,
-    pub hints: Hints,
+    pub worklist: Worklist,
     ghost within: { (s : ℕ) → s < vec_len blocks → slice_index blocks.items s < vec_len splits },
     ghost below: { (c : ℕ) → slice_index twins.items c < vec_len splits },
     ghost room: { vec_len splits ≤ vec_len lists },
     ghost twins_len: { vec_len twins ≡ vec_len lists },
-    ghost hints_len: { vec_len hints.sizes ≡ vec_len lists },
+    ghost hints_len: { vec_len worklist.sizes ≡ vec_len lists },
     ghost filed: { AreFiled (vec_len blocks) (slice_index blocks.items) lists.items },
 }
 
@@ -257,25 +257,25 @@ pub fn split_on(
         AreTwins (vec_len work.splits) symbol w.twins.items w.splits.items) }
     ensures goes_on { IfOk result (λ w. Continues work.splits.items w.splits.items) }
     ensures falls { IfOk result (λ w.
-        2 * (vec_len w.lists - vec_len w.splits) + vec_len w.hints.todo
-        ≤ 2 * (vec_len work.lists - vec_len work.splits) + vec_len work.hints.todo) }
+        2 * (vec_len w.lists - vec_len w.splits) + vec_len w.worklist.todo
+        ≤ 2 * (vec_len work.lists - vec_len work.splits) + vec_len work.worklist.todo) }
 {
     let Work {
         mut blocks,
         mut lists,
         mut twins,
         mut splits,
-        mut hints,
+        mut worklist,
     } = work;
     let fresh = splits.len();
-    let homes = homes_of(alloc, &mut hints, &blocks, hits)?;
-    choose_once(&mut hints, &mut twins, &mut splits, &homes, symbol)?;
+    let homes = homes_of(alloc, &mut worklist, &blocks, hits)?;
+    cut_hit_blocks(&mut worklist, &mut twins, &mut splits, &homes, symbol)?;
     move_hits(&mut blocks, &mut lists, &twins, fresh, hits)?;
     Ok(Work {
         blocks,
         lists,
         twins,
         splits,
-        hints,
+        worklist,
     })
 }

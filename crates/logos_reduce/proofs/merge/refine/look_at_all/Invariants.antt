@@ -11,4 +11,4 @@ invariant-loop-b l =
     × IsFiner (size l.table) (slice_index l.split.blocks.items) (slice_index l.initial.split.blocks.items)
 
 abbrev pub decreases-loop-b : goal.decreases-loop-b
-decreases-loop-b l = 2 * (vec_len l.split.lists - vec_len l.split.splits) + vec_len l.split.hints.todo
+decreases-loop-b l = 2 * (vec_len l.split.lists - vec_len l.split.splits) + vec_len l.split.worklist.todo
