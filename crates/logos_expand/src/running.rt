@@ -200,10 +200,11 @@ fn settle<'w, F: ComparableFiles>(
 }
 
 /// Returns how the file at a path differs from what another file gives.
-fn difference<'w>(alloc: Global, input: &str, path: &str, standing: Standing) -> Stop<'w>
-    ensures { FailsBy ⊤ result }
+fn difference<'w>(alloc: Global, order: Order<'_>, path: &str, standing: Standing) -> Stop<'w>
+    requires { IsTrue order.is_check }
+    ensures { FailsBy (IsTrue order.entry.is_check) result }
 {
-    match difference_text(alloc, input, path, standing) {
+    match difference_text(alloc, order.input, path, standing) {
         Ok(text) => Stop::Refused(text),
         Err(AllocError) => Stop::Memory,
     }
