@@ -65,10 +65,11 @@ pub(crate) fn expand<'w>(
     ensures done { IfOk result (λ made. IsExpanded config file.entry.text.now made.bytes.items) }
     ensures denied { IfErr result (FailsBy (HasFaults file.entry.text.now)) }
 {
-    match enums_in(alloc, file.text) {
-        Ok(found) => expand_enums(alloc, file, config, is_colored, &found),
-        Err(refusal) => Err(refused_whole(alloc, file, is_colored, refusal)),
-    }
+    let found = match enums_in(alloc, file.text) {
+        Ok(found) => found,
+        Err(refusal) => return Err(refused_whole(alloc, file, is_colored, refusal)),
+    };
+    expand_enums(alloc, file, config, is_colored, &found)
 }
 
 /// Returns why a file is refused that cannot be read into tokens.
