@@ -1,5 +1,5 @@
 -- What the enums of a file give, one after another.
-use Rattle.std.proofs.Common.{◌≡◌, ◌≤◌, ◌<◌, ◌+◌, ℕ, suc, List, [], ◌∷◌, ◌++◌, append_assoc, true, false, All, IfOk, Option, map, length, get_or, drop, string_bytes, refl, sym, ap, ◌∙◌, arith, subst, inl, inr}
+use Rattle.std.proofs.Common.{◌≡◌, ◌≤◌, ◌<◌, ◌+◌, ℕ, suc, List, [], ◌∷◌, ◌++◌, append_assoc, true, false, All, IfOk, OnOk, Option, Result, Ok, Err, map, length, get_or, drop, string_bytes, refl, sym, ap, ◌∙◌, arith, subst, inl, inr}
 use Rattle.std.specs.List.{Contains}
 use Rattle.std.proofs.lemmas.List.{append-nil}
 use Rattle.std.proofs.lemmas.List.Elements.{Contains-append_right, Contains-append_left}
@@ -9,12 +9,13 @@ use Rattle.logos_code.specs.Code.{CodeValue}
 use Rattle.logos_code.specs.declared.code.Config.{Config}
 use Rattle.logos_codegen.specs.Given.{IsGiven}
 use Rattle.logos_codegen.specs.Source.{IsRefused}
+use Rattle.logos_codegen.specs.Source.IsRefused.{unread}
 use Rattle.logos_expand.specs.declared.expanding.Gathered.{Gathered}
 use Rattle.logos_expand.specs.declared.expanding.Refused.{Refused}
 use Rattle.logos_expand.specs.Expanding.{FailsBy, HasFaults, HasFaultyEnum, IsExpansion, IsExpanded, IsLexerText, IsUnreadable, Replaces, text_at}
-use Rattle.logos_expand.specs.Expanding.Replaces as replaces
+use Rattle.logos_expand.specs.Expanding.Replaces.{ended as r_ended, stays as r_stays, gives as r_gives}
 use Rattle.logos_expand.specs.inside.Gathering.{AddsRefusal, AreFaultsOf, Gathers, GathersAll, GathersOne, IsExpansionBy, IsPrintedWith}
-use Rattle.logos_expand.specs.inside.Gathering.Gathers as gathers
+use Rattle.logos_expand.specs.inside.Gathering.Gathers.{ended as g_ended, stays as g_stays, gives as g_gives, refuses as g_refuses}
 use Rattle.logos_files.specs.declared.finding.FoundEnum.{FoundEnum}
 use Rattle.logos_files.specs.declared.replacing.Replacement.{Replacement}
 use Rattle.logos_files.specs.Files.{AreEnumsOf}
@@ -53,7 +54,7 @@ further config text found one left old new s g = record {
 pub ended : (config : Config) (text : List ℕ) (found : List FoundEnum) (gathered : Gathered) → SoFar config text found [] gathered → GathersAll config text found gathered
 ended config text found gathered s =
     subst (λ ps. Gathers config text found ps gathered.refused.items) (append-nil gathered.parts.items)
-    (subst (λ rs. Gathers config text found (gathered.parts.items ++ []) rs) (append-nil gathered.refused.items) (s.completes [] [] gathers.ended))
+    (subst (λ rs. Gathers config text found (gathered.parts.items ++ []) rs) (append-nil gathered.refused.items) (s.completes [] [] g_ended))
 
 -- the same by the number of the next enum
 next_left : (found : List FoundEnum) (i : ℕ) (d : FoundEnum) → i < length found → drop i found ≡ get_or found i d ∷ drop (i + 1) found
@@ -83,17 +84,17 @@ stays_one config text one gathered e = record {
   refused = [];
   parts_are = sym (append-nil gathered.parts.items);
   refused_are = sym (append-nil gathered.refused.items);
-  completes = λ rest more worse g. gathers.stays e g;
+  completes = λ rest more worse g. g_stays e g;
 }
 
-pub gives_one : (config : Config) (text : List ℕ) (one : FoundEnum) (part : Replacement) (old new : Gathered) → one.derives ≡ true → part.span ≡ one.span → IsExpansion config (text_at text one) (string_bytes part.text) →
-    new.parts.items ≡ old.parts.items ++ part ∷ [] → new.refused.items ≡ old.refused.items → GathersOne config text one old new
-gives_one config text one part old new e s x p r = record {
+pub gives_one : (config : Config) (text : List ℕ) (one : FoundEnum) (part : Replacement) (old new : Gathered) (source : List ℕ) → source ≡ text_at text one → one.derives ≡ true → part.span ≡ one.span →
+    IsExpansion config source (string_bytes part.text) → new.parts.items ≡ old.parts.items ++ part ∷ [] → new.refused.items ≡ old.refused.items → GathersOne config text one old new
+gives_one config text one part old new source k e s x p r = record {
   parts = part ∷ [];
   refused = [];
   parts_are = p;
   refused_are = r ∙ sym (append-nil old.refused.items);
-  completes = λ rest more worse g. gathers.gives e s x g;
+  completes = λ rest more worse g. g_gives e s (subst (λ bytes. IsExpansion config bytes (string_bytes part.text)) k x) g;
 }
 
 -- a refusal has faults of which this holds
@@ -101,23 +102,23 @@ faults_hold : (Hold : List Fault → Type 0) (refusal : Refusal) (faults : List 
 faults_hold Hold (refusals.Errors errors) faults h a = subst Hold (sym a) h
 faults_hold Hold refusals.Memory faults h a = absurd a
 
-pub refuses_one : (config : Config) (text : List ℕ) (one : FoundEnum) (refusal : Refusal) (old new : Gathered) → one.derives ≡ true → Refuses (IsRefused (text_at text one)) refusal →
+pub refuses_one : (config : Config) (text : List ℕ) (one : FoundEnum) (refusal : Refusal) (old new : Gathered) (source : List ℕ) → source ≡ text_at text one → one.derives ≡ true → Refuses (IsRefused source) refusal →
     AddsRefusal one.span.from refusal old.refused.items new.refused.items → new.parts.items ≡ old.parts.items → GathersOne config text one old new
-refuses_one config text one refusal old new e h a p = record {
+refuses_one config text one refusal old new source k e h a p = record {
   parts = [];
   refused = a.bad ∷ [];
   parts_are = p ∙ sym (append-nil old.parts.items);
   refused_are = a.are;
-  completes = λ rest more worse g. gathers.refuses e a.is_offset (faults_hold (IsRefused (text_at text one)) refusal a.bad.errors h a.faults) g;
+  completes = λ rest more worse g. g_refuses e a.is_offset (subst (λ bytes. IsRefused bytes a.bad.errors) k (faults_hold (IsRefused source) refusal a.bad.errors h a.faults)) g;
 }
 
 -- ---- all enums
 
 replaces_all : (config : Config) (text : List ℕ) (found : List FoundEnum) (parts : List Replacement) (refused : List Refused) → Gathers config text found parts refused → refused ≡ [] → Replaces config text found parts
-replaces_all config text _ _ _ gathers.ended e = replaces.ended
-replaces_all config text _ _ _ (gathers.stays d g) e = replaces.stays d (replaces_all config text _ _ _ g e)
-replaces_all config text _ _ _ (gathers.gives d s x g) e = replaces.gives d s x (replaces_all config text _ _ _ g e)
-replaces_all config text _ _ _ (gathers.refuses d s x g) e = absurd cc
+replaces_all config text _ _ _ g_ended e = r_ended
+replaces_all config text _ _ _ (g_stays d g) e = r_stays d (replaces_all config text _ _ _ g e)
+replaces_all config text _ _ _ (g_gives d s x g) e = r_gives d s x (replaces_all config text _ _ _ g e)
+replaces_all config text _ _ _ (g_refuses d s x g) e = absurd cc
 
 -- the result of a file without faults
 pub expanded_all : (config : Config) (text bytes : List ℕ) (found : List FoundEnum) (gathered : Gathered) → AreEnumsOf text found → GathersAll config text found gathered → gathered.refused.items ≡ [] →
@@ -142,10 +143,10 @@ later_faulty : (text : List ℕ) (one : FoundEnum) (rest : List FoundEnum) → F
 later_faulty text one rest f = record { one = f.one; contains = Contains-append_right (one ∷ []) rest f.one f.contains; derives = f.derives; faults = f.faults; refused = f.refused }
 
 faulty_one : (config : Config) (text : List ℕ) (found : List FoundEnum) (parts : List Replacement) (refused : List Refused) → Gathers config text found parts refused → 0 < length refused → Faulty text found
-faulty_one config text _ _ _ gathers.ended l = absurd (omega (arith, l))
-faulty_one config text _ _ _ (gathers.stays {one} {rest} d g) l = later_faulty text one rest (faulty_one config text rest _ _ g l)
-faulty_one config text _ _ _ (gathers.gives {one} {part} {rest} d s x g) l = later_faulty text one rest (faulty_one config text rest _ _ g l)
-faulty_one config text _ _ _ (gathers.refuses {one} {bad} {rest} d s x g) l = record { one = one; contains = (0, omega arith, refl); derives = d; faults = bad.errors; refused = x }
+faulty_one config text _ _ _ g_ended l = absurd (omega (arith, l))
+faulty_one config text _ _ _ (g_stays {one} {rest} d g) l = later_faulty text one rest (faulty_one config text rest _ _ g l)
+faulty_one config text _ _ _ (g_gives {one} {part} {rest} d s x g) l = later_faulty text one rest (faulty_one config text rest _ _ g l)
+faulty_one config text _ _ _ (g_refuses {one} {bad} {rest} d s x g) l = record { one = one; contains = (0, omega arith, refl); derives = d; faults = bad.errors; refused = x }
 
 pub faulty_file : (config : Config) (text : List ℕ) (found : List FoundEnum) (gathered : Gathered) → AreEnumsOf text found → GathersAll config text found gathered → 0 < length gathered.refused.items → HasFaults text
 faulty_file config text found gathered a g l =
@@ -160,12 +161,12 @@ earlier from place (span ∷ rest) to l s = (omega (arith, l, s.0), s.1, s.2)
 
 order_parts : (config : Config) (text : List ℕ) (found : List FoundEnum) (parts : List Replacement) (refused : List Refused) (from to : ℕ) → Gathers config text found parts refused → AreInOrder from (map found_span found) to →
     AreInOrder from (map place_of parts) to
-order_parts config text _ _ _ from to gathers.ended o = o
-order_parts config text _ _ _ from to (gathers.stays {one} {rest} {parts} {refused} d g) o =
+order_parts config text _ _ _ from to g_ended o = o
+order_parts config text _ _ _ from to (g_stays {one} {rest} {parts} {refused} d g) o =
     earlier from one.span.to (map place_of parts) to (omega (arith, o.0, o.1)) (order_parts config text rest parts refused one.span.to to g o.2)
-order_parts config text _ _ _ from to (gathers.gives {one} {part} {rest} {parts} {refused} d s x g) o =
+order_parts config text _ _ _ from to (g_gives {one} {part} {rest} {parts} {refused} d s x g) o =
     rw s (o.0, o.1, order_parts config text rest parts refused one.span.to to g o.2)
-order_parts config text _ _ _ from to (gathers.refuses {one} {bad} {rest} {parts} {refused} d s x g) o =
+order_parts config text _ _ _ from to (g_refuses {one} {bad} {rest} {parts} {refused} d s x g) o =
     earlier from one.span.to (map place_of parts) to (omega (arith, o.0, o.1)) (order_parts config text rest parts refused one.span.to to g o.2)
 
 pub ordered_parts : (config : Config) (text : List ℕ) (found : List FoundEnum) (gathered : Gathered) → GathersAll config text found gathered → AreInOrder 0 (map found_span found) (length text) →
@@ -187,3 +188,18 @@ expansion_made config source shown graph code name export g b = record {
 
 pub whole_refused : (text : List ℕ) (refusal : Refusal) (old new : List Refused) → Refuses (IsUnreadable text) refusal → AddsRefusal 0 refusal old new → HasFaults text
 whole_refused text refusal old new h a = inl (a.bad.errors, faults_hold (IsUnreadable text) refusal a.bad.errors h a.faults)
+
+-- a source that is not read is refused
+pub unread_refused : (source : List ℕ) (refusal : Refusal) → Refuses (IsUnreadable source) refusal → Refuses (IsRefused source) refusal
+unread_refused source (refusals.Errors errors) h = unread h.1 h.2
+unread_refused source refusals.Memory h = tt
+
+pub expansion_all : {A E : Type 0} (f : A → List ℕ) (result : Result A E) (config : Config) (source : List ℕ) (graph : GraphValue) (code : CodeValue) (name : Slice) (export : Option (List ℕ)) → IsGiven source config graph code name export →
+    IfOk result (λ text. IsExpansionBy code source (f text)) → IfOk result (λ text. IsExpansion config source (f text))
+expansion_all f (Ok text) config source graph code name export g b = expansion_made config source (f text) graph code name export g b
+expansion_all f (Err error) config source graph code name export g b = tt
+
+-- what holds after success gives something else
+pub ok_then : {A E One Other : Type 0} (result : Result A E) → (One → Other) → OnOk result One → OnOk result Other
+ok_then (Ok done) f h = f h
+ok_then (Err error) f h = tt
