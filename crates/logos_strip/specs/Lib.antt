@@ -1,4 +1,5 @@
 pub mod Helpers
+pub mod Derives
 pub mod Places
 pub mod Stripping
 pub mod Results

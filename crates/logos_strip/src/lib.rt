@@ -2,6 +2,7 @@
 
 #![tactic(auto)]
 
+pub mod derives;
 mod helpers;
 pub mod laws;
 pub mod places;

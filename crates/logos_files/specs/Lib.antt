@@ -1,0 +1,4 @@
+pub mod Fronts
+pub mod Files
+pub mod Replacing
+pub mod inside
