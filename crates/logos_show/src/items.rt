@@ -1,6 +1,7 @@
 //! The items of an input, a line each.
 
-ghost use Rattle.std.specs.Prelude.{◌≤◌, ◌≡◌, length};
+ghost use Rattle.std.specs.Prelude.{IfErr};
+ghost use Rattle.logos_show.specs.Orders.{IsNoMisuse};
 
 use crate::counts::{Counts, name_at, push_count};
 use crate::lines::push_item;
@@ -41,7 +42,9 @@ pub(crate) fn write_items<'w, O: Write, C: Clock>(
     input: &[u8],
     clock: &C,
     out: &mut O,
-) -> Result<(), Stop<'w>> {
+) -> Result<(), Stop<'w>>
+    ensures { IfErr result IsNoMisuse }
+{
     let mut lines = Lines {
         block: Vec::with_capacity(alloc, BLOCK + BLOCK / 16)?,
         counts: Counts::new(alloc, code.leaves().len())?,
@@ -102,7 +105,9 @@ fn write_all<'w, O: Write>(
     input: &[u8],
     lines: &mut Lines,
     out: &mut O,
-) -> Result<(), Stop<'w>> {
+) -> Result<(), Stop<'w>>
+    ensures { IfErr result IsNoMisuse }
+{
     let emit = |_leaf: LeafId, _slice: &[u8]| Action::Emit;
     match Lexer::new_bytes(code, input, emit) {
         Ok(lexer) => {
@@ -121,6 +126,7 @@ fn write_lexed<'w, C: Fn(LeafId, &[u8]) -> Action, O: Write>(
     out: &mut O,
 ) -> Result<(), Stop<'w>>
     requires { C.IsAlwaysCallable lexer.old.callback }
+    ensures { IfErr result IsNoMisuse }
 {
     let mut cursor = Cursor::new(input);
     while let Some(item) = lexer.next() {
@@ -132,11 +138,7 @@ fn write_lexed<'w, C: Fn(LeafId, &[u8]) -> Action, O: Write>(
 
 /// Adds the line of an item, and counts it.
 #[inline(always)]
-fn add_item(
-    lines: &mut Lines,
-    cursor: &mut Cursor<'_>,
-    item: Item<'_>,
-) -> Result<(), AllocError> {
+fn add_item(lines: &mut Lines, cursor: &mut Cursor<'_>, item: Item<'_>) -> Result<(), AllocError> {
     match item {
         Item::Token { leaf, span, slice } => {
             cursor.go_to(span.from);
@@ -163,7 +165,9 @@ fn head_at(heads: &[Vec<u8>], leaf: usize) -> &[u8] {
 
 /// Writes a block that is full, and empties it.
 #[inline(always)]
-fn write_full<'w, O: Write>(block: &mut Vec<u8>, out: &mut O) -> Result<(), Stop<'w>> {
+fn write_full<'w, O: Write>(block: &mut Vec<u8>, out: &mut O) -> Result<(), Stop<'w>>
+    ensures { IfErr result IsNoMisuse }
+{
     if block.len() < BLOCK {
         return Ok(());
     }
@@ -171,7 +175,9 @@ fn write_full<'w, O: Write>(block: &mut Vec<u8>, out: &mut O) -> Result<(), Stop
 }
 
 /// Writes a block, and empties it.
-fn write_block<'w, O: Write>(block: &mut Vec<u8>, out: &mut O) -> Result<(), Stop<'w>> {
+fn write_block<'w, O: Write>(block: &mut Vec<u8>, out: &mut O) -> Result<(), Stop<'w>>
+    ensures { IfErr result IsNoMisuse }
+{
     let written = out.write_all(block.as_slice());
     block.clear();
     match written {
@@ -181,7 +187,9 @@ fn write_block<'w, O: Write>(block: &mut Vec<u8>, out: &mut O) -> Result<(), Sto
 }
 
 /// Flushes a writer, which may hold back what it is given until then.
-fn flush<'w, O: Write>(out: &mut O) -> Result<(), Stop<'w>> {
+fn flush<'w, O: Write>(out: &mut O) -> Result<(), Stop<'w>>
+    ensures { IfErr result IsNoMisuse }
+{
     match out.flush() {
         Ok(()) => Ok(()),
         Err(_) => Err(Stop::Output),

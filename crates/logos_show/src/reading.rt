@@ -1,4 +1,6 @@
 //! Files and their enums.
+ghost use Rattle.std.specs.Prelude.{IfErr};
+ghost use Rattle.logos_show.specs.Orders.{IsNoMisuse};
 
 use logos_codegen::Refusal;
 use logos_codegen::error::Memory;
@@ -6,11 +8,13 @@ use logos_codegen::item::{ReadError, read_enum};
 use logos_codegen::token::{Span, TokenError, tokenize};
 use logos_commands::{FileError, Files};
 use logos_files::FoundEnum;
-use logos_report::{Color, Page, Part, Source, Stop, count_errors, push_faults, push_summary};
+use logos_report::{Page, Part, Source, Stop, count_errors, push_faults, push_summary};
 use std::alloc::{AllocError, Global};
 
 /// Returns all bytes of a file.
-pub(crate) fn read_bytes<'w, F: Files>(path: &'w str, files: &mut F) -> Result<Vec<u8>, Stop<'w>> {
+pub(crate) fn read_bytes<'w, F: Files>(path: &'w str, files: &mut F) -> Result<Vec<u8>, Stop<'w>>
+    ensures { IfErr result IsNoMisuse }
+{
     match files.read(path) {
         Ok(bytes) => Ok(bytes),
         Err(FileError::Failed) => Err(Stop::Read(path)),
@@ -19,7 +23,9 @@ pub(crate) fn read_bytes<'w, F: Files>(path: &'w str, files: &mut F) -> Result<V
 }
 
 /// Returns the text of a file.
-pub(crate) fn read_text<'w, F: Files>(path: &'w str, files: &mut F) -> Result<String, Stop<'w>> {
+pub(crate) fn read_text<'w, F: Files>(path: &'w str, files: &mut F) -> Result<String, Stop<'w>>
+    ensures { IfErr result IsNoMisuse }
+{
     match String::from_utf8(read_bytes(path, files)?) {
         Ok(text) => Ok(text),
         Err(_) => Err(Stop::Read(path)),
@@ -43,13 +49,15 @@ pub(crate) fn text_of<'t>(source: &Source<'t>, found: FoundEnum) -> &'t str {
 pub(crate) fn refused<'w>(
     alloc: Global,
     part: Part<'_, '_>,
-    color: Color,
+    is_colored: bool,
     refusal: Refusal,
-) -> Stop<'w> {
+) -> Stop<'w>
+    ensures { IsNoMisuse result }
+{
     let Refusal::Errors(errors) = refusal else {
         return Stop::Memory;
     };
-    let mut page = Page::new(alloc, color.is_on());
+    let mut page = Page::new(alloc, is_colored);
     push_faults(&mut page, part, &errors);
     push_summary(&mut page, count_errors(&errors));
     match page.finish() {

@@ -1,4 +1,6 @@
 //! The lexers of a file, as tables.
+ghost use Rattle.std.specs.Prelude.{IfErr};
+ghost use Rattle.logos_show.specs.Orders.{IsNoMisuse};
 
 use crate::reading::{refused, text_of};
 use crate::table::push_table;
@@ -6,8 +8,7 @@ use crate::warnings::{push_unmarked, push_warnings};
 use logos_codegen::generate;
 use logos_codegen::generator::Config;
 use logos_files::{FoundEnum, enums_in};
-use logos_lines::LineIndex;
-use logos_report::{Color, Page, Part, Source, Stop};
+use logos_report::{Page, Part, Source, Stop};
 use std::alloc::Global;
 
 /// The shape of the code whose tables are counted. The other one has as many.
@@ -28,14 +29,8 @@ pub(crate) struct Shown {
 struct Pages {
     tables: Page,
     warnings: Page,
-}
-
-/// A file, and what each step needs to know of it.
-#[derive(Clone, Copy)]
-struct File<'f, 't> {
-    source: &'f Source<'t>,
-    lines: &'f LineIndex<'t>,
-    color: Color,
+    /// Faults are shown in colors.
+    is_colored: bool,
 }
 
 /// Returns what is shown of a file.
@@ -46,58 +41,46 @@ struct File<'f, 't> {
 pub(crate) fn shown_of<'w>(
     alloc: Global,
     source: &Source<'_>,
-    color: Color,
-) -> Result<Shown, Stop<'w>> {
+    is_colored: bool,
+) -> Result<Shown, Stop<'w>>
+    ensures { IfErr result IsNoMisuse }
+{
     let whole = Part { source, offset: 0 };
     let found = match enums_in(alloc, source.text()) {
         Ok(found) => found,
-        Err(refusal) => return Err(refused(alloc, whole, color, refusal)),
-    };
-    let lines = LineIndex::new(alloc, source.text())?;
-    let file = File {
-        source,
-        lines: &lines,
-        color,
+        Err(refusal) => return Err(refused(alloc, whole, is_colored, refusal)),
     };
     let mut pages = Pages {
-        tables: Page::new(alloc, color.is_on()),
-        warnings: Page::new(alloc, color.is_on()),
+        tables: Page::new(alloc, false),
+        warnings: Page::new(alloc, is_colored),
+        is_colored,
     };
-    push_enums(alloc, &mut pages, file, &found)?;
+    for one in &found {
+        push_enum(alloc, &mut pages, source, *one)?;
+    }
     Ok(Shown {
         tables: pages.tables.finish()?,
         warnings: pages.warnings.finish()?,
     })
 }
 
-/// Adds what is shown of these enums.
-fn push_enums<'w>(
-    alloc: Global,
-    pages: &mut Pages,
-    file: File<'_, '_>,
-    found: &[FoundEnum],
-) -> Result<(), Stop<'w>> {
-    for one in found {
-        push_enum(alloc, pages, file, *one)?;
-    }
-    Ok(())
-}
-
 /// Adds what is shown of an enum.
 fn push_enum<'w>(
     alloc: Global,
     pages: &mut Pages,
-    file: File<'_, '_>,
+    source: &Source<'_>,
     one: FoundEnum,
-) -> Result<(), Stop<'w>> {
-    let text = text_of(file.source, one);
+) -> Result<(), Stop<'w>>
+    ensures { IfErr result IsNoMisuse }
+{
+    let text = text_of(source, one);
     let part = Part {
-        source: file.source,
+        source,
         offset: one.span.from,
     };
     push_warnings(alloc, &mut pages.warnings, part, text, one.derives)?;
     if one.derives {
-        push_lexer(alloc, pages, file, part, text)?;
+        push_lexer(alloc, pages, part, text)?;
     }
     Ok(())
 }
@@ -106,16 +89,17 @@ fn push_enum<'w>(
 fn push_lexer<'w>(
     alloc: Global,
     pages: &mut Pages,
-    file: File<'_, '_>,
     part: Part<'_, '_>,
     text: &str,
-) -> Result<(), Stop<'w>> {
+) -> Result<(), Stop<'w>>
+    ensures { IfErr result IsNoMisuse }
+{
     match generate(alloc, text, SHAPE) {
         Ok(made) => {
-            push_table(alloc, &mut pages.tables, part, file.lines, text, &made)?;
+            push_table(alloc, &mut pages.tables, part, text, &made)?;
             push_unmarked(alloc, &mut pages.warnings, part, &made.graph)?;
             Ok(())
         }
-        Err(refusal) => Err(refused(alloc, part, file.color, refusal)),
+        Err(refusal) => Err(refused(alloc, part, pages.is_colored, refusal)),
     }
 }

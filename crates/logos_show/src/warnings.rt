@@ -69,13 +69,7 @@ fn push_warning(page: &mut Page, part: Part<'_, '_>, name: &str, warning: Warnin
 }
 
 /// Adds the warning of an attribute whose name is near to that of a helper attribute.
-fn push_misspelled(
-    page: &mut Page,
-    part: Part<'_, '_>,
-    name: &str,
-    intended: Helper,
-    span: Span,
-) {
+fn push_misspelled(page: &mut Page, part: Part<'_, '_>, name: &str, intended: Helper, span: Span) {
     begin(page);
     page.push("`");
     page.push(name);

@@ -46,6 +46,7 @@ module _ (states : List GraphState) (count : ℕ) (state : GraphState) (stands :
       turned : (leaf : ℕ) → leaf < leaves → IsSet before leaf ⊎ Marks state.state_type leaf → IsMarkedBelow states count leaf ⊎ Marks state.state_type leaf
       turned leaf l (inl set) = inl ((are.each leaf l).0 set)
       turned leaf l (inr m) = inr m
+
       back : (leaf : ℕ) → leaf < leaves → IsMarkedBelow states count leaf ⊎ Marks state.state_type leaf → IsSet before leaf ⊎ Marks state.state_type leaf
       back leaf l (inl m) = inl ((are.each leaf l).1 m)
       back leaf l (inr m) = inr m
@@ -129,14 +130,18 @@ mark_set flags n inside = record { count = length-set flags n true; each = λ k 
   where
     sides : (k : ℕ) → (k < n) ⊎ (n < k) ⊎ (k ≡ n)
     sides k = grind arith
+
     other : (k : ℕ) → k ≢ n → get_or (set flags n true) k false ≡ get_or flags k false
     other k ne = get_or-set_other flags n k true false ne
+
     here : (k : ℕ) → k ≡ n → get_or (set flags n true) k false ≡ true
     here k e = rw e (get_or-set_same flags n true false inside)
+
     unset_or : (k : ℕ) → k < length flags → (k < n) ⊎ (n < k) ⊎ (k ≡ n) → IsSet (set flags n true) k → IsSet flags k ⊎ (Some n ≡ Some k)
     unset_or k l (inl (inl less)) s = inl (sym (other k (omega arith)) ∙ s)
     unset_or k l (inl (inr more)) s = inl (sym (other k (omega arith)) ∙ s)
     unset_or k l (inr e) s = inr (ap Some (sym e))
+
     set_after : (k : ℕ) → k < length flags → (k < n) ⊎ (n < k) ⊎ (k ≡ n) → IsSet flags k ⊎ (Some n ≡ Some k) → IsSet (set flags n true) k
     set_after k l (inl (inl less)) (inl s) = other k (omega arith) ∙ s
     set_after k l (inl (inr more)) (inl s) = other k (omega arith) ∙ s

@@ -131,7 +131,8 @@ fn report_attribute<'s>(
     };
     let span = attribute.span;
     if is_useless(site, name) {
-        return warnings.push(Warning::Useless { span });
+        warnings.push(Warning::Useless { span })?;
+        return Ok(());
     }
     let Some(intended) = intended_helper(name) else {
         return Ok(());
@@ -140,5 +141,6 @@ fn report_attribute<'s>(
         name,
         intended,
         span,
-    })
+    })?;
+    Ok(())
 }
