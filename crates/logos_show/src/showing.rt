@@ -8,6 +8,7 @@ use crate::warnings::{push_unmarked, push_warnings};
 use logos_codegen::generate;
 use logos_codegen::generator::Config;
 use logos_files::{FoundEnum, enums_in};
+use logos_lines::LineIndex;
 use logos_report::{Page, Part, Source, Stop};
 use std::alloc::Global;
 
@@ -50,13 +51,14 @@ pub(crate) fn shown_of<'w>(
         Ok(found) => found,
         Err(refusal) => return Err(refused(alloc, whole, is_colored, refusal)),
     };
+    let lines = LineIndex::new(alloc, source.text())?;
     let mut pages = Pages {
         tables: Page::new(alloc, false),
         warnings: Page::new(alloc, is_colored),
         is_colored,
     };
     for one in &found {
-        push_enum(alloc, &mut pages, source, *one)?;
+        push_enum(alloc, &mut pages, source, &lines, *one)?;
     }
     Ok(Shown {
         tables: pages.tables.finish()?,
@@ -69,6 +71,7 @@ fn push_enum<'w>(
     alloc: Global,
     pages: &mut Pages,
     source: &Source<'_>,
+    lines: &LineIndex<'_>,
     one: FoundEnum,
 ) -> Result<(), Stop<'w>>
     ensures { IfErr result IsNoMisuse }
@@ -80,7 +83,7 @@ fn push_enum<'w>(
     };
     push_warnings(alloc, &mut pages.warnings, part, text, one.derives)?;
     if one.derives {
-        push_lexer(alloc, pages, part, text)?;
+        push_lexer(alloc, pages, part, lines, text)?;
     }
     Ok(())
 }
@@ -90,13 +93,14 @@ fn push_lexer<'w>(
     alloc: Global,
     pages: &mut Pages,
     part: Part<'_, '_>,
+    lines: &LineIndex<'_>,
     text: &str,
 ) -> Result<(), Stop<'w>>
     ensures { IfErr result IsNoMisuse }
 {
     match generate(alloc, text, SHAPE) {
         Ok(made) => {
-            push_table(alloc, &mut pages.tables, part, text, &made)?;
+            push_table(alloc, &mut pages.tables, part, lines, text, &made)?;
             push_unmarked(alloc, &mut pages.warnings, part, &made.graph)?;
             Ok(())
         }

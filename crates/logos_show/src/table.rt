@@ -3,6 +3,7 @@
 use logos_codegen::Generated;
 use logos_codegen::error::Memory;
 use logos_codegen::leaf::Leaf;
+use logos_lines::LineIndex;
 use logos_report::{Page, Part, digits};
 use logos_survey::{Costs, LeafRow, costs_of, row_of};
 use std::alloc::Global;
@@ -21,26 +22,28 @@ pub(crate) fn push_table(
     alloc: Global,
     page: &mut Page,
     part: Part<'_, '_>,
+    lines: &LineIndex<'_>,
     text: &str,
     made: &Generated<'_>,
 ) -> Result<(), Memory> {
-    let rows = rows_of(alloc, part, text, made.graph.leaves())?;
+    let rows = rows_of(alloc, lines, part.offset, text, made.graph.leaves())?;
     push_title(page, part, made);
     push_rows(page, &rows);
     push_costs(page, costs_of(&made.code));
     Ok(())
 }
 
-/// Returns the rows of the leaves of an enum.
+/// Returns the rows of the leaves of an enum, which begins at `offset` of its file.
 fn rows_of<'l>(
     alloc: Global,
-    part: Part<'_, '_>,
+    lines: &LineIndex<'_>,
+    offset: usize,
     text: &'l str,
     leaves: &'l [Leaf<'_>],
 ) -> Result<Vec<LeafRow<'l>>, Memory> {
     let mut rows = Vec::new(alloc);
     for leaf in leaves {
-        rows.push(row_of(alloc, part, text, leaf)?)?;
+        rows.push(row_of(alloc, lines, offset, text, leaf)?)?;
     }
     Ok(rows)
 }

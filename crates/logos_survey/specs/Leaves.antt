@@ -1,5 +1,5 @@
 -- The row of a leaf in a table.
-use Rattle.std.specs.Prelude.{◌≡◌, ◌≤◌, ◌+◌, ◌*◌, ◌↔◌, ℕ, Bool, IsTrue, if◌then◌else◌, List, [], length, slice_range, IsCharBoundary, Option, Some, None, option_map, option_copied}
+use Rattle.std.specs.Prelude.{◌≡◌, ◌≤◌, ◌+◌, ◌-◌, ◌*◌, ◌^◌, ◌↔◌, min, ℕ, Bool, IsTrue, if◌then◌else◌, List, [], length, slice_range, IsCharBoundary, Option, Some, None, option_map, option_copied}
 use Rattle.logos_hir.specs.Hir.{tree_of}
 use Rattle.logos_lexeme.specs.declared.lexeme.Span.{Span}
 use Rattle.logos_lines.specs.Places.{place_at}
@@ -45,6 +45,10 @@ ShowsCallback text None shown = shown ≡ None
 ShowsCallback text (Some callback) None = ⊥
 ShowsCallback text (Some callback) (Some shown) = IsTextAt text (callback_span callback) shown
 
+-- an offset that counts from another one, or the largest number of a `usize` where it passes that
+abbrev pub moved : (offset from : ℕ) → ℕ
+moved offset from = min (offset + from) (2 ^ 64 - 1)
+
 -- The row of a leaf of an enum, whose text begins at this offset of a file. The spans of the leaf count from there.
 pub record IsRowOf (file : List ℕ) (offset : ℕ) (text : List ℕ) (leaf : Leaf) (row : LeafRow) : Type 0 where
   pub variant : option_copied row.variant ≡ variant_name leaf.kind
@@ -53,4 +57,4 @@ pub record IsRowOf (file : List ℕ) (offset : ℕ) (text : List ℕ) (leaf : Le
   pub priority : row.priority ≡ leaf.priority
   pub default : IsTrue row.is_default ↔ (default_priority leaf.pattern ≡ Some leaf.priority)
   pub callback : ShowsCallback text leaf.callback (option_copied row.callback)
-  pub line : row.line ≡ (place_at file (leaf.span.from + offset)).line
+  pub line : row.line ≡ (place_at file (moved offset leaf.span.from)).line

@@ -1,12 +1,13 @@
 //! The rows of leaves in a table.
 ghost use Rattle.std.specs.Prelude.{◌≡◌, ◌↔◌, IsTrue, IfOk, Some, option_map, option_copied};
+ghost use Rattle.logos_lines.specs.Places.{place_at};
 ghost use Rattle.logos_token.specs.Held.{held};
 ghost use Rattle.logos_survey.specs.Leaves.{IsRowOf, IsTextAt, ShowsCallback};
-ghost use Rattle.logos_survey.specs.Leaves.{default_priority, held_priority, variant_name};
+ghost use Rattle.logos_survey.specs.Leaves.{default_priority, held_priority, moved, variant_name};
 
+use logos_lines::LineIndex;
 use logos_pattern::leaf::{Callback, Leaf, VariantKind};
 use logos_pattern::pattern::Pattern;
-use logos_report::Part;
 use logos_token::error::Memory;
 use logos_token::token::{Literal, LiteralValue, Span};
 use std::alloc::Global;
@@ -31,18 +32,19 @@ pub struct LeafRow<'l> {
 
 /// Returns the row of a leaf.
 ///
-/// `part` is the enum's part of its file, and `text` the text of that part. The spans of the leaf
-/// count from where it begins.
+/// `lines` are those of the whole file. The enum begins in it at `offset`, in bytes, and `text` is
+/// its text. The spans of the leaf count from there.
 ///
 /// # Errors
 /// Returns `Memory` when memory runs out.
 pub fn row_of<'l>(
     alloc: Global,
-    part: Part<'_, '_>,
+    lines: &LineIndex<'_>,
+    offset: usize,
     text: &'l str,
     leaf: &'l Leaf<'_>,
 ) -> Result<LeafRow<'l>, Memory>
-    ensures { IfOk result (IsRowOf part.source.now.text part.offset text.now leaf.now) }
+    ensures { IfOk result (IsRowOf lines.now offset text.now leaf.now) }
 {
     let is_default = has_default_priority(alloc, &leaf.pattern, leaf.priority)?;
     Ok(LeafRow {
@@ -52,7 +54,7 @@ pub fn row_of<'l>(
         priority: leaf.priority,
         is_default,
         callback: callback_text(text, leaf.callback.as_ref()),
-        line: part.position(leaf.span.from).line,
+        line: line_at(lines, offset, leaf.span.from),
     })
 }
 
@@ -117,4 +119,11 @@ fn text_at(text: &str, span: Span) -> &str
         Some(slice) => slice,
         None => "",
     }
+}
+
+/// Returns the line of the file at an offset that counts from another one.
+fn line_at(lines: &LineIndex<'_>, offset: usize, from: usize) -> usize
+    ensures { result ≡ (place_at lines.now (moved offset from)).line }
+{
+    lines.line_column(offset.saturating_add(from)).line
 }
