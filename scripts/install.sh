@@ -1,8 +1,8 @@
 #!/usr/bin/env bash
-# Puts the program `logos` into PREFIX/bin: scripts/install.sh [--proved] [PREFIX]
+# Puts the programs `logos` and `logos_cli` into PREFIX/bin: scripts/install.sh [--proved] [PREFIX]
 #
-# PREFIX is ~/.local without. Without --proved the program is built from the same sources, optimised and unproved, in a few minutes; with it,
-# every crate is proved first, which takes about an hour, and the program is the one that the gate builds.
+# PREFIX is ~/.local if it is not given. Without --proved the programs are built from the same sources, optimised and unproved, in a few minutes;
+# with it, every crate is proved first, which takes about an hour, and the programs are those that the gate builds.
 set -euo pipefail
 
 root=$(cd "$(dirname "${BASH_SOURCE[0]}")/.." && pwd)
@@ -17,35 +17,45 @@ case ${1-} in -*)
 esac
 bin=${1:-$HOME/.local}/bin
 
-# Builds the program, and prints where it lies.
+# Builds the program of a crate, and prints where it lies: the crate, and words with which the program can be run in its folder.
 build() {
+    local crate=$1
+    shift
     if [ "$proved" = yes ]; then
-        (cd "$root/crates/logos_program" && rt run -- lex data/t.rs data/input) > /dev/null
-        echo "$root/crates/logos_program/out/logos_program"
+        (cd "$root/crates/$crate" && rt run -- "$@") > /dev/null
+        echo "$root/crates/$crate/out/$crate"
     else
-        python3 "$root/scripts/install/build.py" "$1/logos"
-        echo "$1/logos"
+        python3 "$root/scripts/install/build.py" "$room/$crate" "$crate"
+        echo "$room/$crate"
     fi
+}
+
+# Installs a program under a name: the name, its crate, and the words for `build`.
+install_program() {
+    local name=$1 built
+    shift
+    if ! built=$(build "$@"); then
+        if [ "$proved" = no ]; then
+            echo 'install: this toolchain does not build without proofs as this script knows it.' >&2
+            echo 'Build the proved programs in their place: bash scripts/install.sh --proved' >&2
+        fi
+        exit 1
+    fi
+    mkdir -p "$bin"
+    cp "$built" "$bin/$name.part"
+    mv "$bin/$name.part" "$bin/$name"
 }
 
 room=$(mktemp -d)
 trap 'rm -rf "$room"' EXIT
-if ! built=$(build "$room"); then
-    if [ "$proved" = no ]; then
-        echo 'install: this toolchain does not build without proofs as this script knows it.' >&2
-        echo 'Build the proved program in its place: bash scripts/install.sh --proved' >&2
-    fi
-    exit 1
-fi
-mkdir -p "$bin"
-cp "$built" "$bin/logos.part"
-mv "$bin/logos.part" "$bin/logos"
+install_program logos logos_program lex data/t.rs data/input
+install_program logos_cli logos_cli --version
 
 echo "The items of \"$(cat "$root/crates/logos_program/data/input")\", by crates/logos_program/data/t.rs:"
 "$bin/logos" lex "$root/crates/logos_program/data/t.rs" "$root/crates/logos_program/data/input"
 if [ "$proved" = yes ]; then
-    echo "Installed $bin/logos, proved."
+    echo "Installed $bin/logos and $bin/logos_cli, proved."
 else
-    echo "Installed $bin/logos. It is built from the proved sources, but this build itself proved nothing: --proved does."
+    echo "Installed $bin/logos and $bin/logos_cli. They are built from the proved sources, but this build itself proved nothing: --proved does."
 fi
-case :$PATH: in *:$bin:*) ;; *) echo "$bin is not on your PATH: add it, or call the program by its path." ;; esac
+case :$PATH: in *:$bin:*) ;; *) echo "$bin is not on your PATH: add it, or call the programs by their paths." ;; esac

@@ -1,10 +1,11 @@
 #!/usr/bin/env bash
-# Installs the program without proofs into a folder of its own, and runs it there as README.md shows.
+# Installs the programs without proofs into a folder of their own, and runs them there as README.md and the guide show.
 set -uo pipefail
 
 root=$(cd "$(dirname "${BASH_SOURCE[0]}")/.." && pwd)
 room=$(mktemp -d)
 trap 'rm -rf "$room"' EXIT
+passed=0
 
 bash "$root/scripts/install.sh" "$room/prefix" || echo "install: no program was installed"
 if (cd "$root/crates/logos_program/data" && "$room/prefix/bin/logos" lex t.rs input) > "$room/items" \

@@ -5,7 +5,7 @@
 # derive is expanded in both shapes, all other lines have to stay, rustc compiles the result beside the runtime of scripts/rust_text, and
 # what the compiled lexer finds in the input is compared with what `logos_show` prints, line by line.
 #
-# The programs are those that the gate has built, or the first two arguments. Where there is no rustc, it says so and ends well.
+# It needs rustc, and the programs that the gate has built, or the first two arguments.
 set -euo pipefail
 
 root=$(cd "$(dirname "${BASH_SOURCE[0]}")/.." && pwd)
@@ -14,10 +14,14 @@ show=$(realpath "${2:-$root/crates/logos_show/out/logos_show}")
 lexers=8
 room=$(mktemp -d)
 trap 'rm -rf "$room"' EXIT
-if ! command -v rustc > /dev/null; then
-    echo "real_lexers: there is no rustc here, so nothing was compiled"
-    exit 0
-fi
+
+fail() {
+    echo "real_lexers: $1" >&2
+    echo "0 passed, 1 failed"
+    exit 1
+}
+
+command -v rustc > /dev/null || fail "rustc is missing"
 rustc --edition 2021 -A warnings --crate-name logos --crate-type rlib -o "$room/liblogos.rlib" "$root/scripts/rust_text/runtime.rs"
 
 # Compiles the expanded file of a lexer, whose enum and type of source these are, to a program.
@@ -38,20 +42,21 @@ for file in "$root"/examples/lexers/*.rs; do
     enum=$("$show" "$file" | sed -n 's/^enum \([A-Za-z]*\) .*/\1/p' | tail -n 1)
     "$show" "$file" "$root/examples/lexers/$name.input" --enum "$enum" > "$room/shown"
     sed '/^$/,$d' "$room/shown" > "$room/wanted"
-    [ -s "$room/wanted" ] || { echo "real_lexers: $name has no items" >&2; exit 1; }
+    [ -s "$room/wanted" ] || fail "$name has no items"
     for shape in state_machine tailcall; do
         folder=$room/$name.$shape
         mkdir "$folder"
         "$cli" "$file" --shape "$shape" --output "$folder/lexer.rs"
         "$cli" "$file" --shape "$shape" --output "$folder/lexer.rs" --check
         # What stands outside the enums is there as before.
-        grep -vxF -f "$folder/lexer.rs" "$file" | grep -E '^(use|//!|pub (type|const|fn|struct)|impl)' && { echo "real_lexers: $name lost these lines" >&2; exit 1; }
+        grep -vxF -f "$folder/lexer.rs" "$file" | grep -E '^(use|//!|pub (type|const|fn|struct)|impl)' && fail "$name lost these lines"
         compiled "$folder" "$name" "$enum"
         "$folder/program" "$root/examples/lexers/$name.input" | diff "$room/wanted" - > "$room/difference" \
-            || { echo "real_lexers: $name, $shape, finds other items" >&2; cat "$room/difference" >&2; exit 1; }
+            || { cat "$room/difference" >&2; fail "$name, $shape, finds other items"; }
     done
     found=$((found + 1))
     items=$((items + $(wc -l < "$room/wanted")))
 done
-[ "$found" = "$lexers" ] || { echo "real_lexers: $found lexers in place of $lexers" >&2; exit 1; }
+[ "$found" = "$lexers" ] || fail "$found lexers in place of $lexers"
 echo "real_lexers: $found lexers in two shapes, $items items each"
+echo "$((2 * found)) passed, 0 failed"

@@ -3,7 +3,9 @@
 #![tactic(auto)]
 
 mod command_line;
+mod comparing;
 mod system;
 
 pub use command_line::words;
+pub use comparing::{ComparableFiles, Standing};
 pub use system::Disk;

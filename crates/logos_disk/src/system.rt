@@ -1,6 +1,8 @@
 //! The files of the system.
 
+use crate::comparing::{ComparableFiles, Standing};
 use logos_commands::{FileError, Files};
+use std::alloc::AllocError;
 use std::fs::Metadata;
 use std::io::{ErrorKind, Write};
 use std::rt::Files as Runtime;
@@ -28,6 +30,24 @@ impl<R: Runtime + AllocGlobal> Files for Disk<'_, R> {
         match write_file(self.rt, path, bytes) {
             Ok(()) => Ok(()),
             Err(error) => Err(file_error(&error)),
+        }
+    }
+}
+
+impl<R: Runtime + AllocGlobal> ComparableFiles for Disk<'_, R> {
+    fn compare(&mut self, path: &str, bytes: &[u8]) -> Result<Standing, AllocError> {
+        let size = match fs::metadata(self.rt, path) {
+            Ok(found) if found.is_file() => found.len(),
+            Ok(_) => return Ok(Standing::Differs),
+            Err(_) => return Ok(Standing::Missing),
+        };
+        if size != bytes.len() as u64 {
+            return Ok(Standing::Differs);
+        }
+        match self.read(path) {
+            Ok(found) if found.as_slice() == bytes => Ok(Standing::Same),
+            Err(FileError::Memory) => Err(AllocError),
+            _ => Ok(Standing::Differs),
         }
     }
 }

@@ -1,1 +1,2 @@
-mod PartLemmas
+pub mod GatherLemmas
+pub mod RunLemmas

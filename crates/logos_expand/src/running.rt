@@ -6,11 +6,11 @@ ghost use Rattle.logos_expand.specs.Expanding.{FailsBy};
 ghost use Rattle.logos_expand.specs.Orders.{asked, order_value, request_value};
 ghost use Rattle.logos_expand.specs.Runs.{IsCarriedOut, IsDelivered, IsDenied, IsDeniedOrder, IsDone};
 ghost use Rattle.logos_expand.specs.Runs.{IsSettled};
-ghost use Rattle.logos_expand.specs.inside.Standings.{Compares};
 
 use crate::expanding::{Expansion, File, expand};
 use crate::options::{Order, Request, request_of};
 use logos_commands::{FileError, Files};
+use logos_disk::{ComparableFiles, Standing};
 use logos_report::{Stop, report};
 use std::alloc::{AllocError, Global};
 use std::io;
@@ -42,7 +42,7 @@ const VERSION: &str = "logos_cli 0.16.1\n";
 
 /// Does what the words ask for, and returns the exit status: 0 done, 1 refused, 2 for words that are
 /// no command, 3 if a file or memory fails. What is wrong is written to `err`.
-pub fn run<F: Files, O: Write, E: Write + IsTerminal>(
+pub fn run<F: ComparableFiles, O: Write, E: Write + IsTerminal>(
     alloc: Global,
     words: &[String],
     files: &mut F,
@@ -87,7 +87,7 @@ const NOT_TEXT: Stop<'static> = Stop::Misuse {
 };
 
 /// Does what is asked for.
-fn carry_out<'w, F: Files, O: Write, E: Write + IsTerminal>(
+fn carry_out<'w, F: ComparableFiles, O: Write, E: Write + IsTerminal>(
     alloc: Global,
     request: Request<'w>,
     files: &mut F,
@@ -107,7 +107,7 @@ fn carry_out<'w, F: Files, O: Write, E: Write + IsTerminal>(
 }
 
 /// Reads a file, expands it, and delivers the result.
-fn carry_out_order<'w, F: Files, O: Write, E: Write + IsTerminal>(
+fn carry_out_order<'w, F: ComparableFiles, O: Write, E: Write + IsTerminal>(
     alloc: Global,
     order: Order<'w>,
     files: &mut F,
@@ -160,7 +160,7 @@ fn read_text<'w, F: Files>(path: &'w str, files: &mut F) -> Result<String, Stop<
 }
 
 /// Brings the result where it was asked for.
-fn deliver<'w, F: Files, O: Write>(
+fn deliver<'w, F: ComparableFiles, O: Write>(
     alloc: Global,
     order: Order<'w>,
     bytes: &[u8],
@@ -178,7 +178,7 @@ fn deliver<'w, F: Files, O: Write>(
 }
 
 /// Brings the result to a file: writes it if the file has other content, or only compares it.
-fn settle<'w, F: Files>(
+fn settle<'w, F: ComparableFiles>(
     alloc: Global,
     order: Order<'w>,
     path: &'w str,
@@ -189,7 +189,7 @@ fn settle<'w, F: Files>(
         path.now bytes.now files.old files.new) }
     ensures denied { IfErr result (FailsBy (IsTrue order.entry.is_check)) }
 {
-    let standing = compared(path, bytes, files)?;
+    let standing = files.compare(path, bytes)?;
     if matches!(standing, Standing::Same) {
         return Ok(());
     }
@@ -197,27 +197,6 @@ fn settle<'w, F: Files>(
         return Err(difference(alloc, order.input, path, standing));
     }
     write_file(path, bytes, files)
-}
-
-/// How the file at a path compares with some bytes.
-#[derive(Clone, Copy)]
-enum Standing {
-    Same,
-    Differs,
-    Missing,
-}
-
-/// Compares the file at a path with some bytes. A file that cannot be read counts as missing.
-fn compared<'w, F: Files>(path: &str, bytes: &[u8], files: &mut F) -> Result<Standing, Stop<'w>>
-    ensures same { IfOk result (Compares F.read_gives path.now bytes.now files.old files.new) }
-    ensures failed { IfErr result (λ stop. status_of stop ≡ 3) }
-{
-    match files.read(path) {
-        Ok(old) if old.as_slice() == bytes => Ok(Standing::Same),
-        Ok(_) => Ok(Standing::Differs),
-        Err(FileError::Failed) => Ok(Standing::Missing),
-        Err(FileError::Memory) => Err(Stop::Memory),
-    }
 }
 
 /// Returns how the file at a path differs from what another file gives.

@@ -1,7 +1,7 @@
 -- Whether an enum derives `Logos`, by the entries of `derive` that stripping takes away.
 use Rattle.std.specs.Prelude.{◌==◌, ◌&&◌, ◌||◌, Bool, true, false, Option, Some, None, codes}
 use Rattle.std.specs.Str.{bytes_eq}
-use Rattle.logos_lexeme.specs.declared.lexeme.Delimiter.TheVariants.{Bracket}
+use Rattle.logos_lexeme.specs.declared.lexeme.Delimiter.TheVariants.{Parenthesis, Bracket}
 use Rattle.logos_token.specs.Tokens.{TokenList, identifier, punctuation, doc, group, none, also}
 use Rattle.logos_item.specs.Marks.{hash}
 use Rattle.logos_strip.specs.Helpers.{is_comma, is_macro_entry, behind_word, holds_behind}
@@ -11,9 +11,9 @@ abbrev pub lists_macro : Bool → TokenList → Bool
 lists_macro begins none = false
 lists_macro begins (also token rest) = (begins && is_macro_entry (also token rest)) || lists_macro (is_comma token) rest
 
--- whether a group comes first that lists the derive macro
+-- whether a parenthesis comes first that lists the derive macro
 abbrev pub begins_list : TokenList → Bool
-begins_list (also (group delimiter span inside) rest) = lists_macro true inside
+begins_list (also (group Parenthesis span inside) rest) = lists_macro true inside
 begins_list run = false
 
 -- whether the brackets of an attribute hold a `derive` that lists the derive macro

@@ -61,12 +61,14 @@ fn derives_in(tokens: Tokens<'_, '_>) -> bool
     }
 }
 
-/// Returns whether a group comes first that lists `Logos`.
+/// Returns whether a parenthesis comes first that lists `Logos`.
 fn begins_list(tokens: Tokens<'_, '_>) -> bool
     ensures { result ≡ begins_list (tokens_of tokens.entry) }
 {
     match tokens.first() {
-        Some(TokenTree::Group(group)) => lists_macro(group.run()),
+        Some(TokenTree::Group(group)) if group.delimiter == Delimiter::Parenthesis => {
+            lists_macro(group.run())
+        }
         _ => false,
     }
 }
