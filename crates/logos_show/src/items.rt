@@ -4,7 +4,7 @@ ghost use Rattle.std.specs.Prelude.{IfErr};
 ghost use Rattle.logos_show.specs.Orders.{IsNoMisuse};
 
 use crate::counts::{Counts, name_at, push_count};
-use crate::lines::push_item;
+use crate::lines::{LINE, push_item};
 use logos_codegen::code::{Code, CodeLeaf};
 use logos_codegen::leaf::LeafId;
 use logos_codegen::machine::{Action, Item, Lexer, NotUtf8};
@@ -25,6 +25,8 @@ const ERROR: &[u8] = b"  <error>  \"";
 struct Lines {
     /// The lines that are not written yet.
     block: Vec<u8>,
+    /// Where a short line is put together.
+    line: [u8; LINE],
     counts: Counts,
     /// For each leaf the part of a line between the place and the text: its variant, with what
     /// stands around it.
@@ -47,6 +49,7 @@ pub(crate) fn write_items<'w, O: Write, C: Clock>(
 {
     let mut lines = Lines {
         block: Vec::with_capacity(alloc, BLOCK + BLOCK / 16)?,
+        line: [0; LINE],
         counts: Counts::new(alloc, code.leaves().len())?,
         heads: heads_of(alloc, code.leaves())?,
     };
@@ -144,12 +147,24 @@ fn add_item(lines: &mut Lines, cursor: &mut Cursor<'_>, item: Item<'_>) -> Resul
             cursor.go_to(span.from);
             lines.counts.count_token(leaf.0);
             let head = head_at(&lines.heads, leaf.0);
-            push_item(&mut lines.block, cursor.position(), head, slice)
+            push_item(
+                &mut lines.block,
+                &mut lines.line,
+                cursor.position(),
+                head,
+                slice,
+            )
         }
         Item::Error { span, slice, .. } => {
             cursor.go_to(span.from);
             lines.counts.count_error();
-            push_item(&mut lines.block, cursor.position(), ERROR, slice)
+            push_item(
+                &mut lines.block,
+                &mut lines.line,
+                cursor.position(),
+                ERROR,
+                slice,
+            )
         }
     }
 }

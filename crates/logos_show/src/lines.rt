@@ -1,6 +1,6 @@
 //! The line of an item.
 
-ghost use Rattle.std.specs.Prelude.{◌≡◌, ◌<◌, ◌≤◌, ◌++◌, OnOk, decimal, codes};
+ghost use Rattle.std.specs.Prelude.{◌<◌, ◌≤◌, ◌+◌, length};
 
 use itoa::write_digits;
 use logos_lines::Position;
@@ -13,59 +13,126 @@ const SHOWN: usize = 60;
 /// The length in bytes of two numbers of 20 digits and a colon between them.
 const PLACE: usize = 41;
 
-/// Adds the line of an item: its place, its head, which names it, and its text in quotes.
+/// The length in bytes of the longest head for which a line is put together at once.
+const HEAD: usize = 64;
+
+/// The length in bytes of the longest line that is put together at once: a place, a head, an escape
+/// of four bytes for each byte that is shown, a quote and a line end.
+pub(crate) const LINE: usize = 347;
+
+/// Adds the line of an item: its place, its head, which names it, and its text in quotes. A short
+/// line is put together in `line` first.
 #[inline(always)]
 pub(crate) fn push_item(
     block: &mut Vec<u8>,
+    line: &mut [u8; LINE],
     place: Position,
     head: &[u8],
     slice: &[u8],
 ) -> Result<(), AllocError> {
-    push_place(block, place)?;
-    block.extend_from_slice(head)?;
-    if slice.len() <= SHOWN && is_plain(slice) {
-        block.extend_from_slice(slice)?;
-        return block.extend_from_slice(b"\"\n");
+    let from = write_place(line, place);
+    if head.len() <= HEAD && slice.len() <= SHOWN && slice.is_ascii() {
+        let to = write_short(line, head, slice);
+        return block.extend_from_slice(&line[from..to]);
     }
+    block.extend_from_slice(&line[from..PLACE])?;
+    block.extend_from_slice(head)?;
     push_quoted(block, slice)?;
-    block.push(b'\n')?;
-    Ok(())
+    block.extend_from_slice(b"\n")
 }
 
-/// Returns whether each byte is a character of ASCII that stands for itself in quotes.
+/// Writes a place as `line:column` so that it ends at `PLACE`, and returns where it begins.
 #[inline(always)]
-fn is_plain(slice: &[u8]) -> bool {
+fn write_place(line: &mut [u8; LINE], place: Position) -> usize
+    ensures { result ≤ 41 }
+{
+    let end = write_digits(place.column as u64, line, PLACE);
+    let colon = end - 1;
+    line[colon] = b':';
+    write_digits(place.line as u64, line, colon)
+}
+
+/// Writes what follows the place of an item whose text is short and ASCII, and returns where it
+/// ends.
+#[inline(always)]
+fn write_short(line: &mut [u8; LINE], head: &[u8], slice: &[u8]) -> usize
+    requires head { length head.now ≤ 64 }
+    requires short { length slice.now ≤ 60 }
+    ensures after { 41 ≤ result }
+    ensures within { result ≤ 347 }
+{
+    let mut at = PLACE + head.len();
+    line[PLACE..at].copy_from_slice(head);
     for byte in slice {
-        if !is_plain_byte(*byte) {
-            return false;
-        }
+        at = write_byte(line, at, *byte);
     }
-    true
+    line[at] = b'"';
+    line[at + 1] = b'\n';
+    at + 2
+}
+
+/// Writes a byte that stands for itself in quotes, or the escape of another one, and returns where
+/// that ends.
+#[inline(always)]
+fn write_byte(text: &mut [u8], at: usize, byte: u8) -> usize
+    requires { at + 4 ≤ length text.old }
+    ensures after { at ≤ result }
+    ensures within { result ≤ at + 4 }
+{
+    if is_plain(byte) {
+        text[at] = byte;
+        return at + 1;
+    }
+    write_escape(text, at, byte)
 }
 
 /// Returns whether a byte is a character of ASCII that stands for itself in quotes.
 #[inline(always)]
-fn is_plain_byte(byte: u8) -> bool {
+fn is_plain(byte: u8) -> bool {
     (b' ' <= byte) & (byte <= b'~') & (byte != b'"') & (byte != b'\\')
 }
 
-/// Adds a place as `line:column`.
-#[inline(always)]
-fn push_place(block: &mut Vec<u8>, place: Position) -> Result<(), AllocError>
-    ensures { OnOk result (block.new.items
-        ≡ block.old.items ++ (decimal place.line ++ codes ":" ++ decimal place.column)) }
+/// Writes the escape of a byte, and returns where it ends.
+fn write_escape(text: &mut [u8], at: usize, byte: u8) -> usize
+    requires { at + 4 ≤ length text.old }
+    ensures after { at ≤ result }
+    ensures within { result ≤ at + 4 }
 {
-    let mut digits = [0; PLACE];
-    let colon = write_digits(place.column as u64, &mut digits, PLACE) - 1;
-    digits[colon] = b':';
-    let from = write_digits(place.line as u64, &mut digits, colon);
-    block.extend_from_slice(&digits[from..])
+    text[at] = b'\\';
+    if let Some(letter) = letter_of(byte) {
+        text[at + 1] = letter;
+        return at + 2;
+    }
+    text[at + 1] = b'x';
+    text[at + 2] = hexadecimal_digit(byte / 16);
+    text[at + 3] = hexadecimal_digit(byte % 16);
+    at + 4
+}
+
+/// Returns what follows the backslash in the escape of a byte that has one of two bytes.
+fn letter_of(byte: u8) -> Option<u8> {
+    match byte {
+        b'"' | b'\\' => Some(byte),
+        b'\n' => Some(b'n'),
+        b'\r' => Some(b'r'),
+        b'\t' => Some(b't'),
+        _ => None,
+    }
+}
+
+/// Returns the digit of a number below 16.
+fn hexadecimal_digit(number: u8) -> u8
+    requires { number < 16 }
+{
+    if number < 10 {
+        b'0' + number
+    } else {
+        b'A' + (number - 10)
+    }
 }
 
 /// Adds a number in decimal.
-pub(crate) fn push_number(block: &mut Vec<u8>, number: usize) -> Result<(), AllocError>
-    ensures { OnOk result (block.new.items ≡ block.old.items ++ decimal number) }
-{
+pub(crate) fn push_number(block: &mut Vec<u8>, number: usize) -> Result<(), AllocError> {
     let mut digits = [0; 20];
     let from = write_digits(number as u64, &mut digits, 20);
     block.extend_from_slice(&digits[from..])
@@ -84,11 +151,7 @@ fn push_text(block: &mut Vec<u8>, text: &str) -> Result<(), AllocError> {
     for character in text.chars().take(SHOWN) {
         push_character(block, character)?;
     }
-    if text.len() > SHOWN {
-        return push_end(block, text.chars().count(), " characters");
-    }
-    block.push(b'"')?;
-    Ok(())
+    push_end(block, text.chars().count(), " characters")
 }
 
 /// Adds what is shown of bytes that are not UTF-8, and the closing quote.
@@ -101,13 +164,13 @@ fn push_bytes(block: &mut Vec<u8>, slice: &[u8]) -> Result<(), AllocError> {
 
 /// Adds the closing quote, and the length if not all is shown.
 fn push_end(block: &mut Vec<u8>, count: usize, unit: &str) -> Result<(), AllocError> {
-    block.push(b'"')?;
-    if count > SHOWN {
-        block.extend_from_slice(b".. ")?;
-        push_number(block, count)?;
-        block.extend_from_slice(unit.as_bytes())?;
+    block.extend_from_slice(b"\"")?;
+    if count <= SHOWN {
+        return Ok(());
     }
-    Ok(())
+    block.extend_from_slice(b".. ")?;
+    push_number(block, count)?;
+    block.extend_from_slice(unit.as_bytes())
 }
 
 /// Adds a character, or its escape.
@@ -120,43 +183,9 @@ fn push_character(block: &mut Vec<u8>, character: char) -> Result<(), AllocError
     block.extend_from_slice(character.encode_utf8(&mut bytes).as_bytes())
 }
 
-/// Adds a byte that stands for itself in quotes, or the escape of another one.
+/// Adds a byte, or its escape.
 fn push_byte(block: &mut Vec<u8>, byte: u8) -> Result<(), AllocError> {
-    match byte {
-        b'"' => block.extend_from_slice(b"\\\""),
-        b'\\' => block.extend_from_slice(b"\\\\"),
-        b'\n' => block.extend_from_slice(b"\\n"),
-        b'\r' => block.extend_from_slice(b"\\r"),
-        b'\t' => block.extend_from_slice(b"\\t"),
-        b' '..=b'~' => push_plain(block, byte),
-        _ => push_hexadecimal(block, byte),
-    }
-}
-
-/// Adds a byte.
-fn push_plain(block: &mut Vec<u8>, byte: u8) -> Result<(), AllocError> {
-    block.push(byte)?;
-    Ok(())
-}
-
-/// Adds a byte as `\x` and two digits.
-fn push_hexadecimal(block: &mut Vec<u8>, byte: u8) -> Result<(), AllocError> {
-    let digits = [
-        b'\\',
-        b'x',
-        hexadecimal_digit(byte / 16),
-        hexadecimal_digit(byte % 16),
-    ];
-    block.extend_from_slice(&digits)
-}
-
-/// Returns the digit of a number below 16.
-fn hexadecimal_digit(number: u8) -> u8
-    requires { number < 16 }
-{
-    if number < 10 {
-        b'0' + number
-    } else {
-        b'A' + (number - 10)
-    }
+    let mut text = [0; 4];
+    let to = write_byte(&mut text, 0, byte);
+    block.extend_from_slice(&text[..to])
 }

@@ -1,8 +1,7 @@
 -- The flags of leaves, state by state, and what a graph finds.
-use Rattle.std.proofs.Common.{◌≡◌, ◌<◌, ◌≤◌, ◌+◌, ◌-◌, ◌⊎◌, ◌↔◌, ℕ, Bool, true, false, IsTrue, List, [], ◌∷◌, length, slice_get, Option, Some, None, option_map, refl, sym, ap, ◌∙◌, inl, inr, subst, ◌≢◌, get_or, slice_index_or, replicate, length-replicate, arith}
+use Rattle.std.proofs.Common.{◌≡◌, ◌<◌, ◌≤◌, ◌+◌, ◌-◌, ◌⊎◌, ◌↔◌, ℕ, Bool, true, false, IsTrue, List, [], ◌∷◌, length, slice_get, Option, Some, None, option_map, refl, sym, ap, ◌∙◌, inl, inr, subst, slice_index_or, replicate, arith}
 use Rattle.std.specs.Option.{option_and_then}
-use Rattle.std.proofs.Math.ListN.{set, length-set}
-use Rattle.std.proofs.lemmas.List.{get_or-set_same, get_or-set_other}
+use Rattle.std.proofs.lemmas.List.{length-replicate}
 use Rattle.std.proofs.lemmas.Option.{slice_get_within}
 use Rattle.logos_automaton.specs.Munch.{Rule, IsInput, Finds, matched}
 use Rattle.logos_graph.specs.Found.{mark_of, IsLastMark, GraphFinds, FindsTheLongest}
@@ -12,7 +11,7 @@ use Rattle.logos_graph.specs.View.{GraphValue, rules_of}
 use Rattle.logos_reduce.proofs.tables.PushLemmas.{filled}
 use Rattle.logos_reduce.specs.Edges.{StateType}
 use Rattle.logos_survey.specs.Marks.{Marks, IsMarkedBelow, IsMarked, IsSet, IsNeverFound}
-use Rattle.logos_survey.specs.inside.Steps.{AddsMark, AreMarksBelow}
+use Rattle.logos_survey.specs.inside.Steps.{AreMarksBelow}
 
 -- ---- One more state
 
@@ -108,42 +107,3 @@ pub never_found : (graph : GraphValue) (flags : List Bool) → AreMarksBelow gra
 never_found graph flags are of_leaves faultless leaf l unset bytes from to input finds =
     let found = (of_leaves.finds faultless bytes from (matched leaf to) input).1 finds in
     unset ((are.each leaf l).1 (last_is_marked graph.states leaf graph.utf8 bytes from to found.1))
-
--- ---- One more flag
-
-pub mark_none : (flags : List Bool) → AddsMark flags None flags
-mark_none flags = record { count = refl; each = λ k l. (λ set. inl set, λ m. set_before k m) }
-  where
-    set_before : (k : ℕ) → IsSet flags k ⊎ (None ≡ Some k) → IsSet flags k
-    set_before k (inl set) = set
-    set_before k (inr e) = cc
-
-pub mark_past : (flags : List Bool) (n : ℕ) → length flags ≤ n → AddsMark flags (Some n) flags
-mark_past flags n past = record { count = refl; each = λ k l. (λ set. inl set, λ m. set_before k l m) }
-  where
-    set_before : (k : ℕ) → k < length flags → IsSet flags k ⊎ (Some n ≡ Some k) → IsSet flags k
-    set_before k l (inl set) = set
-    set_before k l (inr e) = let same : n ≡ k = cc in absurd (omega arith)
-
-pub mark_set : (flags : List Bool) (n : ℕ) → n < length flags → AddsMark flags (Some n) (set flags n true)
-mark_set flags n inside = record { count = length-set flags n true; each = λ k l. (λ s. unset_or k l (sides k) s, λ m. set_after k l (sides k) m) }
-  where
-    sides : (k : ℕ) → (k < n) ⊎ (n < k) ⊎ (k ≡ n)
-    sides k = grind arith
-
-    other : (k : ℕ) → k ≢ n → get_or (set flags n true) k false ≡ get_or flags k false
-    other k ne = get_or-set_other flags n k true false ne
-
-    here : (k : ℕ) → k ≡ n → get_or (set flags n true) k false ≡ true
-    here k e = rw e (get_or-set_same flags n true false inside)
-
-    unset_or : (k : ℕ) → k < length flags → (k < n) ⊎ (n < k) ⊎ (k ≡ n) → IsSet (set flags n true) k → IsSet flags k ⊎ (Some n ≡ Some k)
-    unset_or k l (inl (inl less)) s = inl (sym (other k (omega arith)) ∙ s)
-    unset_or k l (inl (inr more)) s = inl (sym (other k (omega arith)) ∙ s)
-    unset_or k l (inr e) s = inr (ap Some (sym e))
-
-    set_after : (k : ℕ) → k < length flags → (k < n) ⊎ (n < k) ⊎ (k ≡ n) → IsSet flags k ⊎ (Some n ≡ Some k) → IsSet (set flags n true) k
-    set_after k l (inl (inl less)) (inl s) = other k (omega arith) ∙ s
-    set_after k l (inl (inr more)) (inl s) = other k (omega arith) ∙ s
-    set_after k l (inr e) (inl s) = here k e
-    set_after k l side (inr e) = let same : k ≡ n = cc in here k same

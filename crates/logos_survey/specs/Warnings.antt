@@ -95,9 +95,14 @@ pub record NamesAdd (item : EnumValue) (before after : List WarningValue) : Type
   pub of_enum : RunAdds OnEnum item.attributes before mid
   pub of_variants : VariantsAdd item.variants mid after
 
+-- the warnings of the names of an enum, and last that it does not derive `Logos`
+pub record ForgetsDerive (item : EnumValue) (warnings : List WarningValue) : Type 0 where
+  pub names : List WarningValue
+  pub of_names : NamesAdd item [] names
+  pub are : warnings ≡ names ++ no_derive item.name.span ∷ []
+
 -- The warnings of an enum that derives `Logos` or not. An enum without helper attributes that does not derive it is no lexer, and has none.
 pub data AreWarnings (item : EnumValue) (derives : Bool) : List WarningValue → Type 0 where
   of_lexer : {warnings : List WarningValue} → derives ≡ true → NamesAdd item [] warnings → AreWarnings item derives warnings
-  of_forgotten : {warnings : List WarningValue} → derives ≡ false → HasHelpers item → NamesAdd item [] warnings →
-      AreWarnings item derives (warnings ++ no_derive item.name.span ∷ [])
+  of_forgotten : {warnings : List WarningValue} → derives ≡ false → HasHelpers item → ForgetsDerive item warnings → AreWarnings item derives warnings
   of_other : derives ≡ false → ¬ HasHelpers item → AreWarnings item derives []

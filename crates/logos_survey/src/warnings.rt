@@ -1,10 +1,10 @@
 //! What is no fault of an enum, but is probably a mistake.
-ghost use Rattle.std.specs.Prelude.{◌≡◌, IfOk, OnOk, map};
+ghost use Rattle.std.specs.Prelude.{◌≡◌, IfOk, OnOk, [], map};
 ghost use Rattle.logos_item.specs.AttributeValues.{attribute_value};
 ghost use Rattle.logos_item.specs.EnumValues.{enum_value, variant_value};
 ghost use Rattle.logos_token.specs.Views.{tokens_of};
 ghost use Rattle.logos_survey.specs.Warnings.{warning_value, is_useless, AreWarnings};
-ghost use Rattle.logos_survey.specs.Warnings.{AttributeAdds, RunAdds, VariantsAdd, NamesAdd};
+ghost use Rattle.logos_survey.specs.Warnings.{AttributeAdds, RunAdds, VariantsAdd, NamesAdd, ForgetsDerive};
 
 use crate::attributes::{Site, has_helpers, name_of};
 use crate::helper::{Helper, intended_helper};
@@ -48,17 +48,35 @@ pub fn warnings_of<'s>(
     ensures { IfOk result (λ warnings. AreWarnings (enum_value item.now) derives
         (map warning_value warnings.items)) }
 {
-    let mut warnings = Vec::new(alloc);
     if derives {
-        report_names(item, &mut warnings)?;
-        return Ok(warnings);
+        let names = names_of(alloc, item)?;
+        return Ok(names);
     }
     if has_helpers(item) {
-        report_names(item, &mut warnings)?;
-        warnings.push(Warning::NoDerive {
-            span: item.name.span,
-        })?;
+        let all = forgotten_of(alloc, item)?;
+        return Ok(all);
     }
+    Ok(Vec::new(alloc))
+}
+
+/// Returns the warnings of the attributes of an enum and of its variants.
+fn names_of<'s>(alloc: Global, item: &ItemEnum<'_, 's>) -> Result<Vec<Warning<'s>>, AllocError>
+    ensures { IfOk result (λ warnings.
+        NamesAdd (enum_value item.now) [] (map warning_value warnings.items)) }
+{
+    let mut warnings = Vec::new(alloc);
+    report_names(item, &mut warnings)?;
+    Ok(warnings)
+}
+
+/// Returns the warnings of an enum that has helper attributes and does not derive `Logos`.
+fn forgotten_of<'s>(alloc: Global, item: &ItemEnum<'_, 's>) -> Result<Vec<Warning<'s>>, AllocError>
+    ensures { IfOk result (λ warnings.
+        ForgetsDerive (enum_value item.now) (map warning_value warnings.items)) }
+{
+    let mut warnings = names_of(alloc, item)?;
+    let span = item.name.span;
+    warnings.push(Warning::NoDerive { span })?;
     Ok(warnings)
 }
 

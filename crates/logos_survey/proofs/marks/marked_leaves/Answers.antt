@@ -26,7 +26,7 @@ road n left same = YieldsList-at same (YieldsList-from_first state_number states
 
 pub get_state-requires : goal.get_state-requires
 get_state-requires c =
-    let t = YieldsList-turn (road (length c.args.graph.now.states) c.iter_states.ensures.states cc) c.loop-state.yielded _ c.loop-state.yielded_by _ _ c.in-Some.state c.in-Some.is c.next.ensures.steps in
+    let t = YieldsList-turn (road (length c.args.graph.now.states) c.iter_states-state-items.ensures.states cc) c.loop-state.yielded _ c.loop-state.yielded_by _ _ c.in-Some.state c.in-Some.is c.next.ensures.steps in
     let n = number_at (length c.args.graph.now.states) (length c.loop-state.yielded) (state_number c.in-Some.state) t in
     omega (arith, n.0, n.1)
 
@@ -35,7 +35,7 @@ loop-state-init c = no_marks c.args.graph.now.states (length c.args.graph.now.le
 
 pub loop-state-preserved : goal.loop-state-preserved
 loop-state-preserved c =
-    let t = YieldsList-turn (road (length c.args.graph.now.states) c.iter_states.ensures.states cc) c.loop-state.yielded _ c.loop-state.yielded_by _ _ c.in-Some.state c.in-Some.is c.next.ensures.steps in
+    let t = YieldsList-turn (road (length c.args.graph.now.states) c.iter_states-state-items.ensures.states cc) c.loop-state.yielded _ c.loop-state.yielded_by _ _ c.in-Some.state c.in-Some.is c.next.ensures.steps in
     let n = number_at (length c.args.graph.now.states) (length c.loop-state.yielded) (state_number c.in-Some.state) t in
     let at : slice_get c.args.graph.now.states (length c.loop-state.yielded) ≡ Some (graph_state_of c.get_state.result.now) =
     subst (λ k. slice_get c.args.graph.now.states k ≡ Some (graph_state_of c.get_state.result.now)) n.0 c.get_state.ensures.state in
@@ -45,7 +45,7 @@ loop-state-preserved c =
 
 pub returns : goal.returns
 returns c =
-    let t = YieldsList-end (road (length c.args.graph.now.states) c.iter_states.ensures.states cc) c.loop-state.yielded _ c.loop-state.yielded_by _ _ c.in-None.is c.next.ensures.steps in
+    let t = YieldsList-end (road (length c.args.graph.now.states) c.iter_states-state-items.ensures.states cc) c.loop-state.yielded _ c.loop-state.yielded_by _ _ c.in-None.is c.next.ensures.steps in
     let all = length-range_with_len 0 (length c.args.graph.now.states) in
     let whole : length c.loop-state.yielded ≡ length c.args.graph.now.states = t.1 ∙ all in
     let are : AreMarksBelow c.args.graph.now.states (length c.args.graph.now.leaves) (length c.args.graph.now.states) c.loop-state.flags.items = rw whole at c.loop-state.invariant in
