@@ -1,6 +1,6 @@
 //! The line of an item.
 
-ghost use Rattle.std.specs.Prelude.{◌<◌, ◌≤◌, ◌+◌, length};
+ghost use Rattle.std.specs.Prelude.{◌≡◌, ◌<◌, ◌≤◌, ◌+◌, length};
 
 use itoa::write_digits;
 use logos_lines::Position;
@@ -61,14 +61,24 @@ fn write_short(line: &mut [u8; LINE], head: &[u8], slice: &[u8]) -> usize
     ensures after { 41 ≤ result }
     ensures within { result ≤ 347 }
 {
-    let mut at = PLACE + head.len();
-    line[PLACE..at].copy_from_slice(head);
+    let mut at = write_text(line, PLACE, head);
     for byte in slice {
         at = write_byte(line, at, *byte);
     }
     line[at] = b'"';
     line[at + 1] = b'\n';
     at + 2
+}
+
+/// Writes a text, and returns where it ends.
+#[inline(always)]
+fn write_text(line: &mut [u8], at: usize, text: &[u8]) -> usize
+    requires { at + length text.now ≤ length line.old }
+    ensures { result ≡ at + length text.now }
+{
+    let end = at + text.len();
+    line[at..end].copy_from_slice(text);
+    end
 }
 
 /// Writes a byte that stands for itself in quotes, or the escape of another one, and returns where

@@ -5,8 +5,8 @@ ghost use Rattle.logos_show.specs.Orders.{IsNoMisuse};
 use crate::reading::{refused, text_of};
 use crate::table::push_table;
 use crate::warnings::{push_unmarked, push_warnings};
-use logos_codegen::generate;
 use logos_codegen::generator::Config;
+use logos_codegen::{Generated, generate};
 use logos_files::{FoundEnum, enums_in};
 use logos_lines::LineIndex;
 use logos_report::{Page, Part, Source, Stop};
@@ -99,11 +99,23 @@ fn push_lexer<'w>(
     ensures { IfErr result IsNoMisuse }
 {
     match generate(alloc, text, SHAPE) {
-        Ok(made) => {
-            push_table(alloc, &mut pages.tables, part, lines, text, &made)?;
-            push_unmarked(alloc, &mut pages.warnings, part, &made.graph)?;
-            Ok(())
-        }
+        Ok(made) => push_made(alloc, pages, part, lines, text, &made),
         Err(refusal) => Err(refused(alloc, part, pages.is_colored, refusal)),
     }
+}
+
+/// Adds the table of a lexer, and the warnings of its leaves.
+fn push_made<'w>(
+    alloc: Global,
+    pages: &mut Pages,
+    part: Part<'_, '_>,
+    lines: &LineIndex<'_>,
+    text: &str,
+    made: &Generated<'_>,
+) -> Result<(), Stop<'w>>
+    ensures { IfErr result IsNoMisuse }
+{
+    push_table(alloc, &mut pages.tables, part, lines, text, made)?;
+    push_unmarked(alloc, &mut pages.warnings, part, &made.graph)?;
+    Ok(())
 }

@@ -1,11 +1,11 @@
 -- The flags of leaves, state by state, and what a graph finds.
-use Rattle.std.proofs.Common.{◌≡◌, ◌<◌, ◌≤◌, ◌+◌, ◌-◌, ◌⊎◌, ◌↔◌, ℕ, Bool, true, false, IsTrue, List, [], ◌∷◌, length, slice_get, Option, Some, None, option_map, refl, sym, ap, ◌∙◌, inl, inr, subst, slice_index_or, replicate, arith}
+use Rattle.std.proofs.Common.{◌≡◌, ◌<◌, ◌+◌, ◌-◌, ◌⊎◌, ◌↔◌, ℕ, Bool, true, false, List, [], length, slice_get, Option, Some, None, option_map, refl, sym, ap, ◌∙◌, inl, inr, subst, slice_index_or, replicate, arith}
 use Rattle.std.specs.Option.{option_and_then}
 use Rattle.std.proofs.lemmas.List.{length-replicate}
 use Rattle.std.proofs.lemmas.Option.{slice_get_within}
-use Rattle.logos_automaton.specs.Munch.{Rule, IsInput, Finds, matched}
-use Rattle.logos_graph.specs.Found.{mark_of, IsLastMark, GraphFinds, FindsTheLongest}
-use Rattle.logos_graph.specs.Graph.{GraphState, walk, type_after}
+use Rattle.logos_automaton.specs.Munch.{matched}
+use Rattle.logos_graph.specs.Found.{mark_of, IsLastMark}
+use Rattle.logos_graph.specs.Graph.{GraphState}
 use Rattle.logos_graph.specs.GraphOf.{IsGraphOf}
 use Rattle.logos_graph.specs.View.{GraphValue, rules_of}
 use Rattle.logos_reduce.proofs.tables.PushLemmas.{filled}

@@ -1,5 +1,5 @@
 -- Attributes, one after another.
-use Rattle.std.proofs.Common.{◌≡◌, ◌<◌, ◌≤◌, ◌-◌, ◌⊎◌, ◌↔◌, List, [], ◌∷◌, ◌++◌, Some, None, map, length, get_or, take, drop, refl, sym, ap, ◌∙◌, inl, inr, subst, arith}
+use Rattle.std.proofs.Common.{◌≡◌, ◌<◌, ◌≤◌, ◌-◌, ◌⊎◌, ◌↔◌, List, [], ◌∷◌, ◌++◌, Some, None, map, length, get_or, take, drop, sym, ap, ◌∙◌, inl, inr, subst, arith}
 use Rattle.std.proofs.lemmas.List.{take_rest, map-append}
 use Rattle.logos_item.specs.AttributeValues.{SplitAttribute, attribute_in}
 use Rattle.logos_item.specs.EnumValues.{VariantValue, variant_value}

@@ -1,6 +1,5 @@
 -- The row of a leaf in a table.
-use Rattle.std.specs.Prelude.{◌≡◌, ◌≤◌, ◌+◌, ◌-◌, ◌*◌, ◌^◌, ◌↔◌, min, ℕ, Bool, IsTrue, if◌then◌else◌, List, [], length, slice_range, IsCharBoundary, Option, Some, None, option_map, option_copied}
-use Rattle.logos_hir.specs.Hir.{tree_of}
+use Rattle.std.specs.Prelude.{◌≡◌, ◌≤◌, ◌+◌, ◌-◌, ◌*◌, ◌^◌, ◌↔◌, min, ℕ, IsTrue, if◌then◌else◌, List, length, slice_range, IsCharBoundary, Option, Some, None, option_map, option_copied}
 use Rattle.logos_lexeme.specs.declared.lexeme.Span.{Span}
 use Rattle.logos_lines.specs.Places.{place_at}
 use Rattle.logos_measures.specs.Measure.{fitted}

@@ -1,5 +1,5 @@
 -- The leaves that the states of a graph mark. A match of a leaf ends where a state marks it, or one byte before.
-use Rattle.std.specs.Prelude.{◌≡◌, ◌<◌, ◌⊎◌, ◌↔◌, ℕ, Bool, false, IsTrue, List, [], length, slice_get, slice_index_or, Option, Some}
+use Rattle.std.specs.Prelude.{◌≡◌, ◌<◌, ◌⊎◌, ◌↔◌, ℕ, Bool, false, IsTrue, List, [], length, slice_get, slice_index_or, Some}
 use Rattle.logos_automaton.specs.Munch.{Rule, IsInput, Finds, matched}
 use Rattle.logos_graph.specs.Graph.{GraphState}
 use Rattle.logos_graph.specs.GraphOf.{IsGraphOf}

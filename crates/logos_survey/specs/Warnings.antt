@@ -1,8 +1,8 @@
 -- What is no fault of an enum, but is probably a mistake.
-use Rattle.std.specs.Prelude.{◌≡◌, ◌⊎◌, ◌==◌, ◌++◌, ℕ, Bool, true, false, IsTrue, not, ◌&&◌, List, [], ◌∷◌, codes, Option, Some, None, option_and_then, if◌then◌else◌}
+use Rattle.std.specs.Prelude.{◌≡◌, ◌⊎◌, ◌==◌, ◌++◌, ℕ, Bool, true, false, IsTrue, List, [], ◌∷◌, codes, Option, Some, None, option_and_then, if◌then◌else◌}
 use Rattle.std.specs.Str.{bytes_eq}
 use Rattle.logos_lexeme.specs.declared.lexeme.Span.{Span}
-use Rattle.logos_token.specs.Tokens.{TokenList, identifier, punctuation, none, also}
+use Rattle.logos_token.specs.Tokens.{TokenList, identifier, punctuation, also}
 use Rattle.logos_item.specs.AttributeValues.{AttributeValue, SplitAttribute, attribute_in}
 use Rattle.logos_item.specs.EnumValues.{EnumValue, VariantValue}
 use Rattle.logos_survey.specs.Helpers.{Intends, is_helper_name}

@@ -1,4 +1,4 @@
-use Rattle.std.proofs.Common.{◌≡◌, ◌∙◌, ℕ, ◌+◌, ◌<◌, ◌∷◌, ◌++◌, [], Some, ap, subst, sym, length, get_or, slice_get, arith, length-append}
+use Rattle.std.proofs.Common.{◌≡◌, ◌∙◌, ℕ, ◌+◌, ◌<◌, ◌∷◌, ◌++◌, [], List, Some, false, replicate, ap, subst, length, get_or, slice_get, arith, length-append}
 use Rattle.std.specs.List.{range_with_len}
 use Rattle.std.specs.Iterator.{YieldsFirstBy}
 use Rattle.std.proofs.lemmas.Iterator.{YieldsList}
@@ -7,6 +7,7 @@ use Rattle.std.proofs.lemmas.List.FromFn.{length-range_with_len, get_or-range_wi
 use Rattle.logos_graph.specs.GraphView.{graph_state_of, state_number}
 use Rattle.logos_graph.specs.StatesView.{states_left}
 use Rattle.logos_graph.specs.declared.graph.value.States.{States}
+use Rattle.logos_pattern.specs.declared.leaf.Leaf.{Leaf}
 use Rattle.logos_survey.specs.inside.Steps.{AreMarksBelow}
 use Rattle.logos_survey.proofs.MarkLemmas.{no_marks, marks_turn, never_found}
 use Rattle.logos_survey.proofs.marks.marked_leaves.Goals as goal
@@ -31,7 +32,9 @@ get_state-requires c =
     omega (arith, n.0, n.1)
 
 pub loop-state-init : goal.loop-state-init
-loop-state-init c = no_marks c.args.graph.now.states (length c.args.graph.now.leaves) c.in_ok-flags.flags.items (c.in_ok-flags.ensures.items_if_clones_equal (λ y e. e) ∙ ?)
+loop-state-init c =
+    let flags = c.in_ok-flags.ensures.items_if_clones_equal (λ y e. e) in
+    no_marks c.args.graph.now.states (length c.args.graph.now.leaves) c.in_ok-flags.flags.items (flags ∙ ap (λ (leaves : List Leaf). replicate (length leaves) false) c.leaves.ensures)
 
 pub loop-state-preserved : goal.loop-state-preserved
 loop-state-preserved c =
