@@ -1,5 +1,5 @@
 #!/usr/bin/env bash
-# Puts the programs `logos` and `logos_cli` into PREFIX/bin: scripts/install.sh [--proved] [PREFIX]
+# Puts the programs `logos`, `logos_cli` and `logos_show` into PREFIX/bin: scripts/install.sh [--proved] [PREFIX]
 #
 # PREFIX is ~/.local if it is not given. Without --proved the programs are built from the same sources, optimised and unproved, in a few minutes;
 # with it, every crate is proved first, which takes about an hour, and the programs are those that the gate builds.
@@ -50,12 +50,13 @@ room=$(mktemp -d)
 trap 'rm -rf "$room"' EXIT
 install_program logos logos_program lex data/t.rs data/input
 install_program logos_cli logos_cli --version
+install_program logos_show logos_show --version
 
 echo "The items of \"$(cat "$root/crates/logos_program/data/input")\", by crates/logos_program/data/t.rs:"
 "$bin/logos" lex "$root/crates/logos_program/data/t.rs" "$root/crates/logos_program/data/input"
 if [ "$proved" = yes ]; then
-    echo "Installed $bin/logos and $bin/logos_cli, proved."
+    echo "Installed logos, logos_cli and logos_show in $bin, proved."
 else
-    echo "Installed $bin/logos and $bin/logos_cli. They are built from the proved sources, but this build itself proved nothing: --proved does."
+    echo "Installed logos, logos_cli and logos_show in $bin. They are built from the proved sources, but this build itself proved nothing: --proved does."
 fi
 case :$PATH: in *:$bin:*) ;; *) echo "$bin is not on your PATH: add it, or call the programs by their paths." ;; esac
