@@ -1,5 +1,5 @@
 -- A file with the derive of its lexers expanded.
-use Rattle.std.specs.Prelude.{◌≡◌, ◌⊎◌, ◌×◌, ℕ, List, [], ◌∷◌, ◌++◌, Option, true, false, slice_range, string_bytes}
+use Rattle.std.specs.Prelude.{◌≡◌, ◌⊎◌, ℕ, List, [], ◌∷◌, ◌++◌, Option, true, false, slice_range, string_bytes}
 use Rattle.std.specs.List.{Contains}
 use Rattle.logos_code.specs.Code.{CodeValue}
 use Rattle.logos_code.specs.declared.code.Config.{Config}

@@ -1,5 +1,5 @@
 -- What a run of the program does, by what its files give. `gives` holds of files, a path, all bytes that are read there, and the files after that; `makes` holds of files, a path, the bytes of the file there from then on, and the files after that.
-use Rattle.std.specs.Prelude.{◌≡◌, ◌⊎◌, ◌×◌, ℕ, List, Bool, false, IsTrue, IsSome, Option, Some, None}
+use Rattle.std.specs.Prelude.{◌≡◌, ◌⊎◌, ℕ, List, Bool, false, IsTrue, IsSome, Option, Some, None}
 use Rattle.logos_code.specs.declared.code.Config.{Config}
 use Rattle.logos_commands.specs.Runs.{Reads}
 use Rattle.logos_expand.specs.Expanding.{IsExpanded, HasFaults}

@@ -62,8 +62,8 @@ pub(crate) fn expand<'w>(
     config: Config,
     is_colored: bool,
 ) -> Result<Expansion, Stop<'w>>
-    ensures done { IfOk result (λ made. IsExpanded config file.text.now made.bytes.items) }
-    ensures denied { IfErr result (FailsBy (HasFaults file.text.now)) }
+    ensures done { IfOk result (λ made. IsExpanded config file.entry.text.now made.bytes.items) }
+    ensures denied { IfErr result (FailsBy (HasFaults file.entry.text.now)) }
 {
     match enums_in(alloc, file.text) {
         Ok(found) => expand_enums(alloc, file, config, is_colored, &found),
@@ -74,7 +74,7 @@ pub(crate) fn expand<'w>(
 /// Returns why a file is refused that cannot be read into tokens.
 fn refused_whole<'w>(alloc: Global, file: File<'_>, is_colored: bool, refusal: Refusal) -> Stop<'w>
     requires { Refuses (IsUnreadable file.text.now) refusal }
-    ensures { FailsBy (HasFaults file.text.now) result }
+    ensures { FailsBy (HasFaults file.entry.text.now) result }
 {
     let mut refused = Vec::new(alloc);
     match push_refusal(&mut refused, 0, refusal) {
@@ -94,8 +94,8 @@ fn expand_enums<'w>(
     requires enums { AreEnumsOf file.text.now found.now }
     requires order { AreInOrder 0 (map found_span found.now) (length file.text.now) }
     requires cut { All (IsFoundCut file.text.now) found.now }
-    ensures done { IfOk result (λ made. IsExpanded config file.text.now made.bytes.items) }
-    ensures denied { IfErr result (FailsBy (HasFaults file.text.now)) }
+    ensures done { IfOk result (λ made. IsExpanded config file.entry.text.now made.bytes.items) }
+    ensures denied { IfErr result (FailsBy (HasFaults file.entry.text.now)) }
 {
     let gathered = gather(alloc, file.text, config, found)?;
     if gathered.refused.is_empty() {
@@ -228,7 +228,7 @@ fn refusal_text(
     refused: &[Refused],
 ) -> Result<String, AllocError>
     ensures { IfOk result (λ text. StandInOrder
-        (refused_texts (record { path = file.path.now; text = file.text.now }) refused.now)
+        (refused_texts (record { path = file.entry.path.now; text = file.entry.text.now }) refused.now)
         (string_bytes text)) }
 {
     let source = Source::new(alloc, file.path, file.text)?;

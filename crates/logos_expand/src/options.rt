@@ -1,5 +1,5 @@
 //! What the words of a command line ask for.
-ghost use Rattle.std.specs.Prelude.{◌≡◌, ◌×◌, IfErr, IfOk, None, Some, map, option_map, string_bytes};
+ghost use Rattle.std.specs.Prelude.{◌≡◌, IfErr, IfOk, None, Some, map, option_map, string_bytes};
 ghost use Rattle.logos_commands.specs.Commands.{shape_named};
 ghost use Rattle.logos_report.specs.Stops.{status_of};
 ghost use Rattle.logos_expand.specs.Orders.{answer_named, asked, asked_given, begins_option, first_answer};
@@ -103,9 +103,9 @@ fn read_words(words: &[String]) -> Result<Given<'_>, Stop<'_>>
 /// Returns what the words ask for, by what they give.
 fn request_given(given: Given<'_>) -> Result<Request<'_>, Stop<'_>>
     ensures asked { IfOk result (λ request.
-        asked_given (Some (given_value given)) ≡ Some (request_value request)) }
+        asked_given (Some (given_value given.entry)) ≡ Some (request_value request)) }
     ensures misuse { IfErr result (λ stop.
-        (asked_given (Some (given_value given)) ≡ None) × (status_of stop ≡ 2)) }
+        (asked_given (Some (given_value given.entry)) ≡ None) × (status_of stop ≡ 2)) }
 {
     if let Some(option) = given.pending {
         return Err(misuse("a value is missing after", word_of(option)));
@@ -119,10 +119,10 @@ fn request_given(given: Given<'_>) -> Result<Request<'_>, Stop<'_>>
 
 /// Returns the file to expand.
 fn order_given(given: Given<'_>) -> Result<Request<'_>, Stop<'_>>
-    ensures asked { IfOk result (λ request. order_given (given_value given)
-        (given_value given).input ≡ Some (request_value request)) }
-    ensures misuse { IfErr result (λ stop. (order_given (given_value given)
-        (given_value given).input ≡ None) × (status_of stop ≡ 2)) }
+    ensures asked { IfOk result (λ request. order_given (given_value given.entry)
+        (given_value given.entry).input ≡ Some (request_value request)) }
+    ensures misuse { IfErr result (λ stop. (order_given (given_value given.entry)
+        (given_value given.entry).input ≡ None) × (status_of stop ≡ 2)) }
 {
     let Some(input) = given.input else {
         return Err(misuse("no input file", ""));
@@ -149,9 +149,9 @@ fn misuse<'w>(what: &'static str, word: &'w str) -> Stop<'w>
 /// Reads one more word.
 fn read_word<'w>(given: Given<'w>, word: &'w str) -> Result<Given<'w>, Stop<'w>>
     ensures given { IfOk result (λ next.
-        with_word (given_value given) word.now ≡ Some (given_value next)) }
+        with_word (given_value given.entry) word.now ≡ Some (given_value next)) }
     ensures misuse { IfErr result (λ stop.
-        (with_word (given_value given) word.now ≡ None) × (status_of stop ≡ 2)) }
+        (with_word (given_value given.entry) word.now ≡ None) × (status_of stop ≡ 2)) }
 {
     match given.pending {
         Some(option) => read_value(given, option, word),
@@ -162,9 +162,9 @@ fn read_word<'w>(given: Given<'w>, word: &'w str) -> Result<Given<'w>, Stop<'w>>
 /// Reads the value of an option.
 fn read_value<'w>(given: Given<'w>, option: Valued, value: &'w str) -> Result<Given<'w>, Stop<'w>>
     ensures given { IfOk result (λ next.
-        with_value (given_value given) option value.now ≡ Some (given_value next)) }
+        with_value (given_value given.entry) option value.now ≡ Some (given_value next)) }
     ensures misuse { IfErr result (λ stop.
-        (with_value (given_value given) option value.now ≡ None) × (status_of stop ≡ 2)) }
+        (with_value (given_value given.entry) option value.now ≡ None) × (status_of stop ≡ 2)) }
 {
     let given = Given {
         pending: None,
@@ -188,9 +188,9 @@ fn read_value<'w>(given: Given<'w>, option: Valued, value: &'w str) -> Result<Gi
 
 /// Reads a word that no option waits for.
 fn read_option<'w>(given: Given<'w>, word: &'w str) -> Result<Given<'w>, Stop<'w>>
-    ensures given { IfOk result (λ next. with_option (given_value given)
+    ensures given { IfOk result (λ next. with_option (given_value given.entry)
         (valued_named word.now) word.now ≡ Some (given_value next)) }
-    ensures misuse { IfErr result (λ stop. (with_option (given_value given)
+    ensures misuse { IfErr result (λ stop. (with_option (given_value given.entry)
         (valued_named word.now) word.now ≡ None) × (status_of stop ≡ 2)) }
 {
     match valued_by_word(word) {
@@ -204,9 +204,9 @@ fn read_option<'w>(given: Given<'w>, word: &'w str) -> Result<Given<'w>, Stop<'w
 
 /// Reads a word that is no option with a value.
 fn read_flag<'w>(given: Given<'w>, word: &'w str) -> Result<Given<'w>, Stop<'w>>
-    ensures given { IfOk result (λ next. with_flag (given_value given)
+    ensures given { IfOk result (λ next. with_flag (given_value given.entry)
         (answer_named word.now) word.now ≡ Some (given_value next)) }
-    ensures misuse { IfErr result (λ stop. (with_flag (given_value given)
+    ensures misuse { IfErr result (λ stop. (with_flag (given_value given.entry)
         (answer_named word.now) word.now ≡ None) × (status_of stop ≡ 2)) }
 {
     if let Some(answer) = answer_by_word(word) {
@@ -237,9 +237,9 @@ fn first_answer(first: Option<Answer>, answer: Answer) -> Option<Answer>
 /// Reads the path of the input.
 fn read_input<'w>(given: Given<'w>, word: &'w str) -> Result<Given<'w>, Stop<'w>>
     ensures given { IfOk result (λ next.
-        with_input (given_value given) word.now ≡ Some (given_value next)) }
+        with_input (given_value given.entry) word.now ≡ Some (given_value next)) }
     ensures misuse { IfErr result (λ stop.
-        (with_input (given_value given) word.now ≡ None) × (status_of stop ≡ 2)) }
+        (with_input (given_value given.entry) word.now ≡ None) × (status_of stop ≡ 2)) }
 {
     if is_option(word) {
         return Err(misuse("unknown option", word));

@@ -5,7 +5,7 @@ use Rattle.logos_token.specs.Spelling.{Spells}
 use Rattle.logos_item.specs.Enum.{Reads}
 use Rattle.logos_item.specs.EnumValues.{EnumValue}
 use Rattle.logos_files.specs.declared.finding.FoundEnum.{FoundEnum}
-use Rattle.logos_strip.specs.Derives.{derives}
+use Rattle.logos_files.specs.Derives.{derives}
 use Rattle.logos_files.specs.Fronts.{kind_of, ends, is_enum, is_module, is_other}
 
 -- the tokens are an enum

@@ -1,3 +1,4 @@
+pub mod Derives
 pub mod Fronts
 pub mod Files
 pub mod Replacing

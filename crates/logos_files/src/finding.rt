@@ -8,11 +8,11 @@ ghost use Rattle.logos_files.specs.Files.{AreEnumsOf, Describes, Finds, IsEnum};
 ghost use Rattle.logos_files.specs.Replacing.{AreInOrder, IsFoundCut, found_span};
 ghost use Rattle.logos_files.specs.inside.Finding.{AddsItem, AddsRun};
 
+use crate::derives::derives;
 use crate::fronts::{Kind, kind_of};
 use logos_item::{ReadError, read_enum};
 use logos_source::reading::unreadable;
 use logos_source::refusal::Refusal;
-use logos_strip::derives::derives;
 use logos_token::error::Memory;
 use logos_token::token::{Span, Tokens, tokenize};
 use std::alloc::Global;

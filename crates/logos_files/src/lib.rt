@@ -2,6 +2,7 @@
 
 #![tactic(auto)]
 
+mod derives;
 mod finding;
 mod fronts;
 mod replacing;

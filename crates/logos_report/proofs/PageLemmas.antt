@@ -1,5 +1,5 @@
 -- What stands in a page that grows step by step.
-use Rattle.std.proofs.Common.{◌≡◌, ℕ, suc, zero, ◌+◌, List, [], ◌∷◌, ◌++◌, append_assoc, IsTrue, sym, ap, ◌∙◌, refl, arith, subst}
+use Rattle.std.proofs.Common.{◌≡◌, ◌≤◌, ℕ, suc, zero, ◌+◌, List, [], ◌∷◌, ◌++◌, append_assoc, IsTrue, sym, ap, ◌∙◌, refl, arith, subst}
 use Rattle.std.proofs.lemmas.List.{append-nil}
 use Rattle.logos_report.specs.Pages.{PageValue, StandInOrder, Gains, Adds, Shows, times}
 
@@ -55,3 +55,20 @@ gains_then {one} {other} {old} {middle} {new} a b = record {
   colored = b.colored ∙ a.colored;
   whole = λ w. let m = b.whole w in let f = a.whole m.0 in (f.0, m.1 ∙ ap (λ x. x ++ other) f.1 ∙ append_assoc old.text one other);
 }
+
+-- what is shown may be of no account
+pub unseen : {texts : List (List ℕ)} {old new : PageValue} → Shows texts old new → Shows [] old new
+unseen {texts} {old} {new} s = record {
+  colored = s.colored;
+  whole = λ w. let m = s.whole w in (m.0, record { added = m.1.added; is = m.1.is; stand = tt });
+}
+
+times_next : (count : ℕ) (text : List ℕ) → times (count + 1) text ≡ times count text ++ text
+times_next count text = let e : suc count ≡ count + 1 = omega arith in subst (λ k. times k text ≡ times count text ++ text) e refl
+
+-- a text once more
+pub times_gained : (text : List ℕ) (count : ℕ) (old middle new : PageValue) → Gains (times count text) old middle → Gains text middle new → Gains (times (count + 1) text) old new
+times_gained text count old middle new a b = subst (λ bytes. Gains bytes old new) (sym (times_next count text)) (gains_then a b)
+
+pub times_all : (text : List ℕ) (count wanted : ℕ) (old new : PageValue) → count ≤ wanted → wanted ≤ count → Gains (times count text) old new → Gains (times wanted text) old new
+times_all text count wanted old new l h g = let e : count ≡ wanted = omega (arith, l, h) in subst (λ k. Gains (times k text) old new) e g

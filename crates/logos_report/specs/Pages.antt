@@ -1,5 +1,5 @@
 -- A text that grows, and what stands in it.
-use Rattle.std.specs.Prelude.{◌≡◌, ℕ, List, [], ◌∷◌, ◌++◌, Bool, IsTrue}
+use Rattle.std.specs.Prelude.{◌≡◌, ℕ, zero, suc, List, [], ◌∷◌, ◌++◌, Bool, IsTrue}
 
 -- a page as a value: its text, whether it has colors, and whether it has all that was pushed
 pub record PageValue : Type 0 where

@@ -17,14 +17,14 @@ use logos_token::error::{Errors, FaultCode, SpannedError};
 /// Pushes the faults of a part of a file, in order. For each, the name of its code, the first line
 /// of its message and its place in the file stand in what is pushed.
 pub fn push_faults(page: &mut Page, part: Part<'_, '_>, errors: &Errors)
-    ensures { Shows (faults_texts part.source.now part.offset errors.now) page.old page.new }
+    ensures { Shows (faults_texts part.entry.source.now part.entry.offset errors.now) page.old page.new }
 {
     push_all(page, part, errors.list());
 }
 
 /// Pushes these faults.
 fn push_all(page: &mut Page, part: Part<'_, '_>, faults: &[SpannedError])
-    ensures { Shows (faults_texts part.source.now part.offset (faults_of faults.now))
+    ensures { Shows (faults_texts part.entry.source.now part.entry.offset (faults_of faults.now))
         page.old page.new }
 {
     for fault in faults {
@@ -75,15 +75,16 @@ fn push_count(page: &mut Page, count: usize)
 {
     page.push(": aborting due to ");
     page.push_number(count);
-    page.push(" previous error");
-    if count != 1 {
-        page.push("s");
-    }
+    page.push(if count == 1 {
+        " previous error"
+    } else {
+        " previous errors"
+    });
 }
 
 /// Pushes a fault, which is one of `faults`.
 fn push_fault(page: &mut Page, part: Part<'_, '_>, faults: &[SpannedError], fault: &SpannedError)
-    ensures { Shows (fault_texts part.source.now part.offset (fault_of fault.now))
+    ensures { Shows (fault_texts part.entry.source.now part.entry.offset (fault_of fault.now))
         page.old page.new }
 {
     push_head(page, fault);

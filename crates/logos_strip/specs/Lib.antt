@@ -1,5 +1,4 @@
 pub mod Helpers
-pub mod Derives
 pub mod Places
 pub mod Stripping
 pub mod Results

@@ -68,7 +68,7 @@ pub(crate) fn begins_helper(tokens: Tokens<'_, '_>) -> bool
 }
 
 /// What is behind a word, if it comes first.
-pub(crate) fn behind_word<'t, 's>(word: &str, tokens: Tokens<'t, 's>) -> Option<Tokens<'t, 's>>
+fn behind_word<'t, 's>(word: &str, tokens: Tokens<'t, 's>) -> Option<Tokens<'t, 's>>
     ensures { MatchOption result (behind_word word.now (tokens_of tokens.entry) ≡ None)
         (λ rest. behind_word word.now (tokens_of tokens.entry) ≡ Some (tokens_of rest)) }
 {

@@ -2,7 +2,6 @@
 
 #![tactic(auto)]
 
-pub mod derives;
 mod helpers;
 pub mod laws;
 pub mod places;

@@ -1,8 +1,8 @@
 use Rattle.std.proofs.Common.{◌≡◌}
 use Rattle.logos_token.specs.Tokens.{count_of}
 use Rattle.logos_token.specs.Views.{tokens_of}
-use Rattle.logos_strip.specs.Derives.{derives}
-use Rattle.logos_strip.proofs.derives.derives.Given as goal
+use Rattle.logos_files.specs.Derives.{derives}
+use Rattle.logos_files.proofs.derives.derives.Given as goal
 
 abbrev pub invariant-loop-found : goal.invariant-loop-found
 invariant-loop-found l = derives (tokens_of l.tokens) ≡ derives (tokens_of l.rest)
