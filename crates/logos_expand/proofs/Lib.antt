@@ -1,2 +1,3 @@
 pub mod GatherLemmas
 pub mod RunLemmas
+pub mod WordLemmas

@@ -1,5 +1,5 @@
 -- What the words of a command line ask for.
-use Rattle.std.specs.Prelude.{ℕ, ◌==◌, ◌&&◌, List, [], ◌∷◌, Bool, true, false, Option, Some, None, if◌then◌else◌, option_map, bytes_eq, codes, is_some, is_none}
+use Rattle.std.specs.Prelude.{ℕ, ◌==◌, ◌&&◌, List, [], ◌∷◌, Bool, true, false, Option, Some, None, if◌then◌else◌, option_map, bytes_eq, codes, is_some, not}
 use Rattle.logos_code.specs.declared.code.Config.{Config}
 use Rattle.logos_commands.specs.Commands.{shape_named}
 use Rattle.logos_report.specs.declared.color.Color.{Color}
@@ -107,7 +107,7 @@ with_words (Some given) (word ∷ rest) = with_words (with_word given word) rest
 abbrev pub order_given : GivenValue → Option (List ℕ) → Option Asked
 order_given given None = None
 order_given given (Some input) =
-    if given.is_check && is_none given.output then None
+    if given.is_check && not (is_some given.output) then None
     else Some (asks_expansion (record { input = input; output = given.output; is_check = given.is_check; config = given.config; color = given.color }))
 
 abbrev pub answer_given : GivenValue → Option Answer → Option Asked

@@ -1,8 +1,8 @@
 //! A file with the derive of its lexers expanded.
-ghost use Rattle.std.specs.Prelude.{◌≡◌, ◌≤◌, ⊤, All, IfErr, IfOk, OnOk, length, map, string_bytes};
+ghost use Rattle.std.specs.Prelude.{◌≡◌, ◌≤◌, All, IfErr, IfOk, OnOk, length, map, string_bytes};
 ghost use Rattle.logos_token.specs.Views.{tokens_of};
 ghost use Rattle.logos_codegen.specs.Source.{IsRefused};
-ghost use Rattle.logos_files.specs.Replacing.{AreInOrder, IsFoundCut, found_span};
+ghost use Rattle.logos_files.specs.Replacing.{AreInOrder, IsFoundCut, found_span, place_of};
 ghost use Rattle.logos_files.specs.Files.{AreEnumsOf};
 ghost use Rattle.logos_report.specs.Pages.{Shows, StandInOrder};
 ghost use Rattle.logos_source.specs.Refusals.{Refuses};
@@ -116,7 +116,9 @@ fn gather(
 ) -> Result<Gathered, Memory>
     requires order { AreInOrder 0 (map found_span found.now) (length text.now) }
     requires cut { All (IsFoundCut text.now) found.now }
-    ensures { IfOk result (GathersAll config text.now found.now) }
+    ensures gathers { IfOk result (GathersAll config text.now found.now) }
+    ensures order { IfOk result (λ gathered.
+        AreInOrder 0 (map place_of gathered.parts.items) (length text.now)) }
 {
     let mut gathered = Gathered {
         parts: Vec::new(alloc),
@@ -211,7 +213,8 @@ fn refused_file<'w>(
     is_colored: bool,
     refused: &[Refused],
 ) -> Stop<'w>
-    ensures { FailsBy ⊤ result }
+    requires { HasFaults file.text.now }
+    ensures { FailsBy (HasFaults file.entry.text.now) result }
 {
     match refusal_text(alloc, file, is_colored, refused) {
         Ok(text) => Stop::Refused(text),

@@ -1,5 +1,5 @@
 //! What the words of a command line ask for.
-ghost use Rattle.std.specs.Prelude.{◌≡◌, IfErr, IfOk, None, Some, map, option_map, string_bytes};
+ghost use Rattle.std.specs.Prelude.{◌≡◌, IfErr, IfOk, None, Some, is_some, map, option_map, string_bytes};
 ghost use Rattle.logos_commands.specs.Commands.{shape_named};
 ghost use Rattle.logos_report.specs.Stops.{status_of};
 ghost use Rattle.logos_expand.specs.Orders.{answer_named, asked, asked_given, begins_option, first_answer};
@@ -72,7 +72,10 @@ pub(crate) fn request_of(words: &[String]) -> Result<Request<'_>, Stop<'_>>
     ensures misuse { IfErr result (λ stop.
         (asked (map string_bytes words.now) ≡ None) × (status_of stop ≡ 2)) }
 {
-    request_given(read_words(words)?)
+    match read_words(words) {
+        Ok(given) => request_given(given),
+        Err(stop) => Err(stop),
+    }
 }
 
 /// Reads all words.
@@ -127,7 +130,7 @@ fn order_given(given: Given<'_>) -> Result<Request<'_>, Stop<'_>>
     let Some(input) = given.input else {
         return Err(misuse("no input file", ""));
     };
-    if given.is_check & given.output.is_none() {
+    if given.is_check & !is_given(given.output) {
         return Err(misuse("`--check` needs `--output FILE`", ""));
     }
     Ok(Request::Expand(Order {
@@ -244,13 +247,23 @@ fn read_input<'w>(given: Given<'w>, word: &'w str) -> Result<Given<'w>, Stop<'w>
     if is_option(word) {
         return Err(misuse("unknown option", word));
     }
-    if given.input.is_some() {
+    if is_given(given.input) {
         return Err(misuse("a second input file", word));
     }
     Ok(Given {
         input: Some(word),
         ..given
     })
+}
+
+/// Returns whether there is a path.
+fn is_given(path: Option<&str>) -> bool
+    ensures { result ≡ is_some (option_map (λ path. path.now) path.entry) }
+{
+    match path {
+        Some(_) => true,
+        None => false,
+    }
 }
 
 /// Returns whether a word begins with `-`.

@@ -1,6 +1,6 @@
 //! From words to a status.
 ghost use Rattle.std.specs.Prelude.{◌≡◌, ◌≤◌, ◌⊎◌, ◌↔◌, None, IfErr, IfOk, IfSome, OnOk};
-ghost use Rattle.std.specs.Prelude.{IsTrue, ⊤, map, string_bytes};
+ghost use Rattle.std.specs.Prelude.{IsTrue, map, string_bytes};
 ghost use Rattle.logos_report.specs.Stops.{status_of};
 ghost use Rattle.logos_expand.specs.Expanding.{FailsBy};
 ghost use Rattle.logos_expand.specs.Orders.{asked, order_value, request_value};
@@ -194,7 +194,7 @@ fn settle<'w, F: ComparableFiles>(
         return Ok(());
     }
     if order.is_check {
-        return Err(difference(alloc, order.input, path, standing));
+        return Err(difference(alloc, order, path, standing));
     }
     write_file(path, bytes, files)
 }

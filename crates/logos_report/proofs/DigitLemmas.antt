@@ -10,3 +10,6 @@ one_more n h l = ap length (decimal_step n h l) ∙ length-append (decimal (n / 
 
 pub few : (n : ℕ) → n < 2 ^ 64 → length (decimal n) ≤ 20
 few n l = length-decimal-le 20 n (omega arith) (omega (arith, l)) l
+
+pub smaller : (n : ℕ) → n < 2 ^ 64 → n / 10 < 2 ^ 64
+smaller n l = omega (arith, l)

@@ -7,9 +7,9 @@ use Rattle.logos_report.specs.Pages.{PageValue, StandInOrder, Gains, Adds, Shows
 stand_both : (one other : List (List ℕ)) (front back : List ℕ) → StandInOrder one front → StandInOrder other back → StandInOrder (one ++ other) (front ++ back)
 stand_both [] [] front back s t = tt
 stand_both [] (text ∷ other) front back s t =
-    (front ++ t.0, t.1, ap (λ x. front ++ x) t.2.0 ∙ sym (append_assoc front t.0 (text ++ t.1)), t.2.1)
+    (front ++ t.0, t.1, ap (λ x. front ++ x) t.2 ∙ sym (append_assoc front t.0 (text ++ t.1)), t.3)
 stand_both (text ∷ one) other front back s t =
-    (s.0, s.1 ++ back, ap (λ x. x ++ back) s.2.0 ∙ append_assoc s.0 (text ++ s.1) back ∙ ap (λ x. s.0 ++ x) (append_assoc text s.1 back), stand_both one other s.1 back s.2.1 t)
+    (s.0, s.1 ++ back, ap (λ x. x ++ back) s.2 ∙ append_assoc s.0 (text ++ s.1) back ∙ ap (λ x. s.0 ++ x) (append_assoc text s.1 back), stand_both one other s.1 back s.3 t)
 
 adds_then : (one other : List (List ℕ)) (old middle new : List ℕ) → Adds one old middle → Adds other middle new → Adds (one ++ other) old new
 adds_then one other old middle new a b = record {

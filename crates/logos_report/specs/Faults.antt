@@ -1,6 +1,6 @@
 -- What is shown of faults.
 use Rattle.std.specs.Prelude.{ℕ, ◌==◌, Bool, List, [], ◌∷◌, ◌++◌, if◌then◌else◌}
-use Rattle.std.specs.List.{flat_map}
+use Rattle.std.specs.List.{before_first, flat_map}
 use Rattle.logos_token.specs.Faults.{Fault}
 use Rattle.logos_token.specs.FaultNames.{name_of}
 use Rattle.logos_report.specs.Codes.{is_error}
@@ -8,8 +8,7 @@ use Rattle.logos_report.specs.Places.{SourceValue, shown_place}
 
 -- a text up to its first LF
 abbrev pub first_line : List ℕ → List ℕ
-first_line [] = []
-first_line (byte ∷ rest) = if byte == 10 then [] else byte ∷ first_line rest
+first_line text = before_first (λ byte. byte == 10) text
 
 -- the name of the code of a fault if it is an error, and the first line of its message
 abbrev pub head_texts : Fault → List (List ℕ)

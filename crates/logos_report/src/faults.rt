@@ -141,7 +141,7 @@ fn first_line(text: &str) -> &str
     ensures { result.now ≡ first_line text.now }
 {
     match text.split_once('\n') {
-        Some((line, _)) => line,
+        Some(parts) => parts.0,
         None => text,
     }
 }

@@ -1,6 +1,6 @@
 use Rattle.std.proofs.Common.{length, refl, arith}
 use Rattle.std.proofs.lemmas.List.Elements.{All-get_or}
-use Rattle.logos_expand.proofs.GatherLemmas.{begun, ended_at, further_at, ordered_at}
+use Rattle.logos_expand.proofs.GatherLemmas.{begun, ended_at, further_at, ordered_at, ordered_parts}
 use Rattle.logos_files.specs.Replacing.{IsFoundCut}
 use Rattle.logos_expand.proofs.expanding.gather.Goals as goal
 
@@ -16,5 +16,9 @@ gather_enum-requires-clause-cut c = All-get_or (IsFoundCut c.args.text.now) c.ar
 pub loop-one-preserved : goal.loop-one-preserved
 loop-one-preserved c = further_at _ _ c.args.found.now c.loop-one.one-index _ _ _ c.loop-one-test.true c.loop-one.invariant c.in_ok-gather_enum.ensures
 
-pub returns : goal.returns
-returns c = ended_at _ _ c.args.found.now c.loop-one.one-index _ c.loop-one-test.false c.loop-one.invariant
+pub returns-clause-gathers : goal.returns-clause-gathers
+returns-clause-gathers c = ended_at _ _ c.args.found.now c.loop-one.one-index _ c.loop-one-test.false c.loop-one.invariant
+
+pub returns-clause-order : goal.returns-clause-order
+returns-clause-order c =
+    ordered_parts _ _ c.args.found.now _ (ended_at _ _ c.args.found.now c.loop-one.one-index _ c.loop-one-test.false c.loop-one.invariant) c.requires.order
