@@ -1,5 +1,5 @@
 -- Tokens, and so the enums of a text, begin and end between characters.
-use Rattle.std.proofs.Common.{◌≡◌, ℕ, List, [], ◌∷◌, ◌++◌, All, IsUtf8, IsCharBoundary, sym, subst, length}
+use Rattle.std.proofs.Common.{ℕ, List, [], ◌∷◌, ◌++◌, All, IsUtf8, IsCharBoundary, sym, subst, length}
 use Rattle.std.proofs.lemmas.List.Elements.{All-nil, All-cons, All-append}
 use Rattle.std.proofs.lemmas.Str.{IsCharBoundary-start}
 use Rattle.logos_lexeme.specs.declared.lexeme.Span.{Span}
@@ -11,7 +11,7 @@ use Rattle.logos_token.proofs.reading.PieceLemmas.{piece-boundary}
 use Rattle.logos_files.specs.declared.finding.FoundEnum.{FoundEnum}
 use Rattle.logos_files.specs.Files.{Finds}
 use Rattle.logos_files.specs.Files.Finds.{done, finds, enters, passes}
-use Rattle.logos_files.specs.Fronts.{is_module, is_other, kind_of}
+use Rattle.logos_files.specs.Fronts.{is_module, is_other}
 use Rattle.logos_files.specs.Replacing.{IsCut, IsFoundCut}
 use Rattle.logos_files.proofs.FrontLemmas.{item_of, Shape, another, a_module}
 

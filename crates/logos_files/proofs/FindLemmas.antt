@@ -1,13 +1,13 @@
 -- The enums that are added, item by item.
-use Rattle.std.proofs.Common.{◌≡◌, ◌≤◌, ◌<◌, List, [], ◌∷◌, ◌++◌, append_assoc, refl, sym, ap, ◌∙◌, arith, subst}
+use Rattle.std.proofs.Common.{◌≡◌, ◌≤◌, List, [], ◌∷◌, ◌++◌, append_assoc, sym, ap, ◌∙◌, arith, subst}
 use Rattle.std.proofs.lemmas.List.{append-nil}
-use Rattle.logos_token.specs.Tokens.{TokenList, append, also, count_of}
+use Rattle.logos_token.specs.Tokens.{TokenList, also, count_of}
 use Rattle.logos_files.specs.declared.finding.FoundEnum.{FoundEnum}
 use Rattle.logos_files.specs.Files.{Finds, Describes}
-use Rattle.logos_files.specs.Files.Finds.{done, finds, enters, passes}
-use Rattle.logos_files.specs.Fronts.{ends, is_enum, is_module, is_other, kind_of}
+use Rattle.logos_files.specs.Files.Finds.{finds, enters, passes}
+use Rattle.logos_files.specs.Fronts.{is_enum, is_module, is_other, kind_of}
 use Rattle.logos_files.specs.inside.Finding.{AddsRun, AddsFirst}
-use Rattle.logos_files.proofs.FrontLemmas.{EnumFront, enum_front, enum_count, other_count, module_count}
+use Rattle.logos_files.proofs.FrontLemmas.{enum_front, enum_count, other_count, module_count}
 
 -- the enums up to an item were added, and with those of the rest they are those of the run
 pub record SoFar (run rest : TokenList) (before now : List FoundEnum) : Type 0 where

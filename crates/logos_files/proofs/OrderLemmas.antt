@@ -1,16 +1,16 @@
 -- The enums of a run stand in it in order.
-use Rattle.std.proofs.Common.{◌≡◌, ◌<◌, ◌≤◌, ◌+◌, ◌-◌, ℕ, List, [], ◌∷◌, ◌++◌, length, map, refl, sym, ap, ◌∙◌, arith}
+use Rattle.std.proofs.Common.{◌<◌, ◌≤◌, ◌+◌, ◌-◌, ℕ, List, [], ◌∷◌, ◌++◌, length, map, sym, arith}
 use Rattle.std.proofs.lemmas.List.{map-append}
 use Rattle.logos_lexeme.specs.declared.lexeme.Span.{Span}
-use Rattle.logos_token.specs.Tokens.{Token, TokenList, identifier, punctuation, literal, doc, group, none, also, append, span_of, end_of, run_span, IsRestOf}
+use Rattle.logos_token.specs.Tokens.{Token, TokenList, identifier, punctuation, literal, doc, group, none, also, append, span_of, run_span, IsRestOf}
 use Rattle.logos_token.specs.Spelling.{TokenStands, RunStands, Spells}
 use Rattle.logos_token.proofs.reading.OrderLemmas.{spelled-in_order}
 use Rattle.logos_files.specs.declared.finding.FoundEnum.{FoundEnum}
-use Rattle.logos_files.specs.Files.{Finds, Describes}
+use Rattle.logos_files.specs.Files.{Finds}
 use Rattle.logos_files.specs.Files.Finds.{done, finds, enters, passes}
-use Rattle.logos_files.specs.Fronts.{is_module, is_other, kind_of}
+use Rattle.logos_files.specs.Fronts.{is_module, is_other}
 use Rattle.logos_files.specs.Replacing.{AreInOrder, found_span}
-use Rattle.logos_files.proofs.FrontLemmas.{Item, item_of, Shape, another, a_module}
+use Rattle.logos_files.proofs.FrontLemmas.{item_of, Shape, another, a_module}
 
 -- a token stands between its ends
 token_between : (bytes : List ℕ) (from : ℕ) (token : Token) → TokenStands bytes from token → (from ≤ (span_of token).from) × ((span_of token).from < (span_of token).to)

@@ -1,8 +1,7 @@
 -- Whether an enum derives `Logos`, by the entries of `derive` that stripping takes away.
-use Rattle.std.specs.Prelude.{◌==◌, ◌&&◌, ◌||◌, Bool, true, false, Option, Some, None, codes}
-use Rattle.std.specs.Str.{bytes_eq}
+use Rattle.std.specs.Prelude.{◌==◌, ◌&&◌, ◌||◌, Bool, true, false, codes}
 use Rattle.logos_lexeme.specs.declared.lexeme.Delimiter.TheVariants.{Parenthesis, Bracket}
-use Rattle.logos_token.specs.Tokens.{TokenList, identifier, punctuation, doc, group, none, also}
+use Rattle.logos_token.specs.Tokens.{TokenList, punctuation, doc, group, none, also}
 use Rattle.logos_item.specs.Marks.{hash}
 use Rattle.logos_strip.specs.Helpers.{is_comma, is_macro_entry, behind_word, holds_behind}
 

@@ -2,7 +2,7 @@
 use Rattle.std.specs.Prelude.{ℕ, ◌==◌, if◌then◌else◌, Bool, true, false, codes}
 use Rattle.std.specs.Str.{bytes_eq}
 use Rattle.logos_lexeme.specs.declared.lexeme.Delimiter.TheVariants.{Bracket, Brace}
-use Rattle.logos_token.specs.Tokens.{Token, TokenList, identifier, punctuation, literal, doc, group, none, also}
+use Rattle.logos_token.specs.Tokens.{Token, TokenList, identifier, punctuation, doc, group, none, also}
 use Rattle.logos_token.specs.Views.{tokens_of}
 use Rattle.logos_item.specs.Attributes.{behind_visibility}
 use Rattle.logos_item.specs.Marks.{hash, is_outer}

@@ -1,8 +1,8 @@
 -- The starts and the ends of lines.
-use Rattle.std.proofs.Common.{◌≡◌, ◌⊎◌, ℕ, zero, suc, ◌+◌, ◌-◌, ◌<◌, ◌≤◌, ◌==◌, List, [], ◌∷◌, ◌++◌, length, get_or, take, drop, Bool, true, false, if◌then◌else◌, IsCharBoundary, IsUtf8, slice_index, refl, sym, ap, ◌∙◌, arith}
+use Rattle.std.proofs.Common.{◌≡◌, ℕ, suc, ◌+◌, ◌<◌, List, [], ◌∷◌, length, drop, true, false, refl, arith}
 use Rattle.std.proofs.lemmas.Bool.{cond-true, cond-false}
 use Rattle.std.proofs.Math.Seq.{drop-cons}
-use Rattle.logos_lines.specs.Places.{continues, ends_line, line_length, place_at}
+use Rattle.logos_lines.specs.Places.{ends_line, line_length}
 
 pub ended : (text : List ℕ) → ends_line text ≡ true → line_length text ≡ 0
 ended [] e = refl

@@ -1,5 +1,5 @@
 -- Positions in the order of their offsets.
-use Rattle.std.proofs.Common.{◌≡◌, ◌≢◌, ◌⊎◌, ℕ, zero, suc, ◌+◌, ◌-◌, ◌<◌, ◌≤◌, ◌==◌, if◌then◌else◌, List, [], ◌∷◌, length, get_or, take, drop, Bool, true, false, IsCharBoundary, slice_index, refl, sym, ap, ◌∙◌, arith, nat_le, nat_lt, ◌&&◌, subst, not, ◌||◌, inl, inr, IsUtf8, ◌++◌, Some}
+use Rattle.std.proofs.Common.{◌≡◌, ◌≢◌, ◌⊎◌, ℕ, zero, suc, ◌+◌, ◌-◌, ◌<◌, ◌≤◌, ◌==◌, if◌then◌else◌, List, [], ◌∷◌, length, get_or, take, Bool, true, false, IsCharBoundary, refl, sym, ap, ◌∙◌, arith, nat_le, nat_lt, ◌&&◌, subst, not, ◌||◌, inl, inr, IsUtf8, ◌++◌, Some}
 use Rattle.std.proofs.lemmas.Bool.{cond-true, cond-false, eqb-true, eq-eqb, leb-true, ltb-true, le-leb, ltb-false}
 use Rattle.std.proofs.lemmas.List.{get_or_append_left, length-append}
 use Rattle.std.proofs.Math.Seq.{get_or-append_seam}

@@ -1,4 +1,4 @@
-use Rattle.std.proofs.Common.{◌+◌, sym, ◌∙◌, arith}
+use Rattle.std.proofs.Common.{sym, ◌∙◌, arith}
 use Rattle.logos_lines.proofs.LineLemmas.{goes_on}
 use Rattle.logos_lines.proofs.index.line_end.Goals as goal
 

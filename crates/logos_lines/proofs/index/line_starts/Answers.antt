@@ -1,4 +1,3 @@
-use Rattle.std.proofs.Common.{rules}
 use Rattle.logos_lines.proofs.PlaceLemmas.{starts_begin, starts_more}
 use Rattle.logos_lines.proofs.index.line_starts.Goals as goal
 

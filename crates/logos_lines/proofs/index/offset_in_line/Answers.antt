@@ -1,9 +1,6 @@
-use Rattle.std.proofs.Common.{◌≡◌, ◌≢◌, ◌⊎◌, inl, inr, ℕ, ◌+◌, ◌<◌, ◌≤◌, ◌==◌, true, Some, None, IsCharBoundary, List, length, get_or, sym, ap, refl, ◌∙◌, arith}
-use Rattle.std.proofs.lemmas.Bool.{eqb-true}
-use Rattle.logos_lines.specs.declared.place.Position.{Position}
+use Rattle.std.proofs.Common.{◌≡◌, ◌⊎◌, inl, inr, ◌<◌, ◌≤◌, true, IsCharBoundary, length, get_or, sym, ◌∙◌, arith}
 use Rattle.logos_lines.specs.inside.Search.{ends_search}
-use Rattle.logos_lines.specs.Places.{place_at}
-use Rattle.logos_lines.proofs.PlaceLemmas.{bounds, start_least, line_ends, column_next, one_place, not_ended, not_here, boundary_here, further, found_once, found_never}
+use Rattle.logos_lines.proofs.PlaceLemmas.{bounds, start_least, column_next, not_ended, boundary_here, further, found_once, found_never}
 use Rattle.logos_lines.proofs.index.offset_in_line.Goals as goal
 use Rattle.logos_lines.proofs.index.offset_in_line.Goals.{then-loop-at-test+else-not-ends_search, else-loop-at-test}
 

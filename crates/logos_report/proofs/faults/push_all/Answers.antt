@@ -1,4 +1,4 @@
-use Rattle.std.proofs.Common.{ap, subst, sym}
+use Rattle.std.proofs.Common.{subst}
 use Rattle.logos_token.specs.FaultView.{fault_of}
 use Rattle.logos_report.specs.Faults.{fault_texts}
 use Rattle.logos_report.specs.Pages.{Shows}

@@ -1,4 +1,4 @@
-use Rattle.std.proofs.Common.{◌∙◌, [], ◌∷◌, sym, true}
+use Rattle.std.proofs.Common.{◌∙◌, sym}
 use Rattle.logos_report.proofs.PageLemmas.{grown, shown, shows_then}
 use Rattle.logos_report.proofs.faults.push_code.Goals as goal
 

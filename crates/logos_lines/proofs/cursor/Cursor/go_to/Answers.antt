@@ -1,5 +1,5 @@
-use Rattle.std.proofs.Common.{◌≡◌, ℕ, ◌+◌, ◌<◌, ◌≤◌, max, min, List, length, get_or, sym, ap, refl, ◌∙◌, arith}
-use Rattle.logos_lines.specs.Places.{after_byte, place_at}
+use Rattle.std.proofs.Common.{◌≡◌, ℕ, ◌<◌, max, min, List, length, get_or, sym, ap, refl, ◌∙◌, arith}
+use Rattle.logos_lines.specs.Places.{after_byte}
 use Rattle.logos_lines.specs.Cursors.{CursorValue}
 use Rattle.logos_lines.proofs.PlaceLemmas.{place_next, bounds}
 use Rattle.logos_lines.proofs.cursor.Cursor.go_to.Goals as goal
