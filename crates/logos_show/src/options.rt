@@ -1,5 +1,5 @@
 //! What the words of a command line ask for.
-ghost use Rattle.std.specs.Prelude.{◌≡◌, ◌×◌, IfErr, IfOk, None, Some, map, option_map, string_bytes};
+ghost use Rattle.std.specs.Prelude.{◌≡◌, IfErr, IfOk, None, Some, map, option_map, string_bytes};
 ghost use Rattle.logos_report.specs.Stops.{status_of};
 ghost use Rattle.logos_show.specs.Orders.{answer_named, asked, asked_given, begins_option, first_answer};
 ghost use Rattle.logos_show.specs.Orders.{given_nothing, given_value, order_given, request_value};
