@@ -16,11 +16,18 @@ import tempfile
 TOP = pathlib.Path(__file__).resolve().parent.parent
 PROGRAM = "crates/logos_program/out/logos_program"
 CALLS = "crates/logos_calls/out/logos_calls"
+CLI = "crates/logos_cli/out/logos_cli"
+SHOW = "crates/logos_show/out/logos_show"
 # Each part: its command, the file that is changed, and what is put in the place of which text, which stands in the file.
 PARTS = {
     "borrows": ("bash scripts/borrows.sh", "scripts/borrows/group_returned.edit", "borrow-e0515", "borrow-e0505"),
     "definitions": ("python3 scripts/definitions.py", "docs/DEFINITIONS.md", "`IsAccepted`", "`IsAcceptable`"),
     "commands": (f"python3 scripts/rows.py commands --least 1 {PROGRAM} rows/commands/answers.rows", "rows/commands/answers.rows", "error 2..3", "error 2..4"),
+    "cli": (f"python3 scripts/rows.py commands --least 1 {CLI} rows/commands_cli/rendering.rows", "rows/commands_cli/rendering.rows", "t.rs:2:10", "t.rs:2:11"),
+    "show": (f"python3 scripts/rows.py commands --least 1 {SHOW} rows/commands_show/items.rows", "rows/commands_show/items.rows", "errors: 1", "errors: 2"),
+    "cli_files": ("bash scripts/cli_files.sh", "scripts/cli_files.sh", "error: cannot read none.rs", "error: cannot read nine.rs"),
+    "refused_programs": ("bash scripts/refused_programs.sh", "scripts/refused_programs.sh", "error: out of memory", "error: out of room"),
+    "real_lexers": ("bash scripts/real_lexers.sh", "scripts/real_lexers.sh", "lexers=8", "lexers=9"),
     "calls": (f"python3 scripts/rows.py calls --least 1 {CALLS} rows/calls/types.rows", "rows/calls/types.rows", "a :: b\n", "a : : b\n"),
     "refused_calls": ("bash scripts/refused_calls.sh", "rows/calls/types.rows", "a :: b\n", "a : : b\n"),
     "refused_memory": ("bash scripts/refused_memory.sh", "scripts/refused_memory.sh", "letters", "lettres"),
@@ -34,7 +41,7 @@ PARTS = {
     "faults": ("python3 scripts/faults.py", "docs/FAULTS.md", "7..8 Lexical: unreadable source: Unbalanced", "7..9 Lexical: unreadable source: Unbalanced"),
     "examples": ("bash scripts/examples.sh", "examples/json/data/sample.out", None, "?"),
     "rattle_examples": ("bash scripts/rattle_examples.sh", "examples/config/data/expected", None, "?"),
-    "install": ("bash scripts/install_test.sh", "README.md", "token 3 0..6", "token 3 0..7"),
+    "install": ("bash scripts/install_test.sh", "README.md", "1:6  Space", "1:7  Space"),
 }
 
 

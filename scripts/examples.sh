@@ -1,14 +1,15 @@
 #!/usr/bin/env bash
 # Runs the examples: `cargo test` in each Cargo package of examples/, and of runtime/rust, without a network.
 #
-# The program `logos` is the one that the gate has built, or the first argument. Where cargo is missing, that is printed, and nothing is
+# The programs `logos` and `logos_cli` are those that the gate has built, or the first two arguments. Where cargo is missing, that is printed, and nothing is
 # tested. The last line is `examples: N passed, M failed`.
 set -uo pipefail
 
 root=$(cd "$(dirname "${BASH_SOURCE[0]}")/.." && pwd)
 LOGOS=$(realpath "${1:-$root/crates/logos_program/out/logos_program}")
-export LOGOS
-packages=(runtime/rust examples/json examples/template examples/highlight)
+LOGOS_CLI=$(realpath "${2:-$root/crates/logos_cli/out/logos_cli}")
+export LOGOS LOGOS_CLI
+packages=(runtime/rust examples/json examples/template examples/highlight examples/ini)
 room=$(mktemp -d)
 trap 'rm -rf "$room"' EXIT
 passed=0

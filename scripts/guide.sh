@@ -5,11 +5,14 @@
 # has a block without a command, or a command outside blocks; and where other numbers of blocks and commands ran than are stated here. The
 # enum of the guide has to be that of the tokenizer.
 #
-# `logos` is the program as `rt ci` or `rt run` leaves it in crates/logos_program/out, or the first argument.
+# `logos`, `logos_cli` and `logos_show` are the programs as `rt ci` or `rt run` leaves them in crates/logos_program/out, crates/logos_cli/out and
+# crates/logos_show/out, or the first three arguments.
 set -euo pipefail
 
 root=$(cd "$(dirname "${BASH_SOURCE[0]}")/.." && pwd)
 program=$(realpath "${1:-$root/crates/logos_program/out/logos_program}")
+cli=$(realpath "${2:-$root/crates/logos_cli/out/logos_cli}")
+show=$(realpath "${3:-$root/crates/logos_show/out/logos_show}")
 room=$(mktemp -d)
 trap 'rm -rf "$room"' EXIT
 cd "$root"
@@ -24,6 +27,14 @@ fail() {
 
 logos() {
     "$program" "$@"
+}
+
+logos_cli() {
+    "$cli" "$@"
+}
+
+logos_show() {
+    "$show" "$@"
 }
 
 # Reads a page, runs its commands, and writes the page with what they print in place of what it shows. Counts blocks and commands.
@@ -61,8 +72,8 @@ check_page() {
     [ "$((ran - ran_before))" = "$3" ] || fail "$1: $((ran - ran_before)) commands ran, where $3 are stated"
 }
 
-check_page docs/GUIDE.md 17 31 alone
-check_page README.md 1 1 others
+check_page docs/GUIDE.md 22 40 alone
+check_page README.md 1 3 others
 sed -n '/^pub const SOURCE/,/^"#;$/p' crates/logos_codegen/src/expr.rt | sed -e '1s/^[^"]*"//' -e '$d' | cmp -s - docs/guide/expr.rs \
     || fail "another enum than that of the tokenizer"
 echo "guide: $ran commands print what the pages show"

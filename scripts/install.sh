@@ -1,51 +1,81 @@
 #!/usr/bin/env bash
-# Puts the program `logos` into PREFIX/bin: scripts/install.sh [--proved] [PREFIX]
+# Puts the programs `logos_cli`, `logos_show` and `logos` into PREFIX/bin: scripts/install.sh [--proved] [--only NAME] [PREFIX]
 #
-# PREFIX is ~/.local without. Without --proved the program is built from the same sources, optimised and unproved, in a few minutes; with it,
-# every crate is proved first, which takes about an hour, and the program is the one that the gate builds.
+# PREFIX is ~/.local if it is not given. Without --proved the programs are built from the same sources, optimised and unproved, in a few minutes;
+# with it, every crate is proved first, which takes about an hour, and the programs are those that the gate builds. With --only just the program
+# with this name is built.
 set -euo pipefail
 
 root=$(cd "$(dirname "${BASH_SOURCE[0]}")/.." && pwd)
 proved=no
-if [ "${1-}" = --proved ]; then
-    proved=yes
+names=(logos_cli logos_show logos)
+while [[ ${1-} = -* ]]; do
+    case $1 in
+        --proved) proved=yes ;;
+        --only)
+            shift
+            names=("${1-}") ;;
+        *)
+            echo 'usage: scripts/install.sh [--proved] [--only NAME] [PREFIX]' >&2
+            exit 2 ;;
+    esac
     shift
-fi
-case ${1-} in -*)
-    echo 'usage: scripts/install.sh [--proved] [PREFIX]' >&2
-    exit 2 ;;
-esac
+done
 bin=${1:-$HOME/.local}/bin
 
-# Builds the program, and prints where it lies.
+# Builds the program with this name.
 build() {
+    local name=$1 crate=$1 words=(--version)
+    case $name in
+        logos_cli | logos_show) ;;
+        logos) crate=logos_program words=(lex data/t.rs data/input) ;;
+        *)
+            echo "install: no program has the name $name" >&2
+            return 1 ;;
+    esac
     if [ "$proved" = yes ]; then
-        (cd "$root/crates/logos_program" && rt run -- lex data/t.rs data/input) > /dev/null
-        echo "$root/crates/logos_program/out/logos_program"
-    else
-        python3 "$root/scripts/install/build.py" "$1/logos"
-        echo "$1/logos"
+        (cd "$root/crates/$crate" && rt run -- "${words[@]}") > /dev/null
+        cp "$root/crates/$crate/out/$crate" "$room/$name"
+    elif ! python3 "$root/scripts/install/build.py" "$room/$name" "$crate" > /dev/null; then
+        echo "install: this toolchain does not build $name without proofs as this script knows it." >&2
+        echo 'Build the proved programs in their place: bash scripts/install.sh --proved' >&2
+        return 1
     fi
+}
+
+# Builds the programs: those without proofs side by side.
+build_all() {
+    local name job jobs=() status=0
+    for name in "${names[@]}"; do
+        if [ "$proved" = yes ]; then
+            build "$name" || return 1
+        else
+            build "$name" &
+            jobs+=($!)
+        fi
+    done
+    for job in "${jobs[@]}"; do
+        wait "$job" || status=1
+    done
+    return "$status"
 }
 
 room=$(mktemp -d)
 trap 'rm -rf "$room"' EXIT
-if ! built=$(build "$room"); then
-    if [ "$proved" = no ]; then
-        echo 'install: this toolchain does not build without proofs as this script knows it.' >&2
-        echo 'Build the proved program in its place: bash scripts/install.sh --proved' >&2
-    fi
-    exit 1
-fi
+build_all || exit 1
 mkdir -p "$bin"
-cp "$built" "$bin/logos.part"
-mv "$bin/logos.part" "$bin/logos"
+for name in "${names[@]}"; do
+    cp "$room/$name" "$bin/$name.part"
+    mv "$bin/$name.part" "$bin/$name"
+done
 
-echo "The items of \"$(cat "$root/crates/logos_program/data/input")\", by crates/logos_program/data/t.rs:"
-"$bin/logos" lex "$root/crates/logos_program/data/t.rs" "$root/crates/logos_program/data/input"
-if [ "$proved" = yes ]; then
-    echo "Installed $bin/logos, proved."
-else
-    echo "Installed $bin/logos. It is built from the proved sources, but this build itself proved nothing: --proved does."
+if [ -x "$bin/logos_show" ]; then
+    echo 'The items of docs/guide/greeting, by docs/guide/words.rs:'
+    "$bin/logos_show" "$root/docs/guide/words.rs" "$root/docs/guide/greeting"
 fi
-case :$PATH: in *:$bin:*) ;; *) echo "$bin is not on your PATH: add it, or call the program by its path." ;; esac
+if [ "$proved" = yes ]; then
+    echo "Installed in $bin, proved: ${names[*]}"
+else
+    echo "Installed in $bin: ${names[*]}. Built from the proved sources, but this build itself proved nothing: --proved does."
+fi
+case :$PATH: in *:$bin:*) ;; *) echo "$bin is not on your PATH: add it, or call the programs by their paths." ;; esac

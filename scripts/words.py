@@ -21,10 +21,10 @@ GLOSSARY = "docs/GLOSSARY.md"
 LEAST = 60
 # The crates and pages that are not clean yet. An entry goes when none of these words is left in it.
 NOT_YET = """
-logos_attribute logos_automaton logos_calls logos_code logos_codegen logos_cycles logos_definition logos_generator logos_graph
-logos_hir logos_item logos_leaf logos_lexeme logos_machine logos_pattern logos_places logos_reduce logos_source
-logos_subpattern logos_text logos_token logos_type logos_type_params logos_type_reader
-docs/DECISIONS.md docs/DEFINITIONS.md docs/MAP.md
+logos_automaton logos_calls logos_code logos_codegen logos_generator logos_graph
+logos_hir logos_machine logos_pattern logos_places logos_reduce
+logos_text
+docs/DEFINITIONS.md docs/MAP.md
 """.split()
 # Each entry of the glossary's last table: the words in a name, and the pattern in a sentence.
 UNUSED = {

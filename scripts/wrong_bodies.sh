@@ -2,13 +2,14 @@
 # Tries the wrong bodies that the pages crates/NAME/must-fail/others.md list: the prover must refuse each. Run it by hand, and before a release; the gate
 # tries only the files crates/NAME/must-fail/*.edit.
 #
-# For each crate that is named, or each with such a page, it copies the checkout's texts and checks the crate there as it stands, over what earlier checks
-# on this machine kept. Then it puts in all bodies that lie in different functions and overlap nowhere, checks the crate once, and looks at each body's own
-# function: a goal that stays open there, or an error, refuses the body; if the function is proved, the body is accepted. What calls a function that is
-# not proved is not judged, so its body is tried again, and so is one in a function with another body. A body that does not compile, or that lies in no
-# function, is tried alone, and does not count as tried if it still comes to no result.
+# It copies the texts of the crates that are named, or of each with such a page, and of those below them, and runs `rt ci` there: all have to be proved as
+# they stand, and what an earlier run on this machine proved is not proved again. Then it puts in, crate by crate, all bodies that lie in different
+# functions and overlap nowhere, and checks these functions and those that they call, over the libraries that `rt ci` built. It looks at each body's
+# own function: a goal that stays open there, or an error, refuses the body; if the function is proved, the body is accepted. What calls a function that
+# is not proved is not judged, so its body is tried again, and so is one in a function with another body. A body that does not compile is tried alone,
+# and so is one that lies in no function, for which the whole crate is checked; it does not count as tried if it still comes to no result.
 #
-# Up to three crates are tried side by side; `--jobs N` sets another number, and each takes up to 5 GB. It takes about 20 minutes on four cores.
+# Up to three crates are tried side by side; `--jobs N` sets another number, and each takes up to 5 GB. `--keep FOLDER` keeps what each check printed.
 # The last line is `N refused, M accepted, K not tried`, and each accepted or not tried body has a line before it. The status is 1 where there is one, and
 # 2 where a page cannot be read.
 #

@@ -27,11 +27,16 @@ class Outcome:
     def has_judged(self):
         return bool(self.functions)
 
-
     def errors_in_proof(self, path):
         """The errors in the proof files of a function."""
-        folder = '/'.join(['proofs', *path.split('::')[1:], ''])
-        return [words for file, words in self.proofs if file.startswith(folder)]
+        return self.errors_below('/'.join(['proofs', *path.split('::')[1:], '']))
+
+    def errors_in_cycles(self, path):
+        """The errors in the proof files of the cycles of calls in the module of a function."""
+        return self.errors_below('/'.join(['proofs', *path.split('::')[1:-1], '+']))
+
+    def errors_below(self, start):
+        return [words for file, words in self.proofs if file.startswith(start) and 'was not admitted' not in words]
 
 
 def outcome_of(status, output):
@@ -45,16 +50,6 @@ def outcome_of(status, output):
         if proof:
             outcome.proofs.append((proof[1], proof[2]))
     return outcome
-
-
-def link_or_copy(one, other):
-    """Gives kept work that a check replaces and does not change a second name, and copies the rest."""
-    try:
-        if one.endswith('.oantt'):
-            return os.link(one, other)
-    except OSError:
-        pass
-    return shutil.copy2(one, other)
 
 
 def libraries(root):
@@ -74,47 +69,74 @@ def crates_below(root, crate):
     return found
 
 
-class Copy:
-    """A copy of the checkout's texts, in which one crate is checked with some of its texts changed. It has what earlier checks kept of the crate and of those below."""
+def kit():
+    """The folder of the toolchain."""
+    page = subprocess.run(['rt', 'doc'], stdout=subprocess.PIPE, text=True, check=True).stdout.split()[0]
+    return os.path.dirname(os.path.realpath(page))
 
-    def __init__(self, root: Path, crate, room: Path):
-        self.crate, self.room = root / 'crates' / crate, room
-        self.folder, self.seed = room / 'crates' / crate, room / 'seed'
-        for name in ('crates.txt', 'HANDLES'):
-            if (root / name).is_file():
-                shutil.copy2(root / name, room / name)
-        for one in (root / 'crates').iterdir():
-            for part in PARTS:
-                if (one / part).is_dir():
-                    shutil.copytree(one / part, room / 'crates' / one.name / part)
-        for name in crates_below(root, crate):
-            if (root / 'crates' / name / 'out').is_dir():
-                shutil.copytree(root / 'crates' / name / 'out', room / 'crates' / name / 'out', symlinks=True, copy_function=link_or_copy)
 
-    def check(self):
-        words = ['rt', 'check', '--jobs', '1']
+class Repository:
+    """A copy of the checkout's texts of some crates and of those below them, without wrong bodies, and with the libraries that `rt ci` builds there."""
+
+    def __init__(self, root: Path, crates, room: Path):
+        self.root, self.room, self.kit = root, room, kit()
+        self.uses = libraries(root)
+        names = set().union(*(crates_below(root, it) for it in crates))
+        lines = [f'{it}: {" ".join(uses)}\n' for it, uses in self.uses.items() if it in names]
+        (room / 'crates.txt').write_text(''.join(lines), encoding='utf-8')
+        if (root / 'HANDLES').is_file():
+            shutil.copy2(root / 'HANDLES', room / 'HANDLES')
+        for name, part in ((name, part) for name in names for part in PARTS):
+            if (root / 'crates' / name / part).is_dir():
+                shutil.copytree(root / 'crates' / name / part, room / 'crates' / name / part)
+        subprocess.run(['git', 'init', '-q', str(room)], check=True)
+
+    def prove(self):
+        """Whether all crates are proved as they stand, and what was said. What an earlier run on this machine has proved is not proved again."""
         how = {'stdin': subprocess.DEVNULL, 'stdout': subprocess.PIPE, 'stderr': subprocess.STDOUT, 'text': True, 'errors': 'replace'}
-        done = subprocess.run(words, cwd=self.folder, check=False, **how)
+        done = subprocess.run(['rt', 'ci'], cwd=self.room, check=False, **how)
+        return done.returncode == 0, done.stdout
+
+    def words(self, crate):
+        """The words of a check of a crate as `rt ci` makes it, over the libraries that it built."""
+        at, uses = self.kit, self.uses[crate]
+        rlib = lambda name: f'{self.room}/crates/{name}/out/rlib/{name}.rlib'
+        words = [f'{at}/bin/rattle', 'check', '--crate-name', crate, 'src/lib.rt']
+        for name in ['std', *(it for it in uses if it not in self.uses and it != 'std')]:
+            words += ['--extern', f'{name}={at}/rlibs/{name}.rlib']
+        words += ['-L', f'dependency={at}/rlibs']
+        for name in (it for it in uses if it in self.uses):
+            words += ['--extern', f'{name}={rlib(name)}']
+        for name in sorted(crates_below(self.root, crate) - {crate}):
+            words += ['-L', f'dependency={os.path.dirname(rlib(name))}']
+        words += ['--antt-project', f'{at}/rattle/logic/antt-project.json', '--logic-built', f'{at}/logic_built']
+        return [*words, '--links', f'{crate}=', '--jobs', '1', '--incremental', 'out/incremental']
+
+
+class Copy:
+    """A crate of such a copy, which is checked with some of its texts changed. Each check begins with what the ones before it kept."""
+
+    def __init__(self, repository: Repository, crate):
+        self.crate, self.folder = repository.root / 'crates' / crate, repository.room / 'crates' / crate
+        self.words = repository.words(crate)
+
+    def check(self, functions):
+        """What a check says of these functions and of those that they call, or of the whole crate if there are none."""
+        only = [word for it in functions for word in ('--only', it.path)]
+        how = {'stdin': subprocess.DEVNULL, 'stdout': subprocess.PIPE, 'stderr': subprocess.STDOUT, 'text': True, 'errors': 'replace'}
+        done = subprocess.run([*self.words, *only], cwd=self.folder, check=False, **how)
         return outcome_of(done.returncode, done.stdout)
 
-    def check_as_it_stands(self):
-        """Whether the crate is proved as it stands, and what its check printed. What that kept is where each later check begins."""
-        outcome = self.check()
-        kept = self.folder / 'out' / 'incremental'
-        if outcome.status == 0 and kept.is_dir():
-            shutil.copytree(kept, self.seed, symlinks=True, copy_function=link_or_copy)
-        return outcome.status == 0, outcome
-
-    def check_with(self, texts):
-        """What a check says of the crate with these texts."""
-        kept = self.folder / 'out' / 'incremental'
-        if self.seed.is_dir():
-            shutil.rmtree(kept, ignore_errors=True)
-            shutil.copytree(self.seed, kept, symlinks=True, copy_function=link_or_copy)
+    def check_with(self, texts, functions):
+        """What a check says with these texts of these functions, or of the whole crate if there are none, or one of them has another path than the one that is
+        known of it."""
         for path, text in texts.items():
             (self.folder / path).write_text(text, encoding='utf-8')
         try:
-            return self.check()
+            outcome = self.check(functions)
+            if outcome.status == 2 and functions and not outcome.has_judged:
+                outcome = self.check([])
+            return outcome
         finally:
             for path in texts:
                 shutil.copy2(self.crate / path, self.folder / path)

@@ -10,7 +10,7 @@ from concurrent.futures import ThreadPoolExecutor
 from pathlib import Path
 
 from bodies import BadPage, bodies_of
-from checks import Copy
+from checks import Copy, Repository
 from rounds import ACCEPTED, NOT_TRIED, REFUSED, Rounds
 
 ROOT = Path(__file__).resolve().parents[2]
@@ -44,14 +44,23 @@ def pages_of(names):
     return sorted(folders, key=lambda it: (it / 'must-fail' / 'others.md').stat().st_size, reverse=True)
 
 
-def try_crate(folder, bodies, keep):
+def try_crate(repository, folder, bodies, keep):
     """The verdict on each body of a crate, with what is to be said of it."""
     begun = time.monotonic()
-    with tempfile.TemporaryDirectory(prefix='wrong-bodies-') as room:
-        rounds = Rounds(Copy(ROOT, folder.name, Path(room)), folder, bodies, keep)
-        verdicts = rounds.run()
+    rounds = Rounds(Copy(repository, folder.name), folder, bodies, keep)
+    verdicts = rounds.run()
     count = sum(kind == REFUSED for kind, _ in verdicts.values())
     say(f'{folder.name}: {count} of {len(bodies)} refused, in {rounds.count} checks and {time.monotonic() - begun:.0f} s')
+    return verdicts
+
+
+def try_all(repository, pages, given):
+    """The verdict on each body of all crates."""
+    verdicts = {}
+    with ThreadPoolExecutor(max(1, given.jobs)) as pool:
+        tasks = [pool.submit(try_crate, repository, folder, bodies, given.keep) for folder, bodies in pages]
+        for task in tasks:
+            verdicts.update(task.result())
     return verdicts
 
 
@@ -74,12 +83,15 @@ def main(argv):
     except (BadPage, OSError) as error:
         print(f'wrong_bodies: {error}', file=sys.stderr)
         return 2
-    verdicts = {}
-    with ThreadPoolExecutor(max(1, given.jobs)) as pool:
-        tasks = [pool.submit(try_crate, folder, bodies, given.keep) for folder, bodies in pages]
-        for task in tasks:
-            verdicts.update(task.result())
-    return tell(verdicts)
+    with tempfile.TemporaryDirectory(prefix='wrong-bodies-') as room:
+        repository = Repository(ROOT, [folder.name for folder, _ in pages], Path(room))
+        begun = time.monotonic()
+        is_proved, said = repository.prove()
+        if not is_proved:
+            print(said[-4000:], file=sys.stderr)
+            return tell({body.label: (NOT_TRIED, 'the crates are not proved as they stand') for _, bodies in pages for body in bodies})
+        say(f'crates with wrong bodies: {len(pages)}, all proved as they stand, in {time.monotonic() - begun:.0f} s')
+        return tell(try_all(repository, pages, given))
 
 
 sys.exit(main(sys.argv[1:]))

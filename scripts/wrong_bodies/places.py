@@ -5,6 +5,7 @@ from dataclasses import dataclass
 
 FUNCTION = re.compile(r'( *)(?:pub(?:\([^)]*\))? )?(?:const )?fn (\w+)')
 IMPL = re.compile(r'impl\b(.*)')
+ANY = r'\w*'
 
 
 @dataclass(frozen=True)
@@ -18,6 +19,13 @@ class Function:
     file: str
     first_line: int
     last_line: int
+
+    @property
+    def path(self):
+        """How a check is asked for this function alone: its path below the crate, or of a method its type's name and its own."""
+        if self.owner:
+            return f'{self.owner.removesuffix(ANY)}::{self.name}'
+        return '::'.join([*self.module.split('::')[1:], self.name])
 
     def is_at(self, path):
         """Whether the prover's path names this function, or a closure in it. A method is named by the module of its type."""
@@ -48,7 +56,7 @@ def owner_of(header):
     last = [it.split('::')[-1] for it in words]
     if 'for' in last:
         at = last.index('for')
-        return rf'{last[at + 1]}{last[at - 1]}\w*'
+        return f'{last[at + 1]}{last[at - 1]}{ANY}'
     return last[0]
 
 

@@ -6,16 +6,17 @@ from bodies import texts_with, together
 
 REFUSED, ACCEPTED, NOT_TRIED = 'refused', 'accepted', 'not tried'
 # A function that is not proved as another one is not.
-WAITS = re.compile(r'no proof: it (?:calls|passes)')
+WAITS = re.compile(r'(?:no proof:|not proved;) it (?:calls|passes)')
 
 
 def failure_of(outcome, path, words):
     """Why a function is not proved, if that is by its own body; what is said of it where it only calls what is not proved is no such reason."""
-    if words == 'proved' or WAITS.match(words):
+    if words == 'proved':
         return None
-    if words != 'not proved':
+    if words != 'not proved' and not WAITS.match(words):
         return words
-    return next((it for it in outcome.errors_in_proof(path) if 'was not admitted' not in it), None)
+    errors = outcome.errors_in_proof(path) or (outcome.errors_in_cycles(path) if words == 'not proved' else [])
+    return errors[0] if errors else None
 
 
 def of_function(outcome, function):
@@ -66,10 +67,6 @@ class Rounds:
         for body in self.bodies:
             if body.fault:
                 self.settle(body, (NOT_TRIED, body.fault))
-        is_proved, outcome = self.copy.check_as_it_stands()
-        if not is_proved:
-            for body in self.left(self.bodies):
-                self.settle(body, (NOT_TRIED, f'the crate is not proved as it stands: {last_words(outcome)}'))
         self.try_many([it for it in self.left(self.bodies) if it.functions])
         for body in self.left(self.bodies):
             self.try_alone(body)
@@ -82,8 +79,9 @@ class Rounds:
         self.verdicts[body.label] = verdict
 
     def check(self, bodies):
-        """What a check says of the crate with these bodies."""
-        outcome = self.copy.check_with(texts_with(self.folder, bodies))
+        """What a check says of the crate with these bodies. Where each lies in functions, the check looks at these alone."""
+        functions = list(dict.fromkeys(it for body in bodies for it in body.functions)) if all(it.functions for it in bodies) else []
+        outcome = self.copy.check_with(texts_with(self.folder, bodies), functions)
         self.count += 1
         if self.keep:
             names = ' '.join(it.name for it in bodies)
@@ -91,17 +89,25 @@ class Rounds:
         return outcome
 
     def try_many(self, bodies):
-        """Tries bodies together as long as each check gives a verdict on one of them; those that do not compile are left."""
-        while len(bodies) > 1:
+        """Tries bodies together, and those on which a check says nothing again after all others, as long as there comes a verdict; those that do not compile are left."""
+        waiting, is_of_use = [], False
+        while len(bodies) + len(waiting) > 1:
+            if not bodies:
+                if not is_of_use:
+                    return
+                bodies, waiting, is_of_use = waiting, [], False
             chosen = together(bodies)
             outcome = self.check(chosen)
             if outcome.has_judged:
                 settled = self.judge(outcome, chosen)
+                waiting += [it for it in chosen if it not in settled]
+                is_of_use = is_of_use or bool(settled)
+                done = chosen
             else:
-                settled = self.not_compiled(outcome, chosen)
-            if not settled:
-                return
-            bodies = [it for it in bodies if it not in settled]
+                done = self.not_compiled(outcome, chosen)
+                if not done:
+                    return
+            bodies = [it for it in bodies if it not in done]
 
     def judge(self, outcome, bodies):
         """Settles the bodies on which a check gives a verdict, and gives these."""
@@ -119,6 +125,9 @@ class Rounds:
     def try_alone(self, body):
         outcome = self.check([body])
         verdict = of_body(outcome, body) if body.functions else of_whole(outcome)
+        unproved = [words for path, words in outcome.functions.items() if words != 'proved' and any(it.is_at(path) for it in body.functions)]
+        if not verdict and unproved:
+            verdict = REFUSED, unproved[0]
         if not verdict and outcome.status == 0:
             verdict = ACCEPTED, 'the crate is proved'
         self.settle(body, verdict or (NOT_TRIED, last_words(outcome)))

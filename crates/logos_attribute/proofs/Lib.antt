@@ -2,4 +2,4 @@ mod CallbackLemmas
 mod LiteralLemmas
 mod NumberLemmas
 mod PieceLemmas
-pub mod ToldLemmas
+pub mod ReportLemmas

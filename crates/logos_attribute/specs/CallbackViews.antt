@@ -1,4 +1,4 @@
--- What callbacks that were read show.
+-- The callbacks that values of type `Callback` stand for.
 use Rattle.logos_token.specs.Views.{stream_tokens}
 use Rattle.logos_pattern.specs.declared.leaf.Callback.{Callback}
 use Rattle.logos_pattern.specs.declared.leaf.Callback.TheVariants.{Label, Inline}

@@ -1,4 +1,4 @@
--- Callbacks, as arguments of attributes say them.
+-- Callbacks in the arguments of attributes.
 use Rattle.std.specs.Prelude.{ℕ, List, [], ◌∷◌, codes, Option, Some, None, Result, Ok, Err, if◌then◌else◌}
 use Rattle.logos_lexeme.specs.declared.lexeme.Span.{Span}
 use Rattle.logos_token.specs.Faults.{Fault}
@@ -6,13 +6,13 @@ use Rattle.logos_token.specs.declared.error.fault_code.FaultCode.TheVariants.{Ca
 use Rattle.logos_token.specs.Tokens.{TokenList, identifier, group, none, also, run_span}
 use Rattle.logos_token.specs.Punctuation.{is_alone}
 use Rattle.logos_attribute.specs.Slices.{Slice}
-use Rattle.logos_attribute.specs.Told.{Told, telling, quiet, fault, fault_also, only}
+use Rattle.logos_attribute.specs.Reports.{Report, with_faults, without_faults, fault, fault_also, only}
 
 -- `|`
 abbrev pub bar : ℕ
 bar = 124
 
--- the tokens that name a function; or a body with a parameter, and where the whole of it stands
+-- The tokens that name a function; or the parameter and the body of a closure, and the span of the whole.
 pub data CallbackView : Type 0 where
   label : (tokens : TokenList) → CallbackView
   inline : (arg : Slice) (body : TokenList) (span : Span) → CallbackView
@@ -27,32 +27,32 @@ callback_closure span = fault CallbackClosure (codes "Inline callbacks must use 
 abbrev pub callback_body : Span → Fault
 callback_body span = fault CallbackBody (codes "Callback missing a body") span
 
--- behind the second `|`: the body, a group without its delimiters
+-- after the second `|`: the body; a group is the body without its delimiters
 abbrev pub body_in : Span → Slice → TokenList → Result CallbackView Fault
 body_in span arg none = Err (callback_body span)
 body_in span arg (also (group delimiter at inside) rest) = Ok (inline arg inside span)
 body_in span arg run = Ok (inline arg run span)
 
--- behind the parameter: a lone `|`
+-- after the parameter: a lone `|`
 abbrev pub bar_in : Span → Slice → TokenList → Result CallbackView Fault
 bar_in span arg none = Err (callback_body span)
 bar_in span arg (also token rest) = if is_alone bar token then body_in span arg rest else Err (callback_closure span)
 
--- behind the first `|`: the parameter
+-- after the first `|`: the parameter
 abbrev pub parameter_in : Span → TokenList → Result CallbackView Fault
 parameter_in span (also (identifier text at) rest) = bar_in span (record { text = text; span = at }) rest
 parameter_in span run = Err (callback_closure span)
 
--- a callback: a closure begins with a lone `|`, all else names a function
+-- a callback: a closure begins with a lone `|`, anything else names a function
 abbrev pub callback_in : TokenList → Result CallbackView Fault
 callback_in none = Err (callback_closure (run_span none))
 callback_in (also first rest) =
     if is_alone bar first then parameter_in (run_span (also first rest)) rest
     else Ok (label (also first rest))
 
--- a callback without a name; none where there is a fault
-abbrev pub callback_told : TokenList → Told (Option CallbackView)
-callback_told run = elim (callback_in run) [ Ok callback ↦ quiet (Some callback) | Err cause ↦ telling None (only cause) ]
+-- the report of a callback that has no name before it: the callback, or none and its fault
+abbrev pub callback_report : TokenList → Report (Option CallbackView)
+callback_report run = elim (callback_in run) [ Ok callback ↦ without_faults (Some callback) | Err cause ↦ with_faults None (only cause) ]
 
 abbrev pub callback_twice : Slice → (here : Span) → Fault
 callback_twice name here = fault_also CallbackTwice (codes "Callback has been already set") here name.span
@@ -74,9 +74,9 @@ abbrev pub callback_again : Slice → TokenList → Option CallbackView → List
 callback_again name run None = []
 callback_again name run (Some former) = twice_at name (run_span run) (view_span former)
 
--- `callback = run` behind what was said before: the new one stands
-abbrev pub callback_set : Slice → TokenList → Option CallbackView → Told (Option CallbackView)
+-- the report of `callback = run` after a former callback: the new one replaces it
+abbrev pub callback_set : Slice → TokenList → Option CallbackView → Report (Option CallbackView)
 callback_set name run former = elim (callback_in run) [
-  | Ok callback ↦ telling (Some callback) (callback_again name run former)
-  | Err cause ↦ telling former (cause ∷ callback_value_fault run ∷ [])
+  | Ok callback ↦ with_faults (Some callback) (callback_again name run former)
+  | Err cause ↦ with_faults former (cause ∷ callback_value_fault run ∷ [])
 ]

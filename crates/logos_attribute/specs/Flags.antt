@@ -9,7 +9,7 @@ use Rattle.logos_token.specs.Printing.{printed}
 use Rattle.logos_token.specs.EscapedTexts.{escaped}
 use Rattle.logos_attribute.specs.Slices.{Slice}
 use Rattle.logos_attribute.specs.Pieces.{comma}
-use Rattle.logos_attribute.specs.Told.{Told, telling, quiet, fault, fault_about, only}
+use Rattle.logos_attribute.specs.Reports.{Report, with_faults, without_faults, fault, fault_about, only}
 
 abbrev pub ignore_unknown : Slice → Fault
 ignore_unknown flag = fault_about IgnoreUnknown (codes "Unknown flag: ") flag (codes "\n\nExpected one of: case")
@@ -17,7 +17,7 @@ ignore_unknown flag = fault_about IgnoreUnknown (codes "Unknown flag: ") flag (c
 abbrev pub ignore_ascii : Slice → Fault
 ignore_ascii flag = fault IgnoreAscii (codes "The flag \"ascii_case\" is no longer supported") flag.span
 
--- a flag other than `case`
+-- the fault of a flag other than `case`
 abbrev pub other_flag : Slice → Fault
 other_flag flag =
     if bytes_eq flag.text (codes "ascii_case") then ignore_ascii flag else ignore_unknown flag
@@ -29,15 +29,16 @@ abbrev pub ignore_token : Token → Fault
 ignore_token token = fault IgnoreToken ((codes "Unexpected token: \"" ++ escaped (printed (also token none))) ++ codes "\"") (span_of token)
 
 abbrev mutual
-  -- The flags in `ignore(..)`, whose name is given, behind what was said before; they are read up to a fault. `found` says that a flag was.
-  pub flags_told : Slice → (found ignore_case : Bool) → TokenList → Told Bool
-  flags_told name found ignore_case none = telling ignore_case (if found then [] else only (ignore_empty name))
-  flags_told name found ignore_case (also (identifier text span) rest) =
-      if bytes_eq text (codes "case") then behind_flag name rest
-      else telling ignore_case (only (other_flag (record { text = text; span = span })))
-  flags_told name found ignore_case (also token rest) = telling ignore_case (only (ignore_empty name))
+  -- The report of the flags in `ignore(..)`, up to the first fault. `name` is the word `ignore`, and `ignore_case` is what was set before; `found`
+  -- says whether a flag was read.
+  pub flags_report : Slice → (found ignore_case : Bool) → TokenList → Report Bool
+  flags_report name found ignore_case none = with_faults ignore_case (if found then [] else only (ignore_empty name))
+  flags_report name found ignore_case (also (identifier text span) rest) =
+      if bytes_eq text (codes "case") then after_flag name rest
+      else with_faults ignore_case (only (other_flag (record { text = text; span = span })))
+  flags_report name found ignore_case (also token rest) = with_faults ignore_case (only (ignore_empty name))
 
-  -- behind `case`: a lone comma, or nothing
-  pub behind_flag : Slice → TokenList → Told Bool
-  behind_flag name none = quiet true
-  behind_flag name (also token rest) = if is_alone comma token then flags_told name true true rest else telling true (only (ignore_token token))
+  -- the report after `case`: a lone comma, or nothing
+  pub after_flag : Slice → TokenList → Report Bool
+  after_flag name none = without_faults true
+  after_flag name (also token rest) = if is_alone comma token then flags_report name true true rest else with_faults true (only (ignore_token token))

@@ -6,6 +6,6 @@ pub mod Literals
 pub mod Nested
 pub mod Pieces
 pub mod Slices
-pub mod Told
+pub mod Reports
 pub mod Values
 pub mod inside

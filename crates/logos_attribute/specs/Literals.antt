@@ -1,18 +1,18 @@
--- The strings and byte strings in an attribute's argument.
+-- Strings and byte strings in an attribute's argument.
 use Rattle.std.specs.Prelude.{codes, Option, Some, None}
 use Rattle.logos_token.specs.Faults.{Fault}
 use Rattle.logos_token.specs.declared.error.fault_code.FaultCode.TheVariants.{LiteralSyntax, NotText}
 use Rattle.logos_token.specs.Tokens.{TokenList, literal, none, also, run_span}
 use Rattle.logos_token.specs.Held.{Held, held}
 use Rattle.logos_attribute.specs.Slices.{Slice}
-use Rattle.logos_attribute.specs.Told.{Told, telling, quiet, fault, only}
+use Rattle.logos_attribute.specs.Reports.{Report, with_faults, without_faults, fault, only}
 
--- a string or byte string, and what it holds
+-- the value of a string or byte string
 pub record LiteralView : Type 0 where
   pub token : Slice
   pub held : Held
 
--- a literal with a name, as a subpattern is written
+-- a literal with a name, as in the definition of a subpattern
 pub record NamedLiteral : Type 0 where
   pub name : Slice
   pub literal : LiteralView
@@ -23,7 +23,7 @@ literal_syntax run = fault LiteralSyntax (codes "expected a literal") (run_span 
 abbrev pub not_text : Slice → Fault
 not_text token = fault NotText (codes "Expected a &str or &[u8] slice") token.span
 
--- a literal token that holds this
+-- a literal token with this value
 abbrev pub text_by : Slice → Option Held → Option LiteralView
 text_by token (Some held) = Some (record { token = token; held = held })
 text_by token None = None
@@ -32,19 +32,19 @@ text_by token None = None
 abbrev pub text_in : Slice → Option LiteralView
 text_in token = text_by token (held token.text)
 
-abbrev pub text_or_fault : Slice → Option LiteralView → Told (Option LiteralView)
-text_or_fault token (Some view) = quiet (Some view)
-text_or_fault token None = telling None (only (not_text token))
+abbrev pub text_or_fault : Slice → Option LiteralView → Report (Option LiteralView)
+text_or_fault token (Some view) = without_faults (Some view)
+text_or_fault token None = with_faults None (only (not_text token))
 
--- a literal token, which is to be a string or byte string
-abbrev pub text_told : Slice → Told (Option LiteralView)
-text_told token = text_or_fault token (text_in token)
+-- the report of a literal token that must be a string or byte string
+abbrev pub text_report : Slice → Report (Option LiteralView)
+text_report token = text_or_fault token (text_in token)
 
--- the first piece of a definition; without a token there is none, and no fault here
-abbrev pub literal_told : TokenList → Told (Option LiteralView)
-literal_told none = quiet None
-literal_told (also (literal text span) none) = text_told (record { text = text; span = span })
-literal_told run = telling None (only (literal_syntax run))
+-- the report of the first piece of a definition; a piece without tokens has no fault here
+abbrev pub literal_report : TokenList → Report (Option LiteralView)
+literal_report none = without_faults None
+literal_report (also (literal text span) none) = text_report (record { text = text; span = span })
+literal_report run = with_faults None (only (literal_syntax run))
 
 -- the string or byte string that a run is
 abbrev pub string_in : TokenList → Option LiteralView

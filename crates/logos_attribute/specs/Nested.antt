@@ -1,4 +1,4 @@
--- What the views of an attribute's pieces show.
+-- The pieces that the views of an attribute's argument stand for.
 use Rattle.std.specs.Prelude.{◌≡◌, List, ◌∷◌, Option, MatchOption, if◌then◌else◌}
 use Rattle.std.specs.Iterator.{YieldsFirstBy}
 use Rattle.logos_token.specs.Tokens.{TokenList, also}
@@ -11,7 +11,7 @@ use Rattle.logos_attribute.specs.declared.nested.Nested.{Nested}
 use Rattle.logos_attribute.specs.declared.nested.Nested.TheVariants.{Unnamed, Named, Unexpected}
 use Rattle.logos_attribute.specs.declared.nested.AttributeParser.{AttributeParser}
 use Rattle.logos_attribute.specs.Slices.{ident_slice, literal_slice}
-use Rattle.logos_attribute.specs.Pieces.{PieceValue, assigned, beside, grouped, keyed, Piece, unnamed, named, unexpected, pieces, behind_group, rest_after_piece, rest_after_group}
+use Rattle.logos_attribute.specs.Pieces.{PieceValue, assigned, beside, grouped, keyed, Piece, unnamed, named, unexpected, pieces, after_group, rest_after_piece, rest_after_group}
 
 abbrev pub value_of : NestedValue → PieceValue
 value_of (Assign run) = assigned (tokens_of run)
@@ -26,17 +26,17 @@ piece_of (Unexpected run) = unexpected (tokens_of run)
 
 -- the pieces that are still to come
 abbrev pub pieces_left : AttributeParser → List Piece
-pieces_left parser = if parser.behind_group then behind_group (tokens_of parser.rest) else pieces (tokens_of parser.rest)
+pieces_left parser = if parser.after_group then after_group (tokens_of parser.rest) else pieces (tokens_of parser.rest)
 
 -- the tokens that are left after the next piece
 abbrev pub rest_after : AttributeParser → TokenList
-rest_after parser = if parser.behind_group then rest_after_group (tokens_of parser.rest) else rest_after_piece (tokens_of parser.rest)
+rest_after parser = if parser.after_group then rest_after_group (tokens_of parser.rest) else rest_after_piece (tokens_of parser.rest)
 
--- the parser gives the first of the pieces that it has still to give, and takes the comma that ends it; or there is none, and nothing changes
+-- The parser gives the next of its pieces and takes the comma that ends it; or it has none, and nothing changes.
 abbrev pub GivesNext : AttributeParser → Option Nested → AttributeParser → Type 0
 GivesNext old given new = YieldsFirstBy piece_of pieces_left old given new × MatchOption given (new ≡ old) (λ _. tokens_of new.rest ≡ rest_after old)
 
--- the pieces are this one and those that the parser has still to give, and these are the tokens that it has left
+-- the pieces are this one and those that are still to come, and these tokens are left
 abbrev pub Cuts : List Piece → TokenList → Nested → AttributeParser → Type 0
 Cuts pieces rest piece parser = (pieces ≡ piece_of piece ∷ pieces_left parser) × (tokens_of parser.rest ≡ rest)
 

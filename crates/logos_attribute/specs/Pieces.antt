@@ -35,9 +35,9 @@ up_to_comma none = none
 up_to_comma (also token rest) = if is_alone comma token then none else also token (up_to_comma rest)
 
 -- the tokens after the first lone comma
-abbrev pub behind_comma : TokenList → TokenList
-behind_comma none = none
-behind_comma (also token rest) = if is_alone comma token then rest else behind_comma rest
+abbrev pub after_comma : TokenList → TokenList
+after_comma none = none
+after_comma (also token rest) = if is_alone comma token then rest else after_comma rest
 
 abbrev pub name_token : Slice → Token
 name_token name = identifier name.text name.span
@@ -46,31 +46,31 @@ abbrev mutual
   -- All pieces, where one begins. Its first token belongs to it, even a comma.
   pub pieces : TokenList → List Piece
   pieces none = []
-  pieces (also (identifier text span) rest) = behind_name (record { text = text; span = span }) rest
+  pieces (also (identifier text span) rest) = after_name (record { text = text; span = span }) rest
   pieces (also token rest) = through_comma (λ run. unnamed (also token run)) rest
 
   -- After a name. Tokens between a literal and the comma are left out.
-  pub behind_name : Slice → TokenList → List Piece
-  behind_name name none = unnamed (also (name_token name) none) ∷ []
-  behind_name name (also (literal text span) rest) = through_comma (λ run. named name (beside (record { text = text; span = span }))) rest
-  behind_name name (also (group delimiter span inside) rest) = named name (grouped inside) ∷ behind_group rest
-  behind_name name (also (identifier text span) rest) = behind_keyword name (record { text = text; span = span }) rest
-  behind_name name (also token rest) =
+  pub after_name : Slice → TokenList → List Piece
+  after_name name none = unnamed (also (name_token name) none) ∷ []
+  after_name name (also (literal text span) rest) = through_comma (λ run. named name (beside (record { text = text; span = span }))) rest
+  after_name name (also (group delimiter span inside) rest) = named name (grouped inside) ∷ after_group rest
+  after_name name (also (identifier text span) rest) = after_keyword name (record { text = text; span = span }) rest
+  after_name name (also token rest) =
       if is_alone equals token then through_comma (λ run. named name (assigned run)) rest
       else (if is_alone comma token then unnamed (also (name_token name) none) ∷ pieces rest
       else through_comma (λ run. unnamed (also (name_token name) (also token run))) rest)
 
   -- after a name and a group: tokens other than a comma are a piece of their own
-  pub behind_group : TokenList → List Piece
-  behind_group none = []
-  behind_group (also token rest) =
+  pub after_group : TokenList → List Piece
+  after_group none = []
+  after_group (also token rest) =
       if is_alone comma token then pieces rest
       else through_comma (λ run. unexpected (also token run)) rest
 
   -- after two names: `=`; a comma in its place, or nothing, counts as one
-  pub behind_keyword : Slice → Slice → TokenList → List Piece
-  behind_keyword keyword name none = named keyword (keyed name none) ∷ []
-  behind_keyword keyword name (also token rest) =
+  pub after_keyword : Slice → Slice → TokenList → List Piece
+  after_keyword keyword name none = named keyword (keyed name none) ∷ []
+  after_keyword keyword name (also token rest) =
       if is_alone equals token then through_comma (λ run. named keyword (keyed name run)) rest
       else (if is_alone comma token then through_comma (λ run. named keyword (keyed name run)) rest
       else through_comma (λ run. unexpected (also token run)) rest)
@@ -82,26 +82,26 @@ abbrev mutual
       if is_alone comma token then piece none ∷ pieces rest
       else through_comma (λ run. piece (also token run)) rest
 
--- the tokens without the lone comma that stands first, if one does
+-- the tokens without a lone comma that comes first
 abbrev pub without_comma : TokenList → TokenList
 without_comma none = none
 without_comma (also token rest) = if is_alone comma token then rest else also token rest
 
--- What is left after a piece that begins with a name: the tokens after the comma that ends the piece. After a group that is the lone comma that
--- follows directly, if one does; the comma that stands in place of `=` after two names does not end the piece. `rest` follows the name.
+-- The tokens that are left after a piece that begins with a name: those after the comma that ends the piece. After a group that is the lone comma
+-- that follows directly, if one does. A comma in the place of `=` after two names does not end the piece. `rest` follows the name.
 abbrev pub rest_after_name : TokenList → TokenList
 rest_after_name none = none
 rest_after_name (also (group delimiter span inside) rest) = without_comma rest
-rest_after_name (also (identifier text span) rest) = behind_comma (rest_of rest)
-rest_after_name (also token rest) = behind_comma (also token rest)
+rest_after_name (also (identifier text span) rest) = after_comma (rest_of rest)
+rest_after_name (also token rest) = after_comma (also token rest)
 
--- What is left after the first piece: the tokens after the comma that ends it. A comma that is its first token does not end it.
+-- The tokens that are left after the first piece: those after the comma that ends it. A comma that is its first token does not end it.
 abbrev pub rest_after_piece : TokenList → TokenList
 rest_after_piece none = none
 rest_after_piece (also (identifier text span) rest) = rest_after_name rest
-rest_after_piece (also token rest) = behind_comma rest
+rest_after_piece (also token rest) = after_comma rest
 
--- the same where the first piece follows a name and a group
+-- the same if the first piece follows a name and a group
 abbrev pub rest_after_group : TokenList → TokenList
 rest_after_group none = none
-rest_after_group (also token rest) = if is_alone comma token then rest_after_piece rest else behind_comma rest
+rest_after_group (also token rest) = if is_alone comma token then rest_after_piece rest else after_comma rest

@@ -1,15 +1,15 @@
-//! Callbacks, as arguments of attributes say them.
+//! Reads callbacks in the arguments of attributes.
 ghost use Rattle.std.specs.Prelude.{◌≡◌, ◌++◌, ◌∷◌, [], IfOk, OnOk, OnErr, option_map};
 ghost use Rattle.logos_token.specs.Tokens.{run_span};
 ghost use Rattle.logos_token.specs.Views.{tokens_of};
 ghost use Rattle.logos_attribute.specs.Slices.{ident_slice};
-ghost use Rattle.logos_attribute.specs.Told.{Tells, Lists};
+ghost use Rattle.logos_attribute.specs.Reports.{IsReport, AddsFault};
 ghost use Rattle.logos_attribute.specs.Callbacks.{body_in, bar_in, parameter_in, callback_in};
-ghost use Rattle.logos_attribute.specs.Callbacks.{callback_told, callback_set, twice_at, view_span};
+ghost use Rattle.logos_attribute.specs.Callbacks.{callback_report, callback_set, twice_at, view_span};
 ghost use Rattle.logos_attribute.specs.Callbacks.{callback_closure, callback_body};
 ghost use Rattle.logos_attribute.specs.Callbacks.{callback_no_value};
 ghost use Rattle.logos_attribute.specs.CallbackViews.{callback_view};
-ghost use Rattle.logos_attribute.specs.inside.CallbackRuns.{run_view, misfit_fault, read_view};
+ghost use Rattle.logos_attribute.specs.inside.CallbackRuns.{run_view, callback_fault, read_view};
 
 use crate::nested::split;
 use logos_pattern::leaf::{Callback, InlineCallback};
@@ -18,75 +18,75 @@ use logos_token::token::{Ident, Span, TokenTree, Tokens};
 use logos_token::util::is_punct;
 use std::alloc::Global;
 
-/// A callback as runs of tokens, which are not copied yet.
+/// A callback as views of tokens.
 #[derive(Clone, Copy)]
 enum CallbackRun<'t, 's> {
-    /// Tokens that name a function.
+    /// The tokens that name a function.
     Label(Tokens<'t, 's>),
-    /// A parameter and a body.
+    /// The parameter and the body of a closure.
     Inline(Ident<'s>, Tokens<'t, 's>),
 }
 
-/// Why tokens are no callback.
+/// The reasons why a run is not a callback.
 #[derive(Clone, Copy)]
-enum CallbackMisfit {
+enum CallbackFault {
     Closure,
     Body,
 }
 
-/// The body of a closure.
+/// Returns the closure with this parameter whose body comes next.
 fn body_in<'t, 's>(
     arg: Ident<'s>,
     tokens: Tokens<'t, 's>,
-) -> Result<CallbackRun<'t, 's>, CallbackMisfit>
+) -> Result<CallbackRun<'t, 's>, CallbackFault>
     ensures { (span : Span) →
         read_view span result ≡ body_in span (ident_slice arg.entry) (tokens_of tokens.entry) }
 {
     match tokens.first() {
-        None => Err(CallbackMisfit::Body),
+        None => Err(CallbackFault::Body),
         Some(TokenTree::Group(group)) => Ok(CallbackRun::Inline(arg, group.run())),
         Some(_) => Ok(CallbackRun::Inline(arg, tokens)),
     }
 }
 
-/// What stands behind the parameter of a closure.
+/// Returns the closure with this parameter, after which `|` and the body come next.
 fn bar_in<'t, 's>(
     arg: Ident<'s>,
     tokens: Tokens<'t, 's>,
-) -> Result<CallbackRun<'t, 's>, CallbackMisfit>
+) -> Result<CallbackRun<'t, 's>, CallbackFault>
     ensures { (span : Span) →
         read_view span result ≡ bar_in span (ident_slice arg.entry) (tokens_of tokens.entry) }
 {
     match split(tokens) {
-        None => Err(CallbackMisfit::Body),
+        None => Err(CallbackFault::Body),
         Some((tree, rest)) if is_punct(&tree, '|') => body_in(arg, rest),
-        Some(_) => Err(CallbackMisfit::Closure),
+        Some(_) => Err(CallbackFault::Closure),
     }
 }
 
-/// What stands behind the first bar of a closure.
-fn parameter_in<'t, 's>(tokens: Tokens<'t, 's>) -> Result<CallbackRun<'t, 's>, CallbackMisfit>
+/// Returns the closure whose parameter comes next.
+fn parameter_in<'t, 's>(tokens: Tokens<'t, 's>) -> Result<CallbackRun<'t, 's>, CallbackFault>
     ensures { (span : Span) → read_view span result ≡ parameter_in span (tokens_of tokens.entry) }
 {
     match split(tokens) {
         Some((TokenTree::Ident(arg), rest)) => bar_in(arg, rest),
-        _ => Err(CallbackMisfit::Closure),
+        _ => Err(CallbackFault::Closure),
     }
 }
 
-/// The callback that a run is.
-fn callback_in<'t, 's>(tokens: Tokens<'t, 's>) -> Result<CallbackRun<'t, 's>, CallbackMisfit>
+/// Returns the callback that a run is.
+fn callback_in<'t, 's>(tokens: Tokens<'t, 's>) -> Result<CallbackRun<'t, 's>, CallbackFault>
     ensures { read_view (run_span (tokens_of tokens.entry)) result
         ≡ callback_in (tokens_of tokens.entry) }
 {
     match split(tokens) {
-        None => Err(CallbackMisfit::Closure),
+        None => Err(CallbackFault::Closure),
         Some((tree, rest)) if is_punct(&tree, '|') => parameter_in(rest),
         Some(_) => Ok(CallbackRun::Label(tokens)),
     }
 }
 
-/// The callback with tokens of its own.
+/// Copies the tokens of a callback.
 fn copied<'s>(alloc: Global, run: CallbackRun<'_, 's>, span: Span) -> Result<Callback<'s>, Memory>
     ensures { IfOk result (λ callback. callback_view callback ≡ run_view span run.entry) }
 {
@@ -99,10 +99,10 @@ fn copied<'s>(alloc: Global, run: CallbackRun<'_, 's>, span: Span) -> Result<Cal
     }
 }
 
-/// Lists that tokens are no closure.
-fn list_closure(errors: &mut Errors, span: Span) -> Result<(), Memory>
-    ensures ok { OnOk result (Lists (callback_closure span) errors.old errors.new) }
-    ensures unlisted { OnErr result (errors.new ≡ errors.old) }
+/// Reports that a run is not a closure.
+fn report_closure(errors: &mut Errors, span: Span) -> Result<(), Memory>
+    ensures ok { OnOk result (AddsFault (callback_closure span) errors.old errors.new) }
+    ensures unreported { OnErr result (errors.new ≡ errors.old) }
 {
     errors.err(
         FaultCode::CallbackClosure,
@@ -112,52 +112,55 @@ fn list_closure(errors: &mut Errors, span: Span) -> Result<(), Memory>
     Ok(())
 }
 
-/// Lists that a closure has no body.
-fn list_body(errors: &mut Errors, span: Span) -> Result<(), Memory>
-    ensures ok { OnOk result (Lists (callback_body span) errors.old errors.new) }
-    ensures unlisted { OnErr result (errors.new ≡ errors.old) }
+/// Reports that a closure has no body.
+fn report_body(errors: &mut Errors, span: Span) -> Result<(), Memory>
+    ensures ok { OnOk result (AddsFault (callback_body span) errors.old errors.new) }
+    ensures unreported { OnErr result (errors.new ≡ errors.old) }
 {
     errors.err(FaultCode::CallbackBody, "Callback missing a body", span)?;
     Ok(())
 }
 
-/// Lists why tokens are no callback.
-fn list_misfit(errors: &mut Errors, misfit: CallbackMisfit, span: Span) -> Result<(), Memory>
-    ensures ok { OnOk result (Lists (misfit_fault span misfit) errors.old errors.new) }
-    ensures unlisted { OnErr result (errors.new ≡ errors.old) }
+/// Reports why a run is not a callback.
+fn report_callback(errors: &mut Errors, cause: CallbackFault, span: Span) -> Result<(), Memory>
+    ensures ok { OnOk result (AddsFault (callback_fault span cause) errors.old errors.new) }
+    ensures unreported { OnErr result (errors.new ≡ errors.old) }
 {
-    match misfit {
-        CallbackMisfit::Closure => list_closure(errors, span)?,
-        CallbackMisfit::Body => list_body(errors, span)?,
+    match cause {
+        CallbackFault::Closure => report_closure(errors, span)?,
+        CallbackFault::Body => report_body(errors, span)?,
     }
     Ok(())
 }
 
-/// The callback that a run without a name is; `None` where it is none, which was listed. After
-/// `Memory` the faults are as before.
+/// Reads a callback that has no name before it. Reports a run that is not a callback, and returns
+/// `None` for it.
+///
+/// # Errors
+///
+/// `Memory` if there is not enough memory. The faults are then unchanged.
 pub fn read_callback<'s>(
-    alloc: Global,
     tokens: Tokens<'_, 's>,
     errors: &mut Errors,
 ) -> Result<Option<Callback<'s>>, Memory>
     ensures ok { IfOk result (λ callback.
-        Tells (callback_told (tokens_of tokens.entry))
+        IsReport (callback_report (tokens_of tokens.entry))
         (option_map callback_view callback) errors.old errors.new) }
-    ensures unlisted { OnErr result (errors.new ≡ errors.old) }
+    ensures unreported { OnErr result (errors.new ≡ errors.old) }
 {
     let span = tokens.span();
     match callback_in(tokens) {
-        Ok(run) => Ok(Some(copied(alloc, run, span)?)),
-        Err(misfit) => {
-            list_misfit(errors, misfit, span)?;
+        Ok(run) => Ok(Some(copied(errors.alloc(), run, span)?)),
+        Err(cause) => {
+            report_callback(errors, cause, span)?;
             Ok(None)
         }
     }
 }
 
-/// Lists that a callback was set before, and where. After an error the faults are as before.
-fn list_again(
-    alloc: Global,
+/// Reports a second callback, and the place of the first one. After an error the faults are
+/// unchanged.
+fn report_again(
     errors: &mut Errors,
     name: Ident<'_>,
     span: Span,
@@ -166,9 +169,9 @@ fn list_again(
     ensures ok { OnOk result (errors.new
         ≡ errors.old
         ++ twice_at (ident_slice name.entry) span (view_span (callback_view former.now))) }
-    ensures unlisted { OnErr result (errors.new ≡ errors.old) }
+    ensures unreported { OnErr result (errors.new ≡ errors.old) }
 {
-    let mut found = Errors::new(alloc);
+    let mut found = Errors::new(errors.alloc());
     found.err_also(
         FaultCode::CallbackTwice,
         "Callback has been already set",
@@ -183,51 +186,48 @@ fn list_again(
     errors.append(found)
 }
 
-/// Lists why the tokens that are assigned to a name are no callback. After an error the faults are
-/// as before.
-fn list_no_callback(
-    alloc: Global,
-    errors: &mut Errors,
-    misfit: CallbackMisfit,
-    span: Span,
-) -> Result<(), Memory>
+/// Reports why the value of `callback = ..` is not a callback. After an error the faults are
+/// unchanged.
+fn report_no_callback(errors: &mut Errors, cause: CallbackFault, span: Span) -> Result<(), Memory>
     ensures ok { OnOk result (errors.new
-        ≡ errors.old ++ misfit_fault span misfit ∷ callback_no_value span ∷ []) }
-    ensures unlisted { OnErr result (errors.new ≡ errors.old) }
+        ≡ errors.old ++ callback_fault span cause ∷ callback_no_value span ∷ []) }
+    ensures unreported { OnErr result (errors.new ≡ errors.old) }
 {
-    let mut found = Errors::new(alloc);
-    list_misfit(&mut found, misfit, span)?;
+    let mut found = Errors::new(errors.alloc());
+    report_callback(&mut found, cause, span)?;
     found.err(FaultCode::CallbackValue, "Not a valid callback", span)?;
     errors.append(found)
 }
 
-/// Sets the callback that is assigned to a name, in place of the former one, which is listed. A run
-/// that is no callback is listed and sets nothing. After `Memory` the callback and the faults are
-/// as before.
+/// Sets the callback of `callback = ..`, in place of a former one, which is reported. Reports a run
+/// that is not a callback, and sets nothing then.
+///
+/// # Errors
+///
+/// `Memory` if there is not enough memory. The callback and the faults are then unchanged.
 pub fn set_callback<'s>(
-    alloc: Global,
     callback: &mut Option<Callback<'s>>,
     name: Ident<'s>,
     tokens: Tokens<'_, 's>,
     errors: &mut Errors,
 ) -> Result<(), Memory>
-    ensures ok { OnOk result (Tells
+    ensures ok { OnOk result (IsReport
         (callback_set (ident_slice name.entry) (tokens_of tokens.entry)
         (option_map callback_view callback.old))
         (option_map callback_view callback.new) errors.old errors.new) }
-    ensures kept { OnErr result (callback.new ≡ callback.old) }
-    ensures unlisted { OnErr result (errors.new ≡ errors.old) }
+    ensures unchanged { OnErr result (callback.new ≡ callback.old) }
+    ensures unreported { OnErr result (errors.new ≡ errors.old) }
 {
     let span = tokens.span();
     match callback_in(tokens) {
         Ok(run) => {
-            let next = copied(alloc, run, span)?;
+            let next = copied(errors.alloc(), run, span)?;
             if let Some(former) = &*callback {
-                list_again(alloc, errors, name, span, former)?;
+                report_again(errors, name, span, former)?;
             }
             *callback = Some(next);
             Ok(())
         }
-        Err(misfit) => list_no_callback(alloc, errors, misfit, span),
+        Err(cause) => report_no_callback(errors, cause, span),
     }
 }

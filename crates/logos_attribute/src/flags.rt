@@ -1,23 +1,23 @@
-//! The flags in `ignore(..)`.
+//! Reads the flags in `ignore(..)`.
 ghost use Rattle.std.specs.Prelude.{◌≡◌, OnOk, OnErr, IfOk, false, string_bytes};
 ghost use Rattle.logos_token.specs.Tokens.{also, none};
 ghost use Rattle.logos_token.specs.Views.{tokens_of, tree_of};
 ghost use Rattle.logos_token.specs.Printing.{printed};
 ghost use Rattle.logos_attribute.specs.Slices.{Slice, ident_slice};
-ghost use Rattle.logos_attribute.specs.Told.{Tells, Lists};
+ghost use Rattle.logos_attribute.specs.Reports.{IsReport, AddsFault};
 ghost use Rattle.logos_attribute.specs.Nested.{IsSplit};
-ghost use Rattle.logos_attribute.specs.Flags.{flags_told, ignore_ascii, other_flag};
+ghost use Rattle.logos_attribute.specs.Flags.{flags_report, ignore_ascii, other_flag};
 ghost use Rattle.logos_attribute.specs.Flags.{ignore_empty, ignore_token};
 ghost use Rattle.logos_attribute.specs.inside.FlagSteps.{GoesOn, HasCase};
 
-use crate::listing::{list_form, list_named};
 use crate::nested::split;
+use crate::reporting::{report_form, report_named};
 use logos_token::error::{Errors, FaultCode, Memory};
 use logos_token::token::{Ident, TokenTree, Tokens, print};
 use logos_token::util::{is_punct, push_escaped};
 use std::alloc::Global;
 
-/// The printed text of the first tree of a run.
+/// Returns the printed text of the first tree of a run.
 fn first_printed(
     alloc: Global,
     tokens: Tokens<'_, '_>,
@@ -31,17 +31,17 @@ fn first_printed(
     Ok(text)
 }
 
-/// Lists a token where a comma should stand, the first of a run.
-fn list_no_comma(
-    alloc: Global,
+/// Reports the first token of a run, which stands where a comma should.
+fn report_no_comma(
     tokens: Tokens<'_, '_>,
     tree: TokenTree<'_, '_>,
     rest: Tokens<'_, '_>,
     errors: &mut Errors,
 ) -> Result<(), Memory>
     requires { IsSplit tokens tree rest }
-    ensures { OnOk result (Lists (ignore_token (tree_of tree.entry)) errors.old errors.new) }
+    ensures { OnOk result (AddsFault (ignore_token (tree_of tree.entry)) errors.old errors.new) }
 {
+    let alloc = errors.alloc();
     let text = first_printed(alloc, tokens, tree, rest)?;
     let mut message = String::from_str(alloc, "Unexpected token: \"")?;
     push_escaped(&mut message, text.as_str())?;
@@ -50,11 +50,12 @@ fn list_no_comma(
     Ok(())
 }
 
-/// Lists the flag `ascii_case`.
-fn list_ascii(flag: Ident<'_>, errors: &mut Errors) -> Result<(), Memory>
-    ensures { OnOk result (Lists (ignore_ascii (ident_slice flag.entry)) errors.old errors.new) }
+/// Reports the flag `ascii_case`.
+fn report_ascii(flag: Ident<'_>, errors: &mut Errors) -> Result<(), Memory>
+    ensures { OnOk result
+        (AddsFault (ignore_ascii (ident_slice flag.entry)) errors.old errors.new) }
 {
-    list_form(
+    report_form(
         errors,
         FaultCode::IgnoreAscii,
         "The flag \"ascii_case\" is no longer supported",
@@ -62,15 +63,14 @@ fn list_ascii(flag: Ident<'_>, errors: &mut Errors) -> Result<(), Memory>
     )
 }
 
-/// Lists a flag other than `case`.
-fn list_other(alloc: Global, flag: Ident<'_>, errors: &mut Errors) -> Result<(), Memory>
-    ensures { OnOk result (Lists (other_flag (ident_slice flag.entry)) errors.old errors.new) }
+/// Reports a flag other than `case`.
+fn report_other(flag: Ident<'_>, errors: &mut Errors) -> Result<(), Memory>
+    ensures { OnOk result (AddsFault (other_flag (ident_slice flag.entry)) errors.old errors.new) }
 {
     if flag.text == "ascii_case" {
-        return list_ascii(flag, errors);
+        return report_ascii(flag, errors);
     }
-    list_named(
-        alloc,
+    report_named(
         errors,
         FaultCode::IgnoreUnknown,
         "Unknown flag: ",
@@ -79,11 +79,12 @@ fn list_other(alloc: Global, flag: Ident<'_>, errors: &mut Errors) -> Result<(),
     )
 }
 
-/// Lists that there is no flag.
-fn list_none(name: Ident<'_>, errors: &mut Errors) -> Result<(), Memory>
-    ensures { OnOk result (Lists (ignore_empty (ident_slice name.entry)) errors.old errors.new) }
+/// Reports that there is no flag.
+fn report_none(name: Ident<'_>, errors: &mut Errors) -> Result<(), Memory>
+    ensures { OnOk result
+        (AddsFault (ignore_empty (ident_slice name.entry)) errors.old errors.new) }
 {
-    list_form(
+    report_form(
         errors,
         FaultCode::IgnoreEmpty,
         "Invalid ignore flag\n\nExpected one of: case",
@@ -91,10 +92,9 @@ fn list_none(name: Ident<'_>, errors: &mut Errors) -> Result<(), Memory>
     )
 }
 
-/// What stands behind the comma behind `case`; `None` where no comma is there, and a fault was
-/// listed where another token is.
-fn behind_flag<'t, 's>(
-    alloc: Global,
+/// Returns the tokens after the comma that follows `case`. `None` if no comma is there; reports a
+/// token that is there in its place.
+fn after_flag<'t, 's>(
     tokens: Tokens<'t, 's>,
     errors: &mut Errors,
 ) -> Result<Option<Tokens<'t, 's>>, Memory>
@@ -107,13 +107,13 @@ fn behind_flag<'t, 's>(
     if is_punct(&tree, ',') {
         return Ok(Some(rest));
     }
-    list_no_comma(alloc, tokens, tree, rest, errors)?;
+    report_no_comma(tokens, tree, rest, errors)?;
     Ok(None)
 }
 
-/// What stands behind `case`, where that comes first; else the reading ends, perhaps with a fault.
+/// Returns the tokens after `case` if that comes first. `None` if it does not, and the reading of
+/// flags ends; reports what is wrong if anything is.
 fn read_case<'t, 's>(
-    alloc: Global,
     name: Ident<'s>,
     found: bool,
     tokens: Tokens<'t, 's>,
@@ -126,7 +126,7 @@ fn read_case<'t, 's>(
     match split(tokens) {
         None => {
             if !found {
-                list_none(name, errors)?;
+                report_none(name, errors)?;
             }
             Ok(None)
         }
@@ -134,33 +134,32 @@ fn read_case<'t, 's>(
             if flag.text == "case" {
                 return Ok(Some(rest));
             }
-            list_other(alloc, flag, errors)?;
+            report_other(flag, errors)?;
             Ok(None)
         }
         Some(_) => {
-            list_none(name, errors)?;
+            report_none(name, errors)?;
             Ok(None)
         }
     }
 }
 
-/// Sets what flags say, and lists the first fault among them. After an error some may be set.
+/// Sets what the flags say, and reports the first fault among them. After an error some can be set.
 fn set_flags<'s>(
-    alloc: Global,
     ignore_case: &mut bool,
     name: Ident<'s>,
     tokens: Tokens<'_, 's>,
     errors: &mut Errors,
 ) -> Result<(), Memory>
-    ensures { OnOk result (Tells
-        (flags_told (ident_slice name.entry) false ignore_case.old (tokens_of tokens.entry))
+    ensures { OnOk result (IsReport
+        (flags_report (ident_slice name.entry) false ignore_case.old (tokens_of tokens.entry))
         ignore_case.new errors.old errors.new) }
 {
     let mut found = false;
     let mut rest = tokens;
-    while let Some(behind) = read_case(alloc, name, found, rest, errors)? {
+    while let Some(after) = read_case(name, found, rest, errors)? {
         *ignore_case = true;
-        let Some(next) = behind_flag(alloc, behind, errors)? else {
+        let Some(next) = after_flag(after, errors)? else {
             return Ok(());
         };
         found = true;
@@ -169,25 +168,27 @@ fn set_flags<'s>(
     Ok(())
 }
 
-/// Sets what the flags in the group behind `ignore` say, whose name is given, and lists the first
-/// fault among them; the flags in front of it stay set. After `Memory` the flag and the faults are
-/// as before.
+/// Sets what the flags in the group after `ignore` say, and reports the first fault among them.
+/// `name` is the word `ignore`. The flags before a fault stay set.
+///
+/// # Errors
+///
+/// `Memory` if there is not enough memory. The flag and the faults are then unchanged.
 pub fn read_flags<'s>(
-    alloc: Global,
     ignore_case: &mut bool,
     name: Ident<'s>,
     tokens: Tokens<'_, 's>,
     errors: &mut Errors,
 ) -> Result<(), Memory>
-    ensures ok { OnOk result (Tells
-        (flags_told (ident_slice name.entry) false ignore_case.old (tokens_of tokens.entry))
+    ensures ok { OnOk result (IsReport
+        (flags_report (ident_slice name.entry) false ignore_case.old (tokens_of tokens.entry))
         ignore_case.new errors.old errors.new) }
-    ensures kept { OnErr result (ignore_case.new ≡ ignore_case.old) }
-    ensures unlisted { OnErr result (errors.new ≡ errors.old) }
+    ensures unchanged { OnErr result (ignore_case.new ≡ ignore_case.old) }
+    ensures unreported { OnErr result (errors.new ≡ errors.old) }
 {
     let mut set = *ignore_case;
-    let mut found = Errors::new(alloc);
-    set_flags(alloc, &mut set, name, tokens, &mut found)?;
+    let mut found = Errors::new(errors.alloc());
+    set_flags(&mut set, name, tokens, &mut found)?;
     errors.append(found)?;
     *ignore_case = set;
     Ok(())

@@ -1,11 +1,12 @@
-//! Attributes of an enum and its variants: the pieces of their arguments, and the values in them.
+//! Reads the arguments of attributes on an enum and its variants: their pieces, and the values in
+//! these.
 
 #![tactic(auto)]
 
 pub mod callback;
 pub mod flags;
-pub mod listing;
 pub mod literal;
 pub mod nested;
 pub mod parsed;
+pub mod reporting;
 pub mod value;

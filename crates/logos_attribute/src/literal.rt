@@ -1,25 +1,25 @@
-//! The strings and byte strings in an attribute's argument.
+//! Reads strings and byte strings in an attribute's argument.
 ghost use Rattle.std.specs.Prelude.{◌≡◌, OnOk, OnErr, IfOk, option_map};
 ghost use Rattle.logos_token.specs.Views.{tokens_of};
 ghost use Rattle.logos_attribute.specs.Slices.{literal_slice};
-ghost use Rattle.logos_attribute.specs.Told.{Tells, Lists};
-ghost use Rattle.logos_attribute.specs.Literals.{literal_syntax, not_text, text_in, text_told};
-ghost use Rattle.logos_attribute.specs.Literals.{literal_told, string_in};
+ghost use Rattle.logos_attribute.specs.Reports.{IsReport, AddsFault};
+ghost use Rattle.logos_attribute.specs.Literals.{literal_syntax, not_text, text_in, text_report};
+ghost use Rattle.logos_attribute.specs.Literals.{literal_report, string_in};
 ghost use Rattle.logos_attribute.specs.LiteralViews.{literal_view};
 
-use crate::listing::list_run;
 use crate::nested::split;
+use crate::reporting::report_run;
 use logos_pattern::pattern::Literal;
 use logos_token::error::{Errors, FaultCode, Memory};
 use logos_token::token;
 use logos_token::token::{TokenTree, Tokens};
 use std::alloc::Global;
 
-/// Lists a literal that is neither a string nor a byte string.
-fn list_not_text(token: token::Literal<'_>, errors: &mut Errors) -> Result<(), Memory>
+/// Reports a literal that is neither a string nor a byte string.
+fn report_not_text(token: token::Literal<'_>, errors: &mut Errors) -> Result<(), Memory>
     ensures ok { OnOk result
-        (Lists (not_text (literal_slice token.entry)) errors.old errors.new) }
-    ensures unlisted { OnErr result (errors.new ≡ errors.old) }
+        (AddsFault (not_text (literal_slice token.entry)) errors.old errors.new) }
+    ensures unreported { OnErr result (errors.new ≡ errors.old) }
 {
     errors.err(
         FaultCode::NotText,
@@ -29,13 +29,17 @@ fn list_not_text(token: token::Literal<'_>, errors: &mut Errors) -> Result<(), M
     Ok(())
 }
 
-/// Lists that a run is no literal. After `Memory` the faults are as before.
-pub fn list_syntax(tokens: Tokens<'_, '_>, errors: &mut Errors) -> Result<(), Memory>
+/// Reports that a run is not a literal.
+///
+/// # Errors
+///
+/// `Memory` if there is not enough memory. The faults are then unchanged.
+pub fn report_syntax(tokens: Tokens<'_, '_>, errors: &mut Errors) -> Result<(), Memory>
     ensures ok { OnOk result
-        (Lists (literal_syntax (tokens_of tokens.entry)) errors.old errors.new) }
-    ensures unlisted { OnErr result (errors.new ≡ errors.old) }
+        (AddsFault (literal_syntax (tokens_of tokens.entry)) errors.old errors.new) }
+    ensures unreported { OnErr result (errors.new ≡ errors.old) }
 {
-    list_run(
+    report_run(
         errors,
         FaultCode::LiteralSyntax,
         "expected a literal",
@@ -43,7 +47,7 @@ pub fn list_syntax(tokens: Tokens<'_, '_>, errors: &mut Errors) -> Result<(), Me
     )
 }
 
-/// The string or byte string that a literal is; `None` where it is another one.
+/// Returns the string or byte string that a literal is. `None` if it is neither.
 fn text_in<'s>(alloc: Global, token: token::Literal<'s>) -> Result<Option<Literal<'s>>, Memory>
     ensures { IfOk result (λ literal.
         option_map literal_view literal ≡ text_in (literal_slice token.entry)) }
@@ -51,36 +55,44 @@ fn text_in<'s>(alloc: Global, token: token::Literal<'s>) -> Result<Option<Litera
     Ok(Literal::read(alloc, &token)?)
 }
 
-/// The string or byte string that a literal is; `None` where it is another one, which was listed.
-/// After `Memory` the faults are as before.
+/// Reads a literal as a string or byte string. Reports any other literal, and returns `None` for
+/// it.
+///
+/// # Errors
+///
+/// `Memory` if there is not enough memory. The faults are then unchanged.
 pub fn read_text<'s>(
     alloc: Global,
     token: token::Literal<'s>,
     errors: &mut Errors,
 ) -> Result<Option<Literal<'s>>, Memory>
     ensures ok { IfOk result (λ literal.
-        Tells (text_told (literal_slice token.entry))
+        IsReport (text_report (literal_slice token.entry))
         (option_map literal_view literal) errors.old errors.new) }
-    ensures unlisted { OnErr result (errors.new ≡ errors.old) }
+    ensures unreported { OnErr result (errors.new ≡ errors.old) }
 {
     let Some(literal) = text_in(alloc, token)? else {
-        list_not_text(token, errors)?;
+        report_not_text(token, errors)?;
         return Ok(None);
     };
     Ok(Some(literal))
 }
 
-/// The string or byte string that a run is; `None` where it is none, which was listed, and where it
-/// has no token. After `Memory` the faults are as before.
+/// Reads a run as a string or byte string. Reports any other run that has tokens. Returns `None`
+/// for any other run.
+///
+/// # Errors
+///
+/// `Memory` if there is not enough memory. The faults are then unchanged.
 pub fn read_literal<'s>(
     alloc: Global,
     tokens: Tokens<'_, 's>,
     errors: &mut Errors,
 ) -> Result<Option<Literal<'s>>, Memory>
     ensures ok { IfOk result (λ literal.
-        Tells (literal_told (tokens_of tokens.entry))
+        IsReport (literal_report (tokens_of tokens.entry))
         (option_map literal_view literal) errors.old errors.new) }
-    ensures unlisted { OnErr result (errors.new ≡ errors.old) }
+    ensures unreported { OnErr result (errors.new ≡ errors.old) }
 {
     match split(tokens) {
         None => Ok(None),
@@ -88,13 +100,17 @@ pub fn read_literal<'s>(
             read_text(alloc, token, errors)
         }
         Some(_) => {
-            list_syntax(tokens, errors)?;
+            report_syntax(tokens, errors)?;
             Ok(None)
         }
     }
 }
 
-/// The string or byte string that a run is; `None` where it is none.
+/// Returns the string or byte string that a run is. `None` if it is neither.
+///
+/// # Errors
+///
+/// `Memory` if there is not enough memory.
 pub fn string_in<'s>(alloc: Global, tokens: Tokens<'_, 's>) -> Result<Option<Literal<'s>>, Memory>
     ensures { IfOk result (λ literal.
         option_map literal_view literal ≡ string_in (tokens_of tokens.entry)) }

@@ -1,15 +1,15 @@
-//! The pieces of an attribute's argument: views of its tokens, which copy nothing.
+//! Cuts the argument of an attribute into pieces: views of its tokens, which copy nothing.
 ghost use Rattle.std.specs.Prelude.{◌≡◌, MatchOption, []};
 ghost use Rattle.logos_token.specs.Tokens.{Token, TokenList, none, also, append, rest_of};
 ghost use Rattle.logos_token.specs.Views.{tokens_of, tree_of};
 ghost use Rattle.logos_attribute.specs.Slices.{ident_slice, literal_slice};
-ghost use Rattle.logos_attribute.specs.Pieces.{up_to_comma, behind_comma, pieces, behind_name};
-ghost use Rattle.logos_attribute.specs.Pieces.{behind_group, behind_keyword, through_comma};
+ghost use Rattle.logos_attribute.specs.Pieces.{up_to_comma, after_comma, pieces, after_name};
+ghost use Rattle.logos_attribute.specs.Pieces.{after_group, after_keyword, through_comma};
 ghost use Rattle.logos_attribute.specs.Pieces.{without_comma, rest_after_name};
 ghost use Rattle.logos_attribute.specs.Pieces.{rest_after_piece, rest_after_group};
 ghost use Rattle.logos_attribute.specs.Pieces.{name_token, named, assigned, beside, keyed};
 ghost use Rattle.logos_attribute.specs.Pieces.{unnamed, unexpected};
-ghost use Rattle.logos_attribute.specs.inside.Cutting.{first_run, behind_mark};
+ghost use Rattle.logos_attribute.specs.inside.Cutting.{first_run, after_mark};
 ghost use Rattle.logos_attribute.specs.Nested.{Cuts, IsSplit, piece_of, pieces_left};
 
 use logos_token::token::{Ident, Literal, TokenTree, Tokens};
@@ -22,7 +22,7 @@ pub enum NestedValue<'t, 's> {
     Assign(Tokens<'t, 's>),
     /// `name "literal"`
     Literal(Literal<'s>),
-    /// `name(..)`, with what is inside.
+    /// `name(..)`, with the tokens inside.
     Group(Tokens<'t, 's>),
     /// `name ident = ..`
     KeywordAssign(Ident<'s>, Tokens<'t, 's>),
@@ -44,7 +44,7 @@ pub enum Nested<'t, 's> {
 pub struct AttributeParser<'t, 's> {
     rest: Tokens<'t, 's>,
     /// Whether the last piece was a name with a group, and no comma has followed it yet.
-    behind_group: bool,
+    after_group: bool,
 }
 
 /// Returns the first tree and the trees after it.
@@ -61,14 +61,14 @@ pub fn split<'t, 's>(tokens: Tokens<'t, 's>) -> Option<(TokenTree<'t, 's>, Token
 fn comma_in<'t, 's>(tokens: Tokens<'t, 's>) -> Tokens<'t, 's>
     ensures parts { tokens_of tokens.entry
         ≡ append (up_to_comma (tokens_of tokens.entry)) (tokens_of result) }
-    ensures behind { rest_of (tokens_of result) ≡ behind_comma (tokens_of tokens.entry) }
+    ensures after { rest_of (tokens_of result) ≡ after_comma (tokens_of tokens.entry) }
 {
     let mut rest = tokens;
-    while let Some((tree, behind)) = split(rest) {
+    while let Some((tree, after)) = split(rest) {
         if is_punct(&tree, ',') {
             return rest;
         }
-        rest = behind;
+        rest = after;
     }
     rest
 }
@@ -76,7 +76,7 @@ fn comma_in<'t, 's>(tokens: Tokens<'t, 's>) -> Tokens<'t, 's>
 /// Returns the run up to the first lone comma, and what follows that comma.
 fn run_at<'t, 's>(tokens: Tokens<'t, 's>) -> (Tokens<'t, 's>, Tokens<'t, 's>)
     ensures run { tokens_of result.0 ≡ up_to_comma (tokens_of tokens.entry) }
-    ensures behind { tokens_of result.1 ≡ behind_comma (tokens_of tokens.entry) }
+    ensures after { tokens_of result.1 ≡ after_comma (tokens_of tokens.entry) }
 {
     let end = comma_in(tokens);
     (tokens.before(end), end.rest())
@@ -86,7 +86,7 @@ fn run_at<'t, 's>(tokens: Tokens<'t, 's>) -> (Tokens<'t, 's>, Tokens<'t, 's>)
 /// that comma.
 fn run_from<'t, 's>(tokens: Tokens<'t, 's>) -> (Tokens<'t, 's>, Tokens<'t, 's>)
     ensures run { tokens_of result.0 ≡ first_run (tokens_of tokens.entry) }
-    ensures behind { tokens_of result.1 ≡ behind_comma (rest_of (tokens_of tokens.entry)) }
+    ensures after { tokens_of result.1 ≡ after_comma (rest_of (tokens_of tokens.entry)) }
 {
     let end = comma_in(tokens.rest());
     (tokens.before(end), end.rest())
@@ -99,7 +99,7 @@ fn begin<'t, 's>(tokens: Tokens<'t, 's>) -> AttributeParser<'t, 's>
 {
     AttributeParser {
         rest: tokens,
-        behind_group: false,
+        after_group: false,
     }
 }
 
@@ -111,7 +111,7 @@ fn assigned_at<'t, 's>(
     ensures { Cuts
         (through_comma (λ run. named (ident_slice name.entry) (assigned run))
         (tokens_of tokens.entry))
-        (behind_comma (tokens_of tokens.entry))
+        (after_comma (tokens_of tokens.entry))
         result.0 result.1 }
 {
     let (run, rest) = run_at(tokens);
@@ -128,7 +128,7 @@ fn keyed_at<'t, 's>(
         (through_comma
         (λ run. named (ident_slice keyword.entry) (keyed (ident_slice name.entry) run))
         (tokens_of tokens.entry))
-        (behind_comma (tokens_of tokens.entry))
+        (after_comma (tokens_of tokens.entry))
         result.0 result.1 }
 {
     let (run, rest) = run_at(tokens);
@@ -148,7 +148,7 @@ fn beside_at<'t, 's>(
         (through_comma
         (λ run. named (ident_slice name.entry) (beside (literal_slice literal.entry)))
         (tokens_of tokens.entry))
-        (behind_comma (tokens_of tokens.entry))
+        (after_comma (tokens_of tokens.entry))
         result.0 result.1 }
 {
     let (_, rest) = run_at(tokens);
@@ -161,7 +161,7 @@ fn beside_at<'t, 's>(
 /// Reads tokens that belong to no piece.
 fn unexpected_at<'t, 's>(tokens: Tokens<'t, 's>) -> (Nested<'t, 's>, AttributeParser<'t, 's>)
     ensures { Cuts (through_comma (λ run. unexpected run) (tokens_of tokens.entry))
-        (behind_comma (tokens_of tokens.entry)) result.0 result.1 }
+        (after_comma (tokens_of tokens.entry)) result.0 result.1 }
 {
     let (run, rest) = run_at(tokens);
     (Nested::Unexpected(run), begin(rest))
@@ -170,7 +170,7 @@ fn unexpected_at<'t, 's>(tokens: Tokens<'t, 's>) -> (Nested<'t, 's>, AttributePa
 /// Reads the first tree, whatever it is, and the tokens up to the comma.
 fn unnamed_at<'t, 's>(tokens: Tokens<'t, 's>) -> (Nested<'t, 's>, AttributeParser<'t, 's>)
     ensures { (first : Token) (rest : TokenList) → tokens_of tokens.entry ≡ also first rest →
-        Cuts (through_comma (λ run. unnamed (also first run)) rest) (behind_comma rest)
+        Cuts (through_comma (λ run. unnamed (also first run)) rest) (after_comma rest)
         result.0 result.1 }
 {
     let (run, rest) = run_from(tokens);
@@ -184,9 +184,9 @@ fn keyword_at<'t, 's>(
     tokens: Tokens<'t, 's>,
 ) -> (Nested<'t, 's>, AttributeParser<'t, 's>)
     ensures { Cuts
-        (behind_keyword (ident_slice keyword.entry) (ident_slice name.entry)
+        (after_keyword (ident_slice keyword.entry) (ident_slice name.entry)
         (tokens_of tokens.entry))
-        (behind_comma (rest_of (tokens_of tokens.entry)))
+        (after_comma (rest_of (tokens_of tokens.entry)))
         result.0 result.1 }
 {
     let Some((tree, rest)) = split(tokens) else {
@@ -211,8 +211,8 @@ fn mark_at<'t, 's>(
     requires { tokens_of whole
         ≡ also (name_token (ident_slice name)) (also (tree_of tree) (tokens_of tokens)) }
     ensures { Cuts
-        (behind_mark (ident_slice name.entry) (tree_of tree.entry) (tokens_of tokens.entry))
-        (behind_comma (also (tree_of tree.entry) (tokens_of tokens.entry)))
+        (after_mark (ident_slice name.entry) (tree_of tree.entry) (tokens_of tokens.entry))
+        (after_comma (also (tree_of tree.entry) (tokens_of tokens.entry)))
         result.0 result.1 }
 {
     if is_punct(&tree, '=') {
@@ -224,14 +224,14 @@ fn mark_at<'t, 's>(
 /// Returns a parser of the pieces after a name and a group. A comma there is taken at once, so that
 /// a run that is read next begins after it.
 fn end_group<'t, 's>(tokens: Tokens<'t, 's>) -> AttributeParser<'t, 's>
-    ensures pieces { pieces_left result ≡ behind_group (tokens_of tokens.entry) }
+    ensures pieces { pieces_left result ≡ after_group (tokens_of tokens.entry) }
     ensures rest { tokens_of result.rest ≡ without_comma (tokens_of tokens.entry) }
 {
     match split(tokens) {
         Some((tree, rest)) if is_punct(&tree, ',') => begin(rest),
         _ => AttributeParser {
             rest: tokens,
-            behind_group: true,
+            after_group: true,
         },
     }
 }
@@ -244,7 +244,7 @@ fn name_at<'t, 's>(
 ) -> (Nested<'t, 's>, AttributeParser<'t, 's>)
     requires { tokens_of whole ≡ also (name_token (ident_slice name)) (tokens_of tokens) }
     ensures { Cuts
-        (behind_name (ident_slice name.entry) (tokens_of tokens.entry))
+        (after_name (ident_slice name.entry) (tokens_of tokens.entry))
         (rest_after_name (tokens_of tokens.entry))
         result.0 result.1 }
 {
@@ -285,13 +285,13 @@ fn piece_at<'t, 's>(tokens: Tokens<'t, 's>) -> Option<(Nested<'t, 's>, Attribute
 }
 
 /// Returns the piece that follows a name and a group, and a parser of what follows it.
-fn piece_behind_group<'t, 's>(
+fn piece_after_group<'t, 's>(
     tokens: Tokens<'t, 's>,
 ) -> Option<(Nested<'t, 's>, AttributeParser<'t, 's>)>
     ensures { MatchOption result
-        (behind_group (tokens_of tokens.entry) ≡ [])
+        (after_group (tokens_of tokens.entry) ≡ [])
         (λ read. Cuts
-        (behind_group (tokens_of tokens.entry)) (rest_after_group (tokens_of tokens.entry))
+        (after_group (tokens_of tokens.entry)) (rest_after_group (tokens_of tokens.entry))
         read.0 read.1) }
 {
     match split(tokens) {
@@ -305,7 +305,7 @@ impl<'t, 's> AttributeParser<'t, 's> {
     ghost use Rattle.std.specs.Prelude.{◌≡◌, ◌≢◌, MatchOption, []};
     ghost use Rattle.logos_token.specs.Tokens.{none};
     ghost use Rattle.logos_token.specs.Views.{tokens_of};
-    ghost use Rattle.logos_attribute.specs.Pieces.{up_to_comma, behind_comma, pieces};
+    ghost use Rattle.logos_attribute.specs.Pieces.{up_to_comma, after_comma, pieces};
     ghost use Rattle.logos_attribute.specs.Nested.{Cuts, pieces_left, rest_after};
 
     /// Returns a parser of the pieces of a run.
@@ -317,14 +317,14 @@ impl<'t, 's> AttributeParser<'t, 's> {
     }
 
     /// Takes the tokens up to the next comma that cuts, and that comma, and returns these tokens.
-    /// `None` where no token stands before that comma.
+    /// `None` if no token comes before that comma.
     pub fn run(&mut self) -> Option<Tokens<'t, 's>>
         ensures run { MatchOption result
             (up_to_comma (tokens_of self.old.rest) ≡ none)
             (λ run. (tokens_of run ≡ up_to_comma (tokens_of self.old.rest))
             × (up_to_comma (tokens_of self.old.rest) ≢ none)) }
-        ensures pieces { pieces_left self.new ≡ pieces (behind_comma (tokens_of self.old.rest)) }
-        ensures rest { tokens_of self.new.rest ≡ behind_comma (tokens_of self.old.rest) }
+        ensures pieces { pieces_left self.new ≡ pieces (after_comma (tokens_of self.old.rest)) }
+        ensures rest { tokens_of self.new.rest ≡ after_comma (tokens_of self.old.rest) }
     {
         let (run, rest) = run_at(self.rest);
         *self = begin(rest);
@@ -340,8 +340,8 @@ impl<'t, 's> AttributeParser<'t, 's> {
             (pieces_left self.entry ≡ [])
             (λ read. Cuts (pieces_left self.entry) (rest_after self.entry) read.0 read.1) }
     {
-        if self.behind_group {
-            return piece_behind_group(self.rest);
+        if self.after_group {
+            return piece_after_group(self.rest);
         }
         piece_at(self.rest)
     }

@@ -1,4 +1,4 @@
-//! Reading values from an attribute's argument, one after another.
+//! Reads values in an attribute's argument, one after another.
 ghost use Rattle.std.specs.Prelude.{◌≡◌, ◌≢◌, List, Option, None, IfOk, OnOk, OnErr, MatchOption, option_map};
 ghost use Rattle.std.specs.Result.{result_ok};
 ghost use Rattle.logos_token.specs.Faults.{Fault};
@@ -7,10 +7,10 @@ ghost use Rattle.logos_token.specs.Views.{tokens_of};
 ghost use Rattle.logos_type.specs.TypeTrees.{type_tree};
 ghost use Rattle.logos_type_params.specs.TypeParams.{ReadsValue};
 ghost use Rattle.logos_attribute.specs.LiteralViews.{literal_view};
-ghost use Rattle.logos_attribute.specs.Literals.{literal_told};
+ghost use Rattle.logos_attribute.specs.Literals.{literal_report};
 ghost use Rattle.logos_attribute.specs.Nested.{pieces_left};
-ghost use Rattle.logos_attribute.specs.Pieces.{up_to_comma, behind_comma, pieces};
-ghost use Rattle.logos_attribute.specs.Told.{Tells};
+ghost use Rattle.logos_attribute.specs.Pieces.{up_to_comma, after_comma, pieces};
+ghost use Rattle.logos_attribute.specs.Reports.{IsReport};
 
 use crate::literal::read_literal;
 use crate::nested::AttributeParser;
@@ -21,21 +21,21 @@ use logos_type::TypeExpr;
 use logos_type_params::read_value;
 use std::alloc::Global;
 
-/// A fault was added to the list of faults.
+/// A fault was reported: it was added to the list of faults.
 #[derive(Clone, Copy, Debug)]
 pub struct Reported;
 
-/// What a run of tokens can be read as.
+/// A type as which a run of tokens can be read.
 pub trait FromRun<'s>: Sized {
     /// The run is read as this value, and the list of faults becomes the second one.
     ghost is_read: { TokenList → Option Self → List Fault → List Fault → Type 0 };
 
-    /// Reads the whole run as a value. `None` where it is none; then a fault was added, except for
-    /// a literal in a run without a token.
+    /// Reads the whole run as a value. Reports a run that is not one, except a run without tokens
+    /// that is read as a literal, and returns `None` for it.
     ///
     /// # Errors
     ///
-    /// `Memory` where memory ran out. Then the faults are as before.
+    /// `Memory` if there is not enough memory. The faults are then unchanged.
     fn from_run(
         alloc: Global,
         run: Tokens<'_, 's>,
@@ -43,14 +43,14 @@ pub trait FromRun<'s>: Sized {
     ) -> Result<Option<Self>, Memory>
         ensures read { IfOk result (λ read.
             is_read (tokens_of run.entry) read errors.old errors.new) }
-        ensures unlisted { OnErr result (errors.new ≡ errors.old) };
+        ensures unreported { OnErr result (errors.new ≡ errors.old) };
 }
 
 /// Reads a string or a byte string. Reports another literal as `NotText` at the literal, and another
 /// run as `LiteralSyntax` at the run.
 impl<'s> FromRun<'s> for Literal<'s> {
     ghost is_read = { λ run read old new.
-        Tells (literal_told run) (option_map literal_view read) old new };
+        IsReport (literal_report run) (option_map literal_view read) old new };
 
     fn from_run(
         alloc: Global,
@@ -61,8 +61,8 @@ impl<'s> FromRun<'s> for Literal<'s> {
     }
 }
 
-/// Reads a type. Reports another run, at the run: as `TypeSyntax`, or as `LimitTypeNesting` where it
-/// nests deeper than types may.
+/// Reads a type. Reports another run, at the run: as `TypeSyntax`, or as `LimitTypeNesting` if it
+/// nests deeper than types are allowed to.
 impl<'s> FromRun<'s> for TypeExpr<'s> {
     ghost is_read = { λ run read old new.
         ReadsValue run (run_span run) old new (option_map type_tree read) };
@@ -78,12 +78,12 @@ impl<'s> FromRun<'s> for TypeExpr<'s> {
 
 impl<'t, 's> AttributeParser<'t, 's> {
     /// Takes the tokens up to the next comma that cuts, and that comma, and reads these tokens as
-    /// one value. `None` where no token stands before that comma, and `Reported` where the tokens
-    /// are no such value.
+    /// one value. `None` if no token comes before that comma, and `Reported` if the tokens are not
+    /// such a value.
     ///
     /// # Errors
     ///
-    /// `Memory` where memory ran out. Then nothing is taken, and the faults are as before.
+    /// `Memory` if there is not enough memory. Nothing is taken then, and the faults are unchanged.
     pub fn parsed<T: FromRun<'s>>(
         &mut self,
         alloc: Global,
@@ -95,19 +95,19 @@ impl<'t, 's> AttributeParser<'t, 's> {
             IfOk result (λ read. MatchOption read ⊥ (λ answer. T.is_read
             (up_to_comma (tokens_of self.old.rest)) (result_ok answer) errors.old errors.new)) }
         ensures pieces { OnOk result
-            (pieces_left self.new ≡ pieces (behind_comma (tokens_of self.old.rest))) }
+            (pieces_left self.new ≡ pieces (after_comma (tokens_of self.old.rest))) }
         ensures rest { OnOk result
-            (tokens_of self.new.rest ≡ behind_comma (tokens_of self.old.rest)) }
-        ensures kept { OnErr result (self.new ≡ self.old) }
-        ensures unlisted { OnErr result (errors.new ≡ errors.old) }
+            (tokens_of self.new.rest ≡ after_comma (tokens_of self.old.rest)) }
+        ensures unchanged { OnErr result (self.new ≡ self.old) }
+        ensures unreported { OnErr result (errors.new ≡ errors.old) }
     {
-        let mut behind = *self;
-        let Some(run) = behind.run() else {
-            *self = behind;
+        let mut after = *self;
+        let Some(run) = after.run() else {
+            *self = after;
             return Ok(None);
         };
         let read = T::from_run(alloc, run, errors)?;
-        *self = behind;
+        *self = after;
         match read {
             Some(value) => Ok(Some(Ok(value))),
             None => Ok(Some(Err(Reported))),

@@ -1,4 +1,4 @@
-//! The numbers and booleans in an attribute's argument.
+//! Reads numbers and booleans in an attribute's argument.
 ghost use Rattle.std.specs.Prelude.{◌≡◌};
 ghost use Rattle.std.specs.Str.{all_ascii_digits};
 ghost use Rattle.logos_token.specs.Views.{tokens_of};
@@ -7,7 +7,7 @@ ghost use Rattle.logos_attribute.specs.Values.{decimal, number_in, boolean_named
 use crate::nested::split;
 use logos_token::token::{TokenTree, Tokens};
 
-/// Whether all bytes are digits.
+/// Returns whether all bytes are digits.
 fn all_digits(bytes: &[u8]) -> bool
     ensures { result ≡ all_ascii_digits bytes.now }
 {
@@ -19,7 +19,7 @@ fn all_digits(bytes: &[u8]) -> bool
     true
 }
 
-/// The number that decimal digits write.
+/// Returns the number that decimal digits write, if it fits `usize`.
 #[tactic(auto, using(crate::proofs::NumberLemmas::decimal_parsed))]
 fn decimal(text: &str) -> Option<usize>
     ensures { result ≡ decimal text.now }
@@ -30,8 +30,8 @@ fn decimal(text: &str) -> Option<usize>
     text.parse::<usize>().ok()
 }
 
-/// The number that a run is: one literal of decimal digits, without a suffix, whose value fits
-/// `usize`. `None` where it is none.
+/// Returns the number that a run is: one literal of decimal digits, without a suffix, whose value
+/// fits `usize`. `None` if it is anything else.
 pub fn number_in(tokens: Tokens<'_, '_>) -> Option<usize>
     ensures { result ≡ number_in (tokens_of tokens.entry) }
 {
@@ -41,7 +41,7 @@ pub fn number_in(tokens: Tokens<'_, '_>) -> Option<usize>
     }
 }
 
-/// The value that a word names.
+/// Returns the boolean that a word names.
 fn boolean_named(text: &str) -> Option<bool>
     ensures { result ≡ boolean_named text.now }
 {
@@ -54,7 +54,8 @@ fn boolean_named(text: &str) -> Option<bool>
     None
 }
 
-/// The value that a run is: the identifier `true` or `false` alone. `None` where it is none.
+/// Returns the boolean that a run is: the identifier `true` or `false` alone. `None` if it is
+/// anything else.
 pub fn boolean_in(tokens: Tokens<'_, '_>) -> Option<bool>
     ensures { result ≡ boolean_in (tokens_of tokens.entry) }
 {

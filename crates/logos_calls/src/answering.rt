@@ -122,6 +122,7 @@ const CALLS: &[(&str, Call)] = &[
     ("Leaf.priority", Call::Source(sources::View::Priority)),
     ("VariantKind.type", Call::Source(sources::View::Type)),
     ("Generated::text", Call::Source(sources::View::Part)),
+    ("Generated::variant", Call::Source(sources::View::Variants)),
     ("lex_source", Call::LexSource),
     ("strip_attributes", Call::Strip),
     ("Language::tokens", Call::Tokens),

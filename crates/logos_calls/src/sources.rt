@@ -14,6 +14,7 @@ use logos_codegen::leaf::{TypeExpr, VariantKind};
 use logos_codegen::machine::{Action, Item};
 use logos_codegen::nested::AttributeParser;
 use logos_codegen::{Generated, LexSourceError, Refusal, generate, lex_source, strip_attributes};
+use logos_hir::leaf::LeafId;
 use logos_type::is_same_type;
 use std::alloc::Global;
 
@@ -28,6 +29,8 @@ pub enum View {
     Type,
     /// Whether its text has this part.
     Part,
+    /// The variants of its leaves.
+    Variants,
 }
 
 /// Adds faults: place, code and message of each.
@@ -82,6 +85,24 @@ fn push_first(
     Ok(())
 }
 
+/// Adds the name of the variant of a leaf, or `-` if it has none.
+fn push_variant(answer: &mut Answer, made: &Generated<'_>, number: usize) {
+    match made.variant(LeafId(number)) {
+        Some(name) => answer.text(name.text),
+        None => answer.text("-"),
+    }
+}
+
+/// Adds the variants of all leaves, and after them that of a number that no leaf has.
+fn push_variants(answer: &mut Answer, made: &Generated<'_>) {
+    let leaves = made.graph.leaves();
+    for (number, _) in leaves.iter().enumerate() {
+        push_variant(answer, made, number);
+        answer.text(" ");
+    }
+    push_variant(answer, made, leaves.len());
+}
+
 /// Adds what is asked of what a source makes.
 fn push_view(
     alloc: Global,
@@ -92,6 +113,7 @@ fn push_view(
 ) -> Result<(), Stop> {
     match view {
         View::Kept => Ok(push_kept(answer, &made.code)),
+        View::Variants => Ok(push_variants(answer, made)),
         View::Priority | View::Type => push_first(alloc, answer, &made.graph, view, text),
         View::Part => {
             let whole = alike(made.text(alloc), made.text(alloc))?;

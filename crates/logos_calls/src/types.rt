@@ -23,7 +23,7 @@ fn push_copy(answer: &mut Answer, type_expr: &TypeExpr<'_>) {
 fn push_fault(answer: &mut Answer, fault: TypeFault) {
     match fault {
         TypeFault::Unsupported { span } => answer.span("unsupported ", span),
-        TypeFault::Misfit { span } => answer.span("unexpected ", span),
+        TypeFault::Mismatch { span } => answer.span("unexpected ", span),
         TypeFault::LimitNesting => answer.text("limit"),
         TypeFault::Memory => answer.lack(),
     }

@@ -1,7 +1,7 @@
 -- Parts of a code value, by its fields.
-use Rattle.std.proofs.Common.{◌≡◌, ℕ, zero, suc, ◌*◌, ◌/◌, ◌%◌, ◌^◌, ◌<◌, ◌≤◌, ◌⊎◌, not, ◌==◌, List, [], length, map, All, Some, slice_get, slice_index, get_or, refl, sym, ap, ◌∙◌, arith, ⊎_elim}
+use Rattle.std.proofs.Common.{◌≡◌, ℕ, zero, suc, ◌*◌, ◌/◌, ◌%◌, ◌^◌, ◌<◌, ◌≤◌, ◌⊎◌, not, ◌==◌, List, [], length, map, All, Option, Some, None, IsSomeAnd, slice_get, slice_index, get_or, refl, sym, ap, ◌∙◌, arith, ⊎_elim}
 use Rattle.std.specs.Int.{bit_at}
-use Rattle.std.proofs.lemmas.Option.{slice_get-get_or}
+use Rattle.std.proofs.lemmas.Option.{slice_get-get_or, slice_get_within}
 use Rattle.std.proofs.lemmas.Nat.Bits.{and_pow, bit_at-lt}
 use Rattle.std.proofs.lemmas.Nat.{pow_pos}
 use Rattle.std.proofs.lemmas.Bool.{ne_eqb}
@@ -9,8 +9,8 @@ use Rattle.std.proofs.lemmas.List.{get_or-map, length-map}
 use Rattle.std.proofs.Math.Pow.{pow-lt}
 use Rattle.logos_code.specs.Bytes.{passes_test}
 use Rattle.std.proofs.Math.ListN.{get_or-eq_default}
-use Rattle.logos_code.specs.Code.{CodeValue}
-use Rattle.logos_code.specs.Headline.{IsSound, NamesWhatIsThere, NamesFork}
+use Rattle.logos_code.specs.Code.{CodeValue, CodeState}
+use Rattle.logos_code.specs.Headline.{IsSound, IsRoot, NamesWhatIsThere, NamesFork}
 use Rattle.logos_code.specs.CodeView.{has_mask, jumps_of, fork_of, state_of, code_of}
 use Rattle.logos_code.specs.declared.code.CodeState.{CodeState as TheState}
 use Rattle.logos_code.specs.declared.code.Fork.TheVariants.{Table}
@@ -23,7 +23,8 @@ some_of_power (suc zero) zero h p = absurd (omega (arith, p))
 some_of_power (suc zero) (suc power) h p = let e : suc zero * suc power ≡ suc power = omega arith in rw (e, ne_eqb (suc power) 0 (λ f. omega (arith, f))) refl
 some_of_power (suc (suc n)) power h p = absurd (omega (arith, h))
 
-small_power : (i : ℕ) → i < 8 → 1 * 2 ^ i % 256 ≡ 2 ^ i
+-- a bit of a byte, shifted
+pub small_power : (i : ℕ) → i < 8 → 1 * 2 ^ i % 256 ≡ 2 ^ i
 small_power i h = let p : 2 ^ i < 2 ^ 8 = pow-lt h in omega arith
 
 -- a mask of one bit tells what the test of that bit tells
@@ -59,3 +60,11 @@ table_there code tables k names = ⊎_elim (λ h. h) past (either k (length tabl
         let e : get_or tables k [] ≡ [] = get_or-eq_default tables [] h in
         let long : length (jumps_of (get_or tables k [])) ≡ 256 = names.0 in
         absurd (omega (arith, rw e at long))
+
+-- the root of a sound code is there
+pub root_there : (code : CodeValue) → IsSound code → code.root < length code.states
+root_there code sound = go (slice_get code.states code.root) refl sound.root
+  where
+    go : (o : Option CodeState) → slice_get code.states code.root ≡ o → IsSomeAnd o (IsRoot code) → code.root < length code.states
+    go None e h = absurd h
+    go (Some state) e h = slice_get_within code.states code.root state e

@@ -3,4 +3,5 @@ pub mod CodeLemmas
 pub mod RowLemmas
 pub mod SignLemmas
 pub mod UseLemmas
+pub mod MaskLemmas
 pub mod Examples

@@ -1,22 +1,23 @@
 -- Rows, and what a state does by its row.
-use Rattle.std.proofs.Common.{◌≡◌, ℕ, suc, ◌+◌, ◌<◌, ◌⊎◌, inl, inr, ⊎_elim, ◌++◌, Bool, true, false, IfSome, ◌==◌, cond, List, [], ◌∷◌, length, drop, get_or, slice_index_or, slice_get, Option, Some, None, refl, sym, ap, subst, ◌∙◌, arith, length-drop, Fits, w8}
+use Rattle.std.proofs.Common.{◌≡◌, ℕ, zero, suc, ◌+◌, ◌-◌, ◌/◌, ◌%◌, ◌<◌, ◌≤◌, ◌⊎◌, inl, inr, ⊎_elim, ◌++◌, true, false, IfSome, List, [], ◌∷◌, length, drop, get_or, slice_index, slice_index_or, slice_get, Option, Some, None, refl, sym, ap, subst, ◌∙◌, arith, length-drop, Fits, w8}
 use Rattle.std.proofs.Math.Facts.{Fits-lt-pow}
 use Rattle.std.proofs.lemmas.List.{length-map, get_or-map, get_or-drop, get_or_append_left, get_or_push}
 use Rattle.std.proofs.lemmas.List.Folds.{length-prefix_len}
-use Rattle.std.proofs.lemmas.List.Sums.{take_while-cons, prefix_len_stops}
+use Rattle.std.proofs.lemmas.List.Sums.{prefix_len_stops}
 use Rattle.std.proofs.lemmas.Option.{get_or_from_slice_get, slice_get-get_or}
 use Rattle.std.proofs.lemmas.Grind.{get_or_default_zero}
-use Rattle.std.specs.List.{prefix_len, take_while}
+use Rattle.std.specs.List.{prefix_len}
 use Rattle.logos_hir.specs.Text.{IsBytes}
 use Rattle.logos_code.specs.Bytes.{passes_test}
 use Rattle.logos_code.specs.Code.{CodeValue, CodeState, Fork}
 use Rattle.logos_code.specs.Headline.{NamesFork, NamesState}
 use Rattle.logos_code.specs.CodeView.{state_at, state_of, code_of, no_state}
 use Rattle.logos_code.specs.Runs.{stays, looped, target}
-use Rattle.logos_code.specs.Rows.{stays_by, IsStepOf, Says, IsEntry, IsRow}
+use Rattle.logos_code.specs.Rows.{IsStepOf, Says, SaysAtEnd, IsHalting, IsEntry, IsLastEntry, IsRow, AreRows, IsFirstOf, IsFirstRow}
 use Rattle.logos_code.proofs.TargetLemmas.{target_there}
+use Rattle.logos_code.specs.declared.code.rows.MatchUse.TheVariants.{Emits, Skips, Asks}
 use Rattle.logos_code.specs.declared.code.rows.Step.{Step}
-use Rattle.logos_code.specs.declared.code.rows.Step.TheVariants.{Leads, Closes, Halts, Unsaid}
+use Rattle.logos_code.specs.declared.code.rows.Step.TheVariants.{Leads, Stays, Closes, Halts, Unsaid}
 use Rattle.logos_code.specs.declared.code.CodeParts.{CodeParts}
 use Rattle.logos_code.specs.declared.code.CodeState.{CodeState as TheState}
 
@@ -47,33 +48,9 @@ rows_turn parts rows new row s state long is there here last before k h = ⊎_el
 pub row_at : (rows : List (List ℕ)) (s : ℕ) (row : List ℕ) → s < length rows → row ≡ get_or rows s row → slice_index_or rows s [] ≡ row
 row_at rows s row h is = get_or_from_slice_get rows s row [] (slice_get-get_or rows s row h ∙ ap Some (sym is))
 
--- tests that agree on bytes take the same bytes
-same_while : (p q : ℕ → Bool) (bytes : List ℕ) → ((b : ℕ) → b < 256 → p b ≡ q b) → IsBytes bytes → take_while p bytes ≡ take_while q bytes
-same_while p q [] same are = refl
-same_while p q (b ∷ bytes) same are =
-    take_while-cons p b bytes
-    ∙ ap (λ o. cond o (b ∷ take_while p bytes) []) (same b (are 0 0 (omega arith)))
-    ∙ ap (λ l. cond (q b) (b ∷ l) []) (same_while p q bytes same (λ i d h. are (suc i) d (omega (arith, h))))
-    ∙ sym (take_while-cons q b bytes)
-
-none_stay : (code : CodeValue) (bytes : List ℕ) → length (take_while (stays code None) bytes) ≡ 0
-none_stay code [] = refl
-none_stay code (b ∷ bytes) = ap length (take_while-cons (stays code None) b bytes)
-
+-- the bytes of an input are bytes
 pub are_bytes : (bytes : List ℕ) → ((i : ℕ) → Fits w8 (get_or bytes i 0)) → IsBytes bytes
 are_bytes bytes h = λ k d l. rw (get_or_default_zero bytes k d l) (Fits-lt-pow (h k))
-
--- the bytes that stay by the row are those that the fast loop takes
-pub looped_by_row : (code : CodeValue) (state : CodeState) (row bytes : List ℕ) → IsRow code state row → IsBytes bytes →
-    prefix_len (stays_by row) bytes ≡ looped code state.fast_loop bytes
-looped_by_row code state row bytes is are =
-    sym (length-prefix_len (stays_by row) bytes)
-    ∙ ap length (same_while (stays_by row) (stays code state.fast_loop) bytes (λ b h. (is b h).taken) are)
-    ∙ by_loop state.fast_loop
-  where
-    by_loop : (loop : Option ℕ) → length (take_while (stays code loop) bytes) ≡ looped code loop bytes
-    by_loop None = none_stay code bytes
-    by_loop (Some k) = refl
 
 -- the byte behind the fast loop does not stay
 pub loop_stops : (code : CodeValue) (loop : Option ℕ) (bytes : List ℕ) (at d : ℕ) → at + looped code loop (drop at bytes) < length bytes →
@@ -99,39 +76,106 @@ pub state_got : (parts : CodeParts) (s : ℕ) (state : TheState) → s < length 
 state_got parts s state h is =
     slice_get-get_or (code_of parts).states s no_state (rw length-map h) ∙ ap Some (state_there parts s state h is)
 
+-- the step that an entry of this kind stands for
+abbrev decoded : (kind named : ℕ) → Step
+decoded zero n = Leads n
+decoded (suc zero) n = Stays n
+decoded (suc (suc zero)) n = Halts (record { 0 = n }) Skips
+decoded (suc (suc (suc zero))) n = Halts (record { 0 = n }) Emits
+decoded (suc (suc (suc (suc zero)))) n = Closes (record { 0 = n }) Emits
+decoded (suc (suc (suc (suc (suc zero))))) n = Closes (record { 0 = n }) Skips
+decoded (suc (suc (suc (suc (suc (suc zero)))))) n = Halts (record { 0 = n }) Asks
+decoded (suc (suc (suc (suc (suc (suc (suc zero))))))) n = Closes (record { 0 = n }) Asks
+decoded (suc (suc (suc (suc (suc (suc (suc (suc k)))))))) n = Unsaid
+
+decodes : (entry : ℕ) (step : Step) → IsStepOf entry step → step ≡ decoded (entry / 268435456) (entry % 268435456)
+decodes entry (Leads s) f = let k : entry / 268435456 ≡ 0 = omega (arith, f.0, f.1) in let n : entry % 268435456 ≡ s = omega (arith, f.0, f.1) in rw (k, n) refl
+decodes entry (Stays s) f = let k : entry / 268435456 ≡ 1 = omega (arith, f.0, f.1) in let n : entry % 268435456 ≡ s = omega (arith, f.0, f.1) in rw (k, n) refl
+decodes entry (Halts s Skips) f = let k : entry / 268435456 ≡ 2 = omega (arith, f.0, f.1) in let n : entry % 268435456 ≡ s.0 = omega (arith, f.0, f.1) in rw (k, n) refl
+decodes entry (Halts s Emits) f = let k : entry / 268435456 ≡ 3 = omega (arith, f.0, f.1) in let n : entry % 268435456 ≡ s.0 = omega (arith, f.0, f.1) in rw (k, n) refl
+decodes entry (Closes s Emits) f = let k : entry / 268435456 ≡ 4 = omega (arith, f.0, f.1) in let n : entry % 268435456 ≡ s.0 = omega (arith, f.0, f.1) in rw (k, n) refl
+decodes entry (Closes s Skips) f = let k : entry / 268435456 ≡ 5 = omega (arith, f.0, f.1) in let n : entry % 268435456 ≡ s.0 = omega (arith, f.0, f.1) in rw (k, n) refl
+decodes entry (Halts s Asks) f = let k : entry / 268435456 ≡ 6 = omega (arith, f.0, f.1) in let n : entry % 268435456 ≡ s.0 = omega (arith, f.0, f.1) in rw (k, n) refl
+decodes entry (Closes s Asks) f = let k : entry / 268435456 ≡ 7 = omega (arith, f.0, f.1) in let n : entry % 268435456 ≡ s.0 = omega (arith, f.0, f.1) in rw (k, n) refl
+decodes entry Unsaid f = past (entry / 268435456) (omega (arith, f))
+  where
+    past : (k : ℕ) → 8 ≤ k → Unsaid ≡ decoded k (entry % 268435456)
+    past k h =
+        let e : k ≡ suc (suc (suc (suc (suc (suc (suc (suc (k - 8)))))))) = omega (arith, h) in
+        subst (λ j. Unsaid ≡ decoded j (entry % 268435456)) (sym e) refl
+
 -- an entry stands for one step
 pub same_step : (entry : ℕ) (a b : Step) → IsStepOf entry a → IsStepOf entry b → b ≡ a
-same_step entry (Leads s) (Leads t) f g = ap Leads (omega (arith, f.0, g.0))
-same_step entry (Leads s) (Closes t) f g = absurd (omega (arith, f.0, f.1, g.0, g.1))
-same_step entry (Leads s) (Halts t) f g = absurd (omega (arith, f.0, f.1, g.0, g.1))
-same_step entry (Leads s) Unsaid f g = absurd (omega (arith, f.0, f.1, g))
-same_step entry (Closes s) (Leads t) f g = absurd (omega (arith, f.0, f.1, g.0, g.1))
-same_step entry (Closes s) (Closes t) f g = ap (λ n. Closes (record { 0 = n })) (omega (arith, f.0, g.0))
-same_step entry (Closes s) (Halts t) f g = absurd (omega (arith, f.0, f.1, g.0, g.1))
-same_step entry (Closes s) Unsaid f g = absurd (omega (arith, f.0, f.1, g))
-same_step entry (Halts s) (Leads t) f g = absurd (omega (arith, f.0, f.1, g.0, g.1))
-same_step entry (Halts s) (Closes t) f g = absurd (omega (arith, f.0, f.1, g.0, g.1))
-same_step entry (Halts s) (Halts t) f g = ap (λ n. Halts (record { 0 = n })) (omega (arith, f.0, g.0))
-same_step entry (Halts s) Unsaid f g = absurd (omega (arith, f.0, f.1, g))
-same_step entry Unsaid (Leads t) f g = absurd (omega (arith, f, g.0, g.1))
-same_step entry Unsaid (Closes t) f g = absurd (omega (arith, f, g.0, g.1))
-same_step entry Unsaid (Halts t) f g = absurd (omega (arith, f, g.0, g.1))
-same_step entry Unsaid Unsaid f g = refl
+same_step entry a b f g = decodes entry b g ∙ sym (decodes entry a f)
 
--- the largest entry says nothing
-unsaid_step : (b : Step) → IsStepOf 4294967295 b → b ≡ Unsaid
-unsaid_step b g = same_step 4294967295 Unsaid b (omega arith) g
+-- what holds of one step that an entry stands for holds of each; the entry may stand for nothing
+only_step : (P : Step → Type 0) (entry : ℕ) (step : Step) → (IsStepOf entry step ⊎ IsStepOf entry Unsaid) → P step → P Unsaid → (other : Step) → IsStepOf entry other → P other
+only_step P entry step (inl f) said none other g = subst P (sym (same_step entry step other f g)) said
+only_step P entry step (inr f) said none other g = subst P (sym (same_step entry Unsaid other f g)) none
 
-module _ (code : CodeValue) (state : CodeState) (b : ℕ) where
-  -- the entry of a byte that stays
-  pub entry_stays : stays code state.fast_loop b ≡ true → IsEntry code state b 4294967294
-  entry_stays e = record { taken = sym e; says = λ f. absurd (true_false (sym e ∙ f)) }
-
+module _ (code : CodeValue) (state : CodeState) where
   -- the entry of a step
-  pub entry_steps : (entry : ℕ) (step : Step) → stays code state.fast_loop b ≡ false → (IsStepOf entry step ⊎ (entry ≡ 4294967295)) → (entry == 4294967294) ≡ false →
-      Says code state b step → IsEntry code state b entry
-  entry_steps entry step e is moves said = record { taken = moves ∙ sym e; says = λ _ other g. go other g is }
+  pub entry_says : (b entry : ℕ) (step : Step) → (IsStepOf entry step ⊎ IsStepOf entry Unsaid) → Says code state b step → IsEntry code state b entry
+  entry_says b entry step is said = only_step (Says code state b) entry step is said tt
+
+  -- the entry of a first byte
+  first_says : (b entry first : ℕ) → IsEntry code state b entry → ((first ≡ entry) ⊎ (2147483648 ≤ first)) → IsEntry code state b first
+  first_says b entry first is (inl e) = subst (IsEntry code state b) (sym e) is
+  first_says b entry first is (inr h) = only_step (Says code state b) first Unsaid (inl h) tt tt
+
+  -- what a state does where no byte leads on
+  pub halting_says : (b : ℕ) (step : Step) → stays code state.fast_loop b ≡ false → target code state.fork b ≡ None → IsHalting code state.mark step → Says code state b step
+  halting_says b (Leads s) out none is = absurd is
+  halting_says b (Stays s) out none is = absurd is
+  halting_says b (Halts leaf used) out none is = (out, none, is.0, is.1)
+  halting_says b (Closes leaf used) out none is = absurd is
+  halting_says b Unsaid out none is = tt
+
+  ends_say : (step : Step) → state.at_end ≡ None → IsHalting code state.mark step → SaysAtEnd code state step
+  ends_say (Leads s) none is = absurd is
+  ends_say (Stays s) none is = absurd is
+  ends_say (Halts leaf used) none is = (none, is.0, is.1)
+  ends_say (Closes leaf used) none is = absurd is
+  ends_say Unsaid none is = tt
+
+  last_named : (entry : ℕ) (step : Step) → IsHalting code state.mark step → IsStepOf entry step → 536870912 ≤ entry
+  last_named entry (Leads s) is f = absurd is
+  last_named entry (Stays s) is f = absurd is
+  last_named entry (Halts leaf Emits) is f = omega (arith, f.0)
+  last_named entry (Halts leaf Skips) is f = omega (arith, f.0)
+  last_named entry (Halts leaf Asks) is f = omega (arith, f.0)
+  last_named entry (Closes leaf used) is f = absurd is
+  last_named entry Unsaid is f = omega (arith, f)
+
+  -- the entry of the end of the input
+  pub last_says : (entry : ℕ) (step : Step) → (IsStepOf entry step ⊎ IsStepOf entry Unsaid) → state.at_end ≡ None → IsHalting code state.mark step → IsLastEntry code state entry
+  last_says entry step is none halts = record {
+    says = only_step (SaysAtEnd code state) entry step is (ends_say step none halts) tt;
+    last = ⊎_elim (last_named entry step halts) (λ h. omega (arith, h)) is;
+  }
+
+  -- where the end leads on, the entry says nothing
+  pub last_unsaid : IsLastEntry code state 2147483648
+  last_unsaid = record { says = only_step (SaysAtEnd code state) 2147483648 Unsaid (inl (omega arith)) tt tt; last = omega arith }
+
+  -- the entry of a byte that does not stay leads on or ends the try
+  pub entry_moves : (b entry : ℕ) → IsEntry code state b entry → stays code state.fast_loop b ≡ false → (entry < 268435456) ⊎ (536870912 ≤ entry)
+  entry_moves b entry is out = ⊎_elim (λ h. h) (λ h. absurd (clash h)) (either entry)
     where
-      go : (other : Step) → IsStepOf entry other → (IsStepOf entry step ⊎ (entry ≡ 4294967295)) → Says code state b other
-      go other g (inl f) = subst (Says code state b) (sym (same_step entry step other f g)) said
-      go other g (inr f) = subst (Says code state b) (sym (unsaid_step other (subst (λ n. IsStepOf n other) f g))) tt
+      either : (n : ℕ) → ((n < 268435456) ⊎ (536870912 ≤ n)) ⊎ ((268435456 ≤ n) × (n < 536870912))
+      either n = grind arith
+
+      clash : (268435456 ≤ entry) × (entry < 536870912) → ⊥
+      clash h =
+          let said : Says code state b (Stays (entry - 268435456)) = is (Stays (entry - 268435456)) (omega (arith, h.0), omega (arith, h.0, h.1)) in
+          let e : true ≡ false = sym said.0 ∙ out in
+          cc
+
+-- the row for first bytes, from that of the root
+pub first_row_says : (code : CodeValue) (rows : List (List ℕ)) (row first : List ℕ) → AreRows code rows → code.root < length code.states → row ≡ get_or rows code.root row →
+    IsFirstOf row first → IsFirstRow code first
+first_row_says code rows row first are there is firsts b h =
+    let same : slice_index_or rows code.root [] ≡ row = row_at rows code.root row (let n = are.count in omega (arith, there, n)) is in
+    let said : IsEntry code (state_at code code.root) b (slice_index row b) = rw same at (are.each code.root there b h) in
+    let one = firsts.1 b h in
+    (first_says code (state_at code code.root) b (slice_index row b) (slice_index first b) said one.0, one.1)

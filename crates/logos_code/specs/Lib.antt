@@ -8,3 +8,4 @@ pub mod Order
 pub mod Signs
 pub mod Uses
 pub mod Rows
+pub mod Masks

@@ -1,51 +1,89 @@
 -- What contracts see of the rows of a code.
-use Rattle.std.specs.Prelude.{◌≡◌, ℕ, ◌+◌, ◌<◌, ◌≤◌, Bool, false, List, [], length, ◌==◌, Option, Some, None, slice_index, slice_index_or, slice_get}
-use Rattle.std.specs.List.{prefix_len}
-use Rattle.logos_code.specs.Code.{CodeValue, CodeState, by_conditions}
+use Rattle.std.specs.Prelude.{◌≡◌, ℕ, ◌+◌, ◌<◌, ◌≤◌, ◌⊎◌, true, false, List, [], length, Option, Some, None, slice_index, slice_index_or, slice_get}
+use Rattle.logos_automaton.specs.Munch.{Use}
+use Rattle.logos_code.specs.Code.{CodeValue, CodeState, Mark, by_conditions}
 use Rattle.logos_code.specs.CodeView.{state_at}
 use Rattle.logos_code.specs.Runs.{stays, target}
+use Rattle.logos_code.specs.declared.code.rows.MatchUse.{MatchUse}
+use Rattle.logos_code.specs.declared.code.rows.MatchUse.TheVariants.{Emits, Skips, Asks}
 use Rattle.logos_code.specs.declared.code.rows.Step.{Step}
-use Rattle.logos_code.specs.declared.code.rows.Step.TheVariants.{Leads, Closes, Halts, Unsaid}
-
--- the fast loop takes the byte, by the row of its state
-abbrev pub stays_by : List ℕ → ℕ → Bool
-stays_by row b = slice_index row b == 4294967294
-
--- Where the bytes at the front end that stay by the row: how many they are, and the entry of the byte behind them. They may all stay.
-abbrev pub StopsIn : List ℕ → List ℕ → Option (ℕ × ℕ) → Type 0
-StopsIn row bytes None = prefix_len (stays_by row) bytes ≡ length bytes
-StopsIn row bytes (Some stop) =
-    (stop.0 < length bytes) × (stop.0 ≡ prefix_len (stays_by row) bytes) × (stop.1 ≡ slice_index row (slice_index_or bytes stop.0 0))
+use Rattle.logos_code.specs.declared.code.rows.Step.TheVariants.{Leads, Stays, Closes, Halts, Unsaid}
 
 -- a state that marks a match of this leaf, and does nothing else
 abbrev pub closing : ℕ → CodeState
 closing leaf = record { fast_loop = None; mark = Some (record { leaf = leaf; late = false }); fork = by_conditions []; at_end = None }
 
+-- the first entry of those for matches that end before the byte
+abbrev pub first_halting : MatchUse → ℕ
+first_halting Skips = 536870912
+first_halting Emits = 805306368
+first_halting Asks = 1610612736
+
+-- and of those for matches that end after it
+abbrev pub first_closing : MatchUse → ℕ
+first_closing Emits = 1073741824
+first_closing Skips = 1342177280
+first_closing Asks = 1879048192
+
 -- the entry stands for this step
 abbrev pub IsStepOf : ℕ → Step → Type 0
-IsStepOf entry (Leads state) = (entry ≡ state) × (state < 1073741824)
-IsStepOf entry (Closes leaf) = (entry ≡ 1073741824 + leaf.0) × (leaf.0 < 1073741824)
-IsStepOf entry (Halts leaf) = (entry ≡ 2147483648 + leaf.0) × (leaf.0 < 1073741824)
-IsStepOf entry Unsaid = 3221225472 ≤ entry
+IsStepOf entry (Leads state) = (entry ≡ state) × (state < 268435456)
+IsStepOf entry (Stays test) = (entry ≡ 268435456 + test) × (test < 268435456)
+IsStepOf entry (Halts leaf used) = (entry ≡ first_halting used + leaf.0) × (leaf.0 < 268435456)
+IsStepOf entry (Closes leaf used) = (entry ≡ first_closing used + leaf.0) × (leaf.0 < 268435456)
+IsStepOf entry Unsaid = 2147483648 ≤ entry
 
--- what a step says of a byte that does not stay
+-- what becomes of matches without a callback
+abbrev pub IsPlainUse : Use → MatchUse → Type 0
+IsPlainUse leaf Emits = leaf ≡ record { skips = false; asks = false }
+IsPlainUse leaf Skips = leaf ≡ record { skips = true; asks = false }
+IsPlainUse leaf Asks = ⊥
+
+-- what becomes of the matches of a leaf; a callback may be asked for any
+abbrev pub IsUse : CodeValue → ℕ → MatchUse → Type 0
+IsUse code leaf Emits = slice_get code.leaves leaf ≡ Some (record { skips = false; asks = false })
+IsUse code leaf Skips = slice_get code.leaves leaf ≡ Some (record { skips = true; asks = false })
+IsUse code leaf Asks = Unit {0}
+
+-- the byte leads to a state that marks a match of this leaf, and does nothing else
+pub record LeadsToClosing (code : CodeValue) (state : CodeState) (b leaf : ℕ) : Type 0 where
+  pub next : ℕ
+  pub leads : target code state.fork b ≡ Some next
+  pub closes : slice_get code.states next ≡ Some (closing leaf)
+
+-- what a step says of a byte
 abbrev pub Says : CodeValue → CodeState → ℕ → Step → Type 0
-Says code state b (Leads next) = target code state.fork b ≡ Some next
-Says code state b (Closes leaf) = (next : ℕ) × (target code state.fork b ≡ Some next) × (slice_get code.states next ≡ Some (closing leaf.0))
-Says code state b (Halts leaf) = (target code state.fork b ≡ None) × (state.mark ≡ Some (record { leaf = leaf.0; late = false }))
+Says code state b (Leads next) = (stays code state.fast_loop b ≡ false) × (target code state.fork b ≡ Some next)
+Says code state b (Stays test) = (stays code state.fast_loop b ≡ true) × (state.fast_loop ≡ Some test)
+Says code state b (Halts leaf used) =
+    (stays code state.fast_loop b ≡ false) × (target code state.fork b ≡ None) × (state.mark ≡ Some (record { leaf = leaf.0; late = false })) × IsUse code leaf.0 used
+Says code state b (Closes leaf used) = (stays code state.fast_loop b ≡ false) × LeadsToClosing code state b leaf.0 × IsUse code leaf.0 used
 Says code state b Unsaid = Unit {0}
 
--- what a step says of the end of the input
-abbrev pub SaysAtEnd : CodeState → Step → Type 0
-SaysAtEnd state (Leads next) = ⊥
-SaysAtEnd state (Closes leaf) = ⊥
-SaysAtEnd state (Halts leaf) = (state.at_end ≡ None) × (state.mark ≡ Some (record { leaf = leaf.0; late = false }))
-SaysAtEnd state Unsaid = Unit {0}
+-- a step of a state with this mark, where nothing leads on
+abbrev pub IsHalting : CodeValue → Option Mark → Step → Type 0
+IsHalting code mark (Leads next) = ⊥
+IsHalting code mark (Stays test) = ⊥
+IsHalting code mark (Halts leaf used) = (mark ≡ Some (record { leaf = leaf.0; late = false })) × IsUse code leaf.0 used
+IsHalting code mark (Closes leaf used) = ⊥
+IsHalting code mark Unsaid = Unit {0}
 
--- An entry says of a byte whether the state's fast loop takes it, and what it does if not.
-pub record IsEntry (code : CodeValue) (state : CodeState) (b entry : ℕ) : Type 0 where
-  pub taken : (entry == 4294967294) ≡ stays code state.fast_loop b
-  pub says : stays code state.fast_loop b ≡ false → (step : Step) → IsStepOf entry step → Says code state b step
+-- what a step says of the end of the input
+abbrev pub SaysAtEnd : CodeValue → CodeState → Step → Type 0
+SaysAtEnd code state (Leads next) = ⊥
+SaysAtEnd code state (Stays test) = ⊥
+SaysAtEnd code state (Halts leaf used) = (state.at_end ≡ None) × (state.mark ≡ Some (record { leaf = leaf.0; late = false })) × IsUse code leaf.0 used
+SaysAtEnd code state (Closes leaf used) = ⊥
+SaysAtEnd code state Unsaid = Unit {0}
+
+-- the entry of a byte: what it stands for is so
+abbrev pub IsEntry : CodeValue → CodeState → ℕ → ℕ → Type 0
+IsEntry code state b entry = (step : Step) → IsStepOf entry step → Says code state b step
+
+-- the entry of the end of the input; it leads nowhere
+pub record IsLastEntry (code : CodeValue) (state : CodeState) (entry : ℕ) : Type 0 where
+  pub says : (step : Step) → IsStepOf entry step → SaysAtEnd code state step
+  pub last : 536870912 ≤ entry
 
 -- an entry for each byte
 abbrev pub IsRow : CodeValue → CodeState → List ℕ → Type 0
@@ -55,3 +93,21 @@ IsRow code state row = (b : ℕ) → b < 256 → IsEntry code state b (slice_ind
 pub record AreRows (code : CodeValue) (rows : List (List ℕ)) : Type 0 where
   pub count : length rows ≡ length code.states
   pub each : (s : ℕ) → s < length code.states → IsRow code (state_at code s) (slice_index_or rows s [])
+
+-- an entry that leads to a state, or comes after those of halting states
+abbrev pub BeginsTry : ℕ → Type 0
+BeginsTry entry = (entry < 268435456) ⊎ (1073741824 ≤ entry)
+
+-- the entry where it begins a try, or one that says nothing
+abbrev pub IsFirstEntry : ℕ → ℕ → Type 0
+IsFirstEntry entry first = ((first ≡ entry) ⊎ (2147483648 ≤ first)) × BeginsTry first
+
+abbrev pub IsFirstOf : List ℕ → List ℕ → Type 0
+IsFirstOf row first = (length first ≡ 256) × ((b : ℕ) → b < 256 → IsFirstEntry (slice_index row b) (slice_index first b))
+
+-- the entry of the first byte of a try
+abbrev pub IsFirst : CodeValue → ℕ → ℕ → Type 0
+IsFirst code b entry = IsEntry code (state_at code code.root) b entry × BeginsTry entry
+
+abbrev pub IsFirstRow : CodeValue → List ℕ → Type 0
+IsFirstRow code row = (b : ℕ) → b < 256 → IsFirst code b (slice_index row b)

@@ -2,7 +2,8 @@
 use Rattle.std.specs.Prelude.{◌≡◌, ℕ, List, map}
 use Rattle.logos_automaton.specs.Munch.{Use}
 use Rattle.logos_code.specs.CodeView.{code_of, IsKept}
-use Rattle.logos_code.specs.Rows.{AreRows}
+use Rattle.logos_code.specs.Masks.{AreMasks}
+use Rattle.logos_code.specs.Rows.{AreRows, IsFirstRow}
 use Rattle.logos_code.specs.Signs.{mark_by, AreSigns}
 use Rattle.logos_code.specs.declared.code.CodeParts.{CodeParts}
 use Rattle.logos_code.specs.declared.code.signs.Sign.{Sign}
@@ -11,7 +12,11 @@ use Rattle.logos_code.specs.declared.code.uses.LeafUse.{LeafUse}
 abbrev pub use_by : LeafUse → Use
 use_by flags = record { skips = flags.skips; asks = flags.asks }
 
--- the parts are kept, and the rows, signs and uses beside them say what these parts do
-abbrev pub IsWhole : CodeParts → List (List ℕ) → List Sign → List LeafUse → Type 0
-IsWhole parts rows signs uses =
-    IsKept parts × AreRows (code_of parts) rows × AreSigns (code_of parts) (map mark_by signs) × (map use_by uses ≡ (code_of parts).leaves)
+-- the parts are kept, and the tables beside them say what these parts do
+pub record IsWhole (parts : CodeParts) (first : List ℕ) (rows masks : List (List ℕ)) (signs : List Sign) (uses : List LeafUse) : Type 0 where
+  pub kept : IsKept parts
+  pub first_row : IsFirstRow (code_of parts) first
+  pub all_rows : AreRows (code_of parts) rows
+  pub all_masks : AreMasks (code_of parts) masks
+  pub all_signs : AreSigns (code_of parts) (map mark_by signs)
+  pub all_uses : map use_by uses ≡ (code_of parts).leaves

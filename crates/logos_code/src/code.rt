@@ -1,13 +1,16 @@
 //! Code values: what a lexer does in each state.
-ghost use Rattle.std.specs.Prelude.{◌≡◌, ◌<◌, length, option_map, option_copied};
-ghost use Rattle.logos_code.specs.Headline.{IsSound};
+ghost use Rattle.std.specs.Prelude.{◌≡◌, ◌<◌, length, option_map, option_copied, IfSome};
+ghost use Rattle.logos_code.specs.Bytes.{passes_test};
+ghost use Rattle.logos_code.specs.Headline.{IsSound, NamesTest};
 ghost use Rattle.logos_code.specs.CodeView.{entry_of, state_at, asks_for};
 ghost use Rattle.logos_code.specs.CodeView.{skips_over, code_of, IsKept};
 ghost use Rattle.logos_code.specs.Runs.{target};
-ghost use Rattle.logos_code.specs.Rows.{IsRow, SaysAtEnd};
+ghost use Rattle.logos_code.specs.Masks.{IsMask};
+ghost use Rattle.logos_code.specs.Rows.{IsEntry, IsFirst, IsLastEntry};
 ghost use Rattle.logos_code.specs.Signs.{mark_by};
 
 pub(crate) mod making;
+mod masks;
 pub mod rows;
 pub mod signs;
 pub(crate) mod uses;
@@ -17,7 +20,7 @@ use logos_hir::leaf::LeafId;
 use logos_pattern::leaf::{Callback, VariantKind};
 use logos_token::token::Ident;
 use logos_type::TypeExpr;
-use rows::Step;
+use rows::{UNSAID, entry_of_step};
 use signs::Sign;
 use std::marker::Model;
 use uses::LeafUse;
@@ -112,8 +115,12 @@ pub struct CodeParts<'s> {
 #[derive(Drop)]
 pub struct Code<'s> {
     parts: CodeParts<'s>,
+    /// What each byte does at the start of a try.
+    first: [u32; 256],
     /// What each byte does in each state, so that running the code takes one look a byte.
     rows: Vec<[u32; 256]>,
+    /// The tests, for eight bytes at once.
+    masks: Vec<[u8; 2048]>,
     /// What the mark of each state says.
     signs: Vec<Sign>,
     /// What becomes of the matches of each leaf.
@@ -136,7 +143,7 @@ impl<'s> Model for Code<'s> {
 
     ghost view = { λ code. code_of code.parts };
 
-    ghost invariant = { λ code. IsWhole code.parts code.rows.items
+    ghost invariant = { λ code. IsWhole code.parts code.first code.rows.items code.masks.items
         code.signs.items code.uses.items };
 }
 
@@ -202,13 +209,32 @@ impl Code<'_> {
         self.parts.utf8
     }
 
-    /// Returns the row of the state: an entry for each byte.
+    /// Returns the entry of the first byte of a try. It leads to a state, closes a match or says nothing.
     #[inline(always)]
-    pub fn row(&self, state: usize) -> &[u32; 256]
-        requires { state < length self.now.states }
-        ensures { IsRow self.now (state_at self.now state) result.now }
+    pub fn first_entry(&self, byte: u8) -> u32
+        ensures first { IsFirst self.now byte result }
+        ensures sound { IsSound self.now }
     {
-        &self.rows[state]
+        let _ = &self.parts;
+        self.first[byte as usize]
+    }
+
+    /// Returns the entry of the byte in the state.
+    #[inline(always)]
+    pub fn entry(&self, state: usize, byte: u8) -> u32
+        requires { state < length self.now.states }
+        ensures { IsEntry self.now (state_at self.now state) byte result }
+    {
+        self.rows[state][byte as usize]
+    }
+
+    /// Returns the mask of the test. Entry `8 * b + k` is 0 where byte `b` passes the test, and else has bit `k` alone.
+    #[inline(always)]
+    pub fn mask(&self, test: usize) -> &[u8; 2048]
+        requires { NamesTest self.now test }
+        ensures { IsMask (passes_test self.now.bit_tables test) result.now }
+    {
+        &self.masks[test]
     }
 
     /// Returns the state that the byte leads to from this state, if it leads anywhere.
@@ -219,21 +245,27 @@ impl Code<'_> {
         self.parts.target(&self.parts.states[state].fork, byte)
     }
 
-    /// Returns what the end of the input does in the state.
-    #[inline(always)]
-    pub fn last_step(&self, state: usize) -> Step
+    /// Returns the entry of the end of the input in the state.
+    #[cold]
+    #[inline(never)]
+    pub fn last_entry(&self, state: usize) -> u32
         requires { state < length self.now.states }
-        ensures says { SaysAtEnd (state_at self.now state) result }
-        ensures sound { IsSound self.now }
+        ensures { IsLastEntry self.now (state_at self.now state) result }
     {
-        let _ = &self.parts;
-        if self.at_end(state).is_some() {
-            return Step::Unsaid;
+        let state = &self.parts.states[state];
+        if state.at_end.is_some() {
+            return UNSAID;
         }
-        match self.sign(state) {
-            Sign::Here(leaf) => Step::Halts(leaf),
-            _ => Step::Unsaid,
-        }
+        entry_of_step(self.parts.halting_step(state.mark))
+    }
+
+    /// Returns the number of the test of the state's fast loop, if it has one.
+    pub fn fast_loop(&self, state: usize) -> Option<usize>
+        requires { state < length self.now.states }
+        ensures is { result ≡ (state_at self.now state).fast_loop }
+        ensures there { IfSome result (NamesTest self.now) }
+    {
+        self.parts.states[state].fast_loop
     }
 
     /// Returns the sign of the state: what its mark says.

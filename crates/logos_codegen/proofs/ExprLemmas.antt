@@ -27,7 +27,7 @@ use Rattle.logos_codegen.specs.Language.{IsLanguage}
 use Rattle.logos_codegen.specs.declared.expr.TheConstants.{SOURCE}
 use Rattle.logos_codegen.specs.Tokenizing.{Token, Outcome, gives, bad, emits, kind_at, kind_given, kinds_of_views, in_front, IsErrorAt, outcome_of, AreRead, all_read, token_read, error_read, Tokenizes, IsOutcome, IsRefusalOf, IsThatError}
 use Rattle.logos_codegen.proofs.AcceptLemmas.{accepted_once, kinds_once}
-use Rattle.logos_codegen.proofs.LexLemmas.{may_by, lexes_by}
+use Rattle.logos_machine.proofs.ItemsLemmas.{may_by, lexes_by}
 
 -- in front of nothing
 pub in_front_none : (outcome : Outcome) → in_front [] outcome ≡ outcome

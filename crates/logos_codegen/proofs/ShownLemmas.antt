@@ -6,7 +6,7 @@ use Rattle.logos_type.specs.Parts.{Tree as TypeTree}
 use Rattle.logos_measures.specs.Measure.{is_text}
 use Rattle.logos_item.specs.Values.{Slice}
 use Rattle.logos_pattern.specs.Leaf.{KindValue, plain, holding, skipped}
-use Rattle.logos_attribute.specs.Told.{fault, only}
+use Rattle.logos_attribute.specs.Reports.{fault, only}
 use Rattle.logos_automaton.specs.Munch.{Rule}
 use Rattle.logos_leaf.specs.Leaves.{LeafView}
 use Rattle.logos_leaf.proofs.agreement.Leaves.{ShownKind, Shown, shown_kind, shown}

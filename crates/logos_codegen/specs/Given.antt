@@ -1,6 +1,7 @@
 -- What `generate` gives for a source without faults.
-use Rattle.std.specs.Prelude.{◌≡◌, ℕ, List, [], map, Option, Some, None, option_map}
+use Rattle.std.specs.Prelude.{◌≡◌, ℕ, List, [], map, Option, Some, None, option_map, slice_get}
 use Rattle.logos_lexeme.specs.declared.lexeme.Span.{Span}
+use Rattle.logos_token.specs.declared.token.Ident.{Ident}
 use Rattle.logos_type.specs.TypeTrees.{type_tree}
 use Rattle.logos_type_params.specs.Generics.{generics}
 use Rattle.logos_item.specs.EnumValues.{EnumValue}
@@ -8,6 +9,8 @@ use Rattle.logos_item.specs.Values.{Slice, ident_slice}
 use Rattle.logos_attribute.specs.CallbackViews.{callback_view}
 use Rattle.logos_attribute.specs.Callbacks.{CallbackView}
 use Rattle.logos_definition.specs.Options.{OptionsView}
+use Rattle.logos_pattern.specs.Leaf.{KindValue, plain, holding, skipped, kind_value}
+use Rattle.logos_pattern.specs.declared.leaf.Leaf.{Leaf}
 use Rattle.logos_leaf.specs.LeafViews.{leaf_view}
 use Rattle.logos_leaf.specs.Sources.{utf8_mode}
 use Rattle.logos_source.specs.Endings.{Says}
@@ -49,3 +52,13 @@ pub record IsGiven (source : List ℕ) (config : Config) (graph : GraphValue) (c
   pub of_source : IsGraphOfSource source name options graph
   pub keeps : KeepsEnum config name options graph code
   pub exports : export ≡ option_map (λ e. e.path) options.export_path
+
+-- The name of the variant of this kind; a skip has none.
+abbrev pub variant_name : KindValue → Option Ident
+variant_name (plain name) = Some name
+variant_name (holding name type) = Some name
+variant_name skipped = None
+
+-- The name of the variant of the leaf of this number. A skip has none, and where there is no such leaf there is none.
+abbrev pub variant_at : List Leaf → ℕ → Option Ident
+variant_at leaves number = elim (slice_get leaves number) [ None ↦ None | Some leaf ↦ variant_name (kind_value leaf.kind) ]

@@ -8,6 +8,7 @@ ghost use Rattle.logos_automaton.specs.Errors.{fault_of};
 ghost use Rattle.logos_item.specs.Values.{ident_slice};
 ghost use Rattle.logos_attribute.specs.CallbackViews.{callback_view};
 ghost use Rattle.logos_definition.specs.ParserViews.{parser_view};
+ghost use Rattle.logos_pattern.specs.Leaf.{kind_value};
 ghost use Rattle.logos_leaf.specs.Sources.{utf8_mode};
 ghost use Rattle.logos_graph.specs.GraphOf.{IsGraphOf};
 ghost use Rattle.logos_graph.specs.View.{rules_of};
@@ -21,6 +22,7 @@ ghost use Rattle.logos_text.specs.Standing.{StandInOrder};
 ghost use Rattle.logos_text.specs.Texts.{texts_of};
 ghost use Rattle.logos_codegen.specs.Texts.{named_leaf, reported_as};
 ghost use Rattle.logos_codegen.specs.Given.{IsGiven, KeepsEnum, error_callback};
+ghost use Rattle.logos_codegen.specs.Given.{variant_name, variant_at};
 ghost use Rattle.logos_codegen.specs.RunLaws.{RunsAreCut};
 ghost use Rattle.logos_codegen.specs.Source.{IsAccepted, IsRefused};
 ghost use Rattle.logos_codegen.specs.Source.{IsWithinSizes, IsWithinLimits};
@@ -33,8 +35,9 @@ use logos_definition::parser::{ExportPath, Parser};
 use logos_generator::code::Code;
 use logos_generator::generator::{Config, Generator};
 use logos_graph::graph::{BuildError, Config as GraphConfig, Graph, GraphError};
+use logos_hir::leaf::LeafId;
 use logos_leaf::source::utf8_mode;
-use logos_pattern::leaf::{Callback, Leaf};
+use logos_pattern::leaf::{Callback, Leaf, VariantKind};
 use logos_source::analysis::{Analysis, analyze};
 use logos_source::refusal::Refusal;
 use logos_text::{Around, gap_after, text_in};
@@ -123,6 +126,32 @@ impl Generated<'_> {
             source,
         };
         text_in(alloc, &self.code, around)
+    }
+}
+
+/// Returns the name of the variant of this kind, unless it is a skip.
+fn variant_name<'s>(kind: &VariantKind<'s>) -> Option<Ident<'s>>
+    ensures { result ≡ variant_name (kind_value kind.now) }
+{
+    match kind {
+        VariantKind::Unit(name) => Some(*name),
+        VariantKind::Value(name, _) => Some(*name),
+        VariantKind::Skip => None,
+    }
+}
+
+impl<'s> Generated<'s> {
+    /// Returns the name of the variant that the matches of a leaf give, with its span in the source.
+    /// Returns `None` for a skip, and where no leaf has this number.
+    ///
+    /// An item of `Lexer` names its leaf by number, so `variant` leads from an item to the enum.
+    pub fn variant(&self, leaf: LeafId) -> Option<Ident<'s>>
+        ensures { result ≡ variant_at self.now.graph.leaves leaf.0 }
+    {
+        match self.graph.leaves().get(leaf.0) {
+            Some(leaf) => variant_name(&leaf.kind),
+            None => None,
+        }
     }
 }
 

@@ -94,12 +94,8 @@ fn lex_input<'i, C: Fn(LeafId, &[u8]) -> Action + Drop>(
     ensures text { IfOk result (λ items. IsTrue code.now.utf8 → IsUtf8 input.now) }
     ensures err { IfErr result (IsUnlexed code.now input.now) }
 {
-    let mut items = Vec::new(alloc);
-    let mut lexer = Lexer::new_bytes(code, input, callbacks)?;
-    while let Some(item) = lexer.next() {
-        items.push(item)?;
-    }
-    Ok(items)
+    let lexer = Lexer::new_bytes(code, input, callbacks)?;
+    Ok(lexer.items(alloc)?)
 }
 
 /// Returns the items of an input, by the leaves of a source.

@@ -12,6 +12,7 @@ use Rattle.logos_code.specs.Code.{CodeValue}
 use Rattle.logos_code.specs.declared.code.Config.{Config}
 use Rattle.logos_codegen.specs.Given.{IsGiven}
 use Rattle.logos_codegen.specs.Source.{IsAccepted, IsRefused}
+use Rattle.logos_disk.specs.Reading.{ReadsSome, ReadsBoth}
 use Rattle.logos_commands.specs.declared.failure.Failure.{Failure}
 use Rattle.logos_commands.specs.declared.failure.Failure.TheVariants.{Refused, NotUtf8, NotExported}
 use Rattle.logos_commands.specs.declared.failure.ExportRefusal.{ExportRefusal}
@@ -92,36 +93,21 @@ abbrev pub RefusesExport : Destination → Failure → Type 0
 RefusesExport destination (NotExported why) = destination ≡ refused why
 RefusesExport destination failure = ⊥
 
--- ---- files: `gives` holds of files, a path, all bytes that are read there, and the files after that
-
--- a file is read, and this holds of its bytes and of the files after that
-pub record Reads {F : Type 0} (gives : F → List ℕ → List ℕ → F → Type 0) (files : F) (path : List ℕ) (Holds : List ℕ → F → Type 0) : Type 0 where
-  pub bytes : List ℕ
-  pub after : F
-  pub given : gives files path bytes after
-  pub holds : Holds bytes after
+-- ---- runs: `gives` holds of files, a path, all bytes that are read there, and the files after that
 
 module _ {F : Type 0} (gives : F → List ℕ → List ℕ → F → Type 0) where
-  -- a file is read, and this holds of its bytes
-  abbrev pub ReadsSome : F → List ℕ → (List ℕ → Type 0) → Type 0
-  ReadsSome files path Holds = Reads gives files path (λ bytes after. Holds bytes)
-
-  -- a file is read, and then an input, and this holds of the bytes of both
-  abbrev pub ReadsBoth : F → List ℕ → List ℕ → (List ℕ → List ℕ → Type 0) → Type 0
-  ReadsBoth files path input Holds = Reads gives files path (λ source between. ReadsSome between input (Holds source))
-
   -- what is asked for can be had: the files give what is accepted
   abbrev pub IsDone : Asked → F → Type 0
-  IsDone (asks_text file shape) files = ReadsSome files file IsFaultless
-  IsDone (asks_items file input shape) files = ReadsBoth files file input IsLexed
-  IsDone (asks_chart file) files = ReadsSome files file IsFaultless
-  IsDone (asks_export file) files = ReadsSome files file IsFaultless
-  IsDone (asks_strip file) files = ReadsSome files file IsStrippable
+  IsDone (asks_text file shape) files = ReadsSome gives files file IsFaultless
+  IsDone (asks_items file input shape) files = ReadsBoth gives files file input IsLexed
+  IsDone (asks_chart file) files = ReadsSome gives files file IsFaultless
+  IsDone (asks_export file) files = ReadsSome gives files file IsFaultless
+  IsDone (asks_strip file) files = ReadsSome gives files file IsStrippable
 
   -- what is asked for cannot be had: the files give what is refused so
   abbrev pub IsDenied : Asked → F → Failure → Type 0
-  IsDenied (asks_text file shape) files failure = ReadsSome files file (λ source. RefusesLexer source Text failure)
-  IsDenied (asks_items file input shape) files failure = ReadsBoth files file input (λ source bytes. RefusesInput source bytes failure)
-  IsDenied (asks_chart file) files failure = ReadsSome files file (λ source. RefusesLexer source Chart failure)
-  IsDenied (asks_export file) files failure = ReadsSome files file (λ source. RefusesLexer source Export failure)
-  IsDenied (asks_strip file) files failure = ReadsSome files file (λ source. RefusesStripping source failure)
+  IsDenied (asks_text file shape) files failure = ReadsSome gives files file (λ source. RefusesLexer source Text failure)
+  IsDenied (asks_items file input shape) files failure = ReadsBoth gives files file input (λ source bytes. RefusesInput source bytes failure)
+  IsDenied (asks_chart file) files failure = ReadsSome gives files file (λ source. RefusesLexer source Chart failure)
+  IsDenied (asks_export file) files failure = ReadsSome gives files file (λ source. RefusesLexer source Export failure)
+  IsDenied (asks_strip file) files failure = ReadsSome gives files file (λ source. RefusesStripping source failure)

@@ -6,10 +6,10 @@ ghost use Rattle.logos_machine.specs.LexerValue.{item_of};
 ghost use Rattle.logos_commands.specs.Commands.{status_of};
 ghost use Rattle.logos_commands.specs.Lines.{line_of};
 ghost use Rattle.logos_commands.specs.declared.failure.Failure.TheVariants.{Output};
-ghost use Rattle.logos_commands.specs.Runs.{IsLexed, IsTornBy, ReadsBoth, RefusesInput};
+ghost use Rattle.logos_commands.specs.Runs.{IsLexed, IsTornBy, RefusesInput};
+ghost use Rattle.logos_disk.specs.Reading.{ReadsBoth};
 
 use crate::failure::Failure;
-use crate::files::Files;
 use crate::lines::{LONGEST, write_line};
 use crate::reading::{read, read_text};
 use logos_codegen::code::Code;
@@ -17,6 +17,7 @@ use logos_codegen::generate;
 use logos_codegen::generator::Config;
 use logos_codegen::leaf::LeafId;
 use logos_codegen::machine::{Action, Item, Lexer};
+use logos_disk::Files;
 use std::alloc::Global;
 use std::io::Write;
 

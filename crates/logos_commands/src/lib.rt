@@ -5,12 +5,11 @@
 mod chart_path;
 mod command;
 mod failure;
-mod files;
 mod lexing;
 mod lines;
 mod outcome;
 mod reading;
 mod running;
 
-pub use files::{FileError, Files};
+pub use logos_disk::{FileError, Files};
 pub use running::{refuse_words, run};

@@ -4,17 +4,18 @@ ghost use Rattle.std.specs.Prelude.{◌≡◌, ◌≢◌, IfErr, IfOk, option_ma
 ghost use Rattle.logos_commands.specs.Charts.{export_destination, file_at};
 ghost use Rattle.logos_commands.specs.inside.Destinations.{FailsAt, IsChartAt};
 ghost use Rattle.logos_commands.specs.Commands.{status_of};
-ghost use Rattle.logos_commands.specs.Runs.{IsFaultless, IsStrippable, ReadsSome};
+ghost use Rattle.logos_commands.specs.Runs.{IsFaultless, IsStrippable};
+ghost use Rattle.logos_disk.specs.Reading.{ReadsSome};
 ghost use Rattle.logos_commands.specs.Runs.{RefusesExport, RefusesLexer, RefusesStripping};
 
 use crate::chart_path::chart_path;
 use crate::failure::{ExportRefusal, Failure};
-use crate::files::Files;
 use crate::reading::read_text;
 use logos_codegen::generator::Config;
 use logos_codegen::graph::{Graph, State};
 use logos_codegen::token::print;
 use logos_codegen::{Generated, generate, strip_attributes};
+use logos_disk::Files;
 use std::alloc::Global;
 
 /// The outcome of a command.

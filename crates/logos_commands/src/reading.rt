@@ -4,7 +4,7 @@ ghost use Rattle.std.specs.Prelude.{◌≡◌, IfErr, IfOk, string_bytes};
 ghost use Rattle.logos_commands.specs.Commands.{status_of};
 
 use crate::failure::Failure;
-use crate::files::{FileError, Files};
+use logos_disk::{FileError, Files};
 
 /// Reads all bytes of a file.
 pub(super) fn read<'w, F: Files>(path: &'w str, files: &mut F) -> Result<Vec<u8>, Failure<'w>>

@@ -4,15 +4,16 @@ ghost use Rattle.std.specs.Prelude.{◌≡◌, ◌≤◌, ◌⊎◌, ◌↔◌, 
 ghost use Rattle.std.specs.Prelude.{IfErr, IfSome, OnOk};
 ghost use Rattle.logos_commands.specs.Commands.{asked, command_asked, status_of};
 ghost use Rattle.logos_commands.specs.Runs.{IsDone, IsDenied, IsFaultless, IsStrippable};
-ghost use Rattle.logos_commands.specs.Runs.{ReadsSome, RefusesLexer, RefusesStripping};
+ghost use Rattle.logos_commands.specs.Runs.{RefusesLexer, RefusesStripping};
+ghost use Rattle.logos_disk.specs.Reading.{ReadsSome};
 ghost use Rattle.logos_commands.specs.declared.failure.Failure.{Failure as Why};
 
 use crate::command::{Command, command_of};
 use crate::failure::{Failure, report};
-use crate::files::{FileError, Files};
 use crate::lexing::lex;
 use crate::outcome::{ANY_SHAPE, Asked, Outcome, of_file, stripped};
 use logos_codegen::generator::Config;
+use logos_disk::{FileError, Files};
 use std::alloc::Global;
 use std::io;
 use std::io::{ErrorKind, Write};

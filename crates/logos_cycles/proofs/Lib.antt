@@ -1,5 +1,5 @@
 pub mod ListLemmas
 pub mod PlaceLemmas
 pub mod MarkLemmas
-pub mod ReachedLemmas
+pub mod TraversalLemmas
 pub mod WalkLemmas

@@ -1,7 +1,7 @@
 -- Which nodes of a directed graph lead to which.
 use Rattle.std.specs.Prelude.{ℕ, List, [], Contains, slice_index_or}
 
--- the nodes to which an edge leads from this one; none from a node that is not there
+-- the nodes to which the edges of this node lead; none if there is no such node
 abbrev pub targets_of : List (List ℕ) → ℕ → List ℕ
 targets_of lists from = slice_index_or lists from []
 

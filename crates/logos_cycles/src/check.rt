@@ -1,4 +1,4 @@
-//! Whether nodes stand where it is said, and which lie on a cycle if so.
+//! Checks the places of all nodes, and reads off them which nodes lie on a cycle.
 ghost use Rattle.std.specs.Prelude.{◌≡◌, ℕ, ◌<◌, ◌↔◌, Some, true, false, IfOk, IfSome, IsTrue, Contains, length, vec_len, slice_index_or};
 ghost use Rattle.std.specs.List.{slice_get};
 ghost use Rattle.logos_cycles.specs.Cycles.{Leads};
@@ -7,7 +7,7 @@ ghost use Rattle.logos_cycles.specs.inside.Places.{graph, Edge, Follows, GoesTow
 use crate::evidence::Place;
 use std::alloc::{AllocError, Global};
 
-/// Where an edge of a node leads.
+/// Returns the node to which an edge of `node` leads. `edge` is its index in the list of `node`.
 fn target(lists: &[Vec<usize>], node: usize, edge: usize) -> Option<usize>
     ensures { IfSome result (λ to. Edge (graph lists.now) node to) }
 {
@@ -16,7 +16,7 @@ fn target(lists: &[Vec<usize>], node: usize, edge: usize) -> Option<usize>
     Some(*to)
 }
 
-/// Whether a node is its root, or its edge leads nearer to that.
+/// Returns whether `node` is its own root, or its edge `toward` leads to a node nearer to the root.
 fn goes_toward(lists: &[Vec<usize>], places: &[Place], node: usize, place: Place) -> bool
     ensures { IsTrue result → GoesToward (graph lists.now) places.now node place }
 {
@@ -35,7 +35,8 @@ fn goes_toward(lists: &[Vec<usize>], places: &[Place], node: usize, place: Place
     other.to_rank < place.to_rank
 }
 
-/// Whether a node is its root, or is led to by a node that is nearer behind that.
+/// Returns whether `node` is its own root, or the edge that its place names comes from a node that
+/// the root reaches in fewer edges.
 fn comes_from(lists: &[Vec<usize>], places: &[Place], node: usize, place: Place) -> bool
     ensures { IsTrue result → ComesFrom (graph lists.now) places.now node place }
 {
@@ -54,7 +55,7 @@ fn comes_from(lists: &[Vec<usize>], places: &[Place], node: usize, place: Place)
     other.from_rank < place.from_rank
 }
 
-/// Whether an edge to this node leads on to a later component, or stays in this one.
+/// Returns whether the node `to` is in a later component than `place`, or in the same one.
 fn follows(places: &[Place], place: Place, to: usize) -> bool
     ensures { IsTrue result → (next : Place) →
         slice_get places.now to ≡ Some next → Follows place next }
@@ -65,7 +66,7 @@ fn follows(places: &[Place], place: Place, to: usize) -> bool
     place.order < next.order || place.order == next.order && place.root == next.root
 }
 
-/// Whether edges to these nodes lead on to later components, or stay in this one.
+/// Returns whether each of these nodes is in a later component than `place`, or in the same one.
 fn follow_all(places: &[Place], place: Place, targets: &[usize]) -> bool
     ensures { IsTrue result → FollowAll places.now place targets.now }
 {
@@ -77,7 +78,7 @@ fn follow_all(places: &[Place], place: Place, targets: &[usize]) -> bool
     true
 }
 
-/// Whether a node stands where it is said.
+/// Returns whether the place of `node` is right.
 fn is_placed(lists: &[Vec<usize>], places: &[Place], node: usize) -> bool
     ensures { IsTrue result → (place : Place) → slice_get places.now node ≡ Some place →
         IsPlaced (graph lists.now) places.now node place }
@@ -97,7 +98,7 @@ fn is_placed(lists: &[Vec<usize>], places: &[Place], node: usize) -> bool
     follow_all(places, *place, list)
 }
 
-/// Whether each node stands where it is said.
+/// Returns whether the places of all nodes are right.
 pub(crate) fn is_evidence(lists: &[Vec<usize>], places: &[Place]) -> bool
     ensures { IsTrue result → IsEvidence (graph lists.now) places.now }
 {
@@ -112,7 +113,7 @@ pub(crate) fn is_evidence(lists: &[Vec<usize>], places: &[Place]) -> bool
     true
 }
 
-/// Whether a node has this root.
+/// Returns whether `node` has this root.
 fn has_root(places: &[Place], node: usize, root: usize) -> bool
     ensures { IsTrue result ↔ HasRoot places.now node root }
 {
@@ -122,7 +123,7 @@ fn has_root(places: &[Place], node: usize, root: usize) -> bool
     place.root == root
 }
 
-/// Whether one of these nodes has this root.
+/// Returns whether one of these nodes has this root.
 fn has_inner(places: &[Place], root: usize, targets: &[usize]) -> bool
     ensures { IsTrue result ↔ HasInner places.now root targets.now }
 {
@@ -134,7 +135,7 @@ fn has_inner(places: &[Place], root: usize, targets: &[usize]) -> bool
     false
 }
 
-/// Whether a node lies on a cycle.
+/// Returns whether `node` lies on a cycle: whether one of its edges stays in its component.
 fn mark(lists: &[Vec<usize>], places: &[Place], node: usize) -> bool
     requires within { node < length lists.now }
     requires evidence { IsEvidence (graph lists.now) places.now }
@@ -143,7 +144,11 @@ fn mark(lists: &[Vec<usize>], places: &[Place], node: usize) -> bool
     has_inner(places, places[node].root, &lists[node])
 }
 
-/// Which nodes lie on a cycle.
+/// Returns for each node whether it lies on a cycle.
+///
+/// # Errors
+///
+/// `AllocError` if there is not enough memory.
 pub(crate) fn marks(
     alloc: Global,
     lists: &[Vec<usize>],

@@ -1,5 +1,5 @@
-//! Where nodes stand among the components of a graph. Nothing is promised here of what is found: it
-//! is checked behind this.
+//! Finds the place of each node among the components of a graph. The functions here have no
+//! contracts: what they find is checked afterwards.
 mod backward;
 mod forward;
 
@@ -7,27 +7,27 @@ use crate::evidence::backward::Backward;
 use crate::evidence::forward::Forward;
 use std::alloc::{AllocError, Global};
 
-/// Where a node stands among the components of its graph, which are sets of nodes that all lead to
-/// one another.
+/// The place of a node among the components of its graph. A component is a greatest set of nodes
+/// that all lead to one another.
 #[derive(Clone, Copy)]
 pub(crate) struct Place {
-    /// The node that stands for its component.
+    /// The node that its component is named by.
     pub(crate) root: usize,
-    /// A number of its component, which grows along edges between components.
+    /// The number of its component. Edges between components lead to greater numbers.
     pub(crate) order: usize,
-    /// Which of its edges leads nearer to the root.
+    /// The index of its edge that leads nearer to the root.
     pub(crate) toward: usize,
-    /// How far it is from the root along those edges.
+    /// Its distance to the root along those edges.
     pub(crate) to_rank: usize,
-    /// A node that is nearer behind the root and leads to it.
+    /// A node that leads to it and is nearer to the root, on a path from the root.
     pub(crate) from: usize,
-    /// Which of that node's edges does.
+    /// The index of the edge of that node that leads to it.
     pub(crate) edge: usize,
-    /// How far it is behind the root along those edges.
+    /// Its distance from the root along that path.
     pub(crate) from_rank: usize,
 }
 
-/// Whether a node is there and was not met; from now on it was.
+/// Marks a node as met. Returns `false` if it was met before, or if there is no such node.
 fn meets(met: &mut [bool], node: usize) -> bool {
     let Some(met) = met.get_mut(node) else {
         return false;
@@ -39,8 +39,12 @@ fn meets(met: &mut [bool], node: usize) -> bool {
     true
 }
 
-/// Finds where each node stands: a walk along the edges gives the order in which nodes are left,
-/// and in that order, from its end, walks against the edges give the components.
+/// Returns the place of each node. A walk along the edges gives the order in which nodes are
+/// finished. Walks against the edges, from the last node of that order on, give the components.
+///
+/// # Errors
+///
+/// `AllocError` if there is not enough memory.
 pub(crate) fn places(alloc: Global, lists: &[Vec<usize>]) -> Result<Vec<Place>, AllocError> {
     let mut forward = Forward::new(alloc, lists.len())?;
     forward.walk(lists)?;

@@ -1,4 +1,4 @@
-//! Which nodes of a directed graph lie on a cycle.
+//! Finds the nodes of a directed graph that lie on a cycle.
 
 #![tactic(auto)]
 
@@ -11,14 +11,17 @@ mod plain;
 
 use std::alloc::{AllocError, Global};
 
-/// Which nodes lie on a cycle. `lists` has for each node, by its number, the numbers of the nodes
-/// to which its edges lead; numbers of no node lead nowhere. It fails only where there is no
-/// memory.
+/// Returns for each node whether it lies on a cycle. `lists` has for each node, by its number, the
+/// numbers of the nodes to which its edges lead. Numbers of nodes that are not there lead nowhere.
 ///
-/// Two walks along the edges find where the nodes stand among the components of the graph, and that
-/// is checked before the marks are read off it: all in time that grows with the numbers of nodes
-/// and edges. The check was never seen to fail; if it did, each node would be walked from alone,
-/// with the same answer, in time that grows with the product of the two.
+/// Two walks find the components of the graph, and these are checked before the answer is read off
+/// them. This takes time linear in the numbers of nodes and edges. The check was never seen to
+/// fail. If it did, a walk from each node would give the same answer, in time that grows with the
+/// product of the two.
+///
+/// # Errors
+///
+/// `AllocError` if there is not enough memory.
 pub fn on_cycles(alloc: Global, lists: &[Vec<usize>]) -> Result<Vec<bool>, AllocError>
     ensures length { IfOk result (λ marks. vec_len marks ≡ length lists.now) }
     ensures marks { IfOk result (λ marks. (node : ℕ) → node < length lists.now →

@@ -1,76 +1,80 @@
-//! Which nodes lie on a cycle, by a walk from each of them.
+//! Finds the nodes that lie on a cycle by a walk from each of them.
 ghost use Rattle.std.specs.Prelude.{◌≡◌, ℕ, ◌<◌, ◌↔◌, [], ◌∷◌, true, false, IfOk, OnOk, IsTrue, Contains, length, vec_len, slice_index_or};
 ghost use Rattle.logos_cycles.specs.Cycles.{Leads, targets_of};
 ghost use Rattle.logos_cycles.specs.inside.Places.{graph};
-ghost use Rattle.logos_cycles.specs.inside.Reached.{Reaches};
+ghost use Rattle.logos_cycles.specs.inside.Traversals.{Reaches};
 
 use std::alloc::{AllocError, Global};
 
-/// The nodes to which one leads, as far as they are found.
+/// The nodes found by a walk from one node.
 #[derive(Drop)]
-struct Reached {
-    /// Which nodes are found.
+struct Traversal {
+    /// For each node, whether it is found.
     found: Vec<bool>,
-    /// The found nodes whose edges are not gone through.
+    /// The nodes that are found and whose edges were not followed yet.
     waiting: Vec<usize>,
 }
 
-/// Adds a node, if it is one and is not found.
-fn add(reached: &mut Reached, to: usize) -> Result<(), AllocError>
-    ensures { OnOk result (Reaches (to ∷ []) reached.old.found.items reached.old.waiting.items
-        reached.new.found.items reached.new.waiting.items) }
+/// Adds a node, unless it is found already or is not there.
+fn add(traversal: &mut Traversal, to: usize) -> Result<(), AllocError>
+    ensures { OnOk result (Reaches (to ∷ []) traversal.old.found.items traversal.old.waiting.items
+        traversal.new.found.items traversal.new.waiting.items) }
 {
-    let Some(found) = reached.found.get(to).copied() else {
+    let Some(found) = traversal.found.get(to).copied() else {
         return Ok(());
     };
     if found {
         return Ok(());
     }
-    reached.waiting.push(to)?;
-    reached.found[to] = true;
+    traversal.waiting.push(to)?;
+    traversal.found[to] = true;
     Ok(())
 }
 
 /// Adds these nodes.
-fn add_all(reached: &mut Reached, targets: &[usize]) -> Result<(), AllocError>
-    ensures { OnOk result (Reaches targets.now reached.old.found.items reached.old.waiting.items
-        reached.new.found.items reached.new.waiting.items) }
+fn add_all(traversal: &mut Traversal, targets: &[usize]) -> Result<(), AllocError>
+    ensures { OnOk result (Reaches targets.now traversal.old.found.items traversal.old.waiting.items
+        traversal.new.found.items traversal.new.waiting.items) }
 {
     for to in targets {
-        add(reached, *to)?;
+        add(traversal, *to)?;
     }
     Ok(())
 }
 
-/// Adds the nodes to which the edges of one lead.
-fn go_on(lists: &[Vec<usize>], from: usize, reached: &mut Reached) -> Result<(), AllocError>
+/// Adds the nodes to which the edges of `from` lead.
+fn go_on(lists: &[Vec<usize>], from: usize, traversal: &mut Traversal) -> Result<(), AllocError>
     ensures { OnOk result (Reaches (targets_of (graph lists.now) from)
-        reached.old.found.items reached.old.waiting.items
-        reached.new.found.items reached.new.waiting.items) }
+        traversal.old.found.items traversal.old.waiting.items
+        traversal.new.found.items traversal.new.waiting.items) }
 {
     let Some(list) = lists.get(from) else {
         return Ok(());
     };
-    add_all(reached, list)
+    add_all(traversal, list)
 }
 
-/// Whether a node leads back to itself.
+/// Returns whether a path of one edge or more leads from `node` back to it.
 fn leads_back(alloc: Global, lists: &[Vec<usize>], node: usize) -> Result<bool, AllocError>
     requires { node < length lists.now }
     ensures { IfOk result (λ leads. IsTrue leads ↔ Leads (graph lists.now) node node) }
 {
-    let mut reached = Reached {
+    let mut traversal = Traversal {
         found: vec![in alloc; false; lists.len()]?,
         waiting: Vec::new(alloc),
     };
-    go_on(lists, node, &mut reached)?;
-    while let Some(from) = reached.waiting.pop() {
-        go_on(lists, from, &mut reached)?;
+    go_on(lists, node, &mut traversal)?;
+    while let Some(from) = traversal.waiting.pop() {
+        go_on(lists, from, &mut traversal)?;
     }
-    Ok(reached.found[node])
+    Ok(traversal.found[node])
 }
 
-/// Which nodes lie on a cycle.
+/// Returns for each node whether it lies on a cycle.
+///
+/// # Errors
+///
+/// `AllocError` if there is not enough memory.
 pub(crate) fn marks(alloc: Global, lists: &[Vec<usize>]) -> Result<Vec<bool>, AllocError>
     ensures length { IfOk result (λ marks. vec_len marks ≡ length lists.now) }
     ensures marks { IfOk result (λ marks. (node : ℕ) → node < length lists.now →

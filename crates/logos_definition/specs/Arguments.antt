@@ -1,4 +1,4 @@
--- What the arguments of a `logos` attribute say, one after another. A type in them is read by the grammar of types.
+-- The arguments of a `logos` attribute, one after another. A type in them is read by the grammar of types.
 use Rattle.std.specs.Prelude.{◌≡◌, ◌≢◌, Bool, true, false, List, [], ◌∷◌, ◌++◌, codes, Option, Some, None}
 use Rattle.std.specs.Str.{bytes_eq}
 use Rattle.logos_token.specs.Faults.{Fault}
@@ -6,19 +6,19 @@ use Rattle.logos_token.specs.Tokens.{TokenList, none, run_span}
 use Rattle.logos_type.specs.Parts.{Tree}
 use Rattle.logos_type_params.specs.TypeParams.{Value, ReadsValue, IsSet}
 use Rattle.logos_attribute.specs.Slices.{Slice}
-use Rattle.logos_attribute.specs.Pieces.{PieceValue, grouped, keyed, Piece, unnamed, named, unexpected, pieces, up_to_comma, behind_comma}
-use Rattle.logos_attribute.specs.Told.{Tells, telling, only}
-use Rattle.logos_definition.specs.ErrorTypes.{ErrorView, error_read, error_arguments_told}
-use Rattle.logos_definition.specs.Options.{OptionsView, error_set, error_told, option_told}
+use Rattle.logos_attribute.specs.Pieces.{PieceValue, grouped, keyed, Piece, unnamed, named, unexpected, pieces, up_to_comma, after_comma}
+use Rattle.logos_attribute.specs.Reports.{IsReport, with_faults, only}
+use Rattle.logos_definition.specs.ErrorTypes.{ErrorView, error_read, error_arguments_report}
+use Rattle.logos_definition.specs.Options.{OptionsView, error_set, error_report, option_report}
 use Rattle.logos_definition.specs.OptionFaults.{error_empty, type_form, invalid_nested}
 
--- What `error(..)` gives: its type is what the run up to the first comma is read as, and the other arguments stand behind it. Without a type there is none, and
--- that is listed.
+-- The result of `error(..)`: its type is read from the tokens up to the first comma, and the other arguments follow. Without a type there is none,
+-- which is reported.
 pub data ErrorGroup (group : TokenList) (old new : List Fault) : Option ErrorView → Type 0 where
   nothing : up_to_comma group ≡ none → new ≡ old ++ only (error_empty group) → ErrorGroup group old new None
   no_type : up_to_comma group ≢ none → ReadsValue (up_to_comma group) (run_span group) old new None → ErrorGroup group old new None
   a_type : {mid : List Fault} {tree : Tree} {error : ErrorView} → up_to_comma group ≢ none → ReadsValue (up_to_comma group) (run_span group) old mid (Some tree) →
-      Tells (error_arguments_told true (pieces (behind_comma group)) (error_read (up_to_comma group) tree)) error mid new → ErrorGroup group old new (Some error)
+      IsReport (error_arguments_report true (pieces (after_comma group)) (error_read (up_to_comma group) tree)) error mid new → ErrorGroup group old new (Some error)
 
 -- the value is in parentheses
 abbrev pub is_grouped : PieceValue → Bool
@@ -30,35 +30,35 @@ abbrev pub is_keyed : PieceValue → Bool
 is_keyed (keyed name run) = true
 is_keyed value = false
 
--- What `error` says, and whether the arguments behind it are read: they are not where it has no type.
+-- The result of `error`, and whether the arguments after it are read: they are not if it has no type.
 pub data ErrorSays (name : Slice) (o : OptionsView) (o' : OptionsView) (old new : List Fault) : PieceValue → Bool → Type 0 where
-  alone : {value : PieceValue} → is_grouped value ≡ false → Tells (error_told name value o) o' old new → ErrorSays name o o' old new value true
-  with_arguments : {group : TokenList} {mid : List Fault} {error : ErrorView} → ErrorGroup group old mid (Some error) → Tells (error_set group error o) o' mid new →
+  alone : {value : PieceValue} → is_grouped value ≡ false → IsReport (error_report name value o) o' old new → ErrorSays name o o' old new value true
+  with_arguments : {group : TokenList} {mid : List Fault} {error : ErrorView} → ErrorGroup group old mid (Some error) → IsReport (error_set group error o) o' mid new →
       ErrorSays name o o' old new (grouped group) true
   without_type : {group : TokenList} → ErrorGroup group old new None → o' ≡ o → ErrorSays name o o' old new (grouped group) false
 
--- the options with other types of parameters
+-- the options with other type parameters
 abbrev pub with_types : OptionsView → Value → OptionsView
 with_types o types = record o { types = types }
 
--- what `type` says
+-- the result of `type`
 pub data TypeSays (name : Slice) (o : OptionsView) (o' : OptionsView) (old new : List Fault) : PieceValue → Type 0 where
   is_given : {second : Slice} {run : TokenList} {types : Value} → IsSet o.types (record { text = second.text; at = second.span }) run old types new → o' ≡ with_types o types →
       TypeSays name o o' old new (keyed second run)
-  other_form : {value : PieceValue} → is_keyed value ≡ false → Tells (telling o (only (type_form name))) o' old new → TypeSays name o o' old new value
+  other_form : {value : PieceValue} → is_keyed value ≡ false → IsReport (with_faults o (only (type_form name))) o' old new → TypeSays name o o' old new value
 
--- what an argument says, and whether those behind it are read
+-- the result of an argument, and whether the arguments after it are read
 pub data PieceSays (o : OptionsView) (o' : OptionsView) (old new : List Fault) : Piece → Bool → Type 0 where
   on_error : {name : Slice} {value : PieceValue} {goes_on : Bool} → bytes_eq name.text (codes "error") ≡ true → ErrorSays name o o' old new value goes_on →
       PieceSays o o' old new (named name value) goes_on
   on_type : {name : Slice} {value : PieceValue} → bytes_eq name.text (codes "error") ≡ false → bytes_eq name.text (codes "type") ≡ true → TypeSays name o o' old new value →
       PieceSays o o' old new (named name value) true
-  on_other : {name : Slice} {value : PieceValue} → bytes_eq name.text (codes "error") ≡ false → bytes_eq name.text (codes "type") ≡ false → Tells (option_told name value o) o' old new →
+  on_other : {name : Slice} {value : PieceValue} → bytes_eq name.text (codes "error") ≡ false → bytes_eq name.text (codes "type") ≡ false → IsReport (option_report name value o) o' old new →
       PieceSays o o' old new (named name value) true
-  without_name : {run : TokenList} → Tells (telling o (only (invalid_nested run))) o' old new → PieceSays o o' old new (unnamed run) true
-  no_argument : {run : TokenList} → Tells (telling o (only (invalid_nested run))) o' old new → PieceSays o o' old new (unexpected run) true
+  without_name : {run : TokenList} → IsReport (with_faults o (only (invalid_nested run))) o' old new → PieceSays o o' old new (unnamed run) true
+  no_argument : {run : TokenList} → IsReport (with_faults o (only (invalid_nested run))) o' old new → PieceSays o o' old new (unexpected run) true
 
--- all arguments, or those up to one behind which none is read
+-- the result of all arguments, up to one after which no more are read
 pub data PiecesSay : (o : OptionsView) (o' : OptionsView) (old new : List Fault) → List Piece → Type 0 where
   no_piece : {o : OptionsView} {faults : List Fault} → PiecesSay o o faults faults []
   one_more : {o : OptionsView} {o' : OptionsView} {o'' : OptionsView} {old mid new : List Fault} {piece : Piece} {rest : List Piece} →

@@ -1,4 +1,4 @@
--- What the generic parameters and the attributes of an enum say.
+-- The generic parameters and the attributes of an enum.
 use Rattle.std.specs.Prelude.{◌≡◌, List, [], ◌∷◌, ◌++◌, true, false, Bool, codes, Option, Some, None, if◌then◌else◌}
 use Rattle.std.specs.Str.{bytes_eq}
 use Rattle.logos_lexeme.specs.declared.lexeme.Span.{Span}
@@ -11,9 +11,9 @@ use Rattle.logos_item.specs.AttributeValues.{AttributeValue}
 use Rattle.logos_type_params.specs.TypeParams.{many_lifetimes}
 use Rattle.logos_attribute.specs.Slices.{Slice}
 use Rattle.logos_attribute.specs.Pieces.{pieces}
-use Rattle.logos_attribute.specs.Told.{Told, telling, quiet, fault, only, Lists}
+use Rattle.logos_attribute.specs.Reports.{Report, with_faults, without_faults, fault, only, AddsFault}
 use Rattle.logos_definition.specs.Arguments.{with_types, PiecesSay}
-use Rattle.logos_definition.specs.Definitions.{DefinitionView, definition_told}
+use Rattle.logos_definition.specs.Definitions.{DefinitionView, definition_report}
 use Rattle.logos_definition.specs.Metas.{Meta, meta_of}
 use Rattle.logos_definition.specs.Options.{OptionsView}
 
@@ -23,44 +23,44 @@ logos_form span = fault LogosForm (codes "Expected #[logos(...)]") span
 abbrev pub const_generic : Span → Fault
 const_generic span = fault ConstGeneric (codes "Logos doesn't support const generics.") span
 
--- a lifetime that is declared at this place
-abbrev pub lifetime_told : Span → OptionsView → Told OptionsView
-lifetime_told span o =
-    telling (with_types o (record { names = o.types.names; types = o.types.types; lifetime = true }))
+-- the report of a lifetime that is declared at this span
+abbrev pub lifetime_report : Span → OptionsView → Report OptionsView
+lifetime_report span o =
+    with_faults (with_types o (record { names = o.types.names; types = o.types.types; lifetime = true }))
     (if o.types.lifetime then only (many_lifetimes span) else [])
 
--- a type parameter of this name
-abbrev pub name_told : Slice → OptionsView → Told OptionsView
-name_told name o =
-    quiet (with_types o (record { names = o.types.names ++ (record { text = name.text; at = name.span }) ∷ []; types = o.types.types; lifetime = o.types.lifetime }))
+-- the report of a type parameter with this name
+abbrev pub name_report : Slice → OptionsView → Report OptionsView
+name_report name o =
+    without_faults (with_types o (record { names = o.types.names ++ (record { text = name.text; at = name.span }) ∷ []; types = o.types.types; lifetime = o.types.lifetime }))
 
--- what a generic parameter of this kind says, whose tokens stand at this place
-abbrev pub parameter_told : ParameterKind → Slice → Span → OptionsView → Told OptionsView
-parameter_told kinds.Lifetime name span o = lifetime_told span o
-parameter_told kinds.Type name span o = name_told name o
-parameter_told kinds.Const name span o = telling o (only (const_generic span))
+-- the report of a generic parameter of this kind, whose tokens have this span
+abbrev pub parameter_report : ParameterKind → Slice → Span → OptionsView → Report OptionsView
+parameter_report kinds.Lifetime name span o = lifetime_report span o
+parameter_report kinds.Type name span o = name_report name o
+parameter_report kinds.Const name span o = with_faults o (only (const_generic span))
 
--- the name of the attribute is `logos`
+-- whether the name of the attribute is `logos`
 abbrev pub is_logos : Option Meta → Bool
 is_logos None = false
 is_logos (Some meta) = bytes_eq meta.name.text (codes "logos")
 
--- what a `logos` attribute at this place says
+-- the result of a `logos` attribute at this span
 pub data MetaSays (o : OptionsView) (o' : OptionsView) (old new : List Fault) (meta : Meta) (span : Span) : Type 0 where
-  no_arguments : meta.arguments ≡ None → o' ≡ o → Lists (logos_form span) old new → MetaSays o o' old new meta span
+  no_arguments : meta.arguments ≡ None → o' ≡ o → AddsFault (logos_form span) old new → MetaSays o o' old new meta span
   with_arguments : {run : TokenList} → meta.arguments ≡ Some run → PiecesSay o o' old new (pieces run) → MetaSays o o' old new meta span
 
--- what an attribute of an enum says: nothing, unless its name is `logos`
+-- the result of an attribute of an enum: nothing changes, unless its name is `logos`
 pub data AttributeSays (o : OptionsView) (o' : OptionsView) (old new : List Fault) (attribute : AttributeValue) : Type 0 where
   other_name : is_logos (meta_of attribute) ≡ false → o' ≡ o → new ≡ old → AttributeSays o o' old new attribute
   a_logos : {meta : Meta} → meta_of attribute ≡ Some meta → bytes_eq meta.name.text (codes "logos") ≡ true → MetaSays o o' old new meta attribute.span →
       AttributeSays o o' old new attribute
 
--- the definition in the arguments of an attribute whose path is one identifier
-abbrev pub arguments_told : Option TokenList → Told (Option DefinitionView)
-arguments_told None = quiet None
-arguments_told (Some run) = definition_told run
+-- the report of the definition in the arguments of an attribute whose path is one identifier
+abbrev pub arguments_report : Option TokenList → Report (Option DefinitionView)
+arguments_report None = without_faults None
+arguments_report (Some run) = definition_report run
 
-abbrev pub meta_told : Option Meta → Told (Option DefinitionView)
-meta_told None = quiet None
-meta_told (Some meta) = arguments_told meta.arguments
+abbrev pub meta_report : Option Meta → Report (Option DefinitionView)
+meta_report None = without_faults None
+meta_report (Some meta) = arguments_report meta.arguments

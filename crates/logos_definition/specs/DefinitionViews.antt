@@ -1,4 +1,4 @@
--- What definitions that were read show.
+-- The definitions that values of type `Definition` stand for.
 use Rattle.std.specs.Prelude.{option_map}
 use Rattle.logos_attribute.specs.CallbackViews.{callback_view}
 use Rattle.logos_attribute.specs.LiteralViews.{literal_view}

@@ -1,16 +1,16 @@
--- Definitions: the literal of a `token`, `regex` or `skip(..)`, and the arguments behind it.
+-- Definitions: the literal of a `token`, `regex` or `skip(..)`, and the arguments after it.
 use Rattle.std.specs.Prelude.{ℕ, Bool, true, false, List, [], ◌∷◌, codes, Option, Some, None, if◌then◌else◌}
 use Rattle.std.specs.Str.{bytes_eq}
 use Rattle.logos_token.specs.Faults.{Fault}
 use Rattle.logos_token.specs.declared.error.fault_code.FaultCode.TheVariants.{PriorityValue, PriorityTwice, PriorityForm, GreedyValue, GreedyTwice, GreedyForm, CallbackForm, IgnoreForm, UnknownNested, UnexpectedToken, NamedExpected}
 use Rattle.logos_token.specs.Tokens.{TokenList, run_span}
 use Rattle.logos_attribute.specs.Slices.{Slice}
-use Rattle.logos_attribute.specs.Pieces.{PieceValue, assigned, grouped, Piece, unnamed, named, unexpected, pieces, up_to_comma, behind_comma}
-use Rattle.logos_attribute.specs.Told.{Told, telling, quiet, and_then, told_as, fault, fault_about, only}
-use Rattle.logos_attribute.specs.Callbacks.{CallbackView, callback_told, callback_set}
-use Rattle.logos_attribute.specs.Flags.{flags_told}
+use Rattle.logos_attribute.specs.Pieces.{PieceValue, assigned, grouped, Piece, unnamed, named, unexpected, pieces, up_to_comma, after_comma}
+use Rattle.logos_attribute.specs.Reports.{Report, with_faults, without_faults, and_then, map_report, fault, fault_about, only}
+use Rattle.logos_attribute.specs.Callbacks.{CallbackView, callback_report, callback_set}
+use Rattle.logos_attribute.specs.Flags.{flags_report}
 use Rattle.logos_attribute.specs.Values.{number_in, boolean_in}
-use Rattle.logos_attribute.specs.Literals.{LiteralView, literal_told}
+use Rattle.logos_attribute.specs.Literals.{LiteralView, literal_report}
 
 -- a definition
 pub record DefinitionView : Type 0 where
@@ -20,11 +20,11 @@ pub record DefinitionView : Type 0 where
   pub allow_greedy : Option Bool
   pub ignore_case : Bool
 
--- a literal alone
+-- a literal without arguments
 abbrev pub plain : LiteralView → DefinitionView
 plain literal = record { literal = literal; priority = None; callback = None; allow_greedy = None; ignore_case = false }
 
--- a fault where something was said before
+-- the fault of a second value
 abbrev pub again : {A : Type 0} → Option A → Fault → List Fault
 again None f = []
 again (Some former) f = only f
@@ -62,62 +62,62 @@ named_expected run = fault NamedExpected (codes "Expected a named argument at th
 abbrev pub unexpected_token : TokenList → Fault
 unexpected_token run = fault UnexpectedToken (codes "Unexpected token in attribute") (run_span run)
 
--- `priority = run` behind what was said before: the new one stands
-abbrev pub priority_set : TokenList → Option ℕ → Told (Option ℕ)
+-- the report of `priority = run` after former arguments: the new priority replaces the former one
+abbrev pub priority_set : TokenList → Option ℕ → Report (Option ℕ)
 priority_set run former = elim (number_in run) [
-  | Some priority ↦ telling (Some priority) (again former (priority_twice run))
-  | None ↦ telling former (only (priority_value run))
+  | Some priority ↦ with_faults (Some priority) (again former (priority_twice run))
+  | None ↦ with_faults former (only (priority_value run))
 ]
 
--- `allow_greedy = run` behind what was said before: the new one stands
-abbrev pub greedy_set : TokenList → Option Bool → Told (Option Bool)
+-- the report of `allow_greedy = run` after former arguments: the new value replaces the former one
+abbrev pub greedy_set : TokenList → Option Bool → Report (Option Bool)
 greedy_set run former = elim (boolean_in run) [
-  | Some allow ↦ telling (Some allow) (again former (greedy_twice run))
-  | None ↦ telling former (only (greedy_value run))
+  | Some allow ↦ with_faults (Some allow) (again former (greedy_twice run))
+  | None ↦ with_faults former (only (greedy_value run))
 ]
 
-abbrev pub priority_told : Slice → PieceValue → DefinitionView → Told DefinitionView
-priority_told name (assigned run) d = told_as (λ priority. record d { priority = priority }) (priority_set run d.priority)
-priority_told name value d = telling d (only (priority_form name))
+abbrev pub priority_report : Slice → PieceValue → DefinitionView → Report DefinitionView
+priority_report name (assigned run) d = map_report (λ priority. record d { priority = priority }) (priority_set run d.priority)
+priority_report name value d = with_faults d (only (priority_form name))
 
-abbrev pub named_callback_told : Slice → PieceValue → DefinitionView → Told DefinitionView
-named_callback_told name (assigned run) d = told_as (λ callback. record d { callback = callback }) (callback_set name run d.callback)
-named_callback_told name value d = telling d (only (callback_form name))
+abbrev pub named_callback_report : Slice → PieceValue → DefinitionView → Report DefinitionView
+named_callback_report name (assigned run) d = map_report (λ callback. record d { callback = callback }) (callback_set name run d.callback)
+named_callback_report name value d = with_faults d (only (callback_form name))
 
-abbrev pub ignore_told : Slice → PieceValue → DefinitionView → Told DefinitionView
-ignore_told name (grouped run) d = told_as (λ ignore_case. record d { ignore_case = ignore_case }) (flags_told name false d.ignore_case run)
-ignore_told name value d = telling d (only (ignore_form name))
+abbrev pub ignore_report : Slice → PieceValue → DefinitionView → Report DefinitionView
+ignore_report name (grouped run) d = map_report (λ ignore_case. record d { ignore_case = ignore_case }) (flags_report name false d.ignore_case run)
+ignore_report name value d = with_faults d (only (ignore_form name))
 
-abbrev pub greedy_told : Slice → PieceValue → DefinitionView → Told DefinitionView
-greedy_told name (assigned run) d = told_as (λ allow. record d { allow_greedy = allow }) (greedy_set run d.allow_greedy)
-greedy_told name value d = telling d (only (greedy_form name))
+abbrev pub greedy_report : Slice → PieceValue → DefinitionView → Report DefinitionView
+greedy_report name (assigned run) d = map_report (λ allow. record d { allow_greedy = allow }) (greedy_set run d.allow_greedy)
+greedy_report name value d = with_faults d (only (greedy_form name))
 
--- a named argument
-abbrev pub named_told : Slice → PieceValue → DefinitionView → Told DefinitionView
-named_told name value d =
-    if bytes_eq name.text (codes "priority") then priority_told name value d
-    else (if bytes_eq name.text (codes "callback") then named_callback_told name value d
-    else (if bytes_eq name.text (codes "ignore") then ignore_told name value d
-    else (if bytes_eq name.text (codes "allow_greedy") then greedy_told name value d
-    else telling d (only (unknown_nested name)))))
+-- the report of a named argument
+abbrev pub named_report : Slice → PieceValue → DefinitionView → Report DefinitionView
+named_report name value d =
+    if bytes_eq name.text (codes "priority") then priority_report name value d
+    else (if bytes_eq name.text (codes "callback") then named_callback_report name value d
+    else (if bytes_eq name.text (codes "ignore") then ignore_report name value d
+    else (if bytes_eq name.text (codes "allow_greedy") then greedy_report name value d
+    else with_faults d (only (unknown_nested name)))))
 
--- an argument behind the literal; only the first of them may be a callback without a name
-abbrev pub argument_told : Bool → Piece → DefinitionView → Told DefinitionView
-argument_told first (unexpected run) d = telling d (only (unexpected_token run))
-argument_told true (unnamed run) d = told_as (λ callback. record d { callback = callback }) (callback_told run)
-argument_told false (unnamed run) d = telling d (only (named_expected run))
-argument_told first (named name value) d = named_told name value d
+-- the report of an argument after the literal; only the first one can be a callback without a name
+abbrev pub argument_report : Bool → Piece → DefinitionView → Report DefinitionView
+argument_report first (unexpected run) d = with_faults d (only (unexpected_token run))
+argument_report true (unnamed run) d = map_report (λ callback. record d { callback = callback }) (callback_report run)
+argument_report false (unnamed run) d = with_faults d (only (named_expected run))
+argument_report first (named name value) d = named_report name value d
 
--- all arguments behind the literal
-abbrev pub arguments_told : Bool → List Piece → DefinitionView → Told DefinitionView
-arguments_told first [] d = quiet d
-arguments_told first (piece ∷ rest) d = and_then (argument_told first piece d) (arguments_told false rest)
+-- the report of all arguments after the literal
+abbrev pub arguments_report : Bool → List Piece → DefinitionView → Report DefinitionView
+arguments_report first [] d = without_faults d
+arguments_report first (piece ∷ rest) d = and_then (argument_report first piece d) (arguments_report false rest)
 
--- the arguments behind a literal, if there is one
-abbrev pub definition_behind : TokenList → Option LiteralView → Told (Option DefinitionView)
-definition_behind rest None = quiet None
-definition_behind rest (Some literal) = told_as (λ d. Some d) (arguments_told true (pieces rest) (plain literal))
+-- the report of the arguments after a literal, if there is one
+abbrev pub definition_after : TokenList → Option LiteralView → Report (Option DefinitionView)
+definition_after rest None = without_faults None
+definition_after rest (Some literal) = map_report (λ d. Some d) (arguments_report true (pieces rest) (plain literal))
 
--- what is in the parenthesis of `token`, `regex` or `skip`
-abbrev pub definition_told : TokenList → Told (Option DefinitionView)
-definition_told run = and_then (literal_told (up_to_comma run)) (definition_behind (behind_comma run))
+-- the report of the tokens in the parentheses of `token`, `regex` or `skip`
+abbrev pub definition_report : TokenList → Report (Option DefinitionView)
+definition_report run = and_then (literal_report (up_to_comma run)) (definition_after (after_comma run))

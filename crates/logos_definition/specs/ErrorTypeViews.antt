@@ -1,4 +1,4 @@
--- What types of errors that were read show.
+-- The error types that values of type `ErrorType` stand for.
 use Rattle.std.specs.Prelude.{Option, Some, None, option_map}
 use Rattle.logos_token.specs.Tokens.{TokenList}
 use Rattle.logos_token.specs.Views.{stream_tokens}

@@ -1,4 +1,4 @@
--- The type of errors, and what makes one.
+-- Error types and their callbacks.
 use Rattle.std.specs.Prelude.{ℕ, Bool, true, false, List, [], ◌∷◌, codes, Option, Some, None, if◌then◌else◌}
 use Rattle.std.specs.Str.{bytes_eq}
 use Rattle.logos_lexeme.specs.declared.lexeme.Span.{Span}
@@ -10,22 +10,22 @@ use Rattle.logos_type.specs.Parts.{Tree}
 use Rattle.logos_type.specs.Printed.{printed_type}
 use Rattle.logos_attribute.specs.Slices.{Slice}
 use Rattle.logos_attribute.specs.Pieces.{PieceValue, assigned, Piece, unnamed, named, unexpected}
-use Rattle.logos_attribute.specs.Told.{Told, telling, quiet, and_then, told_as, fault_about, only}
-use Rattle.logos_attribute.specs.Callbacks.{CallbackView, callback_told, callback_set}
+use Rattle.logos_attribute.specs.Reports.{Report, with_faults, without_faults, and_then, map_report, fault_about, only}
+use Rattle.logos_attribute.specs.Callbacks.{CallbackView, callback_report, callback_set}
 use Rattle.logos_definition.specs.Definitions.{callback_form, named_expected, unexpected_token}
 
--- the type of errors, which is `()` where no tokens are given, the type as it was read from these tokens, if it was, and the callback that makes an error, if
--- there is one
+-- The tokens of an error type, which is `()` without tokens; the type as it was read from them, if it was; and the callback that makes an error, if
+-- there is one.
 pub record ErrorView : Type 0 where
   pub type_run : Option TokenList
   pub type : Option Tree
   pub callback : Option CallbackView
 
--- tokens alone, which are not read as a type
+-- tokens that are not read as a type
 abbrev pub error_alone : TokenList → ErrorView
 error_alone run = record { type_run = Some run; type = None; callback = None }
 
--- a type alone, as it was read from its tokens
+-- a type as it was read from its tokens, without a callback
 abbrev pub error_read : TokenList → Tree → ErrorView
 error_read run tree = record { type_run = Some run; type = Some tree; callback = None }
 
@@ -33,12 +33,12 @@ error_read run tree = record { type_run = Some run; type = Some tree; callback =
 abbrev pub no_error : ErrorView
 no_error = record { type_run = None; type = None; callback = None }
 
--- the printed text of tokens, or of `()` where there are none
+-- the printed text of tokens, or `()` if there are none
 abbrev pub run_text : Option TokenList → List ℕ
 run_text (Some run) = printed run
 run_text None = codes "( )"
 
--- the printed text of a type that was read, else of the tokens
+-- the printed text of the type that was read if it was, or else of the tokens
 abbrev pub type_or_run : Option Tree → Option TokenList → List ℕ
 type_or_run (Some tree) run = printed_type tree
 type_or_run None run = run_text run
@@ -46,7 +46,7 @@ type_or_run None run = run_text run
 abbrev pub error_text : ErrorView → List ℕ
 error_text e = type_or_run e.type e.type_run
 
--- where the type stands
+-- the span of the type
 abbrev pub run_place : Option TokenList → Span
 run_place (Some run) = run_span run
 run_place None = run_span none
@@ -57,24 +57,24 @@ error_span e = run_place e.type_run
 abbrev pub unknown_error_argument : Slice → Fault
 unknown_error_argument name = fault_about UnknownNested (codes "Unknown nested attribute: ") name (codes "\n\nExpected one of: callback")
 
-abbrev pub error_callback_told : Slice → PieceValue → ErrorView → Told ErrorView
-error_callback_told name (assigned run) e = told_as (λ callback. record e { callback = callback }) (callback_set name run e.callback)
-error_callback_told name value e = telling e (only (callback_form name))
+abbrev pub error_callback_report : Slice → PieceValue → ErrorView → Report ErrorView
+error_callback_report name (assigned run) e = map_report (λ callback. record e { callback = callback }) (callback_set name run e.callback)
+error_callback_report name value e = with_faults e (only (callback_form name))
 
--- a named argument of `error(..)`
-abbrev pub error_named_told : Slice → PieceValue → ErrorView → Told ErrorView
-error_named_told name value e =
-    if bytes_eq name.text (codes "callback") then error_callback_told name value e
-    else telling e (only (unknown_error_argument name))
+-- the report of a named argument of `error(..)`
+abbrev pub error_named_report : Slice → PieceValue → ErrorView → Report ErrorView
+error_named_report name value e =
+    if bytes_eq name.text (codes "callback") then error_callback_report name value e
+    else with_faults e (only (unknown_error_argument name))
 
--- an argument behind the type of `error(..)`; only the first of them may be a callback without a name
-abbrev pub error_argument_told : Bool → Piece → ErrorView → Told ErrorView
-error_argument_told first (unexpected run) e = telling e (only (unexpected_token run))
-error_argument_told true (unnamed run) e = told_as (λ callback. record e { callback = callback }) (callback_told run)
-error_argument_told false (unnamed run) e = telling e (only (named_expected run))
-error_argument_told first (named name value) e = error_named_told name value e
+-- the report of an argument after the type of `error(..)`; only the first one can be a callback without a name
+abbrev pub error_argument_report : Bool → Piece → ErrorView → Report ErrorView
+error_argument_report first (unexpected run) e = with_faults e (only (unexpected_token run))
+error_argument_report true (unnamed run) e = map_report (λ callback. record e { callback = callback }) (callback_report run)
+error_argument_report false (unnamed run) e = with_faults e (only (named_expected run))
+error_argument_report first (named name value) e = error_named_report name value e
 
--- all arguments behind the type
-abbrev pub error_arguments_told : Bool → List Piece → ErrorView → Told ErrorView
-error_arguments_told first [] e = quiet e
-error_arguments_told first (piece ∷ rest) e = and_then (error_argument_told first piece e) (error_arguments_told false rest)
+-- the report of all arguments after the type
+abbrev pub error_arguments_report : Bool → List Piece → ErrorView → Report ErrorView
+error_arguments_report first [] e = without_faults e
+error_arguments_report first (piece ∷ rest) e = and_then (error_argument_report first piece e) (error_arguments_report false rest)

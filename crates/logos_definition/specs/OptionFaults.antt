@@ -1,4 +1,4 @@
--- The faults of the options of a lexer, each with its text and its place.
+-- The faults of the options of a lexer, each with its message and its span.
 use Rattle.std.specs.Prelude.{ℕ, List, [], ◌∷◌, codes, Option, Some, None}
 use Rattle.logos_lexeme.specs.declared.lexeme.Span.{Span}
 use Rattle.logos_token.specs.declared.error.fault_code.FaultCode.{FaultCode}
@@ -6,13 +6,13 @@ use Rattle.logos_token.specs.declared.error.fault_code.FaultCode.TheVariants.{In
 use Rattle.logos_token.specs.Faults.{Fault}
 use Rattle.logos_token.specs.Tokens.{TokenList, run_span}
 use Rattle.logos_attribute.specs.Slices.{Slice}
-use Rattle.logos_attribute.specs.Told.{fault, fault_about}
+use Rattle.logos_attribute.specs.Reports.{fault, fault_about}
 
--- something is said a second time: here, and there before
+-- the faults of a second value here, with the former one there
 abbrev pub once_only : FaultCode → List ℕ → (here there : Span) → List Fault
 once_only code message here there = fault code message here ∷ fault Previous (codes "Previous definition here") there ∷ []
 
--- what a second place lists, if there is a first one
+-- the faults of a second value, if there is a former one
 abbrev pub once_again : FaultCode → List ℕ → (here : Span) → (former : Option Span) → List Fault
 once_again code message here None = []
 once_again code message here (Some there) = once_only code message here there

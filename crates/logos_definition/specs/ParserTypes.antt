@@ -1,4 +1,4 @@
--- What becomes of types that name declared parameters.
+-- Types that name declared parameters.
 use Rattle.std.specs.Prelude.{ℕ, List}
 use Rattle.logos_lexeme.specs.declared.lexeme.Span.{Span}
 use Rattle.logos_token.specs.Faults.{Fault}

@@ -1,4 +1,4 @@
--- What a parser was told so far.
+-- The options that a value of type `Parser` stands for.
 use Rattle.std.specs.Prelude.{◌≡◌, false, map, option_map, string_bytes}
 use Rattle.logos_token.specs.Views.{stream_tokens}
 use Rattle.logos_attribute.specs.LiteralViews.{named_literal_view}
@@ -30,4 +30,4 @@ parser_view p = record {
 
 -- a call found a parser that had not failed, and left it so
 abbrev pub HasNotFailed : Parser → Parser → Type 0
-HasNotFailed before behind = (before.failed ≡ false) × (behind.failed ≡ false)
+HasNotFailed before after = (before.failed ≡ false) × (after.failed ≡ false)

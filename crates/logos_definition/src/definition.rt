@@ -1,17 +1,17 @@
-//! Definitions: the literal of a `token`, `regex` or `skip(..)`, and the arguments behind it.
+//! Reads definitions: the literal of a `token`, `regex` or `skip(..)`, and the arguments after it.
 ghost use Rattle.std.specs.Prelude.{◌≡◌, OnOk, OnErr, IfOk, option_map};
 ghost use Rattle.logos_token.specs.Views.{tokens_of};
 ghost use Rattle.logos_attribute.specs.Slices.{ident_slice};
-ghost use Rattle.logos_attribute.specs.Told.{Tells};
-ghost use Rattle.logos_definition.specs.Definitions.{priority_set, greedy_set, definition_told};
+ghost use Rattle.logos_attribute.specs.Reports.{IsReport};
+ghost use Rattle.logos_definition.specs.Definitions.{priority_set, greedy_set, definition_report};
 ghost use Rattle.logos_definition.specs.DefinitionViews.{definition_view};
 
 pub(crate) mod faults;
 
 use crate::definition::faults::{
-    list_callback_form, list_greedy_form, list_greedy_twice, list_greedy_value, list_ignore_form,
-    list_named_expected, list_priority_form, list_priority_twice, list_priority_value,
-    list_unexpected, list_unknown,
+    report_callback_form, report_greedy_form, report_greedy_twice, report_greedy_value,
+    report_ignore_form, report_named_expected, report_priority_form, report_priority_twice,
+    report_priority_value, report_unexpected, report_unknown,
 };
 use crate::ignore_flags::IgnoreFlags;
 use logos_attribute::callback::{read_callback, set_callback};
@@ -23,59 +23,59 @@ use logos_pattern::leaf::Callback;
 use logos_pattern::pattern::Literal;
 use logos_token::error::{Errors, Memory};
 use logos_token::token::{Ident, Tokens};
-use std::alloc::Global;
 
-/// The literal of a `token`, `regex` or `skip`, and what stands behind it.
+/// The literal of a `token`, `regex` or `skip`, and the arguments after it.
 #[derive(Drop)]
 pub struct Definition<'s> {
     pub literal: Literal<'s>,
     pub priority: Option<usize>,
     pub callback: Option<Callback<'s>>,
-    /// Whether a greedy repetition of a dot is allowed, if that is said.
+    /// The value of `allow_greedy`, if it is given: whether a greedy repetition of a dot is
+    /// allowed.
     pub allow_greedy: Option<bool>,
     pub ignore_flags: IgnoreFlags,
 }
 
-/// Sets a priority, in place of the former one. After an error that is as before.
+/// Sets the priority, in place of a former one, which is reported. After an error it is unchanged.
 fn set_priority(
     priority: &mut Option<usize>,
     tokens: Tokens<'_, '_>,
     errors: &mut Errors,
 ) -> Result<(), Memory>
-    ensures ok { OnOk result (Tells
+    ensures ok { OnOk result (IsReport
         (priority_set (tokens_of tokens.entry) priority.old)
         priority.new errors.old errors.new) }
     ensures unchanged { OnErr result (priority.new ≡ priority.old) }
 {
     let Some(next) = number_in(tokens) else {
-        list_priority_value(tokens, errors)?;
+        report_priority_value(tokens, errors)?;
         return Ok(());
     };
     if priority.is_some() {
-        list_priority_twice(tokens, errors)?;
+        report_priority_twice(tokens, errors)?;
     }
     *priority = Some(next);
     Ok(())
 }
 
-/// Sets whether a greedy dot is allowed, in place of what was said before. After an error that is
-/// as before.
+/// Sets the value of `allow_greedy`, in place of a former one, which is reported. After an error it
+/// is unchanged.
 fn set_greedy(
     allow: &mut Option<bool>,
     tokens: Tokens<'_, '_>,
     errors: &mut Errors,
 ) -> Result<(), Memory>
-    ensures ok { OnOk result (Tells
+    ensures ok { OnOk result (IsReport
         (greedy_set (tokens_of tokens.entry) allow.old)
         allow.new errors.old errors.new) }
     ensures unchanged { OnErr result (allow.new ≡ allow.old) }
 {
     let Some(next) = boolean_in(tokens) else {
-        list_greedy_value(tokens, errors)?;
+        report_greedy_value(tokens, errors)?;
         return Ok(());
     };
     if allow.is_some() {
-        list_greedy_twice(tokens, errors)?;
+        report_greedy_twice(tokens, errors)?;
     }
     *allow = Some(next);
     Ok(())
@@ -84,16 +84,16 @@ fn set_greedy(
 impl<'s> Definition<'s> {
     ghost use Rattle.std.specs.Prelude.{◌≡◌, OnOk, OnErr, true};
     ghost use Rattle.logos_attribute.specs.Slices.{ident_slice};
-    ghost use Rattle.logos_attribute.specs.Told.{Tells};
+    ghost use Rattle.logos_attribute.specs.Reports.{IsReport};
     ghost use Rattle.logos_attribute.specs.Nested.{value_of, piece_of, pieces_left};
     ghost use Rattle.logos_attribute.specs.LiteralViews.{literal_view};
-    ghost use Rattle.logos_definition.specs.Definitions.{plain, priority_told};
-    ghost use Rattle.logos_definition.specs.Definitions.{named_callback_told, ignore_told};
-    ghost use Rattle.logos_definition.specs.Definitions.{greedy_told, named_told};
-    ghost use Rattle.logos_definition.specs.Definitions.{argument_told, arguments_told};
+    ghost use Rattle.logos_definition.specs.Definitions.{plain, priority_report};
+    ghost use Rattle.logos_definition.specs.Definitions.{named_callback_report, ignore_report};
+    ghost use Rattle.logos_definition.specs.Definitions.{greedy_report, named_report};
+    ghost use Rattle.logos_definition.specs.Definitions.{argument_report, arguments_report};
     ghost use Rattle.logos_definition.specs.DefinitionViews.{definition_view};
 
-    /// The literal with nothing behind it.
+    /// Returns the definition with this literal and no arguments.
     pub fn new(literal: Literal<'s>) -> Definition<'s>
         ensures { definition_view result ≡ plain (literal_view literal.entry) }
     {
@@ -106,106 +106,97 @@ impl<'s> Definition<'s> {
         }
     }
 
-    /// Adds what `priority` says. After an error the definition is as before.
+    /// Adds the argument `priority`. After an error the definition is unchanged.
     fn add_priority(
         &mut self,
         name: Ident<'s>,
-        value: NestedValue<'_, 's>,
+        value: &NestedValue<'_, 's>,
         errors: &mut Errors,
     ) -> Result<(), Memory>
-        ensures ok { OnOk result (Tells
-            (priority_told (ident_slice name.entry) (value_of value.entry)
+        ensures ok { OnOk result (IsReport
+            (priority_report (ident_slice name.entry) (value_of value.now)
             (definition_view self.old))
             (definition_view self.new) errors.old errors.new) }
         ensures unchanged { OnErr result (self.new ≡ self.old) }
     {
         match value {
-            NestedValue::Assign(tokens) => set_priority(&mut self.priority, tokens, errors)?,
-            _ => list_priority_form(name, errors)?,
+            NestedValue::Assign(tokens) => set_priority(&mut self.priority, *tokens, errors)?,
+            _ => report_priority_form(name, errors)?,
         }
         Ok(())
     }
 
-    /// Adds what `callback` says. After an error the definition is as before.
+    /// Adds the argument `callback`. After an error the definition is unchanged.
     fn add_callback(
         &mut self,
-        alloc: Global,
         name: Ident<'s>,
-        value: NestedValue<'_, 's>,
+        value: &NestedValue<'_, 's>,
         errors: &mut Errors,
     ) -> Result<(), Memory>
-        ensures ok { OnOk result (Tells
-            (named_callback_told (ident_slice name.entry) (value_of value.entry)
+        ensures ok { OnOk result (IsReport
+            (named_callback_report (ident_slice name.entry) (value_of value.now)
             (definition_view self.old))
             (definition_view self.new) errors.old errors.new) }
         ensures unchanged { OnErr result (self.new ≡ self.old) }
     {
         match value {
             NestedValue::Assign(tokens) => {
-                set_callback(alloc, &mut self.callback, name, tokens, errors)?
+                set_callback(&mut self.callback, name, *tokens, errors)?
             }
-            _ => list_callback_form(name, errors)?,
+            _ => report_callback_form(name, errors)?,
         }
         Ok(())
     }
 
-    /// Adds the flags in `ignore(..)`. After an error the definition is as before.
+    /// Adds the flags in `ignore(..)`. After an error the definition is unchanged.
     fn add_ignore(
         &mut self,
-        alloc: Global,
         name: Ident<'s>,
-        value: NestedValue<'_, 's>,
+        value: &NestedValue<'_, 's>,
         errors: &mut Errors,
     ) -> Result<(), Memory>
-        ensures ok { OnOk result (Tells
-            (ignore_told (ident_slice name.entry) (value_of value.entry) (definition_view self.old))
+        ensures ok { OnOk result (IsReport
+            (ignore_report (ident_slice name.entry) (value_of value.now) (definition_view self.old))
             (definition_view self.new) errors.old errors.new) }
         ensures unchanged { OnErr result (self.new ≡ self.old) }
     {
         match value {
             NestedValue::Group(tokens) => {
-                read_flags(
-                    alloc,
-                    &mut self.ignore_flags.ignore_case,
-                    name,
-                    tokens,
-                    errors,
-                )?
+                read_flags(&mut self.ignore_flags.ignore_case, name, *tokens, errors)?
             }
-            _ => list_ignore_form(name, errors)?,
+            _ => report_ignore_form(name, errors)?,
         }
         Ok(())
     }
 
-    /// Adds what `allow_greedy` says. After an error the definition is as before.
+    /// Adds the argument `allow_greedy`. After an error the definition is unchanged.
     fn add_greedy(
         &mut self,
         name: Ident<'s>,
-        value: NestedValue<'_, 's>,
+        value: &NestedValue<'_, 's>,
         errors: &mut Errors,
     ) -> Result<(), Memory>
-        ensures ok { OnOk result (Tells
-            (greedy_told (ident_slice name.entry) (value_of value.entry) (definition_view self.old))
+        ensures ok { OnOk result (IsReport
+            (greedy_report (ident_slice name.entry) (value_of value.now) (definition_view self.old))
             (definition_view self.new) errors.old errors.new) }
         ensures unchanged { OnErr result (self.new ≡ self.old) }
     {
         match value {
-            NestedValue::Assign(tokens) => set_greedy(&mut self.allow_greedy, tokens, errors)?,
-            _ => list_greedy_form(name, errors)?,
+            NestedValue::Assign(tokens) => set_greedy(&mut self.allow_greedy, *tokens, errors)?,
+            _ => report_greedy_form(name, errors)?,
         }
         Ok(())
     }
 
-    /// Adds a named argument, and lists its faults. After an error the definition is as before.
+    /// Adds a named argument, and reports its faults. After an error the definition is unchanged.
     pub(crate) fn add_named(
         &mut self,
-        alloc: Global,
         name: Ident<'s>,
-        value: NestedValue<'_, 's>,
+        value: &NestedValue<'_, 's>,
         errors: &mut Errors,
     ) -> Result<(), Memory>
-        ensures ok { OnOk result (Tells
-            (named_told (ident_slice name.entry) (value_of value.entry) (definition_view self.old))
+        ensures ok { OnOk result (IsReport
+            (named_report (ident_slice name.entry) (value_of value.now) (definition_view self.old))
             (definition_view self.new) errors.old errors.new) }
         ensures unchanged { OnErr result (self.new ≡ self.old) }
     {
@@ -213,83 +204,81 @@ impl<'s> Definition<'s> {
             return self.add_priority(name, value, errors);
         }
         if name.text == "callback" {
-            return self.add_callback(alloc, name, value, errors);
+            return self.add_callback(name, value, errors);
         }
         if name.text == "ignore" {
-            return self.add_ignore(alloc, name, value, errors);
+            return self.add_ignore(name, value, errors);
         }
         if name.text == "allow_greedy" {
             return self.add_greedy(name, value, errors);
         }
-        list_unknown(alloc, name, errors)
+        report_unknown(name, errors)
     }
 
-    /// Adds an argument behind the literal; only the first may be a callback without a name.
+    /// Adds an argument after the literal. Only the first one can be a callback without a name.
     fn add_argument(
         &mut self,
-        alloc: Global,
         first: bool,
         piece: Nested<'_, 's>,
         errors: &mut Errors,
     ) -> Result<(), Memory>
-        ensures { OnOk result (Tells
-            (argument_told first (piece_of piece.entry) (definition_view self.old))
+        ensures { OnOk result (IsReport
+            (argument_report first (piece_of piece.entry) (definition_view self.old))
             (definition_view self.new) errors.old errors.new) }
     {
         match piece {
-            Nested::Unexpected(tokens) => list_unexpected(tokens, errors)?,
+            Nested::Unexpected(tokens) => report_unexpected(tokens, errors)?,
             Nested::Unnamed(tokens) => {
                 if first {
-                    self.callback = read_callback(alloc, tokens, errors)?;
+                    self.callback = read_callback(tokens, errors)?;
                 } else {
-                    list_named_expected(tokens, errors)?;
+                    report_named_expected(tokens, errors)?;
                 }
             }
-            Nested::Named(name, value) => self.add_named(alloc, name, value, errors)?,
+            Nested::Named(name, value) => self.add_named(name, &value, errors)?,
         }
         Ok(())
     }
 
-    /// Adds all arguments behind the literal.
+    /// Adds all arguments after the literal.
     fn add_arguments(
         &mut self,
-        alloc: Global,
         pieces: AttributeParser<'_, 's>,
         errors: &mut Errors,
     ) -> Result<(), Memory>
-        ensures { OnOk result (Tells
-            (arguments_told true (pieces_left pieces.entry) (definition_view self.old))
+        ensures { OnOk result (IsReport
+            (arguments_report true (pieces_left pieces.entry) (definition_view self.old))
             (definition_view self.new) errors.old errors.new) }
     {
         let mut first = true;
         let mut pieces = pieces;
         while let Some(piece) = pieces.next() {
-            self.add_argument(alloc, first, piece, errors)?;
+            self.add_argument(first, piece, errors)?;
             first = false;
         }
         Ok(())
     }
 }
 
-/// What is in the parenthesis of `token`, `regex` or `skip`; `None` where it has no literal in
-/// front, which was listed if it has tokens there. After `Memory` nothing is told of the faults.
+/// Reads the definition in the parentheses of `token`, `regex` or `skip`. `None` if these do not
+/// begin with a literal; tokens in place of the literal are reported. After `Memory` some of the
+/// faults can have been added.
 pub(crate) fn read_definition<'s>(
-    alloc: Global,
     tokens: Tokens<'_, 's>,
     errors: &mut Errors,
 ) -> Result<Option<Definition<'s>>, Memory>
     ensures { IfOk result (λ definition.
-        Tells (definition_told (tokens_of tokens.entry))
+        IsReport (definition_report (tokens_of tokens.entry))
         (option_map definition_view definition) errors.old errors.new) }
 {
     let mut pieces = AttributeParser::new(tokens);
     let Some(run) = pieces.run() else {
         return Ok(None);
     };
-    let Some(literal) = read_literal(alloc, run, errors)? else {
+    let Some(literal) = read_literal(errors.alloc(), run, errors)? else {
         return Ok(None);
     };
     let mut definition = Definition::new(literal);
-    definition.add_arguments(alloc, pieces, errors)?;
+    definition.add_arguments(pieces, errors)?;
     Ok(Some(definition))
 }

@@ -1,20 +1,20 @@
-//! The type of errors, and what makes one.
+//! Reads error types and their callbacks.
 ghost use Rattle.std.specs.Prelude.{OnOk, IfOk, option_map, true};
 ghost use Rattle.logos_type.specs.TypeTrees.{type_tree};
 ghost use Rattle.logos_token.specs.Views.{tokens_of};
 ghost use Rattle.logos_attribute.specs.Slices.{ident_slice};
 ghost use Rattle.logos_attribute.specs.Nested.{pieces_left};
-ghost use Rattle.logos_attribute.specs.Told.{Lists, Tells};
+ghost use Rattle.logos_attribute.specs.Reports.{AddsFault, IsReport};
 ghost use Rattle.logos_definition.specs.ErrorTypes.{unknown_error_argument, error_read};
-ghost use Rattle.logos_definition.specs.ErrorTypes.{error_arguments_told};
+ghost use Rattle.logos_definition.specs.ErrorTypes.{error_arguments_report};
 ghost use Rattle.logos_definition.specs.ErrorTypeViews.{error_view};
 ghost use Rattle.logos_definition.specs.OptionFaults.{error_empty};
 ghost use Rattle.logos_definition.specs.Arguments.{ErrorGroup};
 
-use crate::definition::faults::{list_callback_form, list_named_expected, list_unexpected};
+use crate::definition::faults::{report_callback_form, report_named_expected, report_unexpected};
 use logos_attribute::callback::{read_callback, set_callback};
-use logos_attribute::listing::{list_named, list_run};
 use logos_attribute::nested::{AttributeParser, Nested, NestedValue};
+use logos_attribute::reporting::{report_named, report_run};
 use logos_pattern::leaf::Callback;
 use logos_token::error::{Errors, FaultCode, Memory};
 use logos_token::token::{Ident, Span, TokenStream, Tokens};
@@ -23,24 +23,23 @@ use logos_type::{TypeExpr, print_type};
 use logos_type_params::read_value;
 use std::alloc::Global;
 
-/// The type of errors, and what makes one.
+/// The error type of a lexer, and the callback that makes an error.
 #[derive(Drop)]
 pub struct ErrorType<'s> {
-    /// The tokens of the type; it is `()` where there are none.
+    /// The tokens of the type. Without tokens the type is `()`.
     pub ty: MaybeVoid<'s>,
-    /// The type as it was read from these tokens, if it was: in `error(..)`, and not behind `error =`.
+    /// The type as it was read from these tokens: in `error(..)`, but not after `error =`.
     pub type_expr: Option<TypeExpr<'s>>,
-    /// What makes an error, if something is called for it.
+    /// The callback that makes an error, if there is one.
     pub callback: Option<Callback<'s>>,
 }
 
-/// Lists a name that no argument of `error(..)` has.
-fn list_unknown(alloc: Global, name: Ident<'_>, errors: &mut Errors) -> Result<(), Memory>
+/// Reports an unknown name in `error(..)`.
+fn report_unknown(name: Ident<'_>, errors: &mut Errors) -> Result<(), Memory>
     ensures { OnOk result
-        (Lists (unknown_error_argument (ident_slice name.entry)) errors.old errors.new) }
+        (AddsFault (unknown_error_argument (ident_slice name.entry)) errors.old errors.new) }
 {
-    list_named(
-        alloc,
+    report_named(
         errors,
         FaultCode::UnknownNested,
         "Unknown nested attribute: ",
@@ -53,15 +52,15 @@ impl<'s> ErrorType<'s> {
     ghost use Rattle.std.specs.Prelude.{◌≡◌, IfOk, OnOk, OnErr, true, string_bytes};
     ghost use Rattle.logos_token.specs.Views.{stream_tokens};
     ghost use Rattle.logos_attribute.specs.Slices.{ident_slice};
-    ghost use Rattle.logos_attribute.specs.Told.{Tells};
+    ghost use Rattle.logos_attribute.specs.Reports.{IsReport};
     ghost use Rattle.logos_attribute.specs.Nested.{value_of, piece_of, pieces_left};
     ghost use Rattle.logos_definition.specs.ErrorTypes.{error_alone, no_error, error_span, error_text};
-    ghost use Rattle.logos_definition.specs.ErrorTypes.{error_callback_told, error_named_told};
-    ghost use Rattle.logos_definition.specs.ErrorTypes.{error_argument_told};
-    ghost use Rattle.logos_definition.specs.ErrorTypes.{error_arguments_told};
+    ghost use Rattle.logos_definition.specs.ErrorTypes.{error_callback_report, error_named_report};
+    ghost use Rattle.logos_definition.specs.ErrorTypes.{error_argument_report};
+    ghost use Rattle.logos_definition.specs.ErrorTypes.{error_arguments_report};
     ghost use Rattle.logos_definition.specs.ErrorTypeViews.{error_view};
 
-    /// The type of these tokens, without a callback.
+    /// Returns the error type of these tokens, without a callback.
     pub fn new(ty: TokenStream<'s>) -> ErrorType<'s>
         ensures { error_view result ≡ error_alone (stream_tokens ty.entry) }
     {
@@ -72,7 +71,7 @@ impl<'s> ErrorType<'s> {
         }
     }
 
-    /// The type `()`, without a callback. It takes no memory.
+    /// Returns the error type `()`, without a callback. This takes no memory.
     pub fn default(_alloc: Global) -> ErrorType<'s>
         ensures { error_view result ≡ no_error }
     {
@@ -83,9 +82,12 @@ impl<'s> ErrorType<'s> {
         }
     }
 
-    /// The text of the type: that of a type where it was read, else that of its tokens, or of `()`
-    /// where there are none. Its lifetimes and parameters are those that are written. It fails only
-    /// where there is no memory.
+    /// Returns the text of the type: of the type that was read if it was, or else of its tokens, or
+    /// `()` if there are none. Its lifetimes and parameters are those of the source.
+    ///
+    /// # Errors
+    ///
+    /// `Memory` if there is not enough memory.
     pub fn print(&self, alloc: Global) -> Result<String, Memory>
         ensures { IfOk result (λ text. string_bytes text ≡ error_text (error_view self.now)) }
     {
@@ -95,8 +97,8 @@ impl<'s> ErrorType<'s> {
         }
     }
 
-    /// Where the type stands in the source: from its first token to its last, and 0..0 where it has
-    /// no token.
+    /// Returns the span of the type in the source, from its first token to its last one, or `0..0`
+    /// if it has no tokens.
     pub fn span(&self) -> Span
         ensures { result ≡ error_span (error_view self.now) }
     {
@@ -106,100 +108,96 @@ impl<'s> ErrorType<'s> {
         }
     }
 
-    /// Adds what `callback` says. After an error the type is as before.
+    /// Adds the argument `callback`. After an error the type is unchanged.
     fn add_callback(
         &mut self,
-        alloc: Global,
         name: Ident<'s>,
-        value: NestedValue<'_, 's>,
+        value: &NestedValue<'_, 's>,
         errors: &mut Errors,
     ) -> Result<(), Memory>
-        ensures ok { OnOk result (Tells
-            (error_callback_told (ident_slice name.entry) (value_of value.entry)
+        ensures ok { OnOk result (IsReport
+            (error_callback_report (ident_slice name.entry) (value_of value.now)
             (error_view self.old))
             (error_view self.new) errors.old errors.new) }
         ensures unchanged { OnErr result (self.new ≡ self.old) }
     {
         match value {
             NestedValue::Assign(tokens) => {
-                set_callback(alloc, &mut self.callback, name, tokens, errors)?
+                set_callback(&mut self.callback, name, *tokens, errors)?
             }
-            _ => list_callback_form(name, errors)?,
+            _ => report_callback_form(name, errors)?,
         }
         Ok(())
     }
 
-    /// Adds a named argument, and lists its faults. After an error the type is as before.
+    /// Adds a named argument, and reports its faults. After an error the type is unchanged.
     pub(crate) fn add_named(
         &mut self,
-        alloc: Global,
         name: Ident<'s>,
-        value: NestedValue<'_, 's>,
+        value: &NestedValue<'_, 's>,
         errors: &mut Errors,
     ) -> Result<(), Memory>
-        ensures ok { OnOk result (Tells
-            (error_named_told (ident_slice name.entry) (value_of value.entry) (error_view self.old))
+        ensures ok { OnOk result (IsReport
+            (error_named_report (ident_slice name.entry) (value_of value.now) (error_view self.old))
             (error_view self.new) errors.old errors.new) }
         ensures unchanged { OnErr result (self.new ≡ self.old) }
     {
         if name.text == "callback" {
-            return self.add_callback(alloc, name, value, errors);
+            return self.add_callback(name, value, errors);
         }
-        list_unknown(alloc, name, errors)
+        report_unknown(name, errors)
     }
 
-    /// Adds an argument behind the type; only the first may be a callback without a name.
+    /// Adds an argument after the type. Only the first one can be a callback without a name.
     fn add_argument(
         &mut self,
-        alloc: Global,
         first: bool,
         piece: Nested<'_, 's>,
         errors: &mut Errors,
     ) -> Result<(), Memory>
-        ensures { OnOk result (Tells
-            (error_argument_told first (piece_of piece.entry) (error_view self.old))
+        ensures { OnOk result (IsReport
+            (error_argument_report first (piece_of piece.entry) (error_view self.old))
             (error_view self.new) errors.old errors.new) }
     {
         match piece {
-            Nested::Unexpected(tokens) => list_unexpected(tokens, errors)?,
+            Nested::Unexpected(tokens) => report_unexpected(tokens, errors)?,
             Nested::Unnamed(tokens) => {
                 if first {
-                    self.callback = read_callback(alloc, tokens, errors)?;
+                    self.callback = read_callback(tokens, errors)?;
                 } else {
-                    list_named_expected(tokens, errors)?;
+                    report_named_expected(tokens, errors)?;
                 }
             }
-            Nested::Named(name, value) => self.add_named(alloc, name, value, errors)?,
+            Nested::Named(name, value) => self.add_named(name, &value, errors)?,
         }
         Ok(())
     }
 
-    /// Adds all arguments behind the type.
+    /// Adds all arguments after the type.
     pub(crate) fn add_arguments(
         &mut self,
-        alloc: Global,
         pieces: AttributeParser<'_, 's>,
         errors: &mut Errors,
     ) -> Result<(), Memory>
-        ensures { OnOk result (Tells
-            (error_arguments_told true (pieces_left pieces.entry) (error_view self.old))
+        ensures { OnOk result (IsReport
+            (error_arguments_report true (pieces_left pieces.entry) (error_view self.old))
             (error_view self.new) errors.old errors.new) }
     {
         let mut first = true;
         let mut pieces = pieces;
         while let Some(piece) = pieces.next() {
-            self.add_argument(alloc, first, piece, errors)?;
+            self.add_argument(first, piece, errors)?;
             first = false;
         }
         Ok(())
     }
 }
 
-/// Lists that no type stands in `error(..)`.
-fn list_empty(group: Tokens<'_, '_>, errors: &mut Errors) -> Result<(), Memory>
-    ensures { OnOk result (Lists (error_empty (tokens_of group.entry)) errors.old errors.new) }
+/// Reports that `error(..)` has no type.
+fn report_empty(group: Tokens<'_, '_>, errors: &mut Errors) -> Result<(), Memory>
+    ensures { OnOk result (AddsFault (error_empty (tokens_of group.entry)) errors.old errors.new) }
 {
-    list_run(
+    report_run(
         errors,
         FaultCode::ErrorEmpty,
         "Expected #[logos(error(SomeType))]",
@@ -207,32 +205,31 @@ fn list_empty(group: Tokens<'_, '_>, errors: &mut Errors) -> Result<(), Memory>
     )
 }
 
-/// The type of errors, as it was read from a run, with the arguments behind it, of which the first may be a callback without a
-/// name.
+/// Returns the error type that was read from the run, with the arguments after it. The first of
+/// them can be a callback without a name.
 fn with_arguments<'s>(
-    alloc: Global,
     run: Tokens<'_, 's>,
     type_expr: TypeExpr<'s>,
     pieces: AttributeParser<'_, 's>,
     errors: &mut Errors,
 ) -> Result<ErrorType<'s>, Memory>
-    ensures { IfOk result (λ error. Tells
-        (error_arguments_told true (pieces_left pieces.entry)
+    ensures { IfOk result (λ error. IsReport
+        (error_arguments_report true (pieces_left pieces.entry)
         (error_read (tokens_of run.entry) (type_tree type_expr.entry)))
         (error_view error) errors.old errors.new) }
 {
     let mut error = ErrorType {
-        ty: MaybeVoid::Some(run.to_stream(alloc)?),
+        ty: MaybeVoid::Some(run.to_stream(errors.alloc())?),
         type_expr: Some(type_expr),
         callback: None,
     };
-    error.add_arguments(alloc, pieces, errors)?;
+    error.add_arguments(pieces, errors)?;
     Ok(error)
 }
 
-/// What `error(..)` says; nothing where it has no type, which is listed at the whole group.
+/// Reads the error type in `error(..)`. Reports a group without a type, at the whole group, and
+/// returns `None` for it.
 pub(crate) fn error_in<'s>(
-    alloc: Global,
     group: Tokens<'_, 's>,
     errors: &mut Errors,
 ) -> Result<Option<ErrorType<'s>>, Memory>
@@ -241,12 +238,12 @@ pub(crate) fn error_in<'s>(
 {
     let mut pieces = AttributeParser::new(group);
     let Some(run) = pieces.run() else {
-        list_empty(group, errors)?;
+        report_empty(group, errors)?;
         return Ok(None);
     };
-    let Some(type_expr) = read_value(alloc, run, group.span(), errors)? else {
+    let Some(type_expr) = read_value(errors.alloc(), run, group.span(), errors)? else {
         return Ok(None);
     };
-    let error = with_arguments(alloc, run, type_expr, pieces, errors)?;
+    let error = with_arguments(run, type_expr, pieces, errors)?;
     Ok(Some(error))
 }

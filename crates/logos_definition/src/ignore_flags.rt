@@ -1,6 +1,6 @@
-//! How a pattern is read.
+//! The flags of `ignore(..)`.
 
-/// How the pattern of a definition is read.
+/// How the pattern of a definition is matched.
 #[derive(Clone, Copy, PartialEq, Eq)]
 pub struct IgnoreFlags {
     /// Letters match in either case.

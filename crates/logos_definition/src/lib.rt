@@ -1,4 +1,4 @@
-//! What the attributes of an enum and its variants say: definitions, and the options of a lexer.
+//! Reads the attributes of an enum and its variants: definitions, and the options of a lexer.
 
 #![tactic(auto)]
 

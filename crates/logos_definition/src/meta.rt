@@ -1,9 +1,9 @@
-//! The names and the arguments of attributes.
+//! Reads the names and the arguments of attributes.
 ghost use Rattle.std.specs.Prelude.{◌≡◌, MatchOption, None, Some};
 ghost use Rattle.logos_token.specs.Views.{tokens_of};
 ghost use Rattle.logos_attribute.specs.Slices.{ident_slice};
 ghost use Rattle.logos_item.specs.AttributeValues.{attribute_value};
-ghost use Rattle.logos_definition.specs.Metas.{behind_name, meta_of, meta_view};
+ghost use Rattle.logos_definition.specs.Metas.{after_name, meta_of, meta_view};
 
 use logos_attribute::nested::split;
 use logos_item::Attribute;
@@ -13,15 +13,16 @@ use logos_token::token::{Ident, TokenTree, Tokens};
 #[derive(Clone, Copy)]
 pub struct Meta<'t, 's> {
     pub name: Ident<'s>,
-    /// What its group holds; `None` where it has none.
+    /// The tokens inside its group. `None` if it has no group.
     pub arguments: Option<Tokens<'t, 's>>,
 }
 
-/// What stands behind the name of an attribute; `None` where the path goes on.
-fn behind_name<'t, 's>(name: Ident<'s>, tokens: Tokens<'t, 's>) -> Option<Meta<'t, 's>>
+/// Returns the attribute with this name, whose tokens after the name come next. `None` if its path
+/// goes on.
+fn after_name<'t, 's>(name: Ident<'s>, tokens: Tokens<'t, 's>) -> Option<Meta<'t, 's>>
     ensures { MatchOption result
-        (behind_name (ident_slice name.entry) (tokens_of tokens.entry) ≡ None)
-        (λ meta. behind_name (ident_slice name.entry) (tokens_of tokens.entry)
+        (after_name (ident_slice name.entry) (tokens_of tokens.entry) ≡ None)
+        (λ meta. after_name (ident_slice name.entry) (tokens_of tokens.entry)
         ≡ Some (meta_view meta)) }
 {
     match tokens.first() {
@@ -37,15 +38,15 @@ fn behind_name<'t, 's>(name: Ident<'s>, tokens: Tokens<'t, 's>) -> Option<Meta<'
     }
 }
 
-/// The name and the arguments of an attribute; `None` where its path is not one identifier, and for
-/// a documentation comment.
+/// Returns the name and the arguments of an attribute. `None` if its path is not one identifier,
+/// and for a documentation comment.
 pub fn meta_of<'t, 's>(attribute: Attribute<'t, 's>) -> Option<Meta<'t, 's>>
     ensures { MatchOption result
         (meta_of (attribute_value attribute.entry) ≡ None)
         (λ meta. meta_of (attribute_value attribute.entry) ≡ Some (meta_view meta)) }
 {
     match split(attribute.inside?)? {
-        (TokenTree::Ident(name), rest) => behind_name(name, rest),
+        (TokenTree::Ident(name), rest) => after_name(name, rest),
         _ => None,
     }
 }

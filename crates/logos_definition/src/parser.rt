@@ -1,4 +1,16 @@
-//! What the attributes of an enum say.
+//! Reads the attributes of an enum.
+
+/// Makes a call that changes a parser, unless the parser has failed. It has failed after an error.
+macro_rules! unless_failed {
+    ($parser:expr, $call:expr) => {{
+        if $parser.failed {
+            return Err(Memory);
+        }
+        let outcome = $call;
+        $parser.failed = outcome.is_err();
+        outcome
+    }};
+}
 
 mod attributes;
 mod faults;
@@ -19,24 +31,25 @@ use logos_token::util::MaybeVoid;
 use logos_type_params::TypeParams;
 use std::alloc::Global;
 
-/// Whether inputs are UTF-8, and where that is said.
+/// Whether inputs are UTF-8, and where the source gives that.
 #[derive(Clone, Copy)]
 pub struct Utf8Mode {
     pub value: bool,
-    /// The value in the source.
+    /// The span of the value in the source.
     pub span: Span,
 }
 
-/// The path of the chart that is exported, and where it is said.
+/// The path of the exported chart, and where the source gives it.
 #[derive(Drop)]
 pub struct ExportPath {
     pub path: String,
-    /// The value in the source.
+    /// The span of the value in the source.
     pub span: Span,
 }
 
-/// What the attributes of an enum say, and the faults found in them. Where memory ran out in a call
-/// that changes it, it has failed, and each later call answers `Memory`.
+/// Collects the options that the attributes of an enum give, and the faults found in them. If
+/// memory runs out in a call that changes it, the parser has failed, and each later call answers
+/// `Memory`.
 #[derive(Drop)]
 pub struct Parser<'s> {
     pub errors: Errors,
@@ -50,7 +63,7 @@ pub struct Parser<'s> {
     /// The path of the crate that the printed text uses.
     pub logos_path: Option<TokenStream<'s>>,
     pub export_path: Option<ExportPath>,
-    /// The declared type parameters, and the types that are given to them.
+    /// The declared type parameters, and the types given to them.
     pub types: TypeParams<'s>,
     alloc: Global,
     failed: bool,
@@ -60,19 +73,19 @@ impl<'s> Parser<'s> {
     ghost use Rattle.std.specs.Prelude.{◌≡◌, IfOk, OnOk, OnErr, option_map, true, false, []};
     ghost use Rattle.logos_token.specs.Views.{tokens_of};
     ghost use Rattle.logos_attribute.specs.Slices.{literal_slice};
-    ghost use Rattle.logos_attribute.specs.Told.{Tells, Lists, fault};
+    ghost use Rattle.logos_attribute.specs.Reports.{IsReport, AddsFault, fault};
     ghost use Rattle.logos_attribute.specs.Pieces.{pieces};
-    ghost use Rattle.logos_attribute.specs.Literals.{text_told};
+    ghost use Rattle.logos_attribute.specs.Literals.{text_report};
     ghost use Rattle.logos_attribute.specs.LiteralViews.{literal_view};
-    ghost use Rattle.logos_definition.specs.Definitions.{definition_told};
+    ghost use Rattle.logos_definition.specs.Definitions.{definition_report};
     ghost use Rattle.logos_definition.specs.DefinitionViews.{definition_view};
-    ghost use Rattle.logos_definition.specs.Options.{nothing_said};
+    ghost use Rattle.logos_definition.specs.Options.{no_options};
     ghost use Rattle.logos_definition.specs.Arguments.{PiecesSay};
     ghost use Rattle.logos_definition.specs.ParserViews.{parser_view, HasNotFailed};
 
-    /// A parser to which nothing was said. What is read later takes memory from `alloc`.
+    /// Returns a parser without options. It takes its memory from `alloc`.
     pub fn new(alloc: Global) -> Parser<'s>
-        ensures said { parser_view result ≡ nothing_said }
+        ensures options { parser_view result ≡ no_options }
         ensures errors { result.errors ≡ [] }
         ensures failed { result.failed ≡ false }
     {
@@ -91,8 +104,11 @@ impl<'s> Parser<'s> {
         }
     }
 
-    /// Adds the arguments in the parenthesis of a `logos` attribute, and lists their faults. After
-    /// `Memory` the parser has failed.
+    /// Adds the arguments in the parentheses of a `logos` attribute, and reports their faults.
+    ///
+    /// # Errors
+    ///
+    /// `Memory` if there is not enough memory. The parser has then failed.
     pub fn read_logos(&mut self, tokens: Tokens<'_, 's>) -> Result<(), Memory>
         ensures ok { OnOk result (PiecesSay
             (parser_view self.old) (parser_view self.new) self.old.errors self.new.errors
@@ -100,140 +116,134 @@ impl<'s> Parser<'s> {
         ensures going { OnOk result (HasNotFailed self.old self.new) }
         ensures err { OnErr result (self.new.failed ≡ true) }
     {
-        if self.failed {
-            return Err(Memory);
-        }
-        let outcome = self.add_pieces(AttributeParser::new(tokens));
-        self.failed = outcome.is_err();
-        outcome
+        unless_failed!(self, self.add_pieces(AttributeParser::new(tokens)))
     }
 
-    /// Adds a fault behind the others. After `Memory` the parser has failed.
+    /// Adds a fault after the others.
+    ///
+    /// # Errors
+    ///
+    /// `Memory` if there is not enough memory. The parser has then failed.
     pub fn err(&mut self, code: FaultCode, message: &str, span: Span) -> Result<(), Memory>
         ensures ok { OnOk result
-            (Lists (fault code message.now span) self.old.errors self.new.errors) }
-        ensures kept { OnOk result (parser_view self.new ≡ parser_view self.old) }
+            (AddsFault (fault code message.now span) self.old.errors self.new.errors) }
+        ensures options { OnOk result (parser_view self.new ≡ parser_view self.old) }
         ensures going { OnOk result (HasNotFailed self.old self.new) }
         ensures err { OnErr result (self.new.failed ≡ true) }
     {
-        if self.failed {
-            return Err(Memory);
-        }
-        let outcome = self.errors.err(code, message, span);
-        self.failed = outcome.is_err();
-        outcome
+        unless_failed!(self, self.errors.err(code, message, span))
     }
 
-    /// The string or byte string that a literal is; `None` where it is another one, which was
-    /// listed. After `Memory` the parser has failed.
+    /// Reads a literal as a string or byte string. Reports any other literal, and returns `None`
+    /// for it.
+    ///
+    /// # Errors
+    ///
+    /// `Memory` if there is not enough memory. The parser has then failed.
     pub fn parse_literal(
         &mut self,
         literal: token::Literal<'s>,
     ) -> Result<Option<Literal<'s>>, Memory>
-        ensures ok { IfOk result (λ read. Tells
-            (text_told (literal_slice literal.entry)) (option_map literal_view read)
+        ensures ok { IfOk result (λ read. IsReport
+            (text_report (literal_slice literal.entry)) (option_map literal_view read)
             self.old.errors self.new.errors) }
-        ensures kept { OnOk result (parser_view self.new ≡ parser_view self.old) }
+        ensures options { OnOk result (parser_view self.new ≡ parser_view self.old) }
         ensures going { OnOk result (HasNotFailed self.old self.new) }
         ensures err { OnErr result (self.new.failed ≡ true) }
     {
-        if self.failed {
-            return Err(Memory);
-        }
-        let outcome = read_text(self.alloc, literal, &mut self.errors);
-        self.failed = outcome.is_err();
-        outcome
+        unless_failed!(self, read_text(self.alloc, literal, &mut self.errors))
     }
 
-    /// The definition in the parenthesis of a `token` or `regex`; `None` where it has no literal in
-    /// front, which was listed if it has tokens there. After `Memory` the parser has failed.
+    /// Reads the definition in the parentheses of a `token` or `regex`. `None` if these do not
+    /// begin with a literal; tokens in place of the literal are reported.
+    ///
+    /// # Errors
+    ///
+    /// `Memory` if there is not enough memory. The parser has then failed.
     pub fn parse_definition(
         &mut self,
         tokens: Tokens<'_, 's>,
     ) -> Result<Option<Definition<'s>>, Memory>
-        ensures ok { IfOk result (λ definition. Tells
-            (definition_told (tokens_of tokens.entry)) (option_map definition_view definition)
+        ensures ok { IfOk result (λ definition. IsReport
+            (definition_report (tokens_of tokens.entry)) (option_map definition_view definition)
             self.old.errors self.new.errors) }
-        ensures kept { OnOk result (parser_view self.new ≡ parser_view self.old) }
+        ensures options { OnOk result (parser_view self.new ≡ parser_view self.old) }
         ensures going { OnOk result (HasNotFailed self.old self.new) }
         ensures err { OnErr result (self.new.failed ≡ true) }
     {
-        if self.failed {
-            return Err(Memory);
-        }
-        let outcome = read_definition(self.alloc, tokens, &mut self.errors);
-        self.failed = outcome.is_err();
-        outcome
+        unless_failed!(self, read_definition(tokens, &mut self.errors))
     }
 }
 
 impl<'s> Definition<'s> {
     ghost use Rattle.std.specs.Prelude.{◌≡◌, OnOk, OnErr, true};
     ghost use Rattle.logos_attribute.specs.Slices.{ident_slice};
-    ghost use Rattle.logos_attribute.specs.Told.{Tells};
+    ghost use Rattle.logos_attribute.specs.Reports.{IsReport};
     ghost use Rattle.logos_attribute.specs.Nested.{value_of};
-    ghost use Rattle.logos_definition.specs.Definitions.{named_told};
+    ghost use Rattle.logos_definition.specs.Definitions.{named_report};
     ghost use Rattle.logos_definition.specs.DefinitionViews.{definition_view};
     ghost use Rattle.logos_definition.specs.ParserViews.{parser_view, HasNotFailed};
 
-    /// Adds a named argument, and lists its faults in the parser, of which it changes nothing else.
-    /// After `Memory` the parser has failed, and the definition is as before.
+    /// Adds a named argument, and reports its faults in `parser`, of which nothing else changes.
+    /// Memory is taken from the allocator of `parser`.
+    ///
+    /// # Errors
+    ///
+    /// `Memory` if there is not enough memory. The parser has then failed, and the definition is
+    /// unchanged.
     pub fn named_attr(
         &mut self,
-        alloc: Global,
+        _alloc: Global,
         name: Ident<'s>,
         value: NestedValue<'_, 's>,
         parser: &mut Parser<'s>,
     ) -> Result<(), Memory>
-        ensures ok { OnOk result (Tells
-            (named_told (ident_slice name.entry) (value_of value.entry) (definition_view self.old))
+        ensures ok { OnOk result (IsReport
+            (named_report (ident_slice name.entry) (value_of value.entry)
+            (definition_view self.old))
             (definition_view self.new) parser.old.errors parser.new.errors) }
-        ensures kept { OnOk result (parser_view parser.new ≡ parser_view parser.old) }
+        ensures options { OnOk result (parser_view parser.new ≡ parser_view parser.old) }
         ensures going { OnOk result (HasNotFailed parser.old parser.new) }
         ensures err { OnErr result (parser.new.failed ≡ true) }
         ensures unchanged { OnErr result (self.new ≡ self.old) }
     {
-        if parser.failed {
-            return Err(Memory);
-        }
-        let outcome = self.add_named(alloc, name, value, &mut parser.errors);
-        parser.failed = outcome.is_err();
-        outcome
+        unless_failed!(parser, self.add_named(name, &value, &mut parser.errors))
     }
 }
 
 impl<'s> ErrorType<'s> {
     ghost use Rattle.std.specs.Prelude.{◌≡◌, OnOk, OnErr, true};
     ghost use Rattle.logos_attribute.specs.Slices.{ident_slice};
-    ghost use Rattle.logos_attribute.specs.Told.{Tells};
+    ghost use Rattle.logos_attribute.specs.Reports.{IsReport};
     ghost use Rattle.logos_attribute.specs.Nested.{value_of};
-    ghost use Rattle.logos_definition.specs.ErrorTypes.{error_named_told};
+    ghost use Rattle.logos_definition.specs.ErrorTypes.{error_named_report};
     ghost use Rattle.logos_definition.specs.ErrorTypeViews.{error_view};
     ghost use Rattle.logos_definition.specs.ParserViews.{parser_view, HasNotFailed};
 
-    /// Adds a named argument, and lists its faults in the parser, of which it changes nothing else.
-    /// After `Memory` the parser has failed, and the type is as before.
+    /// Adds a named argument, and reports its faults in `parser`, of which nothing else changes.
+    /// Memory is taken from the allocator of `parser`.
+    ///
+    /// # Errors
+    ///
+    /// `Memory` if there is not enough memory. The parser has then failed, and the type is
+    /// unchanged.
     pub fn named_attr(
         &mut self,
-        alloc: Global,
+        _alloc: Global,
         name: Ident<'s>,
         value: NestedValue<'_, 's>,
         parser: &mut Parser<'s>,
     ) -> Result<(), Memory>
-        ensures ok { OnOk result (Tells
-            (error_named_told (ident_slice name.entry) (value_of value.entry) (error_view self.old))
+        ensures ok { OnOk result (IsReport
+            (error_named_report (ident_slice name.entry) (value_of value.entry)
+            (error_view self.old))
             (error_view self.new) parser.old.errors parser.new.errors) }
-        ensures kept { OnOk result (parser_view parser.new ≡ parser_view parser.old) }
+        ensures options { OnOk result (parser_view parser.new ≡ parser_view parser.old) }
         ensures going { OnOk result (HasNotFailed parser.old parser.new) }
         ensures err { OnErr result (parser.new.failed ≡ true) }
         ensures unchanged { OnErr result (self.new ≡ self.old) }
     {
-        if parser.failed {
-            return Err(Memory);
-        }
-        let outcome = self.add_named(alloc, name, value, &mut parser.errors);
-        parser.failed = outcome.is_err();
-        outcome
+        unless_failed!(parser, self.add_named(name, &value, &mut parser.errors))
     }
 }
 
@@ -241,40 +251,37 @@ impl IgnoreFlags {
     ghost use Rattle.std.specs.Prelude.{◌≡◌, OnOk, OnErr, true, false};
     ghost use Rattle.logos_token.specs.Views.{tokens_of};
     ghost use Rattle.logos_attribute.specs.Slices.{ident_slice};
-    ghost use Rattle.logos_attribute.specs.Told.{Tells};
-    ghost use Rattle.logos_attribute.specs.Flags.{flags_told};
+    ghost use Rattle.logos_attribute.specs.Reports.{IsReport};
+    ghost use Rattle.logos_attribute.specs.Flags.{flags_report};
     ghost use Rattle.logos_definition.specs.ParserViews.{parser_view, HasNotFailed};
 
-    /// Sets the flags in the group behind `ignore`, whose name is given, and lists the first fault
-    /// among them in the parser, of which it changes nothing else. After `Memory` the parser has
-    /// failed, and the flags are as before.
+    /// Sets the flags in the group after `ignore`, and reports the first fault among them in
+    /// `parser`, of which nothing else changes. `name` is the word `ignore`. Memory is taken from
+    /// the allocator of `parser`.
+    ///
+    /// # Errors
+    ///
+    /// `Memory` if there is not enough memory. The parser has then failed, and the flags are
+    /// unchanged.
     pub fn parse_group<'s>(
         &mut self,
-        alloc: Global,
+        _alloc: Global,
         name: Ident<'s>,
         tokens: Tokens<'_, 's>,
         parser: &mut Parser<'s>,
     ) -> Result<(), Memory>
-        ensures ok { OnOk result (Tells
-            (flags_told (ident_slice name.entry) false self.old.ignore_case
+        ensures ok { OnOk result (IsReport
+            (flags_report (ident_slice name.entry) false self.old.ignore_case
             (tokens_of tokens.entry))
             self.new.ignore_case parser.old.errors parser.new.errors) }
-        ensures kept { OnOk result (parser_view parser.new ≡ parser_view parser.old) }
+        ensures options { OnOk result (parser_view parser.new ≡ parser_view parser.old) }
         ensures going { OnOk result (HasNotFailed parser.old parser.new) }
         ensures err { OnErr result (parser.new.failed ≡ true) }
         ensures unchanged { OnErr result (self.new ≡ self.old) }
     {
-        if parser.failed {
-            return Err(Memory);
-        }
-        let outcome = read_flags(
-            alloc,
-            &mut self.ignore_case,
-            name,
-            tokens,
-            &mut parser.errors,
-        );
-        parser.failed = outcome.is_err();
-        outcome
+        unless_failed!(
+            parser,
+            read_flags(&mut self.ignore_case, name, tokens, &mut parser.errors)
+        )
     }
 }

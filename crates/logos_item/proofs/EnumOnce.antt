@@ -9,7 +9,7 @@ use Rattle.logos_item.specs.declared.extents.End.TheVariants.{OfDefault, OfField
 use Rattle.logos_item.specs.declared.generics.ParameterKind.{ParameterKind}
 use Rattle.logos_item.specs.declared.generics.ParameterKind.TheVariants.{Lifetime, «Type», Const}
 use Rattle.logos_item.specs.Attributes.{announced_in, IsFront}
-use Rattle.logos_item.specs.Extents.{behind_extent}
+use Rattle.logos_item.specs.Extents.{after_extent}
 use Rattle.logos_item.specs.Marks.{is_none, begins_with, greater}
 use Rattle.logos_item.specs.Groups.{Opened}
 use Rattle.logos_item.specs.Rules.{Outcome, Stands}
@@ -36,12 +36,12 @@ typed_as type run = record { type = type; run = run }
 once-type : Once FieldType
 once-type run one other (fits {type} {front} {rest} h e) (fits {type = type'} {front = front'} {rest = rest'} k f) =
     let t = one_type run rest rest' type type' h k in
-    let p = front-of run front front' (behind_extent OfField run) e f in
+    let p = front-of run front front' (after_extent OfField run) e f in
     ap (λ (x : Tree). reading (typed_as x front) rest) t.0 ∙ (ap (λ (x : TokenList). reading (typed_as type' x) rest) p ∙ ap (λ (x : TokenList). reading (typed_as type' front') x) t.1)
 once-type run one other (fits {type} {rest} h e) (fails fault front k f) = absurd (no_type run rest type fault k h)
 once-type run one other (fails fault front h e) (fits {type} {rest} k f) = absurd (no_type run rest type fault h k)
 once-type run one other (fails fault front h e) (fails fault' front' k f) =
-    let p = front-of run front front' (behind_extent OfField run) e f in
+    let p = front-of run front front' (after_extent OfField run) e f in
     ap (λ (x : Fault). failing (Typed × TokenList) (type_error front x)) (one_type_fault run fault fault' h k) ∙ ap (λ (x : TokenList). failing (Typed × TokenList) (type_error x fault')) p
 
 once-label : (named : Bool) → Once (label named)
@@ -103,7 +103,7 @@ once-shape = once-then _ _ once-attributes (λ _. once-then _ _ (once-by _) (λ 
 once-parameter : Once OneParameter
 once-parameter run one other (stands {head} {front} {rest} h e) (stands {head = head'} {front = front'} {rest = rest'} k f) =
     let s = once-shape run _ _ h k in
-    let p = front-of run front front' (behind_extent OfDefault run) e f in
+    let p = front-of run front front' (after_extent OfDefault run) e f in
     ap (λ (x : Head). reading (parameter_of x front) rest) (same-value head head' rest rest' s)
     ∙ (ap (λ (x : TokenList). reading (parameter_of head' x) rest) p ∙ ap (λ (x : TokenList). reading (parameter_of head' front') x) (same-rest head head' rest rest' s))
 once-parameter run one other (stands h e) (broken k) = let s = once-shape run _ _ h k in cc
@@ -123,23 +123,23 @@ once-item : (attributes : TokenList) → Once (item attributes)
 once-item attributes =
     once-then _ _ (once-by _) (λ n. once-then _ _ once-generics (λ p. once-then _ _ (once-by _) (λ _. once-then _ _ once-body (λ list. once-then _ _ (once-by _) (λ _. once-given _)))))
 
-module _ (run one other rest behind : TokenList) (front : IsFront run one rest) (second : IsFront run other behind) where
+module _ (run one other rest after : TokenList) (front : IsFront run one rest) (second : IsFront run other after) where
   middles : reading one front.middle ≡ reading other second.middle
   middles = once-attributes run _ _ front.stand second.stand
 
   front-attributes : one ≡ other
   front-attributes = same-value one other front.middle second.middle middles
 
-  front-rest : rest ≡ behind
+  front-rest : rest ≡ after
   front-rest =
       let m = same-rest one other front.middle second.middle middles in
-      let e : ◌≡◌ {A = Option TokenList} (Some rest) (Some behind) = sym front.announced ∙ (ap announced_in m ∙ second.announced) in
+      let e : ◌≡◌ {A = Option TokenList} (Some rest) (Some after) = sym front.announced ∙ (ap announced_in m ∙ second.announced) in
       cc
 
   -- what is read behind the one front is read behind the other
-  front-item : (outcome : Outcome EnumValue) → item other behind outcome → item one rest outcome
+  front-item : (outcome : Outcome EnumValue) → item other after outcome → item one rest outcome
   front-item outcome h =
-      let k : item one behind outcome = subst (λ (x : TokenList). item x behind outcome) (sym front-attributes) h in
+      let k : item one after outcome = subst (λ (x : TokenList). item x after outcome) (sym front-attributes) h in
       subst (λ (x : TokenList). item one x outcome) (sym front-rest) k
 
 pub once-reads : (run : TokenList) (one other : Result EnumValue ReadError) → Reads run one → Reads run other → one ≡ other

@@ -4,11 +4,11 @@ use Rattle.logos_token.specs.Tokens.{TokenList, append}
 use Rattle.logos_type_reader.specs.declared.reading.TypeFault.{TypeFault}
 use Rattle.logos_type_reader.specs.declared.reading.TypeFault.TheVariants as faults
 use Rattle.logos_type_reader.specs.ReadingViews.{IfFault}
-use Rattle.logos_type_reader.specs.Table.{unsupported, misfit, too_deep}
+use Rattle.logos_type_reader.specs.Table.{unsupported, mismatch, too_deep}
 use Rattle.logos_type_reader.specs.TypeExprs.{NoTypeExpr}
 use Rattle.logos_item.specs.declared.error.ReadError.{ReadError}
 use Rattle.logos_item.specs.declared.extents.End.TheVariants.{OfField}
-use Rattle.logos_item.specs.Extents.{behind_extent}
+use Rattle.logos_item.specs.Extents.{after_extent}
 use Rattle.logos_item.specs.Groups.{Opened, parenthesis_in, brace_in}
 use Rattle.logos_item.specs.Rules.{Stands}
 use Rattle.logos_item.specs.Enum.{error_is, FieldType, fields, Holding, variants, Body}
@@ -18,9 +18,9 @@ use Rattle.logos_item.specs.Enum.Body.{braced}
 
 -- the error of a type that does not stand there
 pub type-fails : (run front : TokenList) (fault : TypeFault) (error : ReadError) →
-    IfFault (NoTypeExpr run) fault → run ≡ append front (behind_extent OfField run) → error_is front fault error → Stands (λ e. FieldType run (Err e)) error
+    IfFault (NoTypeExpr run) fault → run ≡ append front (after_extent OfField run) → error_is front fault error → Stands (λ e. FieldType run (Err e)) error
 type-fails run front (faults.Unsupported span) error h x e = rw e (inr (fails (unsupported span) front h x))
-type-fails run front (faults.Misfit span) error h x e = rw e (inr (fails (misfit span) front h x))
+type-fails run front (faults.Mismatch span) error h x e = rw e (inr (fails (mismatch span) front h x))
 type-fails run front faults.LimitNesting error h x e = rw e (inr (fails too_deep front h x))
 type-fails run front faults.Memory error h x e = inl e
 

@@ -3,7 +3,7 @@ use Rattle.std.proofs.Common.{◌≡◌, ◌+◌, Bool, true, false, List, Optio
 use Rattle.logos_token.specs.Tokens.{TokenList, none, also, append, count_of}
 use Rattle.logos_token.proofs.reading.CountLemmas.{token_count-positive}
 use Rattle.logos_item.specs.declared.error.ReadError.{ReadError}
-use Rattle.logos_item.specs.Rules.{Outcome, Rule, by, given, Then, Listed, behind, behind_item}
+use Rattle.logos_item.specs.Rules.{Outcome, Rule, by, given, Then, Listed, preceded_by, after_item}
 use Rattle.logos_item.specs.Rules.Then.{goes, stops}
 use Rattle.logos_item.specs.Rules.Listed.{ended, further, unparted, stopped}
 use Rattle.logos_item.specs.Attributes.{Attributes, announced_in, IsFront}
@@ -39,11 +39,11 @@ leaving rest = Ok rest
 same-read : {A : Type 0} (one other : A × TokenList) → ◌≡◌ {A = Outcome A} (Ok one) (Ok other) → one ≡ other
 same-read one other e = cc
 
-pub same-value : {A : Type 0} (value other : A) (rest behind : TokenList) → reading value rest ≡ reading other behind → value ≡ other
-same-value {A} value other rest behind e = ap (λ (read : A × TokenList). read.0) (same-read (value, rest) (other, behind) e)
+pub same-value : {A : Type 0} (value other : A) (rest after : TokenList) → reading value rest ≡ reading other after → value ≡ other
+same-value {A} value other rest after e = ap (λ (read : A × TokenList). read.0) (same-read (value, rest) (other, after) e)
 
-pub same-rest : {A : Type 0} (value other : A) (rest behind : TokenList) → reading value rest ≡ reading other behind → rest ≡ behind
-same-rest {A} value other rest behind e = ap (λ (read : A × TokenList). read.1) (same-read (value, rest) (other, behind) e)
+pub same-rest : {A : Type 0} (value other : A) (rest after : TokenList) → reading value rest ≡ reading other after → rest ≡ after
+same-rest {A} value other rest after e = ap (λ (read : A × TokenList). read.1) (same-read (value, rest) (other, after) e)
 
 pub same-error : (A B : Type 0) (error other : ReadError) → failing A error ≡ failing A other → failing B error ≡ failing B other
 same-error A B error other e = let p : error ≡ other = cc in ap (failing B) p
@@ -72,23 +72,23 @@ module _ {A : Type 0} (ends : TokenList → Bool) (Item : Rule A) (item-once : O
   once-listed run one other (further e i p l) (ended f) = let k : true ≡ false = sym f ∙ e in cc
   once-listed run one other (further {rest} {next} {value} {outcome} e i p l) (further {rest = rest'} {next = next'} {value = value'} {outcome = outcome'} f j q m) =
       let s = item-once run _ _ i j in
-      let t : behind_item ends rest ≡ Ok (tt, next') = subst (λ (r : TokenList). behind_item ends r ≡ Ok (tt, next')) (sym (same-rest value value' rest rest' s)) q in
+      let t : after_item ends rest ≡ Ok (tt, next') = subst (λ (r : TokenList). after_item ends r ≡ Ok (tt, next')) (sym (same-rest value value' rest rest' s)) q in
       let n = same-rest tt tt next next' (sym p ∙ t) in
       let m' : Listed ends Item next outcome' = subst (λ (r : TokenList). Listed ends Item r outcome') (sym n) m in
-      ap (behind value) (once-listed next outcome outcome' l m') ∙ ap (λ (v : A). behind v outcome') (same-value value value' rest rest' s)
+      ap (preceded_by value) (once-listed next outcome outcome' l m') ∙ ap (λ (v : A). preceded_by v outcome') (same-value value value' rest rest' s)
   once-listed run one other (further {rest} {value} e i p l) (unparted {rest = rest'} {value = value'} {error} f j q) =
       let s = item-once run _ _ i j in
-      let t : behind_item ends rest ≡ Err error = subst (λ (r : TokenList). behind_item ends r ≡ Err error) (sym (same-rest value value' rest rest' s)) q in
+      let t : after_item ends rest ≡ Err error = subst (λ (r : TokenList). after_item ends r ≡ Err error) (sym (same-rest value value' rest rest' s)) q in
       cc
   once-listed run one other (further e i p l) (stopped f j) = let s = item-once run _ _ i j in cc
   once-listed run one other (unparted e i p) (ended f) = let k : true ≡ false = sym f ∙ e in cc
   once-listed run one other (unparted {rest} {value} {error} e i p) (further {rest = rest'} {next = next'} {value = value'} f j q m) =
       let s = item-once run _ _ i j in
-      let t : behind_item ends rest ≡ Ok (tt, next') = subst (λ (r : TokenList). behind_item ends r ≡ Ok (tt, next')) (sym (same-rest value value' rest rest' s)) q in
+      let t : after_item ends rest ≡ Ok (tt, next') = subst (λ (r : TokenList). after_item ends r ≡ Ok (tt, next')) (sym (same-rest value value' rest rest' s)) q in
       cc
   once-listed run one other (unparted {rest} {value} {error} e i p) (unparted {rest = rest'} {value = value'} {error = error'} f j q) =
       let s = item-once run _ _ i j in
-      let t : behind_item ends rest ≡ Err error' = subst (λ (r : TokenList). behind_item ends r ≡ Err error') (sym (same-rest value value' rest rest' s)) q in
+      let t : after_item ends rest ≡ Err error' = subst (λ (r : TokenList). after_item ends r ≡ Err error') (sym (same-rest value value' rest rest' s)) q in
       same-error (Unit {0} × TokenList) (List A × TokenList) error error' (sym p ∙ t)
   once-listed run one other (unparted e i p) (stopped f j) = let s = item-once run _ _ i j in cc
   once-listed run one other (stopped e i) (ended f) = let k : true ≡ false = sym f ∙ e in cc

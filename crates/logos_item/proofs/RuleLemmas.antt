@@ -4,7 +4,7 @@ use Rattle.std.proofs.lemmas.List.{append-nil, map-append}
 use Rattle.logos_token.specs.Tokens.{Token, TokenList, none, also, append, IsRestOf}
 use Rattle.logos_item.specs.declared.error.ReadError.{ReadError}
 use Rattle.logos_item.specs.Marks.{is_none}
-use Rattle.logos_item.specs.Rules.{Outcome, Rule, Then, Listed, behind, Stands}
+use Rattle.logos_item.specs.Rules.{Outcome, Rule, Then, Listed, preceded_by, Stands}
 use Rattle.logos_item.specs.Rules.Then.{goes, stops}
 use Rattle.logos_item.specs.Rules.Listed.{stopped}
 
@@ -26,7 +26,7 @@ pub IsRestOf-token : (run : TokenList) (token : Token) (rest : TokenList) → ru
 IsRestOf-token run token rest e = record { front = also token none; is = e }
 
 -- one more value behind those in front
-joined-push : {A : Type 0} (before : List A) (value : A) (outcome : Outcome (List A)) → joined before (behind value outcome) ≡ joined (before ++ value ∷ []) outcome
+joined-push : {A : Type 0} (before : List A) (value : A) (outcome : Outcome (List A)) → joined before (preceded_by value outcome) ≡ joined (before ++ value ∷ []) outcome
 joined-push before value (Ok read) = ap (λ list. Ok (list, read.1)) (sym (append_assoc before (value ∷ []) read.0))
 joined-push before value (Err error) = refl
 
@@ -45,7 +45,7 @@ module _ {A B : Type 0} (First : Rule A) (Next : A → Rule B) (run : TokenList)
 
 -- one more value behind those that a list has in front
 pub one-more : {A X : Type 0} (view : X → A) (old new : List X) (value : X) (outcome : Outcome (List A)) →
-    new ≡ old ++ value ∷ [] → joined (map view old) (behind (view value) outcome) ≡ joined (map view new) outcome
+    new ≡ old ++ value ∷ [] → joined (map view old) (preceded_by (view value) outcome) ≡ joined (map view new) outcome
 one-more view old new value outcome e = joined-push (map view old) (view value) outcome ∙ ap (λ list. joined list outcome) (sym (ap (map view) e ∙ map-append view old (value ∷ [])))
 
 -- what stops an item stops the list, and what is wrong with the rest of it is wrong with the whole

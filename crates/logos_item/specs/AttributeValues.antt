@@ -4,26 +4,26 @@ use Rattle.logos_lexeme.specs.declared.lexeme.Span.{Span}
 use Rattle.logos_token.specs.declared.token.views.Tokens.{Tokens}
 use Rattle.logos_token.specs.Tokens.{TokenList, punctuation, doc, also}
 use Rattle.logos_token.specs.Views.{tokens_of}
-use Rattle.logos_item.specs.declared.single.Attribute.{Attribute}
+use Rattle.logos_item.specs.declared.attribute_run.Attribute.{Attribute}
 use Rattle.logos_item.specs.Groups.{Opened, bracket_in}
 
--- where an attribute stands, and what its brackets hold, if it has some
+-- the span of an attribute, and the tokens inside its brackets if it has some
 pub record AttributeValue : Type 0 where
   pub span : Span
   pub inside : Option TokenList
 
--- an attribute, and what is behind it
+-- an attribute, and the tokens after it
 pub record SplitAttribute : Type 0 where
   pub attribute : AttributeValue
   pub rest : TokenList
 
--- `#` at this span, and behind it these brackets
+-- `#` at this span, and these brackets after it
 abbrev pub bracketed : Span → Option Opened → Option SplitAttribute
 bracketed mark None = None
 bracketed mark (Some opened) =
     Some (record { attribute = record { span = record { from = mark.from; to = opened.span.to }; inside = Some opened.inside }; rest = opened.rest })
 
--- the first of a run of attributes, and what is behind it
+-- the first attribute of a run, and the tokens after it
 abbrev pub attribute_in : TokenList → Option SplitAttribute
 attribute_in (also (doc text span) rest) = Some (record { attribute = record { span = span; inside = None }; rest = rest })
 attribute_in (also (punctuation character spacing span) rest) = bracketed span (bracket_in rest)

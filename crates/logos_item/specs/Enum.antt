@@ -4,52 +4,52 @@ use Rattle.std.specs.Str.{bytes_eq}
 use Rattle.logos_lexeme.specs.declared.lexeme.Delimiter.TheVariants.{Brace}
 use Rattle.logos_token.specs.Tokens.{TokenList, identifier, punctuation, group, none, also, append, run_span}
 use Rattle.logos_type.specs.Parts.{Tree}
-use Rattle.logos_type_reader.specs.Table.{Fault, unsupported, misfit as type_misfit, too_deep}
+use Rattle.logos_type_reader.specs.Table.{Fault, unsupported, mismatch as type_mismatch, too_deep}
 use Rattle.logos_type_reader.specs.declared.reading.TypeFault.{TypeFault}
 use Rattle.logos_type_reader.specs.declared.reading.TypeFault.TheVariants as faults
 use Rattle.logos_type_reader.specs.TypeExprs.{IsTypeExpr, NoTypeExpr}
 use Rattle.logos_item.specs.declared.error.ReadError.{ReadError}
 use Rattle.logos_item.specs.declared.error.ReadError.TheVariants.{NotAnEnum, Grammar, TypeUnsupported, LimitTypeNesting, Memory}
 use Rattle.logos_item.specs.declared.extents.End.TheVariants.{OfField}
-use Rattle.logos_item.specs.Attributes.{Attributes, behind_visibility, announced_in, IsFront}
-use Rattle.logos_item.specs.Extents.{behind_extent}
+use Rattle.logos_item.specs.Attributes.{Attributes, after_visibility, announced_in, IsFront}
+use Rattle.logos_item.specs.Extents.{after_extent}
 use Rattle.logos_item.specs.Generics.{name_in, Generics}
 use Rattle.logos_item.specs.Groups.{Opened, parenthesis_in, brace_in}
 use Rattle.logos_item.specs.Marks.{comma, colon, equals, is_none}
-use Rattle.logos_item.specs.Rules.{Outcome, Rule, misfit, by, given, ◌>>=◌, Listed}
+use Rattle.logos_item.specs.Rules.{Outcome, Rule, mismatch, by, given, ◌>>=◌, Listed}
 use Rattle.logos_item.specs.Values.{Slice, ParameterValue}
 use Rattle.logos_item.specs.EnumValues.{Typed, FieldValue, FieldsValue, no_fields, in_parenthesis, in_braces, VariantValue, EnumValue}
 
--- a fault of a type with these tokens
+-- the error for a fault of a type with these tokens
 abbrev pub type_error : TokenList → Fault → ReadError
 type_error run (unsupported span) = TypeUnsupported span
-type_error run (type_misfit span) = Grammar span
+type_error run (type_mismatch span) = Grammar span
 type_error run too_deep = LimitTypeNesting (run_span run)
 
--- the error says what the fault does
+-- the error is that of the fault, or there was not enough memory for both
 abbrev pub error_is : TokenList → TypeFault → ReadError → Type 0
 error_is run (faults.Unsupported span) error = error ≡ TypeUnsupported span
-error_is run (faults.Misfit span) error = error ≡ Grammar span
+error_is run (faults.Mismatch span) error = error ≡ Grammar span
 error_is run faults.LimitNesting error = error ≡ LimitTypeNesting (run_span run)
 error_is run faults.Memory error = error ≡ Memory
 
 -- The type of a field. Its tokens are all up to the comma that stands outside angle brackets, or to the end.
 pub data FieldType (run : TokenList) : Outcome Typed → Type 0 where
   fits : {type : Tree} {front rest : TokenList} →
-      IsTypeExpr run type rest → run ≡ append front (behind_extent OfField run) → FieldType run (Ok (record { type = type; run = front }, rest))
+      IsTypeExpr run type rest → run ≡ append front (after_extent OfField run) → FieldType run (Ok (record { type = type; run = front }, rest))
   fails : (fault : Fault) (front : TokenList) →
-      NoTypeExpr run fault → run ≡ append front (behind_extent OfField run) → FieldType run (Err (type_error front fault))
+      NoTypeExpr run fault → run ≡ append front (after_extent OfField run) → FieldType run (Err (type_error front fault))
 
--- what is behind a visibility
+-- the tokens after an optional visibility
 abbrev pub visibility_in : TokenList → Outcome (Unit {0})
-visibility_in run = Ok (tt, behind_visibility run)
+visibility_in run = Ok (tt, after_visibility run)
 
 -- `:`
 abbrev pub colon_in : TokenList → Outcome (Unit {0})
-colon_in (also (punctuation character spacing span) rest) = if character == colon then Ok (tt, rest) else misfit (also (punctuation character spacing span) rest)
-colon_in run = misfit run
+colon_in (also (punctuation character spacing span) rest) = if character == colon then Ok (tt, rest) else mismatch (also (punctuation character spacing span) rest)
+colon_in run = mismatch run
 
--- where fields have names, a name and `:`
+-- a name and `:`, if fields have names
 abbrev pub label : Bool → Rule (Unit {0})
 label true = by name_in >>= λ _. by colon_in
 label false = given tt
@@ -57,20 +57,20 @@ label false = given tt
 abbrev pub field_of : TokenList → Typed → FieldValue
 field_of attributes typed = record { attributes = attributes; type = typed.type; run = typed.run }
 
--- a field: attributes, a visibility, perhaps a name, and a type
+-- a field: attributes, a visibility, a name if fields have names, and a type
 abbrev pub field : Bool → Rule FieldValue
 field named = Attributes >>= λ attributes. by visibility_in >>= λ _. label named >>= λ _. FieldType >>= λ typed. given (field_of attributes typed)
 
--- fields between commas, which are all that a group holds
+-- fields between commas, to the end of a group
 abbrev pub fields : Bool → Rule (List FieldValue)
 fields named = Listed is_none (field named)
 
--- what was read inside a group, with what is behind the group
+-- what was read inside a group, with the tokens after the group
 abbrev pub within : {A B : Type 0} → (A → B) → TokenList → Outcome A → Outcome B
 within make rest (Ok read) = Ok (make read.0, rest)
 within make rest (Err error) = Err error
 
--- what a variant holds
+-- the fields of a variant
 pub data Holding (run : TokenList) : Outcome FieldsValue → Type 0 where
   in_tuple : (opened : Opened) (inner : Outcome (List FieldValue)) →
       parenthesis_in run ≡ Some opened → fields false opened.inside inner → Holding run (within (in_parenthesis opened.span) opened.rest inner)
@@ -84,13 +84,13 @@ from_comma none = none
 from_comma (also (punctuation character spacing span) rest) = if character == comma then also (punctuation character spacing span) rest else from_comma rest
 from_comma (also token rest) = from_comma rest
 
--- one token or more in front of a comma, or of the end
+-- at least one token, up to a comma or the end
 abbrev pub value_in : TokenList → Outcome (Unit {0})
-value_in none = misfit none
-value_in (also (punctuation character spacing span) rest) = if character == comma then misfit (also (punctuation character spacing span) rest) else Ok (tt, from_comma rest)
+value_in none = mismatch none
+value_in (also (punctuation character spacing span) rest) = if character == comma then mismatch (also (punctuation character spacing span) rest) else Ok (tt, from_comma rest)
 value_in (also token rest) = Ok (tt, from_comma rest)
 
--- perhaps `=` and the number of a variant
+-- an optional `=` and discriminant of a variant
 abbrev pub discriminant_in : TokenList → Outcome (Unit {0})
 discriminant_in (also (punctuation character spacing span) rest) = if character == equals then value_in rest else Ok (tt, also (punctuation character spacing span) rest)
 discriminant_in run = Ok (tt, run)
@@ -98,12 +98,12 @@ discriminant_in run = Ok (tt, run)
 abbrev pub variant_of : TokenList → Slice → FieldsValue → VariantValue
 variant_of attributes name held = record { attributes = attributes; name = name; fields = held }
 
--- a variant: attributes, a name, what it holds, and perhaps its number
+-- a variant: attributes, a name, its fields, and an optional discriminant
 abbrev pub variant : Rule VariantValue
 variant =
     Attributes >>= λ attributes. by name_in >>= λ name. Holding >>= λ held. by discriminant_in >>= λ _. given (variant_of attributes name held)
 
--- variants between commas, which are all that the braces hold
+-- variants between commas, to the end of the braces
 abbrev pub variants : Rule (List VariantValue)
 variants = Listed is_none variant
 
@@ -113,7 +113,7 @@ from_brace none = none
 from_brace (also (group Brace span inside) rest) = also (group Brace span inside) rest
 from_brace (also token rest) = from_brace rest
 
--- what is behind a where clause: all up to the first brace, one inside another group being none of these
+-- the tokens after a where clause: from the first brace on that is not inside another group
 abbrev pub where_in : TokenList → Outcome (Unit {0})
 where_in (also (identifier text span) rest) = if bytes_eq text (codes "where") then Ok (tt, from_brace rest) else Ok (tt, also (identifier text span) rest)
 where_in run = Ok (tt, run)
@@ -122,27 +122,27 @@ where_in run = Ok (tt, run)
 pub data Body (run : TokenList) : Outcome (List VariantValue) → Type 0 where
   braced : (opened : Opened) (inner : Outcome (List VariantValue)) →
       brace_in run ≡ Some opened → variants opened.inside inner → Body run (within (λ (list : List VariantValue). list) opened.rest inner)
-  lacking : brace_in run ≡ None → Body run (misfit run)
+  lacking : brace_in run ≡ None → Body run (mismatch run)
 
--- that no token is left
+-- no token may be left
 abbrev pub end_in : TokenList → Outcome (Unit {0})
 end_in none = Ok (tt, none)
-end_in run = misfit run
+end_in run = mismatch run
 
 abbrev pub enum_of : TokenList → Slice → List ParameterValue → List VariantValue → EnumValue
 enum_of attributes name parameters list = record { attributes = attributes; name = name; parameters = parameters; variants = list }
 
--- behind `enum`: a name, generic parameters, a where clause, and braces, behind which nothing stands
+-- the tokens after `enum`: a name, generic parameters, a where clause and braces, and nothing after these
 abbrev pub item : TokenList → Rule EnumValue
 item attributes =
     by name_in >>= λ name. Generics >>= λ parameters. by where_in >>= λ _. Body >>= λ list. by end_in >>= λ _. given (enum_of attributes name parameters list)
 
--- no `enum` behind well-formed attributes and perhaps a visibility
+-- the run does not begin with well-formed attributes, an optional visibility and `enum`
 pub data NoFront (run : TokenList) : Type 0 where
   malformed : (error : ReadError) → Attributes run (Err error) → NoFront run
   without : (attributes middle : TokenList) → Attributes run (Ok (attributes, middle)) → announced_in middle ≡ None → NoFront run
 
--- what a run of tokens says of an enum: the one that it is, or why it is none
+-- The result of reading a run of tokens: the enum that it is, or its first fault.
 pub data Reads (run : TokenList) : Result EnumValue ReadError → Type 0 where
   reads : {attributes rest : TokenList} {value : EnumValue} → IsFront run attributes rest → item attributes rest (Ok (value, none)) → Reads run (Ok value)
   refuses : {attributes rest : TokenList} {error : ReadError} → IsFront run attributes rest → item attributes rest (Err error) → Reads run (Err error)

@@ -24,7 +24,7 @@ pub record FieldValue : Type 0 where
   pub type : Tree
   pub run : TokenList
 
--- what a variant holds: nothing, or fields in a parenthesis or in braces with this span
+-- the fields of a variant: none, or some in parentheses or braces with this span
 pub data FieldsValue : Type 0 where
   no_fields : FieldsValue
   in_parenthesis : (span : Span) (fields : List FieldValue) → FieldsValue

@@ -1,4 +1,4 @@
--- How far bounds, defaults and types reach: up to a sign that stands outside angle brackets.
+-- How far bounds, defaults and types reach: up to a character that ends them outside angle brackets.
 use Rattle.std.specs.Prelude.{◌≡◌, ◌≤◌, ◌==◌, ◌&&◌, ◌||◌, not, if◌then◌else◌, ℕ, ◌+◌, ◌-◌, Bool, false}
 use Rattle.logos_lexeme.specs.declared.lexeme.Spacing.{Spacing}
 use Rattle.logos_lexeme.specs.declared.lexeme.Spacing.TheVariants.{Alone, Joint}
@@ -8,47 +8,47 @@ use Rattle.logos_item.specs.declared.extents.End.TheVariants.{OfBounds, OfDefaul
 use Rattle.logos_item.specs.declared.extents.Angles.{Angles}
 use Rattle.logos_item.specs.Marks.{comma, dash, less, equals, greater}
 
--- the signs that end bounds, a default, and a field's type
+-- whether a character ends bounds, a default, or a field's type
 abbrev pub ends : End → ℕ → Bool
 ends OfBounds character = ((character == comma) || (character == greater)) || (character == equals)
 ends OfDefault character = (character == comma) || (character == greater)
 ends OfField character = character == comma
 
--- whether a sign may be the first of `->`
+-- whether a character can be the first one of `->`
 abbrev pub begins_arrow : ℕ → Spacing → Bool
 begins_arrow character Joint = character == dash
 begins_arrow character Alone = false
 
--- whether a sign is the second of `->`
+-- whether a character is the second one of `->`
 abbrev pub ends_arrow : Bool → ℕ → Bool
 ends_arrow arrow character = arrow && (character == greater)
 
--- how many angle brackets are open behind a sign; the `>` of `->` closes none
-abbrev pub depth_behind : Bool → ℕ → ℕ → ℕ
-depth_behind arrow depth character =
+-- how many angle brackets are open after a character; the `>` of `->` closes none
+abbrev pub depth_after : Bool → ℕ → ℕ → ℕ
+depth_after arrow depth character =
     if character == less then depth + 1
     else (if (character == greater) && not arrow then depth - 1
     else depth)
 
--- whether a sign ends the extent, where so many angle brackets are open
+-- whether a character ends the extent, with `depth` angle brackets open
 abbrev pub is_end : End → Bool → ℕ → ℕ → Bool
 is_end end arrow depth character = (depth == 0) && (ends end character && not (ends_arrow arrow character))
 
--- What is behind the extent, where so many angle brackets are open, and a sign may be the second of `->` or not.
-abbrev pub behind_from : End → Bool → ℕ → TokenList → TokenList
-behind_from end arrow depth none = none
-behind_from end arrow depth (also (punctuation character spacing span) rest) =
+-- The tokens after the extent, with `depth` angle brackets open. `arrow` says whether the next character can be the second one of `->`.
+abbrev pub after_from : End → Bool → ℕ → TokenList → TokenList
+after_from end arrow depth none = none
+after_from end arrow depth (also (punctuation character spacing span) rest) =
     if is_end end arrow depth character then also (punctuation character spacing span) rest
-    else behind_from end (begins_arrow character spacing) (depth_behind arrow depth character) rest
-behind_from end arrow depth (also token rest) = behind_from end false depth rest
+    else after_from end (begins_arrow character spacing) (depth_after arrow depth character) rest
+after_from end arrow depth (also token rest) = after_from end false depth rest
 
--- what is behind the extent
-abbrev pub behind_extent : End → TokenList → TokenList
-behind_extent end run = behind_from end false 0 run
+-- the tokens after the extent
+abbrev pub after_extent : End → TokenList → TokenList
+after_extent end run = after_from end false 0 run
 
--- one token of an extent is left behind, with the angle brackets that are open there
+-- one step over a token of an extent, with the angle brackets that are open after it
 pub record IsStep (end : End) (angles : Angles) (run : TokenList) (next : Angles) (rest : TokenList) : Type 0 where
-  pub same : behind_from end angles.arrow angles.depth run ≡ behind_from end next.arrow next.depth rest
+  pub same : after_from end angles.arrow angles.depth run ≡ after_from end next.arrow next.depth rest
   pub deeper : next.depth ≤ angles.depth + 1
   pub token : Token
   pub is : run ≡ also token rest

@@ -1,4 +1,4 @@
--- The signs of an enum's grammar, and where a run begins.
+-- The characters of an enum's grammar, and the first token of a run.
 use Rattle.std.specs.Prelude.{ℕ, ◌==◌, not, Bool, true, false, List, ◌∷◌}
 use Rattle.logos_lexeme.specs.declared.lexeme.Span.{Span}
 use Rattle.logos_token.specs.Tokens.{TokenList, punctuation, none, also, span_of}
@@ -35,7 +35,7 @@ equals = 61
 abbrev pub greater : ℕ
 greater = 62
 
--- where the first token is; 0..0 where there is none
+-- the span of the first token, or 0..0 if there is none
 abbrev pub first_span : TokenList → Span
 first_span none = record { from = 0; to = 0 }
 first_span (also token rest) = span_of token
@@ -50,7 +50,7 @@ abbrev pub is_none : TokenList → Bool
 is_none none = true
 is_none (also token rest) = false
 
--- whether a documentation comment is one of what follows it: its third byte is no `!`
+-- whether a documentation comment documents what follows it: its third byte is not `!`
 abbrev pub is_outer : List ℕ → Bool
 is_outer (first ∷ second ∷ third ∷ rest) = not (third == 33)
 is_outer text = false

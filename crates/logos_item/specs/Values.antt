@@ -8,7 +8,7 @@ use Rattle.logos_item.specs.declared.generics.ParameterKind.{ParameterKind}
 use Rattle.logos_item.specs.declared.generics.Parameter.{Parameter}
 use Rattle.logos_item.specs.declared.generics.Head.{Head as HeadView}
 
--- a text of the source, and where it stands
+-- a text of the source with its span
 pub record Slice : Type 0 where
   pub text : List ℕ
   pub span : Span
@@ -18,7 +18,7 @@ pub record Head : Type 0 where
   pub kind : ParameterKind
   pub name : Slice
 
--- a generic parameter, and all its tokens
+-- a generic parameter with all its tokens
 pub record ParameterValue : Type 0 where
   pub kind : ParameterKind
   pub name : Slice

@@ -1,20 +1,20 @@
-//! Attributes, and a visibility.
+//! Reads attributes and visibilities.
 ghost use Rattle.std.specs.Prelude.{◌≡◌, ◌<◌, ◌≤◌, List, Ok, Err, Some, None};
 ghost use Rattle.std.specs.Prelude.{MatchOption, MatchResult, IfSome, IfOk, IfErr};
 ghost use Rattle.logos_token.specs.Tokens.{none, also, punctuation, count_of, IsRestOf};
 ghost use Rattle.logos_token.specs.Views.{tokens_of, tree_of};
 ghost use Rattle.logos_item.specs.declared.error.ReadError.TheVariants.{Grammar};
-ghost use Rattle.logos_item.specs.Attributes.{is_path_mark, end_misfit, value_misfit};
-ghost use Rattle.logos_item.specs.Attributes.{path_misfit, colon_misfit, segment_misfit};
-ghost use Rattle.logos_item.specs.Attributes.{attribute_misfit, IsPathStep, behind_attributes};
-ghost use Rattle.logos_item.specs.Attributes.{behind_hash, Attributes, behind_parenthesis};
-ghost use Rattle.logos_item.specs.Attributes.{behind_visibility, behind_keyword};
+ghost use Rattle.logos_item.specs.Attributes.{is_path_mark, end_mismatch, value_mismatch};
+ghost use Rattle.logos_item.specs.Attributes.{path_mismatch, colon_mismatch, segment_mismatch};
+ghost use Rattle.logos_item.specs.Attributes.{attribute_mismatch, IsPathStep, after_attributes};
+ghost use Rattle.logos_item.specs.Attributes.{after_hash, Attributes, after_parenthesis};
+ghost use Rattle.logos_item.specs.Attributes.{after_visibility, after_keyword};
 
-use crate::error::{Misfit, ReadError};
-use crate::tokens::{grammar_at, is_outer, misfit_at, split};
+use crate::error::{Mismatch, ReadError};
+use crate::tokens::{grammar_at, is_outer, mismatch_at, split};
 use logos_token::token::{Delimiter, Punct, Spacing, Span, TokenTree, Tokens};
 
-/// Whether a punctuation is the first `:` of `::`, by its spacing.
+/// Returns whether punctuation is the first `:` of `::`, by its spacing.
 fn is_path_mark(punct: Punct) -> bool
     ensures { result ≡ is_path_mark punct.character punct.spacing }
 {
@@ -24,61 +24,62 @@ fn is_path_mark(punct: Punct) -> bool
     }
 }
 
-/// That no token is left.
-fn read_end(tokens: Tokens<'_, '_>) -> Result<(), Misfit>
-    ensures { MatchResult result (λ _. end_misfit (tokens_of tokens.entry) ≡ None)
-        (λ misfit. end_misfit (tokens_of tokens.entry) ≡ Some misfit.span) }
+/// Checks that no token is left.
+fn read_end(tokens: Tokens<'_, '_>) -> Result<(), Mismatch>
+    ensures { MatchResult result (λ _. end_mismatch (tokens_of tokens.entry) ≡ None)
+        (λ mismatch. end_mismatch (tokens_of tokens.entry) ≡ Some mismatch.span) }
 {
     match tokens.first() {
-        Some(tree) => Err(Misfit { span: tree.span() }),
+        Some(tree) => Err(Mismatch { span: tree.span() }),
         None => Ok(()),
     }
 }
 
-/// That a token is left.
-fn read_value(tokens: Tokens<'_, '_>) -> Result<(), Misfit>
-    ensures { MatchResult result (λ _. value_misfit (tokens_of tokens.entry) ≡ None)
-        (λ misfit. value_misfit (tokens_of tokens.entry) ≡ Some misfit.span) }
+/// Checks that a token is left.
+fn read_value(tokens: Tokens<'_, '_>) -> Result<(), Mismatch>
+    ensures { MatchResult result (λ _. value_mismatch (tokens_of tokens.entry) ≡ None)
+        (λ mismatch. value_mismatch (tokens_of tokens.entry) ≡ Some mismatch.span) }
 {
     match split(tokens) {
         Some(_) => Ok(()),
-        None => Err(Misfit {
+        None => Err(Mismatch {
             span: Span { from: 0, to: 0 },
         }),
     }
 }
 
-/// What is behind an identifier of a path.
-fn read_segment<'t, 's>(tokens: Tokens<'t, 's>) -> Result<Tokens<'t, 's>, Misfit>
+/// Returns the tokens after the identifier that must come first.
+fn read_segment<'t, 's>(tokens: Tokens<'t, 's>) -> Result<Tokens<'t, 's>, Mismatch>
     ensures { MatchResult result
-        (λ rest. (segment_misfit (tokens_of tokens.entry) ≡ path_misfit (tokens_of rest))
+        (λ rest. (segment_mismatch (tokens_of tokens.entry) ≡ path_mismatch (tokens_of rest))
         × (count_of (tokens_of rest) < count_of (tokens_of tokens.entry)))
-        (λ misfit. segment_misfit (tokens_of tokens.entry) ≡ Some misfit.span) }
+        (λ mismatch. segment_mismatch (tokens_of tokens.entry) ≡ Some mismatch.span) }
 {
     match split(tokens) {
         Some((TokenTree::Ident(_), rest)) => Ok(rest),
-        _ => Err(misfit_at(tokens)),
+        _ => Err(mismatch_at(tokens)),
     }
 }
 
-/// What is behind the second `:` of `::` and an identifier.
-fn read_colon<'t, 's>(tokens: Tokens<'t, 's>) -> Result<Tokens<'t, 's>, Misfit>
+/// Returns the tokens after the second `:` of `::` and an identifier.
+fn read_colon<'t, 's>(tokens: Tokens<'t, 's>) -> Result<Tokens<'t, 's>, Mismatch>
     ensures { MatchResult result
-        (λ rest. (colon_misfit (tokens_of tokens.entry) ≡ path_misfit (tokens_of rest))
+        (λ rest. (colon_mismatch (tokens_of tokens.entry) ≡ path_mismatch (tokens_of rest))
         × (count_of (tokens_of rest) < count_of (tokens_of tokens.entry)))
-        (λ misfit. colon_misfit (tokens_of tokens.entry) ≡ Some misfit.span) }
+        (λ mismatch. colon_mismatch (tokens_of tokens.entry) ≡ Some mismatch.span) }
 {
     match split(tokens) {
         Some((TokenTree::Punct(punct), rest)) if punct.character == ':' => read_segment(rest),
-        _ => Err(misfit_at(tokens)),
+        _ => Err(mismatch_at(tokens)),
     }
 }
 
-/// What is behind a punctuation that stands behind a path, where the path goes on; `None` where it is well formed to its end.
+/// Takes one step along what follows a path, whose next token is `punct`: returns the tokens after
+/// `::` and an identifier, or `None` if the path ends and all is well formed.
 fn path_step_at<'t, 's>(
     punct: Punct,
     tokens: Tokens<'t, 's>,
-) -> Result<Option<Tokens<'t, 's>>, Misfit>
+) -> Result<Option<Tokens<'t, 's>>, Mismatch>
     ensures { IsPathStep (also (punctuation punct.character punct.spacing punct.span)
         (tokens_of tokens.entry)) result }
 {
@@ -89,11 +90,12 @@ fn path_step_at<'t, 's>(
         read_value(tokens)?;
         return Ok(None);
     }
-    Err(Misfit { span: punct.span })
+    Err(Mismatch { span: punct.span })
 }
 
-/// What is behind one more `::` and identifier of a path; `None` where what is behind the path is well formed to its end.
-fn path_step<'t, 's>(tokens: Tokens<'t, 's>) -> Result<Option<Tokens<'t, 's>>, Misfit>
+/// Takes one step along what follows a path: returns the tokens after `::` and an identifier, or
+/// `None` if the path ends and all is well formed.
+fn path_step<'t, 's>(tokens: Tokens<'t, 's>) -> Result<Option<Tokens<'t, 's>>, Mismatch>
     ensures { IsPathStep (tokens_of tokens.entry) result }
 {
     match split(tokens) {
@@ -103,14 +105,14 @@ fn path_step<'t, 's>(tokens: Tokens<'t, 's>) -> Result<Option<Tokens<'t, 's>>, M
             Ok(None)
         }
         Some((TokenTree::Punct(punct), rest)) => path_step_at(punct, rest),
-        Some((tree, _)) => Err(Misfit { span: tree.span() }),
+        Some((tree, _)) => Err(Mismatch { span: tree.span() }),
     }
 }
 
-/// That what is behind the first identifier of an attribute's path is well formed.
-fn read_path(tokens: Tokens<'_, '_>) -> Result<(), Misfit>
-    ensures { MatchResult result (λ _. path_misfit (tokens_of tokens.entry) ≡ None)
-        (λ misfit. path_misfit (tokens_of tokens.entry) ≡ Some misfit.span) }
+/// Checks what follows the first identifier of an attribute's path.
+fn read_path(tokens: Tokens<'_, '_>) -> Result<(), Mismatch>
+    ensures { MatchResult result (λ _. path_mismatch (tokens_of tokens.entry) ≡ None)
+        (λ mismatch. path_mismatch (tokens_of tokens.entry) ≡ Some mismatch.span) }
 {
     let mut rest = tokens;
     while let Some(next) = path_step(rest)? {
@@ -119,10 +121,10 @@ fn read_path(tokens: Tokens<'_, '_>) -> Result<(), Misfit>
     Ok(())
 }
 
-/// That what the brackets of an attribute hold is well formed.
-fn check_attribute(tokens: Tokens<'_, '_>) -> Result<(), Misfit>
-    ensures { MatchResult result (λ _. attribute_misfit (tokens_of tokens.entry) ≡ None)
-        (λ misfit. attribute_misfit (tokens_of tokens.entry) ≡ Some misfit.span) }
+/// Checks the tokens inside the brackets of an attribute.
+fn check_attribute(tokens: Tokens<'_, '_>) -> Result<(), Mismatch>
+    ensures { MatchResult result (λ _. attribute_mismatch (tokens_of tokens.entry) ≡ None)
+        (λ mismatch. attribute_mismatch (tokens_of tokens.entry) ≡ Some mismatch.span) }
 {
     match split(tokens) {
         Some((TokenTree::Ident(_), rest)) => read_path(rest),
@@ -130,37 +132,37 @@ fn check_attribute(tokens: Tokens<'_, '_>) -> Result<(), Misfit>
             let rest = read_colon(rest)?;
             read_path(rest)
         }
-        _ => Err(misfit_at(tokens)),
+        _ => Err(mismatch_at(tokens)),
     }
 }
 
-/// What is behind the brackets of an attribute, behind whose `#` the tokens are.
+/// Returns the tokens after the brackets of an attribute. The tokens given are those after its `#`.
 fn skip_brackets<'t, 's>(tokens: Tokens<'t, 's>) -> Result<Tokens<'t, 's>, ReadError>
     ensures value { MatchResult result
-        (λ rest. (behind_hash (tokens_of tokens.entry) ≡ behind_attributes (tokens_of rest))
+        (λ rest. (after_hash (tokens_of tokens.entry) ≡ after_attributes (tokens_of rest))
         × (count_of (tokens_of rest) < count_of (tokens_of tokens.entry)))
-        (λ error. behind_hash (tokens_of tokens.entry) ≡ Err error) }
+        (λ error. after_hash (tokens_of tokens.entry) ≡ Err error) }
     ensures front { IfOk result (λ rest. IsRestOf (tokens_of tokens.entry) (tokens_of rest)) }
 {
     match split(tokens) {
         Some((TokenTree::Group(group), rest)) if group.delimiter == Delimiter::Bracket => {
             match check_attribute(group.run()) {
                 Ok(()) => Ok(rest),
-                Err(misfit) => Err(ReadError::Grammar { span: misfit.span }),
+                Err(found) => Err(ReadError::Grammar { span: found.span }),
             }
         }
         _ => Err(grammar_at(tokens)),
     }
 }
 
-/// What is behind an attribute that comes first; `None` where none comes first.
+/// Returns the tokens after the attribute that comes first. `None` if no attribute comes first.
 fn skip_attribute<'t, 's>(tokens: Tokens<'t, 's>) -> Result<Option<Tokens<'t, 's>>, ReadError>
     ensures value { MatchResult result
         (λ found. MatchOption found
-        (behind_attributes (tokens_of tokens.entry) ≡ Ok (tokens_of tokens.entry))
-        (λ rest. (behind_attributes (tokens_of tokens.entry) ≡ behind_attributes (tokens_of rest))
+        (after_attributes (tokens_of tokens.entry) ≡ Ok (tokens_of tokens.entry))
+        (λ rest. (after_attributes (tokens_of tokens.entry) ≡ after_attributes (tokens_of rest))
         × (count_of (tokens_of rest) < count_of (tokens_of tokens.entry))))
-        (λ error. behind_attributes (tokens_of tokens.entry) ≡ Err error) }
+        (λ error. after_attributes (tokens_of tokens.entry) ≡ Err error) }
     ensures front { IfOk result (λ found. IfSome found
         (λ rest. IsRestOf (tokens_of tokens.entry) (tokens_of rest))) }
 {
@@ -173,7 +175,7 @@ fn skip_attribute<'t, 's>(tokens: Tokens<'t, 's>) -> Result<Option<Tokens<'t, 's
     }
 }
 
-/// All attributes that come first, and what is behind them.
+/// Returns the attributes that come first, and the tokens after them.
 pub(crate) fn read_attributes<'t, 's>(
     tokens: Tokens<'t, 's>,
 ) -> Result<(Tokens<'t, 's>, Tokens<'t, 's>), ReadError>
@@ -190,9 +192,9 @@ pub(crate) fn read_attributes<'t, 's>(
     Ok((tokens.before(rest), rest))
 }
 
-/// What is behind a parenthesis, if one comes first.
+/// Returns the tokens after the parentheses if they come first, or else all tokens.
 fn skip_parenthesis<'t, 's>(tokens: Tokens<'t, 's>) -> Tokens<'t, 's>
-    ensures value { tokens_of result ≡ behind_parenthesis (tokens_of tokens.entry) }
+    ensures value { tokens_of result ≡ after_parenthesis (tokens_of tokens.entry) }
     ensures shorter { count_of (tokens_of result) ≤ count_of (tokens_of tokens.entry) }
 {
     match split(tokens) {
@@ -201,9 +203,9 @@ fn skip_parenthesis<'t, 's>(tokens: Tokens<'t, 's>) -> Tokens<'t, 's>
     }
 }
 
-/// What is behind a visibility, if one comes first.
+/// Returns the tokens after a visibility if one comes first, or else all tokens.
 pub(crate) fn skip_visibility<'t, 's>(tokens: Tokens<'t, 's>) -> Tokens<'t, 's>
-    ensures value { tokens_of result ≡ behind_visibility (tokens_of tokens.entry) }
+    ensures value { tokens_of result ≡ after_visibility (tokens_of tokens.entry) }
     ensures shorter { count_of (tokens_of result) ≤ count_of (tokens_of tokens.entry) }
 {
     match split(tokens) {
@@ -212,10 +214,10 @@ pub(crate) fn skip_visibility<'t, 's>(tokens: Tokens<'t, 's>) -> Tokens<'t, 's>
     }
 }
 
-/// What is behind `enum`, which comes first.
+/// Returns the tokens after `enum`, or `None` if it does not come first.
 pub(crate) fn skip_keyword<'t, 's>(tokens: Tokens<'t, 's>) -> Option<Tokens<'t, 's>>
-    ensures { MatchOption result (behind_keyword (tokens_of tokens.entry) ≡ None)
-        (λ rest. behind_keyword (tokens_of tokens.entry) ≡ Some (tokens_of rest)) }
+    ensures { MatchOption result (after_keyword (tokens_of tokens.entry) ≡ None)
+        (λ rest. after_keyword (tokens_of tokens.entry) ≡ Some (tokens_of rest)) }
 {
     match split(tokens) {
         Some((TokenTree::Ident(word), rest)) if word.text == "enum" => Some(rest),

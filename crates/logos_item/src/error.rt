@@ -1,21 +1,24 @@
-//! Why a run of tokens is not read as an enum.
+//! The reasons why a run of tokens is not an enum.
 
 use logos_token::token::Span;
 use std::alloc::{AllocError, AllocFailed};
 
-/// Why a run of tokens is not read as an enum: the first fault from the left.
+/// The reason why a run of tokens is not an enum: its first fault from the left.
 #[derive(Clone, Copy, Debug, PartialEq, Eq)]
 pub enum ReadError {
-    /// The run does not begin with well-formed attributes, perhaps a visibility, and `enum`. The span is that of the whole run.
+    /// The run does not begin with well-formed attributes, an optional visibility, and `enum`. The
+    /// span is that of the whole run.
     NotAnEnum { span: Span },
-    /// It does, and a token behind `enum` does not fit. The span is that of the first such token, the whole group's for a group; `0..0`
-    /// where the tokens run out, also where they do so inside a group.
+    /// The run begins so, but a token after `enum` does not fit. The span is that of the first such
+    /// token, or of the whole group if it is a group. It is `0..0` at the end of the tokens, also
+    /// inside a group.
     Grammar { span: Span },
-    /// A field's type is of a kind that is left out. The span is that of the innermost such type.
+    /// The type of a field is not supported. The span is that of the innermost type that is not.
     TypeUnsupported { span: Span },
-    /// In a field's type more types stand inside one another than may. The span is that of the field's whole type.
+    /// In the type of a field more types stand inside one another than are allowed. The span is
+    /// that of the whole type.
     LimitTypeNesting { span: Span },
-    /// Memory ran out.
+    /// There is not enough memory.
     Memory,
 }
 
@@ -41,8 +44,8 @@ impl<T: Drop> From<AllocFailed<T>> for ReadError {
     }
 }
 
-/// Where a run has its first token that does not fit.
+/// The first token that does not fit stands at this span.
 #[derive(Clone, Copy)]
-pub(crate) struct Misfit {
+pub(crate) struct Mismatch {
     pub span: Span,
 }

@@ -1,33 +1,33 @@
-//! How far bounds, defaults and types reach.
+//! Finds how far bounds, defaults and types reach.
 ghost use Rattle.std.specs.Prelude.{◌≡◌, ◌+◌, ◌<◌, ◌≤◌, MatchOption};
 ghost use Rattle.logos_token.specs.Tokens.{TokenList, also, punctuation};
 ghost use Rattle.logos_token.specs.Tokens.{count_of, append, IsRestOf};
 ghost use Rattle.logos_token.specs.Views.{tokens_of};
-ghost use Rattle.logos_item.specs.Extents.{ends, begins_arrow, depth_behind, is_end};
-ghost use Rattle.logos_item.specs.Extents.{behind_from, behind_extent, IsStep};
+ghost use Rattle.logos_item.specs.Extents.{ends, begins_arrow, depth_after, is_end};
+ghost use Rattle.logos_item.specs.Extents.{after_from, after_extent, IsStep};
 
 use crate::tokens::split;
 use logos_token::token::{Punct, Spacing, TokenTree, Tokens};
 
-/// What the extent is of.
+/// The things that have an extent.
 #[derive(Clone, Copy)]
 pub(crate) enum End {
-    /// Of bounds, or of the type of a constant: up to a comma, `=` or `>`.
+    /// Bounds, or the type of a constant. They reach up to a comma, `=` or `>`.
     OfBounds,
-    /// Of a default, or of a whole parameter: up to a comma or `>`.
+    /// A default, or a whole parameter. It reaches up to a comma or `>`.
     OfDefault,
-    /// Of a field's type: up to a comma.
+    /// The type of a field. It reaches up to a comma.
     OfField,
 }
 
-/// How many angle brackets are open, and whether a `-` stands before that can begin `->`.
+/// How many angle brackets are open, and whether a `-` comes before that can begin `->`.
 #[derive(Clone, Copy)]
 struct Angles {
     depth: usize,
     arrow: bool,
 }
 
-/// Whether a sign ends an extent where no angle bracket is open.
+/// Returns whether a character ends an extent where no angle bracket is open.
 pub(crate) fn ends(end: End, character: char) -> bool
     ensures { result ≡ ends end character }
 {
@@ -38,7 +38,7 @@ pub(crate) fn ends(end: End, character: char) -> bool
     }
 }
 
-/// Whether a sign can be the first of `->`.
+/// Returns whether this punctuation can be the first character of `->`.
 fn begins_arrow(punct: Punct) -> bool
     ensures { result ≡ begins_arrow punct.character punct.spacing }
 {
@@ -48,17 +48,17 @@ fn begins_arrow(punct: Punct) -> bool
     }
 }
 
-/// Whether a sign ends an extent.
+/// Returns whether a character ends an extent.
 fn is_end(end: End, angles: Angles, character: char) -> bool
     ensures { result ≡ is_end end angles.arrow angles.depth character }
 {
     (angles.depth == 0) & (ends(end, character) & !(angles.arrow & (character == '>')))
 }
 
-/// What a sign makes of the open angle brackets.
-fn depth_behind(angles: Angles, character: char) -> usize
+/// Returns how many angle brackets are open after a character.
+fn depth_after(angles: Angles, character: char) -> usize
     requires { angles.depth < 18446744073709551615 }
-    ensures value { result ≡ depth_behind angles.arrow angles.depth character }
+    ensures value { result ≡ depth_after angles.arrow angles.depth character }
     ensures bound { result ≤ angles.depth + 1 }
 {
     if character == '<' {
@@ -70,7 +70,8 @@ fn depth_behind(angles: Angles, character: char) -> usize
     angles.depth
 }
 
-/// What is behind one token of an extent, with the angle brackets that are open there; `None` where the extent ends.
+/// Returns the tokens after one token of an extent, with the angle brackets that are open there.
+/// `None` where the extent ends.
 fn skip_token<'t, 's>(
     end: End,
     angles: Angles,
@@ -78,7 +79,7 @@ fn skip_token<'t, 's>(
 ) -> Option<(Angles, Tokens<'t, 's>)>
     requires { angles.depth + count_of (tokens_of tokens) < 18446744073709551616 }
     ensures { MatchOption result
-        (behind_from end angles.arrow angles.depth (tokens_of tokens.entry)
+        (after_from end angles.arrow angles.depth (tokens_of tokens.entry)
         ≡ tokens_of tokens.entry)
         (λ read. IsStep end angles (tokens_of tokens.entry) read.0 (tokens_of read.1)) }
 {
@@ -87,7 +88,7 @@ fn skip_token<'t, 's>(
             if is_end(end, angles, punct.character) {
                 return None;
             }
-            let depth = depth_behind(angles, punct.character);
+            let depth = depth_after(angles, punct.character);
             let arrow = begins_arrow(punct);
             Some((Angles { depth, arrow }, rest))
         }
@@ -101,13 +102,13 @@ fn skip_token<'t, 's>(
     }
 }
 
-/// What is behind an extent.
+/// Returns the tokens after an extent.
 pub(crate) fn skip_extent<'t, 's>(end: End, tokens: Tokens<'t, 's>) -> Tokens<'t, 's>
-    ensures value { tokens_of result ≡ behind_extent end (tokens_of tokens.entry) }
+    ensures value { tokens_of result ≡ after_extent end (tokens_of tokens.entry) }
     ensures shorter { count_of (tokens_of result) ≤ count_of (tokens_of tokens.entry) }
     ensures front { IsRestOf (tokens_of tokens.entry) (tokens_of result) }
 {
-    // So many angle brackets can be open at most, and a `usize` counts them.
+    // At most this many angle brackets can be open, so a `usize` counts them.
     if tokens.count() == 0 {
         return tokens;
     }
@@ -116,17 +117,17 @@ pub(crate) fn skip_extent<'t, 's>(end: End, tokens: Tokens<'t, 's>) -> Tokens<'t
         arrow: false,
     };
     let mut rest = tokens;
-    while let Some((next, behind)) = skip_token(end, angles, rest) {
+    while let Some((next, after)) = skip_token(end, angles, rest) {
         angles = next;
-        rest = behind;
+        rest = after;
     }
     rest
 }
 
-/// The tokens of an extent.
+/// Returns the tokens of an extent.
 pub(crate) fn extent<'t, 's>(end: End, tokens: Tokens<'t, 's>) -> Tokens<'t, 's>
     ensures { tokens_of tokens.entry ≡
-        append (tokens_of result) (behind_extent end (tokens_of tokens.entry)) }
+        append (tokens_of result) (after_extent end (tokens_of tokens.entry)) }
 {
     tokens.before(skip_extent(end, tokens))
 }

@@ -1,4 +1,4 @@
-//! Fields of variants.
+//! Reads the fields of variants.
 ghost use Rattle.std.specs.Prelude.{◌≡◌, ◌<◌, ◌≤◌, List, map, Ok, Err, None};
 ghost use Rattle.std.specs.Prelude.{MatchOption, IfSome, MatchResult, IfOk, IfErr};
 ghost use Rattle.logos_token.specs.Tokens.{none, count_of};
@@ -22,44 +22,44 @@ use std::alloc::Global;
 /// A field of a variant.
 #[derive(Drop)]
 pub struct Field<'t, 's> {
-    /// The attributes in front of it.
+    /// The attributes of the field.
     pub attributes: Tokens<'t, 's>,
     pub field_type: TypeExpr<'s>,
     /// The tokens of its type.
     pub run: Tokens<'t, 's>,
 }
 
-/// What a variant holds. The span is that of the parenthesis or of the braces.
+/// The fields of a variant. The span is that of the parentheses or of the braces.
 #[derive(Drop)]
 pub enum Fields<'t, 's> {
-    /// Nothing.
+    /// No fields.
     Unit,
-    /// Fields in a parenthesis.
+    /// Fields in parentheses.
     Tuple(Span, Vec<Field<'t, 's>>),
     /// Fields with names, in braces.
     Named(Span, Vec<Field<'t, 's>>),
 }
 
-/// A type, and its tokens.
+/// A type and its tokens.
 #[derive(Drop)]
 pub(crate) struct Typed<'t, 's> {
     field_type: TypeExpr<'s>,
     run: Tokens<'t, 's>,
 }
 
-/// The error of a field's type with these tokens.
+/// Returns the error for a field's type with these tokens.
 fn error_of(run: Tokens<'_, '_>, fault: TypeFault) -> ReadError
     ensures { error_is (tokens_of run.entry) fault result }
 {
     match fault {
         TypeFault::Unsupported { span } => ReadError::TypeUnsupported { span },
-        TypeFault::Misfit { span } => ReadError::Grammar { span },
+        TypeFault::Mismatch { span } => ReadError::Grammar { span },
         TypeFault::LimitNesting => ReadError::LimitTypeNesting { span: run.span() },
         TypeFault::Memory => ReadError::Memory,
     }
 }
 
-/// The type of a field, its tokens, and what is behind them.
+/// Returns the type of a field, its tokens, and the tokens after it.
 fn read_typed<'t, 's>(
     alloc: Global,
     tokens: Tokens<'t, 's>,
@@ -77,7 +77,7 @@ fn read_typed<'t, 's>(
     }
 }
 
-/// What is behind `:`, which comes first.
+/// Returns the tokens after the `:` that must come first.
 fn skip_colon<'t, 's>(tokens: Tokens<'t, 's>) -> Result<Tokens<'t, 's>, ReadError>
     ensures { MatchResult result
         (λ rest. (colon_in (tokens_of tokens.entry) ≡ Ok (tt, tokens_of rest))
@@ -90,7 +90,7 @@ fn skip_colon<'t, 's>(tokens: Tokens<'t, 's>) -> Result<Tokens<'t, 's>, ReadErro
     }
 }
 
-/// What is behind the name of a field and `:`, where fields have names.
+/// Returns the tokens after the name of a field and `:` if fields have names, or else all tokens.
 fn skip_label<'t, 's>(named: bool, tokens: Tokens<'t, 's>) -> Result<Tokens<'t, 's>, ReadError>
     ensures ok { IfOk result
         (λ rest. label named (tokens_of tokens.entry) (Ok (tt, tokens_of rest))) }
@@ -106,7 +106,7 @@ fn skip_label<'t, 's>(named: bool, tokens: Tokens<'t, 's>) -> Result<Tokens<'t, 
     Ok(rest)
 }
 
-/// The field that comes first, and what is behind it.
+/// Returns the field that comes first, and the tokens after it.
 fn read_field<'t, 's>(
     alloc: Global,
     named: bool,
@@ -130,7 +130,7 @@ fn read_field<'t, 's>(
     Ok((field, rest))
 }
 
-/// The fields that are all that a group holds.
+/// Returns the fields in a group. All its tokens must belong to them.
 fn read_fields<'t, 's>(
     alloc: Global,
     named: bool,
@@ -144,15 +144,16 @@ fn read_fields<'t, 's>(
     let mut list = Vec::new(alloc);
     let mut rest = tokens;
     while !rest.is_empty() {
-        let (field, behind) = read_field(alloc, named, rest)?;
-        let next = skip_comma(behind)?;
+        let (field, after) = read_field(alloc, named, rest)?;
+        let next = skip_comma(after)?;
         list.push(field)?;
         rest = next;
     }
     Ok(list)
 }
 
-/// What a variant holds in a parenthesis, and what is behind it; `None` where none comes first.
+/// Returns the fields in parentheses and the tokens after these. `None` if no parenthesis comes
+/// first.
 fn read_tuple<'t, 's>(
     alloc: Global,
     tokens: Tokens<'t, 's>,
@@ -171,7 +172,7 @@ fn read_tuple<'t, 's>(
     Ok(Some((Fields::Tuple(opened.span, list), opened.rest)))
 }
 
-/// What a variant holds that has no parenthesis, and what is behind it.
+/// Returns the fields of a variant without parentheses, and the tokens after them.
 fn read_named<'t, 's>(
     alloc: Global,
     tokens: Tokens<'t, 's>,
@@ -190,7 +191,7 @@ fn read_named<'t, 's>(
     Ok((Fields::Named(opened.span, list), opened.rest))
 }
 
-/// What a variant holds, and what is behind it.
+/// Returns the fields of a variant and the tokens after them.
 pub(crate) fn read_holding<'t, 's>(
     alloc: Global,
     tokens: Tokens<'t, 's>,

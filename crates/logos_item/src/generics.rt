@@ -1,4 +1,4 @@
-//! Generic parameters.
+//! Reads generic parameters.
 ghost use Rattle.std.specs.Prelude.{◌≡◌, ◌<◌, ◌≤◌, List, map, Ok, Err, MatchResult, IfOk, IfErr};
 ghost use Rattle.logos_token.specs.Tokens.{also, identifier, count_of};
 ghost use Rattle.logos_token.specs.Views.{tokens_of};
@@ -12,11 +12,11 @@ ghost use Rattle.logos_item.specs.Values.{ident_slice, head_value, parameter_val
 use crate::attributes::read_attributes;
 use crate::error::ReadError;
 use crate::extents::{End, ends, extent, skip_extent};
-use crate::tokens::{begins_with, behind_mark, grammar_at, skip_comma_or_angle, split};
+use crate::tokens::{after_mark, begins_with, grammar_at, skip_comma_or_angle, split};
 use logos_token::token::{Ident, TokenTree, Tokens};
 use std::alloc::Global;
 
-/// What a generic parameter stands for.
+/// The kinds of generic parameters.
 #[derive(Clone, Copy, Debug, PartialEq, Eq)]
 pub enum ParameterKind {
     Lifetime,
@@ -28,9 +28,9 @@ pub enum ParameterKind {
 #[derive(Clone, Copy)]
 pub struct Parameter<'t, 's> {
     pub kind: ParameterKind,
-    /// The name; that of a lifetime is without its `'`.
+    /// The name. That of a lifetime does not include its `'`.
     pub name: Ident<'s>,
-    /// All tokens: attributes, the name, and bounds, a type or a default behind it.
+    /// All its tokens: attributes, the name, and the bounds, type or default after it.
     pub run: Tokens<'t, 's>,
 }
 
@@ -41,7 +41,7 @@ pub(crate) struct Head<'s> {
     name: Ident<'s>,
 }
 
-/// The name that comes first, which is that of a parameter of this kind, and what is behind it.
+/// Returns the name that comes first as that of a parameter of this kind, and the tokens after it.
 fn read_head_of<'t, 's>(
     kind: ParameterKind,
     tokens: Tokens<'t, 's>,
@@ -57,7 +57,7 @@ fn read_head_of<'t, 's>(
     }
 }
 
-/// The kind and the name of a parameter, which come first, and what is behind them.
+/// Returns the kind and the name of the parameter that comes first, and the tokens after the name.
 fn read_head<'t, 's>(tokens: Tokens<'t, 's>) -> Result<(Head<'s>, Tokens<'t, 's>), ReadError>
     ensures { MatchResult result
         (λ read. (head_in (tokens_of tokens.entry) ≡ Ok (head_value read.0, tokens_of read.1))
@@ -76,7 +76,7 @@ fn read_head<'t, 's>(tokens: Tokens<'t, 's>) -> Result<(Head<'s>, Tokens<'t, 's>
     }
 }
 
-/// What is behind an extent of at least one token.
+/// Returns the tokens after an extent. It must have at least one token.
 fn skip_some<'t, 's>(end: End, tokens: Tokens<'t, 's>) -> Result<Tokens<'t, 's>, ReadError>
     ensures { MatchResult result
         (λ rest. (some_in end (tokens_of tokens.entry) ≡ Ok (tt, tokens_of rest))
@@ -90,7 +90,7 @@ fn skip_some<'t, 's>(end: End, tokens: Tokens<'t, 's>) -> Result<Tokens<'t, 's>,
     }
 }
 
-/// What is behind `:` and bounds, if `:` comes first.
+/// Returns the tokens after `:` and bounds if `:` comes first, or else all tokens.
 fn skip_bounds<'t, 's>(tokens: Tokens<'t, 's>) -> Tokens<'t, 's>
     ensures value { bounds_in (tokens_of tokens.entry) ≡ Ok (tt, tokens_of result) }
     ensures shorter { count_of (tokens_of result) ≤ count_of (tokens_of tokens.entry) }
@@ -103,7 +103,7 @@ fn skip_bounds<'t, 's>(tokens: Tokens<'t, 's>) -> Tokens<'t, 's>
     }
 }
 
-/// What is behind `:` and the type of a constant, which come first.
+/// Returns the tokens after the `:` that must come first and the type of a constant.
 fn skip_constant<'t, 's>(tokens: Tokens<'t, 's>) -> Result<Tokens<'t, 's>, ReadError>
     ensures { MatchResult result
         (λ rest. (constant_in (tokens_of tokens.entry) ≡ Ok (tt, tokens_of rest))
@@ -118,7 +118,7 @@ fn skip_constant<'t, 's>(tokens: Tokens<'t, 's>) -> Result<Tokens<'t, 's>, ReadE
     }
 }
 
-/// What is behind `=` and a default, if `=` comes first.
+/// Returns the tokens after `=` and a default if `=` comes first, or else all tokens.
 fn skip_default<'t, 's>(tokens: Tokens<'t, 's>) -> Result<Tokens<'t, 's>, ReadError>
     ensures { MatchResult result
         (λ rest. (default_in (tokens_of tokens.entry) ≡ Ok (tt, tokens_of rest))
@@ -133,7 +133,7 @@ fn skip_default<'t, 's>(tokens: Tokens<'t, 's>) -> Result<Tokens<'t, 's>, ReadEr
     }
 }
 
-/// What is behind all that stands behind the name of a parameter.
+/// Returns the tokens after everything that can follow the name of a parameter.
 fn skip_tail<'t, 's>(
     kind: ParameterKind,
     tokens: Tokens<'t, 's>,
@@ -157,7 +157,7 @@ fn skip_tail<'t, 's>(
     }
 }
 
-/// The kind and the name of a parameter, and what is behind the whole of it.
+/// Returns the kind and the name of a parameter, and the tokens after the whole parameter.
 fn read_shape<'t, 's>(tokens: Tokens<'t, 's>) -> Result<(Head<'s>, Tokens<'t, 's>), ReadError>
     ensures ok { IfOk result
         (λ read. shape (tokens_of tokens.entry) (Ok (head_value read.0, tokens_of read.1))) }
@@ -171,7 +171,7 @@ fn read_shape<'t, 's>(tokens: Tokens<'t, 's>) -> Result<(Head<'s>, Tokens<'t, 's
     Ok((head, rest))
 }
 
-/// The parameter that comes first, and what is behind it.
+/// Returns the parameter that comes first, and the tokens after it.
 fn read_parameter<'t, 's>(
     tokens: Tokens<'t, 's>,
 ) -> Result<(Parameter<'t, 's>, Tokens<'t, 's>), ReadError>
@@ -192,7 +192,7 @@ fn read_parameter<'t, 's>(
     Ok((parameter, rest))
 }
 
-/// The parameters in front of `>`, and that with what is behind it.
+/// Returns the parameters up to `>`, and the tokens from `>` on.
 fn read_parameters<'t, 's>(
     alloc: Global,
     tokens: Tokens<'t, 's>,
@@ -206,15 +206,15 @@ fn read_parameters<'t, 's>(
     let mut list = Vec::new(alloc);
     let mut rest = tokens;
     while !begins_with('>', rest) {
-        let (parameter, behind) = read_parameter(rest)?;
-        let next = skip_comma_or_angle(behind)?;
+        let (parameter, after) = read_parameter(rest)?;
+        let next = skip_comma_or_angle(after)?;
         list.push(parameter)?;
         rest = next;
     }
     Ok((list, rest))
 }
 
-/// What is behind `>`, which comes first.
+/// Returns the tokens after the `>` that must come first.
 fn skip_closing<'t, 's>(tokens: Tokens<'t, 's>) -> Result<Tokens<'t, 's>, ReadError>
     ensures { MatchResult result
         (λ rest. closing_in (tokens_of tokens.entry) ≡ Ok (tt, tokens_of rest))
@@ -226,7 +226,8 @@ fn skip_closing<'t, 's>(tokens: Tokens<'t, 's>) -> Result<Tokens<'t, 's>, ReadEr
     }
 }
 
-/// The generic parameters, and what is behind them; none where `<` does not come first.
+/// Returns the generic parameters and the tokens after them. There are none if `<` does not come
+/// first.
 pub(crate) fn read_generics<'t, 's>(
     alloc: Global,
     tokens: Tokens<'t, 's>,
@@ -236,7 +237,7 @@ pub(crate) fn read_generics<'t, 's>(
         (Ok (map parameter_value read.0.items, tokens_of read.1))) }
     ensures err { IfErr result (Stands (λ error. Generics (tokens_of tokens.entry) (Err error))) }
 {
-    let Some(inside) = behind_mark('<', tokens) else {
+    let Some(inside) = after_mark('<', tokens) else {
         return Ok((Vec::new(alloc), tokens));
     };
     let (list, rest) = read_parameters(alloc, inside)?;

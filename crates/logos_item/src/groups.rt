@@ -1,4 +1,4 @@
-//! A group that comes first.
+//! Opens the group that comes first.
 ghost use Rattle.std.specs.Prelude.{◌≡◌, ◌<◌, Some, None, MatchOption};
 ghost use Rattle.logos_token.specs.Tokens.{count_of};
 ghost use Rattle.logos_token.specs.Views.{tokens_of};
@@ -7,7 +7,7 @@ ghost use Rattle.logos_item.specs.Groups.{parenthesis_in, bracket_in, brace_in, 
 use crate::tokens::split;
 use logos_token::token::{Delimiter, Span, TokenTree, Tokens};
 
-/// A group that comes first: its span, what is inside it, and what is behind it.
+/// A group: its span, the tokens inside it, and the tokens after it.
 #[derive(Clone, Copy)]
 pub(crate) struct Opened<'t, 's> {
     pub span: Span,
@@ -15,7 +15,7 @@ pub(crate) struct Opened<'t, 's> {
     pub rest: Tokens<'t, 's>,
 }
 
-/// The parenthesis that comes first; `None` where none does.
+/// Returns the group in parentheses that comes first, or `None`.
 pub(crate) fn open_parenthesis<'t, 's>(tokens: Tokens<'t, 's>) -> Option<Opened<'t, 's>>
     ensures { MatchOption result (parenthesis_in (tokens_of tokens.entry) ≡ None)
         (λ opened. (parenthesis_in (tokens_of tokens.entry) ≡ Some (opened_value opened))
@@ -33,7 +33,7 @@ pub(crate) fn open_parenthesis<'t, 's>(tokens: Tokens<'t, 's>) -> Option<Opened<
     }
 }
 
-/// The brackets that come first; `None` where none do.
+/// Returns the group in brackets that comes first, or `None`.
 pub(crate) fn open_bracket<'t, 's>(tokens: Tokens<'t, 's>) -> Option<Opened<'t, 's>>
     ensures { MatchOption result (bracket_in (tokens_of tokens.entry) ≡ None)
         (λ opened. (bracket_in (tokens_of tokens.entry) ≡ Some (opened_value opened))
@@ -51,7 +51,7 @@ pub(crate) fn open_bracket<'t, 's>(tokens: Tokens<'t, 's>) -> Option<Opened<'t, 
     }
 }
 
-/// The braces that come first; `None` where none do.
+/// Returns the group in braces that comes first, or `None`.
 pub(crate) fn open_brace<'t, 's>(tokens: Tokens<'t, 's>) -> Option<Opened<'t, 's>>
     ensures { MatchOption result (brace_in (tokens_of tokens.entry) ≡ None)
         (λ opened. (brace_in (tokens_of tokens.entry) ≡ Some (opened_value opened))

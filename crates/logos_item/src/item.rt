@@ -1,4 +1,4 @@
-//! The whole enum.
+//! Reads a whole enum.
 ghost use Rattle.std.specs.Prelude.{◌≡◌, ◌<◌, ◌≤◌, List, map, Ok, Err, Result, Some};
 ghost use Rattle.std.specs.Prelude.{None, MatchOption, MatchResult, IfOk, IfErr};
 ghost use Rattle.logos_token.specs.Tokens.{TokenList, none, count_of};
@@ -22,7 +22,7 @@ use std::alloc::Global;
 /// An enum. The runs are views of the tokens that it was read from.
 #[derive(Drop)]
 pub struct ItemEnum<'t, 's> {
-    /// The attributes in front of it: each is `#` and brackets, or a documentation comment.
+    /// The attributes of the enum: each is `#` and brackets, or a documentation comment.
     pub attributes: Tokens<'t, 's>,
     pub name: Ident<'s>,
     /// The generic parameters, in source order.
@@ -31,7 +31,7 @@ pub struct ItemEnum<'t, 's> {
     pub variants: Vec<Variant<'t, 's>>,
 }
 
-/// What is behind the first token, where that is no brace.
+/// Returns the tokens after the first one, unless that is a brace.
 fn skip_other<'t, 's>(tokens: Tokens<'t, 's>) -> Option<Tokens<'t, 's>>
     ensures { MatchOption result (from_brace (tokens_of tokens.entry) ≡ tokens_of tokens.entry)
         (λ rest. (from_brace (tokens_of tokens.entry) ≡ from_brace (tokens_of rest))
@@ -43,7 +43,7 @@ fn skip_other<'t, 's>(tokens: Tokens<'t, 's>) -> Option<Tokens<'t, 's>>
     }
 }
 
-/// The tokens from the first brace on.
+/// Returns the tokens from the first brace on.
 fn skip_to_brace<'t, 's>(tokens: Tokens<'t, 's>) -> Tokens<'t, 's>
     ensures { tokens_of result ≡ from_brace (tokens_of tokens.entry) }
 {
@@ -54,7 +54,7 @@ fn skip_to_brace<'t, 's>(tokens: Tokens<'t, 's>) -> Tokens<'t, 's>
     rest
 }
 
-/// What is behind a where clause, if one comes first.
+/// Returns the tokens after a where clause if one comes first, or else all tokens.
 fn skip_where<'t, 's>(tokens: Tokens<'t, 's>) -> Tokens<'t, 's>
     ensures { where_in (tokens_of tokens.entry) ≡ Ok (tt, tokens_of result) }
 {
@@ -64,7 +64,7 @@ fn skip_where<'t, 's>(tokens: Tokens<'t, 's>) -> Tokens<'t, 's>
     }
 }
 
-/// The variants in the braces that come first, and what is behind these.
+/// Returns the variants in the braces that must come first, and the tokens after the braces.
 fn read_body<'t, 's>(
     alloc: Global,
     tokens: Tokens<'t, 's>,
@@ -81,7 +81,7 @@ fn read_body<'t, 's>(
     Ok((list, braced.rest))
 }
 
-/// That no token is left.
+/// Checks that no token is left.
 fn read_end(tokens: Tokens<'_, '_>) -> Result<(), ReadError>
     ensures { MatchResult result (λ _. end_in (tokens_of tokens.entry) ≡ Ok (tt, none))
         (λ error. end_in (tokens_of tokens.entry) ≡ Err error) }
@@ -92,7 +92,8 @@ fn read_end(tokens: Tokens<'_, '_>) -> Result<(), ReadError>
     }
 }
 
-/// The attributes, and what is behind `enum`, where perhaps a visibility and that are behind the attributes.
+/// Returns the attributes and the tokens after `enum`, if an optional visibility and `enum` follow
+/// the attributes.
 fn announced<'t, 's>(
     attributes: Tokens<'t, 's>,
     middle: Tokens<'t, 's>,
@@ -105,8 +106,8 @@ fn announced<'t, 's>(
     Some((attributes, rest))
 }
 
-/// The attributes in front of `enum`, and what is behind it; `None` where well-formed attributes, perhaps a visibility and `enum` do not
-/// come first.
+/// Returns the attributes before `enum` and the tokens after it. `None` if well-formed attributes,
+/// an optional visibility and `enum` do not come first.
 fn read_front<'t, 's>(tokens: Tokens<'t, 's>) -> Option<(Tokens<'t, 's>, Tokens<'t, 's>)>
     ensures { MatchOption result (NoFront (tokens_of tokens.entry))
         (λ read. IsFront (tokens_of tokens.entry) (tokens_of read.0) (tokens_of read.1)) }
@@ -117,7 +118,7 @@ fn read_front<'t, 's>(tokens: Tokens<'t, 's>) -> Option<(Tokens<'t, 's>, Tokens<
     }
 }
 
-/// The enum behind whose `enum` the tokens are, with these attributes.
+/// Returns the enum with these attributes. The tokens are those after its `enum`.
 fn read_item<'t, 's>(
     alloc: Global,
     attributes: Tokens<'t, 's>,
@@ -129,9 +130,9 @@ fn read_item<'t, 's>(
     ensures err { IfErr result (Stands
         (λ error. item (tokens_of attributes.entry) (tokens_of tokens.entry) (Err error))) }
 {
-    let (name, behind_name) = read_name(tokens)?;
-    let (parameters, behind_generics) = read_generics(alloc, behind_name)?;
-    let (variants, rest) = read_body(alloc, skip_where(behind_generics))?;
+    let (name, after_name) = read_name(tokens)?;
+    let (parameters, after_generics) = read_generics(alloc, after_name)?;
+    let (variants, rest) = read_body(alloc, skip_where(after_generics))?;
     read_end(rest)?;
     Ok(ItemEnum {
         attributes,
@@ -141,20 +142,26 @@ fn read_item<'t, 's>(
     })
 }
 
-/// The enum that these tokens are: attributes, perhaps a visibility, `enum`, a name, perhaps generic parameters and a where clause, and
-/// braces with variants between commas, where the last may have a comma too, and nothing behind the braces. It gives the shape and the runs
-/// of tokens, and interprets no attribute.
+/// Reads an enum: attributes, an optional visibility, `enum`, a name, optional generic parameters
+/// and an optional where clause, and braces with variants between commas, the last of which can
+/// have a comma too. Nothing can follow the braces. Only the shape of the enum and the runs of
+/// tokens are returned; attributes are not interpreted.
 ///
-/// An attribute is `#` and brackets with a path, and behind that nothing, a group, or `=` and tokens; or a documentation comment of what
-/// follows it. A visibility is `pub` and at most one parenthesis. Every identifier serves as a name. A generic parameter is a lifetime, a
-/// type, or `const` and a name, with attributes in front, and with bounds and a default that are kept as tokens. A where clause is all up to
-/// the first brace that stands in no other group. A variant is attributes, a name, then nothing, fields in a parenthesis, or fields with
-/// names in braces, and perhaps `=` and tokens. At most 128 types stand inside one another in the type of a field.
+/// An attribute is `#` and brackets with a path, which can be followed by a group or by `=` and
+/// tokens; or it is a documentation comment of what follows it. A visibility is `pub` with at most
+/// one group in parentheses. Any identifier can be a name. A generic parameter is a lifetime, a
+/// type, or `const` and a name; attributes can come before it, and its bounds and default stay
+/// tokens. A where clause is everything up to the first brace that is not inside another group. A
+/// variant is attributes, a name, then nothing, fields in parentheses, or fields with names in
+/// braces, and optionally `=` and tokens. At most 128 types can stand inside one another in the
+/// type of a field.
 ///
-/// Fails with `NotAnEnum` where well-formed attributes, perhaps a visibility and `enum` do not come first. Where they do, it fails at the
-/// first fault from the left: with `Grammar` at a token that does not fit, `TypeUnsupported` at a type that is left out,
-/// `LimitTypeNesting` at a type that passes the limit. Fails with `Memory` where memory ran out. An enum is always read unless memory
-/// runs out. After an error nothing is kept.
+/// # Errors
+///
+/// `NotAnEnum` if well-formed attributes, an optional visibility and `enum` do not come first. If
+/// they do, the first fault from the left: `Grammar` at a token that does not fit,
+/// `TypeUnsupported` at a type that is not supported, or `LimitTypeNesting` at a type that passes
+/// the limit. `Memory` if there is not enough memory.
 pub fn read_enum<'t, 's>(
     alloc: Global,
     tokens: Tokens<'t, 's>,
@@ -173,7 +180,7 @@ pub fn read_enum<'t, 's>(
     Ok(item)
 }
 
-/// A run of tokens is at most one enum, or has at most one fault, and never both.
+/// A run of tokens is at most one enum and has at most one fault, and never both.
 pub fn reads_once()
     ensures { (run : TokenList) (one other : Result EnumValue ReadErrorValue) → Reads run one →
         Reads run other → one ≡ other }

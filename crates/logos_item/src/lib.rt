@@ -1,7 +1,9 @@
-//! An enum as it is written: its attributes, generic parameters and variants, with the runs of tokens that others read on.
+//! Reads an enum: its attributes, generic parameters and variants, with the runs of tokens that
+//! other crates read on.
 
 #![tactic(auto)]
 
+mod attribute_run;
 mod attributes;
 mod error;
 mod extents;
@@ -9,13 +11,12 @@ mod fields;
 mod generics;
 mod groups;
 mod item;
-mod single;
 mod tokens;
 mod variants;
 
+pub use attribute_run::{Attribute, split_attribute};
 pub use error::ReadError;
 pub use fields::{Field, Fields};
 pub use generics::{Parameter, ParameterKind};
 pub use item::{ItemEnum, read_enum, reads_once};
-pub use single::{Attribute, split_attribute};
 pub use variants::Variant;

@@ -1,4 +1,4 @@
-//! One token of a run, and what is behind it.
+//! Takes single tokens from the front of a run.
 ghost use Rattle.std.specs.Prelude.{◌≡◌, ◌<◌, ◌≤◌, true, false, List};
 ghost use Rattle.std.specs.Prelude.{Ok, Err, MatchOption, MatchResult};
 ghost use Rattle.logos_lexeme.specs.declared.lexeme.Span.{Span};
@@ -7,14 +7,14 @@ ghost use Rattle.logos_token.specs.Tokens.{none, also, punctuation, count_of, re
 ghost use Rattle.logos_token.specs.Views.{tokens_of, tree_of};
 ghost use Rattle.logos_item.specs.declared.error.ReadError.TheVariants.{Grammar};
 ghost use Rattle.logos_item.specs.Marks.{first_span, greater, begins_with, is_none, is_outer};
-ghost use Rattle.logos_item.specs.Rules.{behind_item};
+ghost use Rattle.logos_item.specs.Rules.{after_item};
 ghost use Rattle.logos_item.specs.Generics.{name_in};
 ghost use Rattle.logos_item.specs.Values.{ident_slice};
 
-use crate::error::{Misfit, ReadError};
+use crate::error::{Mismatch, ReadError};
 use logos_token::token::{Ident, Span, TokenTree, Tokens};
 
-/// Where the first token stands; `0..0` where there is none.
+/// Returns the span of the first token, or `0..0` if there is none.
 pub(crate) fn first_span(tokens: Tokens<'_, '_>) -> Span
     ensures { result ≡ first_span (tokens_of tokens.entry) }
 {
@@ -24,16 +24,16 @@ pub(crate) fn first_span(tokens: Tokens<'_, '_>) -> Span
     }
 }
 
-/// A misfit at the first token.
-pub(crate) fn misfit_at(tokens: Tokens<'_, '_>) -> Misfit
+/// Returns the mismatch at the first token.
+pub(crate) fn mismatch_at(tokens: Tokens<'_, '_>) -> Mismatch
     ensures { result.span ≡ first_span (tokens_of tokens.entry) }
 {
-    Misfit {
+    Mismatch {
         span: first_span(tokens),
     }
 }
 
-/// An error at the first token.
+/// Returns the error that the first token does not fit.
 pub(crate) fn grammar_at(tokens: Tokens<'_, '_>) -> ReadError
     ensures { result ≡ Grammar (first_span (tokens_of tokens.entry)) }
 {
@@ -42,7 +42,7 @@ pub(crate) fn grammar_at(tokens: Tokens<'_, '_>) -> ReadError
     }
 }
 
-/// The first tree, and the trees behind it.
+/// Returns the first tree and the trees after it.
 pub(crate) fn split<'t, 's>(tokens: Tokens<'t, 's>) -> Option<(TokenTree<'t, 's>, Tokens<'t, 's>)>
     ensures { MatchOption result (tokens_of tokens.entry ≡ none)
         (λ read. tokens_of tokens.entry ≡ also (tree_of read.0) (tokens_of read.1)) }
@@ -51,7 +51,7 @@ pub(crate) fn split<'t, 's>(tokens: Tokens<'t, 's>) -> Option<(TokenTree<'t, 's>
     Some((tree, tokens.rest()))
 }
 
-/// Whether this character comes first.
+/// Returns whether this character comes first.
 pub(crate) fn begins_with(mark: char, tokens: Tokens<'_, '_>) -> bool
     ensures { result ≡ begins_with mark (tokens_of tokens.entry) }
 {
@@ -61,8 +61,8 @@ pub(crate) fn begins_with(mark: char, tokens: Tokens<'_, '_>) -> bool
     }
 }
 
-/// What is behind this character, if it comes first.
-pub(crate) fn behind_mark<'t, 's>(mark: char, tokens: Tokens<'t, 's>) -> Option<Tokens<'t, 's>>
+/// Returns the tokens after this character, or `None` if it does not come first.
+pub(crate) fn after_mark<'t, 's>(mark: char, tokens: Tokens<'t, 's>) -> Option<Tokens<'t, 's>>
     ensures { MatchOption result (begins_with mark (tokens_of tokens.entry) ≡ false)
         (λ rest. (begins_with mark (tokens_of tokens.entry) ≡ true)
         × (tokens_of rest ≡ rest_of (tokens_of tokens.entry))) }
@@ -73,7 +73,7 @@ pub(crate) fn behind_mark<'t, 's>(mark: char, tokens: Tokens<'t, 's>) -> Option<
     }
 }
 
-/// Whether a documentation comment is one of what follows it.
+/// Returns whether a documentation comment documents what follows it.
 pub(crate) fn is_outer(text: &str) -> bool
     ensures { result ≡ is_outer text.now }
 {
@@ -83,7 +83,7 @@ pub(crate) fn is_outer(text: &str) -> bool
     }
 }
 
-/// The name that comes first, and what is behind it.
+/// Returns the name that comes first, and the tokens after it.
 pub(crate) fn read_name<'t, 's>(
     tokens: Tokens<'t, 's>,
 ) -> Result<(Ident<'s>, Tokens<'t, 's>), ReadError>
@@ -98,12 +98,12 @@ pub(crate) fn read_name<'t, 's>(
     }
 }
 
-/// What is behind an item of a list that ends with its group.
+/// Returns the tokens after an item of a list that reaches to the end of its group.
 pub(crate) fn skip_comma<'t, 's>(tokens: Tokens<'t, 's>) -> Result<Tokens<'t, 's>, ReadError>
     ensures { MatchResult result
-        (λ rest. (behind_item is_none (tokens_of tokens.entry) ≡ Ok (tt, tokens_of rest))
+        (λ rest. (after_item is_none (tokens_of tokens.entry) ≡ Ok (tt, tokens_of rest))
         × (count_of (tokens_of rest) ≤ count_of (tokens_of tokens.entry)))
-        (λ error. behind_item is_none (tokens_of tokens.entry) ≡ Err error) }
+        (λ error. after_item is_none (tokens_of tokens.entry) ≡ Err error) }
 {
     match split(tokens) {
         None => Ok(tokens),
@@ -112,15 +112,15 @@ pub(crate) fn skip_comma<'t, 's>(tokens: Tokens<'t, 's>) -> Result<Tokens<'t, 's
     }
 }
 
-/// What is behind an item of a list that ends at `>`.
+/// Returns the tokens after an item of a list that reaches to `>`.
 pub(crate) fn skip_comma_or_angle<'t, 's>(
     tokens: Tokens<'t, 's>,
 ) -> Result<Tokens<'t, 's>, ReadError>
     ensures { MatchResult result
-        (λ rest. (behind_item (begins_with greater) (tokens_of tokens.entry)
+        (λ rest. (after_item (begins_with greater) (tokens_of tokens.entry)
         ≡ Ok (tt, tokens_of rest))
         × (count_of (tokens_of rest) ≤ count_of (tokens_of tokens.entry)))
-        (λ error. behind_item (begins_with greater) (tokens_of tokens.entry) ≡ Err error) }
+        (λ error. after_item (begins_with greater) (tokens_of tokens.entry) ≡ Err error) }
 {
     match split(tokens) {
         Some((TokenTree::Punct(punct), _)) if punct.character == '>' => Ok(tokens),

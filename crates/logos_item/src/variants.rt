@@ -1,4 +1,4 @@
-//! Variants.
+//! Reads the variants of an enum.
 ghost use Rattle.std.specs.Prelude.{◌≡◌, ◌<◌, ◌≤◌, List, map, Ok, Err};
 ghost use Rattle.std.specs.Prelude.{MatchOption, MatchResult, IfOk, IfErr};
 ghost use Rattle.logos_token.specs.Tokens.{none, count_of};
@@ -17,13 +17,13 @@ use std::alloc::Global;
 /// A variant of an enum.
 #[derive(Drop)]
 pub struct Variant<'t, 's> {
-    /// The attributes in front of it.
+    /// The attributes of the variant.
     pub attributes: Tokens<'t, 's>,
     pub name: Ident<'s>,
     pub fields: Fields<'t, 's>,
 }
 
-/// What is behind the first token, where that is no comma.
+/// Returns the tokens after the first one, unless that is a comma.
 fn skip_other<'t, 's>(tokens: Tokens<'t, 's>) -> Option<Tokens<'t, 's>>
     ensures { MatchOption result (from_comma (tokens_of tokens.entry) ≡ tokens_of tokens.entry)
         (λ rest. (from_comma (tokens_of tokens.entry) ≡ from_comma (tokens_of rest))
@@ -35,7 +35,7 @@ fn skip_other<'t, 's>(tokens: Tokens<'t, 's>) -> Option<Tokens<'t, 's>>
     }
 }
 
-/// The tokens from the first comma on.
+/// Returns the tokens from the first comma on.
 fn skip_to_comma<'t, 's>(tokens: Tokens<'t, 's>) -> Tokens<'t, 's>
     ensures value { tokens_of result ≡ from_comma (tokens_of tokens.entry) }
     ensures shorter { count_of (tokens_of result) ≤ count_of (tokens_of tokens.entry) }
@@ -47,7 +47,7 @@ fn skip_to_comma<'t, 's>(tokens: Tokens<'t, 's>) -> Tokens<'t, 's>
     rest
 }
 
-/// What is behind one token or more in front of a comma.
+/// Returns the tokens from the first comma on. At least one token must come before it.
 fn skip_value<'t, 's>(tokens: Tokens<'t, 's>) -> Result<Tokens<'t, 's>, ReadError>
     ensures { MatchResult result
         (λ rest. (value_in (tokens_of tokens.entry) ≡ Ok (tt, tokens_of rest))
@@ -61,7 +61,8 @@ fn skip_value<'t, 's>(tokens: Tokens<'t, 's>) -> Result<Tokens<'t, 's>, ReadErro
     }
 }
 
-/// What is behind `=` and the number of a variant, if `=` comes first.
+/// Returns the tokens after `=` and the discriminant of a variant if `=` comes first, or else all
+/// tokens.
 fn skip_discriminant<'t, 's>(tokens: Tokens<'t, 's>) -> Result<Tokens<'t, 's>, ReadError>
     ensures { MatchResult result
         (λ rest. (discriminant_in (tokens_of tokens.entry) ≡ Ok (tt, tokens_of rest))
@@ -74,7 +75,7 @@ fn skip_discriminant<'t, 's>(tokens: Tokens<'t, 's>) -> Result<Tokens<'t, 's>, R
     }
 }
 
-/// The variant that comes first, and what is behind it.
+/// Returns the variant that comes first, and the tokens after it.
 fn read_variant<'t, 's>(
     alloc: Global,
     tokens: Tokens<'t, 's>,
@@ -97,7 +98,7 @@ fn read_variant<'t, 's>(
     Ok((variant, rest))
 }
 
-/// The variants that are all that the braces hold.
+/// Returns the variants inside braces. All tokens there must belong to them.
 pub(crate) fn read_variants<'t, 's>(
     alloc: Global,
     tokens: Tokens<'t, 's>,
@@ -109,8 +110,8 @@ pub(crate) fn read_variants<'t, 's>(
     let mut list = Vec::new(alloc);
     let mut rest = tokens;
     while !rest.is_empty() {
-        let (variant, behind) = read_variant(alloc, rest)?;
-        let next = skip_comma(behind)?;
+        let (variant, after) = read_variant(alloc, rest)?;
+        let next = skip_comma(after)?;
         list.push(variant)?;
         rest = next;
     }

@@ -1,4 +1,4 @@
-pub mod Told
+pub mod Report
 pub mod Types
 pub mod Options
 pub mod Subpatterns

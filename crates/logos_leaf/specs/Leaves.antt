@@ -12,10 +12,10 @@ use Rattle.logos_measures.specs.Measure.{fitted, has_greedy_dot}
 use Rattle.logos_measures.specs.Priority.{value}
 use Rattle.logos_hir.specs.Tree.{Tree}
 use Rattle.logos_attribute.specs.Callbacks.{CallbackView}
-use Rattle.logos_attribute.specs.Told.{Told, telling, quiet, and_then, fault, only, Tells}
+use Rattle.logos_attribute.specs.Reports.{Report, with_faults, without_faults, and_then, fault, only, IsReport}
 use Rattle.logos_definition.specs.Definitions.{DefinitionView}
 use Rattle.logos_subpattern.specs.PatternFaults.{Reading, spelled, broken, too_deep, Reads, pattern_faults}
-use Rattle.logos_subpattern.specs.Substitution.{Stored, subst_told}
+use Rattle.logos_subpattern.specs.Substitution.{Stored, subst_report}
 use Rattle.logos_subpattern.specs.Subpatterns.{pattern_text}
 
 -- A leaf as contracts see it: the tree and the source of its pattern, its span, its priority, its kind and its callback.
@@ -65,22 +65,22 @@ abbrev pub token_leaf : DefinitionView → KindValue → Tree → LeafView
 token_leaf d kind tree = leaf_with true d kind tree (token_priority d)
 
 -- The leaf of a `token` whose letters match in either case, by what reading its text gives.
-abbrev pub folded_told : DefinitionView → KindValue → Reading → Told (Option LeafView)
-folded_told d kind (spelled tree) = quiet (Some (token_leaf d kind tree))
-folded_told d kind (broken kind_of at) = telling None (pattern_faults d.literal.token.span (broken kind_of at))
-folded_told d kind too_deep = telling None (pattern_faults d.literal.token.span too_deep)
+abbrev pub folded_report : DefinitionView → KindValue → Reading → Report (Option LeafView)
+folded_report d kind (spelled tree) = without_faults (Some (token_leaf d kind tree))
+folded_report d kind (broken kind_of at) = with_faults None (pattern_faults d.literal.token.span (broken kind_of at))
+folded_report d kind too_deep = with_faults None (pattern_faults d.literal.token.span too_deep)
 
 -- The leaf of a `token`. Its text is read only where letters match in either case.
-abbrev pub token_told : DefinitionView → KindValue → Reading → Told (Option LeafView)
-token_told d kind reading =
-    if d.ignore_case then folded_told d kind reading
-    else quiet (Some (token_leaf d kind (literal_tree (bytes_of d.literal.held))))
+abbrev pub token_report : DefinitionView → KindValue → Reading → Report (Option LeafView)
+token_report d kind reading =
+    if d.ignore_case then folded_report d kind reading
+    else without_faults (Some (token_leaf d kind (literal_tree (bytes_of d.literal.held))))
 
 -- This is the leaf of a `token`, if it has one, and its faults are added to the list.
 pub record IsTokenLeaf (d : DefinitionView) (kind : KindValue) (leaf : Option LeafView) (old new : List Fault) : Type 0 where
   pub reading : Reading
   pub reads : d.ignore_case ≡ true → Reads (is_string d.literal.held) true (chars (escaped_of d.literal.held)) reading
-  pub tells : Tells (token_told d kind reading) leaf old new
+  pub reports : IsReport (token_report d kind reading) leaf old new
 
 -- ---- `regex` and `skip`
 
@@ -98,9 +98,9 @@ abbrev pub greedy_faults : DefinitionView → Tree → List Fault
 greedy_faults d tree = if not (unwrap_or d.allow_greedy false) && has_greedy_dot tree then only (greedy_dot d.literal.token.span) else []
 
 -- The leaf with this priority, if there is one.
-abbrev pub fitted_told : DefinitionView → KindValue → Tree → Option ℕ → Told (Option LeafView)
-fitted_told d kind tree (Some priority) = quiet (Some (leaf_with false d kind tree priority))
-fitted_told d kind tree None = telling None (only (priority_overflow d.literal.token.span))
+abbrev pub fitted_report : DefinitionView → KindValue → Tree → Option ℕ → Report (Option LeafView)
+fitted_report d kind tree (Some priority) = without_faults (Some (leaf_with false d kind tree priority))
+fitted_report d kind tree None = with_faults None (only (priority_overflow d.literal.token.span))
 
 -- The first priority, or the other one where there is no first.
 abbrev pub given_or : Option ℕ → Option ℕ → Option ℕ
@@ -112,30 +112,30 @@ abbrev pub regex_priority : DefinitionView → Tree → Option ℕ
 regex_priority d tree = given_or d.priority (fitted (value tree))
 
 -- The leaf of a pattern whose text spells this tree.
-abbrev pub tree_told : DefinitionView → KindValue → Tree → Told (Option LeafView)
-tree_told d kind tree = and_then (telling tree (greedy_faults d tree)) (λ t. fitted_told d kind t (regex_priority d t))
+abbrev pub tree_report : DefinitionView → KindValue → Tree → Report (Option LeafView)
+tree_report d kind tree = and_then (with_faults tree (greedy_faults d tree)) (λ t. fitted_report d kind t (regex_priority d t))
 
 -- The leaf of a pattern, by what reading its text gives.
-abbrev pub reading_told : DefinitionView → KindValue → Reading → Told (Option LeafView)
-reading_told d kind (spelled tree) = tree_told d kind tree
-reading_told d kind (broken kind_of at) = telling None (pattern_faults d.literal.token.span (broken kind_of at))
-reading_told d kind too_deep = telling None (pattern_faults d.literal.token.span too_deep)
+abbrev pub reading_report : DefinitionView → KindValue → Reading → Report (Option LeafView)
+reading_report d kind (spelled tree) = tree_report d kind tree
+reading_report d kind (broken kind_of at) = with_faults None (pattern_faults d.literal.token.span (broken kind_of at))
+reading_report d kind too_deep = with_faults None (pattern_faults d.literal.token.span too_deep)
 
 -- The leaf of a pattern by its text with the subpatterns put in, if all of them are found.
-abbrev pub text_told : DefinitionView → KindValue → Reading → Option (List ℕ) → Told (Option LeafView)
-text_told d kind reading None = quiet None
-text_told d kind reading (Some text) = reading_told d kind reading
+abbrev pub text_report : DefinitionView → KindValue → Reading → Option (List ℕ) → Report (Option LeafView)
+text_report d kind reading None = without_faults None
+text_report d kind reading (Some text) = reading_report d kind reading
 
 -- The text of a pattern with the subpatterns put in, if all of them are found.
-abbrev pub whole_told : DefinitionView → List Stored → Told (Option (List ℕ))
-whole_told d names = subst_told names d.literal.token.span (chars (pattern_text d.literal.held))
+abbrev pub whole_report : DefinitionView → List Stored → Report (Option (List ℕ))
+whole_report d names = subst_report names d.literal.token.span (chars (pattern_text d.literal.held))
 
-abbrev pub regex_told : DefinitionView → KindValue → List Stored → Reading → Told (Option LeafView)
-regex_told d kind names reading = and_then (whole_told d names) (text_told d kind reading)
+abbrev pub regex_report : DefinitionView → KindValue → List Stored → Reading → Report (Option LeafView)
+regex_report d kind names reading = and_then (whole_report d names) (text_report d kind reading)
 
 -- This is the leaf of a `regex` or `skip`, if it has one, and its faults are added to the list. `reading` is what reading its text gives, if all subpatterns are
 -- found.
 pub record IsRegexLeaf (d : DefinitionView) (kind : KindValue) (names : List Stored) (leaf : Option LeafView) (old new : List Fault) : Type 0 where
   pub reading : Reading
-  pub reads : (text : List ℕ) → (whole_told d names).value ≡ Some text → Reads (is_string d.literal.held) d.ignore_case (chars text) reading
-  pub tells : Tells (regex_told d kind names reading) leaf old new
+  pub reads : (text : List ℕ) → (whole_report d names).value ≡ Some text → Reads (is_string d.literal.held) d.ignore_case (chars text) reading
+  pub reports : IsReport (regex_report d kind names reading) leaf old new

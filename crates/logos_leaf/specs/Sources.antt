@@ -9,9 +9,9 @@ use Rattle.logos_type_params.specs.WrittenTypes.{AreHeld}
 use Rattle.logos_item.specs.AttributeValues.{SplitAttribute, attribute_in}
 use Rattle.logos_item.specs.EnumValues.{EnumValue, VariantValue}
 use Rattle.logos_item.specs.Values.{ParameterValue}
-use Rattle.logos_attribute.specs.Told.{Tells}
-use Rattle.logos_definition.specs.Attributes.{AttributeSays, parameter_told}
-use Rattle.logos_definition.specs.Options.{OptionsView, nothing_said}
+use Rattle.logos_attribute.specs.Reports.{IsReport}
+use Rattle.logos_definition.specs.Attributes.{AttributeSays, parameter_report}
+use Rattle.logos_definition.specs.Options.{OptionsView, no_options}
 use Rattle.logos_subpattern.specs.Subpatterns.{AreAdded}
 use Rattle.logos_subpattern.specs.Substitution.{Stored}
 use Rattle.logos_leaf.specs.Leaves.{LeafView}
@@ -21,7 +21,7 @@ use Rattle.logos_leaf.specs.Variants.{SkipsAdd, VariantsAdd}
 pub data ParametersSay : (o : OptionsView) (o' : OptionsView) (old new : List Fault) → List ParameterValue → Type 0 where
   no_parameter : {o : OptionsView} {faults : List Fault} → ParametersSay o o faults faults []
   one_parameter : {o : OptionsView} {o' : OptionsView} {o'' : OptionsView} {old mid new : List Fault} {parameter : ParameterValue} {rest : List ParameterValue} →
-      Tells (parameter_told parameter.kind (record { text = parameter.name.text; span = parameter.name.span }) (run_span parameter.run) o) o' old mid →
+      IsReport (parameter_report parameter.kind (record { text = parameter.name.text; span = parameter.name.span }) (run_span parameter.run) o) o' old mid →
       ParametersSay o' o'' mid new rest → ParametersSay o o'' old new (parameter ∷ rest)
 
 -- Reading the attributes of an enum leads from these options to those, and their faults are added, in order.
@@ -60,7 +60,7 @@ pub record SourceSays (item : EnumValue) (o : OptionsView) (leaves : List LeafVi
   pub declared : OptionsView
   pub of_parameters : List Fault
   pub of_attributes : List Fault
-  pub parameters : ParametersSay nothing_said declared [] of_parameters item.parameters
+  pub parameters : ParametersSay no_options declared [] of_parameters item.parameters
   pub attributes : AttributesSay declared o of_parameters of_attributes item.attributes
   pub leaves_say : LeavesSay o item.variants leaves of_attributes new
 

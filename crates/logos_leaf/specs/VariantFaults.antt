@@ -4,7 +4,7 @@ use Rattle.std.specs.Fmt.{decimal}
 use Rattle.logos_lexeme.specs.declared.lexeme.Span.{Span}
 use Rattle.logos_token.specs.declared.error.fault_code.FaultCode.TheVariants.{VariantFields, NamedFields, ErrorVariant, TokenForm, RegexForm}
 use Rattle.logos_token.specs.Faults.{Fault}
-use Rattle.logos_attribute.specs.Told.{fault, only}
+use Rattle.logos_attribute.specs.Reports.{fault, only}
 
 abbrev pub fields_text : ℕ → List ℕ
 fields_text count = codes "Logos currently only supports variants with one field, found " ++ decimal count

@@ -13,10 +13,10 @@ use Rattle.logos_item.specs.AttributeValues.{AttributeValue, SplitAttribute, att
 use Rattle.logos_item.specs.EnumValues.{FieldValue, FieldsValue, no_fields, in_parenthesis, in_braces, VariantValue}
 use Rattle.logos_item.specs.Values.{ident_slice}
 use Rattle.logos_pattern.specs.Leaf.{KindValue, plain, holding, skipped}
-use Rattle.logos_attribute.specs.Told.{Tells, Lists}
+use Rattle.logos_attribute.specs.Reports.{IsReport, AddsFault}
 use Rattle.logos_definition.specs.Definitions.{DefinitionView}
 use Rattle.logos_definition.specs.Metas.{Meta, meta_of}
-use Rattle.logos_definition.specs.Attributes.{meta_told}
+use Rattle.logos_definition.specs.Attributes.{meta_report}
 use Rattle.logos_subpattern.specs.Substitution.{Stored}
 use Rattle.logos_leaf.specs.Leaves.{LeafView, IsTokenLeaf, IsRegexLeaf}
 use Rattle.logos_leaf.specs.VariantFaults.{variant_fields, count_faults, named_fields, error_variant, token_form, regex_form}
@@ -29,10 +29,10 @@ pub data HoldsType (params : Params) (name : Ident) (field : FieldValue) (old ne
 -- reported, the first one's type is taken.
 pub data KindIs (params : Params) (name : Ident) (old new : List Fault) : FieldsValue → KindValue → Type 0 where
   no_field : new ≡ old → KindIs params name old new no_fields (plain name)
-  empty : {span : Span} → Lists (variant_fields 0 span) old new → KindIs params name old new (in_parenthesis span []) skipped
+  empty : {span : Span} → AddsFault (variant_fields 0 span) old new → KindIs params name old new (in_parenthesis span []) skipped
   with_first : {span : Span} {field : FieldValue} {others : List FieldValue} {kind : KindValue} {mid : List Fault} →
       mid ≡ old ++ count_faults (length (field ∷ others)) span → HoldsType params name field mid new kind → KindIs params name old new (in_parenthesis span (field ∷ others)) kind
-  with_names : {span : Span} {fields : List FieldValue} → Lists (named_fields span) old new → KindIs params name old new (in_braces span fields) skipped
+  with_names : {span : Span} {fields : List FieldValue} → AddsFault (named_fields span) old new → KindIs params name old new (in_braces span fields) skipped
 
 -- The attribute has this name.
 abbrev pub is_named : Option Meta → List ℕ → Bool
@@ -41,19 +41,19 @@ is_named (Some meta) text = bytes_eq meta.name.text text
 
 -- The leaf of a `token` attribute, if it has one. One without a definition is reported at the attribute, after the faults of the definition.
 pub data TokenGives (kind : KindValue) (attribute : AttributeValue) (old new : List Fault) : Option LeafView → Type 0 where
-  no_token : {mid : List Fault} → Tells (meta_told (meta_of attribute)) None old mid → Lists (token_form attribute.span) mid new → TokenGives kind attribute old new None
-  a_token : {mid : List Fault} {definition : DefinitionView} {leaf : Option LeafView} → Tells (meta_told (meta_of attribute)) (Some definition) old mid →
+  no_token : {mid : List Fault} → IsReport (meta_report (meta_of attribute)) None old mid → AddsFault (token_form attribute.span) mid new → TokenGives kind attribute old new None
+  a_token : {mid : List Fault} {definition : DefinitionView} {leaf : Option LeafView} → IsReport (meta_report (meta_of attribute)) (Some definition) old mid →
       IsTokenLeaf definition kind leaf mid new → TokenGives kind attribute old new leaf
 
 -- The leaf of a `regex` attribute, if it has one.
 pub data RegexGives (names : List Stored) (kind : KindValue) (attribute : AttributeValue) (old new : List Fault) : Option LeafView → Type 0 where
-  no_regex : {mid : List Fault} → Tells (meta_told (meta_of attribute)) None old mid → Lists (regex_form attribute.span) mid new → RegexGives names kind attribute old new None
-  a_regex : {mid : List Fault} {definition : DefinitionView} {leaf : Option LeafView} → Tells (meta_told (meta_of attribute)) (Some definition) old mid →
+  no_regex : {mid : List Fault} → IsReport (meta_report (meta_of attribute)) None old mid → AddsFault (regex_form attribute.span) mid new → RegexGives names kind attribute old new None
+  a_regex : {mid : List Fault} {definition : DefinitionView} {leaf : Option LeafView} → IsReport (meta_report (meta_of attribute)) (Some definition) old mid →
       IsRegexLeaf definition kind names leaf mid new → RegexGives names kind attribute old new leaf
 
 -- The leaf of an attribute of a variant, if it has one, by its name. Any other attribute has none.
 pub data AttributeGives (names : List Stored) (kind : KindValue) (attribute : AttributeValue) (old new : List Fault) : Option LeafView → Type 0 where
-  on_error : is_named (meta_of attribute) (codes "error") ≡ true → Lists (error_variant attribute.span) old new → AttributeGives names kind attribute old new None
+  on_error : is_named (meta_of attribute) (codes "error") ≡ true → AddsFault (error_variant attribute.span) old new → AttributeGives names kind attribute old new None
   on_token : {leaf : Option LeafView} → is_named (meta_of attribute) (codes "token") ≡ true → TokenGives kind attribute old new leaf → AttributeGives names kind attribute old new leaf
   on_regex : {leaf : Option LeafView} → is_named (meta_of attribute) (codes "regex") ≡ true → RegexGives names kind attribute old new leaf → AttributeGives names kind attribute old new leaf
   on_other : is_named (meta_of attribute) (codes "error") ≡ false → is_named (meta_of attribute) (codes "token") ≡ false → is_named (meta_of attribute) (codes "regex") ≡ false →

@@ -1,6 +1,6 @@
 //! The faults of leaves. Each function reports one.
 ghost use Rattle.std.specs.Prelude.{OnOk};
-ghost use Rattle.logos_attribute.specs.Told.{Lists};
+ghost use Rattle.logos_attribute.specs.Reports.{AddsFault};
 ghost use Rattle.logos_leaf.specs.Leaves.{greedy_dot, priority_overflow};
 
 use logos_token::error::{Errors, FaultCode, Memory};
@@ -11,14 +11,14 @@ const GREEDY_DOT: &str =
 
 /// Reports a greedy dot.
 pub(crate) fn report_greedy_dot(span: Span, errors: &mut Errors) -> Result<(), Memory>
-    ensures { OnOk result (Lists (greedy_dot span) errors.old errors.new) }
+    ensures { OnOk result (AddsFault (greedy_dot span) errors.old errors.new) }
 {
     errors.err(FaultCode::GreedyDot, GREEDY_DOT, span)
 }
 
 /// Reports a default priority that does not fit `usize`.
 pub(crate) fn report_overflow(span: Span, errors: &mut Errors) -> Result<(), Memory>
-    ensures { OnOk result (Lists (priority_overflow span) errors.old errors.new) }
+    ensures { OnOk result (AddsFault (priority_overflow span) errors.old errors.new) }
 {
     errors.err(
         FaultCode::PriorityOverflow,

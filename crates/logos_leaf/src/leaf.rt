@@ -6,15 +6,15 @@ ghost use Rattle.logos_pattern.specs.Leaf.{KindValue};
 ghost use Rattle.logos_pattern.specs.Leaf.{pattern_tree, source_of, is_token, kind_value};
 ghost use Rattle.logos_pattern.specs.Literals.{token_of};
 ghost use Rattle.logos_attribute.specs.LiteralViews.{literal_view};
-ghost use Rattle.logos_attribute.specs.Told.{Tells};
+ghost use Rattle.logos_attribute.specs.Reports.{IsReport};
 ghost use Rattle.logos_definition.specs.DefinitionViews.{definition_view};
 ghost use Rattle.logos_subpattern.specs.PatternFaults.{IsRead};
 ghost use Rattle.logos_subpattern.specs.Subpatterns.{pattern_text};
-ghost use Rattle.logos_subpattern.specs.Substitution.{subst_told};
+ghost use Rattle.logos_subpattern.specs.Substitution.{subst_report};
 ghost use Rattle.logos_subpattern.specs.SubpatternViews.{names_of};
 ghost use Rattle.logos_leaf.specs.Leaves.{bytes_of, is_string, escaped_of, leaf_with};
 ghost use Rattle.logos_leaf.specs.Leaves.{token_priority, token_leaf, regex_priority, given_or};
-ghost use Rattle.logos_leaf.specs.Leaves.{greedy_faults, tree_told};
+ghost use Rattle.logos_leaf.specs.Leaves.{greedy_faults, tree_report};
 ghost use Rattle.logos_leaf.specs.Leaves.{IsTokenLeaf, IsRegexLeaf};
 ghost use Rattle.logos_leaf.specs.LeafViews.{leaf_view};
 ghost use Rattle.logos_leaf.specs.inside.Readings.{leaf_by, IsFoldedLeaf, IsWholeLeaf};
@@ -88,7 +88,7 @@ fn folded_pattern<'s>(
     ensures source { IfOk result (λ pattern. IfSome pattern (λ p.
         source_of p ≡ (token_of literal.now).text.now)) }
     ensures token { IfOk result (λ pattern. IfSome pattern (λ p. is_token p ≡ true)) }
-    ensures unlisted { OnErr result (errors.new ≡ errors.old) }
+    ensures unreported { OnErr result (errors.new ≡ errors.old) }
 {
     let text = escaped_of(errors.alloc(), literal)?;
     let mode = ReadingMode {
@@ -109,7 +109,7 @@ fn folded_leaf<'s>(
     ensures ok { IfOk result (λ leaf.
         IsFoldedLeaf (definition_view definition.entry) (kind_value kind.entry)
         (option_map leaf_view leaf) errors.old errors.new) }
-    ensures unlisted { OnErr result (errors.new ≡ errors.old) }
+    ensures unreported { OnErr result (errors.new ≡ errors.old) }
 {
     let read = folded_pattern(&definition.literal, errors)?;
     let Some(pattern) = read else {
@@ -147,7 +147,7 @@ pub fn token_leaf<'s>(
     ensures ok { IfOk result (λ leaf.
         IsTokenLeaf (definition_view definition.entry) (kind_value kind.entry)
         (option_map leaf_view leaf) errors.old errors.new) }
-    ensures unlisted { OnErr result (errors.new ≡ errors.old) }
+    ensures unreported { OnErr result (errors.new ≡ errors.old) }
 {
     if definition.ignore_flags.ignore_case {
         return folded_leaf(definition, kind, errors);
@@ -199,8 +199,8 @@ fn fitted_pattern<'s>(
 ) -> Result<Option<(Pattern<'s>, usize)>, Memory>
     requires source { source_of pattern ≡ (token_of definition.now.literal).text.now }
     requires regex { is_token pattern ≡ false }
-    ensures made { IfOk result (λ fitted. (kind : KindValue) → Tells
-        (tree_told (definition_view definition.now) kind (pattern_tree pattern.entry))
+    ensures made { IfOk result (λ fitted. (kind : KindValue) → IsReport
+        (tree_report (definition_view definition.now) kind (pattern_tree pattern.entry))
         (leaf_by (definition_view definition.now) kind fitted) errors.old errors.new) }
     ensures source { IfOk result (λ fitted. IfSome fitted (λ p.
         source_of p.0 ≡ (token_of definition.now.literal).text.now)) }
@@ -251,8 +251,8 @@ fn whole_text(
     subpatterns: &Subpatterns<'_>,
     errors: &mut Errors,
 ) -> Result<Option<String>, Memory>
-    ensures { IfOk result (λ text. Tells
-        (subst_told (names_of subpatterns.now) (token_of literal.now).span
+    ensures { IfOk result (λ text. IsReport
+        (subst_report (names_of subpatterns.now) (token_of literal.now).span
         (chars (pattern_text (literal_view literal.now).held)))
         (option_map string_bytes text) errors.old errors.new) }
 {
@@ -317,7 +317,7 @@ pub fn regex_leaf<'s>(
     ensures ok { IfOk result (λ leaf.
         IsRegexLeaf (definition_view definition.entry) (kind_value kind.entry)
         (names_of subpatterns.now) (option_map leaf_view leaf) errors.old errors.new) }
-    ensures unlisted { OnErr result (errors.new ≡ errors.old) }
+    ensures unreported { OnErr result (errors.new ≡ errors.old) }
 {
     let mut found = Errors::new(errors.alloc());
     let leaf = read_leaf(definition, kind, subpatterns, &mut found)?;

@@ -7,7 +7,7 @@ ghost use Rattle.logos_item.specs.Values.{parameter_value};
 ghost use Rattle.logos_item.specs.EnumValues.{enum_value, variant_value};
 ghost use Rattle.logos_subpattern.specs.SubpatternViews.{names_of};
 ghost use Rattle.logos_definition.specs.DefinitionViews.{definition_view};
-ghost use Rattle.logos_definition.specs.Options.{nothing_said};
+ghost use Rattle.logos_definition.specs.Options.{no_options};
 ghost use Rattle.logos_definition.specs.ParserViews.{parser_view};
 ghost use Rattle.logos_leaf.specs.LeafViews.{leaf_view};
 ghost use Rattle.logos_leaf.specs.Variants.{SkipsAdd};
@@ -140,7 +140,7 @@ pub fn read_leaves<'s>(
     item: &ItemEnum<'_, 's>,
     parser: &mut Parser<'s>,
 ) -> Result<Vec<Leaf<'s>>, Memory>
-    requires options { parser_view parser.old ≡ nothing_said }
+    requires options { parser_view parser.old ≡ no_options }
     requires faults { parser.old.errors ≡ [] }
     ensures { IfOk result (λ leaves. IsSourceRead (enum_value item.now)
         (map leaf_view leaves.items) (parser_view parser.new) parser.new.errors) }

@@ -57,8 +57,8 @@ pub inside_from_byte : (bytes : List ℕ) (at : ℕ) → 0 < get_or bytes at 0 �
 inside_from_byte bytes at h = elim (cases_lt at (length bytes)) [ inl l ↦ l | inr l ↦ absurd (omega (arith, get_or_past bytes at 0 l)) ]
 
 -- a character ends behind an ASCII byte, and begins before one
-pub boundary-behind : (bytes : List ℕ) → IsUtf8 bytes → (at to : ℕ) → 0 < get_or bytes at 0 → get_or bytes at 0 < 128 → to ≡ at + 1 → IsCharBoundary bytes to
-boundary-behind bytes utf8 at to low high e = rw e (IsCharBoundary-after_ascii bytes at utf8 (inside_from_byte bytes at low) high)
+pub boundary-after : (bytes : List ℕ) → IsUtf8 bytes → (at to : ℕ) → 0 < get_or bytes at 0 → get_or bytes at 0 < 128 → to ≡ at + 1 → IsCharBoundary bytes to
+boundary-after bytes utf8 at to low high e = rw e (IsCharBoundary-after_ascii bytes at utf8 (inside_from_byte bytes at low) high)
 
 pub boundary-before : (bytes : List ℕ) (at : ℕ) → 0 < get_or bytes at 0 → get_or bytes at 0 < 128 → IsCharBoundary bytes at
 boundary-before bytes at low high = IsCharBoundary-before_ascii bytes at (inside_from_byte bytes at low) high

@@ -12,7 +12,7 @@ use Rattle.logos_lexeme.specs.LexemeEnds.{IsLineEnd, IsPair, Closes, closed, ope
 use Rattle.logos_lexeme.specs.inside.CommentReads.{IsOnward}
 use Rattle.logos_lexeme.specs.declared.lexeme.openings.Opening.{Opening}
 use Rattle.logos_lexeme.specs.declared.lexeme.openings.Opening.TheVariants.{Space, Line, Block, Word, Number, Quotes, Raw, Apostrophes, Character, Single, Nothing}
-use Rattle.logos_lexeme.proofs.CharacterLaws.{past-boundary, past-ascii, past-moves, inside_from_byte, character-end, boundary-behind, boundary-before}
+use Rattle.logos_lexeme.proofs.CharacterLaws.{past-boundary, past-ascii, past-moves, inside_from_byte, character-end, boundary-after, boundary-before}
 use Rattle.logos_lexeme.proofs.RunLaws.{Steps-keep, Steps-le, Until-one, Until-back, Until-step, Run-one, IsFirst-one}
 
 -- steps have one end
@@ -22,10 +22,10 @@ Passes-one test bytes at m n p q = p.moves ∙ sym q.moves
 
 module _ (based : Bool) (bytes : List ℕ) where
   -- a sign and a point are ASCII, and end behind one byte also where they continue an identifier
-  one_behind : (at n : ℕ) → GoesOn based bytes at n → get_or bytes at 0 < 128 → n ≡ at + 1
-  one_behind at n (letter p) h = p.moves ∙ past-ascii bytes at h
-  one_behind at n (point b e d m) h = m
-  one_behind at n (sign b e f d m) h = m
+  one_after : (at n : ℕ) → GoesOn based bytes at n → get_or bytes at 0 < 128 → n ≡ at + 1
+  one_after at n (letter p) h = p.moves ∙ past-ascii bytes at h
+  one_after at n (point b e d m) h = m
+  one_after at n (sign b e f d m) h = m
 
   sign_ascii : (at : ℕ) → (get_or bytes at 0 ≡ 43) ⊎ (get_or bytes at 0 ≡ 45) → get_or bytes at 0 < 128
   sign_ascii at (inl e) = omega arith
@@ -35,8 +35,8 @@ module _ (based : Bool) (bytes : List ℕ) where
   GoesOn-one at m n (letter p) (letter q) = p.moves ∙ sym q.moves
   GoesOn-one at m n (letter p) (point b e d w) = p.moves ∙ past-ascii bytes at (omega arith) ∙ sym w
   GoesOn-one at m n (letter p) (sign b e f d w) = p.moves ∙ past-ascii bytes at (sign_ascii at f) ∙ sym w
-  GoesOn-one at m n (point b e d w) g = w ∙ sym (one_behind at n g (omega arith))
-  GoesOn-one at m n (sign b e f d w) g = w ∙ sym (one_behind at n g (sign_ascii at f))
+  GoesOn-one at m n (point b e d w) g = w ∙ sym (one_after at n g (omega arith))
+  GoesOn-one at m n (sign b e f d w) g = w ∙ sym (one_after at n g (sign_ascii at f))
 
   pub GoesOn-moves : (at n : ℕ) → GoesOn based bytes at n → at < n
   GoesOn-moves at n (letter p) = omega (arith, p.moves, past-moves bytes at)
@@ -81,7 +81,7 @@ module _ (quote : ℕ) (bytes : List ℕ) where
   no_quote visible at to end u = let l = past_end visible at to u.steps u.stop in omega arith
 
   pub IsQuoted-one : quote ≢ 92 → (body a b : ℕ) → IsQuoted quote bytes body a → IsQuoted quote bytes body b → a ≡ b
-  IsQuoted-one other body a b p q = p.behind ∙ ap (λ n. n + 1) (Until-one (InQuotes quote bytes) InQuotes-one (λ at. get_or bytes at 0 ≡ quote) (InQuotes-apart other) p.until q.until) ∙ sym q.behind
+  IsQuoted-one other body a b p q = p.after ∙ ap (λ n. n + 1) (Until-one (InQuotes quote bytes) InQuotes-one (λ at. get_or bytes at 0 ≡ quote) (InQuotes-apart other) p.until q.until) ∙ sym q.after
 
 module _ (bytes : List ℕ) where
   pub Closes-one : (depth at a b : ℕ) → Closes bytes depth at a → Closes bytes depth at b → a ≡ b
@@ -190,7 +190,7 @@ starts_inside bytes at e = elim (cases_lt at (length bytes)) [
 
 -- what is known of the place where the name of an identifier begins
 pub record IsNameStart (bytes : List ℕ) (at name : ℕ) : Type 0 where
-  pub behind : at ≤ name
+  pub after : at ≤ name
   pub begins : name < length bytes
   pub boundary : IsUtf8 bytes → IsCharBoundary bytes at → IsCharBoundary bytes name
 
@@ -205,7 +205,7 @@ raw-start bytes at e =
     let two = and_parts (nat_eq (get_or bytes at 0) 114) (nat_eq (get_or bytes (at + 1) 0) 35) both.0 in
     let hash = eqb-true (get_or bytes (at + 1) 0) 35 two.1 in
     record {
-      behind = omega arith;
+      after = omega arith;
       begins = starts_inside bytes (at + 2) both.1;
       boundary = λ utf8 bound. let k : at + 1 + 1 ≡ at + 2 = omega arith in rw k at (IsCharBoundary-after_ascii bytes (at + 1) utf8 (inside_from_byte bytes (at + 1) (omega arith)) (omega arith));
     }
@@ -214,7 +214,7 @@ pub name_at-start : (bytes : List ℕ) (at name : ℕ) → name_at bytes at ≡ 
 unfolding name_at
 name_at-start bytes at name e = elim (name_cases _ _ (at + 2) at name e) [
   | inl (t, k) ↦ rw k (raw-start bytes at t)
-  | inr (t, k) ↦ rw k (record { behind = omega arith; begins = starts_inside bytes at t; boundary = λ utf8 bound. bound })
+  | inr (t, k) ↦ rw k (record { after = omega arith; begins = starts_inside bytes at t; boundary = λ utf8 bound. bound })
 ]
 
 -- an identifier
@@ -254,7 +254,7 @@ module _ (bytes : List ℕ) (at : ℕ) where
   IsSuffix-one a b p q = IsSuffix-one_at (name_at bytes at) a b p q
 
   letters-after : (name to : ℕ) → IsNameStart bytes at name → Letters bytes name to → at < to
-  letters-after name to start run = omega (arith, start.behind, past-moves bytes name, run-le is_continuing bytes (past bytes name) to run)
+  letters-after name to start run = omega (arith, start.after, past-moves bytes name, run-le is_continuing bytes (past bytes name) to run)
 
   letters-boundary : IsUtf8 bytes → IsCharBoundary bytes at → (name to : ℕ) → IsNameStart bytes at name → Letters bytes name to → IsCharBoundary bytes to
   letters-boundary utf8 bound name to start run = run-boundary is_continuing bytes utf8 (past bytes name) to (past-boundary bytes name utf8 (start.boundary utf8 bound) start.begins) run
@@ -290,7 +290,7 @@ module _ (bytes : List ℕ) (at : ℕ) where
 -- what opens at a place has one end
 
 IsRaw-one : (count : ℕ) (bytes : List ℕ) (body a b : ℕ) → IsRaw count bytes body a → IsRaw count bytes body b → a ≡ b
-IsRaw-one count bytes body a b p q = p.behind ∙ ap (λ n. n + 1 + count) (IsFirst-one p.first q.first) ∙ sym q.behind
+IsRaw-one count bytes body a b p q = p.after ∙ ap (λ n. n + 1 + count) (IsFirst-one p.first q.first) ∙ sym q.after
 
 quotes-one : (bytes : List ℕ) (body a b : ℕ) → IsQuoted 34 bytes body a → IsQuoted 34 bytes body b → a ≡ b
 quotes-one bytes body a b p q = IsQuoted-one 34 bytes (λ e. omega arith) body a b p q
@@ -302,7 +302,7 @@ number-one : (based : Bool) (bytes : List ℕ) (from a b : ℕ) → Run (GoesOn 
 number-one based bytes from a b p q = Run-one (GoesOn based bytes) (GoesOn-one based bytes) p q
 
 character-one : (bytes : List ℕ) (from a b : ℕ) → IsCharacter bytes from a → IsCharacter bytes from b → a ≡ b
-character-one bytes from a b p q = p.behind ∙ sym q.behind
+character-one bytes from a b p q = p.after ∙ sym q.after
 
 same_place : (n a b : ℕ) → a ≡ n → b ≡ n → a ≡ b
 same_place n a b p q = p ∙ sym q
@@ -326,7 +326,7 @@ Ends-one bytes from Nothing a b p q = absurd p
 -- and behind the place
 
 pub IsQuoted-after : (quote : ℕ) (bytes : List ℕ) (body to : ℕ) → IsQuoted quote bytes body to → body < to
-IsQuoted-after quote bytes body to p = omega (arith, p.behind, Steps-le (InQuotes quote bytes) (InQuotes-moves quote bytes) p.until.steps)
+IsQuoted-after quote bytes body to p = omega (arith, p.after, Steps-le (InQuotes quote bytes) (InQuotes-moves quote bytes) p.until.steps)
 
 pub Ends-after : (bytes : List ℕ) (from : ℕ) (opening : Opening) (to : ℕ) → Ends bytes from opening to → from < to
 Ends-after bytes from Space to p = omega (arith, past-moves bytes from, run-le is_space bytes (past bytes from) to p)
@@ -335,9 +335,9 @@ Ends-after bytes from (Block kind) to p = omega (arith, Closes-le bytes 1 (from 
 Ends-after bytes from Word to p = IsName-after bytes from to p
 Ends-after bytes from Number to p = omega (arith, past-moves bytes from, Steps-le (GoesOn (has_base bytes from) bytes) (GoesOn-moves (has_base bytes from) bytes) p.steps)
 Ends-after bytes from (Quotes content) to p = omega (arith, IsQuoted-after 34 bytes (from + prefix_of content + 1) to p)
-Ends-after bytes from (Raw content count) to p = omega (arith, p.behind, p.first.begun)
+Ends-after bytes from (Raw content count) to p = omega (arith, p.after, p.first.begun)
 Ends-after bytes from (Apostrophes content) to p = omega (arith, IsQuoted-after 39 bytes (from + prefix_of content + 1) to p)
-Ends-after bytes from Character to p = omega (arith, p.behind, past-moves bytes (from + 1))
+Ends-after bytes from Character to p = omega (arith, p.after, past-moves bytes (from + 1))
 Ends-after bytes from (Single kind) to p = omega (arith, past-moves bytes from)
 Ends-after bytes from Nothing to p = absurd p
 
@@ -355,28 +355,28 @@ module _ (bytes : List ℕ) (utf8 : IsUtf8 bytes) where
 
   pub step-boundary : (based : Bool) (at next : ℕ) → IsCharBoundary bytes at → GoesOn based bytes at next → IsCharBoundary bytes next
   step-boundary based at next bound (letter p) = rw p.moves (past-boundary bytes at utf8 bound p.inside)
-  step-boundary based at next bound (point b e d w) = boundary-behind bytes utf8 at next (omega arith) (omega arith) w
-  step-boundary based at next bound (sign b e (inl f) d w) = boundary-behind bytes utf8 at next (omega arith) (omega arith) w
-  step-boundary based at next bound (sign b e (inr f) d w) = boundary-behind bytes utf8 at next (omega arith) (omega arith) w
+  step-boundary based at next bound (point b e d w) = boundary-after bytes utf8 at next (omega arith) (omega arith) w
+  step-boundary based at next bound (sign b e (inl f) d w) = boundary-after bytes utf8 at next (omega arith) (omega arith) w
+  step-boundary based at next bound (sign b e (inr f) d w) = boundary-after bytes utf8 at next (omega arith) (omega arith) w
 
   quoted-boundary : (quote body to : ℕ) → 0 < quote → quote < 128 → IsQuoted quote bytes body to → IsCharBoundary bytes to
-  quoted-boundary quote body to low high p = let e = p.until.stop in boundary-behind bytes utf8 p.quote_at to (omega arith) (omega arith) p.behind
+  quoted-boundary quote body to low high p = let e = p.until.stop in boundary-after bytes utf8 p.quote_at to (omega arith) (omega arith) p.after
 
   raw-boundary : (count body to : ℕ) → IsRaw count bytes body to → IsCharBoundary bytes to
   raw-boundary count body to p = elim (cases_lt 0 count) [
-    | inl l ↦ let e = p.first.holds.hashes (count - 1) (omega arith) in boundary-behind bytes utf8 (p.quote_at + 1 + (count - 1)) to (omega arith) (omega arith) (omega (arith, p.behind))
-    | inr l ↦ let e = p.first.holds.quote in boundary-behind bytes utf8 p.quote_at to (omega arith) (omega arith) (omega (arith, p.behind))
+    | inl l ↦ let e = p.first.holds.hashes (count - 1) (omega arith) in boundary-after bytes utf8 (p.quote_at + 1 + (count - 1)) to (omega arith) (omega arith) (omega (arith, p.after))
+    | inr l ↦ let e = p.first.holds.quote in boundary-after bytes utf8 p.quote_at to (omega arith) (omega arith) (omega (arith, p.after))
   ]
 
   pub Ends-boundary : (from : ℕ) → from < length bytes → IsCharBoundary bytes from → (opening : Opening) (to : ℕ) → Ends bytes from opening to → IsCharBoundary bytes to
   Ends-boundary from within bound Space to p = run-boundary is_space bytes utf8 (past bytes from) to (past-boundary bytes from utf8 bound within) p
   Ends-boundary from within bound (Line kind) to p = line-boundary to p.holds
-  Ends-boundary from within bound (Block kind) to p = let e = Closes-slash bytes 1 (from + 2) to p (omega arith) in boundary-behind bytes utf8 (to - 1) to (omega arith) (omega arith) (omega (arith, Closes-le bytes 1 (from + 2) to p))
+  Ends-boundary from within bound (Block kind) to p = let e = Closes-slash bytes 1 (from + 2) to p (omega arith) in boundary-after bytes utf8 (to - 1) to (omega arith) (omega arith) (omega (arith, Closes-le bytes 1 (from + 2) to p))
   Ends-boundary from within bound Word to p = IsName-boundary bytes from utf8 bound to p
   Ends-boundary from within bound Number to p = Steps-keep (GoesOn (has_base bytes from) bytes) (IsCharBoundary bytes) (step-boundary (has_base bytes from)) p.steps (past-boundary bytes from utf8 bound within)
   Ends-boundary from within bound (Quotes content) to p = quoted-boundary 34 (from + prefix_of content + 1) to (omega arith) (omega arith) p
   Ends-boundary from within bound (Raw content count) to p = raw-boundary count (from + prefix_of content + 1 + count + 1) to p
   Ends-boundary from within bound (Apostrophes content) to p = quoted-boundary 39 (from + prefix_of content + 1) to (omega arith) (omega arith) p
-  Ends-boundary from within bound Character to p = let e = p.quote in boundary-behind bytes utf8 (past bytes (from + 1)) to (omega arith) (omega arith) p.behind
+  Ends-boundary from within bound Character to p = let e = p.quote in boundary-after bytes utf8 (past bytes (from + 1)) to (omega arith) (omega arith) p.after
   Ends-boundary from within bound (Single kind) to p = rw p (past-boundary bytes from utf8 bound within)
   Ends-boundary from within bound Nothing to p = absurd p

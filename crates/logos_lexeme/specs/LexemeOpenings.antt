@@ -1,4 +1,4 @@
--- What opens at a place of a source text.
+-- What opens at a byte offset of a source text.
 use Rattle.std.specs.Prelude.{ℕ, ◌+◌, ◌-◌, ◌==◌, ◌&&◌, ◌||◌, Bool, not, nat_lt, nat_le, List, drop, slice_index, Option, Some, None, is_some, unwrap_or, option_map, if◌then◌else◌}
 use Rattle.std.specs.Char.{is_ascii_digit}
 use Rattle.std.specs.List.{prefix_len}

@@ -1,7 +1,8 @@
-//! Lexemes: what stands at a place of a source text, and how far it reaches.
+//! Cuts a source text into lexemes: finds the kind and the end of the lexeme or gap at a byte
+//! offset.
 //!
-//! A literal is read wherever one opens, else a comment, else what the character at the place can
-//! begin. Each reader walks forward over what it reads, and reads no byte more than a few times.
+//! A literal is read wherever one opens, else a comment, else whatever the character there can
+//! begin. Each reader walks forward over what it reads and looks at each byte at most a few times.
 
 ghost use Rattle.std.specs.Prelude.{◌<◌, length, IfOk, IfErr};
 ghost use Rattle.std.specs.Str.{IsCharBoundary};
@@ -17,25 +18,25 @@ use characters::past;
 use ends::{end_of, suffix_end};
 use openings::{Opening, kind_of, opening_at};
 
-/// The bytes of the source from `from` up to `to`, which it leaves out.
+/// A range of bytes of the source, from `from` up to but not including `to`.
 #[derive(Clone, Copy, Debug, PartialEq, Eq)]
 pub struct Span {
     /// The byte offset of the first byte.
     pub from: usize,
-    /// The byte offset behind the last byte.
+    /// The byte offset after the last byte.
     pub to: usize,
 }
 
-/// Whether another punctuation follows directly.
+/// Whether more punctuation follows directly.
 #[derive(Clone, Copy, Debug, PartialEq, Eq)]
 pub enum Spacing {
     /// No other punctuation follows directly.
     Alone,
-    /// Another one follows directly, or the name of a lifetime does.
+    /// Other punctuation, or the name of a lifetime, follows directly.
     Joint,
 }
 
-/// What encloses a group.
+/// The delimiters that enclose a group.
 #[derive(Clone, Copy, Debug, PartialEq, Eq)]
 pub enum Delimiter {
     /// `(` and `)`.
@@ -46,16 +47,17 @@ pub enum Delimiter {
     Brace,
 }
 
-/// What stands at a place of a source text.
+/// The kinds of lexemes and gaps.
 #[derive(Clone, Copy, Debug, PartialEq, Eq)]
 pub enum Kind {
-    /// White space, a comment that documents nothing, or the mark U+FEFF that begins the text.
+    /// White space, a comment that is not documentation, or the mark U+FEFF at the start of the
+    /// text.
     Gap,
     /// An identifier, with its `r#` if it has one.
     Identifier,
     /// A literal, with its suffix.
     Literal,
-    /// A documentation comment, whole; a line comment without the line's end.
+    /// A whole documentation comment; a line comment does not include the end of its line.
     Doc,
     /// A character of punctuation, or the `'` of a lifetime.
     Punctuation(Spacing),
@@ -65,23 +67,29 @@ pub enum Kind {
     Closing(Delimiter),
 }
 
-/// Why a source text cannot be cut into lexemes.
+/// The reasons why a source text cannot be cut into lexemes.
 #[derive(Clone, Copy, Debug, PartialEq, Eq)]
 pub enum LexicalKind {
     /// A character that begins no lexeme.
     BadCharacter,
-    /// A literal that breaks its rules; the span leaves its suffix out.
+    /// A literal that breaks its rules. The span does not include its suffix.
     BadLiteral,
-    /// A literal or a comment without an end; the span reaches to the text's end.
+    /// A literal or a comment without an end. The span reaches to the end of the text.
     Unterminated,
     /// A delimiter without its partner.
     Unbalanced,
 }
 
-/// What stands at `from`, and the byte offset where it ends.
+/// Returns the kind of the lexeme or gap at the byte offset `from`, and the byte offset after it.
 ///
-/// White space is taken as far as it reaches, a comment is taken alone. Delimiters are not matched
-/// here, so `Unbalanced` is never answered.
+/// A run of white space is one gap; each comment is a gap of its own.
+///
+/// # Errors
+///
+/// `BadCharacter` with the span of the character if no lexeme begins with it, `Unterminated` with
+/// the span up to the end of the source if a literal or a comment does not end, and `BadLiteral`
+/// with the span of the literal without its suffix if it breaks its rules. Delimiters are not
+/// matched here, so `Unbalanced` is never returned.
 pub fn lexeme_at(source: &str, from: usize) -> Result<(Kind, usize), (LexicalKind, Span)>
     requires inside { from < length source.now }
     requires boundary { IsCharBoundary source.now from }

@@ -1,12 +1,14 @@
 -- Steps of a lexer.
-use Rattle.std.proofs.Common.{◌≡◌, ℕ, Bool, true, false, if◌then◌else◌, List, [], ◌∷◌, ◌++◌, Option, Some, None, slice_range, subst}
-use Rattle.logos_automaton.specs.Munch.{Use, ended, matched, failed}
+use Rattle.std.proofs.Common.{◌≡◌, ◌∙◌, ℕ, ◌<◌, ◌≤◌, Bool, true, false, if◌then◌else◌, List, [], ◌∷◌, ◌++◌, length, Option, Some, None, slice_get, slice_range, refl, sym, ap, subst, arith}
+use Rattle.logos_automaton.specs.Munch.{Use, Found, ended, matched, failed}
 use Rattle.logos_code.specs.declared.action.Action.{Action}
 use Rattle.logos_code.specs.declared.action.Action.TheVariants.{Emit, Skip, Error}
 use Rattle.logos_code.specs.Items.{Callback, Item, token, error, items_of, skips, MayAnswer, over, match, fault, passes, gives, fails}
 use Rattle.logos_code.specs.Code.{CodeValue}
 use Rattle.logos_code.specs.Runs.{Runs, RunsOn, Tries, CodeFinds}
-use Rattle.logos_machine.specs.LexerValue.{LexerValue, HasSpan}
+use Rattle.logos_machine.specs.inside.Looks.{Tried}
+use Rattle.logos_machine.specs.inside.Stands.{IsMatch}
+use Rattle.logos_machine.specs.LexerValue.{LexerValue, HasSpan, Gives, Ends, Keeps}
 
 module _ {C : Type 0} (lexer : LexerValue C) (from to : ℕ) (starts : lexer.from ≡ from) (ends : lexer.to ≡ to) where
   token_span : (leaf : ℕ) (slice : List ℕ) (item : Item) → token leaf from to slice ∷ [] ≡ item ∷ [] → HasSpan lexer item
@@ -50,6 +52,19 @@ module _ (code : CodeValue) (callback : Callback) (bytes : List ℕ) (from : ℕ
   pub over_runs : (n : ℕ) → Tries code bytes from ended n → Runs code callback bytes from []
   over_runs n tries = let finds : CodeFinds code bytes from ended = (n, tries) in over from finds
 
+  -- a leaf without a callback emits its matches
+  pub may_emit : (leaf : ℕ) (slice : List ℕ) (b : Bool) → slice_get code.leaves leaf ≡ Some (record { skips = b; asks = false }) → MayAnswer code.leaves callback bytes leaf slice Emit
+  may_emit leaf slice b is = rw is refl
+
+  -- those of a skip give no item
+  pub skipped_items : (to leaf : ℕ) → slice_get code.leaves leaf ≡ Some (record { skips = true; asks = false }) → items_of code.leaves callback bytes Emit leaf from to ≡ []
+  skipped_items to leaf is = rw is refl
+
+  -- and the others a token
+  pub token_items : (to leaf : ℕ) → slice_get code.leaves leaf ≡ Some (record { skips = false; asks = false }) →
+      items_of code.leaves callback bytes Emit leaf from to ≡ token leaf from to (slice_range bytes from to) ∷ []
+  token_items to leaf is = rw is refl
+
   -- the next item is that of a match
   pub match_next : (to leaf n : ℕ) (answer : Action) (item : Item) → Tries code bytes from (matched leaf to) n → MayAnswer code.leaves callback bytes leaf (slice_range bytes from to) answer →
       items_of code.leaves callback bytes answer leaf from to ≡ item ∷ [] → RunsOn code callback bytes from item to
@@ -64,3 +79,89 @@ module _ (code : CodeValue) (callback : Callback) (bytes : List ℕ) (from : ℕ
   -- or it is an error
   pub fault_next : (to n : ℕ) → Tries code bytes from (failed to) n → RunsOn code callback bytes from (error None from to (slice_range bytes from to)) to
   fault_next to n tries = let finds : CodeFinds code bytes from (failed to) = (n, tries) in fails from to finds
+
+-- the lexer after an item
+abbrev pub moved : {C : Type 0} → LexerValue C → (from to steps : ℕ) → LexerValue C
+moved lexer from to steps = record { code = lexer.code; input = lexer.input; callback = lexer.callback; from = from; to = to; steps = steps }
+
+module _ {C : Type 0} (callback : Callback) (old : LexerValue C) where
+  -- what goes on from here, after skipped matches, goes on after the last item
+  pub record GoesOn (from : ℕ) : Type 0 where
+    pub after : old.to ≤ from
+    pub within : from ≤ length old.input
+    pub goes_on : (items : List Item) → Runs old.code callback old.input from items → Runs old.code callback old.input old.to items
+    pub passed : (item : Item) (end : ℕ) → RunsOn old.code callback old.input from item end → RunsOn old.code callback old.input old.to item end
+
+  -- past a match that gives no item
+  pub goes_past : (from to leaf steps : ℕ) (answer : Action) → GoesOn from → Tried old.code old.input from (matched leaf to) steps →
+      MayAnswer old.code.leaves callback old.input leaf (slice_range old.input from to) answer → items_of old.code.leaves callback old.input answer leaf from to ≡ [] → GoesOn to
+  goes_past from to leaf steps answer i t may is =
+      let after = i.after in
+      let fits : IsMatch old.code old.input from leaf to = t.within in
+      record {
+        after = omega (arith, after, fits.1);
+        within = fits.2;
+        goes_on = λ items r. i.goes_on items (match_runs old.code callback old.input from to leaf steps answer [] items t.tries may is r);
+        passed = λ item end r. i.passed item end (pass_next old.code callback old.input from to leaf steps answer item end t.tries may is r);
+      }
+
+  -- past one of a leaf that skips without a callback
+  pub goes_past_skip : (from to leaf steps : ℕ) → GoesOn from → Tried old.code old.input from (matched leaf to) steps →
+      slice_get old.code.leaves leaf ≡ Some (record { skips = true; asks = false }) → GoesOn to
+  goes_past_skip from to leaf steps i t skips =
+      goes_past from to leaf steps Emit i t (may_emit old.code callback old.input from leaf (slice_range old.input from to) true skips) (skipped_items old.code callback old.input from to leaf skips)
+
+  module _ (from to steps : ℕ) (new : LexerValue C) (is_new : new ≡ moved old from to steps) where
+    pub keeps : (found : Found) → Tried old.code old.input from found steps → Keeps old new
+    keeps found t =
+        let made : Keeps old (moved old from to steps) = record { code = refl; input = refl; callback = refl; steps = (found, t.tries); few = t.few } in
+        subst (λ (l : LexerValue C). Keeps old l) (sym is_new) made
+
+    -- the item of a match
+    pub gives_item : (leaf : ℕ) (answer : Action) (item : Item) → GoesOn from → Tried old.code old.input from (matched leaf to) steps →
+        MayAnswer old.code.leaves callback old.input leaf (slice_range old.input from to) answer → items_of old.code.leaves callback old.input answer leaf from to ≡ item ∷ [] →
+        Gives callback old new item
+    gives_item leaf answer item i t may is =
+        let fits : IsMatch old.code old.input from leaf to = t.within in
+        let made : Gives callback old (moved old from to steps) item = record {
+          span = item_span (moved old from to steps) from to refl refl old.code.leaves callback old.input answer leaf item is;
+          behind = i.after;
+          nonempty = fits.1;
+          within = fits.2;
+          is = i.passed item to (match_next old.code callback old.input from to leaf steps answer item t.tries may is);
+          next = λ rest r. i.goes_on (item ∷ rest) (match_runs old.code callback old.input from to leaf steps answer (item ∷ []) rest t.tries may is r);
+        } in
+        subst (λ (l : LexerValue C). Gives callback old l item) (sym is_new) made
+
+    -- that of a leaf without a callback
+    pub gives_token : (leaf : ℕ) (item : Item) → GoesOn from → Tried old.code old.input from (matched leaf to) steps →
+        slice_get old.code.leaves leaf ≡ Some (record { skips = false; asks = false }) → item ≡ token leaf from to (slice_range old.input from to) → Gives callback old new item
+    gives_token leaf item i t emits is =
+        gives_item leaf Emit item i t (may_emit old.code callback old.input from leaf (slice_range old.input from to) false emits)
+        (token_items old.code callback old.input from to leaf emits ∙ ap (λ x. x ∷ []) (sym is))
+
+    -- an error
+    pub gives_error : (item : Item) → GoesOn from → Tried old.code old.input from (failed to) steps → item ≡ error None from to (slice_range old.input from to) → Gives callback old new item
+    gives_error item i t is =
+        let span : (from < to) × (to ≤ length old.input) = t.within in
+        let made : Gives callback old (moved old from to steps) (error None from to (slice_range old.input from to)) = record {
+          span = (refl {a = from}, refl {a = to});
+          behind = i.after;
+          nonempty = span.0;
+          within = span.1;
+          is = i.passed _ _ (fault_next old.code callback old.input from to steps t.tries);
+          next = λ rest r. i.goes_on _ (fault_runs old.code callback old.input from to steps rest t.tries r);
+        } in
+        subst (λ (l : LexerValue C). Gives callback old l item) (sym is_new) (subst (λ (x : Item). Gives callback old (moved old from to steps) x) (sym is) made)
+
+  -- the end of the input
+  pub ends_run : (from steps : ℕ) (new : LexerValue C) → new ≡ moved old from from steps → GoesOn from → Tried old.code old.input from ended steps → Ends callback old new
+  ends_run from steps new is_new i t =
+      let within = i.within in
+      let past : length old.input ≤ from = t.within in
+      let made : Ends callback old (moved old from from steps) = record {
+        from = omega (arith, within, past);
+        to = omega (arith, within, past);
+        over = i.goes_on [] (over_runs old.code callback old.input from steps t.tries);
+      } in
+      subst (λ (l : LexerValue C). Ends callback old l) (sym is_new) made

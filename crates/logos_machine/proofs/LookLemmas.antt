@@ -1,20 +1,36 @@
 -- What a state does, by the step that is seen.
-use Rattle.std.proofs.Common.{◌≡◌, ◌≢◌, ℕ, ◌+◌, ◌<◌, ◌≤◌, Bool, true, false, ◌&&◌, ◌==◌, List, length, drop, Option, Some, None, slice_get, refl, arith}
+use Rattle.std.proofs.Common.{◌≡◌, ◌≢◌, ℕ, ◌+◌, ◌<◌, ◌≤◌, Bool, true, false, ◌&&◌, ◌==◌, List, length, drop, get_or, Option, Some, None, slice_get, refl, sym, ap, ◌∙◌, arith}
 use Rattle.std.proofs.lemmas.Bool.{ne_eqb}
+use Rattle.std.proofs.lemmas.List.Folds.{length-prefix_len}
+use Rattle.std.proofs.lemmas.List.Sums.{prefix_len-drop_yes, prefix_len-drop_no}
 use Rattle.std.proofs.lemmas.Option.{slice_get-get_or}
+use Rattle.logos_code.specs.Bytes.{passes_test}
 use Rattle.logos_code.specs.Code.{CodeValue}
 use Rattle.logos_code.specs.CodeView.{state_at, no_state}
 use Rattle.logos_code.specs.Headline.{IsSound}
-use Rattle.logos_code.specs.Rows.{closing, Says, SaysAtEnd}
-use Rattle.logos_code.specs.Runs.{acts, looped, marked, turn, Does}
+use Rattle.logos_code.specs.Rows.{closing, Says, SaysAtEnd, IsEntry, IsStepOf}
+use Rattle.logos_code.specs.Runs.{acts, looped, stays, marked, turn, Does}
 use Rattle.logos_machine.specs.inside.Looks.{Sees}
 use Rattle.logos_code.specs.declared.code.rows.Step.{Step}
-use Rattle.logos_code.specs.declared.code.rows.Step.TheVariants.{Leads, Closes, Halts, Unsaid}
+use Rattle.logos_code.specs.declared.code.rows.Step.TheVariants.{Leads, Stays, Closes, Halts, Unsaid}
 use Rattle.logos_machine.proofs.StandLemmas.{unmarked_root}
 
 and_false : (b : Bool) → (b && false) ≡ false
 and_false true = refl
 and_false false = refl
+
+-- a byte that does not stay ends the fast loop at once
+pub loops_no : (code : CodeValue) (loop : Option ℕ) (bytes : List ℕ) (at : ℕ) → at < length bytes → stays code loop (get_or bytes at 0) ≡ false → looped code loop (drop at bytes) ≡ 0
+loops_no code None bytes at h out = refl
+loops_no code (Some k) bytes at h out =
+    length-prefix_len (passes_test code.bit_tables k) (drop at bytes) ∙ prefix_len-drop_no (passes_test code.bit_tables k) bytes at 0 h out
+
+-- one that stays is the first of its bytes
+pub loops_on : (code : CodeValue) (test : ℕ) (bytes : List ℕ) (at : ℕ) → at < length bytes → stays code (Some test) (get_or bytes at 0) ≡ true →
+    looped code (Some test) (drop at bytes) ≡ 1 + looped code (Some test) (drop (at + 1) bytes)
+loops_on code test bytes at h on =
+    let p = passes_test code.bit_tables test in
+    length-prefix_len p (drop at bytes) ∙ prefix_len-drop_yes p bytes at 0 h on ∙ ap (λ n. 1 + n) (sym (length-prefix_len p (drop (at + 1) bytes)))
 
 module _ (code : CodeValue) (bytes : List ℕ) (start : ℕ) (s : ℕ) (there : s < length code.states) (offset stop : ℕ) where
   got : slice_get code.states s ≡ Some (state_at code s)
@@ -35,25 +51,30 @@ module _ (code : CodeValue) (bytes : List ℕ) (start : ℕ) (s : ℕ) (there : 
       turns None e = rw (e, none, stale) refl
       turns (Some b) e = rw (e, none) refl
 
-  -- what is seen at a byte
+  -- what is seen at a byte where the fast loop ends
   pub sees_byte : (b : ℕ) (step : Step) → start ≤ offset → stop ≡ offset + looped code (state_at code s).fast_loop (drop offset bytes) → slice_get bytes stop ≡ Some b →
       Says code (state_at code s) b step → Sees code bytes start s offset stop step
-  sees_byte b (Leads next) h is at says = λ context. (marked (state_at code s).mark stop context, (state_at code s, got, rw (← is, at, says) refl))
-  sees_byte b (Closes leaf) h is at says = λ context. (
-    says.0,
-    marked (state_at code s).mark stop context,
-    (state_at code s, got, rw (← is, at, says.1) refl),
-    closes says.0 leaf.0 (stop + 1) _ says.2 (omega (arith, h, is)),
+  sees_byte b (Leads next) h is at says = λ context. (marked (state_at code s).mark stop context, (state_at code s, got, rw (← is, at, says.1) refl))
+  sees_byte b (Stays test) h is at says = tt
+  sees_byte b (Closes leaf used) h is at says = (
+    λ context. (
+      says.1.next,
+      marked (state_at code s).mark stop context,
+      (state_at code s, got, rw (← is, at, says.1.leads) refl),
+      closes says.1.next leaf.0 (stop + 1) _ says.1.closes (omega (arith, h, is)),
+    ),
+    says.2,
   )
-  sees_byte b (Halts leaf) h is at says = λ context. (state_at code s, got, rw (← is, at, says.0, says.1) refl)
+  sees_byte b (Halts leaf used) h is at says = (λ context. (state_at code s, got, rw (← is, at, says.1, says.2) refl), says.3)
   sees_byte b Unsaid h is at says = tt
 
   -- what is seen at the end of the input
   pub sees_end : IsSound code → (step : Step) → stop ≡ offset + looped code (state_at code s).fast_loop (drop offset bytes) → slice_get bytes stop ≡ None →
-      SaysAtEnd (state_at code s) step → Sees code bytes start s offset stop step
+      SaysAtEnd code (state_at code s) step → Sees code bytes start s offset stop step
   sees_end sound (Leads next) is at says = absurd says
-  sees_end sound (Closes leaf) is at says = absurd says
-  sees_end sound (Halts leaf) is at says = λ context. (state_at code s, got, rw (← is, at, stale, says.0, says.1) refl)
+  sees_end sound (Stays test) is at says = absurd says
+  sees_end sound (Closes leaf used) is at says = absurd says
+  sees_end sound (Halts leaf used) is at says = (λ context. (state_at code s, got, rw (← is, at, stale, says.0, says.1) refl), says.2)
     where
       other : s ≢ code.root
       other e = unmarked_root code sound bytes s (state_at code s) e got says.1
@@ -61,3 +82,20 @@ module _ (code : CodeValue) (bytes : List ℕ) (start : ℕ) (s : ℕ) (there : 
       stale : (s == code.root && (stop == start)) ≡ false
       stale = let e : (s == code.root) ≡ false = ne_eqb s code.root other in rw e refl
   sees_end sound Unsaid is at says = tt
+
+-- what the entry of a byte says, where the byte does not stay: no bytes are looped over
+pub sees_entry : (code : CodeValue) (bytes : List ℕ) (start s : ℕ) → s < length code.states → (at entry : ℕ) → start ≤ at → at < length bytes →
+    IsEntry code (state_at code s) (get_or bytes at 0) entry → (step : Step) → IsStepOf entry step → Sees code bytes start s at at step
+sees_entry code bytes start s there at entry h within is step f = go step (is step f)
+  where
+    by_step : (step : Step) → stays code (state_at code s).fast_loop (get_or bytes at 0) ≡ false → Says code (state_at code s) (get_or bytes at 0) step → Sees code bytes start s at at step
+    by_step step out said =
+        let none = loops_no code (state_at code s).fast_loop bytes at within out in
+        sees_byte code bytes start s there at at (get_or bytes at 0) step h (omega (arith, none)) (slice_get-get_or bytes at 0 within) said
+
+    go : (step : Step) → Says code (state_at code s) (get_or bytes at 0) step → Sees code bytes start s at at step
+    go (Leads next) said = by_step (Leads next) said.0 said
+    go (Stays test) said = tt
+    go (Closes leaf used) said = by_step (Closes leaf used) said.0 said
+    go (Halts leaf used) said = by_step (Halts leaf used) said.0 said
+    go Unsaid said = tt

@@ -1,95 +1,121 @@
--- Where a fast loop stops, by the bytes of a block, and by a row.
-use Rattle.std.proofs.Common.{◌≡◌, ℕ, ◌+◌, ◌<◌, ◌≤◌, Bool, false, ◌==◌, cond, List, length, take, drop, get_or, Option, Some, None, option_map, slice_get, refl, sym, ap, subst, ◌∙◌, arith, length-drop, length-take, drop-drop}
+-- Where a fast loop stops, by blocks of bytes.
+use Rattle.std.proofs.Common.{◌≡◌, ℕ, ◌+◌, ◌-◌, ◌*◌, ◌^◌, ◌<◌, ◌≤◌, Bool, true, false, not, ◌==◌, cond, List, [], ◌∷◌, length, map, take, drop, get_or, Some, refl, sym, ap, ◌∙◌, arith, length-drop, length-take, drop-drop}
 use Rattle.std.proofs.lemmas.Bool.{ne_eqb, eq-eqb}
-use Rattle.std.proofs.lemmas.List.{take-append-drop, get_or-drop, get_or-take}
-use Rattle.std.proofs.lemmas.List.Elements.{All-drop}
+use Rattle.std.proofs.lemmas.List.{take-append-drop, take_all}
 use Rattle.std.proofs.lemmas.List.Folds.{prefix_len-append}
-use Rattle.std.proofs.lemmas.Option.{slice_get_past, slice_get-get_or}
-use Rattle.std.specs.Prelude.{slice_index}
+use Rattle.std.proofs.lemmas.List.Folds.{length-prefix_len}
+use Rattle.std.proofs.lemmas.List.Sums.{prefix_len-le-length}
+use Rattle.std.proofs.lemmas.Simd.{leading_from_mask_l, trailing_mask_l}
+use Rattle.std.specs.Int.Count.{count_trailing_zeros}
 use Rattle.std.specs.List.{prefix_len}
-use Rattle.logos_hir.specs.Text.{IsBytes}
-use Rattle.logos_code.specs.Code.{CodeValue, CodeState}
-use Rattle.logos_code.specs.declared.code.rows.Step.{Step}
-use Rattle.logos_code.specs.Runs.{stays, looped, target}
-use Rattle.logos_code.specs.Rows.{stays_by, StopsIn, IsRow, IsStepOf, Says}
-use Rattle.logos_code.proofs.RowLemmas.{looped_by_row, loop_stops}
-use Rattle.logos_machine.proofs.StandLemmas.{looped-fits}
+use lib.Lanes.{mask_l}
+use Rattle.logos_code.specs.Bytes.{passes_test}
+use Rattle.logos_code.specs.Code.{CodeValue}
+use Rattle.logos_code.specs.Masks.{mask_bit}
+use Rattle.logos_code.specs.Runs.{looped}
+use Rattle.logos_machine.specs.inside.Looks.{StopsAt}
 
-module _ (p : ℕ → Bool) (bytes : List ℕ) (at n : ℕ) (before : prefix_len p bytes ≡ at + prefix_len p (drop at bytes)) where
-  split : prefix_len p (drop at bytes) ≡
-      cond (prefix_len p (take n (drop at bytes)) == length (take n (drop at bytes))) (length (take n (drop at bytes)) + prefix_len p (drop (at + n) bytes)) (prefix_len p (take n (drop at bytes)))
-  split =
-      ap (prefix_len p) (sym (take-append-drop n (drop at bytes)))
-      ∙ prefix_len-append p (take n (drop at bytes)) (drop n (drop at bytes))
-      ∙ ap (λ l. cond (prefix_len p (take n (drop at bytes)) == length (take n (drop at bytes))) (length (take n (drop at bytes)) + prefix_len p l) (prefix_len p (take n (drop at bytes)))) (drop-drop n at bytes)
+not_not : (b : Bool) → not (not b) ≡ b
+not_not true = refl
+not_not false = refl
 
-  -- all bytes of the block stay
-  pub block_stays : at + n ≤ length bytes → prefix_len p (take n (drop at bytes)) ≡ length (take n (drop at bytes)) → prefix_len p bytes ≡ at + n + prefix_len p (drop (at + n) bytes)
-  block_stays fits e =
-      let s = split in
-      let l : length (take n (drop at bytes)) ≡ n = omega (arith, length-take n (drop at bytes), length-drop at bytes) in
-      let f = rw (eq-eqb (prefix_len p (take n (drop at bytes))) (length (take n (drop at bytes))) e) at s in
-      omega arith
+-- the bit of a byte as a digit
+digit : (passes : Bool) (k : ℕ) → mask_bit passes k ≡ 2 ^ k * cond (not passes) 1 0
+digit true k = omega arith
+digit false k = omega arith
 
-  -- one of them does not
-  pub block_stops : prefix_len p (take n (drop at bytes)) < length (take n (drop at bytes)) → prefix_len p bytes ≡ at + prefix_len p (take n (drop at bytes))
-  block_stops h =
-      let s = split in
-      let f = rw (ne_eqb (prefix_len p (take n (drop at bytes))) (length (take n (drop at bytes))) (λ e. omega arith)) at s in
-      omega arith
+digits : (a b c d e f g h : Bool) →
+    mask_bit a 0 + mask_bit b 1 + mask_bit c 2 + mask_bit d 3 + mask_bit e 4 + mask_bit f 5 + mask_bit g 6 + mask_bit h 7
+    ≡ mask_l (not a ∷ not b ∷ not c ∷ not d ∷ not e ∷ not f ∷ not g ∷ not h ∷ [])
+digits a b c d e f g h = omega (arith, digit a 0, digit b 1, digit c 2, digit d 3, digit e 4, digit f 5, digit g 6, digit h 7)
 
--- the stop in a block is the stop in all bytes
-pub block_found : (row bytes : List ℕ) (at n : ℕ) (stop : ℕ × ℕ) → prefix_len (stays_by row) bytes ≡ at + prefix_len (stays_by row) (drop at bytes) →
-    StopsIn row (take n (drop at bytes)) (Some stop) → StopsIn row bytes (Some (at + stop.0, stop.1))
-block_found row bytes at n stop before found =
-    let l = length-take n (drop at bytes) in
-    let d = length-drop at bytes in (
-      omega (arith, l, d, found.0),
-      (let e = block_stops (stays_by row) bytes at n before (rw (← found.1) found.0) in let i = found.1 in omega arith),
-      (rw (← get_or-drop at bytes stop.0 0, ← get_or-take n (drop at bytes) stop.0 0 (omega (arith, l, found.0))) found.2),
-    )
+module _ (p : ℕ → Bool) where
+  -- the bits of eight bytes
+  pub bits_of_block : (block : List ℕ) → length block ≡ 8 →
+      mask_bit (p (get_or block 0 0)) 0 + mask_bit (p (get_or block 1 0)) 1 + mask_bit (p (get_or block 2 0)) 2 + mask_bit (p (get_or block 3 0)) 3
+      + mask_bit (p (get_or block 4 0)) 4 + mask_bit (p (get_or block 5 0)) 5 + mask_bit (p (get_or block 6 0)) 6 + mask_bit (p (get_or block 7 0)) 7
+      ≡ mask_l (map (λ b. not (p b)) block)
+  bits_of_block [] long = absurd (omega (arith, long))
+  bits_of_block (a ∷ []) long = absurd (omega (arith, long))
+  bits_of_block (a ∷ b ∷ []) long = absurd (omega (arith, long))
+  bits_of_block (a ∷ b ∷ c ∷ []) long = absurd (omega (arith, long))
+  bits_of_block (a ∷ b ∷ c ∷ d ∷ []) long = absurd (omega (arith, long))
+  bits_of_block (a ∷ b ∷ c ∷ d ∷ e ∷ []) long = absurd (omega (arith, long))
+  bits_of_block (a ∷ b ∷ c ∷ d ∷ e ∷ f ∷ []) long = absurd (omega (arith, long))
+  bits_of_block (a ∷ b ∷ c ∷ d ∷ e ∷ f ∷ g ∷ []) long = absurd (omega (arith, long))
+  bits_of_block (a ∷ b ∷ c ∷ d ∷ e ∷ f ∷ g ∷ h ∷ []) long = digits (p a) (p b) (p c) (p d) (p e) (p f) (p g) (p h)
+  bits_of_block (a ∷ b ∷ c ∷ d ∷ e ∷ f ∷ g ∷ h ∷ i ∷ rest) long = absurd (omega (arith, long))
 
--- where a state's fast loop stops at a byte, and what the entry there says
-pub record EndsAt (code : CodeValue) (state : CodeState) (bytes : List ℕ) (at : ℕ) (stop : ℕ × ℕ) : Type 0 where
-  pub there : at + stop.0 < length bytes
-  pub here : at + stop.0 ≡ at + looped code state.fast_loop (drop at bytes)
-  pub leads : Some (target code state.fork (get_or bytes (at + stop.0) 0)) ≡ option_map (target code state.fork) (slice_get bytes (at + stop.0))
-  pub says : (step : Step) → IsStepOf stop.1 step → Says code state (get_or bytes (at + stop.0) 0) step
+  stops_before : (ys : List ℕ) → 0 < mask_l (map (λ b. not (p b)) ys) → prefix_len p ys < length ys
+  stops_before [] h = absurd (omega (arith, h))
+  stops_before (y ∷ ys) h = by (p y) (prefix_len p ys) (mask_l (map (λ b. not (p b)) ys)) (stops_before ys) h
+    where
+      by : (b : Bool) (n m : ℕ) → (0 < m → n < length ys) → 0 < cond (not b) 1 0 + 2 * m → cond b (1 + n) 0 < length (y ∷ ys)
+      by true n m rest h = let r = rest (omega (arith, h)) in omega (arith, r)
+      by false n m rest h = omega arith
 
--- where a state's fast loop ends, by its row
-module _ (code : CodeValue) (state : CodeState) (bytes : List ℕ) where
-  abbrev pub Ends : ℕ → ℕ → Option (Option ℕ) → Type 0
-  Ends at stop leads = (stop ≡ at + looped code state.fast_loop (drop at bytes)) × (leads ≡ option_map (target code state.fork) (slice_get bytes stop))
+  module _ (xs : List ℕ) (n : ℕ) where
+    split : prefix_len p xs ≡ cond (prefix_len p (take n xs) == length (take n xs)) (length (take n xs) + prefix_len p (drop n xs)) (prefix_len p (take n xs))
+    split = ap (prefix_len p) (sym (take-append-drop n xs)) ∙ prefix_len-append p (take n xs) (drop n xs)
 
-  none_behind : (at : ℕ) → length bytes ≤ at → None ≡ option_map (target code state.fork) (slice_get bytes at)
-  none_behind at h = rw (slice_get_past bytes at h) refl
+    -- all bytes of the block pass
+    pub block_passes : n ≤ length xs → mask_l (map (λ b. not (p b)) (take n xs)) ≡ 0 → prefix_len p xs ≡ n + prefix_len p (drop n xs)
+    block_passes fits none =
+        let all : prefix_len (λ b. not (not (p b))) (take n xs) ≡ length (take n xs) = leading_from_mask_l (λ b. not (p b)) (take n xs) none in
+        let same : prefix_len p (take n xs) ≡ length (take n xs) = sym (λ i. prefix_len (λ b. not_not (p b) i) (take n xs)) ∙ all in
+        let s = split in
+        let l = length-take n xs in
+        let f = rw (eq-eqb (prefix_len p (take n xs)) (length (take n xs)) same) at s in
+        omega (arith, f, l, fits)
 
-  pub ends_past : (at : ℕ) → length bytes ≤ at → Ends at at None
-  ends_past at h =
-      let l = looped-fits code state.fast_loop (drop at bytes) in
-      (omega (arith, l, length-drop at bytes, h), none_behind at h)
+    -- one of them does not
+    pub block_stops : n ≤ length xs → n ≤ 8 → 0 < mask_l (map (λ b. not (p b)) (take n xs)) →
+        (prefix_len p xs ≡ count_trailing_zeros 8 (mask_l (map (λ b. not (p b)) (take n xs)))) × (prefix_len p xs < n)
+    block_stops fits small some =
+        let l = length-take n xs in
+        let first : count_trailing_zeros 8 (mask_l (map (λ b. not (p b)) (take n xs))) ≡ prefix_len (λ b. not (not (p b))) (take n xs) =
+        trailing_mask_l (λ b. not (p b)) 8 (take n xs) (omega (arith, l, fits, small)) some in
+        let same : prefix_len (λ b. not (not (p b))) (take n xs) ≡ prefix_len p (take n xs) = λ i. prefix_len (λ b. not_not (p b) i) (take n xs) in
+        let before : prefix_len p (take n xs) < length (take n xs) = stops_before (take n xs) some in
+        let s = split in
+        let f = rw (ne_eqb (prefix_len p (take n xs)) (length (take n xs)) (λ e. omega (arith, e, before))) at s in
+        (f ∙ sym same ∙ sym first, omega (arith, f, before, l, fits))
 
-  module _ (row : List ℕ) (is : IsRow code state row) (are : IsBytes bytes) (at : ℕ) (within : at ≤ length bytes) where
-    loops : prefix_len (stays_by row) (drop at bytes) ≡ looped code state.fast_loop (drop at bytes)
-    loops = looped_by_row code state row (drop at bytes) is (All-drop (λ b. b < 256) at bytes are)
+-- a block of eight bytes, and its bits
+module _ (code : CodeValue) (test : ℕ) (bytes : List ℕ) (at : ℕ) (block : List ℕ) (bits : ℕ) (within : at ≤ length bytes)
+    (long : 8 ≤ length (take (length bytes - at) (drop at bytes))) (same : block ≡ take 8 (take (length bytes - at) (drop at bytes))) (sum : bits ≡ mask_l (map (λ b. not (passes_test code.bit_tables test b)) block)) where
+  abbrev p : ℕ → Bool
+  p = passes_test code.bit_tables test
 
-    pub ends_at_end : StopsIn row (drop at bytes) None → Ends at (length bytes) None
-    ends_at_end all =
-        let l = loops in
-        (omega (arith, l, all, within, length-drop at bytes), none_behind (length bytes) (omega arith))
+  rest : take (length bytes - at) (drop at bytes) ≡ drop at bytes
+  rest = take_all (length bytes - at) (drop at bytes) (omega (arith, length-drop at bytes))
 
-    pub ends_at : (stop : ℕ × ℕ) → StopsIn row (drop at bytes) (Some stop) → EndsAt code state bytes at stop
-    ends_at stop found =
-        let l = loops in
-        let there : at + stop.0 < length bytes = omega (arith, found.0, length-drop at bytes) in
-        let here : at + stop.0 ≡ at + looped code state.fast_loop (drop at bytes) = let f = found.1 in omega arith in
-        let b = get_or bytes (at + stop.0) 0 in
-        let stops : stays code state.fast_loop b ≡ false = rw (← here) at (loop_stops code state.fast_loop bytes at 0 (rw here at there)) in
-        let small : b < 256 = are (at + stop.0) 0 there in
-        let entry : stop.1 ≡ slice_index row b = rw (get_or-drop at bytes stop.0 0) at found.2 in
-        record {
-          there = there;
-          here = here;
-          leads = rw (slice_get-get_or bytes (at + stop.0) 0 there) refl;
-          says = λ step f. (is b small).says stops step (subst (λ n. IsStepOf n step) entry f);
-        }
+  here : bits ≡ mask_l (map (λ b. not (p b)) (take 8 (drop at bytes)))
+  here = sum ∙ ap (λ l. mask_l (map (λ b. not (p b)) l)) (same ∙ ap (take 8) rest)
+
+  enough : 8 ≤ length (drop at bytes)
+  enough = rw rest at long
+
+  -- the first bit is that of the first byte that does not pass
+  pub stop_found : 0 < bits → at + count_trailing_zeros 8 bits ≡ at + prefix_len p (drop at bytes)
+  stop_found some =
+      let f = block_stops p (drop at bytes) 8 enough (omega arith) (rw here at some) in
+      ap (λ n. at + n) (ap (count_trailing_zeros 8) here ∙ sym f.0)
+
+  -- where no bit is set, the stop is not in the block
+  pub stop_after : bits ≡ 0 → (at + prefix_len p (drop at bytes) ≡ at + 8 + prefix_len p (drop (at + 8) bytes)) × (at + 8 ≤ length bytes)
+  stop_after none =
+      let f = block_passes p (drop at bytes) 8 enough (sym here ∙ none) in
+      let d : prefix_len p (drop 8 (drop at bytes)) ≡ prefix_len p (drop (at + 8) bytes) = ap (prefix_len p) (drop-drop 8 at bytes) in
+      let e = enough in
+      (omega (arith, f, d), omega (arith, e, length-drop at bytes, within))
+
+-- the stop of a fast loop
+pub stop_looped : (code : CodeValue) (test : ℕ) (bytes : List ℕ) (from stop : ℕ) → StopsAt code test bytes from stop → stop ≡ from + looped code (Some test) (drop from bytes)
+stop_looped code test bytes from stop stops = let n = length-prefix_len (passes_test code.bit_tables test) (drop from bytes) in omega (arith, stops, n)
+
+-- it lies in the input
+pub stop_within : (code : CodeValue) (test : ℕ) (bytes : List ℕ) (from stop : ℕ) → StopsAt code test bytes from stop → from ≤ length bytes → (from ≤ stop) × (stop ≤ length bytes)
+stop_within code test bytes from stop stops h =
+    let l = prefix_len-le-length (passes_test code.bit_tables test) (drop from bytes) in
+    (omega (arith, stops), omega (arith, stops, h, l, length-drop from bytes))

@@ -2,4 +2,5 @@
 
 #![tactic(auto)]
 
+pub mod items;
 pub mod machine;

@@ -1,21 +1,23 @@
 //! What a run of a lexer gives.
 
 ghost use Rattle.std.specs.Prelude.{◌≡◌, ◌<◌, ◌≤◌, length, option_map, slice_range, MatchBool};
-ghost use Rattle.std.specs.Prelude.{MatchOption, IfOk, IfErr, IsTrue, IsUtf8, drop};
+ghost use Rattle.std.specs.Prelude.{MatchOption, IfOk, IfErr, IsTrue, IsUtf8, drop, None};
 ghost use Rattle.std.specs.Str.{IsValidUpTo};
 ghost use Rattle.logos_code.specs.CodeView.{asks_for};
+ghost use Rattle.logos_code.specs.Items.{token, error};
 ghost use Rattle.logos_machine.specs.LexerValue.{answers_of, begun, item_of};
 ghost use Rattle.logos_machine.specs.LexerValue.{Gives, Ends, Keeps, MatchGives};
 
 mod attempt;
 mod fast_loop;
+mod walk;
 
-use attempt::{Found, attempt};
 pub use logos_code::action::Action;
 use logos_code::code::Code;
 use logos_hir::leaf::LeafId;
 use logos_token::token::Span;
 use std::marker::Model;
+use walk::{Outcome, attempt};
 
 /// A part of the input. Spans are byte offsets, and the slice is the input at the span.
 #[derive(Clone, Copy, Debug)]
@@ -125,35 +127,53 @@ impl<'c, 's, 'i, C: Fn(LeafId, &[u8]) -> Action> Lexer<'c, 's, 'i, C> {
             (Ends (answers_of C.Fn self.old.callback) self.old self.new)
             (λ i. Gives (answers_of C.Fn self.old.callback) self.old self.new (item_of i)) }
     {
+        let code = self.code;
+        let input = self.input;
+        let mut from = self.to;
         loop {
-            let from = self.to;
-            let (found, steps) = attempt(self.code, self.input, from);
-            self.from = from;
-            self.steps = steps;
-            match found {
-                Found::Ended => return None,
-                Found::Failed(to) => {
-                    self.to = to;
-                    return Some(Item::Error {
-                        leaf: None,
-                        span: Span { from, to },
-                        slice: &self.input[from..to],
-                    });
+            match attempt(code, input, from) {
+                Outcome::Skips(to) => from = to,
+                Outcome::Emits(leaf, to, steps) => {
+                    self.stand_after(from, to, steps);
+                    return Some(token(input, leaf, Span { from, to }));
                 }
-                Found::Matched(leaf, to) => {
-                    self.to = to;
-                    if let Some(item) = matched_item(
-                        self.code,
-                        self.input,
-                        &self.callback,
-                        leaf,
-                        Span { from, to },
-                    ) {
+                Outcome::Asks(leaf, to, steps) => {
+                    let span = Span { from, to };
+                    if let Some(item) = matched_item(code, input, &self.callback, leaf, span) {
+                        self.stand_after(from, to, steps);
                         return Some(item);
                     }
+                    from = to;
+                }
+                Outcome::Fails(to, steps) => {
+                    self.stand_after(from, to, steps);
+                    return Some(error(input, Span { from, to }));
+                }
+                Outcome::Ends(steps) => {
+                    self.stand_after(from, from, steps);
+                    return None;
                 }
             }
         }
+    }
+
+    /// Moves after the item at the span, whose try entered so many states.
+    #[inline(always)]
+    fn stand_after(&mut self, from: usize, to: usize, steps: usize)
+        requires order { from ≤ to }
+        requires within { to ≤ length self.old.input }
+        ensures { self.new ≡ record {
+          code = self.old.code;
+          input = self.old.input;
+          callback = self.old.callback;
+          from = from;
+          to = to;
+          steps = steps;
+        } }
+    {
+        self.from = from;
+        self.to = to;
+        self.steps = steps;
     }
 
     /// The span of the last item: 0..0 before the first, and the empty span at the input's end after `None`.
@@ -199,6 +219,35 @@ fn check_utf8(input: &[u8]) -> Result<(), NotUtf8>
         Err(error) => Err(NotUtf8 {
             valid_up_to: error.valid_up_to(),
         }),
+    }
+}
+
+/// Returns the token of a match.
+#[inline(always)]
+fn token<'i>(input: &'i [u8], leaf: LeafId, span: Span) -> Item<'i>
+    requires order { span.from ≤ span.to }
+    requires within { span.to ≤ length input.now }
+    ensures { item_of result ≡ token leaf.0 span.from span.to
+        (slice_range input.now span.from span.to) }
+{
+    Item::Token {
+        leaf,
+        span,
+        slice: &input[span.from..span.to],
+    }
+}
+
+/// Returns the error of bytes that no leaf matches.
+fn error<'i>(input: &'i [u8], span: Span) -> Item<'i>
+    requires order { span.from ≤ span.to }
+    requires within { span.to ≤ length input.now }
+    ensures { item_of result ≡ error None span.from span.to
+        (slice_range input.now span.from span.to) }
+{
+    Item::Error {
+        leaf: None,
+        span,
+        slice: &input[span.from..span.to],
     }
 }
 

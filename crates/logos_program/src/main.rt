@@ -6,21 +6,9 @@ mod disk;
 
 use disk::Disk;
 use logos_commands::{refuse_words, run};
-use std::alloc::AllocError;
+use logos_disk::words;
+use std::io;
 use std::process::ExitCode;
-use std::rt::Env;
-use std::{env, io};
-
-/// Returns the words after the program's name.
-fn words<R: Env + AllocGlobal>(rt: &R) -> io::Result<Vec<String>> {
-    let mut words = Vec::new(rt.alloc());
-    for word in env::args(rt)?.skip(1) {
-        if words.push(word).is_err() {
-            return Err(io::Error::from(AllocError));
-        }
-    }
-    Ok(words)
-}
 
 fn main(rt: HostRuntime) -> io::Result<ExitCode> {
     let mut files = Disk { rt: &rt };

@@ -7,7 +7,7 @@ use Rattle.logos_token.specs.Spelling.{Spells, IsUnreadable, IsTooDeep}
 use Rattle.logos_token.specs.Faults.{Fault}
 use Rattle.logos_token.specs.Tokens.{TokenList, depth_of}
 use Rattle.logos_token.proofs.reading.SpellingLaws.{spells-one}
-use Rattle.logos_attribute.specs.Told.{fault, only}
+use Rattle.logos_attribute.specs.Reports.{fault, only}
 use Rattle.logos_item.specs.declared.error.ReadError.{ReadError}
 use Rattle.logos_item.specs.declared.error.ReadError.TheVariants.{NotAnEnum, Grammar, TypeUnsupported, LimitTypeNesting, Memory as OutOfMemory}
 use Rattle.logos_item.specs.Enum.{Reads}

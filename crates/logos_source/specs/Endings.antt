@@ -12,7 +12,7 @@ use Rattle.logos_item.specs.declared.error.ReadError.TheVariants.{NotAnEnum, Gra
 use Rattle.logos_item.specs.Enum.{Reads}
 use Rattle.logos_item.specs.EnumValues.{EnumValue}
 use Rattle.logos_type_params.specs.TypeParams.{limit_type_nesting}
-use Rattle.logos_attribute.specs.Told.{fault, only}
+use Rattle.logos_attribute.specs.Reports.{fault, only}
 
 -- The source spells this enum, and the span reaches from its first token to its last.
 pub record Says (source : List ℕ) (value : EnumValue) (item : Span) : Type 0 where

@@ -4,7 +4,7 @@ use Rattle.logos_token.specs.declared.error.fault_code.FaultCode.TheVariants.{Ut
 use Rattle.logos_token.specs.Faults.{Fault}
 use Rattle.logos_measures.specs.Measure.{is_text}
 use Rattle.logos_pattern.specs.Leaf.{KindValue, plain, holding, skipped}
-use Rattle.logos_attribute.specs.Told.{fault, only}
+use Rattle.logos_attribute.specs.Reports.{fault, only}
 use Rattle.logos_leaf.specs.Leaves.{LeafView}
 
 -- The variant of a leaf, as messages name it.

@@ -1,7 +1,7 @@
 //! Leaves that can match invalid UTF-8.
 
 ghost use Rattle.std.specs.Prelude.{◌≡◌, ◌++◌, map, IfOk, OnOk, string_bytes};
-ghost use Rattle.logos_attribute.specs.Told.{Lists};
+ghost use Rattle.logos_attribute.specs.Reports.{AddsFault};
 ghost use Rattle.logos_leaf.specs.LeafViews.{leaf_view};
 ghost use Rattle.logos_source.specs.Utf8Faults.{utf8_text, utf8_fault, leaf_faults, utf8_faults};
 
@@ -23,7 +23,7 @@ fn utf8_text(alloc: Global, leaf: &Leaf<'_>) -> Result<String, AllocError>
 
 /// Reports that the pattern of a leaf can match invalid UTF-8.
 fn report_utf8_fault(leaf: &Leaf<'_>, errors: &mut Errors) -> Result<(), Memory>
-    ensures { OnOk result (Lists (utf8_fault (leaf_view leaf.now)) errors.old errors.new) }
+    ensures { OnOk result (AddsFault (utf8_fault (leaf_view leaf.now)) errors.old errors.new) }
 {
     let text = utf8_text(errors.alloc(), leaf)?;
     errors.err(FaultCode::Utf8Pattern, text.as_str(), leaf.span)

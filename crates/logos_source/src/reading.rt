@@ -3,7 +3,7 @@
 ghost use Rattle.std.specs.Prelude.{◌≡◌, ◌∷◌, []};
 ghost use Rattle.logos_token.specs.Faults.{Fault};
 ghost use Rattle.logos_token.specs.Refusals.{IsRefusal};
-ghost use Rattle.logos_attribute.specs.Told.{fault, only};
+ghost use Rattle.logos_attribute.specs.Reports.{fault, only};
 ghost use Rattle.logos_source.specs.Endings.{EndsReading, lexical_text, IsMisread, too_long};
 ghost use Rattle.logos_source.specs.Refusals.{Refuses};
 
@@ -11,7 +11,7 @@ use crate::refusal::Refusal;
 use logos_item::ReadError;
 use logos_token::error::{Errors, FaultCode};
 use logos_token::token::{LexicalKind, Span, TokenError};
-use logos_type_params::listing::type_nesting_text;
+use logos_type_params::reporting::type_nesting_text;
 use std::alloc::Global;
 
 /// Returns the refusal with one fault.

@@ -19,7 +19,7 @@ use Rattle.logos_subpattern.specs.declared.subpattern.Subpattern.{Subpattern}
 use Rattle.logos_subpattern.specs.PatternFaults.{IsRead, Reads, spelled, broken, too_deep}
 use Rattle.logos_subpattern.specs.Substitution.{Stored, stored_at, text_of}
 use Rattle.logos_subpattern.specs.SubpatternViews.{stored_of}
-use Rattle.logos_subpattern.specs.Subpatterns.{put_stored, twice_faults, subpattern_twice, subpattern_told, IsAdded, AreAdded, ended, further}
+use Rattle.logos_subpattern.specs.Subpatterns.{put_stored, twice_faults, subpattern_twice, subpattern_report, IsAdded, AreAdded, ended, further}
 use Rattle.logos_subpattern.specs.inside.Errors.{ReportsError}
 use Rattle.indexmap.specs.IndexMap.{insert_entry}
 
@@ -108,7 +108,7 @@ added_after : {utf8_mode : Bool} {sub : NamedLiteral} {before after : List Store
 added_after {utf8_mode = utf8_mode} {sub = sub} {before = before} {old = old} ahead h = record {
   reading = h.reading;
   reads = h.reads;
-  tells = (h.tells.0, ap (λ (l : List Fault). ahead ++ l) h.tells.1 ∙ sym (append_assoc ahead old (subpattern_told utf8_mode h.reading sub before).faults));
+  reports = (h.reports.0, ap (λ (l : List Fault). ahead ++ l) h.reports.1 ∙ sym (append_assoc ahead old (subpattern_report utf8_mode h.reading sub before).faults));
 }
 
 all_after : {utf8_mode : Bool} {subs : List NamedLiteral} {before after : List Stored} {old new : List Fault} (ahead : List Fault) → AreAdded utf8_mode subs before after old new →

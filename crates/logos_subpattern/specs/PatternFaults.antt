@@ -10,7 +10,7 @@ use Rattle.logos_syntax.specs.Grammar.{IsFound, IsSpelled, first_flags}
 use Rattle.logos_syntax.specs.Nesting.{IsTooDeep}
 use Rattle.logos_pattern_tokens.specs.Token.{Text}
 use Rattle.logos_hir.specs.Tree.{Tree}
-use Rattle.logos_attribute.specs.Told.{fault, only}
+use Rattle.logos_attribute.specs.Reports.{fault, only}
 
 -- What reading a text as a pattern gives.
 pub data Reading : Type 0 where

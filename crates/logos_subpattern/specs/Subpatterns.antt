@@ -11,9 +11,9 @@ use Rattle.logos_hir.specs.Tree.{Tree}
 use Rattle.logos_type_params.specs.TypeParams.{previous}
 use Rattle.logos_attribute.specs.Slices.{Slice}
 use Rattle.logos_attribute.specs.Literals.{NamedLiteral}
-use Rattle.logos_attribute.specs.Told.{Told, telling, quiet, and_then, fault, fault_about, only, Tells}
+use Rattle.logos_attribute.specs.Reports.{Report, with_faults, without_faults, and_then, fault, fault_about, only, IsReport}
 use Rattle.logos_subpattern.specs.PatternFaults.{Reading, spelled, broken, too_deep, Reads, pattern_faults}
-use Rattle.logos_subpattern.specs.Substitution.{is_word, Stored, stored_at, subst_told}
+use Rattle.logos_subpattern.specs.Substitution.{is_word, Stored, stored_at, subst_report}
 
 -- The text is a name: one or more digits, ASCII letters and `_`.
 abbrev pub is_name : List ℕ → Bool
@@ -63,48 +63,48 @@ put_stored s [] = s ∷ []
 put_stored s (x ∷ rest) = if bytes_eq s.name x.name then s ∷ rest else x ∷ put_stored s rest
 
 -- Storing a subpattern of this name with this text.
-abbrev pub stored_told : Slice → List ℕ → List Stored → Told (List Stored)
-stored_told name text names = telling (put_stored (stored_as name text) names) (twice_faults name (stored_at names name.text))
+abbrev pub stored_report : Slice → List ℕ → List Stored → Report (List Stored)
+stored_report name text names = with_faults (put_stored (stored_as name text) names) (twice_faults name (stored_at names name.text))
 
 -- Storing a subpattern, unless the mode refuses its text.
-abbrev pub tested_told : Bool → NamedLiteral → List ℕ → List Stored → Told (List Stored)
-tested_told refused sub text names = if refused then telling names (only (utf8_subpattern sub)) else stored_told sub.name text names
+abbrev pub tested_report : Bool → NamedLiteral → List ℕ → List Stored → Report (List Stored)
+tested_report refused sub text names = if refused then with_faults names (only (utf8_subpattern sub)) else stored_report sub.name text names
 
 -- Adding a subpattern whose text spells this tree.
-abbrev pub tree_told : Bool → NamedLiteral → List ℕ → List Stored → Tree → Told (List Stored)
-tree_told utf8_mode sub text names tree = tested_told (utf8_mode && not (is_text tree)) sub text names
+abbrev pub tree_report : Bool → NamedLiteral → List ℕ → List Stored → Tree → Report (List Stored)
+tree_report utf8_mode sub text names tree = tested_report (utf8_mode && not (is_text tree)) sub text names
 
 -- Adding a subpattern, by what reading its text gives.
-abbrev pub reading_told : Bool → NamedLiteral → List ℕ → List Stored → Reading → Told (List Stored)
-reading_told utf8_mode sub text names (spelled tree) = tree_told utf8_mode sub text names tree
-reading_told utf8_mode sub text names (broken kind at) = telling names (pattern_faults sub.literal.token.span (broken kind at))
-reading_told utf8_mode sub text names too_deep = telling names (pattern_faults sub.literal.token.span too_deep)
+abbrev pub reading_report : Bool → NamedLiteral → List ℕ → List Stored → Reading → Report (List Stored)
+reading_report utf8_mode sub text names (spelled tree) = tree_report utf8_mode sub text names tree
+reading_report utf8_mode sub text names (broken kind at) = with_faults names (pattern_faults sub.literal.token.span (broken kind at))
+reading_report utf8_mode sub text names too_deep = with_faults names (pattern_faults sub.literal.token.span too_deep)
 
 -- Adding a subpattern by its text with the earlier ones put in, if all of them are found.
-abbrev pub text_told : Bool → Reading → NamedLiteral → List Stored → Option (List ℕ) → Told (List Stored)
-text_told utf8_mode reading sub names None = quiet names
-text_told utf8_mode reading sub names (Some text) = reading_told utf8_mode sub text names reading
+abbrev pub text_report : Bool → Reading → NamedLiteral → List Stored → Option (List ℕ) → Report (List Stored)
+text_report utf8_mode reading sub names None = without_faults names
+text_report utf8_mode reading sub names (Some text) = reading_report utf8_mode sub text names reading
 
 -- The text of a subpattern with the earlier ones put in, if all of them are found.
-abbrev pub test_told : NamedLiteral → List Stored → Told (Option (List ℕ))
-test_told sub names = subst_told names sub.literal.token.span (chars (wrapped sub.literal.held))
+abbrev pub test_report : NamedLiteral → List Stored → Report (Option (List ℕ))
+test_report sub names = subst_report names sub.literal.token.span (chars (wrapped sub.literal.held))
 
 -- Adding a subpattern to the earlier ones.
-abbrev pub subpattern_told : Bool → Reading → NamedLiteral → List Stored → Told (List Stored)
-subpattern_told utf8_mode reading sub names =
-    if is_name sub.name.text then and_then (test_told sub names) (text_told utf8_mode reading sub names)
-    else telling names (only (subpattern_name sub.name))
+abbrev pub subpattern_report : Bool → Reading → NamedLiteral → List Stored → Report (List Stored)
+subpattern_report utf8_mode reading sub names =
+    if is_name sub.name.text then and_then (test_report sub names) (text_report utf8_mode reading sub names)
+    else with_faults names (only (subpattern_name sub.name))
 
 -- The text that is test compiled, if one is.
 abbrev pub test_text : NamedLiteral → List Stored → Option (List ℕ)
-test_text sub names = if is_name sub.name.text then (test_told sub names).value else None
+test_text sub names = if is_name sub.name.text then (test_report sub names).value else None
 
 -- Adding a subpattern leads from the subpatterns before to those after, and its faults are added to the list. `reading` is what reading its text gives, if the
 -- text is tested.
 pub record IsAdded (utf8_mode : Bool) (sub : NamedLiteral) (before after : List Stored) (old new : List Fault) : Type 0 where
   pub reading : Reading
   pub reads : (text : List ℕ) → test_text sub before ≡ Some text → Reads true false (chars text) reading
-  pub tells : Tells (subpattern_told utf8_mode reading sub before) after old new
+  pub reports : IsReport (subpattern_report utf8_mode reading sub before) after old new
 
 -- Adding subpatterns one after another leads from the subpatterns before to those after, and their faults are added to the list.
 pub data AreAdded (utf8_mode : Bool) : List NamedLiteral → (before after : List Stored) → (old new : List Fault) → Type 0 where

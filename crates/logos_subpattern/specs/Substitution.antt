@@ -6,7 +6,7 @@ use Rattle.std.specs.Str.{bytes_eq}
 use Rattle.logos_lexeme.specs.declared.lexeme.Span.{Span}
 use Rattle.logos_token.specs.Faults.{Fault}
 use Rattle.logos_token.specs.declared.error.fault_code.FaultCode.TheVariants.{SubpatternMissing}
-use Rattle.logos_attribute.specs.Told.{Told, telling, quiet, and_then, told_as, fault, only}
+use Rattle.logos_attribute.specs.Reports.{Report, with_faults, without_faults, and_then, map_report, fault, only}
 
 -- The character is a digit, an ASCII letter or `_`.
 abbrev pub is_word : ℕ → Bool
@@ -75,17 +75,17 @@ abbrev pub subpattern_missing : Span → List ℕ → Fault
 subpattern_missing span name = fault SubpatternMissing ((codes "Subpattern `" ++ name) ++ codes "` not found") span
 
 -- Adding the text that is stored for a name, if one is.
-abbrev pub name_told : Span → List ℕ → Substituted → Option (List ℕ) → Told Substituted
-name_told span name s (Some text) = quiet (put s text)
-name_told span name s None = telling (record s { complete = false }) (only (subpattern_missing span name))
+abbrev pub name_report : Span → List ℕ → Substituted → Option (List ℕ) → Report Substituted
+name_report span name s (Some text) = without_faults (put s text)
+name_report span name s None = with_faults (record s { complete = false }) (only (subpattern_missing span name))
 
-abbrev pub part_told : List Stored → Span → Part → Substituted → Told Substituted
-part_told names span (itself c) s = quiet (put s (encode_utf8 c))
-part_told names span (used name) s = name_told span (encoded name) s (text_of names (encoded name))
+abbrev pub part_report : List Stored → Span → Part → Substituted → Report Substituted
+part_report names span (itself c) s = without_faults (put s (encode_utf8 c))
+part_report names span (used name) s = name_report span (encoded name) s (text_of names (encoded name))
 
-abbrev pub parts_told : List Stored → Span → List Part → Substituted → Told Substituted
-parts_told names span [] s = quiet s
-parts_told names span (part ∷ rest) s = and_then (part_told names span part s) (parts_told names span rest)
+abbrev pub parts_report : List Stored → Span → List Part → Substituted → Report Substituted
+parts_report names span [] s = without_faults s
+parts_report names span (part ∷ rest) s = and_then (part_report names span part s) (parts_report names span rest)
 
 -- The whole text, if each name was found.
 abbrev pub whole_text : Substituted → Option (List ℕ)
@@ -95,5 +95,5 @@ abbrev pub nothing_yet : Substituted
 nothing_yet = record { text = []; complete = true }
 
 -- The text of a pattern with each name replaced by the text that is stored for it. `span` is that of the pattern's literal, at which missing names are reported.
-abbrev pub subst_told : List Stored → Span → List ℕ → Told (Option (List ℕ))
-subst_told names span text = told_as whole_text (parts_told names span (parts 0 text) nothing_yet)
+abbrev pub subst_report : List Stored → Span → List ℕ → Report (Option (List ℕ))
+subst_report names span text = map_report whole_text (parts_report names span (parts 0 text) nothing_yet)

@@ -3,7 +3,7 @@ ghost use Rattle.std.specs.Prelude.{◌≡◌, ◌++◌, chars, IfOk, IfSome, On
 ghost use Rattle.std.specs.Prelude.{string_bytes};
 ghost use Rattle.logos_pattern.specs.Leaf.{pattern_tree, source_of, is_token};
 ghost use Rattle.logos_pattern.specs.Literals.{token_of};
-ghost use Rattle.logos_attribute.specs.Told.{Lists, fault, only};
+ghost use Rattle.logos_attribute.specs.Reports.{AddsFault, fault, only};
 ghost use Rattle.logos_subpattern.specs.PatternFaults.{kind_name, regex_text, IsRead};
 ghost use Rattle.logos_subpattern.specs.inside.Errors.{ReportsError};
 
@@ -61,8 +61,8 @@ fn regex_text(alloc: Global, kind: Kind, at: usize) -> Result<String, AllocError
 /// Reports a fault at the byte offset `at` of a pattern's text. `span` is that of its literal.
 fn report_regex(kind: Kind, at: usize, span: Span, errors: &mut Errors) -> Result<(), Memory>
     ensures ok { OnOk result
-        (Lists (fault FaultCode.Regex (regex_text at kind) span) errors.old errors.new) }
-    ensures unlisted { OnErr result (errors.new ≡ errors.old) }
+        (AddsFault (fault FaultCode.Regex (regex_text at kind) span) errors.old errors.new) }
+    ensures unreported { OnErr result (errors.new ≡ errors.old) }
 {
     let text = regex_text(errors.alloc(), kind, at)?;
     errors.err(FaultCode::Regex, text.as_str(), span)
@@ -71,7 +71,7 @@ fn report_regex(kind: Kind, at: usize, span: Span, errors: &mut Errors) -> Resul
 /// Reports why a pattern was not read. `span` is that of its literal.
 fn report_error(error: PatternError, span: Span, errors: &mut Errors) -> Result<(), Memory>
     ensures ok { OnOk result (ReportsError error span errors.old errors.new) }
-    ensures unlisted { OnErr result (errors.new ≡ errors.old) }
+    ensures unreported { OnErr result (errors.new ≡ errors.old) }
 {
     match error {
         PatternError::Syntax { kind, at } => report_regex(kind, at, span, errors),
@@ -102,7 +102,7 @@ pub fn read_pattern<'s>(
     ensures source { IfOk result (λ pattern. IfSome pattern (λ p.
         source_of p ≡ (token_of literal.now).text.now)) }
     ensures form { IfOk result (λ pattern. IfSome pattern (λ p. is_token p ≡ mode.is_literal)) }
-    ensures unlisted { OnErr result (errors.new ≡ errors.old) }
+    ensures unreported { OnErr result (errors.new ≡ errors.old) }
 {
     let token = literal.token();
     let ReadingMode {

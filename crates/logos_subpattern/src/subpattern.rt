@@ -4,7 +4,7 @@ ghost use Rattle.std.specs.List.{list_all};
 ghost use Rattle.logos_type_params.specs.TypeParams.{previous};
 ghost use Rattle.logos_attribute.specs.Slices.{ident_slice};
 ghost use Rattle.logos_attribute.specs.LiteralViews.{literal_view, named_literal_view};
-ghost use Rattle.logos_attribute.specs.Told.{Lists};
+ghost use Rattle.logos_attribute.specs.Reports.{AddsFault};
 ghost use Rattle.logos_subpattern.specs.Substitution.{is_word};
 ghost use Rattle.logos_subpattern.specs.Subpatterns.{is_name, flags_of, pattern_text, wrapped};
 ghost use Rattle.logos_subpattern.specs.Subpatterns.{subpattern_name, subpattern_twice};
@@ -13,11 +13,11 @@ ghost use Rattle.logos_subpattern.specs.Subpatterns.{utf8_subpattern, utf8_text}
 use crate::fault::{ReadingMode, read_pattern};
 use crate::substitution::substituted;
 use indexmap::IndexMap;
-use logos_attribute::listing::list_named;
+use logos_attribute::reporting::report_named;
 use logos_pattern::pattern::Literal;
 use logos_token::error::{Errors, FaultCode, Memory};
 use logos_token::token::{Ident, Span};
-use logos_type_params::listing::list_previous;
+use logos_type_params::reporting::report_previous;
 use std::alloc::Global;
 
 /// A pattern with a name, by which other patterns use it.
@@ -111,10 +111,10 @@ fn wrapped(alloc: Global, literal: &Literal<'_>) -> Result<String, Memory>
 
 /// Reports a name that no subpattern can have.
 fn report_name(name: Ident<'_>, errors: &mut Errors) -> Result<(), Memory>
-    ensures { OnOk result (Lists (subpattern_name (ident_slice name.entry)) errors.old errors.new) }
+    ensures { OnOk result
+        (AddsFault (subpattern_name (ident_slice name.entry)) errors.old errors.new) }
 {
-    list_named(
-        errors.alloc(),
+    report_named(
         errors,
         FaultCode::SubpatternName,
         "Invalid subpattern name: `",
@@ -126,10 +126,9 @@ fn report_name(name: Ident<'_>, errors: &mut Errors) -> Result<(), Memory>
 /// Reports a second subpattern of a name.
 fn report_second(name: Ident<'_>, errors: &mut Errors) -> Result<(), Memory>
     ensures { OnOk result
-        (Lists (subpattern_twice (ident_slice name.entry)) errors.old errors.new) }
+        (AddsFault (subpattern_twice (ident_slice name.entry)) errors.old errors.new) }
 {
-    list_named(
-        errors.alloc(),
+    report_named(
         errors,
         FaultCode::SubpatternTwice,
         "Subpattern `",
@@ -144,7 +143,7 @@ fn report_twice(name: Ident<'_>, former: Span, errors: &mut Errors) -> Result<()
         ++ (subpattern_twice (ident_slice name.entry) ∷ previous former ∷ [])) }
 {
     report_second(name, errors)?;
-    list_previous(errors, former)?;
+    report_previous(errors, former)?;
     Ok(())
 }
 
@@ -163,7 +162,7 @@ fn utf8_text(alloc: Global, named: &(Ident<'_>, Literal<'_>)) -> Result<String, 
 /// Reports that a subpattern can match invalid UTF-8.
 fn report_utf8(named: &(Ident<'_>, Literal<'_>), errors: &mut Errors) -> Result<(), Memory>
     ensures { OnOk result
-        (Lists (utf8_subpattern (named_literal_view named.now)) errors.old errors.new) }
+        (AddsFault (utf8_subpattern (named_literal_view named.now)) errors.old errors.new) }
 {
     let text = utf8_text(errors.alloc(), named)?;
     errors.err(FaultCode::Utf8Subpattern, text.as_str(), named.1.span())
@@ -175,9 +174,9 @@ impl<'s> Subpatterns<'s> {
     ghost use denote.Ref.{Bor};
     ghost use Rattle.logos_attribute.specs.Slices.{ident_slice};
     ghost use Rattle.logos_attribute.specs.LiteralViews.{named_literal_view};
-    ghost use Rattle.logos_attribute.specs.Told.{Tells};
-    ghost use Rattle.logos_subpattern.specs.Substitution.{text_of, subst_told};
-    ghost use Rattle.logos_subpattern.specs.Subpatterns.{stored_told, tested_told};
+    ghost use Rattle.logos_attribute.specs.Reports.{IsReport};
+    ghost use Rattle.logos_subpattern.specs.Substitution.{text_of, subst_report};
+    ghost use Rattle.logos_subpattern.specs.Subpatterns.{stored_report, tested_report};
     ghost use Rattle.logos_subpattern.specs.Subpatterns.{IsAdded, AreAdded};
     ghost use Rattle.logos_subpattern.specs.SubpatternViews.{names_of};
     ghost use Rattle.logos_subpattern.specs.inside.Tests.{IsTested};
@@ -193,8 +192,8 @@ impl<'s> Subpatterns<'s> {
 
     /// Stores a subpattern in place of the one that has its name, and reports that one.
     fn store(&mut self, name: Ident<'s>, pattern: String, errors: &mut Errors) -> Result<(), Memory>
-        ensures { OnOk result (Tells
-            (stored_told (ident_slice name.entry) (string_bytes pattern) (names_of self.old))
+        ensures { OnOk result (IsReport
+            (stored_report (ident_slice name.entry) (string_bytes pattern) (names_of self.old))
             (names_of self.new) errors.old errors.new) }
     {
         let subpattern = Subpattern { name, pattern };
@@ -212,8 +211,8 @@ impl<'s> Subpatterns<'s> {
         pattern: String,
         errors: &mut Errors,
     ) -> Result<(), Memory>
-        ensures { OnOk result (Tells
-            (tested_told refused (named_literal_view named.now) (string_bytes pattern)
+        ensures { OnOk result (IsReport
+            (tested_report refused (named_literal_view named.now) (string_bytes pattern)
             (names_of self.old))
             (names_of self.new) errors.old errors.new) }
     {
@@ -301,7 +300,7 @@ impl<'s> Subpatterns<'s> {
         ensures ok { IfOk result (λ subpatterns.
             AreAdded utf8_mode (map named_literal_view list.now) [] (names_of subpatterns)
             errors.old errors.new) }
-        ensures unlisted { OnErr result (errors.new ≡ errors.old) }
+        ensures unreported { OnErr result (errors.new ≡ errors.old) }
     {
         let mut found = Errors::new(alloc);
         let subpatterns = Subpatterns::add_all(list, utf8_mode, &mut found)?;
@@ -324,9 +323,9 @@ impl<'s> Subpatterns<'s> {
         errors: &mut Errors,
     ) -> Result<Option<String>, Memory>
         ensures ok { IfOk result (λ text.
-            Tells (subst_told (names_of self.now) span (chars pattern.now))
+            IsReport (subst_report (names_of self.now) span (chars pattern.now))
             (option_map string_bytes text) errors.old errors.new) }
-        ensures unlisted { OnErr result (errors.new ≡ errors.old) }
+        ensures unreported { OnErr result (errors.new ≡ errors.old) }
     {
         let mut missing = Errors::new(alloc);
         let text = substituted(self, pattern, span, &mut missing)?;

@@ -1,15 +1,15 @@
 //! Substitution of subpatterns in the text of a pattern.
 ghost use Rattle.std.specs.Prelude.{◌≡◌, ℕ, List, ◌+◌, ◌<◌, ◌++◌, ◌∷◌, [], length, drop};
 ghost use Rattle.std.specs.Prelude.{option_map, chars, OnOk, IfOk, MatchOption, string_bytes};
-ghost use Rattle.logos_attribute.specs.Told.{Tells, Lists};
+ghost use Rattle.logos_attribute.specs.Reports.{IsReport, AddsFault};
 ghost use Rattle.logos_subpattern.specs.Substitution.{is_word, word_front, word_rest, closed};
 ghost use Rattle.logos_subpattern.specs.Substitution.{reference, parts, encoded};
-ghost use Rattle.logos_subpattern.specs.Substitution.{subpattern_missing, subst_told};
+ghost use Rattle.logos_subpattern.specs.Substitution.{subpattern_missing, subst_report};
 ghost use Rattle.logos_subpattern.specs.SubpatternViews.{names_of};
 ghost use Rattle.logos_subpattern.specs.inside.Parts.{part_of};
 
 use crate::subpattern::Subpatterns;
-use logos_attribute::listing::list_named;
+use logos_attribute::reporting::report_named;
 use logos_token::error::{Errors, FaultCode, Memory};
 use logos_token::token::{Ident, Span};
 use std::alloc::{AllocError, Global};
@@ -124,11 +124,10 @@ fn encoded(alloc: Global, characters: &[char]) -> Result<String, AllocError>
 
 /// Reports a name without a subpattern.
 fn report_missing(name: &str, span: Span, errors: &mut Errors) -> Result<(), Memory>
-    ensures { OnOk result (Lists (subpattern_missing span name.now) errors.old errors.new) }
+    ensures { OnOk result (AddsFault (subpattern_missing span name.now) errors.old errors.new) }
 {
     let missing = Ident { text: name, span };
-    list_named(
-        errors.alloc(),
+    report_named(
         errors,
         FaultCode::SubpatternMissing,
         "Subpattern `",
@@ -139,8 +138,8 @@ fn report_missing(name: &str, span: Span, errors: &mut Errors) -> Result<(), Mem
 
 impl Text {
     ghost use Rattle.std.specs.Prelude.{OnOk};
-    ghost use Rattle.logos_attribute.specs.Told.{Tells};
-    ghost use Rattle.logos_subpattern.specs.Substitution.{part_told, name_told, text_of};
+    ghost use Rattle.logos_attribute.specs.Reports.{IsReport};
+    ghost use Rattle.logos_subpattern.specs.Substitution.{part_report, name_report, text_of};
     ghost use Rattle.logos_subpattern.specs.SubpatternViews.{names_of};
     ghost use Rattle.logos_subpattern.specs.inside.Parts.{part_of, text_view};
 
@@ -151,8 +150,8 @@ impl Text {
         name: &str,
         errors: &mut Errors,
     ) -> Result<(), Memory>
-        ensures { OnOk result (Tells
-            (name_told lookup.entry.span name.now (text_view self.old)
+        ensures { OnOk result (IsReport
+            (name_report lookup.entry.span name.now (text_view self.old)
             (text_of (names_of lookup.entry.subpatterns.now) name.now))
             (text_view self.new) errors.old errors.new) }
     {
@@ -173,8 +172,8 @@ impl Text {
         part: TextPart<'_>,
         errors: &mut Errors,
     ) -> Result<(), Memory>
-        ensures { OnOk result (Tells
-            (part_told (names_of lookup.entry.subpatterns.now) lookup.entry.span
+        ensures { OnOk result (IsReport
+            (part_report (names_of lookup.entry.subpatterns.now) lookup.entry.span
             (part_of part.entry) (text_view self.old))
             (text_view self.new) errors.old errors.new) }
     {
@@ -204,7 +203,8 @@ fn put_together(
     errors: &mut Errors,
 ) -> Result<Option<String>, Memory>
     ensures { IfOk result (λ text.
-        Tells (subst_told (names_of lookup.entry.subpatterns.now) lookup.entry.span characters.now)
+        IsReport
+        (subst_report (names_of lookup.entry.subpatterns.now) lookup.entry.span characters.now)
         (option_map string_bytes text) errors.old errors.new) }
 {
     let mut text = Text {
@@ -231,7 +231,7 @@ pub(crate) fn substituted(
     errors: &mut Errors,
 ) -> Result<Option<String>, Memory>
     ensures { IfOk result (λ whole.
-        Tells (subst_told (names_of subpatterns.now) span (chars text.now))
+        IsReport (subst_report (names_of subpatterns.now) span (chars text.now))
         (option_map string_bytes whole) errors.old errors.new) }
 {
     let characters = characters(errors.alloc(), text)?;

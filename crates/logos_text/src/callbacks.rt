@@ -7,7 +7,7 @@ ghost use Rattle.logos_text.specs.Standing.{Grows};
 use crate::pieces::push;
 use logos_pattern::leaf::Callback;
 use logos_token::error::Memory;
-use logos_token::token::{TokenTree, Tokens, gap_behind_doc, print};
+use logos_token::token::{TokenTree, Tokens, gap_after_doc, print};
 use std::alloc::Global;
 
 /// Appends the call of a callback.
@@ -82,7 +82,7 @@ fn gap_of(tree: TokenTree<'_, '_>) -> &'static str
     ensures { result.now ≡ gap_of (tree_of tree.entry) }
 {
     match tree {
-        TokenTree::Doc(doc) => gap_behind_doc(doc.text),
+        TokenTree::Doc(doc) => gap_after_doc(doc.text),
         _ => " ",
     }
 }

@@ -1,4 +1,4 @@
--- The faults behind what is kept.
+-- The list of faults that a value of type `Errors` stands for.
 use Rattle.std.specs.Prelude.{List, map, string_bytes}
 use Rattle.logos_token.specs.declared.error.SpannedError.{SpannedError}
 use Rattle.logos_token.specs.Faults.{Fault}

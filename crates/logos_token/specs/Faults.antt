@@ -1,4 +1,4 @@
--- A fault, as a reader sees it.
+-- A fault.
 use Rattle.std.specs.Prelude.{ℕ, List, Option}
 use Rattle.logos_lexeme.specs.declared.lexeme.Span.{Span}
 use Rattle.logos_token.specs.declared.error.fault_code.FaultCode.{FaultCode}
@@ -7,5 +7,5 @@ pub record Fault : Type 0 where
   pub code : FaultCode
   pub message : List ℕ
   pub span : Span
-  -- a second place that the fault speaks of
+  -- a second place that the fault is about
   pub also : Option Span

@@ -1,4 +1,4 @@
--- The flat form of a run of tokens: each group is an entry that counts the entries inside it, followed by these.
+-- The flat form of a run of tokens: each group is an entry with the number of entries inside it, and these follow it.
 use Rattle.std.specs.Prelude.{◌≡◌, ℕ, zero, suc, List, [], ◌∷◌, ◌++◌, length, map, take, drop}
 use Rattle.logos_lexeme.specs.declared.lexeme.Span.{Span}
 use Rattle.logos_lexeme.specs.declared.lexeme.Spacing.{Spacing}
@@ -7,7 +7,7 @@ use Rattle.logos_token.specs.declared.token.entry.Entry.{Entry}
 use Rattle.logos_token.specs.declared.token.entry.Entry.TheVariants.{Ident, Punct, Literal, Doc, Group}
 use Rattle.logos_token.specs.Tokens.{Token, identifier, punctuation, literal, doc, group, TokenList, none, also}
 
--- an entry with its text as bytes
+-- an entry, with its text as bytes
 pub data EntryValue : Type 0 where
   identifier_entry : (text : List ℕ) (span : Span) → EntryValue
   punctuation_entry : (character : ℕ) (spacing : Spacing) (span : Span) → EntryValue
@@ -22,7 +22,7 @@ value_of (Literal l) = literal_entry l.text.now l.span
 value_of (Doc d) = doc_entry d.text.now d.span
 value_of (Group delimiter span size) = group_entry delimiter span size
 
--- how many of the entries behind an entry belong to it
+-- how many of the next entries belong to an entry
 abbrev pub size_of : Entry → ℕ
 size_of (Ident i) = 0
 size_of (Punct p) = 0
@@ -44,7 +44,7 @@ abbrev mutual
   flat none = []
   flat (also token rest) = flat_token token ++ flat rest
 
--- the tokens of entries, of which there are at most so many
+-- the tokens of at most `n` entries
 abbrev pub trees_of : ℕ → List EntryValue → TokenList
 trees_of zero entries = none
 trees_of (suc n) [] = none
@@ -58,6 +58,6 @@ trees_of (suc n) (group_entry delimiter span size ∷ entries) = also (group del
 abbrev pub tokens_in : List Entry → TokenList
 tokens_in entries = trees_of (length entries) (map value_of entries)
 
--- the entries counted by a group lie inside the run, and inside the group around it: they are the flat form of tokens
+-- The entries that a group counts lie inside the run, and inside the group around it: the entries are the flat form of tokens.
 abbrev pub IsFlat : List Entry → Type 0
 IsFlat entries = flat (tokens_in entries) ≡ map value_of entries

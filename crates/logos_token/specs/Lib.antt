@@ -5,6 +5,7 @@ pub mod Flat
 pub mod Views
 pub mod Punctuation
 pub mod Printing
+pub mod PrinterViews
 pub mod PrintedAgain
 pub mod MaybePrinted
 pub mod Spelling

@@ -1,4 +1,4 @@
--- The printed text of tokens, or of `()` in their place.
+-- The printed text of tokens, or `()` if there are none.
 use Rattle.std.specs.Prelude.{ℕ, List, codes}
 use Rattle.logos_token.specs.declared.util.MaybeVoid.{MaybeVoid}
 use Rattle.logos_token.specs.declared.util.MaybeVoid.TheVariants.{Some, Void}

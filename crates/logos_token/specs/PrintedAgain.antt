@@ -1,4 +1,4 @@
--- Tokens without the places where they stand, and the runs whose printed text spells them again.
+-- Tokens without their spans, and the runs whose printed text spells them again.
 use Rattle.std.specs.Prelude.{◌≡◌, ℕ, List}
 use Rattle.logos_lexeme.specs.declared.lexeme.Span.{Span}
 use Rattle.logos_lexeme.specs.declared.lexeme.Spacing.TheVariants.{Joint}
@@ -6,12 +6,12 @@ use Rattle.logos_lexeme.specs.declared.lexeme.Delimiter.{Delimiter}
 use Rattle.logos_token.specs.Tokens.{Token, identifier, punctuation, literal, doc, group, TokenList, none, also, append}
 use Rattle.logos_token.specs.Spelling.{Spells}
 
--- the span that stands for none
+-- the span of a token that stands nowhere
 abbrev pub no_span : Span
 no_span = record { from = 0; to = 0 }
 
 abbrev mutual
-  -- a token without its span, and without those inside it
+  -- a token without its span, and without the spans of the tokens inside it
   pub bare_token : Token → Token
   bare_token (identifier text span) = identifier text no_span
   bare_token (punctuation character spacing span) = punctuation character spacing no_span
@@ -24,7 +24,7 @@ abbrev mutual
   bare none = none
   bare (also token rest) = also (bare_token token) (bare rest)
 
--- the bytes spell these tokens, spans aside
+-- the bytes spell these tokens, apart from spans
 pub record SpellsAgain (bytes : List ℕ) (tokens : TokenList) : Type 0 where
   pub again : TokenList
   pub spelled : Spells bytes again
@@ -35,7 +35,7 @@ pub data IsRunOf (run : TokenList) : TokenList → Type 0 where
   here : {tokens : TokenList} (front back : TokenList) → tokens ≡ append front (append run back) → IsRunOf run tokens
   within : {tokens : TokenList} (front : TokenList) (delimiter : Delimiter) (span : Span) (inside back : TokenList) → tokens ≡ append front (also (group delimiter span inside) back) → IsRunOf run inside → IsRunOf run tokens
 
--- the last token of the run is punctuation that is joint to what stands behind it
+-- the last token of the run is punctuation that is joint to what follows it
 pub record EndsJoint (run : TokenList) : Type 0 where
   pub front : TokenList
   pub character : ℕ

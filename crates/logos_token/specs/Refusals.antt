@@ -1,18 +1,18 @@
--- Why a source gives no tokens.
+-- The reasons why a source has no tokens.
 use Rattle.std.specs.Prelude.{◌≡◌, ℕ, ◌<◌, List, length, Result, Ok, Err}
 use Rattle.logos_token.specs.declared.token.reader.TokenError.{TokenError}
 use Rattle.logos_token.specs.declared.token.reader.TokenError.TheVariants.{Lexical, LimitSource, LimitTokenNesting, Memory}
 use Rattle.logos_token.specs.Tokens.{TokenList, depth_of}
 use Rattle.logos_token.specs.Spelling.{Spells, IsUnreadable, IsTooDeep}
 
--- what an error says of the source
+-- what an error says about the source
 abbrev pub IsRefusal : List ℕ → TokenError → Type 0
 IsRefusal bytes (Lexical kind span) = IsUnreadable bytes kind span
 IsRefusal bytes LimitSource = 16777216 < length bytes
 IsRefusal bytes (LimitTokenNesting span) = IsTooDeep bytes span
 IsRefusal bytes Memory = Unit {0}
 
--- a source with a lexical fault spells no tokens, and one that is nested too deep only such as are
+-- A source with a lexical fault spells no tokens, and one that nests too deep spells only tokens that nest too deep.
 abbrev pub SpellsNothing : List ℕ → TokenError → Type 0
 SpellsNothing bytes (Lexical kind span) = (tokens : TokenList) → Spells bytes tokens → ⊥
 SpellsNothing bytes LimitSource = Unit {0}

@@ -1,4 +1,4 @@
--- The tokens that a source spells: it is pieces in turn, and these are the lexemes of the tokens.
+-- The tokens that a source spells: the source is a row of pieces, and these are the lexemes of the tokens.
 use Rattle.std.specs.Prelude.{◌≡◌, ℕ, ◌+◌, ◌-◌, ◌<◌, ◌≤◌, max, Bool, true, false, List, [], ◌∷◌, ◌++◌, length, slice_index, slice_range, Option, Some, None, if◌then◌else◌}
 use Rattle.logos_lexeme.specs.declared.lexeme.Span.{Span}
 use Rattle.logos_lexeme.specs.declared.lexeme.Delimiter.{Delimiter}
@@ -15,12 +15,12 @@ pub record Piece : Type 0 where
   pub kind : Kind
   pub span : Span
 
--- the source has these pieces, one after another, from one place to another
+-- the source has these pieces one after another, from one byte offset to another
 abbrev pub Pieces : List ℕ → ℕ → List Piece → ℕ → Type 0
 Pieces bytes from [] to = from ≡ to
 Pieces bytes from (piece ∷ rest) to = (piece.span.from ≡ from) × IsNext bytes from piece.kind piece.span.to × Pieces bytes piece.span.to rest to
 
--- what a piece is to the tokens: one without others inside, the beginning of a group, or the end of one
+-- a token that is not a group, or the beginning or the end of a group
 pub data Lexeme : Type 0 where
   leaf : (token : Token) → Lexeme
   opens : (delimiter : Delimiter) (from : ℕ) → Lexeme
@@ -55,14 +55,15 @@ abbrev mutual
   lexemes none = []
   lexemes (also token rest) = token_lexemes token ++ lexemes rest
 
--- the whole source is pieces, whose lexemes are those of the tokens
+-- The source spells these tokens: it is a row of pieces, and their lexemes are the lexemes of the tokens.
 pub record Spells (bytes : List ℕ) (tokens : TokenList) : Type 0 where
   pub pieces : List Piece
   pub filled : Pieces bytes 0 pieces (length bytes)
   pub nested : lexemes tokens ≡ seen bytes pieces
 
 abbrev mutual
-  -- a token stands behind this place, it is not empty, its text is the source at its span, and what is inside a group stands between its delimiters
+  -- A token stands at or after this byte offset. It is not empty, its text is the source at its span, and the tokens inside a group stand between its
+  -- delimiters.
   pub TokenStands : List ℕ → ℕ → Token → Type 0
   TokenStands bytes from (identifier text span) = (from ≤ span.from) × (span.from < span.to) × (text ≡ slice_range bytes span.from span.to)
   TokenStands bytes from (punctuation character spacing span) = (from ≤ span.from) × (span.from < span.to) × (character ≡ slice_index bytes span.from)
@@ -70,7 +71,7 @@ abbrev mutual
   TokenStands bytes from (doc text span) = (from ≤ span.from) × (span.from < span.to) × (text ≡ slice_range bytes span.from span.to)
   TokenStands bytes from (group delimiter span inside) = (from ≤ span.from) × (span.from < span.to) × RunStands bytes (span.from + 1) inside (span.to - 1)
 
-  -- the tokens of a run stand in order between these places
+  -- the tokens of a run stand in order between these byte offsets
   pub RunStands : List ℕ → ℕ → TokenList → ℕ → Type 0
   RunStands bytes from none to = from ≤ to
   RunStands bytes from (also token rest) to = TokenStands bytes from token × RunStands bytes (span_of token).to rest to
@@ -87,7 +88,8 @@ is_partner Bracket Brace = false
 is_partner Brace Parenthesis = false
 is_partner Brace Bracket = false
 
--- the delimiters that are open behind the lexemes where these are in front of them, innermost first, with their places; None where one closes what is not its partner
+-- The delimiters that are open after the lexemes, innermost first, with their byte offsets. The first argument has those that are open before them.
+-- `None` if one closes what is not its partner.
 abbrev pub opened : List (Delimiter × ℕ) → List Lexeme → Option (List (Delimiter × ℕ))
 opened around [] = Some around
 opened around (leaf token ∷ rest) = opened around rest
@@ -95,21 +97,21 @@ opened around (opens delimiter from ∷ rest) = opened ((delimiter, from) ∷ ar
 opened [] (closes delimiter to ∷ rest) = None
 opened (innermost ∷ around) (closes delimiter to ∷ rest) = if is_partner innermost.0 delimiter then opened around rest else None
 
--- how many delimiters are open at once, at most, where so many are in front
+-- the greatest number of delimiters that are open at once, with `n` open before the lexemes
 abbrev pub most_open : ℕ → List Lexeme → ℕ
 most_open n [] = n
 most_open n (leaf token ∷ rest) = most_open n rest
 most_open n (opens delimiter from ∷ rest) = most_open (n + 1) rest
 most_open n (closes delimiter to ∷ rest) = max n (most_open (n - 1) rest)
 
--- the source is pieces up to there, these delimiters are open, and no fault and no limit was met
+-- The source up to this byte offset is a row of pieces. These delimiters are open there, and no fault and no limit was met before it.
 pub record IsFront (bytes : List ℕ) (to : ℕ) (around : List (Delimiter × ℕ)) : Type 0 where
   pub pieces : List Piece
   pub filled : Pieces bytes 0 pieces to
   pub nested : opened [] (seen bytes pieces) ≡ Some around
   pub shallow : most_open 0 (seen bytes pieces) ≤ 128
 
--- behind a front no piece begins
+-- after a row of pieces no further piece begins
 pub record IsBroken (bytes : List ℕ) (kind : LexicalKind) (span : Span) : Type 0 where
   pub at : ℕ
   pub around : List (Delimiter × ℕ)
@@ -117,7 +119,7 @@ pub record IsBroken (bytes : List ℕ) (kind : LexicalKind) (span : Span) : Type
   pub inside : at < length bytes
   pub stuck : IsStuck bytes at kind span
 
--- behind a front a delimiter closes what is not its partner, or nothing
+-- after a row of pieces a delimiter closes nothing, or something that is not its partner
 pub record IsUnmatched (bytes : List ℕ) (span : Span) : Type 0 where
   pub around : List (Delimiter × ℕ)
   pub delimiter : Delimiter
@@ -125,20 +127,20 @@ pub record IsUnmatched (bytes : List ℕ) (span : Span) : Type 0 where
   pub piece : IsNext bytes span.from (Closing delimiter) span.to
   pub apart : opened around (closes delimiter span.to ∷ []) ≡ None
 
--- at the end of the source a delimiter is open, and this is the innermost one
+-- at the end of the source this delimiter is open, and it is the innermost one
 pub record IsUnclosed (bytes : List ℕ) (span : Span) : Type 0 where
   pub around : List (Delimiter × ℕ)
   pub delimiter : Delimiter
   pub front : IsFront bytes (length bytes) ((delimiter, span.from) ∷ around)
   pub piece : IsNext bytes span.from (Opening delimiter) span.to
 
--- this is the first fault of the source from the left
+-- the first fault of the source, from the left
 pub data IsUnreadable (bytes : List ℕ) : LexicalKind → Span → Type 0 where
   broken : {kind : LexicalKind} {span : Span} → IsBroken bytes kind span → IsUnreadable bytes kind span
   unmatched : {span : Span} → IsUnmatched bytes span → IsUnreadable bytes Unbalanced span
   unclosed : {span : Span} → IsUnclosed bytes span → IsUnreadable bytes Unbalanced span
 
--- behind a front with as many open delimiters as may be another one opens
+-- after a row of pieces with as many open delimiters as are allowed, another one opens
 pub record IsTooDeep (bytes : List ℕ) (span : Span) : Type 0 where
   pub around : List (Delimiter × ℕ)
   pub delimiter : Delimiter

@@ -5,7 +5,7 @@ use Rattle.logos_lexeme.specs.declared.lexeme.Spacing.{Spacing}
 use Rattle.logos_lexeme.specs.declared.lexeme.Delimiter.{Delimiter}
 
 mutual
-  -- a token with its span; texts are bytes of the source
+  -- A token with its span. Its text is bytes of the source.
   pub data Token : Type 0 where
     identifier : (text : List ℕ) (span : Span) → Token
     punctuation : (character : ℕ) (spacing : Spacing) (span : Span) → Token
@@ -30,23 +30,23 @@ abbrev pub first_of : TokenList → Option Token
 first_of none = None
 first_of (also token rest) = Some token
 
--- the tokens behind the first one
+-- the tokens after the first one
 abbrev pub rest_of : TokenList → TokenList
 rest_of none = none
 rest_of (also token rest) = rest
 
--- where the last token of a run ends
+-- the byte offset at which the last token of a run ends
 abbrev pub end_of : Token → TokenList → ℕ
 end_of token none = (span_of token).to
 end_of token (also next rest) = end_of next rest
 
--- from the first token to the last; a run without tokens has 0..0
+-- the span from the first token to the last one, or 0..0 if the run has no tokens
 abbrev pub run_span : TokenList → Span
 run_span none = record { from = 0; to = 0 }
 run_span (also token rest) = record { from = (span_of token).from; to = end_of token rest }
 
 abbrev mutual
-  -- how many tokens there are in a token, itself and those inside it
+  -- the number of tokens in a token: itself and those inside it
   pub token_count : Token → ℕ
   token_count (identifier text span) = 1
   token_count (punctuation character spacing span) = 1
@@ -54,23 +54,23 @@ abbrev mutual
   token_count (doc text span) = 1
   token_count (group delimiter span inside) = 1 + count_of inside
 
-  -- how many tokens there are in a run, those inside groups too
+  -- the number of tokens in a run, with those inside groups
   pub count_of : TokenList → ℕ
   count_of none = 0
   count_of (also token rest) = token_count token + count_of rest
 
--- one run behind another
+-- one run after another
 abbrev pub append : TokenList → TokenList → TokenList
 append none more = more
 append (also token rest) more = also token (append rest more)
 
--- the second run is what is left of the first one behind some tokens
+-- the second run is the rest of the first one after some tokens
 pub record IsRestOf (run rest : TokenList) : Type 0 where
   pub front : TokenList
   pub is : run ≡ append front rest
 
 abbrev mutual
-  -- how many groups stand inside one another in a token, itself counted
+  -- how many groups stand inside one another in a token, which counts itself
   pub token_depth : Token → ℕ
   token_depth (identifier text span) = 0
   token_depth (punctuation character spacing span) = 0

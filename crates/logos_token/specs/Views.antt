@@ -1,4 +1,4 @@
--- The tokens that the views show.
+-- The tokens that a buffer and its views stand for.
 use Rattle.std.specs.Prelude.{List, [], ◌∷◌}
 use Rattle.logos_token.specs.declared.token.views.TokenStream.{TokenStream}
 use Rattle.logos_token.specs.declared.token.views.Tokens.{Tokens}
@@ -29,11 +29,11 @@ tree_of (Literal l) = literal l.text.now l.span
 tree_of (Doc d) = doc d.text.now d.span
 tree_of (Group g) = group g.delimiter g.span (inside_of g)
 
--- the tokens one after another
+-- the tokens of a run, as a list
 abbrev pub listed : TokenList → List Token
 listed none = []
 listed (also token rest) = token ∷ listed rest
 
--- the tokens that an iterator still gives
+-- the tokens that an iterator has still to give
 abbrev pub iter_rest : TokenIter → List Token
 iter_rest iter = listed (tokens_of iter.rest)

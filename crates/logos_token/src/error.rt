@@ -1,4 +1,4 @@
-//! Faults, in order of collection.
+//! The faults found in a source, in the order in which they were found.
 
 mod fault_code;
 mod rendering;
@@ -10,7 +10,7 @@ use std::error::Error;
 use std::fmt;
 use std::marker::Model;
 
-/// Memory ran out.
+/// The error of a call for which there was not enough memory.
 #[derive(Clone, Copy, Debug, PartialEq, Eq)]
 pub struct Memory;
 
@@ -34,17 +34,17 @@ impl fmt::Display for Memory {
 
 impl Error for Memory {}
 
-/// A fault at its place.
+/// A fault with its place in the source.
 #[derive(Debug, Drop)]
 pub struct SpannedError {
     pub code: FaultCode,
     pub message: String,
     pub span: Span,
-    /// A second place that the fault names.
+    /// A second place that the fault is about.
     pub also: Option<Span>,
 }
 
-/// The faults collected so far.
+/// The list of the faults found so far, in the order in which they were found.
 #[derive(Debug, Drop)]
 pub struct Errors {
     collected: Vec<SpannedError>,
@@ -80,7 +80,7 @@ impl Errors {
     ///
     /// # Errors
     ///
-    /// `Memory` where memory ran out. Then the faults are as before.
+    /// `Memory` if there is not enough memory. The list is then unchanged.
     pub fn err(&mut self, code: FaultCode, message: &str, span: Span) -> Result<(), Memory>
         ensures ok { OnOk result (self.new ≡ self.old ++ (record {
           code = code;
@@ -93,11 +93,11 @@ impl Errors {
         self.add(code, message, span, None)
     }
 
-    /// Adds a fault that names two places, at the end.
+    /// Adds a fault that is about two places, at the end.
     ///
     /// # Errors
     ///
-    /// `Memory` where memory ran out. Then the faults are as before.
+    /// `Memory` if there is not enough memory. The list is then unchanged.
     pub fn err_also(
         &mut self,
         code: FaultCode,
@@ -120,7 +120,7 @@ impl Errors {
     ///
     /// # Errors
     ///
-    /// `Memory` where memory ran out. Then the faults are as before.
+    /// `Memory` if there is not enough memory. The list is then unchanged.
     pub fn append(&mut self, mut more: Errors) -> Result<(), Memory>
         ensures ok { OnOk result (self.new ≡ self.old ++ more) }
         ensures err { OnErr result (self.new ≡ self.old) }
@@ -134,14 +134,14 @@ impl Errors {
         self.alloc
     }
 
-    /// Returns the faults, in order of collection.
+    /// Returns the faults in the order in which they were found.
     pub fn list(&self) -> &[SpannedError]
         ensures { faults_of result.now ≡ self.now }
     {
         &self.collected
     }
 
-    /// Adds a fault at the end. After an error the faults are as before.
+    /// Adds a fault at the end. After an error the list is unchanged.
     fn add(
         &mut self,
         code: FaultCode,

@@ -1,4 +1,5 @@
-//! Source texts: tokens with their spans, the faults found in them, and small helpers.
+//! Reads a source text into tokens with their spans, collects the faults found in it, and has small
+//! helpers for both.
 
 #![tactic(auto)]
 

@@ -1,4 +1,4 @@
-//! Tokens of a source text.
+//! The tokens of a source text.
 
 mod entry;
 mod laws;
@@ -9,7 +9,7 @@ mod views;
 
 pub use laws::{prints_back, prints_runs_back};
 pub use logos_lexeme::lexeme::{Delimiter, LexicalKind, Spacing, Span};
-pub use printing::{closing_text, gap_behind, gap_behind_doc, opening_text, print};
+pub use printing::{Printer, closing_text, gap_after, gap_after_doc, opening_text, print};
 pub use reader::{TokenError, spelled_in_order, spells_once, tokenize};
 pub use value::LiteralValue;
 pub use views::{Group, TokenIter, TokenStream, TokenTree, Tokens};
@@ -36,7 +36,8 @@ pub struct Literal<'s> {
     pub span: Span,
 }
 
-/// A documentation comment, as it stands in the source. A line comment is without its end.
+/// A documentation comment, as it stands in the source. A line comment does not include the end of
+/// its line.
 #[derive(Clone, Copy)]
 pub struct Doc<'s> {
     pub text: &'s str,

@@ -1,4 +1,4 @@
-//! Small helpers.
+//! Small helpers for tokens.
 ghost use Rattle.std.specs.Prelude.{◌≡◌};
 ghost use Rattle.logos_token.specs.Views.{tree_of};
 ghost use Rattle.logos_token.specs.Punctuation.{is_alone, unless_alone};
@@ -11,7 +11,8 @@ pub use escaping::push_escaped;
 use std::alloc::Global;
 use std::mem;
 
-/// Whether the tree is this punctuation, with no other one directly behind it.
+/// Returns whether `tree` is the punctuation `expected` with no other punctuation directly after
+/// it.
 pub fn is_punct(tree: &TokenTree<'_, '_>, expected: char) -> bool
     ensures { result ≡ is_alone expected (tree_of tree.now) }
 {
@@ -23,7 +24,8 @@ pub fn is_punct(tree: &TokenTree<'_, '_>, expected: char) -> bool
     }
 }
 
-/// Nothing where the tree is this punctuation, with no other one directly behind it; else the tree.
+/// Returns `None` if `tree` is the punctuation `expected` with no other punctuation directly after
+/// it, or else `tree`.
 pub fn expect_punct<'t, 's>(
     tree: Option<TokenTree<'t, 's>>,
     expected: char,
@@ -38,9 +40,9 @@ pub fn expect_punct<'t, 's>(
     }
 }
 
-/// What can be made an identifier.
+/// A conversion to an identifier.
 pub trait ToIdent<'a> {
-    /// The identifier, which stands at no place of the source: its span is `0..0`.
+    /// Returns the identifier with this text. It stands nowhere in the source: its span is `0..0`.
     fn to_ident(self) -> Ident<'a>;
 }
 
@@ -56,7 +58,7 @@ impl<'a> ToIdent<'a> for &'a str {
     }
 }
 
-/// Tokens, or none; none are printed as `()`.
+/// Tokens, or none. None are printed as `()`.
 #[derive(Drop)]
 pub enum MaybeVoid<'s> {
     Some(TokenStream<'s>),
@@ -67,7 +69,7 @@ impl<'s> MaybeVoid<'s> {
     ghost use Rattle.std.specs.Prelude.{◌≡◌, IfOk, string_bytes};
     ghost use Rattle.logos_token.specs.MaybePrinted.{maybe_printed};
 
-    /// Puts tokens in place of what was there, which it gives back.
+    /// Replaces the tokens and returns the former ones.
     pub fn replace(&mut self, stream: TokenStream<'s>) -> MaybeVoid<'s>
         ensures former { result ≡ self.old }
         ensures after { self.new ≡ MaybeVoid.Some stream.entry }
@@ -75,7 +77,7 @@ impl<'s> MaybeVoid<'s> {
         mem::replace(self, MaybeVoid::Some(stream))
     }
 
-    /// Leaves no tokens, and gives back what was there.
+    /// Removes the tokens and returns them.
     pub fn take(&mut self) -> MaybeVoid<'s>
         ensures former { result ≡ self.old }
         ensures after { self.new ≡ MaybeVoid.Void }
@@ -83,8 +85,11 @@ impl<'s> MaybeVoid<'s> {
         mem::replace(self, MaybeVoid::Void)
     }
 
-    /// The text of the tokens, as `print` gives it; that of `()` where there are none. It fails
-    /// only where there is no memory.
+    /// Returns the text that `print` gives for the tokens, or `()` if there are none.
+    ///
+    /// # Errors
+    ///
+    /// `Memory` if there is not enough memory.
     pub fn print(&self, alloc: Global) -> Result<String, Memory>
         ensures { IfOk result (λ text. string_bytes text ≡ maybe_printed self.now) }
     {

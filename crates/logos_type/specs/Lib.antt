@@ -2,4 +2,3 @@ pub mod Parts
 pub mod TypeTrees
 pub mod Depth
 pub mod Printed
-pub mod inside

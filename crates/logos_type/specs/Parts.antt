@@ -1,14 +1,14 @@
--- What a type is made of, without where it lies in memory.
+-- The parts of a type.
 use Rattle.std.specs.Prelude.{ℕ, List, [], ◌∷◌, Option, Some, None}
 use Rattle.logos_lexeme.specs.declared.lexeme.Delimiter.{Delimiter}
 use Rattle.logos_lexeme.specs.declared.lexeme.Spacing.{Spacing}
 use Rattle.logos_type.specs.declared.type_expr.Leaf.{Leaf}
-use Rattle.logos_type.specs.declared.type_expr.Leaf.TheVariants.{Word, Mark, Colons, Arrow, Literal, Open, Close, Reference, Lifetime, Kept, Punct, Doc}
+use Rattle.logos_type.specs.declared.type_expr.Leaf.TheVariants.{Word, Mark, Colons, Arrow, Literal, Open, Close, Reference, Lifetime, OtherLifetime, Punct, Doc}
 use Rattle.logos_type.specs.declared.type_expr.Part.{Part}
 use Rattle.logos_type.specs.declared.type_expr.Part.TheOpen.{Part-F}
 use Rattle.logos_type.specs.declared.type_expr.Part.TheFolds.{fold-Part}
 
--- a token that is no type itself
+-- a token that is not a type by itself
 pub data Sign : Type 0 where
   word : (text : List ℕ) → Sign
   mark : (character : ℕ) → Sign
@@ -23,15 +23,15 @@ pub data Sign : Type 0 where
   reference : (lifetime : Option (List ℕ)) → Sign
   -- a lifetime among the angle arguments of a path that is a type
   lifetime : (text : List ℕ) → Sign
-  -- any other lifetime
-  kept : (text : List ℕ) → Sign
-  -- a punctuation of an array's length or of braces
+  -- a lifetime anywhere else
+  other_lifetime : (text : List ℕ) → Sign
+  -- punctuation in the length of an array or in braces
   spaced_mark : (character : ℕ) (spacing : Spacing) → Sign
-  -- a documentation comment in one of these
+  -- a documentation comment there
   comment : (text : List ℕ) → Sign
 
 mutual
-  -- a part of a type: a token, a type that is just a name, a type of parts, or parts that stay as they are
+  -- A part of a type: a token, a type that is just a name, a type of several parts, or parts that are never replaced.
   pub data Tree : Type 0 where
     sign : Sign → Tree
     name : (text : List ℕ) → Tree
@@ -58,11 +58,11 @@ sign_of (Close delimiter) = closing delimiter
 sign_of (Reference (Some text)) = reference (Some text.now)
 sign_of (Reference None) = reference None
 sign_of (Lifetime text) = lifetime text.now
-sign_of (Kept text) = kept text.now
+sign_of (OtherLifetime text) = other_lifetime text.now
 sign_of (Punct character spacing) = spaced_mark character spacing
 sign_of (Doc text) = comment text.now
 
--- one part, with each part inside in its place
+-- one part, with each part inside it in its place
 abbrev pub node_tree : Part-F Tree → Tree
 node_tree (Part-F.Leaf leaf) = sign (sign_of leaf)
 node_tree (Part-F.Name text) = name text.now

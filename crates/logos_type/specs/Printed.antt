@@ -1,10 +1,10 @@
--- The printed text of a type: its tokens with one space in between, `<`, `>` and `&` each alone, `::`, `->` and a lifetime each as one.
+-- The printed text of a type: its tokens with a space between each two. `<`, `>` and `&` stand alone; `::`, `->` and a lifetime are one lexeme each.
 use Rattle.std.specs.Prelude.{ℕ, List, [], ◌∷◌, ◌++◌, codes, fold, if◌then◌else◌, Some, None}
 use Rattle.std.specs.Char.{encode_utf8}
-use Rattle.logos_token.specs.Printing.{Part, spaced, opening_text, closing_text, gap_behind, is_line_comment, print_part}
-use Rattle.logos_type.specs.Parts.{Sign, word, mark, colons, arrow, value, opening, closing, reference, lifetime, kept, spaced_mark, comment, Tree, sign, name, whole, still, Trees, none, also}
+use Rattle.logos_token.specs.Printing.{Part, spaced, opening_text, closing_text, gap_after, is_line_comment, print_part}
+use Rattle.logos_type.specs.Parts.{Sign, word, mark, colons, arrow, value, opening, closing, reference, lifetime, other_lifetime, spaced_mark, comment, Tree, sign, name, whole, still, Trees, none, also}
 
--- `'` and the name behind it
+-- `'` and the name after it
 abbrev pub lifetime_parts : List ℕ → List Part
 lifetime_parts text = (record { text = codes "'"; gap = [] }) ∷ spaced text ∷ []
 
@@ -20,8 +20,8 @@ sign_parts (closing delimiter) = spaced (closing_text delimiter) ∷ []
 sign_parts (reference (Some text)) = spaced (codes "&") ∷ lifetime_parts text
 sign_parts (reference None) = spaced (codes "&") ∷ []
 sign_parts (lifetime text) = lifetime_parts text
-sign_parts (kept text) = lifetime_parts text
-sign_parts (spaced_mark character spacing) = (record { text = encode_utf8 character; gap = gap_behind spacing }) ∷ []
+sign_parts (other_lifetime text) = lifetime_parts text
+sign_parts (spaced_mark character spacing) = (record { text = encode_utf8 character; gap = gap_after spacing }) ∷ []
 sign_parts (comment text) = (record { text = text; gap = if is_line_comment text then 10 ∷ [] else codes " " }) ∷ []
 
 abbrev mutual
@@ -36,6 +36,6 @@ abbrev mutual
   all_parts none = []
   all_parts (also part parts) = type_parts part ++ all_parts parts
 
--- the whole text
+-- the text of a type
 abbrev pub printed_type : Tree → List ℕ
 printed_type tree = (fold print_part (record { text = []; gap = [] }) (type_parts tree)).text

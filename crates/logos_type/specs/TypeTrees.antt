@@ -1,4 +1,4 @@
--- What a type is made of.
+-- The parts that a value of type `TypeExpr` stands for.
 use Rattle.logos_type.specs.declared.type_expr.TypeExpr.{TypeExpr}
 use Rattle.logos_type.specs.Parts.{Tree, tree_of}
 

@@ -1,11 +1,11 @@
-//! Equal types.
+//! Compares types.
 ghost use Rattle.std.specs.Prelude.{◌≡◌, ◌↔◌, IsTrue, map};
 ghost use Rattle.logos_type.specs.Parts.{sign_of, tree_of};
 ghost use Rattle.logos_type.specs.TypeTrees.{type_tree};
 
 use crate::type_expr::{Leaf, Part, TypeExpr};
 
-/// Whether two tokens are the same.
+/// Returns whether two tokens are the same.
 fn is_same_leaf(leaf: &Leaf<'_>, other: &Leaf<'_>) -> bool
     ensures { IsTrue result ↔ (sign_of leaf.now ≡ sign_of other.now) }
 {
@@ -19,7 +19,7 @@ fn is_same_leaf(leaf: &Leaf<'_>, other: &Leaf<'_>) -> bool
         (Leaf::Close(delimiter), Leaf::Close(second)) => delimiter == second,
         (Leaf::Reference(lifetime), Leaf::Reference(second)) => lifetime == second,
         (Leaf::Lifetime(text), Leaf::Lifetime(second)) => text == second,
-        (Leaf::Kept(text), Leaf::Kept(second)) => text == second,
+        (Leaf::OtherLifetime(text), Leaf::OtherLifetime(second)) => text == second,
         (Leaf::Punct(character, spacing), Leaf::Punct(second, other_spacing)) => {
             (character == second) & (spacing == other_spacing)
         }
@@ -28,7 +28,7 @@ fn is_same_leaf(leaf: &Leaf<'_>, other: &Leaf<'_>) -> bool
     }
 }
 
-/// Whether the parts of two lists are the same, one by one.
+/// Returns whether two lists have the same parts in the same order.
 #[cycle(equality)]
 fn are_same_parts(parts: &[Part<'_>], others: &[Part<'_>]) -> bool
     ensures { IsTrue result ↔ (map tree_of parts.now ≡ map tree_of others.now) }
@@ -44,7 +44,7 @@ fn are_same_parts(parts: &[Part<'_>], others: &[Part<'_>]) -> bool
     true
 }
 
-/// Whether two parts are the same.
+/// Returns whether two parts are the same.
 #[cycle(equality)]
 fn is_same_part(part: &Part<'_>, other: &Part<'_>) -> bool
     ensures { IsTrue result ↔ (tree_of part.now ≡ tree_of other.now) }
@@ -58,7 +58,7 @@ fn is_same_part(part: &Part<'_>, other: &Part<'_>) -> bool
     }
 }
 
-/// Whether two types are made of the same parts, wherever each of them stands in its source.
+/// Returns whether two types have the same parts, wherever they stand in their sources.
 pub fn is_same_type(type_expr: &TypeExpr<'_>, other: &TypeExpr<'_>) -> bool
     ensures { IsTrue result ↔ (type_tree type_expr.now ≡ type_tree other.now) }
 {

@@ -1,9 +1,9 @@
-//! What holds of each type.
+//! Laws of types. Nothing calls these functions: the contract of each is a law.
 ghost use Rattle.std.specs.Prelude.{◌<◌, ◌↔◌, ℕ, IsTrue};
 ghost use Rattle.logos_type.specs.Parts.{Tree};
 ghost use Rattle.logos_type.specs.Depth.{depth, exceeds};
 
-/// More types stand inside one another than these levels just where the depth is greater than these.
+/// A type exceeds some levels exactly if its depth is greater.
 pub fn exceeds_is_deeper()
     ensures { (levels : ℕ) (tree : Tree) → IsTrue (exceeds levels tree) ↔ (levels < depth tree) }
 {}

@@ -1,122 +1,87 @@
-//! Printing types.
-ghost use Rattle.std.specs.Prelude.{◌≡◌, IfOk, string_bytes};
-ghost use Rattle.logos_type.specs.Printed.{printed_type};
+//! Prints types.
+ghost use Rattle.std.specs.Prelude.{◌≡◌, IfOk, OnOk, fold, string_bytes};
+ghost use Rattle.logos_token.specs.Printing.{print_part};
+ghost use Rattle.logos_token.specs.PrinterViews.{printed_of};
+ghost use Rattle.logos_type.specs.Parts.{sign_of, tree_of};
+ghost use Rattle.logos_type.specs.Printed.{lifetime_parts, sign_parts, type_parts, printed_type};
 ghost use Rattle.logos_type.specs.TypeTrees.{type_tree};
 
 use crate::type_expr::{Leaf, Part, TypeExpr};
 use logos_token::error::Memory;
-use logos_token::token::{closing_text, gap_behind, gap_behind_doc, opening_text};
+use logos_token::token::{Printer, closing_text, gap_after, gap_after_doc, opening_text};
 use std::alloc::Global;
 
-/// What is printed so far.
-#[derive(Drop)]
-pub(crate) struct TypePrinter {
-    text: String,
-    /// What parts it from the next lexeme.
-    gap: &'static str,
+/// Prints a lifetime.
+fn add_lifetime(printer: &mut Printer, text: &str) -> Result<(), Memory>
+    ensures { OnOk result (printed_of printer.new ≡
+        fold print_part (printed_of printer.old) (lifetime_parts text.now)) }
+{
+    printer.add("'", "")?;
+    printer.add(text, " ")
 }
 
-impl TypePrinter {
-    ghost use Rattle.std.specs.Prelude.{◌≡◌, OnOk, fold, codes};
-    ghost use Rattle.std.specs.Char.{encode_utf8};
-    ghost use Rattle.logos_token.specs.Printing.{print_part};
-    ghost use Rattle.logos_type.specs.Parts.{sign_of, tree_of};
-    ghost use Rattle.logos_type.specs.Printed.{lifetime_parts, sign_parts, type_parts};
-    ghost use Rattle.logos_type.specs.inside.Printer.{printed_of};
-
-    /// Adds a lexeme.
-    fn add(&mut self, text: &str, gap: &'static str) -> Result<(), Memory>
-        ensures { OnOk result (printed_of self.new ≡
-            print_part (printed_of self.old) (record { text = text.now; gap = gap.now })) }
-    {
-        self.text.push_str(self.gap)?;
-        self.text.push_str(text)?;
-        self.gap = gap;
-        Ok(())
+/// Prints `&`, and the lifetime after it if there is one.
+fn add_reference(printer: &mut Printer, lifetime: Option<&str>) -> Result<(), Memory>
+    ensures { OnOk result (printed_of printer.new ≡
+        fold print_part (printed_of printer.old)
+        (sign_parts (sign_of (Leaf.Reference lifetime.entry)))) }
+{
+    printer.add("&", " ")?;
+    match lifetime {
+        Some(text) => add_lifetime(printer, text),
+        None => Ok(()),
     }
+}
 
-    /// Adds a lexeme of one character.
-    fn add_character(&mut self, character: char, gap: &'static str) -> Result<(), Memory>
-        ensures { OnOk result (printed_of self.new ≡
-            print_part (printed_of self.old)
-            (record { text = encode_utf8 character; gap = gap.now })) }
-    {
-        self.text.push_str(self.gap)?;
-        self.text.push(character)?;
-        self.gap = gap;
-        Ok(())
+/// Prints a token.
+fn add_leaf(printer: &mut Printer, leaf: Leaf<'_>) -> Result<(), Memory>
+    ensures { OnOk result (printed_of printer.new ≡
+        fold print_part (printed_of printer.old) (sign_parts (sign_of leaf.entry))) }
+{
+    match leaf {
+        Leaf::Word(text) => printer.add(text, " "),
+        Leaf::Mark(character) => printer.add_character(character, " "),
+        Leaf::Colons => printer.add("::", " "),
+        Leaf::Arrow => printer.add("->", " "),
+        Leaf::Literal(text) => printer.add(text, " "),
+        Leaf::Open(delimiter) => printer.add(opening_text(delimiter), " "),
+        Leaf::Close(delimiter) => printer.add(closing_text(delimiter), " "),
+        Leaf::Reference(lifetime) => add_reference(printer, lifetime),
+        Leaf::Lifetime(text) => add_lifetime(printer, text),
+        Leaf::OtherLifetime(text) => add_lifetime(printer, text),
+        Leaf::Punct(character, spacing) => printer.add_character(character, gap_after(spacing)),
+        Leaf::Doc(text) => printer.add(text, gap_after_doc(text)),
     }
+}
 
-    /// Adds a lifetime.
-    fn add_lifetime(&mut self, text: &str) -> Result<(), Memory>
-        ensures { OnOk result (printed_of self.new ≡
-            fold print_part (printed_of self.old) (lifetime_parts text.now)) }
-    {
-        self.add("'", "")?;
-        self.add(text, " ")
-    }
-
-    /// Adds `&`, and the lifetime behind it, if there is one.
-    fn add_reference(&mut self, lifetime: Option<&str>) -> Result<(), Memory>
-        ensures { OnOk result (printed_of self.new ≡
-            fold print_part (printed_of self.old)
-            (sign_parts (sign_of (Leaf.Reference lifetime.entry)))) }
-    {
-        self.add("&", " ")?;
-        match lifetime {
-            Some(text) => self.add_lifetime(text),
-            None => Ok(()),
-        }
-    }
-
-    /// Adds a token.
-    fn add_leaf(&mut self, leaf: Leaf<'_>) -> Result<(), Memory>
-        ensures { OnOk result (printed_of self.new ≡
-            fold print_part (printed_of self.old) (sign_parts (sign_of leaf.entry))) }
-    {
-        match leaf {
-            Leaf::Word(text) => self.add(text, " "),
-            Leaf::Mark(character) => self.add_character(character, " "),
-            Leaf::Colons => self.add("::", " "),
-            Leaf::Arrow => self.add("->", " "),
-            Leaf::Literal(text) => self.add(text, " "),
-            Leaf::Open(delimiter) => self.add(opening_text(delimiter), " "),
-            Leaf::Close(delimiter) => self.add(closing_text(delimiter), " "),
-            Leaf::Reference(lifetime) => self.add_reference(lifetime),
-            Leaf::Lifetime(text) => self.add_lifetime(text),
-            Leaf::Kept(text) => self.add_lifetime(text),
-            Leaf::Punct(character, spacing) => self.add_character(character, gap_behind(spacing)),
-            Leaf::Doc(text) => self.add(text, gap_behind_doc(text)),
-        }
-    }
-
-    /// Adds a part.
-    pub(crate) fn add_part(&mut self, part: &Part<'_>) -> Result<(), Memory>
-        ensures { OnOk result (printed_of self.new ≡
-            fold print_part (printed_of self.old) (type_parts (tree_of part.now))) }
-    {
-        match part {
-            Part::Leaf(leaf) => self.add_leaf(*leaf),
-            Part::Name(text) => self.add(text, " "),
-            Part::Whole(parts) | Part::Still(parts) => {
-                for inner in parts {
-                    self.add_part(inner)?;
-                }
-                Ok(())
+/// Prints a part.
+fn add_part(printer: &mut Printer, part: &Part<'_>) -> Result<(), Memory>
+    ensures { OnOk result (printed_of printer.new ≡
+        fold print_part (printed_of printer.old) (type_parts (tree_of part.now))) }
+{
+    match part {
+        Part::Leaf(leaf) => add_leaf(printer, *leaf),
+        Part::Name(text) => printer.add(text, " "),
+        Part::Whole(parts) | Part::Still(parts) => {
+            for inner in parts {
+                add_part(printer, inner)?;
             }
+            Ok(())
         }
     }
 }
 
-/// The text of a type: its tokens with one space in between, where `<`, `>` and `&` stand alone, and `::`, `->` and
-/// a lifetime are one. The tokens of an array's length and of braces keep their spacing.
+/// Returns the text of a type: its tokens with a space between each two. `<`, `>` and `&` stand
+/// alone; `::`, `->` and a lifetime are one lexeme each. The tokens of an array's length and of
+/// braces keep their spacing.
+///
+/// # Errors
+///
+/// `Memory` if there is not enough memory.
 pub fn print_type(alloc: Global, type_expr: &TypeExpr<'_>) -> Result<String, Memory>
     ensures { IfOk result (λ text. string_bytes text ≡ printed_type (type_tree type_expr.now)) }
 {
-    let mut printer = TypePrinter {
-        text: String::new(alloc),
-        gap: "",
-    };
-    printer.add_part(&type_expr.part)?;
-    Ok(printer.text)
+    let mut printer = Printer::new(alloc);
+    add_part(&mut printer, &type_expr.part)?;
+    Ok(printer.into_text())
 }

@@ -195,18 +195,18 @@ check_on params marks Whole all rest named keys keys' before after c e h are = r
 }
 
 -- faults behind those that stood in front already
-checked_behind : {params : List ParamValue} {front : List Named} {named : Named} {old new : List Fault} (ahead : List Fault) → IsChecked params front named old new → IsChecked params front named (ahead ++ old) (ahead ++ new)
-checked_behind ahead (declared_again d e) = declared_again d (ap (λ l. ahead ++ l) e)
-checked_behind ahead (leads_on n e) = leads_on n (ap (λ l. ahead ++ l) e)
-checked_behind {named = named} {old = old} ahead (leads_back d l e) = leads_back d l (ap (λ l. ahead ++ l) e ∙ sym (append_assoc ahead old (type_holds_itself named ∷ [])))
+checked_after : {params : List ParamValue} {front : List Named} {named : Named} {old new : List Fault} (ahead : List Fault) → IsChecked params front named old new → IsChecked params front named (ahead ++ old) (ahead ++ new)
+checked_after ahead (declared_again d e) = declared_again d (ap (λ l. ahead ++ l) e)
+checked_after ahead (leads_on n e) = leads_on n (ap (λ l. ahead ++ l) e)
+checked_after {named = named} {old = old} ahead (leads_back d l e) = leads_back d l (ap (λ l. ahead ++ l) e ∙ sym (append_assoc ahead old (type_holds_itself named ∷ [])))
 
-pub all_checked_behind : {params : List ParamValue} {front names : List Named} {old new : List Fault} (ahead : List Fault) → AreChecked params front names old new → AreChecked params front names (ahead ++ old) (ahead ++ new)
-all_checked_behind ahead no_name = no_name
-all_checked_behind ahead (one_more first rest) = one_more (checked_behind ahead first) (all_checked_behind ahead rest)
+pub all_checked_after : {params : List ParamValue} {front names : List Named} {old new : List Fault} (ahead : List Fault) → AreChecked params front names old new → AreChecked params front names (ahead ++ old) (ahead ++ new)
+all_checked_after ahead no_name = no_name
+all_checked_after ahead (one_more first rest) = one_more (checked_after ahead first) (all_checked_after ahead rest)
 
 -- faults that are found alone, and then stand behind others
 pub checked_listed : {params : List ParamValue} {front names : List Named} (ahead none found all : List Fault) → none ≡ [] → AreChecked params front names none found → all ≡ ahead ++ found →
     AreChecked params front names ahead all
 checked_listed {params = params} {front = front} {names = names} ahead none found all n checked e =
     subst (λ (l : List Fault). AreChecked params front names ahead l) (sym e)
-    (subst (λ (l : List Fault). AreChecked params front names l (ahead ++ found)) (ap (λ (l : List Fault). ahead ++ l) n ∙ append-nil ahead) (all_checked_behind ahead checked))
+    (subst (λ (l : List Fault). AreChecked params front names l (ahead ++ found)) (ap (λ (l : List Fault). ahead ++ l) n ∙ append-nil ahead) (all_checked_after ahead checked))

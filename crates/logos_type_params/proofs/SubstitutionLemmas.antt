@@ -49,13 +49,13 @@ module _ (params : Params) (levels : ℕ) (all : Trees) where
   stopped now rest t ts r e faults.LimitNesting h = r.passes (rw e (first_passes h))
   stopped now rest t ts r e faults.Memory h = tt
   stopped now rest t ts r e (faults.Unsupported span) h = h
-  stopped now rest t ts r e (faults.Misfit span) h = h
+  stopped now rest t ts r e (faults.Mismatch span) h = h
 
 pub if_deep-map : (P Q : Type 0) → (P → Q) → (fault : TypeFault) → IfDeep P fault → IfDeep Q fault
 if_deep-map P Q f faults.LimitNesting h = f h
 if_deep-map P Q f faults.Memory h = tt
 if_deep-map P Q f (faults.Unsupported span) h = h
-if_deep-map P Q f (faults.Misfit span) h = h
+if_deep-map P Q f (faults.Mismatch span) h = h
 
 -- the first of the parts that are left
 pub rest_front : (items : List Part) (k : ℕ) (p : Part) → k < length items → p ≡ get_or items k p →

@@ -1,4 +1,4 @@
--- Which parameters hold themselves.
+-- Parameters that hold themselves.
 use Rattle.std.specs.Prelude.{◌≡◌, ℕ, ◌||◌, ◌⊎◌, map, List, [], ◌∷◌, Bool, true, false, if◌then◌else◌}
 use Rattle.std.specs.Str.{bytes_eq}
 use denote.Ref.{Bor}
@@ -6,7 +6,7 @@ use Rattle.logos_type.specs.Parts.{Tree, sign, name, whole, still, Trees, none, 
 use Rattle.logos_type_params.specs.Substitution.{ParamValue}
 
 abbrev mutual
-  -- the type has this name among its parts, or is it
+  -- whether a type has this name among its parts, or is it
   pub names : Tree → List ℕ → Bool
   names (sign s) text = false
   names (name other) text = bytes_eq other text
@@ -17,7 +17,7 @@ abbrev mutual
   some_names none text = false
   some_names (also part parts) text = names part text || some_names parts text
 
--- the first type that is given to this name has that name
+-- the first type given to the one name has the other name among its parts
 abbrev pub holds : List ParamValue → List ℕ → List ℕ → Bool
 holds [] text other = false
 holds (p ∷ ps) text other = if bytes_eq p.name text then names p.type other else holds ps text other
@@ -27,7 +27,7 @@ pub data Leads (params : List ParamValue) : List ℕ → List ℕ → Type 0 whe
   one : {from to : List ℕ} → holds params from to ≡ true → Leads params from to
   on : {from over to : List ℕ} → holds params from over ≡ true → Leads params over to → Leads params from to
 
--- this text is one of the list
+-- the list has this text
 abbrev pub Has : List (List ℕ) → List ℕ → Type 0
 Has [] text = ⊥
 Has (t ∷ ts) text = (t ≡ text) ⊎ Has ts text

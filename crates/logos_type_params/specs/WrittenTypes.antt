@@ -17,7 +17,7 @@ types_of params = map param_value params.types.entries
 abbrev pub params_with : TypeParams → List (List ℕ) → Params
 params_with params held = record { types = types_of params; held = held }
 
--- the names that a type is given to
+-- the names to which a type is given
 abbrev pub given_names : List ParamValue → List (List ℕ)
 given_names = map (λ (p : ParamValue). p.name)
 
@@ -27,13 +27,14 @@ pub data IsAsked (params : List ParamValue) (text : List ℕ) (held held' : List
       IsAsked params text held held'
   is_free : (Leads params text text → ⊥) → held' ≡ held → IsAsked params text held held'
 
--- Just the names that have a type whose chain leads back to them.
+-- Exactly the names that have a type and whose chain leads back to them.
 pub record AreHeld (params : List ParamValue) (held : List (List ℕ)) : Type 0 where
   pub have_types : (text : List ℕ) → Has held text → Has (given_names params) text
   pub lead_back : (text : List ℕ) → Has held text → Leads params text text
   pub all : (text : List ℕ) → Has (given_names params) text → Leads params text text → Has held text
 
--- A written type has its declared parameters replaced and its lifetimes set; where the limit is passed by that, this is listed, and the type stays as it was written.
+-- A written type has its declared parameters replaced and its lifetimes set. If that passes the limit, a fault is reported and the type stays as it
+-- is written.
 pub data GetsType (params : Params) (written : Tree) (at : Span) (old new : List Fault) (got : Tree) : Type 0 where
   replaced : After params type_nesting written got → new ≡ old → GetsType params written at old new got
   as_written : Passes params type_nesting written → got ≡ written → new ≡ old ++ limit_type_nesting at ∷ [] → GetsType params written at old new got

@@ -1,11 +1,11 @@
-//! Declared type parameters of an enum: the types given to them, and what becomes of a type that
-//! names them, or has lifetimes.
+//! The declared type parameters of an enum, the types given to them, and the replacement of
+//! parameters and lifetimes in types.
 
 #![tactic(auto)]
 
 mod lifetimes;
-pub mod listing;
 mod names;
+pub mod reporting;
 mod self_reference;
 mod substitution;
 mod type_params;

@@ -1,4 +1,4 @@
-//! Types with their lifetimes set to `'s`.
+//! Sets the lifetimes of types to `'s`.
 ghost use Rattle.std.specs.Prelude.{◌≡◌, map, IfOk};
 ghost use Rattle.logos_type.specs.Parts.{whole, trees, tree_of};
 ghost use Rattle.logos_type.specs.TypeTrees.{type_tree};
@@ -9,8 +9,8 @@ use logos_token::error::Memory;
 use logos_type::{Part, TypeExpr};
 use std::alloc::{AllocError, Global};
 
-/// With the lifetimes of references, and of the angle arguments of paths that are types, set to
-/// `'s`.
+/// Copies a part with the lifetimes of references, and of the angle arguments of paths that are
+/// types, set to `'s`, at any depth.
 pub(crate) fn set_lifetimes<'s>(alloc: Global, part: &Part<'s>) -> Result<Part<'s>, AllocError>
     ensures { IfOk result (λ after. tree_of after ≡ with_lifetimes (tree_of part.now)) }
 {
@@ -28,7 +28,7 @@ pub(crate) fn set_lifetimes<'s>(alloc: Global, part: &Part<'s>) -> Result<Part<'
     }
 }
 
-/// With its lifetime set, if it is a token that has one. Types stay as they are.
+/// Copies a part, with its lifetime set if it is a token that has one. A type stays as it is.
 fn set_own<'s>(part: &Part<'s>) -> Result<Part<'s>, AllocError>
     ensures { IfOk result (λ after. tree_of after ≡ own_lifetime (tree_of part.now)) }
 {
@@ -38,7 +38,7 @@ fn set_own<'s>(part: &Part<'s>) -> Result<Part<'s>, AllocError>
     }
 }
 
-/// A type of these parts, each with its lifetime set if it is a token that has one.
+/// Copies the parts of a type in this way.
 fn set_each<'s>(alloc: Global, parts: &[Part<'s>]) -> Result<Part<'s>, AllocError>
     ensures { IfOk result (λ after. tree_of after ≡
         with_lifetime (whole (trees (map tree_of parts.now)))) }
@@ -50,10 +50,14 @@ fn set_each<'s>(alloc: Global, parts: &[Part<'s>]) -> Result<Part<'s>, AllocErro
     Ok(Part::Whole(after))
 }
 
-/// The type with its lifetimes set to `'s`, and those of all types inside it: the lifetime of a
-/// reference, which gets one where it has none, and the lifetimes among the angle arguments of a
-/// path that is a type. Other lifetimes stay, as those of `dyn` and `for<..>`, and so does all that
-/// is never replaced, as the type before `as`. Only want of memory is an error.
+/// Returns the type with its lifetimes and those of all types inside it set to `'s`: the lifetime of
+/// a reference, which gets one if it has none, and the lifetimes among the angle arguments of a path
+/// that is a type. Other lifetimes stay, such as those of `dyn` and `for<..>`, and so do parts that
+/// are never replaced, such as the type before `as`.
+///
+/// # Errors
+///
+/// `Memory` if there is not enough memory.
 pub fn replace_lifetimes<'s>(
     alloc: Global,
     type_expr: &TypeExpr<'s>,
@@ -64,9 +68,13 @@ pub fn replace_lifetimes<'s>(
     Ok(TypeExpr { part })
 }
 
-/// The type with its own lifetimes set to `'s`, where those of the types inside it stay: of a
-/// reference its lifetime, which it gets where it has none, and of a path that is a type those among
-/// its own angle arguments. Any other type stays as it is. Only want of memory is an error.
+/// Returns the type with its own lifetimes set to `'s`: the lifetime of a reference, which gets one
+/// if it has none, or those among the angle arguments of a path that is a type. The types inside it
+/// and any other type stay as they are.
+///
+/// # Errors
+///
+/// `Memory` if there is not enough memory.
 pub fn replace_lifetime<'s>(alloc: Global, type_expr: &TypeExpr<'s>) -> Result<TypeExpr<'s>, Memory>
     ensures { IfOk result (λ after. type_tree after ≡ with_lifetime (type_tree type_expr.now)) }
 {

@@ -1,4 +1,4 @@
-//! Names in the order in which they are declared.
+//! Holds names in the order in which they are declared.
 ghost use Rattle.std.specs.Prelude.{map};
 ghost use Rattle.logos_type_params.specs.NameLists.{named_of};
 ghost use Rattle.logos_type_params.specs.inside.Fronts.{AreInFront};
@@ -8,7 +8,7 @@ use logos_token::error::Memory;
 use logos_token::token::Ident;
 use std::alloc::Global;
 
-/// Declared names, of which one may stand there more than once.
+/// Declared names. A name can be declared more than once.
 #[derive(Drop)]
 pub(crate) struct Names<'s> {
     /// The names, in order of declaration.
@@ -22,7 +22,7 @@ impl<'s> Names<'s> {
     ghost use Rattle.std.specs.Prelude.{◌≡◌, ◌++◌, ◌∷◌, [], map, OnOk, OnErr};
     ghost use Rattle.logos_type_params.specs.NameLists.{named_of, is_declared};
 
-    /// Without a name.
+    /// Returns an empty list.
     pub(crate) fn new(alloc: Global) -> Names<'s>
         ensures { result.list.items ≡ [] }
     {
@@ -32,14 +32,14 @@ impl<'s> Names<'s> {
         }
     }
 
-    /// Whether a name is declared.
+    /// Returns whether a name is declared.
     pub(crate) fn contains(&self, text: &str) -> bool
         ensures { result ≡ is_declared (map named_of self.now.list.items) text.now }
     {
         self.texts.contains(text)
     }
 
-    /// Declares a name, behind all others. After an error the names are as before.
+    /// Declares a name, after all others. After an error the names are unchanged.
     pub(crate) fn push(&mut self, name: Ident<'s>) -> Result<(), Memory>
         ensures ok { OnOk result (self.new.list.items ≡ self.old.list.items ++ name.entry ∷ []) }
         ensures err { OnErr result (self.new.list.items ≡ self.old.list.items) }

@@ -1,4 +1,4 @@
-//! Which parameters hold themselves.
+//! Finds the parameters that hold themselves.
 ghost use Rattle.std.specs.Prelude.{◌≡◌, ◌↔◌, [], length, map, IfOk, OnOk, IsTrue};
 ghost use Rattle.logos_type.specs.Parts.{name, tree_of};
 ghost use Rattle.logos_type_params.specs.Substitution.{param_value};
@@ -11,17 +11,17 @@ use logos_cycles::on_cycles;
 use logos_type::Part;
 use std::alloc::{AllocError, Global};
 
-/// Types that name one another.
+/// The types given to the parameters, and which of them lead back to their own names.
 #[derive(Drop)]
 pub(crate) struct Chains<'p, 's> {
-    /// The type that is given to each name.
+    /// The type given to each name.
     types: &'p IndexMap<&'s str, TypeParam<'s>>,
-    /// Of each type whether a chain leads from its name back to it.
+    /// For each type, whether a chain leads from its name back to it.
     held: Vec<bool>,
     ghost fits: { length held.items ≡ length types.now.entries },
 }
 
-/// Adds the place of the type that is given to a name, if there is one.
+/// Adds the index of the type that is given to a name, if one is.
 fn reach_name<'s>(
     types: &IndexMap<&'s str, TypeParam<'s>>,
     text: &str,
@@ -37,7 +37,7 @@ fn reach_name<'s>(
     Ok(())
 }
 
-/// Adds the places of the types that are given to the names which a type has among its parts.
+/// Adds the indices of the types given to the names that a type has among its parts.
 fn reach<'s>(
     types: &IndexMap<&'s str, TypeParam<'s>>,
     part: &Part<'s>,
@@ -58,7 +58,7 @@ fn reach<'s>(
     }
 }
 
-/// The places of the types to which each type leads, for each type in order.
+/// Returns for each type the indices of the types to which it leads.
 fn all_reached<'s>(
     alloc: Global,
     types: &IndexMap<&'s str, TypeParam<'s>>,
@@ -84,7 +84,7 @@ impl<'p, 's> Chains<'p, 's> {
     ghost use Rattle.logos_type_params.specs.SelfReference.{Leads};
     ghost use Rattle.logos_type_params.specs.inside.Chains.{AreMarked};
 
-    /// The chains of these types. The time grows with the sizes of all types.
+    /// Finds the chains of these types. This takes time linear in the sizes of all types.
     pub(crate) fn new(
         alloc: Global,
         types: &'p IndexMap<&'s str, TypeParam<'s>>,
@@ -98,7 +98,7 @@ impl<'p, 's> Chains<'p, 's> {
         Ok(Chains { types, held })
     }
 
-    /// Whether a chain leads back to this name.
+    /// Returns whether a chain leads from this name back to it.
     pub(crate) fn lead_back(&self, text: &str) -> bool
         ensures { AreMarked (map param_value self.now.types.now.entries) self.now.held.items →
             IsTrue result ↔
@@ -111,8 +111,12 @@ impl<'p, 's> Chains<'p, 's> {
     }
 }
 
-/// Whether a chain of types that name one another leads from this parameter back to it. It fails
-/// only where there is no memory. The time grows with the sizes of all types.
+/// Returns whether a chain of types that name one another leads from this parameter back to it.
+/// This takes time linear in the sizes of all types.
+///
+/// # Errors
+///
+/// `Memory` if there is not enough memory.
 pub fn holds_itself<'s>(
     alloc: Global,
     params: &IndexMap<&'s str, TypeParam<'s>>,

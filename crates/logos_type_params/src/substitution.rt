@@ -1,4 +1,4 @@
-//! Declared type parameters, and what becomes of a type that names them.
+//! Replaces declared type parameters in types.
 ghost use Rattle.std.specs.Prelude.{◌≡◌, ◌<◌, ℕ, Bool, true, false, List, map, IfOk, IfErr};
 ghost use Rattle.std.specs.Prelude.{MatchOption};
 ghost use Rattle.logos_type.specs.Parts.{Tree, name, whole, trees, tree_of, sign_of};
@@ -18,21 +18,21 @@ use std::alloc::Global;
 /// A type that is given to a declared parameter.
 #[derive(Drop)]
 pub struct TypeParam<'s> {
-    /// Where the name stands that it is given to.
+    /// The span of the name to which it is given.
     pub at: Span,
     pub part: Part<'s>,
-    /// Where the type is written.
+    /// The span of the type.
     pub span: Span,
 }
 
-/// The types that are given, by name, and the names of those parameters that hold themselves.
+/// The types that are given, by name, and the names of the parameters that hold themselves.
 #[derive(Clone, Copy)]
 pub struct Replacing<'p, 's> {
     pub types: &'p IndexMap<&'s str, TypeParam<'s>>,
     pub held: &'p IndexSet<&'s str>,
 }
 
-/// What is put in for a name.
+/// What replaces a name.
 #[derive(Clone, Copy)]
 enum Given<'p, 's> {
     Nothing,
@@ -40,7 +40,7 @@ enum Given<'p, 's> {
     Parts(&'p [Part<'s>]),
 }
 
-/// With the lifetime `'s` in place of one that is set.
+/// Returns the token with the lifetime `'s` in place of one that is set.
 pub(crate) fn set_lifetime(leaf: Leaf<'_>) -> Leaf<'_>
     ensures { sign_of result ≡ set_sign (sign_of leaf.entry) }
 {
@@ -51,7 +51,7 @@ pub(crate) fn set_lifetime(leaf: Leaf<'_>) -> Leaf<'_>
     }
 }
 
-/// What is put in for a parameter of this type.
+/// Returns what replaces a parameter with this type.
 fn given_by<'p, 's>(part: &'p Part<'s>) -> Given<'p, 's>
     ensures { given_of result ≡ given_type (tree_of part.now) }
 {
@@ -62,7 +62,7 @@ fn given_by<'p, 's>(part: &'p Part<'s>) -> Given<'p, 's>
     }
 }
 
-/// What the type is that is given to this name.
+/// Returns the shape of the type that is given to this name, if one is.
 fn given_first<'p, 's>(types: &'p IndexMap<&'s str, TypeParam<'s>>, text: &str) -> Given<'p, 's>
     ensures { given_of result ≡ given_first (map param_value types.now.entries) text.now }
 {
@@ -72,7 +72,7 @@ fn given_first<'p, 's>(types: &'p IndexMap<&'s str, TypeParam<'s>>, text: &str) 
     }
 }
 
-/// What is put in for a name.
+/// Returns what replaces a name.
 fn find<'p, 's>(params: Replacing<'p, 's>, text: &str) -> Given<'p, 's>
     ensures { given_of result ≡ given (params_of params.entry) text.now }
 {
@@ -82,8 +82,12 @@ fn find<'p, 's>(params: Replacing<'p, 's>, text: &str) -> Given<'p, 's>
     given_first(params.types, text)
 }
 
-/// The type with its declared parameters replaced and its lifetimes set to `'s`, nested at most so
-/// many levels deep.
+/// Returns the type with its declared parameters replaced and its lifetimes set to `'s`.
+///
+/// # Errors
+///
+/// `LimitNesting` if more than `levels` types stand inside one another then, and `Memory` if there
+/// is not enough memory.
 #[cycle(after)]
 pub fn type_after<'s>(
     alloc: Global,
@@ -104,7 +108,7 @@ pub fn type_after<'s>(
     }
 }
 
-/// A copy of parts that stay as they are.
+/// Copies parts that are never replaced.
 fn still_after<'s>(levels: u32, part: &Part<'s>) -> Result<Part<'s>, TypeFault>
     ensures ok { IfOk result (λ after. (tree_of after ≡ tree_of part.now)
         × (exceeds levels (tree_of part.now) ≡ false)) }
@@ -178,7 +182,7 @@ fn parts_after<'s>(
     Ok(after)
 }
 
-/// A type becomes one type at most, and where the limit is passed, it becomes a deeper one.
+/// A type becomes at most one type. If the limit is passed, that type is deeper than the limit.
 pub fn at_most_one_after()
     ensures one { (params : Params) (levels others : ℕ) (part after other : Tree) →
         After params levels part after → After params others part other → after ≡ other }

@@ -1,4 +1,4 @@
-//! The declared parameters of an enum.
+//! Holds the declared type parameters of an enum and the types given to them.
 ghost use Rattle.std.specs.Prelude.{◌≡◌, ◌++◌, ◌∷◌, [], Some, None, map, IfOk, OnOk, OnErr};
 ghost use Rattle.std.specs.Prelude.{if◌then◌else◌, option_map};
 ghost use Rattle.logos_token.specs.Views.{tokens_of};
@@ -18,8 +18,8 @@ mod concrete;
 mod written;
 
 use crate::lifetimes::set_lifetimes;
-use crate::listing::{list_about, list_depth, list_previous};
 use crate::names::Names;
+use crate::reporting::{report_about, report_depth, report_previous};
 use crate::self_reference::Chains;
 use crate::substitution::TypeParam;
 pub use concrete::Generics;
@@ -30,26 +30,26 @@ use logos_type::TypeExpr;
 use logos_type_reader::{TypeFault, read_type};
 use std::alloc::Global;
 
-/// The declared parameters of an enum, and the types that are given to them.
+/// The declared type parameters of an enum, and the types given to them.
 #[derive(Drop)]
 pub struct TypeParams<'s> {
     names: Names<'s>,
-    /// The types, by the names that they are given to.
+    /// The types, by the names of the parameters to which they are given.
     types: IndexMap<&'s str, TypeParam<'s>>,
     lifetime: bool,
     alloc: Global,
 }
 
-/// Lists that the value at this span is no type.
-fn list_syntax(errors: &mut Errors, at: Span) -> Result<(), Memory>
+/// Reports that the value at this span is not a type.
+fn report_syntax(errors: &mut Errors, at: Span) -> Result<(), Memory>
     ensures ok { OnOk result (errors.new ≡ errors.old ++ type_syntax at ∷ []) }
     ensures err { OnErr result (errors.new ≡ errors.old) }
 {
     errors.err(FaultCode::TypeSyntax, "not a type", at)
 }
 
-/// Lists at this span why a run is no type.
-fn list_no_type(
+/// Reports at this span why a run is not a type.
+fn report_no_type(
     fault: TypeFault,
     run: Tokens<'_, '_>,
     at: Span,
@@ -60,15 +60,15 @@ fn list_no_type(
     ensures err { OnErr result (errors.new ≡ errors.old) }
 {
     match fault {
-        TypeFault::Unsupported { .. } => list_syntax(errors, at),
-        TypeFault::Misfit { .. } => list_syntax(errors, at),
-        TypeFault::LimitNesting => list_depth(errors, at),
+        TypeFault::Unsupported { .. } => report_syntax(errors, at),
+        TypeFault::Mismatch { .. } => report_syntax(errors, at),
+        TypeFault::LimitNesting => report_depth(errors, at),
         TypeFault::Memory => Err(Memory),
     }
 }
 
-/// The type with which a run begins, if nothing is left behind it; else that is listed at this
-/// span.
+/// Returns the type with which a run begins if no tokens are left after it. Reports at this span
+/// that the run is not a type if some are.
 fn whole_type<'s>(
     type_expr: TypeExpr<'s>,
     rest: Tokens<'_, 's>,
@@ -84,13 +84,16 @@ fn whole_type<'s>(
     if rest.is_empty() {
         return Ok(Some(type_expr));
     }
-    list_syntax(errors, at)?;
+    report_syntax(errors, at)?;
     Ok(None)
 }
 
-/// The type that the whole run is; where it is none, that is listed at this span, as `TypeSyntax`,
-/// or `LimitTypeNesting` where it nests deeper than types may. After an error the faults are as
-/// before.
+/// Reads the whole run as a type. If it is not a type, reports `TypeSyntax` at the span `at`, or
+/// `LimitTypeNesting` if the type nests too deep, and returns `None`.
+///
+/// # Errors
+///
+/// `Memory` if there is not enough memory. The faults are then unchanged.
 pub fn read_value<'s>(
     alloc: Global,
     run: Tokens<'_, 's>,
@@ -104,14 +107,14 @@ pub fn read_value<'s>(
     match read_type(alloc, run) {
         Ok((type_expr, rest)) => whole_type(type_expr, rest, run, at, errors),
         Err(fault) => {
-            list_no_type(fault, run, at, errors)?;
+            report_no_type(fault, run, at, errors)?;
             Ok(None)
         }
     }
 }
 
-/// Lists a lifetime where one is declared already.
-fn list_second_lifetime(is_declared: bool, span: Span, errors: &mut Errors) -> Result<(), Memory>
+/// Reports a lifetime if one is declared already.
+fn report_second_lifetime(is_declared: bool, span: Span, errors: &mut Errors) -> Result<(), Memory>
     ensures ok { OnOk result (errors.new ≡ errors.old ++
         (if is_declared then many_lifetimes span ∷ [] else [])) }
     ensures err { OnErr result (errors.new ≡ errors.old) }
@@ -126,7 +129,7 @@ fn list_second_lifetime(is_declared: bool, span: Span, errors: &mut Errors) -> R
     )
 }
 
-/// Where the type stands that a name has.
+/// Returns the span of the type given to a name, or `None` if none is.
 fn former<'s>(types: &IndexMap<&'s str, TypeParam<'s>>, text: &str) -> Option<Span>
     ensures { result ≡ former (map given_of types.now.entries) text.now }
 {
@@ -136,52 +139,41 @@ fn former<'s>(types: &IndexMap<&'s str, TypeParam<'s>>, text: &str) -> Option<Sp
     }
 }
 
-/// Lists that a name has a type already, which is written at this span. After an error the faults
-/// are as before.
-fn list_twice(
-    alloc: Global,
-    name: Ident<'_>,
-    former: Span,
-    errors: &mut Errors,
-) -> Result<(), Memory>
+/// Reports that a type is already given to a name, and its span. After an error the faults are
+/// unchanged.
+fn report_twice(name: Ident<'_>, former: Span, errors: &mut Errors) -> Result<(), Memory>
     ensures ok { OnOk result (errors.new
         ≡ errors.old ++ given_faults (Some former) (named_of name.entry)) }
     ensures err { OnErr result (errors.new ≡ errors.old) }
 {
-    let mut found = Errors::new(alloc);
-    list_about(
-        alloc,
+    let mut found = Errors::new(errors.alloc());
+    report_about(
         &mut found,
         FaultCode::TypeTwice,
         "",
         name,
         " can only have one type assigned to it",
     )?;
-    list_previous(&mut found, former)?;
+    report_previous(&mut found, former)?;
     errors.append(found)
 }
 
-/// Lists the faults of one type more for a name that has this one, if it has one. After an error
-/// the faults are as before.
-fn list_given(
-    alloc: Global,
-    name: Ident<'_>,
-    former: Option<Span>,
-    errors: &mut Errors,
-) -> Result<(), Memory>
+/// Reports a second type for a name if a first one is given to it. After an error the faults are
+/// unchanged.
+fn report_given(name: Ident<'_>, former: Option<Span>, errors: &mut Errors) -> Result<(), Memory>
     ensures ok { OnOk result (errors.new
         ≡ errors.old ++ given_faults former (named_of name.entry)) }
     ensures err { OnErr result (errors.new ≡ errors.old) }
 {
     match former {
-        Some(span) => list_twice(alloc, name, span, errors),
+        Some(span) => report_twice(name, span, errors),
         None => Ok(()),
     }
 }
 
-/// Gives one type more to a name that is declared. After an error all is as before.
+/// Gives a type to a declared name, in place of a former one, which is reported. After an error
+/// everything is unchanged.
 fn give<'s>(
-    alloc: Global,
     types: &mut IndexMap<&'s str, TypeParam<'s>>,
     name: Ident<'s>,
     param: TypeParam<'s>,
@@ -191,19 +183,17 @@ fn give<'s>(
         ≡ given_more (given_of (name.entry.text, param.entry)) (map given_of types.old.entries)) }
     ensures faults { OnOk result (errors.new ≡ errors.old ++ given_faults
         (former (map given_of types.old.entries) name.entry.text.now) (named_of name.entry)) }
-    ensures kept { OnErr result (types.new.entries ≡ types.old.entries) }
-    ensures unlisted { OnErr result (errors.new ≡ errors.old) }
+    ensures unchanged { OnErr result (types.new.entries ≡ types.old.entries) }
+    ensures unreported { OnErr result (errors.new ≡ errors.old) }
 {
     let span = former(types, name.text);
-    list_given(alloc, name, span, errors)?;
+    report_given(name, span, errors)?;
     types.insert(name.text, param)?;
     Ok(())
 }
 
-/// Lists a declared name that holds itself, unless it stands among those in front. It is one of
-/// these from now on.
+/// Reports a declared name that holds itself, unless it is in `front`, and adds it to `front`.
 fn check_name<'s>(
-    alloc: Global,
     front: &mut IndexSet<&'s str>,
     chains: &Chains<'_, 's>,
     name: Ident<'s>,
@@ -219,8 +209,7 @@ fn check_name<'s>(
     if !chains.lead_back(name.text) {
         return Ok(());
     }
-    list_about(
-        alloc,
+    report_about(
         errors,
         FaultCode::TypeHoldsItself,
         "Type parameter ",
@@ -237,7 +226,7 @@ impl<'s> TypeParams<'s> {
     ghost use Rattle.logos_type_params.specs.TypeParams.{IsSet};
     ghost use Rattle.logos_type_params.specs.WrittenTypes.{types_of};
 
-    /// Without a parameter. What is added later takes memory from `alloc`.
+    /// Returns an empty list of parameters, which takes its memory from `alloc`.
     pub fn new(alloc: Global) -> TypeParams<'s>
         ensures { value_of result ≡ record { names = []; types = []; lifetime = false } }
     {
@@ -249,8 +238,12 @@ impl<'s> TypeParams<'s> {
         }
     }
 
-    /// Notes a lifetime parameter at this span; more than one is listed. After an error all is as
-    /// before.
+    /// Notes that a lifetime parameter is declared. Reports a second one as `ManyLifetimes` at this
+    /// span.
+    ///
+    /// # Errors
+    ///
+    /// `Memory` if there is not enough memory. Everything is then unchanged.
     pub fn explicit_lifetime(&mut self, span: Span, errors: &mut Errors) -> Result<(), Memory>
         ensures value { OnOk result (value_of self.new ≡ record {
           names = (value_of self.old).names;
@@ -259,30 +252,39 @@ impl<'s> TypeParams<'s> {
         }) }
         ensures faults { OnOk result (errors.new ≡ errors.old ++
             (if (value_of self.old).lifetime then many_lifetimes span ∷ [] else [])) }
-        ensures kept { OnErr result (value_of self.new ≡ value_of self.old) }
-        ensures unlisted { OnErr result (errors.new ≡ errors.old) }
+        ensures unchanged { OnErr result (value_of self.new ≡ value_of self.old) }
+        ensures unreported { OnErr result (errors.new ≡ errors.old) }
     {
-        list_second_lifetime(self.lifetime, span, errors)?;
+        report_second_lifetime(self.lifetime, span, errors)?;
         self.lifetime = true;
         Ok(())
     }
 
-    /// Declares a type parameter of this name. After an error all is as before.
+    /// Declares a type parameter with this name.
+    ///
+    /// # Errors
+    ///
+    /// `Memory` if there is not enough memory. The parameters are then unchanged.
     pub fn add(&mut self, name: Ident<'s>) -> Result<(), Memory>
         ensures ok { OnOk result (value_of self.new ≡ record {
           names = (value_of self.old).names ++ named_of name.entry ∷ [];
           types = (value_of self.old).types;
           lifetime = (value_of self.old).lifetime;
         }) }
-        ensures kept { OnErr result (value_of self.new ≡ value_of self.old) }
+        ensures unchanged { OnErr result (value_of self.new ≡ value_of self.old) }
     {
         self.names.push(name)?;
         Ok(())
     }
 
-    /// Gives the type that the value is to a declared name. Where the value is no type, or the name
-    /// is not declared, that is listed, and nothing is given; where it has a type, that is listed
-    /// with both places, and the new one is meant from now on. After an error all is as before.
+    /// Gives the type that `value` spells to the declared parameter `name`. Reports a value that is
+    /// not a type, as `TypeSyntax` or `LimitTypeNesting`, and a name that is not declared, as
+    /// `NotTypeParameter`; nothing is given then. Reports a second type as `TypeTwice`, with the
+    /// place of the first one; the second one is given then.
+    ///
+    /// # Errors
+    ///
+    /// `Memory` if there is not enough memory. Everything is then unchanged.
     pub fn set(
         &mut self,
         name: Ident<'s>,
@@ -292,16 +294,15 @@ impl<'s> TypeParams<'s> {
         ensures ok { OnOk result (IsSet (value_of self.old)
             (named_of name.entry) (tokens_of value.entry) errors.old
             (value_of self.new) errors.new) }
-        ensures kept { OnErr result (value_of self.new ≡ value_of self.old) }
-        ensures unlisted { OnErr result (errors.new ≡ errors.old) }
+        ensures unchanged { OnErr result (value_of self.new ≡ value_of self.old) }
+        ensures unreported { OnErr result (errors.new ≡ errors.old) }
     {
         let span = value.span();
         let Some(written) = read_value(self.alloc, value, span, errors)? else {
             return Ok(());
         };
         if !self.names.contains(name.text) {
-            return list_about(
-                self.alloc,
+            return report_about(
                 errors,
                 FaultCode::NotTypeParameter,
                 "",
@@ -311,7 +312,6 @@ impl<'s> TypeParams<'s> {
         }
         let part = set_lifetimes(self.alloc, &written.part)?;
         give(
-            self.alloc,
             &mut self.types,
             name,
             TypeParam {
@@ -323,21 +323,25 @@ impl<'s> TypeParams<'s> {
         )
     }
 
-    /// Lists each parameter whose types lead back to it, in order of declaration. A name that is
-    /// declared again is not listed again. The time grows with the sizes of all types. Only want of
-    /// memory is an error; after it the faults are as before.
+    /// Reports each parameter whose types lead back to it, as `TypeHoldsItself`, in order of
+    /// declaration. A name that is declared twice is reported once. This takes time linear in the
+    /// sizes of all types.
+    ///
+    /// # Errors
+    ///
+    /// `Memory` if there is not enough memory. The faults are then unchanged.
     pub fn check(&self, errors: &mut Errors) -> Result<(), Memory>
         ensures ok { OnOk result (AreChecked (types_of self.now) []
             (value_of self.now).names errors.old errors.new) }
-        ensures unlisted { OnErr result (errors.new ≡ errors.old) }
+        ensures unreported { OnErr result (errors.new ≡ errors.old) }
     {
         let mut found = Errors::new(self.alloc);
         self.check_all(&mut found)?;
         errors.append(found)
     }
 
-    /// Lists each parameter whose types lead back to it, in order of declaration. After an error
-    /// some of the faults may be listed.
+    /// Reports each parameter whose types lead back to it, in order of declaration. After an error
+    /// some of the faults can have been added.
     fn check_all(&self, errors: &mut Errors) -> Result<(), Memory>
         ensures { OnOk result (AreChecked (types_of self.now) []
             (value_of self.now).names errors.old errors.new) }
@@ -345,7 +349,7 @@ impl<'s> TypeParams<'s> {
         let chains = Chains::new(self.alloc, &self.types)?;
         let mut front = IndexSet::new(self.alloc);
         for name in &self.names.list {
-            check_name(self.alloc, &mut front, &chains, *name, errors)?;
+            check_name(&mut front, &chains, *name, errors)?;
         }
         Ok(())
     }

@@ -11,20 +11,20 @@ use Rattle.logos_type_reader.specs.declared.table.place.PathKind.TheVariants.{Pl
 use Rattle.logos_type_reader.specs.declared.table.place.Place.TheVariants as place
 use Rattle.logos_type_reader.specs.declared.table.place.Place.{Place}
 use Rattle.logos_type_reader.specs.Table as table
-use Rattle.logos_type_reader.specs.Table.{Spot, First, starts, refused, Fault, unsupported, misfit, to, begin, name_of, begins_colons, first_span}
+use Rattle.logos_type_reader.specs.Table.{Spot, First, starts, refused, Fault, unsupported, mismatch, to, begin, name_of, begins_colons, first_span}
 use Rattle.logos_type_reader.specs.FaultPlaces.{start, past, SameSign, EndsWith, StandsAt, fault_at}
 use Rattle.logos_type_reader.proofs.SameSigns.{ForSame, ForSeen, for_same, colons_after, mark_same, goes_on_same, begins_name, in_front}
 
 -- how a type begins: over tokens, or with a group
 pub data Begun (plus : Bool) (run : TokenList) (barred : Bool) (s : Sign) (spot : Spot) : Type 0 where
-  by_tokens : (t : Token) (front : TokenList) → run ≡ also t (append front spot.run) → spot.behind ≡ None →
+  by_tokens : (t : Token) (front : TokenList) → run ≡ also t (append front spot.run) → spot.outside ≡ None →
       ((rest : TokenList) → SameSign spot.run rest → begin plus (also t (append front rest)) ≡ starts barred s (to spot.place rest None)) → Begun plus run barred s spot
-  by_group : (d : Delimiter) (g : Span) (rest : TokenList) → run ≡ also (group d g spot.run) rest → spot.behind ≡ Some rest →
+  by_group : (d : Delimiter) (g : Span) (rest : TokenList) → run ≡ also (group d g spot.run) rest → spot.outside ≡ Some rest →
       ((t : Span) (inside other : TokenList) → begin plus (also (group d t inside) other) ≡ starts barred s (to spot.place inside (Some other))) → Begun plus run barred s spot
 
 -- why none begins: at the first token, which is no name, or after some tokens
 pub data Refuses (plus : Bool) (run : TokenList) (fault : Fault) : Type 0 where
-  at_once : begins_name run ≡ false → fault ≡ misfit (first_span run) → ((l : TokenList) → SameSign run l → begin plus l ≡ refused (misfit (first_span l))) → Refuses plus run fault
+  at_once : begins_name run ≡ false → fault ≡ mismatch (first_span run) → ((l : TokenList) → SameSign run l → begin plus l ≡ refused (mismatch (first_span l))) → Refuses plus run fault
   after_some : (t : Token) (front left : TokenList) → run ≡ also t (append front left) → StandsAt fault (past t (in_front front start)) left →
       ((l : TokenList) → SameSign left l → begin plus (also t (append front l)) ≡ refused (fault_at fault l)) → Refuses plus run fault
 
@@ -40,15 +40,15 @@ either_first F false m n f g = g refl
 one_token : (plus : Bool) (t : Token) (rest : TokenList) (b : Bool) (s : Sign) (p : Place) → ((x : TokenList) → SameSign rest x → begin plus (also t x) ≡ starts b s (to p x None)) → Begun plus (also t rest) b s (to p rest None)
 one_token plus t rest b s p k = by_tokens t none refl refl k
 
--- the first token is a type that is left out
+-- the first token is a type that is not supported
 left_out_alone : (plus : Bool) (t : Token) (rest : TokenList) (span : Span) → EndsWith (past t start) span → ((x : TokenList) → begin plus (also t x) ≡ refused (unsupported span)) → Refuses plus (also t rest) (unsupported span)
 left_out_alone plus t rest span e k = after_some t none rest refl e (λ x h. k x)
 
-refused_here : (plus : Bool) (run : TokenList) → begins_name run ≡ false → ForSame run (λ (x : TokenList). begin plus x ≡ refused (misfit (first_span x))) → Refuses plus run (misfit (first_span run))
-refused_here plus run n k = at_once n refl (λ l h. for_same (λ (x : TokenList). begin plus x ≡ refused (misfit (first_span x))) k h)
+refused_here : (plus : Bool) (run : TokenList) → begins_name run ≡ false → ForSame run (λ (x : TokenList). begin plus x ≡ refused (mismatch (first_span x))) → Refuses plus run (mismatch (first_span run))
+refused_here plus run n k = at_once n refl (λ l h. for_same (λ (x : TokenList). begin plus x ≡ refused (mismatch (first_span x))) k h)
 
-refused_third : (plus : Bool) (t u : Token) (run : TokenList) → ForSame run (λ (x : TokenList). begin plus (also t (also u x)) ≡ refused (misfit (first_span x))) → Refuses plus (also t (also u run)) (misfit (first_span run))
-refused_third plus t u run k = after_some t (also u none) run refl refl (λ l h. for_same (λ (x : TokenList). begin plus (also t (also u x)) ≡ refused (misfit (first_span x))) k h)
+refused_third : (plus : Bool) (t u : Token) (run : TokenList) → ForSame run (λ (x : TokenList). begin plus (also t (also u x)) ≡ refused (mismatch (first_span x))) → Refuses plus (also t (also u run)) (mismatch (first_span run))
+refused_third plus t u run k = after_some t (also u none) run refl refl (λ l h. for_same (λ (x : TokenList). begin plus (also t (also u x)) ≡ refused (mismatch (first_span x))) k h)
 
 lifetime_local : (plus : Bool) (c d : ℕ) (p q : Spacing) (s t : Span) (run : TokenList) → (c == 38) ≡ true → (d == 39) ≡ true →
     FirstLocal plus (also (punctuation c p s) (also (punctuation d q t) run)) (table.reference_lifetime_first run)
@@ -76,7 +76,7 @@ reference_local plus c p s (also (group d t inside) rest) e = shared_local plus 
 reference_local plus c p s none e = shared_local plus (punctuation c p s) none (rw e refl)
 
 colons_local : (plus : Bool) (c : ℕ) (p : Spacing) (s : Span) (rest : TokenList) → (c == 38) ≡ false → (c == 42) ≡ false → (c == 60) ≡ false → (c == 33) ≡ false → begins_colons (also (punctuation c p s) rest) ≡ true →
-    FirstLocal plus (also (punctuation c p s) rest) (starts false colons (to (place.Colons Plain false) (table.behind_two (also (punctuation c p s) rest)) None))
+    FirstLocal plus (also (punctuation c p s) rest) (starts false colons (to (place.Colons Plain false) (table.after_two (also (punctuation c p s) rest)) None))
 unfolding begin
 colons_local plus c Joint s (also (punctuation d o t) rest) k l m n e = by_tokens (punctuation c Joint s) (also (punctuation d o t) none) refl refl (λ x h. rw (k, l, m, n, e) refl)
 colons_local plus c p s rest k l m n e = cc

@@ -30,7 +30,7 @@ mutual
   type_within (just_name a e) = omega (arith, a)
   type_within (formed a e b h) = let k = parts_within h in omega (arith, a, k)
 
-  move_within : {n : ℕ} {b : Bool} {spot behind : Spot} {ps : List Tree} → IsMove n b spot ps behind → depth_of (trees ps) ≤ n
+  move_within : {n : ℕ} {b : Bool} {spot outside : Spot} {ps : List Tree} → IsMove n b spot ps outside → depth_of (trees ps) ≤ n
   move_within (a_token e) = omega arith
   move_within (a_bar e) = omega arith
   move_within (a_type e h) = let k = type_within h in omega (arith, k)
@@ -60,21 +60,21 @@ alone_deep d h = omega (arith, h)
 kept_deep : {m : ℕ} (d : ℕ) → max (max d 0) 0 ≤ m → d ≤ m
 kept_deep d h = omega (arith, h)
 
-behind_deep : {m : ℕ} (d : ℕ) → max 0 d ≤ m → d ≤ m
-behind_deep d h = omega (arith, h)
+after_deep : {m : ℕ} (d : ℕ) → max 0 d ≤ m → d ≤ m
+after_deep d h = omega (arith, h)
 
 mutual
   pub type_enough : {n m : ℕ} {plus : Bool} {run rest : TokenList} {t : Tree} → IsType n plus run t rest → depth t ≤ m → IsType m plus run t rest
   type_enough (just_name a e) d = just_name (omega (arith, d)) e
   type_enough (formed a e b h) d = formed (whole_some _ d) e b (parts_enough h (whole_deep _ d))
 
-  move_enough : {n m : ℕ} {b : Bool} {spot behind : Spot} {ps : List Tree} → IsMove n b spot ps behind → depth_of (trees ps) ≤ m → IsMove m b spot ps behind
+  move_enough : {n m : ℕ} {b : Bool} {spot outside : Spot} {ps : List Tree} → IsMove n b spot ps outside → depth_of (trees ps) ≤ m → IsMove m b spot ps outside
   move_enough (a_token e) d = a_token e
   move_enough (a_bar e) d = a_bar e
   move_enough (a_type e h) d = a_type e (type_enough h (alone_deep _ d))
   move_enough (a_still_type e h) d = a_still_type e (type_enough h (kept_deep _ d))
   move_enough (still_tokens e) d = still_tokens e
-  move_enough (a_nest e h) d = a_nest e (parts_enough h (behind_deep _ d))
+  move_enough (a_nest e h) d = a_nest e (parts_enough h (after_deep _ d))
 
   parts_enough : {n m : ℕ} {b : Bool} {spot : Spot} {ps : List Tree} {rest : TokenList} → AreParts n b spot ps rest → depth_of (trees ps) ≤ m → AreParts m b spot ps rest
   parts_enough (ended e) d = ended e

@@ -5,7 +5,7 @@ use Rattle.logos_lexeme.specs.declared.lexeme.Delimiter.{Delimiter}
 use Rattle.logos_token.specs.Tokens.{Token, TokenList, group, also, append, run_span}
 use Rattle.logos_type.specs.Parts.{Sign, Tree}
 use Rattle.logos_type_reader.specs.declared.table.place.Place.{Place}
-use Rattle.logos_type_reader.specs.Table.{Spot, asks, keeps_type, nests, starts, Fault, unsupported, misfit, too_deep, to, next_at, begin, name_of, first_span}
+use Rattle.logos_type_reader.specs.Table.{Spot, asks, keeps_type, nests, starts, Fault, unsupported, mismatch, too_deep, to, next_at, begin, name_of, first_span}
 use Rattle.logos_type_reader.specs.Reading.{NoType, deep_name, deep, unbegun, unended, left_out, NoMove, no_token, no_type, no_still_type, no_nest, NoParts, here, later}
 use Rattle.logos_type_reader.specs.FaultPlaces.{Front, start, past, within, IsAt, at_start, past_token, in_group, SameSign, StandsAt, fault_at, FaultPlace}
 use Rattle.logos_type_reader.proofs.SameSigns.{ForSeen, same_self, same_at, seen_after, seen_unnamed, begins_name, front_same, in_front, at_after, Past, past_of, front_of_is, ends_past, ends_within, ends_after, at_start_is, FirstToken, past_first, FirstGroup, within_first}
@@ -13,7 +13,7 @@ use Rattle.logos_type_reader.proofs.TableLocal.{SameOpen, over, into, out, Stops
 use Rattle.logos_type_reader.proofs.BeginLocal.{Begun, by_tokens, by_group, Refuses, at_once, after_some, begin_local, unnamed_local}
 use Rattle.logos_type_reader.proofs.TypesLocal.{local_move, MoveLocal, FormLocal, form_local, unnamed_same, parts_local, move_local}
 
--- a fault in front of what is left there: in the run, or behind the group that is open
+-- a fault at a place: in the run, or after the group that is open
 data FixedAt (Q : TokenList → Option TokenList → Fault → Type 0) (run : TokenList) (b : Option TokenList) (fault : Fault) : Type 0 where
   inner_place : (front : Front) (left : TokenList) → IsAt front run left → StandsAt fault front left →
       ((other l : TokenList) (c : Option TokenList) → IsAt front other l → SameOpen b c → SameSign left l → Q other c (fault_at fault l)) → FixedAt Q run b fault
@@ -36,22 +36,22 @@ record FixedType (n : ℕ) (plus : Bool) (run : TokenList) (fault : Fault) : Typ
 
 -- a fault with a place
 abbrev pub Placed : Fault → Type 0
-Placed (misfit span) = Unit {0}
+Placed (mismatch span) = Unit {0}
 Placed (unsupported span) = Unit {0}
 Placed too_deep = ⊥
 
 stands_past : (fault : Fault) (t : Token) (front : Front) (left : TokenList) → StandsAt fault front left → StandsAt fault (past t front) left
-stands_past (misfit span) t front left h = h
+stands_past (mismatch span) t front left h = h
 stands_past (unsupported span) t front left h = ends_past t h
 stands_past too_deep t front left h = h
 
 stands_within : (fault : Fault) (d : Delimiter) (front : Front) (left : TokenList) → StandsAt fault front left → StandsAt fault (within d front) left
-stands_within (misfit span) d front left h = h
+stands_within (mismatch span) d front left h = h
 stands_within (unsupported span) d front left h = ends_within d h
 stands_within too_deep d front left h = h
 
 stands_after : (fault : Fault) (tokens : TokenList) (front : Front) (left : TokenList) → StandsAt fault front left → StandsAt fault (in_front tokens front) left
-stands_after (misfit span) tokens front left h = h
+stands_after (mismatch span) tokens front left h = h
 stands_after (unsupported span) tokens front left h = ends_after tokens h
 stands_after too_deep tokens front left h = h
 
@@ -96,7 +96,7 @@ out_fixed P Q run r fault k (outer_place rest front left e a s d) = cc
 
 -- a fault after a move
 later_fixed : {n : ℕ} {now : Bool} {p : Place} {run : TokenList} {b : Option TokenList} {behind : Spot} {ps : List Tree} {fault : Fault} → MoveLocal n now p run b ps behind →
-    FixedAt (λ x c f. NoParts n (to behind.place x c) f) behind.run behind.behind fault → FixedAt (λ x c f. NoParts n (to p x c) f) run b fault
+    FixedAt (λ x c f. NoParts n (to behind.place x c) f) behind.run behind.outside fault → FixedAt (λ x c f. NoParts n (to p x c) f) run b fault
 later_fixed {n} {now} {p} {run} {b} {behind} {ps} {fault} (over front e g k) l =
     subst (λ (x : TokenList). FixedAt (λ y c f. NoParts n (to p y c) f) x b fault) (sym e)
     (over_fixed (λ x c f. NoParts n (to behind.place x c) f) (λ x c f. NoParts n (to p x c) f) front behind.run b fault (λ x c f o h m. later (k x c o h) m)
@@ -123,7 +123,7 @@ stop_fixed n p run b fault (front, left, e, f, k) =
     (inner_place (in_front front start) left (subst (λ (x : TokenList). IsAt (in_front front start) x left) (sym e) (at_after front at_start)) refl
     (λ other l c at o h. let q : Past front start other l = past_of front at in
     let r : other ≡ append front l = q.is ∙ ap (λ (x : TokenList). append front x) (at_start_is q.at) in
-    subst (λ (x : TokenList). NoMove n (to p x c) (misfit (first_span l))) (sym r) (no_token (k l c o h))))
+    subst (λ (x : TokenList). NoMove n (to p x c) (mismatch (first_span l))) (sym r) (no_token (k l c o h))))
 
 ask_fixed : (n : ℕ) (p q : Place) (plus : Bool) (run : TokenList) (b : Option TokenList) (fault : Fault) → next_at p run b ≡ asks plus q → FixedType n plus run fault → FixedAt (λ x c f. NoMove n (to p x c) f) run b fault
 ask_fixed n p q plus run b fault e l = inner_place l.front l.left l.is l.stands
@@ -135,7 +135,7 @@ still_fixed n p q run b fault e l =
     inner_place l.front l.left l.is l.stands (λ other m c at o h. no_still_type (k other c) (l.decides other m at h))
 
 nest_fixed : (n : ℕ) (p q : Place) (run : TokenList) (b : Option TokenList) (s : Sign) (inner : Spot) (fault : Fault) → next_at p run b ≡ nests s inner q →
-    FixedAt (λ x c f. NoParts n (to inner.place x c) f) inner.run inner.behind fault → FixedAt (λ x c f. NoMove n (to p x c) f) run b fault
+    FixedAt (λ x c f. NoParts n (to inner.place x c) f) inner.run inner.outside fault → FixedAt (λ x c f. NoMove n (to p x c) f) run b fault
 nest_fixed n p q run b s inner fault e l = go (local_move (to p run b) e) l
   where
     inside : (front : TokenList) → run ≡ append front inner.run → ((x : TokenList) (c : Option TokenList) → SameOpen b c → SameSign inner.run x → next_at p (append front x) c ≡ nests s (to inner.place x None) q) →
@@ -145,9 +145,9 @@ nest_fixed n p q run b s inner fault e l = go (local_move (to p run b) e) l
         subst (λ (x : TokenList). NoMove n (to p x c) (fault_at fault l)) (sym z.is) (no_nest (k z.rest c o (same_at a z.at h)) (d z.rest l None z.at tt h)))
     inside tokens f k (outer_place rest front left g a st d) = cc
 
-    go : ((front : TokenList) × (run ≡ append front inner.run) × (inner.behind ≡ None)
+    go : ((front : TokenList) × (run ≡ append front inner.run) × (inner.outside ≡ None)
         × ((x : TokenList) (c : Option TokenList) → SameOpen b c → SameSign inner.run x → next_at p (append front x) c ≡ nests s (to inner.place x None) q)) →
-        FixedAt (λ x c f. NoParts n (to inner.place x c) f) inner.run inner.behind fault → FixedAt (λ x c f. NoMove n (to p x c) f) run b fault
+        FixedAt (λ x c f. NoParts n (to inner.place x c) f) inner.run inner.outside fault → FixedAt (λ x c f. NoMove n (to p x c) f) run b fault
     go (front, f, g, k) l = inside front f k (subst (λ (x : Option TokenList). FixedAt (λ y c f. NoParts n (to inner.place y c) f) inner.run x fault) g l)
 
 -- a type that does not begin
@@ -158,7 +158,7 @@ unbegun_fixed n plus run fault e (at_once m f k) = subst (FixedType n plus run) 
   is = at_start;
   stands = refl;
   fresh = m;
-  decides = λ other l at h. subst (λ (x : TokenList). NoType n plus x (misfit (first_span l))) (sym (at_start_is at)) (unbegun (seen_unnamed (λ (x : TokenList). name_of x ≡ None) run m (unnamed_local run e) h) (k l h));
+  decides = λ other l at h. subst (λ (x : TokenList). NoType n plus x (mismatch (first_span l))) (sym (at_start_is at)) (unbegun (seen_unnamed (λ (x : TokenList). name_of x ≡ None) run m (unnamed_local run e) h) (k l h));
 })
 unbegun_fixed n plus run fault e (after_some t tokens left f st k) = record {
   front = past t (in_front tokens start);
@@ -205,7 +205,7 @@ unended_group n plus b s p d g r after fault a k l =
     go (outer_place rest front left e at st f) = cc
 
 unended_fixed : (n : ℕ) (plus b : Bool) (run : TokenList) (s : Sign) (spot : Spot) (fault : Fault) → 0 < n → name_of run ≡ None → begin plus run ≡ starts b s spot →
-    FixedAt (λ x c f. NoParts (n - 1) (to spot.place x c) f) spot.run spot.behind fault → FixedType n plus run fault
+    FixedAt (λ x c f. NoParts (n - 1) (to spot.place x c) f) spot.run spot.outside fault → FixedType n plus run fault
 unended_fixed n plus b run s spot fault a e f l = go (begin_local plus run f)
   where
     go : Begun plus run b s spot → FixedType n plus run fault
@@ -213,7 +213,7 @@ unended_fixed n plus b run s spot fault a e f l = go (begin_local plus run f)
     go (by_group d t after g h k) = subst (λ (x : TokenList). FixedType n plus x fault) (sym g)
         (unended_group n plus b s spot.place d t spot.run after fault a k (subst (λ (x : Option TokenList). FixedAt (λ y c f. NoParts (n - 1) (to spot.place y c) f) spot.run x fault) h l))
 
--- a type that is left out
+-- a type that is not supported
 left_out_fixed : (n : ℕ) (plus first other : Bool) (run : TokenList) (s : Sign) (ps : List Tree) (front rest : TokenList) → 0 < n → name_of run ≡ None → (first || other) ≡ true → run ≡ append front rest →
     FormLocal (n - 1) plus first other run s ps rest → FixedType n plus run (unsupported (run_span front))
 left_out_fixed n plus first other run s ps front rest a e bar f l =
@@ -239,17 +239,17 @@ mutual
   fixed_type (left_out {levels = n} {plus = plus} {first = first} {other = other} {run = run} {s = s} {spot = spot} {parts = ps} {rest = rest} front a e f h bar is) p =
       left_out_fixed n plus first other run s ps front rest a e bar is (form_local (n - 1) plus first other run s spot ps rest f (parts_local h))
 
-  fixed_move : {n : ℕ} {spot : Spot} {fault : Fault} → NoMove n spot fault → Placed fault → FixedAt (λ x c f. NoMove n (to spot.place x c) f) spot.run spot.behind fault
-  fixed_move (no_token {levels = n} {spot = spot} {fault = fault} e) p = stop_fixed n spot.place spot.run spot.behind fault (local_move spot e)
-  fixed_move (no_type {levels = n} {spot = spot} {plus = plus} {place = q} {fault = fault} e h) p = ask_fixed n spot.place q plus spot.run spot.behind fault e (fixed_type h p)
-  fixed_move (no_still_type {levels = n} {spot = spot} {place = q} {fault = fault} e h) p = still_fixed n spot.place q spot.run spot.behind fault e (fixed_type h p)
-  fixed_move (no_nest {levels = n} {spot = spot} {s = s} {inner = inner} {place = q} {fault = fault} e h) p = nest_fixed n spot.place q spot.run spot.behind s inner fault e (fixed_parts h p)
+  fixed_move : {n : ℕ} {spot : Spot} {fault : Fault} → NoMove n spot fault → Placed fault → FixedAt (λ x c f. NoMove n (to spot.place x c) f) spot.run spot.outside fault
+  fixed_move (no_token {levels = n} {spot = spot} {fault = fault} e) p = stop_fixed n spot.place spot.run spot.outside fault (local_move spot e)
+  fixed_move (no_type {levels = n} {spot = spot} {plus = plus} {place = q} {fault = fault} e h) p = ask_fixed n spot.place q plus spot.run spot.outside fault e (fixed_type h p)
+  fixed_move (no_still_type {levels = n} {spot = spot} {place = q} {fault = fault} e h) p = still_fixed n spot.place q spot.run spot.outside fault e (fixed_type h p)
+  fixed_move (no_nest {levels = n} {spot = spot} {s = s} {inner = inner} {place = q} {fault = fault} e h) p = nest_fixed n spot.place q spot.run spot.outside s inner fault e (fixed_parts h p)
 
-  fixed_parts : {n : ℕ} {spot : Spot} {fault : Fault} → NoParts n spot fault → Placed fault → FixedAt (λ x c f. NoParts n (to spot.place x c) f) spot.run spot.behind fault
+  fixed_parts : {n : ℕ} {spot : Spot} {fault : Fault} → NoParts n spot fault → Placed fault → FixedAt (λ x c f. NoParts n (to spot.place x c) f) spot.run spot.outside fault
   fixed_parts (here {levels = n} {spot = spot} h) p = map_fixed (λ x c f. NoMove n (to spot.place x c) f) (λ x c f. NoParts n (to spot.place x c) f) (λ x c f m. here m) (fixed_move h p)
   fixed_parts (later m h) p = later_fixed (move_local m) (fixed_parts h p)
 
 pub placed : (n : ℕ) (plus : Bool) (run : TokenList) (fault : Fault) → NoType n plus run fault → (fault ≡ too_deep) ⊎ FaultPlace n plus run fault
 placed n plus run too_deep h = inl refl
-placed n plus run (misfit span) h = let l = fixed_type h tt in inr (record { front = l.front; left = l.left; is = l.is; stands = l.stands; decides = l.decides })
+placed n plus run (mismatch span) h = let l = fixed_type h tt in inr (record { front = l.front; left = l.left; is = l.is; stands = l.stands; decides = l.decides })
 placed n plus run (unsupported span) h = let l = fixed_type h tt in inr (record { front = l.front; left = l.left; is = l.is; stands = l.stands; decides = l.decides })

@@ -14,12 +14,12 @@ use Rattle.logos_type_reader.specs.declared.table.place.BoundKind.TheVariants.{L
 use Rattle.logos_type_reader.specs.declared.table.place.Binder.TheVariants.{OfFunction, OfTrait}
 use Rattle.logos_type_reader.specs.declared.table.place.Place.{Place}
 use Rattle.logos_type_reader.specs.declared.table.place.Place.TheVariants as place
-use Rattle.logos_type.specs.Parts.{Sign, Tree, sign, name, whole, still, trees, none as no_part_left, also as and_part, word, mark, colons, arrow, value, opening, closing, reference, kept}
+use Rattle.logos_type.specs.Parts.{Sign, Tree, sign, name, whole, still, trees, none as no_part_left, also as and_part, word, mark, colons, arrow, value, opening, closing, reference, other_lifetime}
 use Rattle.logos_type_reader.specs.StillRuns.{still_run}
 use Rattle.logos_type_reader.specs.Table as table
-use Rattle.logos_type_reader.specs.Table.{Spot, outer, Move, ends, takes, bars, asks, keeps_type, keeps, nests, stops, First, starts, refused, begin, name_of, is_reserved, goes_on, begins_colons, begins_arrow, begins_mark, begins_bound, begins_dots, typing, argued, next_at, name_end, behind_two, to}
+use Rattle.logos_type_reader.specs.Table.{Spot, outer, Move, ends, takes, bars, asks, keeps_type, keeps, nests, stops, First, starts, refused, begin, name_of, is_reserved, goes_on, begins_colons, begins_arrow, begins_mark, begins_bound, begins_dots, typing, argued, next_at, name_end, after_two, to}
 use Rattle.logos_type_reader.specs.Reading.{IsType, just_name, formed, IsMove, a_token, a_bar, a_type as part_type, a_still_type, still_tokens, a_nest, AreParts, ended, further as part}
-use Rattle.logos_type_reader.specs.Written.{Ending, plain_named, may_follow, name_ending, begins_mut, begins_parameter, begins_for, Lifetimes, in_angles, LifetimeList, no_lifetime, last_lifetime, lifetimes, Written, a_name, a_form, Form, path, rooted, qualified, borrowed, borrowed_for, slice, array, tuple, trait_object, bound_function, function, pointer_const, pointer_mut, Referent, shared, mutable, Listed as ListedTypes, nothing, single, several, Qualified, of_type, of_trait, AnyPath, from_name, from_root, Path, last, longer, Longer, member, angled, angled_member, called, giving, Angled, plain, turbofish, Arguments, finished, final, further, Argument, a_lifetime, a_literal, empty_braces, braces, a_type, a_binding, Bounds, one_bound, last_bound, plus_behind, bounds, Bound, lifetime_bound, trait_bound, enclosed, Questioned, unquestioned, questioned, Trait, unbound, for_all, Function, not_safe, safe, Linked, linked, linked_as, unlinked, Taking, takes_only, takes_and_gives, Parameters, no_parameter, last_parameter, parameters, Parameter, unnamed, with_name}
+use Rattle.logos_type_reader.specs.Written.{Ending, plain_named, may_follow, name_ending, begins_mut, begins_parameter, begins_for, Lifetimes, in_angles, LifetimeList, no_lifetime, last_lifetime, lifetimes, Written, a_name, a_form, Form, path, rooted, qualified, borrowed, borrowed_for, slice, array, tuple, trait_object, bound_function, function, pointer_const, pointer_mut, Referent, shared, mutable, Listed as ListedTypes, nothing, single, several, Qualified, of_type, of_trait, AnyPath, from_name, from_root, Path, last, longer, Longer, member, angled, angled_member, called, giving, Angled, plain, turbofish, Arguments, finished, final, further, Argument, a_lifetime, a_literal, empty_braces, braces, a_type, a_binding, Bounds, one_bound, last_bound, plus_after, bounds, Bound, lifetime_bound, trait_bound, enclosed, Questioned, unquestioned, questioned, Trait, unbound, for_all, Function, not_safe, safe, Linked, linked, linked_as, unlinked, Taking, takes_only, takes_and_gives, Parameters, no_parameter, last_parameter, parameters, Parameter, unnamed, with_name}
 use Rattle.logos_type_reader.proofs.WrittenReads.{name_is}
 
 -- What stands at each place, up to the end of what was begun: parts that are read from a run, and the rest.
@@ -246,14 +246,14 @@ Good levels p run b parts rest = Unit {0}
 -- a move keeps it
 abbrev Fits : ℕ → Place → TokenList → Option TokenList → Move → Type 0
 Fits levels p run b ends = Good levels p run b [] (outer run b)
-Fits levels p run b (takes s spot) = (parts : List Tree) (rest : TokenList) → Good levels spot.place spot.run spot.behind parts rest → Good levels p run b (sign s ∷ parts) rest
+Fits levels p run b (takes s spot) = (parts : List Tree) (rest : TokenList) → Good levels spot.place spot.run spot.outside parts rest → Good levels p run b (sign s ∷ parts) rest
 Fits levels p run b (bars s spot) = Unit {0}
 Fits levels p run b (asks plus q) = (t : Tree) (middle : TokenList) (parts : List Tree) (rest : TokenList) (e : Ending) → Written levels plus run t middle e → may_follow e middle ≡ true →
     Good levels q middle b parts rest → Good levels p run b (t ∷ parts) rest
 Fits levels p run b (keeps_type q) = (t : Tree) (middle : TokenList) (parts : List Tree) (rest : TokenList) (e : Ending) → Written levels true run t middle e → may_follow e middle ≡ true →
     Good levels q middle b parts rest → Good levels p run b (still (and_part t no_part_left) ∷ parts) rest
-Fits levels p run b (keeps r spot) = (parts : List Tree) (rest : TokenList) → Good levels spot.place spot.run spot.behind parts rest → Good levels p run b (still (trees (still_run r)) ∷ parts) rest
-Fits levels p run b (nests s inner q) = (front : List Tree) (middle : TokenList) (parts : List Tree) (rest : TokenList) → Good levels inner.place inner.run inner.behind front middle →
+Fits levels p run b (keeps r spot) = (parts : List Tree) (rest : TokenList) → Good levels spot.place spot.run spot.outside parts rest → Good levels p run b (still (trees (still_run r)) ∷ parts) rest
+Fits levels p run b (nests s inner q) = (front : List Tree) (middle : TokenList) (parts : List Tree) (rest : TokenList) → Good levels inner.place inner.run inner.outside front middle →
     Good levels q middle b parts rest → Good levels p run b (sign s ∷ (front ++ parts)) rest
 Fits levels p run b (stops f) = Unit {0}
 
@@ -454,7 +454,7 @@ bound_then : {levels : ℕ} {plus : Bool} {run middle rest : TokenList} {front b
 bound_then {levels} {run = run} {rest = rest} {front = front} w f only_bound = subst (λ (ts : List Tree). Last (Bounds levels false) run ts rest) (sym (append-nil front)) (ending (one_bound w) f)
 bound_then {levels} {run = run} {rest = rest} {front = front} {e = e} w f (bound_last n) =
     subst (λ (ts : List Tree). Last (Bounds levels true) run ts rest) (sym (append-nil front)) (ending (last_bound w) (let k = not_false (begins_mark 43 rest) n in rw (f, k) refl))
-bound_then {rest = rest} w f (plus_last n) = ending (plus_behind w f) (not_false (begins_bound rest) n)
+bound_then {rest = rest} w f (plus_last n) = ending (plus_after w f) (not_false (begins_bound rest) n)
 bound_then w f (plus_more k g) = ending (bounds w f k) g
 
 questioned_bound : {levels : ℕ} {plus : Bool} {run rest : TokenList} {parts : List Tree} → Then (Questioned levels) (AfterBound levels plus) run parts rest → Last (Bounds levels plus) run parts rest
@@ -480,7 +480,7 @@ module _ {After : Parts} where
   for_closed : {s : Span} {p : Spacing} {run rest : TokenList} {parts : List Tree} → After run parts rest → InFor After (also (punctuation 62 p s) run) (sign (mark 62) ∷ parts) rest
   for_closed a = in_for no_lifetime a
 
-  for_lifetime : {s t : Span} {p : Spacing} {text : List ℕ} {run rest : TokenList} {parts : List Tree} → AfterFor After run parts rest → InFor After (also (punctuation 39 p s) (also (identifier text t) run)) (sign (kept text) ∷ parts) rest
+  for_lifetime : {s t : Span} {p : Spacing} {text : List ℕ} {run rest : TokenList} {parts : List Tree} → AfterFor After run parts rest → InFor After (also (punctuation 39 p s) (also (identifier text t) run)) (sign (other_lifetime text) ∷ parts) rest
   for_lifetime (for_comma (in_for l a)) = in_for (lifetimes l) a
   for_lifetime (for_angle a) = in_for last_lifetime a
 
@@ -551,7 +551,7 @@ free_end levels kind run g n = name_last (free_name kind run g n)
 
 fits_named : (levels : ℕ) (kind : PathKind) (run : TokenList) → Fits levels (place.Named kind) run None (next_at (place.Named kind) run None)
 unfolding next_at
-fits_named levels kind (also (punctuation c p s) rest) = either (Fits levels (place.Named kind) (also (punctuation c p s) rest) None) (c == 60) _ _ (λ e parts r h. with_mark (λ (x : ℕ). AfterName levels kind (also (punctuation x p s) rest) (sign (mark 60) ∷ parts) r) c 60 e (angle_name h)) (λ n. either (Fits levels (place.Named kind) (also (punctuation c p s) rest) None) (begins_colons (also (punctuation c p s) rest)) _ _ (λ e parts r. with_colons (λ (x : TokenList). AfterColons levels kind true (behind_two x) parts r → AfterName levels kind x (sign colons ∷ parts) r) (λ u v q other h. colons_name u v q h) (also (punctuation c p s) rest) e) (λ m. fits_name_end levels kind (also (punctuation c p s) rest) (named_done (c == 60) (begins_colons (also (punctuation c p s) rest)) n m)))
+fits_named levels kind (also (punctuation c p s) rest) = either (Fits levels (place.Named kind) (also (punctuation c p s) rest) None) (c == 60) _ _ (λ e parts r h. with_mark (λ (x : ℕ). AfterName levels kind (also (punctuation x p s) rest) (sign (mark 60) ∷ parts) r) c 60 e (angle_name h)) (λ n. either (Fits levels (place.Named kind) (also (punctuation c p s) rest) None) (begins_colons (also (punctuation c p s) rest)) _ _ (λ e parts r. with_colons (λ (x : TokenList). AfterColons levels kind true (after_two x) parts r → AfterName levels kind x (sign colons ∷ parts) r) (λ u v q other h. colons_name u v q h) (also (punctuation c p s) rest) e) (λ m. fits_name_end levels kind (also (punctuation c p s) rest) (named_done (c == 60) (begins_colons (also (punctuation c p s) rest)) n m)))
 fits_named levels kind (also (identifier text s) rest) = free_end levels kind (also (identifier text s) rest) refl refl
 fits_named levels kind (also (literal text s) rest) = free_end levels kind (also (literal text s) rest) refl refl
 fits_named levels kind (also (doc text s) rest) = free_end levels kind (also (doc text s) rest) refl refl
@@ -563,7 +563,7 @@ fits_named levels kind none = free_end levels kind none refl refl
 fits_segments : (levels : ℕ) (kind : PathKind) (run : TokenList) → Fits levels (place.Segments kind) run None (next_at (place.Segments kind) run None)
 unfolding next_at
 fits_segments levels kind run = either (Fits levels (place.Segments kind) run None) (begins_colons run) _ _
-    (λ e parts r. with_colons (λ (x : TokenList). AfterColons levels kind false (behind_two x) parts r → Onward levels kind x (sign colons ∷ parts) r) (λ u v q other h. colons_onward u v q refl h) run e)
+    (λ e parts r. with_colons (λ (x : TokenList). AfterColons levels kind false (after_two x) parts r → Onward levels kind x (sign colons ∷ parts) r) (λ u v q other h. colons_onward u v q refl h) run e)
     (λ n. stop n)
 
 fits_colons : (levels : ℕ) (kind : PathKind) (may : Bool) (run : TokenList) → Fits levels (place.Colons kind may) run None (next_at (place.Colons kind may) run None)
@@ -672,7 +672,7 @@ fits_list_end levels none after = λ parts r h. close_one h
 fits_output : (levels : ℕ) (run : TokenList) → Fits levels place.Output run None (next_at place.Output run None)
 unfolding next_at
 fits_output levels run = either (Fits levels place.Output run None) (begins_arrow run) _ _
-    (λ e parts r. with_arrow (λ (x : TokenList). LastType levels false (behind_two x) parts r → AfterOutput levels x (sign arrow ∷ parts) r) (λ u v q other h. arrow_output u v q h) run e)
+    (λ e parts r. with_arrow (λ (x : TokenList). LastType levels false (after_two x) parts r → AfterOutput levels x (sign arrow ∷ parts) r) (λ u v q other h. arrow_output u v q h) run e)
     (λ n. no_output n)
 
 fits_self_end : (levels : ℕ) (run : TokenList) → Fits levels place.SelfEnd run None (next_at place.SelfEnd run None)
@@ -688,7 +688,7 @@ fits_self_end levels none = tt
 
 fits_self_trait : (levels : ℕ) (run : TokenList) → Fits levels place.SelfTrait run None (next_at place.SelfTrait run None)
 unfolding next_at
-fits_self_trait levels (also (punctuation c p s) rest) = either (Fits levels place.SelfTrait (also (punctuation c p s) rest) None) (begins_colons (also (punctuation c p s) rest)) _ _ (λ e front middle parts r. with_colons (λ (x : TokenList). AfterColons levels OfType false (behind_two x) front middle → (AfterSelfTrait levels) middle parts r → Then (AnyPath levels OfType) (AfterSelfTrait levels) x (sign colons ∷ (front ++ parts)) r) (λ u v q other h k. root_then parts u v q refl h k) (also (punctuation c p s) rest) e) (λ n. tt)
+fits_self_trait levels (also (punctuation c p s) rest) = either (Fits levels place.SelfTrait (also (punctuation c p s) rest) None) (begins_colons (also (punctuation c p s) rest)) _ _ (λ e front middle parts r. with_colons (λ (x : TokenList). AfterColons levels OfType false (after_two x) front middle → (AfterSelfTrait levels) middle parts r → Then (AnyPath levels OfType) (AfterSelfTrait levels) x (sign colons ∷ (front ++ parts)) r) (λ u v q other h k. root_then parts u v q refl h k) (also (punctuation c p s) rest) e) (λ n. tt)
 fits_self_trait levels (also (identifier text s) rest) = λ front middle parts r h k. path_then parts (named_path h) k
 fits_self_trait levels (also (literal text s) rest) = tt
 fits_self_trait levels (also (doc text s) rest) = tt
@@ -711,7 +711,7 @@ fits_self_trait_end levels none = tt
 fits_self_closed : (levels : ℕ) (run : TokenList) → Fits levels place.SelfClosed run None (next_at place.SelfClosed run None)
 unfolding next_at
 fits_self_closed levels run = either (Fits levels place.SelfClosed run None) (begins_colons run) _ _
-    (λ e parts r. with_colons (λ (x : TokenList). AfterColons levels OfType false (behind_two x) parts r → AtSelfClosed levels x (sign colons ∷ parts) r) (λ u v q other h. self_path u v q refl h) run e)
+    (λ e parts r. with_colons (λ (x : TokenList). AfterColons levels OfType false (after_two x) parts r → AtSelfClosed levels x (sign colons ∷ parts) r) (λ u v q other h. self_path u v q refl h) run e)
     (λ n. tt)
 
 fits_referent : (levels : ℕ) (run : TokenList) → Fits levels place.Referent run None (next_at place.Referent run None)
@@ -777,7 +777,7 @@ fits_bound_lifetime levels plus p s none = tt
 
 fits_trait_listed : (levels : ℕ) (plus : Bool) (run : TokenList) → Fits levels (place.Trait (Listed plus)) run None (next_at (place.Trait (Listed plus)) run None)
 unfolding next_at
-fits_trait_listed levels plus (also (punctuation c p s) rest) = either (Fits levels (place.Trait (Listed plus)) (also (punctuation c p s) rest) None) (begins_colons (also (punctuation c p s) rest)) _ _ (λ e front middle parts r. with_colons (λ (x : TokenList). AfterColons levels OfBound false (behind_two x) front middle → (AfterBound levels plus) middle parts r → Then (Trait levels) (AfterBound levels plus) x (sign colons ∷ (front ++ parts)) r) (λ u v q other h k. trait_then refl (root_then parts u v q refl h k)) (also (punctuation c p s) rest) e) (λ n. tt)
+fits_trait_listed levels plus (also (punctuation c p s) rest) = either (Fits levels (place.Trait (Listed plus)) (also (punctuation c p s) rest) None) (begins_colons (also (punctuation c p s) rest)) _ _ (λ e front middle parts r. with_colons (λ (x : TokenList). AfterColons levels OfBound false (after_two x) front middle → (AfterBound levels plus) middle parts r → Then (Trait levels) (AfterBound levels plus) x (sign colons ∷ (front ++ parts)) r) (λ u v q other h k. trait_then refl (root_then parts u v q refl h k)) (also (punctuation c p s) rest) e) (λ n. tt)
 fits_trait_listed levels plus (also (identifier text s) rest) = either (Fits levels (place.Trait (Listed plus)) (also (identifier text s) rest) None) (bytes_eq text (codes "for")) _ _ (λ e parts r h. with_text (λ (x : List ℕ). Then (Trait levels) (AfterBound levels plus) (also (identifier x s) rest) (sign (word x) ∷ parts) r) text (codes "for") e (for_then h)) (λ n front middle parts r h k. trait_then n (path_then parts (named_path h) k))
 fits_trait_listed levels plus (also (literal text s) rest) = tt
 fits_trait_listed levels plus (also (doc text s) rest) = tt
@@ -788,7 +788,7 @@ fits_trait_listed levels plus none = tt
 
 fits_trait_path_listed : (levels : ℕ) (plus : Bool) (run : TokenList) → Fits levels (place.TraitPath (Listed plus)) run None (next_at (place.TraitPath (Listed plus)) run None)
 unfolding next_at
-fits_trait_path_listed levels plus (also (punctuation c p s) rest) = either (Fits levels (place.TraitPath (Listed plus)) (also (punctuation c p s) rest) None) (begins_colons (also (punctuation c p s) rest)) _ _ (λ e front middle parts r. with_colons (λ (x : TokenList). AfterColons levels OfBound false (behind_two x) front middle → (AfterBound levels plus) middle parts r → Then (AnyPath levels OfBound) (AfterBound levels plus) x (sign colons ∷ (front ++ parts)) r) (λ u v q other h k. root_then parts u v q refl h k) (also (punctuation c p s) rest) e) (λ n. tt)
+fits_trait_path_listed levels plus (also (punctuation c p s) rest) = either (Fits levels (place.TraitPath (Listed plus)) (also (punctuation c p s) rest) None) (begins_colons (also (punctuation c p s) rest)) _ _ (λ e front middle parts r. with_colons (λ (x : TokenList). AfterColons levels OfBound false (after_two x) front middle → (AfterBound levels plus) middle parts r → Then (AnyPath levels OfBound) (AfterBound levels plus) x (sign colons ∷ (front ++ parts)) r) (λ u v q other h k. root_then parts u v q refl h k) (also (punctuation c p s) rest) e) (λ n. tt)
 fits_trait_path_listed levels plus (also (identifier text s) rest) = λ front middle parts r h k. path_then parts (named_path h) k
 fits_trait_path_listed levels plus (also (literal text s) rest) = tt
 fits_trait_path_listed levels plus (also (doc text s) rest) = tt
@@ -799,7 +799,7 @@ fits_trait_path_listed levels plus none = tt
 
 fits_trait_enclosed : (levels : ℕ) (plus : Bool) (run : TokenList) (after : TokenList) → Fits levels (place.Trait (Enclosed plus)) run (Some after) (next_at (place.Trait (Enclosed plus)) run (Some after))
 unfolding next_at
-fits_trait_enclosed levels plus (also (punctuation c p s) rest) after = either (Fits levels (place.Trait (Enclosed plus)) (also (punctuation c p s) rest) (Some after)) (begins_colons (also (punctuation c p s) rest)) _ _ (λ e front middle parts r. with_colons (λ (x : TokenList). AfterColons levels OfBound false (behind_two x) front middle → (AfterEnclosed levels plus after) middle parts r → Then (Trait levels) (AfterEnclosed levels plus after) x (sign colons ∷ (front ++ parts)) r) (λ u v q other h k. trait_then refl (root_then parts u v q refl h k)) (also (punctuation c p s) rest) e) (λ n. tt)
+fits_trait_enclosed levels plus (also (punctuation c p s) rest) after = either (Fits levels (place.Trait (Enclosed plus)) (also (punctuation c p s) rest) (Some after)) (begins_colons (also (punctuation c p s) rest)) _ _ (λ e front middle parts r. with_colons (λ (x : TokenList). AfterColons levels OfBound false (after_two x) front middle → (AfterEnclosed levels plus after) middle parts r → Then (Trait levels) (AfterEnclosed levels plus after) x (sign colons ∷ (front ++ parts)) r) (λ u v q other h k. trait_then refl (root_then parts u v q refl h k)) (also (punctuation c p s) rest) e) (λ n. tt)
 fits_trait_enclosed levels plus (also (identifier text s) rest) after = either (Fits levels (place.Trait (Enclosed plus)) (also (identifier text s) rest) (Some after)) (bytes_eq text (codes "for")) _ _ (λ e parts r h. with_text (λ (x : List ℕ). Then (Trait levels) (AfterEnclosed levels plus after) (also (identifier x s) rest) (sign (word x) ∷ parts) r) text (codes "for") e (for_then h)) (λ n front middle parts r h k. trait_then n (path_then parts (named_path h) k))
 fits_trait_enclosed levels plus (also (literal text s) rest) after = tt
 fits_trait_enclosed levels plus (also (doc text s) rest) after = tt
@@ -810,7 +810,7 @@ fits_trait_enclosed levels plus none after = tt
 
 fits_trait_path_enclosed : (levels : ℕ) (plus : Bool) (run : TokenList) (after : TokenList) → Fits levels (place.TraitPath (Enclosed plus)) run (Some after) (next_at (place.TraitPath (Enclosed plus)) run (Some after))
 unfolding next_at
-fits_trait_path_enclosed levels plus (also (punctuation c p s) rest) after = either (Fits levels (place.TraitPath (Enclosed plus)) (also (punctuation c p s) rest) (Some after)) (begins_colons (also (punctuation c p s) rest)) _ _ (λ e front middle parts r. with_colons (λ (x : TokenList). AfterColons levels OfBound false (behind_two x) front middle → (AfterEnclosed levels plus after) middle parts r → Then (AnyPath levels OfBound) (AfterEnclosed levels plus after) x (sign colons ∷ (front ++ parts)) r) (λ u v q other h k. root_then parts u v q refl h k) (also (punctuation c p s) rest) e) (λ n. tt)
+fits_trait_path_enclosed levels plus (also (punctuation c p s) rest) after = either (Fits levels (place.TraitPath (Enclosed plus)) (also (punctuation c p s) rest) (Some after)) (begins_colons (also (punctuation c p s) rest)) _ _ (λ e front middle parts r. with_colons (λ (x : TokenList). AfterColons levels OfBound false (after_two x) front middle → (AfterEnclosed levels plus after) middle parts r → Then (AnyPath levels OfBound) (AfterEnclosed levels plus after) x (sign colons ∷ (front ++ parts)) r) (λ u v q other h k. root_then parts u v q refl h k) (also (punctuation c p s) rest) e) (λ n. tt)
 fits_trait_path_enclosed levels plus (also (identifier text s) rest) after = λ front middle parts r h k. path_then parts (named_path h) k
 fits_trait_path_enclosed levels plus (also (literal text s) rest) after = tt
 fits_trait_path_enclosed levels plus (also (doc text s) rest) after = tt
@@ -1202,7 +1202,7 @@ fits levels p run b = idle levels p run b (λ parts rest. tt) (next_at p run b)
 -- a first token keeps it, where it does not bar the type
 abbrev FitsFirst : ℕ → Bool → TokenList → First → Type 0
 FitsFirst levels plus run (starts true s spot) = Unit {0}
-FitsFirst levels plus run (starts false s spot) = (parts : List Tree) (rest : TokenList) → Good levels spot.place spot.run spot.behind parts rest → Last (Form levels plus) run (sign s ∷ parts) rest
+FitsFirst levels plus run (starts false s spot) = (parts : List Tree) (rest : TokenList) → Good levels spot.place spot.run spot.outside parts rest → Last (Form levels plus) run (sign s ∷ parts) rest
 FitsFirst levels plus run (refused f) = Unit {0}
 
 either_first : (F : First → Type 0) (b : Bool) (m n : First) → (b ≡ true → F m) → (b ≡ false → F n) → F (if b then m else n)
@@ -1324,7 +1324,7 @@ word_form levels plus text s rest a b n =
     (λ h. path_word levels plus text s rest (place_is plus text c b d f g h)
     (none_reserved (bytes_eq text (codes "dyn")) (bytes_eq text (codes "impl")) (bytes_eq text (codes "_")) (bytes_eq text (codes "for")) (bytes_eq text (codes "fn")) (bytes_eq text (codes "unsafe")) (bytes_eq text (codes "extern")) c b a h d f g) n)))))
 
-barred_first : (levels : ℕ) (plus : Bool) (run : TokenList) (b : Bool) (s : Sign) (spot : Spot) → (b ≡ false → (parts : List Tree) (rest : TokenList) → Good levels spot.place spot.run spot.behind parts rest → Last (Form levels plus) run (sign s ∷ parts) rest) →
+barred_first : (levels : ℕ) (plus : Bool) (run : TokenList) (b : Bool) (s : Sign) (spot : Spot) → (b ≡ false → (parts : List Tree) (rest : TokenList) → Good levels spot.place spot.run spot.outside parts rest → Last (Form levels plus) run (sign s ∷ parts) rest) →
     FitsFirst levels plus run (starts b s spot)
 barred_first levels plus run true s spot f = tt
 barred_first levels plus run false s spot f = f refl
@@ -1342,7 +1342,7 @@ fits_mark levels plus c p s rest = either_first (FitsFirst levels plus (also (pu
     (λ e parts r h. with_mark (λ (x : ℕ). Last (Form levels plus) (also (punctuation x p s) rest) (sign (mark 60) ∷ parts) r) c 60 e (qualified_form h))
     (λ f. either_first (FitsFirst levels plus (also (punctuation c p s) rest)) (c == 33) _ _ (λ e. tt)
     (λ g. either_first (FitsFirst levels plus (also (punctuation c p s) rest)) (begins_colons (also (punctuation c p s) rest)) _ _
-    (λ e parts r. with_colons (λ (x : TokenList). AfterColons levels Plain false (behind_two x) parts r → Last (Form levels plus) x (sign colons ∷ parts) r) (λ u v q other h. rooted_form u v q refl h) (also (punctuation c p s) rest) e)
+    (λ e parts r. with_colons (λ (x : TokenList). AfterColons levels Plain false (after_two x) parts r → Last (Form levels plus) x (sign colons ∷ parts) r) (λ u v q other h. rooted_form u v q refl h) (also (punctuation c p s) rest) e)
     (λ m. tt)))))
 
 fits_first : (levels : ℕ) (plus : Bool) (run : TokenList) → name_of run ≡ None → FitsFirst levels plus run (begin plus run)
@@ -1357,7 +1357,7 @@ fits_first levels plus (also (doc text s) rest) n = tt
 fits_first levels plus none n = tt
 
 form_written : {levels : ℕ} {plus : Bool} {run rest : TokenList} {s : Sign} {spot : Spot} {parts : List Tree} → name_of run ≡ None → begin plus run ≡ starts false s spot →
-    Good levels spot.place spot.run spot.behind parts rest → Last (Form levels plus) run (sign s ∷ parts) rest
+    Good levels spot.place spot.run spot.outside parts rest → Last (Form levels plus) run (sign s ∷ parts) rest
 form_written {levels} {plus} {run} {rest} {s} {spot} {parts} n b g = let f : FitsFirst levels plus run (starts false s spot) = subst (FitsFirst levels plus run) b (fits_first levels plus run n) in f parts rest g
 
 -- what is said of a type
@@ -1387,20 +1387,20 @@ none_bars {b} {c} {d} e f = go c d (sym e ∙ f)
     go true d e = cc
     go false d e = (refl, e)
 
-fit_of : (levels : ℕ) (spot : Spot) {m : Move} → next_at spot.place spot.run spot.behind ≡ m → Fits levels spot.place spot.run spot.behind m
-fit_of levels spot e = subst (Fits levels spot.place spot.run spot.behind) e (fits levels spot.place spot.run spot.behind)
+fit_of : (levels : ℕ) (spot : Spot) {m : Move} → next_at spot.place spot.run spot.outside ≡ m → Fits levels spot.place spot.run spot.outside m
+fit_of levels spot e = subst (Fits levels spot.place spot.run spot.outside) e (fits levels spot.place spot.run spot.outside)
 
 mutual
   pub type_written : {levels : ℕ} {plus : Bool} {run rest : TokenList} {t : Tree} → IsType levels plus run t rest → IsWritten levels plus run t rest
   type_written {levels} {plus} {run} (just_name {text = text} a e) = name_written levels plus run text a e
   type_written (formed a n b h) = type_of a (form_written n b (parts_good refl h))
 
-  parts_good : {levels : ℕ} {b : Bool} {spot : Spot} {parts : List Tree} {rest : TokenList} → b ≡ false → AreParts levels b spot parts rest → Good levels spot.place spot.run spot.behind parts rest
+  parts_good : {levels : ℕ} {b : Bool} {spot : Spot} {parts : List Tree} {rest : TokenList} → b ≡ false → AreParts levels b spot parts rest → Good levels spot.place spot.run spot.outside parts rest
   parts_good {levels} {spot = spot} z (ended e) = fit_of levels spot e
   parts_good {levels} {spot = spot} z (part m a e) = let k = none_bars e z in move_good _ _ k.0 m (parts_good k.1 a)
 
-  move_good : {levels : ℕ} {b : Bool} {spot behind : Spot} {front : List Tree} (parts : List Tree) (rest : TokenList) → b ≡ false → IsMove levels b spot front behind → Good levels behind.place behind.run behind.behind parts rest →
-      Good levels spot.place spot.run spot.behind (front ++ parts) rest
+  move_good : {levels : ℕ} {b : Bool} {spot outside : Spot} {front : List Tree} (parts : List Tree) (rest : TokenList) → b ≡ false → IsMove levels b spot front outside → Good levels outside.place outside.run outside.outside parts rest →
+      Good levels spot.place spot.run spot.outside (front ++ parts) rest
   move_good {levels} {spot = spot} parts rest z (a_token e) g = fit_of levels spot e parts rest g
   move_good parts rest z (a_bar e) g = absurd cc
   move_good {levels} {spot = spot} parts rest z (part_type {part = t} {rest = middle} e h) g = let v = type_written h in fit_of levels spot e t middle parts rest v.0 v.1 v.2 g

@@ -5,7 +5,7 @@ use Rattle.logos_type_reader.specs.declared.table.place.Place.{Place}
 use Rattle.logos_type.specs.Parts.{Tree, Sign, sign, name, whole, still, trees, none, also}
 use Rattle.logos_type_reader.specs.StillRuns.{still_run}
 use Rattle.logos_type_reader.specs.Table.{Spot, outer, Move, First, ends, takes, bars, asks, keeps_type, keeps, nests, stops, starts, refused, Fault, too_deep, unsupported, begin, name_of}
-use Rattle.logos_type_reader.specs.Reading.{IsType, just_name, formed, IsMove, a_token, a_bar, a_type, a_still_type, still_tokens, a_nest, AreParts, ended, further, NoType, deep_name, deep, unbegun, unended, left_out, NoMove, no_token, no_type, no_still_type, no_nest, NoParts, here, later, next_of, behind_type}
+use Rattle.logos_type_reader.specs.Reading.{IsType, just_name, formed, IsMove, a_token, a_bar, a_type, a_still_type, still_tokens, a_nest, AreParts, ended, further, NoType, deep_name, deep, unbegun, unended, left_out, NoMove, no_token, no_type, no_still_type, no_nest, NoParts, here, later, next_of, after_type}
 
 -- two readings of the same run agree
 abbrev pub Same : Tree → TokenList → Tree → TokenList → Type 0
@@ -13,34 +13,34 @@ Same t rest u other = (t ≡ u) × (rest ≡ other)
 
 -- what moves there there can be, by what comes next
 abbrev MoveOf : ℕ → Bool → Spot → List Tree → Spot → Move → Type 0
-MoveOf n b spot ps behind ends = ⊥
-MoveOf n b spot ps behind (takes s next) = (b ≡ false) × (ps ≡ sign s ∷ []) × (behind ≡ next)
-MoveOf n b spot ps behind (bars s next) = (b ≡ true) × (ps ≡ sign s ∷ []) × (behind ≡ next)
-MoveOf n b spot ps behind (asks plus place) = (t : Tree) × (rest : TokenList) × (b ≡ false) × (ps ≡ t ∷ []) × (behind ≡ behind_type spot place rest) × IsType n plus spot.run t rest
-MoveOf n b spot ps behind (keeps_type place) = (t : Tree) × (rest : TokenList) × (b ≡ false) × (ps ≡ still (also t none) ∷ []) × (behind ≡ behind_type spot place rest) × IsType n true spot.run t rest
-MoveOf n b spot ps behind (keeps run next) = (b ≡ false) × (ps ≡ still (trees (still_run run)) ∷ []) × (behind ≡ next)
-MoveOf n b spot ps behind (nests s inner place) = (qs : List Tree) × (rest : TokenList) × (ps ≡ sign s ∷ qs) × (behind ≡ behind_type spot place rest) × AreParts n b inner qs rest
-MoveOf n b spot ps behind (stops fault) = ⊥
+MoveOf n b spot ps outside ends = ⊥
+MoveOf n b spot ps outside (takes s next) = (b ≡ false) × (ps ≡ sign s ∷ []) × (outside ≡ next)
+MoveOf n b spot ps outside (bars s next) = (b ≡ true) × (ps ≡ sign s ∷ []) × (outside ≡ next)
+MoveOf n b spot ps outside (asks plus place) = (t : Tree) × (rest : TokenList) × (b ≡ false) × (ps ≡ t ∷ []) × (outside ≡ after_type spot place rest) × IsType n plus spot.run t rest
+MoveOf n b spot ps outside (keeps_type place) = (t : Tree) × (rest : TokenList) × (b ≡ false) × (ps ≡ still (also t none) ∷ []) × (outside ≡ after_type spot place rest) × IsType n true spot.run t rest
+MoveOf n b spot ps outside (keeps run next) = (b ≡ false) × (ps ≡ still (trees (still_run run)) ∷ []) × (outside ≡ next)
+MoveOf n b spot ps outside (nests s inner place) = (qs : List Tree) × (rest : TokenList) × (ps ≡ sign s ∷ qs) × (outside ≡ after_type spot place rest) × AreParts n b inner qs rest
+MoveOf n b spot ps outside (stops fault) = ⊥
 
-move_of : {n : ℕ} {b : Bool} {spot behind : Spot} {ps : List Tree} → IsMove n b spot ps behind → MoveOf n b spot ps behind (next_of spot)
-move_of {n} {b} {spot} {behind} {ps} (a_token e) = subst (MoveOf n b spot ps behind) (sym e) (refl, refl, refl)
-move_of {n} {b} {spot} {behind} {ps} (a_bar e) = subst (MoveOf n b spot ps behind) (sym e) (refl, refl, refl)
-move_of {n} {b} {spot} {behind} {ps} (a_type e h) = subst (MoveOf n b spot ps behind) (sym e) (_, _, refl, refl, refl, h)
-move_of {n} {b} {spot} {behind} {ps} (a_still_type e h) = subst (MoveOf n b spot ps behind) (sym e) (_, _, refl, refl, refl, h)
-move_of {n} {b} {spot} {behind} {ps} (still_tokens e) = subst (MoveOf n b spot ps behind) (sym e) (refl, refl, refl)
-move_of {n} {b} {spot} {behind} {ps} (a_nest e h) = subst (MoveOf n b spot ps behind) (sym e) (_, _, refl, refl, h)
+move_of : {n : ℕ} {b : Bool} {spot outside : Spot} {ps : List Tree} → IsMove n b spot ps outside → MoveOf n b spot ps outside (next_of spot)
+move_of {n} {b} {spot} {outside} {ps} (a_token e) = subst (MoveOf n b spot ps outside) (sym e) (refl, refl, refl)
+move_of {n} {b} {spot} {outside} {ps} (a_bar e) = subst (MoveOf n b spot ps outside) (sym e) (refl, refl, refl)
+move_of {n} {b} {spot} {outside} {ps} (a_type e h) = subst (MoveOf n b spot ps outside) (sym e) (_, _, refl, refl, refl, h)
+move_of {n} {b} {spot} {outside} {ps} (a_still_type e h) = subst (MoveOf n b spot ps outside) (sym e) (_, _, refl, refl, refl, h)
+move_of {n} {b} {spot} {outside} {ps} (still_tokens e) = subst (MoveOf n b spot ps outside) (sym e) (refl, refl, refl)
+move_of {n} {b} {spot} {outside} {ps} (a_nest e h) = subst (MoveOf n b spot ps outside) (sym e) (_, _, refl, refl, h)
 
-move_as : {n : ℕ} {b : Bool} {spot behind : Spot} {ps : List Tree} {m : Move} → IsMove n b spot ps behind → next_of spot ≡ m → MoveOf n b spot ps behind m
-move_as {n} {b} {spot} {behind} {ps} h e = subst (MoveOf n b spot ps behind) e (move_of h)
+move_as : {n : ℕ} {b : Bool} {spot outside : Spot} {ps : List Tree} {m : Move} → IsMove n b spot ps outside → next_of spot ≡ m → MoveOf n b spot ps outside m
+move_as {n} {b} {spot} {outside} {ps} h e = subst (MoveOf n b spot ps outside) e (move_of h)
 
 -- what parts there can be
 data PartsOf (n : ℕ) (b : Bool) (spot : Spot) (ps : List Tree) (rest : TokenList) : Type 0 where
-  none_follow : next_of spot ≡ ends → b ≡ false → ps ≡ [] → rest ≡ outer spot.run spot.behind → PartsOf n b spot ps rest
-  some_follow : (now onward : Bool) (front others : List Tree) (behind : Spot) → b ≡ (now || onward) → ps ≡ front ++ others → IsMove n now spot front behind → AreParts n onward behind others rest → PartsOf n b spot ps rest
+  none_follow : next_of spot ≡ ends → b ≡ false → ps ≡ [] → rest ≡ outer spot.run spot.outside → PartsOf n b spot ps rest
+  some_follow : (now onward : Bool) (front others : List Tree) (outside : Spot) → b ≡ (now || onward) → ps ≡ front ++ others → IsMove n now spot front outside → AreParts n onward outside others rest → PartsOf n b spot ps rest
 
 parts_of : {n : ℕ} {b : Bool} {spot : Spot} {ps : List Tree} {rest : TokenList} → AreParts n b spot ps rest → PartsOf n b spot ps rest
 parts_of (ended e) = none_follow e refl refl refl
-parts_of (further {now = now} {onward = onward} {behind = behind} {front = front} {parts = others} m a e) = some_follow now onward front others behind e refl m a
+parts_of (further {now = now} {onward = onward} {next = outside} {front = front} {parts = others} m a e) = some_follow now onward front others outside e refl m a
 
 -- what type there can be
 data TypeOf (n : ℕ) (plus : Bool) (run : TokenList) (t : Tree) (rest : TokenList) : Type 0 where
@@ -51,7 +51,7 @@ type_of : {n : ℕ} {plus : Bool} {run rest : TokenList} {t : Tree} → IsType n
 type_of (just_name {text = text} a e) = (a, of_word text e refl refl)
 type_of (formed {s = s} {spot = spot} {parts = ps} a e g h) = (a, of_form s spot ps e g refl h)
 
-ends_no : {n : ℕ} {b : Bool} {spot behind : Spot} {ps : List Tree} → IsMove n b spot ps behind → next_of spot ≡ ends → ⊥
+ends_no : {n : ℕ} {b : Bool} {spot outside : Spot} {ps : List Tree} → IsMove n b spot ps outside → next_of spot ≡ ends → ⊥
 ends_no h e = move_as h e
 
 starts_same : {b c : Bool} {s s' : Sign} {p p' : Spot} {f : First} → f ≡ starts b s p → f ≡ starts c s' p' → (b ≡ c) × (s ≡ s') × (p ≡ p')
@@ -83,7 +83,7 @@ abbrev SameType : Bool → TokenList → Tree → TokenList → Type 0
 SameType plus run t rest = (m : ℕ) (u : Tree) (other : TokenList) → IsType m plus run u other → Same t rest u other
 
 abbrev SameMove : Bool → Spot → List Tree → Spot → Type 0
-SameMove b spot ps behind = (m : ℕ) (c : Bool) (qs : List Tree) (other : Spot) → IsMove m c spot qs other → (b ≡ c) × (ps ≡ qs) × (behind ≡ other)
+SameMove b spot ps outside = (m : ℕ) (c : Bool) (qs : List Tree) (other : Spot) → IsMove m c spot qs other → (b ≡ c) × (ps ≡ qs) × (outside ≡ other)
 
 name_same : {m : ℕ} {plus : Bool} {run other : TokenList} {text : List ℕ} {u : Tree} → name_of run ≡ Some text → TypeOf m plus run u other → Same (name text) (rest_of run) u other
 name_same e (of_word text f t r) = (ap name (some_same e f) ∙ sym t, sym r)
@@ -98,38 +98,38 @@ formed_same {m} {other = other} {spot = spot} e g same (of_form s' spot' qs f g'
     (whole_same k.1 q.1 ∙ sym t, q.2)
 
 asked_same : (m : ℕ) (c : Bool) (spot other : Spot) {plus : Bool} {place : Place} {t : Tree} {rest : TokenList} {qs : List Tree} → SameType plus spot.run t rest →
-    MoveOf m c spot qs other (asks plus place) → (false ≡ c) × (t ∷ [] ≡ qs) × (behind_type spot place rest ≡ other)
+    MoveOf m c spot qs other (asks plus place) → (false ≡ c) × (t ∷ [] ≡ qs) × (after_type spot place rest ≡ other)
 asked_same m c spot other {place = place} same (u, r, b, q, o, h) =
-    let k = same m u r h in (sym b, ap (λ (x : Tree). x ∷ []) k.0 ∙ sym q, ap (λ (x : TokenList). behind_type spot place x) k.1 ∙ sym o)
+    let k = same m u r h in (sym b, ap (λ (x : Tree). x ∷ []) k.0 ∙ sym q, ap (λ (x : TokenList). after_type spot place x) k.1 ∙ sym o)
 
 still_asked_same : (m : ℕ) (c : Bool) (spot other : Spot) {place : Place} {t : Tree} {rest : TokenList} {qs : List Tree} → SameType true spot.run t rest →
-    MoveOf m c spot qs other (keeps_type place) → (false ≡ c) × (still (also t none) ∷ [] ≡ qs) × (behind_type spot place rest ≡ other)
+    MoveOf m c spot qs other (keeps_type place) → (false ≡ c) × (still (also t none) ∷ [] ≡ qs) × (after_type spot place rest ≡ other)
 still_asked_same m c spot other {place = place} same (u, r, b, q, o, h) =
-    let k = same m u r h in (sym b, still_same k.0 ∙ sym q, ap (λ (x : TokenList). behind_type spot place x) k.1 ∙ sym o)
+    let k = same m u r h in (sym b, still_same k.0 ∙ sym q, ap (λ (x : TokenList). after_type spot place x) k.1 ∙ sym o)
 
 nested_same : (m : ℕ) (c : Bool) (spot other : Spot) {b : Bool} {inner : Spot} {place : Place} {s : Sign} {ps : List Tree} {rest : TokenList} {qs : List Tree} → SameParts b inner ps rest →
-    MoveOf m c spot qs other (nests s inner place) → (b ≡ c) × (sign s ∷ ps ≡ qs) × (behind_type spot place rest ≡ other)
+    MoveOf m c spot qs other (nests s inner place) → (b ≡ c) × (sign s ∷ ps ≡ qs) × (after_type spot place rest ≡ other)
 nested_same m c spot other {place = place} {s = s} same (us, r, q, o, h) =
-    let k = same m c us r h in (k.0, ap (λ (x : List Tree). sign s ∷ x) k.1 ∙ sym q, ap (λ (x : TokenList). behind_type spot place x) k.2 ∙ sym o)
+    let k = same m c us r h in (k.0, ap (λ (x : List Tree). sign s ∷ x) k.1 ∙ sym q, ap (λ (x : TokenList). after_type spot place x) k.2 ∙ sym o)
 
-further_same : {n m : ℕ} {b c now onward : Bool} {spot behind : Spot} {front more qs : List Tree} {rest other : TokenList} → b ≡ (now || onward) → IsMove n now spot front behind → SameMove now spot front behind →
-    SameParts onward behind more rest → PartsOf m c spot qs other → (b ≡ c) × (front ++ more ≡ qs) × (rest ≡ other)
+further_same : {n m : ℕ} {b c now onward : Bool} {spot outside : Spot} {front more qs : List Tree} {rest other : TokenList} → b ≡ (now || onward) → IsMove n now spot front outside → SameMove now spot front outside →
+    SameParts onward outside more rest → PartsOf m c spot qs other → (b ≡ c) × (front ++ more ≡ qs) × (rest ≡ other)
 further_same e a one same (none_follow f b q r) = absurd (ends_no a f)
-further_same {m = m} {other = other} e a one same (some_follow now' onward' front' more' behind' c q g h) =
-    let k = one m now' front' behind' g in
+further_same {m = m} {other = other} e a one same (some_follow now' onward' front' more' outside' c q g h) =
+    let k = one m now' front' outside' g in
     let l = same m onward' more' other (subst (λ (x : Spot). AreParts m onward' x more' other) (sym k.2) h) in
     (e ∙ or_same k.0 l.0 ∙ sym c, append_same k.1 l.1 ∙ sym q, l.2)
 
-ended_same : {m : ℕ} {c : Bool} {spot : Spot} {qs : List Tree} {other : TokenList} → next_of spot ≡ ends → PartsOf m c spot qs other → (false ≡ c) × ([] ≡ qs) × (outer spot.run spot.behind ≡ other)
+ended_same : {m : ℕ} {c : Bool} {spot : Spot} {qs : List Tree} {other : TokenList} → next_of spot ≡ ends → PartsOf m c spot qs other → (false ≡ c) × ([] ≡ qs) × (outer spot.run spot.outside ≡ other)
 ended_same e (none_follow f b q r) = (sym b, sym q, sym r)
-ended_same e (some_follow now onward front others behind c q g h) = absurd (ends_no g e)
+ended_same e (some_follow now onward front others outside c q g h) = absurd (ends_no g e)
 
 mutual
   pub one_type : {n m : ℕ} {plus : Bool} {run rest other : TokenList} {t u : Tree} → IsType n plus run t rest → IsType m plus run u other → Same t rest u other
   one_type (just_name a e) g = name_same e (type_of g).1
   one_type (formed a e f h) g = formed_same e f (λ m c qs other x. one_parts h x) (type_of g).1
 
-  pub one_move : {n m : ℕ} {b c : Bool} {spot behind other : Spot} {ps qs : List Tree} → IsMove n b spot ps behind → IsMove m c spot qs other → (b ≡ c) × (ps ≡ qs) × (behind ≡ other)
+  pub one_move : {n m : ℕ} {b c : Bool} {spot outside other : Spot} {ps qs : List Tree} → IsMove n b spot ps outside → IsMove m c spot qs other → (b ≡ c) × (ps ≡ qs) × (outside ≡ other)
   one_move (a_token e) g = let k = move_as g e in (sym k.0, sym k.1, sym k.2)
   one_move (a_bar e) g = let k = move_as g e in (sym k.0, sym k.1, sym k.2)
   one_move {m = m} {c = c} {spot = spot} {other = other} (a_type e h) g = asked_same m c spot other (λ m u other x. one_type h x) (move_as g e)
@@ -186,11 +186,11 @@ no_move_ends (no_nest e h) f = let k = sym e ∙ f in cc
 
 against_here : {n m : ℕ} {c : Bool} {spot : Spot} {qs : List Tree} {other : TokenList} {fault : Fault} → NoMove n spot fault → AgainstMove fault n spot → PartsOf m c spot qs other → IsDeeper fault n m
 against_here h against (none_follow e b q r) = absurd (no_move_ends h e)
-against_here {m = m} h against (some_follow now onward front others behind b q a p) = against m now front behind a
+against_here {m = m} h against (some_follow now onward front others outside b q a p) = against m now front outside a
 
-against_later : {n k m : ℕ} {now c : Bool} {spot behind : Spot} {ps qs : List Tree} {other : TokenList} {fault : Fault} → IsMove k now spot ps behind → AgainstParts fault n behind → PartsOf m c spot qs other → IsDeeper fault n m
+against_later : {n k m : ℕ} {now c : Bool} {spot outside : Spot} {ps qs : List Tree} {other : TokenList} {fault : Fault} → IsMove k now spot ps outside → AgainstParts fault n outside → PartsOf m c spot qs other → IsDeeper fault n m
 against_later a against (none_follow e b q r) = absurd (ends_no a e)
-against_later {m = m} {other = other} a against (some_follow now onward front others behind b q g p) =
+against_later {m = m} {other = other} a against (some_follow now onward front others outside b q g p) =
     let k = one_move a g in against m onward others other (subst (λ (x : Spot). AreParts m onward x others other) (sym k.2) p)
 
 mutual
@@ -317,7 +317,7 @@ here_fault : {n : ℕ} {spot : Spot} {fault other : Fault} → NoMove n spot fau
 here_fault {other = other} h one (here g) = one other g
 here_fault h one (later a g) = absurd (not_less (refused_move h a))
 
-later_fault : {n : ℕ} {b : Bool} {spot behind : Spot} {ps : List Tree} {fault other : Fault} → IsMove n b spot ps behind → OneFault fault n behind → NoParts n spot other → fault ≡ other
+later_fault : {n : ℕ} {b : Bool} {spot outside : Spot} {ps : List Tree} {fault other : Fault} → IsMove n b spot ps outside → OneFault fault n outside → NoParts n spot other → fault ≡ other
 later_fault a one (here g) = absurd (not_less (refused_move g a))
 later_fault {n} {other = other} a one (later c g) = let q = one_move a c in one other (subst (λ (x : Spot). NoParts n x other) (sym q.2) g)
 

@@ -5,9 +5,9 @@ use Rattle.logos_token.specs.Tokens.{TokenList, append, also as and_token, none 
 use Rattle.logos_type.specs.Parts.{Tree, Sign, sign, whole, trees}
 use Rattle.logos_type_reader.specs.declared.table.place.Place.{Place}
 use Rattle.logos_type_reader.specs.Table.{Spot, outer, Move, Fault, nests, asks, keeps_type, ends, starts, begin, name_of}
-use Rattle.logos_type_reader.specs.Reading.{IsType, just_name, formed, IsMove, a_token, a_bar, a_type, a_still_type, still_tokens, a_nest, AreParts, ended, further, NoType, unbegun, NoMove, no_token, no_type, no_still_type, no_nest, NoParts, later, next_of, behind_type}
+use Rattle.logos_type_reader.specs.Reading.{IsType, just_name, formed, IsMove, a_token, a_bar, a_type, a_still_type, still_tokens, a_nest, AreParts, ended, further, NoType, unbegun, NoMove, no_token, no_type, no_still_type, no_nest, NoParts, later, next_of, after_type}
 use Rattle.logos_type_reader.specs.declared.table.place.Stop.{Stop}
-use Rattle.logos_type_reader.specs.declared.table.place.Stop.TheVariants.{Unsupported, Misfit}
+use Rattle.logos_type_reader.specs.declared.table.place.Stop.TheVariants.{Unsupported, Mismatch}
 use Rattle.logos_type_reader.specs.declared.reading.TypeFault.{TypeFault}
 use Rattle.logos_type_reader.specs.declared.reading.TypeFault.TheVariants as faults
 use Rattle.logos_type_reader.specs.ReadingViews.{left, spot_left, IsStep, IsFirst, IfFault, fault_of}
@@ -25,13 +25,13 @@ pub rest_self : (run : TokenList) → IsRestOf run run
 rest_self run = record { front = no_token; is = refl }
 
 -- one spot is behind another, with less left
-pub record Behind (spot behind : Spot) : Type 0 where
-  pub rest : IsRestOf (outer spot.run spot.behind) (outer behind.run behind.behind)
+pub record Later (spot behind : Spot) : Type 0 where
+  pub rest : IsRestOf (outer spot.run spot.outside) (outer behind.run behind.outside)
   pub less : spot_left behind < spot_left spot
 
 -- a run is behind a spot
 pub record Left (spot : Spot) (run : TokenList) : Type 0 where
-  pub rest : IsRestOf (outer spot.run spot.behind) run
+  pub rest : IsRestOf (outer spot.run spot.outside) run
   pub less : 2 * count_of run ≤ spot_left spot
 
 -- a run is behind another one, with less left
@@ -39,19 +39,19 @@ pub record Rest (run rest : TokenList) : Type 0 where
   pub is : IsRestOf run rest
   pub less : count_of rest < count_of run
 
-onward : {spot behind : Spot} → Onward spot.run spot.behind behind → Behind spot behind
+onward : {spot behind : Spot} → Onward spot.run spot.outside behind → Later spot behind
 onward o = record { rest = o.rest; less = o.less }
 
-moved : (spot : Spot) {m : Move} → next_of spot ≡ m → Moves spot.run spot.behind m
-moved spot e = subst (Moves spot.run spot.behind) e (steps spot.place spot.run spot.behind)
+moved : (spot : Spot) {m : Move} → next_of spot ≡ m → Moves spot.run spot.outside m
+moved spot e = subst (Moves spot.run spot.outside) e (steps spot.place spot.run spot.outside)
 
 -- behind a type or a path
 after_rest : (run rest : TokenList) (behind : Option TokenList) → Rest run rest → IsRestOf (outer run behind) (outer rest behind) × (left rest behind < left run behind)
 after_rest run rest None r = (r.is, let h = r.less in omega arith)
 after_rest run rest (Some after) r = (rest_self after, let h = r.less in omega arith)
 
-behind_rest : (spot : Spot) (place : Place) (rest : TokenList) → Rest spot.run rest → Behind spot (behind_type spot place rest)
-behind_rest spot place rest r = let x = after_rest spot.run rest spot.behind r in record { rest = x.0; less = x.1 }
+later_rest : (spot : Spot) (place : Place) (rest : TokenList) → Rest spot.run rest → Later spot (after_type spot place rest)
+later_rest spot place rest r = let x = after_rest spot.run rest spot.outside r in record { rest = x.0; less = x.1 }
 
 left_self : (run : TokenList) (behind : Option TokenList) → IsRestOf (outer run behind) (outer run behind) × (2 * count_of (outer run behind) ≤ left run behind)
 left_self run None = (rest_self run, omega arith)
@@ -62,7 +62,7 @@ within_rest run within None rest r h n q k = record { is = rest_from r q; less =
 within_rest run within (Some after) rest r h n q k = absurd (let z = n in cc)
 
 inner_rest : (run : TokenList) (inner : Spot) (rest : TokenList) → Inward run inner → Left inner rest → Rest run rest
-inner_rest run inner rest i l = within_rest run inner.run inner.behind rest i.rest i.less i.alone l.rest l.less
+inner_rest run inner rest i l = within_rest run inner.run inner.outside rest i.rest i.less i.alone l.rest l.less
 
 rest_name : (run : TokenList) (text : List ℕ) → name_of run ≡ Some text → Rest run (Rattle.logos_token.specs.Tokens.rest_of run)
 rest_name no_token text e = cc
@@ -77,16 +77,16 @@ mutual
       let l : Left spot rest = parts_rest h in
       record { is = rest_from f.rest l.rest; less = let x = f.less in let y = l.less in omega arith }
 
-  pub move_rest : {levels : ℕ} {barred : Bool} {spot : Spot} {parts : List Tree} {behind : Spot} → IsMove levels barred spot parts behind → Behind spot behind
+  pub move_rest : {levels : ℕ} {barred : Bool} {spot : Spot} {parts : List Tree} {behind : Spot} → IsMove levels barred spot parts behind → Later spot behind
   move_rest {spot = spot} (a_token e) = onward (moved spot e)
   move_rest {spot = spot} (a_bar e) = onward (moved spot e)
-  move_rest {spot = spot} (a_type {place = place} {rest = rest} e h) = behind_rest spot place rest (type_rest h)
-  move_rest {spot = spot} (a_still_type {place = place} {rest = rest} e h) = behind_rest spot place rest (type_rest h)
+  move_rest {spot = spot} (a_type {place = place} {rest = rest} e h) = later_rest spot place rest (type_rest h)
+  move_rest {spot = spot} (a_still_type {place = place} {rest = rest} e h) = later_rest spot place rest (type_rest h)
   move_rest {spot = spot} (still_tokens e) = onward (moved spot e)
-  move_rest {spot = spot} (a_nest {inner = inner} {place = place} {rest = rest} e h) = behind_rest spot place rest (inner_rest spot.run inner rest (moved spot e) (parts_rest h))
+  move_rest {spot = spot} (a_nest {inner = inner} {place = place} {rest = rest} e h) = later_rest spot place rest (inner_rest spot.run inner rest (moved spot e) (parts_rest h))
 
   pub parts_rest : {levels : ℕ} {barred : Bool} {spot : Spot} {parts : List Tree} {rest : TokenList} → AreParts levels barred spot parts rest → Left spot rest
-  parts_rest {spot = spot} (ended e) = let l = left_self spot.run spot.behind in record { rest = l.0; less = l.1 }
+  parts_rest {spot = spot} (ended e) = let l = left_self spot.run spot.outside in record { rest = l.0; less = l.1 }
   parts_rest (further m a e) = let f = move_rest m in let l = parts_rest a in record { rest = rest_from f.rest l.rest; less = let x = f.less in let y = l.less in omega arith }
 
 or_assoc : (a b c : Bool) → (a || (b || c)) ≡ ((a || b) || c)
@@ -120,22 +120,22 @@ goes_on levels from old now new front barred bar spot behind r e m = record {
 
 -- at its end
 pub finished : (levels : ℕ) (from : Spot) (old now : List Tree) (barred : Bool) (spot : Spot) → Remains levels from old now barred spot → next_of spot ≡ ends →
-    (parts : List Tree) × (now ≡ old ++ parts) × AreParts levels barred from parts (outer spot.run spot.behind)
+    (parts : List Tree) × (now ≡ old ++ parts) × AreParts levels barred from parts (outer spot.run spot.outside)
 finished levels from old now barred spot r e =
-    (r.front, r.is, rw (or_false barred, append-nil r.front) at (r.completes false [] (outer spot.run spot.behind) (ended e)))
+    (r.front, r.is, rw (or_false barred, append-nil r.front) at (r.completes false [] (outer spot.run spot.outside) (ended e)))
 
 -- what stops the reader is the fault
 pub stop_move : (levels : ℕ) (spot : Spot) (stop : Stop) → IsStep (Err stop) (next_of spot) → IfFault (NoMove levels spot) (fault_of stop)
 stop_move levels spot (Unsupported span) h = no_token h
-stop_move levels spot (Misfit span) h = no_token h
+stop_move levels spot (Mismatch span) h = no_token h
 
 pub stop_type : (levels : ℕ) (plus : Bool) (run : TokenList) (stop : Stop) → name_of run ≡ None → IsFirst (Err stop) (begin plus run) → IfFault (NoType levels plus run) (fault_of stop)
 stop_type levels plus run (Unsupported span) unnamed h = unbegun unnamed h
-stop_type levels plus run (Misfit span) unnamed h = unbegun unnamed h
+stop_type levels plus run (Mismatch span) unnamed h = unbegun unnamed h
 
 pub if_fault-map : (P Q : Fault → Type 0) → ((fault : Fault) → P fault → Q fault) → (fault : TypeFault) → IfFault P fault → IfFault Q fault
 if_fault-map P Q f (faults.Unsupported span) h = f _ h
-if_fault-map P Q f (faults.Misfit span) h = f _ h
+if_fault-map P Q f (faults.Mismatch span) h = f _ h
 if_fault-map P Q f faults.LimitNesting h = f _ h
 if_fault-map P Q f faults.Memory h = tt
 
@@ -175,4 +175,4 @@ inner_less_than run within (Some after) None h n = omega (arith, h)
 inner_less_than run within behind (Some after) h n = absurd (let z = n in cc)
 
 pub inner_left : (spot : Spot) (s : Sign) (inner : Spot) (place : Place) → next_of spot ≡ nests s inner place → spot_left inner < spot_left spot
-inner_left spot s inner place e = let i : Inward spot.run inner = moved spot e in inner_less_than spot.run inner.run spot.behind inner.behind i.less i.alone
+inner_left spot s inner place e = let i : Inward spot.run inner = moved spot e in inner_less_than spot.run inner.run spot.outside inner.outside i.less i.alone

@@ -4,7 +4,7 @@ use Rattle.logos_token.specs.Tokens.{TokenList, count_of, rest_of, run_span}
 use Rattle.logos_type_reader.specs.declared.table.place.Place.{Place}
 use Rattle.logos_type.specs.Parts.{Tree, Sign, sign, name, whole, trees}
 use Rattle.logos_type_reader.specs.Table.{Spot, outer, Move, First, ends, takes, bars, asks, keeps_type, keeps, nests, stops, starts, refused, Fault, too_deep, unsupported, begin, name_of}
-use Rattle.logos_type_reader.specs.Reading.{IsType, just_name, IsMove, a_token, a_bar, a_type, a_still_type, still_tokens, a_nest, AreParts, ended, further, NoType, deep_name, deep, unbegun, unended, left_out, no_token, no_type, no_still_type, no_nest, NoParts, here, later, next_of, behind_type}
+use Rattle.logos_type_reader.specs.Reading.{IsType, just_name, IsMove, a_token, a_bar, a_type, a_still_type, still_tokens, a_nest, AreParts, ended, further, NoType, deep_name, deep, unbegun, unended, left_out, no_token, no_type, no_still_type, no_nest, NoParts, here, later, next_of, after_type}
 use Rattle.logos_type_reader.specs.ReadingViews.{left, spot_left}
 use Rattle.logos_type_reader.proofs.TableSteps.{Begins, first_steps}
 use Rattle.logos_type_reader.proofs.ReadingLemmas.{move_rest, formed_type, begun_rest, inner_left}
@@ -15,29 +15,29 @@ TypeOrFault n plus run = ((t : Tree) × (rest : TokenList) × IsType n plus run 
 abbrev PartsOrFault : ℕ → Spot → Type 0
 PartsOrFault n spot = ((b : Bool) × (ps : List Tree) × (rest : TokenList) × AreParts n b spot ps rest) ⊎ ((f : Fault) × NoParts n spot f)
 
-after_move : (n : ℕ) (b : Bool) (spot behind : Spot) (ps : List Tree) → IsMove n b spot ps behind → PartsOrFault n behind → PartsOrFault n spot
-after_move n b spot behind ps m (inl (c, qs, rest, a)) = inl (b || c, ps ++ qs, rest, further m a refl)
-after_move n b spot behind ps m (inr (f, h)) = inr (f, later m h)
+after_move : (n : ℕ) (b : Bool) (spot outside : Spot) (ps : List Tree) → IsMove n b spot ps outside → PartsOrFault n outside → PartsOrFault n spot
+after_move n b spot outside ps m (inl (c, qs, rest, a)) = inl (b || c, ps ++ qs, rest, further m a refl)
+after_move n b spot outside ps m (inr (f, h)) = inr (f, later m h)
 
-asked_case : (n : ℕ) (spot : Spot) (plus : Bool) (place : Place) → next_of spot ≡ asks plus place → TypeOrFault n plus spot.run → ((behind : Spot) → spot_left behind < spot_left spot → PartsOrFault n behind) → PartsOrFault n spot
-asked_case n spot plus place e (inl (t, rest, h)) rec = let m : IsMove n false spot (t ∷ []) (behind_type spot place rest) = a_type e h in after_move n false spot _ _ m (rec _ (move_rest m).less)
+asked_case : (n : ℕ) (spot : Spot) (plus : Bool) (place : Place) → next_of spot ≡ asks plus place → TypeOrFault n plus spot.run → ((outside : Spot) → spot_left outside < spot_left spot → PartsOrFault n outside) → PartsOrFault n spot
+asked_case n spot plus place e (inl (t, rest, h)) rec = let m : IsMove n false spot (t ∷ []) (after_type spot place rest) = a_type e h in after_move n false spot _ _ m (rec _ (move_rest m).less)
 asked_case n spot plus place e (inr (f, h)) rec = inr (f, here (no_type e h))
 
-still_case : (n : ℕ) (spot : Spot) (place : Place) → next_of spot ≡ keeps_type place → TypeOrFault n true spot.run → ((behind : Spot) → spot_left behind < spot_left spot → PartsOrFault n behind) → PartsOrFault n spot
-still_case n spot place e (inl (t, rest, h)) rec = let m = a_still_type e h in after_move n false spot (behind_type spot place rest) _ m (rec _ (move_rest m).less)
+still_case : (n : ℕ) (spot : Spot) (place : Place) → next_of spot ≡ keeps_type place → TypeOrFault n true spot.run → ((outside : Spot) → spot_left outside < spot_left spot → PartsOrFault n outside) → PartsOrFault n spot
+still_case n spot place e (inl (t, rest, h)) rec = let m = a_still_type e h in after_move n false spot (after_type spot place rest) _ m (rec _ (move_rest m).less)
 still_case n spot place e (inr (f, h)) rec = inr (f, here (no_still_type e h))
 
-nest_case : (n : ℕ) (spot : Spot) (s : Sign) (inner : Spot) (place : Place) → next_of spot ≡ nests s inner place → PartsOrFault n inner → ((behind : Spot) → spot_left behind < spot_left spot → PartsOrFault n behind) → PartsOrFault n spot
-nest_case n spot s inner place e (inl (b, ps, rest, h)) rec = let m : IsMove n b spot (sign s ∷ ps) (behind_type spot place rest) = a_nest e h in after_move n b spot _ _ m (rec _ (move_rest m).less)
+nest_case : (n : ℕ) (spot : Spot) (s : Sign) (inner : Spot) (place : Place) → next_of spot ≡ nests s inner place → PartsOrFault n inner → ((outside : Spot) → spot_left outside < spot_left spot → PartsOrFault n outside) → PartsOrFault n spot
+nest_case n spot s inner place e (inl (b, ps, rest, h)) rec = let m : IsMove n b spot (sign s ∷ ps) (after_type spot place rest) = a_nest e h in after_move n b spot _ _ m (rec _ (move_rest m).less)
 nest_case n spot s inner place e (inr (f, h)) rec = inr (f, here (no_nest e h))
 
-spot_case : (n : ℕ) (spot : Spot) (m : Move) → next_of spot ≡ m → ((plus : Bool) → TypeOrFault n plus spot.run) → ((behind : Spot) → spot_left behind < spot_left spot → PartsOrFault n behind) → PartsOrFault n spot
-spot_case n spot ends e types rec = inl (false, [], outer spot.run spot.behind, ended e)
-spot_case n spot (takes s behind) e types rec = let m : IsMove n false spot (sign s ∷ []) behind = a_token e in after_move n false spot behind _ m (rec behind (move_rest m).less)
-spot_case n spot (bars s behind) e types rec = let m : IsMove n true spot (sign s ∷ []) behind = a_bar e in after_move n true spot behind _ m (rec behind (move_rest m).less)
+spot_case : (n : ℕ) (spot : Spot) (m : Move) → next_of spot ≡ m → ((plus : Bool) → TypeOrFault n plus spot.run) → ((outside : Spot) → spot_left outside < spot_left spot → PartsOrFault n outside) → PartsOrFault n spot
+spot_case n spot ends e types rec = inl (false, [], outer spot.run spot.outside, ended e)
+spot_case n spot (takes s outside) e types rec = let m : IsMove n false spot (sign s ∷ []) outside = a_token e in after_move n false spot outside _ m (rec outside (move_rest m).less)
+spot_case n spot (bars s outside) e types rec = let m : IsMove n true spot (sign s ∷ []) outside = a_bar e in after_move n true spot outside _ m (rec outside (move_rest m).less)
 spot_case n spot (asks plus place) e types rec = asked_case n spot plus place e (types plus) rec
 spot_case n spot (keeps_type place) e types rec = still_case n spot place e (types true) rec
-spot_case n spot (keeps run behind) e types rec = let m = still_tokens e in after_move n false spot behind _ m (rec behind (move_rest m).less)
+spot_case n spot (keeps run outside) e types rec = let m = still_tokens e in after_move n false spot outside _ m (rec outside (move_rest m).less)
 spot_case n spot (nests s inner place) e types rec = nest_case n spot s inner place e (rec inner (inner_left spot s inner place e)) rec
 spot_case n spot (stops f) e types rec = inr (f, here (no_token e))
 
@@ -66,7 +66,7 @@ some_or_none : (n : ℕ) → (n ≡ 0) ⊎ (0 < n)
 some_or_none zero = inl refl
 some_or_none (suc n) = inr (omega arith)
 
-run_left : (run : TokenList) (behind : Option TokenList) → 2 * count_of run ≤ left run behind
+run_left : (run : TokenList) (outside : Option TokenList) → 2 * count_of run ≤ left run outside
 run_left run None = omega arith
 run_left run (Some rest) = omega arith
 
@@ -78,7 +78,7 @@ mutual
   some_parts : (fuel n : ℕ) (spot : Spot) → 2 * spot_left spot + 1 < fuel → PartsOrFault n spot
   some_parts zero n spot h = absurd (omega (arith, h))
   some_parts (suc fuel) n spot h =
-      spot_case n spot (next_of spot) refl (λ plus. some_type fuel n plus spot.run (let k = run_left spot.run spot.behind in omega (arith, h, k))) (λ behind l. some_parts fuel n behind (omega (arith, h, l)))
+      spot_case n spot (next_of spot) refl (λ plus. some_type fuel n plus spot.run (let k = run_left spot.run spot.outside in omega (arith, h, k))) (λ outside l. some_parts fuel n outside (omega (arith, h, l)))
 
 pub type_or_fault : (n : ℕ) (plus : Bool) (run : TokenList) → TypeOrFault n plus run
 type_or_fault n plus run = some_type (4 * count_of run + 1) n plus run (omega arith)

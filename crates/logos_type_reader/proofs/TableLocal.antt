@@ -6,7 +6,7 @@ use Rattle.logos_lexeme.specs.declared.lexeme.Spacing.TheVariants.{Joint}
 use Rattle.logos_lexeme.specs.declared.lexeme.Delimiter.{Delimiter}
 use Rattle.logos_lexeme.specs.declared.lexeme.Delimiter.TheVariants.{Parenthesis, Bracket, Brace}
 use Rattle.logos_token.specs.Tokens.{Token, TokenList, identifier, punctuation, literal, doc, group, none, also, append}
-use Rattle.logos_type.specs.Parts.{word, mark, colons, arrow, value, opening, kept}
+use Rattle.logos_type.specs.Parts.{word, mark, colons, arrow, value, opening, other_lifetime}
 use Rattle.logos_type_reader.specs.declared.table.place.PathKind.{PathKind}
 use Rattle.logos_type_reader.specs.declared.table.place.PathKind.TheVariants.{Plain, OfType, OfBound}
 use Rattle.logos_type_reader.specs.declared.table.place.BoundKind.{BoundKind}
@@ -16,7 +16,7 @@ use Rattle.logos_type_reader.specs.declared.table.place.Binder.TheVariants.{OfTr
 use Rattle.logos_type_reader.specs.declared.table.place.Place.{Place}
 use Rattle.logos_type_reader.specs.declared.table.place.Place.TheVariants as place
 use Rattle.logos_type_reader.specs.Table as table
-use Rattle.logos_type_reader.specs.Table.{Spot, Move, ends, takes, bars, asks, keeps_type, keeps, nests, stops, First, starts, refused, Fault, unsupported, misfit, to, opens, closes, next_at, begin, name_of, begins_colons, begins_mark, begins_arrow, begins_dots, typing, behind_two, behind_three, first_span, argued, argument_lifetime, behind_bound, behind_for}
+use Rattle.logos_type_reader.specs.Table.{Spot, Move, ends, takes, bars, asks, keeps_type, keeps, nests, stops, First, starts, refused, Fault, unsupported, mismatch, to, opens, closes, next_at, begin, name_of, begins_colons, begins_mark, begins_arrow, begins_dots, typing, after_two, after_three, first_span, argued, argument_lifetime, after_bound, after_for}
 use Rattle.logos_type_reader.specs.FaultPlaces.{SameSign}
 use Rattle.logos_type_reader.proofs.SameSigns.{ForSame, ForSeen, for_same, colons_after, arrow_after, dots_after, mark_same, typing_same}
 
@@ -28,19 +28,19 @@ SameOpen a b = ⊥
 
 -- How a spot is reached from a run: over tokens, into a group, or out of one. What holds then holds of all runs with these tokens in front.
 pub data Passes (Q : TokenList → Option TokenList → Spot → Type 0) (run : TokenList) (b : Option TokenList) (spot : Spot) : Type 0 where
-  over : (front : TokenList) → run ≡ append front spot.run → b ≡ spot.behind →
+  over : (front : TokenList) → run ≡ append front spot.run → b ≡ spot.outside →
       ((rest : TokenList) (c : Option TokenList) → SameOpen b c → SameSign spot.run rest → Q (append front rest) c (to spot.place rest c)) → Passes Q run b spot
-  into : (d : Delimiter) (s : Span) (rest : TokenList) → run ≡ also (group d s spot.run) rest → b ≡ None → spot.behind ≡ Some rest →
+  into : (d : Delimiter) (s : Span) (rest : TokenList) → run ≡ also (group d s spot.run) rest → b ≡ None → spot.outside ≡ Some rest →
       ((t : Span) (inside other : TokenList) → Q (also (group d t inside) other) None (to spot.place inside (Some other))) → Passes Q run b spot
-  out : b ≡ Some spot.run → spot.behind ≡ None → ((other : TokenList) → Q run (Some other) (to spot.place other None)) → Passes Q run b spot
+  out : b ≡ Some spot.run → spot.outside ≡ None → ((other : TokenList) → Q run (Some other) (to spot.place other None)) → Passes Q run b spot
 
 abbrev pub Moving : Type 0
 Moving = TokenList → Option TokenList → Move
 
 -- it stops at a place of the run, and so of each run with the same tokens in front and the same sign there
 abbrev pub Stops : Moving → TokenList → Option TokenList → Fault → Type 0
-Stops M run b f = (front : TokenList) × (left : TokenList) × (run ≡ append front left) × (f ≡ misfit (first_span left))
-    × ((l : TokenList) (c : Option TokenList) → SameOpen b c → SameSign left l → M (append front l) c ≡ stops (misfit (first_span l)))
+Stops M run b f = (front : TokenList) × (left : TokenList) × (run ≡ append front left) × (f ≡ mismatch (first_span left))
+    × ((l : TokenList) (c : Option TokenList) → SameOpen b c → SameSign left l → M (append front l) c ≡ stops (mismatch (first_span l)))
 
 -- what a move hangs on
 abbrev pub Local : Moving → TokenList → Option TokenList → Move → Type 0
@@ -50,7 +50,7 @@ Local M run b (bars s spot) = Passes (λ x c z. M x c ≡ bars s z) run b spot
 Local M run b (asks plus p) = ForSeen run (λ (x : TokenList). (c : Option TokenList) → SameOpen b c → M x c ≡ asks plus p)
 Local M run b (keeps_type p) = (x : TokenList) (c : Option TokenList) → M x c ≡ keeps_type p
 Local M run b (keeps other spot) = (other ≡ run) × (spot ≡ to spot.place none b) × ((c : Option TokenList) → SameOpen b c → M run c ≡ keeps run (to spot.place none c))
-Local M run b (nests s inner p) = (front : TokenList) × (run ≡ append front inner.run) × (inner.behind ≡ None)
+Local M run b (nests s inner p) = (front : TokenList) × (run ≡ append front inner.run) × (inner.outside ≡ None)
     × ((rest : TokenList) (c : Option TokenList) → SameOpen b c → SameSign inner.run rest → M (append front rest) c ≡ nests s (to inner.place rest None) p)
 Local M run b (stops f) = Stops M run b f
 
@@ -59,11 +59,11 @@ either : (F : Move → Type 0) (b : Bool) (m n : Move) → (b ≡ true → F m) 
 either F true m n f g = f refl
 either F false m n f g = g refl
 
-stop_here : (M : Moving) (run : TokenList) (b : Option TokenList) → ForSame run (λ (x : TokenList). (c : Option TokenList) → SameOpen b c → M x c ≡ stops (misfit (first_span x))) → Stops M run b (misfit (first_span run))
-stop_here M run b k = (none, run, refl, refl, λ l c o h. for_same (λ (x : TokenList). (c : Option TokenList) → SameOpen b c → M x c ≡ stops (misfit (first_span x))) k h c o)
+stop_here : (M : Moving) (run : TokenList) (b : Option TokenList) → ForSame run (λ (x : TokenList). (c : Option TokenList) → SameOpen b c → M x c ≡ stops (mismatch (first_span x))) → Stops M run b (mismatch (first_span run))
+stop_here M run b k = (none, run, refl, refl, λ l c o h. for_same (λ (x : TokenList). (c : Option TokenList) → SameOpen b c → M x c ≡ stops (mismatch (first_span x))) k h c o)
 
-stop_second : (M : Moving) (t : Token) (run : TokenList) (b : Option TokenList) → ForSame run (λ (x : TokenList). (c : Option TokenList) → SameOpen b c → M (also t x) c ≡ stops (misfit (first_span x))) → Stops M (also t run) b (misfit (first_span run))
-stop_second M t run b k = (also t none, run, refl, refl, λ l c o h. for_same (λ (x : TokenList). (c : Option TokenList) → SameOpen b c → M (also t x) c ≡ stops (misfit (first_span x))) k h c o)
+stop_second : (M : Moving) (t : Token) (run : TokenList) (b : Option TokenList) → ForSame run (λ (x : TokenList). (c : Option TokenList) → SameOpen b c → M (also t x) c ≡ stops (mismatch (first_span x))) → Stops M (also t run) b (mismatch (first_span run))
+stop_second M t run b k = (also t none, run, refl, refl, λ l c o h. for_same (λ (x : TokenList). (c : Option TokenList) → SameOpen b c → M (also t x) c ≡ stops (mismatch (first_span x))) k h c o)
 
 take_one : (M : Moving) (K : Spot → Move) (t : Token) (rest : TokenList) (b : Option TokenList) (p : Place) → ((other : TokenList) (c : Option TokenList) → SameOpen b c → SameSign rest other → M (also t other) c ≡ K (to p other c)) →
     Passes (λ x c z. M x c ≡ K z) (also t rest) b (to p rest b)
@@ -75,30 +75,30 @@ take_two M K t u rest b p k = over (also t (also u none)) refl refl k
 
 take_colons : (M : Moving) (K : Spot → Move) (c : ℕ) (p : Spacing) (s : Span) (rest : TokenList) (b : Option TokenList) (q : Place) → begins_colons (also (punctuation c p s) rest) ≡ true →
     ((t : Token) (other : TokenList) (d : Option TokenList) → SameOpen b d → begins_colons (also (punctuation c p s) (also t other)) ≡ true → M (also (punctuation c p s) (also t other)) d ≡ K (to q other d)) →
-    Passes (λ x d z. M x d ≡ K z) (also (punctuation c p s) rest) b (to q (behind_two (also (punctuation c p s) rest)) b)
+    Passes (λ x d z. M x d ≡ K z) (also (punctuation c p s) rest) b (to q (after_two (also (punctuation c p s) rest)) b)
 take_colons M K c Joint s (also (punctuation d o t) rest) b q e k = over (also (punctuation c Joint s) (also (punctuation d o t) none)) refl refl (λ x e' h g. k (punctuation d o t) x e' h e)
 take_colons M K c p s rest b q e k = cc
 
 nest_colons : (M : Moving) (c : ℕ) (p : Spacing) (s : Span) (rest : TokenList) (b : Option TokenList) (q next : Place) → begins_colons (also (punctuation c p s) rest) ≡ true →
     ((t : Token) (other : TokenList) (d : Option TokenList) → SameOpen b d → begins_colons (also (punctuation c p s) (also t other)) ≡ true → M (also (punctuation c p s) (also t other)) d ≡ nests colons (to q other None) next) →
-    Local M (also (punctuation c p s) rest) b (nests colons (to q (behind_two (also (punctuation c p s) rest)) None) next)
+    Local M (also (punctuation c p s) rest) b (nests colons (to q (after_two (also (punctuation c p s) rest)) None) next)
 nest_colons M c Joint s (also (punctuation d o t) rest) b q next e k = (also (punctuation c Joint s) (also (punctuation d o t) none), refl, refl, λ x e' h g. k (punctuation d o t) x e' h e)
 nest_colons M c p s rest b q next e k = cc
 
 take_arrow : (M : Moving) (K : Spot → Move) (c : ℕ) (p : Spacing) (s : Span) (rest : TokenList) (b : Option TokenList) (q : Place) → begins_arrow (also (punctuation c p s) rest) ≡ true →
     ((t : Token) (other : TokenList) (d : Option TokenList) → SameOpen b d → begins_arrow (also (punctuation c p s) (also t other)) ≡ true → M (also (punctuation c p s) (also t other)) d ≡ K (to q other d)) →
-    Passes (λ x d z. M x d ≡ K z) (also (punctuation c p s) rest) b (to q (behind_two (also (punctuation c p s) rest)) b)
+    Passes (λ x d z. M x d ≡ K z) (also (punctuation c p s) rest) b (to q (after_two (also (punctuation c p s) rest)) b)
 take_arrow M K c Joint s (also (punctuation d o t) rest) b q e k = over (also (punctuation c Joint s) (also (punctuation d o t) none)) refl refl (λ x e' h g. k (punctuation d o t) x e' h e)
 take_arrow M K c p s rest b q e k = cc
 
 take_dots : (M : Moving) (K : Spot → Move) (c : ℕ) (p : Spacing) (s : Span) (rest : TokenList) (b : Option TokenList) (q : Place) → begins_dots (also (punctuation c p s) rest) ≡ true →
     ((t u : Token) (other : TokenList) (d : Option TokenList) → SameOpen b d → begins_dots (also (punctuation c p s) (also t (also u other))) ≡ true → M (also (punctuation c p s) (also t (also u other))) d ≡ K (to q other d)) →
-    Passes (λ x d z. M x d ≡ K z) (also (punctuation c p s) rest) b (to q (behind_three (also (punctuation c p s) rest)) b)
+    Passes (λ x d z. M x d ≡ K z) (also (punctuation c p s) rest) b (to q (after_three (also (punctuation c p s) rest)) b)
 take_dots M K c Joint s (also (punctuation d Joint t) (also (punctuation f o u) rest)) b q e k =
     over (also (punctuation c Joint s) (also (punctuation d Joint t) (also (punctuation f o u) none))) refl refl (λ x e' h g. k (punctuation d Joint t) (punctuation f o u) x e' h e)
 take_dots M K c p s rest b q e k = cc
 
-none_open : (d : Delimiter) (t : Span) (next : Place) (inside rest a : TokenList) (c : Option TokenList) → SameOpen (Some a) c → opens d t next inside rest c ≡ stops (misfit t)
+none_open : (d : Delimiter) (t : Span) (next : Place) (inside rest a : TokenList) (c : Option TokenList) → SameOpen (Some a) c → opens d t next inside rest c ≡ stops (mismatch t)
 none_open d t next inside rest a (Some b) o = refl
 none_open d t next inside rest a None o = absurd o
 
@@ -430,7 +430,7 @@ self_closed (also (group Brace s inside) rest) b = stop_here (table.self_closed_
 self_closed none b = stop_here (table.self_closed_move) none b (λ d o. refl)
 
 bound_lifetime : (plus : Bool) (c : ℕ) (p : Spacing) (s : Span) (run : TokenList) (b : Option TokenList) → (c == 39) ≡ true → Local (table.bound_move plus) (also (punctuation c p s) run) b (table.bound_lifetime_move plus run b)
-bound_lifetime plus c p s (also (identifier text t) rest) b e = take_two (table.bound_move plus) (takes (kept text)) (punctuation c p s) (identifier text t) rest b (place.BoundEnd plus) (λ x d o h. rw e refl)
+bound_lifetime plus c p s (also (identifier text t) rest) b e = take_two (table.bound_move plus) (takes (other_lifetime text)) (punctuation c p s) (identifier text t) rest b (place.BoundEnd plus) (λ x d o h. rw e refl)
 bound_lifetime plus c p s (also (punctuation f q t) rest) b e = stop_second (table.bound_move plus) (punctuation c p s) (also (punctuation f q t) rest) b (λ x j d o. rw e refl)
 bound_lifetime plus c p s (also (literal text t) rest) b e = stop_second (table.bound_move plus) (punctuation c p s) (also (literal text t) rest) b (λ x d o. rw e refl)
 bound_lifetime plus c p s (also (doc text t) rest) b e = stop_second (table.bound_move plus) (punctuation c p s) (also (doc text t) rest) b (λ x d o. rw e refl)
@@ -438,7 +438,7 @@ bound_lifetime plus c p s (also (group f t inside) rest) b e = stop_second (tabl
 bound_lifetime plus c p s none b e = stop_second (table.bound_move plus) (punctuation c p s) none b (λ d o. rw e refl)
 
 further_lifetime : (u : Unit {0}) (c : ℕ) (p : Spacing) (s : Span) (run : TokenList) (b : Option TokenList) → (c == 39) ≡ true → Local (table.further_move) (also (punctuation c p s) run) b (table.bound_lifetime_move true run b)
-further_lifetime u c p s (also (identifier text t) rest) b e = take_two (table.further_move) (takes (kept text)) (punctuation c p s) (identifier text t) rest b (place.BoundEnd true) (λ x d o h. rw e refl)
+further_lifetime u c p s (also (identifier text t) rest) b e = take_two (table.further_move) (takes (other_lifetime text)) (punctuation c p s) (identifier text t) rest b (place.BoundEnd true) (λ x d o h. rw e refl)
 further_lifetime u c p s (also (punctuation f q t) rest) b e = stop_second (table.further_move) (punctuation c p s) (also (punctuation f q t) rest) b (λ x j d o. rw e refl)
 further_lifetime u c p s (also (literal text t) rest) b e = stop_second (table.further_move) (punctuation c p s) (also (literal text t) rest) b (λ x d o. rw e refl)
 further_lifetime u c p s (also (doc text t) rest) b e = stop_second (table.further_move) (punctuation c p s) (also (doc text t) rest) b (λ x d o. rw e refl)
@@ -447,7 +447,7 @@ further_lifetime u c p s none b e = stop_second (table.further_move) (punctuatio
 
 trait : (kind : BoundKind) (run : TokenList) (b : Option TokenList) → Local (table.trait_move kind) run b (table.trait_move kind run b)
 trait kind (also (punctuation c p s) rest) b = either (Local (table.trait_move kind) (also (punctuation c p s) rest) b) (begins_colons (also (punctuation c p s) rest)) _ _
-    (λ k. nest_colons (table.trait_move kind) c p s rest b (place.Colons OfBound false) (behind_bound kind) k (λ t x d o g. rw g refl))
+    (λ k. nest_colons (table.trait_move kind) c p s rest b (place.Colons OfBound false) (after_bound kind) k (λ t x d o g. rw g refl))
     (λ k. stop_here (table.trait_move kind) (also (punctuation c p s) rest) b (λ x j d o. rw (colons_after c p s rest x j, k) refl))
 trait kind (also (identifier text s) rest) b = either (Local (table.trait_move kind) (also (identifier text s) rest) b) (bytes_eq text (codes "for")) _ _
     (λ e. take_one (table.trait_move kind) (takes (word text)) (identifier text s) rest b (place.For (OfTrait kind)) (λ x d o h. rw e refl))
@@ -463,7 +463,7 @@ question : (kind : BoundKind) (run : TokenList) (b : Option TokenList) → Local
 question kind (also (punctuation c p s) rest) b = either (Local (table.question_move kind) (also (punctuation c p s) rest) b) (c == 63) _ _
     (λ e. take_one (table.question_move kind) (takes (mark 63)) (punctuation c p s) rest b (place.Trait kind) (λ x d o h. rw e refl))
     (λ n. (either (Local (table.question_move kind) (also (punctuation c p s) rest) b) (begins_colons (also (punctuation c p s) rest)) _ _
-    (λ k. nest_colons (table.question_move kind) c p s rest b (place.Colons OfBound false) (behind_bound kind) k (λ t x d o g. rw (n, g) refl))
+    (λ k. nest_colons (table.question_move kind) c p s rest b (place.Colons OfBound false) (after_bound kind) k (λ t x d o g. rw (n, g) refl))
     (λ k. stop_here (table.question_move kind) (also (punctuation c p s) rest) b (λ x j d o. rw (n, colons_after c p s rest x j, k) refl))))
 question kind (also (identifier text s) rest) b = either (Local (table.question_move kind) (also (identifier text s) rest) b) (bytes_eq text (codes "for")) _ _
     (λ e. take_one (table.question_move kind) (takes (word text)) (identifier text s) rest b (place.For (OfTrait kind)) (λ x d o h. rw e refl))
@@ -544,7 +544,7 @@ for_opens binder (also (group Brace s inside) rest) b = stop_here (table.for_mov
 for_opens binder none b = stop_here (table.for_move binder) none b (λ d o. refl)
 
 for_lifetime : (binder : Binder) (c : ℕ) (p : Spacing) (s : Span) (run : TokenList) (b : Option TokenList) → (c == 62) ≡ false → (c == 39) ≡ true → Local (table.for_list_move binder) (also (punctuation c p s) run) b (table.for_lifetime_move binder run b)
-for_lifetime binder c p s (also (identifier text t) rest) b n e = take_two (table.for_list_move binder) (takes (kept text)) (punctuation c p s) (identifier text t) rest b (place.ForEnd binder) (λ x d o h. rw (n, e) refl)
+for_lifetime binder c p s (also (identifier text t) rest) b n e = take_two (table.for_list_move binder) (takes (other_lifetime text)) (punctuation c p s) (identifier text t) rest b (place.ForEnd binder) (λ x d o h. rw (n, e) refl)
 for_lifetime binder c p s (also (punctuation f q t) rest) b n e = stop_second (table.for_list_move binder) (punctuation c p s) (also (punctuation f q t) rest) b (λ x j d o. rw (n, e) refl)
 for_lifetime binder c p s (also (literal text t) rest) b n e = stop_second (table.for_list_move binder) (punctuation c p s) (also (literal text t) rest) b (λ x d o. rw (n, e) refl)
 for_lifetime binder c p s (also (doc text t) rest) b n e = stop_second (table.for_list_move binder) (punctuation c p s) (also (doc text t) rest) b (λ x d o. rw (n, e) refl)
@@ -553,7 +553,7 @@ for_lifetime binder c p s none b n e = stop_second (table.for_list_move binder) 
 
 for_list : (binder : Binder) (run : TokenList) (b : Option TokenList) → Local (table.for_list_move binder) run b (table.for_list_move binder run b)
 for_list binder (also (punctuation c p s) rest) b = either (Local (table.for_list_move binder) (also (punctuation c p s) rest) b) (c == 62) _ _
-    (λ e. take_one (table.for_list_move binder) (takes (mark 62)) (punctuation c p s) rest b (behind_for binder) (λ x d o h. rw e refl))
+    (λ e. take_one (table.for_list_move binder) (takes (mark 62)) (punctuation c p s) rest b (after_for binder) (λ x d o h. rw e refl))
     (λ n. (either (Local (table.for_list_move binder) (also (punctuation c p s) rest) b) (c == 39) _ _
     (λ e. for_lifetime binder c p s rest b n e)
     (λ m. stop_here (table.for_list_move binder) (also (punctuation c p s) rest) b (λ x j d o. rw (n, m) refl))))
@@ -569,7 +569,7 @@ for_end : (binder : Binder) (run : TokenList) (b : Option TokenList) → Local (
 for_end binder (also (punctuation c p s) rest) b = either (Local (table.for_end_move binder) (also (punctuation c p s) rest) b) (c == 44) _ _
     (λ e. take_one (table.for_end_move binder) (takes (mark 44)) (punctuation c p s) rest b (place.ForList binder) (λ x d o h. rw e refl))
     (λ n0. (either (Local (table.for_end_move binder) (also (punctuation c p s) rest) b) (c == 62) _ _
-    (λ e. take_one (table.for_end_move binder) (takes (mark 62)) (punctuation c p s) rest b (behind_for binder) (λ x d o h. rw (n0, e) refl))
+    (λ e. take_one (table.for_end_move binder) (takes (mark 62)) (punctuation c p s) rest b (after_for binder) (λ x d o h. rw (n0, e) refl))
     (λ n1. stop_here (table.for_end_move binder) (also (punctuation c p s) rest) b (λ x j d o. rw (n0, n1) refl))))
 for_end binder (also (identifier text s) rest) b = stop_here (table.for_end_move binder) (also (identifier text s) rest) b (λ x d o. refl)
 for_end binder (also (literal text s) rest) b = stop_here (table.for_end_move binder) (also (literal text s) rest) b (λ x d o. refl)
@@ -749,7 +749,7 @@ moves_local place.LengthEnd run b = closed_any (next_at place.LengthEnd) Bracket
 moves_local (place.Bound plus) run b = bound plus run b
 moves_local (place.Question plus) run b = question (Enclosed plus) run b
 moves_local (place.Trait kind) run b = trait kind run b
-moves_local (place.TraitPath kind) run b = path OfBound (behind_bound kind) run b
+moves_local (place.TraitPath kind) run b = path OfBound (after_bound kind) run b
 moves_local (place.BoundEnd plus) run b = bound_end plus run b
 moves_local place.Further run b = further run b
 moves_local (place.EnclosedEnd plus) run b = enclosed_end plus run b

@@ -16,26 +16,26 @@ use Rattle.logos_type_reader.specs.declared.table.place.Place.{Place}
 use Rattle.logos_type_reader.specs.declared.table.place.Place.TheVariants as place
 use Rattle.logos_type.specs.Parts.{Sign}
 use Rattle.logos_type_reader.specs.Table as table
-use Rattle.logos_type_reader.specs.Table.{Spot, outer, Move, takes, bars, keeps, nests, First, starts, refused, to, next_at, begin, begins_colons, begins_arrow, begins_dots, behind_two, behind_three, closes, opens}
+use Rattle.logos_type_reader.specs.Table.{Spot, outer, Move, takes, bars, keeps, nests, First, starts, refused, to, next_at, begin, begins_colons, begins_arrow, begins_dots, after_two, after_three, closes, opens}
 use Rattle.logos_type_reader.specs.ReadingViews.{left}
 
 -- a spot is behind the run
-pub record Onward (run : TokenList) (behind : Option TokenList) (spot : Spot) : Type 0 where
-  pub rest : IsRestOf (outer run behind) (outer spot.run spot.behind)
-  pub less : left spot.run spot.behind < left run behind
+pub record Onward (run : TokenList) (outside : Option TokenList) (spot : Spot) : Type 0 where
+  pub rest : IsRestOf (outer run outside) (outer spot.run spot.outside)
+  pub less : left spot.run spot.outside < left run outside
 
 -- what a path or bounds inside are read from is behind the run
 pub record Inward (run : TokenList) (spot : Spot) : Type 0 where
   pub rest : IsRestOf run spot.run
   pub less : count_of spot.run < count_of run
-  pub alone : spot.behind ≡ None
+  pub alone : spot.outside ≡ None
 
 abbrev pub Moves : TokenList → Option TokenList → Move → Type 0
-Moves run behind (takes s spot) = Onward run behind spot
-Moves run behind (bars s spot) = Onward run behind spot
-Moves run behind (keeps kept spot) = Onward run behind spot
-Moves run behind (nests s spot p) = Inward run spot
-Moves run behind m = Unit {0}
+Moves run outside (takes s spot) = Onward run outside spot
+Moves run outside (bars s spot) = Onward run outside spot
+Moves run outside (keeps taken spot) = Onward run outside spot
+Moves run outside (nests s spot p) = Inward run spot
+Moves run outside m = Unit {0}
 
 -- both branches
 either : (F : Move → Type 0) (b : Bool) (m n : Move) → (b ≡ true → F m) → (b ≡ false → F n) → F (if b then m else n)
@@ -56,43 +56,43 @@ first_rest : (t : Token) (rest : TokenList) → IsRestOf (also t rest) rest
 first_rest t rest = record { front = also t none; is = refl }
 
 -- behind the first token
-behind_one : (t : Token) (rest : TokenList) (behind : Option TokenList) (p : Place) → Onward (also t rest) behind (to p rest behind)
-behind_one t rest None p = record { rest = first_rest t rest; less = omega (arith, one_token t) }
-behind_one t rest (Some after) p = record { rest = self_rest after; less = omega (arith, one_token t) }
+after_one : (t : Token) (rest : TokenList) (outside : Option TokenList) (p : Place) → Onward (also t rest) outside (to p rest outside)
+after_one t rest None p = record { rest = first_rest t rest; less = omega (arith, one_token t) }
+after_one t rest (Some after) p = record { rest = self_rest after; less = omega (arith, one_token t) }
 
 within_one : (t : Token) (rest : TokenList) (p : Place) → Inward (also t rest) (to p rest None)
 within_one t rest p = record { rest = first_rest t rest; less = omega (arith, one_token t); alone = refl }
 
 -- behind two tokens
-behind_two_tokens : (t u : Token) (rest : TokenList) (behind : Option TokenList) (p : Place) → Onward (also t (also u rest)) behind (to p rest behind)
-behind_two_tokens t u rest None p = record { rest = record { front = also t (also u none); is = refl }; less = omega (arith, one_token t) }
-behind_two_tokens t u rest (Some after) p = record { rest = self_rest after; less = omega (arith, one_token t) }
+after_two_tokens : (t u : Token) (rest : TokenList) (outside : Option TokenList) (p : Place) → Onward (also t (also u rest)) outside (to p rest outside)
+after_two_tokens t u rest None p = record { rest = record { front = also t (also u none); is = refl }; less = omega (arith, one_token t) }
+after_two_tokens t u rest (Some after) p = record { rest = self_rest after; less = omega (arith, one_token t) }
 
 within_two : (t u : Token) (rest : TokenList) (p : Place) → Inward (also t (also u rest)) (to p rest None)
 within_two t u rest p = record { rest = record { front = also t (also u none); is = refl }; less = omega (arith, one_token t); alone = refl }
 
-behind_three_tokens : (t u v : Token) (rest : TokenList) (behind : Option TokenList) (p : Place) → Onward (also t (also u (also v rest))) behind (to p rest behind)
-behind_three_tokens t u v rest None p = record { rest = record { front = also t (also u (also v none)); is = refl }; less = omega (arith, one_token t) }
-behind_three_tokens t u v rest (Some after) p = record { rest = self_rest after; less = omega (arith, one_token t) }
+after_three_tokens : (t u v : Token) (rest : TokenList) (outside : Option TokenList) (p : Place) → Onward (also t (also u (also v rest))) outside (to p rest outside)
+after_three_tokens t u v rest None p = record { rest = record { front = also t (also u (also v none)); is = refl }; less = omega (arith, one_token t) }
+after_three_tokens t u v rest (Some after) p = record { rest = self_rest after; less = omega (arith, one_token t) }
 
-behind_colons : (run : TokenList) (behind : Option TokenList) (p : Place) → begins_colons run ≡ true → Onward run behind (to p (behind_two run) behind)
-behind_colons (also (punctuation c Joint s) (also (punctuation d q t) rest)) behind p e = behind_two_tokens (punctuation c Joint s) (punctuation d q t) rest behind p
-behind_colons run behind p e = cc
+after_colons : (run : TokenList) (outside : Option TokenList) (p : Place) → begins_colons run ≡ true → Onward run outside (to p (after_two run) outside)
+after_colons (also (punctuation c Joint s) (also (punctuation d q t) rest)) outside p e = after_two_tokens (punctuation c Joint s) (punctuation d q t) rest outside p
+after_colons run outside p e = cc
 
-within_colons : (run : TokenList) (p : Place) → begins_colons run ≡ true → Inward run (to p (behind_two run) None)
+within_colons : (run : TokenList) (p : Place) → begins_colons run ≡ true → Inward run (to p (after_two run) None)
 within_colons (also (punctuation c Joint s) (also (punctuation d q t) rest)) p e = within_two (punctuation c Joint s) (punctuation d q t) rest p
 within_colons run p e = cc
 
-behind_arrow : (run : TokenList) (behind : Option TokenList) (p : Place) → begins_arrow run ≡ true → Onward run behind (to p (behind_two run) behind)
-behind_arrow (also (punctuation c Joint s) (also (punctuation d q t) rest)) behind p e = behind_two_tokens (punctuation c Joint s) (punctuation d q t) rest behind p
-behind_arrow run behind p e = cc
+after_arrow : (run : TokenList) (outside : Option TokenList) (p : Place) → begins_arrow run ≡ true → Onward run outside (to p (after_two run) outside)
+after_arrow (also (punctuation c Joint s) (also (punctuation d q t) rest)) outside p e = after_two_tokens (punctuation c Joint s) (punctuation d q t) rest outside p
+after_arrow run outside p e = cc
 
-behind_dots : (run : TokenList) (behind : Option TokenList) (p : Place) → begins_dots run ≡ true → Onward run behind (to p (behind_three run) behind)
-behind_dots (also (punctuation c Joint s) (also (punctuation d Joint t) (also (punctuation f q u) rest))) behind p e =
-    behind_three_tokens (punctuation c Joint s) (punctuation d Joint t) (punctuation f q u) rest behind p
-behind_dots run behind p e = cc
+after_dots : (run : TokenList) (outside : Option TokenList) (p : Place) → begins_dots run ≡ true → Onward run outside (to p (after_three run) outside)
+after_dots (also (punctuation c Joint s) (also (punctuation d Joint t) (also (punctuation f q u) rest))) outside p e =
+    after_three_tokens (punctuation c Joint s) (punctuation d Joint t) (punctuation f q u) rest outside p
+after_dots run outside p e = cc
 
-all_kept : (t : Token) (rest : TokenList) (behind : Option TokenList) (p : Place) → Onward (also t rest) behind (to p none behind)
+all_kept : (t : Token) (rest : TokenList) (outside : Option TokenList) (p : Place) → Onward (also t rest) outside (to p none outside)
 all_kept t rest None p = record { rest = record { front = also t rest; is = whole_front t rest }; less = omega (arith, one_token t) }
   where
     end : (run : TokenList) → run ≡ append run none
@@ -103,16 +103,16 @@ all_kept t rest None p = record { rest = record { front = also t rest; is = whol
     whole_front t rest = ap (λ (x : TokenList). also t x) (end rest)
 all_kept t rest (Some after) p = record { rest = self_rest after; less = omega (arith, one_token t) }
 
-closed : (d : Delimiter) (next : Place) (run : TokenList) (behind : Option TokenList) → Moves run behind (closes d next behind)
+closed : (d : Delimiter) (next : Place) (run : TokenList) (outside : Option TokenList) → Moves run outside (closes d next outside)
 closed d next run None = tt
 closed d next run (Some after) = record { rest = self_rest after; less = omega arith }
 
-opened : (d : Delimiter) (s : Span) (next : Place) (inside rest : TokenList) (behind : Option TokenList) → Moves (also (group d s inside) rest) behind (opens d s next inside rest behind)
+opened : (d : Delimiter) (s : Span) (next : Place) (inside rest : TokenList) (outside : Option TokenList) → Moves (also (group d s inside) rest) outside (opens d s next inside rest outside)
 opened d s next inside rest None = record { rest = first_rest (group d s inside) rest; less = omega arith }
 opened d s next inside rest (Some after) = tt
 
 name_end : (kind : PathKind) (run : TokenList) (b : Option TokenList) → Moves run b (table.name_end kind run b)
-name_end Plain (also (punctuation c p s) rest) b = either (Moves (also (punctuation c p s) rest) b) (c == 33) _ _ (λ e. behind_one (punctuation c p s) rest b place.Macro) (λ n. tt)
+name_end Plain (also (punctuation c p s) rest) b = either (Moves (also (punctuation c p s) rest) b) (c == 33) _ _ (λ e. after_one (punctuation c p s) rest b place.Macro) (λ n. tt)
 name_end Plain (also (identifier text s) rest) b = tt
 name_end Plain (also (literal text s) rest) b = tt
 name_end Plain (also (doc text s) rest) b = tt
@@ -122,10 +122,10 @@ name_end OfType run b = tt
 name_end OfBound run b = tt
 
 segments : (kind : PathKind) (run : TokenList) (b : Option TokenList) → Moves run b (table.segments_move kind run b)
-segments kind run b = either (Moves run b) (begins_colons run) _ _ (λ e. behind_colons run b (place.Colons kind false) e) (λ n. tt)
+segments kind run b = either (Moves run b) (begins_colons run) _ _ (λ e. after_colons run b (place.Colons kind false) e) (λ n. tt)
 
 named : (kind : PathKind) (run : TokenList) (b : Option TokenList) → Moves run b (table.named_move kind run b)
-named kind (also (punctuation c p s) rest) b = either (Moves (also (punctuation c p s) rest) b) (c == 60) _ _ (λ e. behind_one (punctuation c p s) rest b (place.Arguments (table.argued kind))) (λ n. either (Moves (also (punctuation c p s) rest) b) (begins_colons (also (punctuation c p s) rest)) _ _ (λ e. behind_colons (also (punctuation c p s) rest) b (place.Colons kind true) e) (λ n. name_end kind (also (punctuation c p s) rest) b))
+named kind (also (punctuation c p s) rest) b = either (Moves (also (punctuation c p s) rest) b) (c == 60) _ _ (λ e. after_one (punctuation c p s) rest b (place.Arguments (table.argued kind))) (λ n. either (Moves (also (punctuation c p s) rest) b) (begins_colons (also (punctuation c p s) rest)) _ _ (λ e. after_colons (also (punctuation c p s) rest) b (place.Colons kind true) e) (λ n. name_end kind (also (punctuation c p s) rest) b))
 named kind (also (identifier text s) rest) b = tt
 named kind (also (literal text s) rest) b = tt
 named kind (also (doc text s) rest) b = tt
@@ -139,13 +139,13 @@ macro_group (also (punctuation c p s) rest) b = tt
 macro_group (also (identifier text s) rest) b = tt
 macro_group (also (literal text s) rest) b = tt
 macro_group (also (doc text s) rest) b = tt
-macro_group (also (group Parenthesis s inside) rest) b = behind_one (group Parenthesis s inside) rest b place.End
-macro_group (also (group Bracket s inside) rest) b = behind_one (group Bracket s inside) rest b place.End
-macro_group (also (group Brace s inside) rest) b = behind_one (group Brace s inside) rest b place.End
+macro_group (also (group Parenthesis s inside) rest) b = after_one (group Parenthesis s inside) rest b place.End
+macro_group (also (group Bracket s inside) rest) b = after_one (group Bracket s inside) rest b place.End
+macro_group (also (group Brace s inside) rest) b = after_one (group Brace s inside) rest b place.End
 macro_group none b = tt
 
 output : (run : TokenList) (b : Option TokenList) → Moves run b (table.output_move run b)
-output run b = either (Moves run b) (begins_arrow run) _ _ (λ e. behind_arrow run b place.Target e) (λ n. tt)
+output run b = either (Moves run b) (begins_arrow run) _ _ (λ e. after_arrow run b place.Target e) (λ n. tt)
 
 inputs : (run : TokenList) (b : Option TokenList) → Moves run b (table.inputs_move run b)
 inputs (also (punctuation c p s) rest) b = tt
@@ -158,7 +158,7 @@ inputs (also (group Brace s inside) rest) b = tt
 inputs none b = closed Parenthesis place.Output none b
 
 input_end : (run : TokenList) (b : Option TokenList) → Moves run b (table.input_end_move run b)
-input_end (also (punctuation c p s) rest) b = either (Moves (also (punctuation c p s) rest) b) (c == 44) _ _ (λ e. behind_one (punctuation c p s) rest b place.Inputs) (λ n. tt)
+input_end (also (punctuation c p s) rest) b = either (Moves (also (punctuation c p s) rest) b) (c == 44) _ _ (λ e. after_one (punctuation c p s) rest b place.Inputs) (λ n. tt)
 input_end (also (identifier text s) rest) b = tt
 input_end (also (literal text s) rest) b = tt
 input_end (also (doc text s) rest) b = tt
@@ -168,8 +168,8 @@ input_end (also (group Brace s inside) rest) b = tt
 input_end none b = closed Parenthesis place.Output none b
 
 colons_next : (kind : PathKind) (may : Bool) (run : TokenList) (b : Option TokenList) → Moves run b (table.colons_move kind may run b)
-colons_next kind may (also (punctuation c p s) rest) b = either (Moves (also (punctuation c p s) rest) b) (may && (c == 60)) _ _ (λ e. behind_one (punctuation c p s) rest b (place.Arguments (table.argued kind))) (λ n. tt)
-colons_next kind may (also (identifier text s) rest) b = behind_one (identifier text s) rest b (place.Named kind)
+colons_next kind may (also (punctuation c p s) rest) b = either (Moves (also (punctuation c p s) rest) b) (may && (c == 60)) _ _ (λ e. after_one (punctuation c p s) rest b (place.Arguments (table.argued kind))) (λ n. tt)
+colons_next kind may (also (identifier text s) rest) b = after_one (identifier text s) rest b (place.Named kind)
 colons_next kind may (also (literal text s) rest) b = tt
 colons_next kind may (also (doc text s) rest) b = tt
 colons_next kind may (also (group Parenthesis s inside) rest) b = tt
@@ -178,7 +178,7 @@ colons_next kind may (also (group Brace s inside) rest) b = tt
 colons_next kind may none b = tt
 
 lifetime : (kind : PathKind) (c : ℕ) (p : Spacing) (s : Span) (run : TokenList) (b : Option TokenList) → Moves (also (punctuation c p s) run) b (table.lifetime_move kind run b)
-lifetime kind c p s (also (identifier text t) rest) b = behind_two_tokens (punctuation c p s) (identifier text t) rest b (place.ArgumentEnd kind)
+lifetime kind c p s (also (identifier text t) rest) b = after_two_tokens (punctuation c p s) (identifier text t) rest b (place.ArgumentEnd kind)
 lifetime kind c p s (also (punctuation d q t) rest) b = tt
 lifetime kind c p s (also (literal text t) rest) b = tt
 lifetime kind c p s (also (doc text t) rest) b = tt
@@ -186,13 +186,13 @@ lifetime kind c p s (also (group d t inside) rest) b = tt
 lifetime kind c p s none b = tt
 
 argument_name : (kind : PathKind) (text : List ℕ) (s : Span) (rest : TokenList) (b : Option TokenList) → Moves (also (identifier text s) rest) b (table.argument_word kind text rest b)
-argument_name kind text s rest b = either (Moves (also (identifier text s) rest) b) (table.begins_mark 61 rest) _ _ (λ e. behind_one (identifier text s) rest b (place.Equals kind))
-    (λ n. either (Moves (also (identifier text s) rest) b) (table.typing rest) _ _ (λ e. behind_one (identifier text s) rest b (place.Constrained kind)) (λ m. tt))
+argument_name kind text s rest b = either (Moves (also (identifier text s) rest) b) (table.begins_mark 61 rest) _ _ (λ e. after_one (identifier text s) rest b (place.Equals kind))
+    (λ n. either (Moves (also (identifier text s) rest) b) (table.typing rest) _ _ (λ e. after_one (identifier text s) rest b (place.Constrained kind)) (λ m. tt))
 
 arguments : (kind : PathKind) (run : TokenList) (b : Option TokenList) → Moves run b (table.arguments_move kind run b)
-arguments kind (also (punctuation c p s) rest) b = either (Moves (also (punctuation c p s) rest) b) (c == 62) _ _ (λ e. behind_one (punctuation c p s) rest b (place.Segments kind)) (λ n. either (Moves (also (punctuation c p s) rest) b) (c == 39) _ _ (λ e. lifetime kind c p s rest b) (λ n. tt))
+arguments kind (also (punctuation c p s) rest) b = either (Moves (also (punctuation c p s) rest) b) (c == 62) _ _ (λ e. after_one (punctuation c p s) rest b (place.Segments kind)) (λ n. either (Moves (also (punctuation c p s) rest) b) (c == 39) _ _ (λ e. lifetime kind c p s rest b) (λ n. tt))
 arguments kind (also (identifier text s) rest) b = argument_name kind text s rest b
-arguments kind (also (literal text s) rest) b = behind_one (literal text s) rest b (place.ArgumentEnd kind)
+arguments kind (also (literal text s) rest) b = after_one (literal text s) rest b (place.ArgumentEnd kind)
 arguments kind (also (doc text s) rest) b = tt
 arguments kind (also (group Parenthesis s inside) rest) b = tt
 arguments kind (also (group Bracket s inside) rest) b = tt
@@ -210,7 +210,7 @@ braced kind (also (group Brace s inside) rest) b = all_kept (group Brace s insid
 braced kind none b = closed Brace (place.ArgumentEnd kind) none b
 
 equals : (kind : PathKind) (run : TokenList) (b : Option TokenList) → Moves run b (table.equals_move kind run b)
-equals kind (also (punctuation c p s) rest) b = either (Moves (also (punctuation c p s) rest) b) (c == 61) _ _ (λ e. behind_one (punctuation c p s) rest b (place.Value kind)) (λ n. tt)
+equals kind (also (punctuation c p s) rest) b = either (Moves (also (punctuation c p s) rest) b) (c == 61) _ _ (λ e. after_one (punctuation c p s) rest b (place.Value kind)) (λ n. tt)
 equals kind (also (identifier text s) rest) b = tt
 equals kind (also (literal text s) rest) b = tt
 equals kind (also (doc text s) rest) b = tt
@@ -230,7 +230,7 @@ constrained kind (also (group Brace s inside) rest) b = tt
 constrained kind none b = tt
 
 argument_end : (kind : PathKind) (run : TokenList) (b : Option TokenList) → Moves run b (table.argument_end_move kind run b)
-argument_end kind (also (punctuation c p s) rest) b = either (Moves (also (punctuation c p s) rest) b) (c == 44) _ _ (λ e. behind_one (punctuation c p s) rest b (place.Arguments kind)) (λ n. either (Moves (also (punctuation c p s) rest) b) (c == 62) _ _ (λ e. behind_one (punctuation c p s) rest b (place.Segments kind)) (λ n. tt))
+argument_end kind (also (punctuation c p s) rest) b = either (Moves (also (punctuation c p s) rest) b) (c == 44) _ _ (λ e. after_one (punctuation c p s) rest b (place.Arguments kind)) (λ n. either (Moves (also (punctuation c p s) rest) b) (c == 62) _ _ (λ e. after_one (punctuation c p s) rest b (place.Segments kind)) (λ n. tt))
 argument_end kind (also (identifier text s) rest) b = tt
 argument_end kind (also (literal text s) rest) b = tt
 argument_end kind (also (doc text s) rest) b = tt
@@ -241,7 +241,7 @@ argument_end kind none b = tt
 
 referent : (run : TokenList) (b : Option TokenList) → Moves run b (table.referent_move run b)
 referent (also (punctuation c p s) rest) b = tt
-referent (also (identifier text s) rest) b = either (Moves (also (identifier text s) rest) b) (bytes_eq text (codes "mut")) _ _ (λ e. behind_one (identifier text s) rest b place.Target) (λ n. tt)
+referent (also (identifier text s) rest) b = either (Moves (also (identifier text s) rest) b) (bytes_eq text (codes "mut")) _ _ (λ e. after_one (identifier text s) rest b place.Target) (λ n. tt)
 referent (also (literal text s) rest) b = tt
 referent (also (doc text s) rest) b = tt
 referent (also (group Parenthesis s inside) rest) b = tt
@@ -251,7 +251,7 @@ referent none b = tt
 
 pointer : (run : TokenList) (b : Option TokenList) → Moves run b (table.pointer_move run b)
 pointer (also (punctuation c p s) rest) b = tt
-pointer (also (identifier text s) rest) b = either (Moves (also (identifier text s) rest) b) (bytes_eq text (codes "const") || bytes_eq text (codes "mut")) _ _ (λ e. behind_one (identifier text s) rest b place.Target) (λ n. tt)
+pointer (also (identifier text s) rest) b = either (Moves (also (identifier text s) rest) b) (bytes_eq text (codes "const") || bytes_eq text (codes "mut")) _ _ (λ e. after_one (identifier text s) rest b place.Target) (λ n. tt)
 pointer (also (literal text s) rest) b = tt
 pointer (also (doc text s) rest) b = tt
 pointer (also (group Parenthesis s inside) rest) b = tt
@@ -270,7 +270,7 @@ list (also (group Brace s inside) rest) b = tt
 list none b = closed Parenthesis place.End none b
 
 list_end : (run : TokenList) (b : Option TokenList) → Moves run b (table.list_end_move run b)
-list_end (also (punctuation c p s) rest) b = either (Moves (also (punctuation c p s) rest) b) (c == 44) _ _ (λ e. behind_one (punctuation c p s) rest b place.List) (λ n. tt)
+list_end (also (punctuation c p s) rest) b = either (Moves (also (punctuation c p s) rest) b) (c == 44) _ _ (λ e. after_one (punctuation c p s) rest b place.List) (λ n. tt)
 list_end (also (identifier text s) rest) b = tt
 list_end (also (literal text s) rest) b = tt
 list_end (also (doc text s) rest) b = tt
@@ -280,7 +280,7 @@ list_end (also (group Brace s inside) rest) b = tt
 list_end none b = closed Parenthesis place.End none b
 
 element_end : (run : TokenList) (b : Option TokenList) → Moves run b (table.element_end_move run b)
-element_end (also (punctuation c p s) rest) b = either (Moves (also (punctuation c p s) rest) b) (c == 59) _ _ (λ e. behind_one (punctuation c p s) rest b place.Length) (λ n. tt)
+element_end (also (punctuation c p s) rest) b = either (Moves (also (punctuation c p s) rest) b) (c == 59) _ _ (λ e. after_one (punctuation c p s) rest b place.Length) (λ n. tt)
 element_end (also (identifier text s) rest) b = tt
 element_end (also (literal text s) rest) b = tt
 element_end (also (doc text s) rest) b = tt
@@ -300,8 +300,8 @@ length (also (group Brace s inside) rest) b = all_kept (group Brace s inside) re
 length none b = tt
 
 self_end : (run : TokenList) (b : Option TokenList) → Moves run b (table.self_end_move run b)
-self_end (also (punctuation c p s) rest) b = either (Moves (also (punctuation c p s) rest) b) (c == 62) _ _ (λ e. behind_one (punctuation c p s) rest b place.SelfClosed) (λ n. tt)
-self_end (also (identifier text s) rest) b = either (Moves (also (identifier text s) rest) b) (bytes_eq text (codes "as")) _ _ (λ e. behind_one (identifier text s) rest b place.SelfTrait) (λ n. tt)
+self_end (also (punctuation c p s) rest) b = either (Moves (also (punctuation c p s) rest) b) (c == 62) _ _ (λ e. after_one (punctuation c p s) rest b place.SelfClosed) (λ n. tt)
+self_end (also (identifier text s) rest) b = either (Moves (also (identifier text s) rest) b) (bytes_eq text (codes "as")) _ _ (λ e. after_one (identifier text s) rest b place.SelfTrait) (λ n. tt)
 self_end (also (literal text s) rest) b = tt
 self_end (also (doc text s) rest) b = tt
 self_end (also (group Parenthesis s inside) rest) b = tt
@@ -320,7 +320,7 @@ path kind next (also (group Brace s inside) rest) b = tt
 path kind next none b = tt
 
 self_trait_end : (run : TokenList) (b : Option TokenList) → Moves run b (table.self_trait_end_move run b)
-self_trait_end (also (punctuation c p s) rest) b = either (Moves (also (punctuation c p s) rest) b) (c == 62) _ _ (λ e. behind_one (punctuation c p s) rest b place.SelfClosed) (λ n. tt)
+self_trait_end (also (punctuation c p s) rest) b = either (Moves (also (punctuation c p s) rest) b) (c == 62) _ _ (λ e. after_one (punctuation c p s) rest b place.SelfClosed) (λ n. tt)
 self_trait_end (also (identifier text s) rest) b = tt
 self_trait_end (also (literal text s) rest) b = tt
 self_trait_end (also (doc text s) rest) b = tt
@@ -330,10 +330,10 @@ self_trait_end (also (group Brace s inside) rest) b = tt
 self_trait_end none b = tt
 
 self_closed : (run : TokenList) (b : Option TokenList) → Moves run b (table.self_closed_move run b)
-self_closed run b = either (Moves run b) (begins_colons run) _ _ (λ e. behind_colons run b (place.Colons OfType false) e) (λ n. tt)
+self_closed run b = either (Moves run b) (begins_colons run) _ _ (λ e. after_colons run b (place.Colons OfType false) e) (λ n. tt)
 
 bound_lifetime : (plus : Bool) (c : ℕ) (p : Spacing) (s : Span) (run : TokenList) (b : Option TokenList) → Moves (also (punctuation c p s) run) b (table.bound_lifetime_move plus run b)
-bound_lifetime plus c p s (also (identifier text t) rest) b = behind_two_tokens (punctuation c p s) (identifier text t) rest b (place.BoundEnd plus)
+bound_lifetime plus c p s (also (identifier text t) rest) b = after_two_tokens (punctuation c p s) (identifier text t) rest b (place.BoundEnd plus)
 bound_lifetime plus c p s (also (punctuation d q t) rest) b = tt
 bound_lifetime plus c p s (also (literal text t) rest) b = tt
 bound_lifetime plus c p s (also (doc text t) rest) b = tt
@@ -341,17 +341,17 @@ bound_lifetime plus c p s (also (group d t inside) rest) b = tt
 bound_lifetime plus c p s none b = tt
 
 trait : (kind : BoundKind) (run : TokenList) (b : Option TokenList) → Moves run b (table.trait_move kind run b)
-trait kind (also (punctuation c p s) rest) b = path OfBound (table.behind_bound kind) (also (punctuation c p s) rest) b
-trait kind (also (identifier text s) rest) b = either (Moves (also (identifier text s) rest) b) (bytes_eq text (codes "for")) _ _ (λ e. behind_one (identifier text s) rest b (place.For (OfTrait kind))) (λ n. path OfBound (table.behind_bound kind) (also (identifier text s) rest) b)
-trait kind (also (literal text s) rest) b = path OfBound (table.behind_bound kind) (also (literal text s) rest) b
-trait kind (also (doc text s) rest) b = path OfBound (table.behind_bound kind) (also (doc text s) rest) b
-trait kind (also (group Parenthesis s inside) rest) b = path OfBound (table.behind_bound kind) (also (group Parenthesis s inside) rest) b
-trait kind (also (group Bracket s inside) rest) b = path OfBound (table.behind_bound kind) (also (group Bracket s inside) rest) b
-trait kind (also (group Brace s inside) rest) b = path OfBound (table.behind_bound kind) (also (group Brace s inside) rest) b
-trait kind none b = path OfBound (table.behind_bound kind) none b
+trait kind (also (punctuation c p s) rest) b = path OfBound (table.after_bound kind) (also (punctuation c p s) rest) b
+trait kind (also (identifier text s) rest) b = either (Moves (also (identifier text s) rest) b) (bytes_eq text (codes "for")) _ _ (λ e. after_one (identifier text s) rest b (place.For (OfTrait kind))) (λ n. path OfBound (table.after_bound kind) (also (identifier text s) rest) b)
+trait kind (also (literal text s) rest) b = path OfBound (table.after_bound kind) (also (literal text s) rest) b
+trait kind (also (doc text s) rest) b = path OfBound (table.after_bound kind) (also (doc text s) rest) b
+trait kind (also (group Parenthesis s inside) rest) b = path OfBound (table.after_bound kind) (also (group Parenthesis s inside) rest) b
+trait kind (also (group Bracket s inside) rest) b = path OfBound (table.after_bound kind) (also (group Bracket s inside) rest) b
+trait kind (also (group Brace s inside) rest) b = path OfBound (table.after_bound kind) (also (group Brace s inside) rest) b
+trait kind none b = path OfBound (table.after_bound kind) none b
 
 question : (kind : BoundKind) (run : TokenList) (b : Option TokenList) → Moves run b (table.question_move kind run b)
-question kind (also (punctuation c p s) rest) b = either (Moves (also (punctuation c p s) rest) b) (c == 63) _ _ (λ e. behind_one (punctuation c p s) rest b (place.Trait kind)) (λ n. trait kind (also (punctuation c p s) rest) b)
+question kind (also (punctuation c p s) rest) b = either (Moves (also (punctuation c p s) rest) b) (c == 63) _ _ (λ e. after_one (punctuation c p s) rest b (place.Trait kind)) (λ n. trait kind (also (punctuation c p s) rest) b)
 question kind (also (identifier text s) rest) b = trait kind (also (identifier text s) rest) b
 question kind (also (literal text s) rest) b = trait kind (also (literal text s) rest) b
 question kind (also (doc text s) rest) b = trait kind (also (doc text s) rest) b
@@ -371,7 +371,7 @@ bound plus (also (group Brace s inside) rest) b = question (Listed plus) (also (
 bound plus none b = question (Listed plus) none b
 
 bound_end : (plus : Bool) (run : TokenList) (b : Option TokenList) → Moves run b (table.bound_end_move plus run b)
-bound_end plus (also (punctuation c p s) rest) b = either (Moves (also (punctuation c p s) rest) b) (plus && (c == 43)) _ _ (λ e. behind_one (punctuation c p s) rest b place.Further) (λ n. tt)
+bound_end plus (also (punctuation c p s) rest) b = either (Moves (also (punctuation c p s) rest) b) (plus && (c == 43)) _ _ (λ e. after_one (punctuation c p s) rest b place.Further) (λ n. tt)
 bound_end plus (also (identifier text s) rest) b = tt
 bound_end plus (also (literal text s) rest) b = tt
 bound_end plus (also (doc text s) rest) b = tt
@@ -394,7 +394,7 @@ enclosed_end plus (also (group Brace s inside) rest) b = tt
 enclosed_end plus none b = closed Parenthesis (place.BoundEnd plus) none b
 
 for_opens : (binder : Binder) (run : TokenList) (b : Option TokenList) → Moves run b (table.for_move binder run b)
-for_opens binder (also (punctuation c p s) rest) b = either (Moves (also (punctuation c p s) rest) b) (c == 60) _ _ (λ e. behind_one (punctuation c p s) rest b (place.ForList binder)) (λ n. tt)
+for_opens binder (also (punctuation c p s) rest) b = either (Moves (also (punctuation c p s) rest) b) (c == 60) _ _ (λ e. after_one (punctuation c p s) rest b (place.ForList binder)) (λ n. tt)
 for_opens binder (also (identifier text s) rest) b = tt
 for_opens binder (also (literal text s) rest) b = tt
 for_opens binder (also (doc text s) rest) b = tt
@@ -404,7 +404,7 @@ for_opens binder (also (group Brace s inside) rest) b = tt
 for_opens binder none b = tt
 
 for_lifetime : (binder : Binder) (c : ℕ) (p : Spacing) (s : Span) (run : TokenList) (b : Option TokenList) → Moves (also (punctuation c p s) run) b (table.for_lifetime_move binder run b)
-for_lifetime binder c p s (also (identifier text t) rest) b = behind_two_tokens (punctuation c p s) (identifier text t) rest b (place.ForEnd binder)
+for_lifetime binder c p s (also (identifier text t) rest) b = after_two_tokens (punctuation c p s) (identifier text t) rest b (place.ForEnd binder)
 for_lifetime binder c p s (also (punctuation d q t) rest) b = tt
 for_lifetime binder c p s (also (literal text t) rest) b = tt
 for_lifetime binder c p s (also (doc text t) rest) b = tt
@@ -412,7 +412,7 @@ for_lifetime binder c p s (also (group d t inside) rest) b = tt
 for_lifetime binder c p s none b = tt
 
 for_list : (binder : Binder) (run : TokenList) (b : Option TokenList) → Moves run b (table.for_list_move binder run b)
-for_list binder (also (punctuation c p s) rest) b = either (Moves (also (punctuation c p s) rest) b) (c == 62) _ _ (λ e. behind_one (punctuation c p s) rest b (table.behind_for binder)) (λ n. either (Moves (also (punctuation c p s) rest) b) (c == 39) _ _ (λ e. for_lifetime binder c p s rest b) (λ n. tt))
+for_list binder (also (punctuation c p s) rest) b = either (Moves (also (punctuation c p s) rest) b) (c == 62) _ _ (λ e. after_one (punctuation c p s) rest b (table.after_for binder)) (λ n. either (Moves (also (punctuation c p s) rest) b) (c == 39) _ _ (λ e. for_lifetime binder c p s rest b) (λ n. tt))
 for_list binder (also (identifier text s) rest) b = tt
 for_list binder (also (literal text s) rest) b = tt
 for_list binder (also (doc text s) rest) b = tt
@@ -422,7 +422,7 @@ for_list binder (also (group Brace s inside) rest) b = tt
 for_list binder none b = tt
 
 for_end : (binder : Binder) (run : TokenList) (b : Option TokenList) → Moves run b (table.for_end_move binder run b)
-for_end binder (also (punctuation c p s) rest) b = either (Moves (also (punctuation c p s) rest) b) (c == 44) _ _ (λ e. behind_one (punctuation c p s) rest b (place.ForList binder)) (λ n. either (Moves (also (punctuation c p s) rest) b) (c == 62) _ _ (λ e. behind_one (punctuation c p s) rest b (table.behind_for binder)) (λ n. tt))
+for_end binder (also (punctuation c p s) rest) b = either (Moves (also (punctuation c p s) rest) b) (c == 44) _ _ (λ e. after_one (punctuation c p s) rest b (place.ForList binder)) (λ n. either (Moves (also (punctuation c p s) rest) b) (c == 62) _ _ (λ e. after_one (punctuation c p s) rest b (table.after_for binder)) (λ n. tt))
 for_end binder (also (identifier text s) rest) b = tt
 for_end binder (also (literal text s) rest) b = tt
 for_end binder (also (doc text s) rest) b = tt
@@ -433,7 +433,7 @@ for_end binder none b = tt
 
 linked : (run : TokenList) (b : Option TokenList) → Moves run b (table.linked_move run b)
 linked (also (punctuation c p s) rest) b = tt
-linked (also (identifier text s) rest) b = either (Moves (also (identifier text s) rest) b) (bytes_eq text (codes "fn")) _ _ (λ e. behind_one (identifier text s) rest b place.Function) (λ n. tt)
+linked (also (identifier text s) rest) b = either (Moves (also (identifier text s) rest) b) (bytes_eq text (codes "fn")) _ _ (λ e. after_one (identifier text s) rest b place.Function) (λ n. tt)
 linked (also (literal text s) rest) b = tt
 linked (also (doc text s) rest) b = tt
 linked (also (group Parenthesis s inside) rest) b = tt
@@ -443,7 +443,7 @@ linked none b = tt
 
 not_safe : (run : TokenList) (b : Option TokenList) → Moves run b (table.unsafe_move run b)
 not_safe (also (punctuation c p s) rest) b = tt
-not_safe (also (identifier text s) rest) b = either (Moves (also (identifier text s) rest) b) (bytes_eq text (codes "extern")) _ _ (λ e. behind_one (identifier text s) rest b place.Extern) (λ n. linked (also (identifier text s) rest) b)
+not_safe (also (identifier text s) rest) b = either (Moves (also (identifier text s) rest) b) (bytes_eq text (codes "extern")) _ _ (λ e. after_one (identifier text s) rest b place.Extern) (λ n. linked (also (identifier text s) rest) b)
 not_safe (also (literal text s) rest) b = tt
 not_safe (also (doc text s) rest) b = tt
 not_safe (also (group Parenthesis s inside) rest) b = tt
@@ -453,7 +453,7 @@ not_safe none b = tt
 
 qualified : (run : TokenList) (b : Option TokenList) → Moves run b (table.qualified_move run b)
 qualified (also (punctuation c p s) rest) b = tt
-qualified (also (identifier text s) rest) b = either (Moves (also (identifier text s) rest) b) (bytes_eq text (codes "unsafe")) _ _ (λ e. behind_one (identifier text s) rest b place.Unsafe) (λ n. not_safe (also (identifier text s) rest) b)
+qualified (also (identifier text s) rest) b = either (Moves (also (identifier text s) rest) b) (bytes_eq text (codes "unsafe")) _ _ (λ e. after_one (identifier text s) rest b place.Unsafe) (λ n. not_safe (also (identifier text s) rest) b)
 qualified (also (literal text s) rest) b = tt
 qualified (also (doc text s) rest) b = tt
 qualified (also (group Parenthesis s inside) rest) b = tt
@@ -464,7 +464,7 @@ qualified none b = tt
 extern_next : (run : TokenList) (b : Option TokenList) → Moves run b (table.extern_move run b)
 extern_next (also (punctuation c p s) rest) b = tt
 extern_next (also (identifier text s) rest) b = linked (also (identifier text s) rest) b
-extern_next (also (literal text s) rest) b = behind_one (literal text s) rest b place.Linked
+extern_next (also (literal text s) rest) b = after_one (literal text s) rest b place.Linked
 extern_next (also (doc text s) rest) b = tt
 extern_next (also (group Parenthesis s inside) rest) b = tt
 extern_next (also (group Bracket s inside) rest) b = tt
@@ -482,11 +482,11 @@ function (also (group Brace s inside) rest) b = tt
 function none b = tt
 
 taken_value : (run : TokenList) (b : Option TokenList) → Moves run b (table.taken_value run b)
-taken_value run b = either (Moves run b) (begins_dots run) _ _ (λ e. behind_dots run b place.Variadic e) (λ n. tt)
+taken_value run b = either (Moves run b) (begins_dots run) _ _ (λ e. after_dots run b place.Variadic e) (λ n. tt)
 
 taken : (run : TokenList) (b : Option TokenList) → Moves run b (table.taken_move run b)
 taken (also (punctuation c p s) rest) b = taken_value (also (punctuation c p s) rest) b
-taken (also (identifier text s) rest) b = either (Moves (also (identifier text s) rest) b) (table.typing rest) _ _ (λ e. behind_one (identifier text s) rest b place.Typed) (λ n. tt)
+taken (also (identifier text s) rest) b = either (Moves (also (identifier text s) rest) b) (table.typing rest) _ _ (λ e. after_one (identifier text s) rest b place.Typed) (λ n. tt)
 taken (also (literal text s) rest) b = taken_value (also (literal text s) rest) b
 taken (also (doc text s) rest) b = taken_value (also (doc text s) rest) b
 taken (also (group Parenthesis s inside) rest) b = taken_value (also (group Parenthesis s inside) rest) b
@@ -495,7 +495,7 @@ taken (also (group Brace s inside) rest) b = taken_value (also (group Brace s in
 taken none b = closed Parenthesis place.Output none b
 
 typed : (run : TokenList) (b : Option TokenList) → Moves run b (table.typed_move run b)
-typed (also (punctuation c p s) rest) b = either (Moves (also (punctuation c p s) rest) b) (c == 58) _ _ (λ e. behind_one (punctuation c p s) rest b place.TypedValue) (λ n. tt)
+typed (also (punctuation c p s) rest) b = either (Moves (also (punctuation c p s) rest) b) (c == 58) _ _ (λ e. after_one (punctuation c p s) rest b place.TypedValue) (λ n. tt)
 typed (also (identifier text s) rest) b = tt
 typed (also (literal text s) rest) b = tt
 typed (also (doc text s) rest) b = tt
@@ -505,7 +505,7 @@ typed (also (group Brace s inside) rest) b = tt
 typed none b = tt
 
 one_taken : (run : TokenList) (b : Option TokenList) → Moves run b (table.one_taken_move run b)
-one_taken (also (punctuation c p s) rest) b = either (Moves (also (punctuation c p s) rest) b) (c == 44) _ _ (λ e. behind_one (punctuation c p s) rest b place.Taken) (λ n. tt)
+one_taken (also (punctuation c p s) rest) b = either (Moves (also (punctuation c p s) rest) b) (c == 44) _ _ (λ e. after_one (punctuation c p s) rest b place.Taken) (λ n. tt)
 one_taken (also (identifier text s) rest) b = tt
 one_taken (also (literal text s) rest) b = tt
 one_taken (also (doc text s) rest) b = tt
@@ -515,7 +515,7 @@ one_taken (also (group Brace s inside) rest) b = tt
 one_taken none b = closed Parenthesis place.Output none b
 
 variadic : (run : TokenList) (b : Option TokenList) → Moves run b (table.variadic_move run b)
-variadic (also (punctuation c p s) rest) b = either (Moves (also (punctuation c p s) rest) b) (c == 44) _ _ (λ e. behind_one (punctuation c p s) rest b place.VariadicEnd) (λ n. tt)
+variadic (also (punctuation c p s) rest) b = either (Moves (also (punctuation c p s) rest) b) (c == 44) _ _ (λ e. after_one (punctuation c p s) rest b place.VariadicEnd) (λ n. tt)
 variadic (also (identifier text s) rest) b = tt
 variadic (also (literal text s) rest) b = tt
 variadic (also (doc text s) rest) b = tt
@@ -568,7 +568,7 @@ steps place.LengthEnd run b = closed Bracket place.End run b
 steps (place.Bound plus) run b = bound plus run b
 steps (place.Question plus) run b = question (Enclosed plus) run b
 steps (place.Trait kind) run b = trait kind run b
-steps (place.TraitPath kind) run b = path OfBound (table.behind_bound kind) run b
+steps (place.TraitPath kind) run b = path OfBound (table.after_bound kind) run b
 steps (place.BoundEnd plus) run b = bound_end plus run b
 steps place.Further run b = further run b
 steps (place.EnclosedEnd plus) run b = enclosed_end plus run b
@@ -589,8 +589,8 @@ steps place.VariadicEnd run b = variadic_end run b
 
 -- what a type begins with is followed by less
 pub record Begins (run : TokenList) (spot : Spot) : Type 0 where
-  pub rest : IsRestOf run (outer spot.run spot.behind)
-  pub less : left spot.run spot.behind < 2 * count_of run
+  pub rest : IsRestOf run (outer spot.run spot.outside)
+  pub less : left spot.run spot.outside < 2 * count_of run
 
 abbrev Firsts : TokenList → First → Type 0
 Firsts run (starts barred s spot) = Begins run spot
@@ -606,7 +606,7 @@ begins_one t rest p = record { rest = first_rest t rest; less = omega (arith, on
 begins_group : (d : Delimiter) (s : Span) (inside rest : TokenList) (p : Place) → Begins (also (group d s inside) rest) (to p inside (Some rest))
 begins_group d s inside rest p = record { rest = first_rest (group d s inside) rest; less = omega arith }
 
-begins_rooted : (run : TokenList) (p : Place) → begins_colons run ≡ true → Begins run (to p (behind_two run) None)
+begins_rooted : (run : TokenList) (p : Place) → begins_colons run ≡ true → Begins run (to p (after_two run) None)
 begins_rooted (also (punctuation c Joint s) (also (punctuation d q t) rest)) p e = record { rest = record { front = also (punctuation c Joint s) (also (punctuation d q t) none); is = refl }; less = omega arith }
 begins_rooted run p e = cc
 

@@ -14,10 +14,10 @@ use Rattle.logos_type_reader.proofs.TableLocal.{SameOpen, Passes, over, into, ou
 use Rattle.logos_type_reader.proofs.BeginLocal.{Begun, by_tokens, by_group, begin_local, NameLocal, name_local, unnamed_local}
 
 -- the move at this spot
-pub local_move : (spot : Spot) {m : Move} → next_of spot ≡ m → Local (next_at spot.place) spot.run spot.behind m
-local_move spot e = subst (Local (next_at spot.place) spot.run spot.behind) e (moves_local spot.place spot.run spot.behind)
+pub local_move : (spot : Spot) {m : Move} → next_of spot ≡ m → Local (next_at spot.place) spot.run spot.outside m
+local_move spot e = subst (Local (next_at spot.place) spot.run spot.outside) e (moves_local spot.place spot.run spot.outside)
 
--- the spot with other tokens behind all that is open
+-- the spot with other tokens after all that is open
 abbrev pub with_outer : Place → TokenList → Option TokenList → TokenList → Spot
 with_outer p run None x = to p x None
 with_outer p run (Some rest) x = to p run (Some x)
@@ -90,7 +90,7 @@ out_parts n now onward barred p q run r ps qs rest e k l = record {
 }
 
 further_local : {n : ℕ} {now onward barred : Bool} {p : Place} {run : TokenList} {b : Option TokenList} {behind : Spot} {ps qs : List Tree} {rest : TokenList} → barred ≡ (now || onward) → MoveLocal n now p run b ps behind →
-    PartsLocal n onward behind.place behind.run behind.behind qs rest → PartsLocal n barred p run b (ps ++ qs) rest
+    PartsLocal n onward behind.place behind.run behind.outside qs rest → PartsLocal n barred p run b (ps ++ qs) rest
 further_local {n} {now} {onward} {barred} {p} {run} {b} {behind} {ps} {qs} {rest} e (over front f g k) l =
     subst (λ (x : TokenList). PartsLocal n barred p x b (ps ++ qs) rest) (sym f)
     (over_parts n now onward barred p behind.place front behind.run b ps qs rest e k (subst (λ (x : Option TokenList). PartsLocal n onward behind.place behind.run x qs rest) (sym g) l))
@@ -132,10 +132,10 @@ nested_local n barred p q i front r b s ps rest k l =
     (λ x c o h. subst (λ (y : TokenList). IsMove n barred (to p y c) (sign s ∷ ps) (to q x c)) (append_over front l.front x) (a_nest (k (append l.front x) c o (same_over l.front l.is h)) (l.same x h)))
 
 nest_local : (n : ℕ) (barred : Bool) (p q : Place) (run : TokenList) (b : Option TokenList) (s : Sign) (inner : Spot) (ps : List Tree) (rest : TokenList) → next_at p run b ≡ nests s inner q →
-    PartsLocal n barred inner.place inner.run inner.behind ps rest → MoveLocal n barred p run b (sign s ∷ ps) (to q rest b)
+    PartsLocal n barred inner.place inner.run inner.outside ps rest → MoveLocal n barred p run b (sign s ∷ ps) (to q rest b)
 nest_local n barred p q run b s inner ps rest e l = go (local_move (to p run b) e)
   where
-    go : ((front : TokenList) × (run ≡ append front inner.run) × (inner.behind ≡ None)
+    go : ((front : TokenList) × (run ≡ append front inner.run) × (inner.outside ≡ None)
         × ((x : TokenList) (c : Option TokenList) → SameOpen b c → SameSign inner.run x → next_at p (append front x) c ≡ nests s (to inner.place x None) q)) → MoveLocal n barred p run b (sign s ∷ ps) (to q rest b)
     go (front, f, g, k) = subst (λ (x : TokenList). MoveLocal n barred p x b (sign s ∷ ps) (to q rest b)) (sym f)
         (nested_local n barred p q inner.place front inner.run b s ps rest k (subst (λ (x : Option TokenList). PartsLocal n barred inner.place inner.run x ps rest) g l))
@@ -147,7 +147,7 @@ pub record FormLocal (m : ℕ) (plus b other : Bool) (run : TokenList) (s : Sign
   pub is : run ≡ also first (append front rest)
   pub same : (x : TokenList) → SameSign rest x → (z : Spot) × (begin plus (also first (append front x)) ≡ starts b s z) × AreParts m other z ps x
 
-pub form_local : (m : ℕ) (plus b other : Bool) (run : TokenList) (s : Sign) (spot : Spot) (ps : List Tree) (rest : TokenList) → begin plus run ≡ starts b s spot → PartsLocal m other spot.place spot.run spot.behind ps rest →
+pub form_local : (m : ℕ) (plus b other : Bool) (run : TokenList) (s : Sign) (spot : Spot) (ps : List Tree) (rest : TokenList) → begin plus run ≡ starts b s spot → PartsLocal m other spot.place spot.run spot.outside ps rest →
     FormLocal m plus b other run s ps rest
 form_local m plus b other run s spot ps rest e l = go (begin_local plus run e)
   where
@@ -186,16 +186,16 @@ mutual
   type_local (just_name {run = run} {text = text} a e) = name_type run a (name_local run text e)
   type_local (formed {levels = n} {plus = plus} {run = run} {s = s} {spot = spot} {parts = ps} {rest = rest} a e f h) = formed_local a e (form_local (n - 1) plus false false run s spot ps rest f (parts_local h))
 
-  pub move_local : {n : ℕ} {b : Bool} {spot : Spot} {ps : List Tree} {behind : Spot} → IsMove n b spot ps behind → MoveLocal n b spot.place spot.run spot.behind ps behind
+  pub move_local : {n : ℕ} {b : Bool} {spot : Spot} {ps : List Tree} {behind : Spot} → IsMove n b spot ps behind → MoveLocal n b spot.place spot.run spot.outside ps behind
   move_local (a_token {levels = n} {spot = spot} {s = s} e) =
       map_passes (λ x c z. next_at spot.place x c ≡ takes s z) (λ x c z. IsMove n false (to spot.place x c) (sign s ∷ []) z) (λ x c z k. a_token k) (local_move spot e)
   move_local (a_bar {levels = n} {spot = spot} {s = s} e) =
       map_passes (λ x c z. next_at spot.place x c ≡ bars s z) (λ x c z. IsMove n true (to spot.place x c) (sign s ∷ []) z) (λ x c z k. a_bar k) (local_move spot e)
-  move_local (a_type {levels = n} {spot = spot} {plus = plus} {place = q} {part = t} {rest = rest} e h) = asked_local n spot.place q plus spot.run spot.behind t rest e (type_local h)
-  move_local (a_still_type {levels = n} {spot = spot} {place = q} {part = t} {rest = rest} e h) = still_local n spot.place q spot.run spot.behind t rest e (type_local h)
-  move_local (still_tokens {levels = n} {spot = spot} {run = other} {behind = behind} e) = tokens_local n spot.place spot.run spot.behind other behind e
-  move_local (a_nest {levels = n} {barred = b} {spot = spot} {s = s} {inner = inner} {place = q} {parts = ps} {rest = rest} e h) = nest_local n b spot.place q spot.run spot.behind s inner ps rest e (parts_local h)
+  move_local (a_type {levels = n} {spot = spot} {plus = plus} {place = q} {part = t} {rest = rest} e h) = asked_local n spot.place q plus spot.run spot.outside t rest e (type_local h)
+  move_local (a_still_type {levels = n} {spot = spot} {place = q} {part = t} {rest = rest} e h) = still_local n spot.place q spot.run spot.outside t rest e (type_local h)
+  move_local (still_tokens {levels = n} {spot = spot} {run = other} {next = behind} e) = tokens_local n spot.place spot.run spot.outside other behind e
+  move_local (a_nest {levels = n} {barred = b} {spot = spot} {s = s} {inner = inner} {place = q} {parts = ps} {rest = rest} e h) = nest_local n b spot.place q spot.run spot.outside s inner ps rest e (parts_local h)
 
-  pub parts_local : {n : ℕ} {b : Bool} {spot : Spot} {ps : List Tree} {rest : TokenList} → AreParts n b spot ps rest → PartsLocal n b spot.place spot.run spot.behind ps rest
-  parts_local (ended {levels = n} {spot = spot} e) = ended_local n spot.place spot.run spot.behind e
+  pub parts_local : {n : ℕ} {b : Bool} {spot : Spot} {ps : List Tree} {rest : TokenList} → AreParts n b spot ps rest → PartsLocal n b spot.place spot.run spot.outside ps rest
+  parts_local (ended {levels = n} {spot = spot} e) = ended_local n spot.place spot.run spot.outside e
   parts_local (further m a e) = further_local e (move_local m) (parts_local a)

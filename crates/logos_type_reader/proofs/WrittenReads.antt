@@ -14,15 +14,15 @@ use Rattle.logos_type_reader.specs.declared.table.place.Binder.{Binder}
 use Rattle.logos_type_reader.specs.declared.table.place.Binder.TheVariants.{OfFunction, OfTrait}
 use Rattle.logos_type_reader.specs.declared.table.place.Place.{Place}
 use Rattle.logos_type_reader.specs.declared.table.place.Place.TheVariants as place
-use Rattle.logos_type.specs.Parts.{Sign, Tree, sign, whole, still, trees, none as no_part_left, also as and_part, word, mark, colons, arrow, value, opening, closing, reference, kept}
+use Rattle.logos_type.specs.Parts.{Sign, Tree, sign, whole, still, trees, none as no_part_left, also as and_part, word, mark, colons, arrow, value, opening, closing, reference, other_lifetime}
 use Rattle.logos_type_reader.specs.StillRuns.{still_run}
-use Rattle.logos_type_reader.specs.Table.{Spot, Move, ends, takes, asks, keeps_type, keeps, nests, First, starts, unsupported, begin, name_of, is_reserved, goes_on, begins_colons, begins_arrow, begins_mark, begins_bound, begins_dots, typing, argued, argument_lifetime, next_at, name_end, path_move, behind_bound, behind_for}
+use Rattle.logos_type_reader.specs.Table.{Spot, Move, ends, takes, asks, keeps_type, keeps, nests, First, starts, unsupported, begin, name_of, is_reserved, goes_on, begins_colons, begins_arrow, begins_mark, begins_bound, begins_dots, typing, argued, argument_lifetime, next_at, name_end, path_move, after_bound, after_for}
 use Rattle.logos_type_reader.specs.Reading.{IsType, just_name, formed, a_token, a_bar, a_type as part_type, a_still_type, still_tokens, a_nest, AreParts, ended, further as part}
-use Rattle.logos_type_reader.specs.Written.{Ending, closed, named, plain_named, applied, taking, bounded, trailing, may_follow, name_ending, begins_mut, begins_named_argument, begins_parameter, Lifetimes, in_angles, LifetimeList, no_lifetime, last_lifetime, lifetimes, Written, a_name, a_form, Form, path, rooted, qualified, borrowed, borrowed_for, slice, array, tuple, trait_object, bound_function, function, pointer_const, pointer_mut, Referent, shared, mutable, Listed as ListedTypes, nothing, single, several, Qualified, of_type, of_trait, AnyPath, from_name, from_root, Path, last, longer, Longer, member, angled, angled_member, called, giving, Angled, plain, turbofish, Arguments, finished, final, further, Argument, a_lifetime, a_literal, empty_braces, braces, a_type, a_binding, Bounds, one_bound, last_bound, plus_behind, bounds, Bound, lifetime_bound, trait_bound, enclosed, Questioned, unquestioned, questioned, Trait, unbound, for_all, Function, not_safe, safe, Linked, linked, linked_as, unlinked, Taking, takes_only, takes_and_gives, Parameters, no_parameter, last_parameter, parameters, Parameter, unnamed, with_name}
+use Rattle.logos_type_reader.specs.Written.{Ending, closed, named, plain_named, applied, taking, bounded, trailing, may_follow, name_ending, begins_mut, begins_named_argument, begins_parameter, Lifetimes, in_angles, LifetimeList, no_lifetime, last_lifetime, lifetimes, Written, a_name, a_form, Form, path, rooted, qualified, borrowed, borrowed_for, slice, array, tuple, trait_object, bound_function, function, pointer_const, pointer_mut, Referent, shared, mutable, Listed as ListedTypes, nothing, single, several, Qualified, of_type, of_trait, AnyPath, from_name, from_root, Path, last, longer, Longer, member, angled, angled_member, called, giving, Angled, plain, turbofish, Arguments, finished, final, further, Argument, a_lifetime, a_literal, empty_braces, braces, a_type, a_binding, Bounds, one_bound, last_bound, plus_after, bounds, Bound, lifetime_bound, trait_bound, enclosed, Questioned, unquestioned, questioned, Trait, unbound, for_all, Function, not_safe, safe, Linked, linked, linked_as, unlinked, Taking, takes_only, takes_and_gives, Parameters, no_parameter, last_parameter, parameters, Parameter, unnamed, with_name}
 
 -- a place with what is left there
 abbrev pub at : Place → TokenList → Option TokenList → Spot
-at p run behind = record { place = p; run = run; behind = behind }
+at p run outside = record { place = p; run = run; outside = outside }
 
 colons_no : (c : ℕ) (p : Spacing) (s : Span) (rest : TokenList) → (c == 58) ≡ false → begins_colons (also (punctuation c p s) rest) ≡ false
 colons_no c Joint s (also (punctuation d q t) rest) e = rw e refl
@@ -121,19 +121,19 @@ type_begins (a_name a r) = with_word
 type_begins (a_form a f) = form_begins f
 
 -- what is asked for where a type begins
-list_asks : (behind : TokenList) → {run : TokenList} → Begins run → next_at place.List run (Some behind) ≡ asks true place.ListEnd
+list_asks : (outside : TokenList) → {run : TokenList} → Begins run → next_at place.List run (Some outside) ≡ asks true place.ListEnd
 unfolding next_at
-list_asks behind with_word = refl
-list_asks behind (with_mark a b dot) = refl
-list_asks behind with_parenthesis = refl
-list_asks behind with_bracket = refl
+list_asks outside with_word = refl
+list_asks outside (with_mark a b dot) = refl
+list_asks outside with_parenthesis = refl
+list_asks outside with_bracket = refl
 
-inputs_asks : (behind : TokenList) → {run : TokenList} → Begins run → next_at place.Inputs run (Some behind) ≡ asks true place.InputEnd
+inputs_asks : (outside : TokenList) → {run : TokenList} → Begins run → next_at place.Inputs run (Some outside) ≡ asks true place.InputEnd
 unfolding next_at
-inputs_asks behind with_word = refl
-inputs_asks behind (with_mark a b dot) = refl
-inputs_asks behind with_parenthesis = refl
-inputs_asks behind with_bracket = refl
+inputs_asks outside with_word = refl
+inputs_asks outside (with_mark a b dot) = refl
+inputs_asks outside with_parenthesis = refl
+inputs_asks outside with_bracket = refl
 
 arguments_asks : (kind : PathKind) (run : TokenList) → begins_named_argument run ≡ false → Begins run → next_at (place.Arguments kind) run None ≡ asks true (place.ArgumentEnd kind)
 unfolding next_at
@@ -498,7 +498,7 @@ self_goes_on : (s t : Span) (p : Spacing) (run : TokenList) → next_at place.Se
 unfolding next_at
 self_goes_on s t p run = refl
 
-bound_lifetime : (plus : Bool) (s t : Span) (p : Spacing) (text : List ℕ) (run : TokenList) → next_at (place.Bound plus) (also (punctuation 39 p s) (also (identifier text t) run)) None ≡ takes (kept text) (at (place.BoundEnd plus) run None)
+bound_lifetime : (plus : Bool) (s t : Span) (p : Spacing) (text : List ℕ) (run : TokenList) → next_at (place.Bound plus) (also (punctuation 39 p s) (also (identifier text t) run)) None ≡ takes (other_lifetime text) (at (place.BoundEnd plus) run None)
 unfolding next_at
 bound_lifetime plus s t p text run = refl
 
@@ -514,7 +514,7 @@ enclosed_closes : (plus : Bool) (after : TokenList) → next_at (place.EnclosedE
 unfolding next_at
 enclosed_closes plus after = refl
 
-trait_path : (kind : BoundKind) (run : TokenList) (b : Option TokenList) → next_at (place.TraitPath kind) run b ≡ path_move OfBound (behind_bound kind) run
+trait_path : (kind : BoundKind) (run : TokenList) (b : Option TokenList) → next_at (place.TraitPath kind) run b ≡ path_move OfBound (after_bound kind) run
 unfolding next_at
 trait_path kind run b = refl
 
@@ -534,15 +534,15 @@ for_opens : (binder : Binder) (s : Span) (p : Spacing) (run : TokenList) (b : Op
 unfolding next_at
 for_opens binder s p run b = refl
 
-for_closes : (binder : Binder) (s : Span) (p : Spacing) (run : TokenList) (b : Option TokenList) → next_at (place.ForList binder) (also (punctuation 62 p s) run) b ≡ takes (mark 62) (at (behind_for binder) run b)
+for_closes : (binder : Binder) (s : Span) (p : Spacing) (run : TokenList) (b : Option TokenList) → next_at (place.ForList binder) (also (punctuation 62 p s) run) b ≡ takes (mark 62) (at (after_for binder) run b)
 unfolding next_at
 for_closes binder s p run b = refl
 
-for_lifetime : (binder : Binder) (s t : Span) (p : Spacing) (text : List ℕ) (run : TokenList) (b : Option TokenList) → next_at (place.ForList binder) (also (punctuation 39 p s) (also (identifier text t) run)) b ≡ takes (kept text) (at (place.ForEnd binder) run b)
+for_lifetime : (binder : Binder) (s t : Span) (p : Spacing) (text : List ℕ) (run : TokenList) (b : Option TokenList) → next_at (place.ForList binder) (also (punctuation 39 p s) (also (identifier text t) run)) b ≡ takes (other_lifetime text) (at (place.ForEnd binder) run b)
 unfolding next_at
 for_lifetime binder s t p text run b = refl
 
-for_end_closes : (binder : Binder) (s : Span) (p : Spacing) (run : TokenList) (b : Option TokenList) → next_at (place.ForEnd binder) (also (punctuation 62 p s) run) b ≡ takes (mark 62) (at (behind_for binder) run b)
+for_end_closes : (binder : Binder) (s : Span) (p : Spacing) (run : TokenList) (b : Option TokenList) → next_at (place.ForEnd binder) (also (punctuation 62 p s) run) b ≡ takes (mark 62) (at (after_for binder) run b)
 unfolding next_at
 for_end_closes binder s p run b = refl
 
@@ -603,8 +603,8 @@ unfolding next_at
 typed_taken s p run after = refl
 
 -- a token, a type, tokens that stay, or something inside, and what follows it
-next_token : {levels : ℕ} {p : Place} {run : TokenList} {b : Option TokenList} {s : Sign} {behind : Spot} {parts : List Tree} {rest : TokenList} →
-    next_at p run b ≡ takes s behind → AreParts levels false behind parts rest → AreParts levels false (at p run b) (sign s ∷ parts) rest
+next_token : {levels : ℕ} {p : Place} {run : TokenList} {b : Option TokenList} {s : Sign} {outside : Spot} {parts : List Tree} {rest : TokenList} →
+    next_at p run b ≡ takes s outside → AreParts levels false outside parts rest → AreParts levels false (at p run b) (sign s ∷ parts) rest
 next_token e a = part (a_token e) a refl
 
 next_type : {levels : ℕ} {p q : Place} {plus : Bool} {run middle : TokenList} {b : Option TokenList} {t : Tree} {parts : List Tree} {rest : TokenList} →
@@ -615,8 +615,8 @@ next_still : {levels : ℕ} {p q : Place} {run middle : TokenList} {b : Option T
     next_at p run b ≡ keeps_type q → IsType levels true run t middle → AreParts levels false (at q middle b) parts rest → AreParts levels false (at p run b) (still (and_part t no_part_left) ∷ parts) rest
 next_still e h a = part (a_still_type e h) a refl
 
-next_kept : {levels : ℕ} {p : Place} {run kept_run : TokenList} {b : Option TokenList} {behind : Spot} {parts : List Tree} {rest : TokenList} →
-    next_at p run b ≡ keeps kept_run behind → AreParts levels false behind parts rest → AreParts levels false (at p run b) (still (trees (still_run kept_run)) ∷ parts) rest
+next_kept : {levels : ℕ} {p : Place} {run kept_run : TokenList} {b : Option TokenList} {outside : Spot} {parts : List Tree} {rest : TokenList} →
+    next_at p run b ≡ keeps kept_run outside → AreParts levels false outside parts rest → AreParts levels false (at p run b) (still (trees (still_run kept_run)) ∷ parts) rest
 next_kept e a = part (still_tokens e) a refl
 
 next_nest : {levels : ℕ} {p q : Place} {run middle : TokenList} {b : Option TokenList} {s : Sign} {inner : Spot} {within parts : List Tree} {rest : TokenList} →
@@ -655,7 +655,7 @@ same_parts {levels} {spot} {rest = rest} e a = subst (λ (ts : List Tree). ArePa
 
 -- the lifetimes behind `for`
 lifetime_list_stands : {levels : ℕ} {run middle : TokenList} {parts : List Tree} (binder : Binder) (b : Option TokenList) → LifetimeList run parts middle → {rest : TokenList} {back : List Tree} →
-    AreParts levels false (at (behind_for binder) middle b) back rest → AreParts levels false (at (place.ForList binder) run b) (parts ++ back) rest
+    AreParts levels false (at (after_for binder) middle b) back rest → AreParts levels false (at (place.ForList binder) run b) (parts ++ back) rest
 lifetime_list_stands {middle = middle} binder b (no_lifetime {s = s} {p = p}) k = next_token (for_closes binder s p middle b) k
 lifetime_list_stands {middle = middle} binder b (last_lifetime {text = text} {s = s} {t = t} {u = u} {p = p} {q = q}) k =
     next_token (for_lifetime binder s t p text _ b) (next_token (for_end_closes binder u q middle b) k)
@@ -663,7 +663,7 @@ lifetime_list_stands binder b (lifetimes {text = text} {s = s} {t = t} {u = u} {
     next_token (for_lifetime binder s t p text _ b) (next_token (for_further binder u q run b) (lifetime_list_stands binder b w k))
 
 lifetimes_stand : {levels : ℕ} {run middle : TokenList} {parts : List Tree} (binder : Binder) (b : Option TokenList) → Lifetimes run parts middle → {rest : TokenList} {back : List Tree} →
-    AreParts levels false (at (behind_for binder) middle b) back rest → AreParts levels false (at (place.For binder) run b) (parts ++ back) rest
+    AreParts levels false (at (after_for binder) middle b) back rest → AreParts levels false (at (place.For binder) run b) (parts ++ back) rest
 lifetimes_stand binder b (in_angles {s = s} {p = p} {run = run} w) k = next_token (for_opens binder s p run b) (lifetime_list_stands binder b w k)
 
 -- a place where a path begins, in front of another place
@@ -675,15 +675,15 @@ self_path : (b : Option TokenList) → PathAt place.SelfTrait OfType place.SelfT
 unfolding next_at
 self_path b = record { at_name = λ text s run. refl; at_root = λ s t o run. refl }
 
-binder_path : (kind : BoundKind) (b : Option TokenList) → PathAt (place.TraitPath kind) OfBound (behind_bound kind) b
+binder_path : (kind : BoundKind) (b : Option TokenList) → PathAt (place.TraitPath kind) OfBound (after_bound kind) b
 unfolding next_at
 binder_path kind b = record { at_name = λ text s run. refl; at_root = λ s t o run. refl }
 
 -- a place where the path of a bound begins, perhaps with `for<..>`
 record TraitAt (p : Place) (kind : BoundKind) (b : Option TokenList) : Type 0 where
   for_at : (s : Span) (run : TokenList) → next_at p (also (identifier (codes "for") s) run) b ≡ takes (word (codes "for")) (at (place.For (OfTrait kind)) run b)
-  name_at : (text : List ℕ) (s : Span) (run : TokenList) → bytes_eq text (codes "for") ≡ false → next_at p (also (identifier text s) run) b ≡ nests (word text) (at (place.Named OfBound) run None) (behind_bound kind)
-  root_at : (s t : Span) (o : Spacing) (run : TokenList) → next_at p (also (punctuation 58 Joint s) (also (punctuation 58 o t) run)) b ≡ nests colons (at (place.Colons OfBound false) run None) (behind_bound kind)
+  name_at : (text : List ℕ) (s : Span) (run : TokenList) → bytes_eq text (codes "for") ≡ false → next_at p (also (identifier text s) run) b ≡ nests (word text) (at (place.Named OfBound) run None) (after_bound kind)
+  root_at : (s t : Span) (o : Spacing) (run : TokenList) → next_at p (also (punctuation 58 Joint s) (also (punctuation 58 o t) run)) b ≡ nests colons (at (place.Colons OfBound false) run None) (after_bound kind)
 
 trait_at : (kind : BoundKind) (b : Option TokenList) → TraitAt (place.Trait kind) kind b
 unfolding next_at
@@ -716,7 +716,7 @@ bound_begins (enclosed q) = refl
 bounds_begin : {levels : ℕ} {plus : Bool} {run rest : TokenList} {parts : List Tree} {e : Ending} → Bounds levels plus run parts rest e → begins_bound run ≡ true
 bounds_begin (one_bound b) = bound_begins b
 bounds_begin (last_bound b) = bound_begins b
-bounds_begin (plus_behind b f) = bound_begins b
+bounds_begin (plus_after b f) = bound_begins b
 bounds_begin (bounds b f k) = bound_begins b
 
 mutual
@@ -796,8 +796,8 @@ mutual
   arguments_stand {kind = kind} {middle = middle} (finished {s = s} {p = p}) k = next_token (arguments_close kind s p middle) k
   arguments_stand {kind = kind} {middle = middle} (final {s = s} {p = p} {parts = parts} a) {rest = rest} {back = back} k =
       same_parts (sym (append_assoc parts (sign (mark 62) ∷ []) back)) (argument_stands a (λ (e : Ending). mark_follows e 62 p s middle idle_angle) (next_token (argument_closes kind s p middle) k))
-  arguments_stand {kind = kind} (further {s = s} {p = p} {others = others} {parts = parts} {back = behind} a w) {rest = rest} {back = back} k =
-      same_parts (sym (append_assoc parts (sign (mark 44) ∷ behind) back)) (argument_stands a (λ (e : Ending). mark_follows e 44 p s others idle_comma) (next_token (argument_further kind s p others) (arguments_stand w k)))
+  arguments_stand {kind = kind} (further {s = s} {p = p} {others = others} {parts = parts} {back = outside} a w) {rest = rest} {back = back} k =
+      same_parts (sym (append_assoc parts (sign (mark 44) ∷ outside) back)) (argument_stands a (λ (e : Ending). mark_follows e 44 p s others idle_comma) (next_token (argument_further kind s p others) (arguments_stand w k)))
 
   argument_stands : {levels : ℕ} {kind : PathKind} {run middle : TokenList} {parts : List Tree} → Argument levels kind run parts middle → ((e : Ending) → may_follow e middle ≡ true) → {rest : TokenList} {back : List Tree} →
       AreParts levels false (at (place.ArgumentEnd kind) middle None) back rest → AreParts levels false (at (place.Arguments kind) run None) (parts ++ back) rest
@@ -815,7 +815,7 @@ mutual
   bounds_stand {rest = rest} {parts = parts} (last_bound {e = e} b) f =
       let h = both_true (may_follow e rest) (not (begins_mark 43 rest)) f in
       same_parts (append-nil parts) (bound_stands true b h.0 (no_part (bound_ends rest (not_true (begins_mark 43 rest) h.1))))
-  bounds_stand {rest = rest} (plus_behind {s = s} {p = p} b g) f = bound_stands true b g (next_token (bound_joins s p rest) (no_part (further_ends rest (not_true (begins_bound rest) f))))
+  bounds_stand {rest = rest} (plus_after {s = s} {p = p} b g) f = bound_stands true b g (next_token (bound_joins s p rest) (no_part (further_ends rest (not_true (begins_bound rest) f))))
   bounds_stand (bounds {s = s} {p = p} {others = others} b g k) f = bound_stands true b g (next_token (bound_joins s p others) (same_next (further_is others (bounds_begin k)) (bounds_stand k f)))
 
   bound_stands : {levels : ℕ} (plus : Bool) {run rest : TokenList} {parts : List Tree} {e : Ending} → Bound levels run parts rest e → may_follow e rest ≡ true → {more : TokenList} {back : List Tree} →
@@ -833,7 +833,7 @@ mutual
   enclosed_stands plus after (questioned {s = s} {p = p} {run = run} w) f k = next_token (enclosed_question plus s p run (Some after)) (trait_stands (trait_at (Enclosed plus) (Some after)) w f k)
 
   trait_stands : {levels : ℕ} {p : Place} {kind : BoundKind} {b : Option TokenList} {run rest : TokenList} {parts : List Tree} {e : Ending} → TraitAt p kind b → Trait levels run parts rest e → may_follow e rest ≡ true → {more : TokenList} {back : List Tree} →
-      AreParts levels false (at (behind_bound kind) rest b) back more → AreParts levels false (at p run b) (parts ++ back) more
+      AreParts levels false (at (after_bound kind) rest b) back more → AreParts levels false (at p run b) (parts ++ back) more
   trait_stands {rest = rest} h (unbound n (from_name (last {text = text} {s = s}))) f k = next_nest (h.name_at text s rest n) (no_part (named_ends OfBound rest f)) k
   trait_stands h (unbound n (from_name (longer {text = text} {s = s} {run = run} l))) f k = next_nest (h.name_at text s run n) (longer_stands l f) k
   trait_stands h (unbound n (from_root {s = s} {t = t} {p = o} {run = run} w)) f k = next_nest (h.root_at s t o run) (path_stands w f false) k
@@ -866,8 +866,8 @@ mutual
       AreParts levels false (at place.Output after None) back rest → AreParts levels false (at place.Taken run (Some after)) (parts ++ (sign (closing Parenthesis) ∷ back)) rest
   parameters_stand after no_parameter k = next_token (taken_closes after) k
   parameters_stand after (last_parameter w) k = parameter_stands after w none_follows (next_token (one_taken_closes after) k)
-  parameters_stand after (parameters {s = s} {p = p} {others = others} {parts = parts} {back = behind} w l) {back = back} k =
-      same_parts (sym (append_assoc parts (sign (mark 44) ∷ behind) (sign (closing Parenthesis) ∷ back)))
+  parameters_stand after (parameters {s = s} {p = p} {others = others} {parts = parts} {back = outside} w l) {back = back} k =
+      same_parts (sym (append_assoc parts (sign (mark 44) ∷ outside) (sign (closing Parenthesis) ∷ back)))
       (parameter_stands after w (λ (e : Ending). mark_follows e 44 p s others idle_comma) (next_token (taken_further s p others after) (parameters_stand after l k)))
 
   parameter_stands : {levels : ℕ} {run middle : TokenList} {parts : List Tree} (after : TokenList) → Parameter levels run parts middle → ((e : Ending) → may_follow e middle ≡ true) → {rest : TokenList} {back : List Tree} →

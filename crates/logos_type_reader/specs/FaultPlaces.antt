@@ -4,7 +4,7 @@ use Rattle.logos_lexeme.specs.declared.lexeme.Span.{Span}
 use Rattle.logos_lexeme.specs.declared.lexeme.Spacing.TheVariants.{Alone, Joint}
 use Rattle.logos_lexeme.specs.declared.lexeme.Delimiter.{Delimiter}
 use Rattle.logos_token.specs.Tokens.{Token, TokenList, identifier, punctuation, literal, doc, group, none, also, run_span}
-use Rattle.logos_type_reader.specs.Table.{Fault, unsupported, misfit, too_deep, first_span}
+use Rattle.logos_type_reader.specs.Table.{Fault, unsupported, mismatch, too_deep, first_span}
 use Rattle.logos_type_reader.specs.Reading.{NoType}
 
 -- What stands in front of a place of a run: tokens, and groups that are open there.
@@ -55,15 +55,15 @@ pub record EndsWith (front : Front) (span : Span) : Type 0 where
   pub is : front ≡ followed former tokens
   pub spans : span ≡ run_span tokens
 
--- The fault stands at this place: a misfit at the first token that is left, and a type that is left out right in front of the place.
+-- The fault stands at this place: a mismatch at the first token that is left, and a type that is not supported right in front of the place.
 abbrev pub StandsAt : Fault → Front → TokenList → Type 0
-StandsAt (misfit span) front left = span ≡ first_span left
+StandsAt (mismatch span) front left = span ≡ first_span left
 StandsAt (unsupported span) front left = EndsWith front span
 StandsAt too_deep front left = ⊥
 
 -- the same fault where these tokens are left at its place
 abbrev pub fault_at : Fault → TokenList → Fault
-fault_at (misfit span) left = misfit (first_span left)
+fault_at (mismatch span) left = mismatch (first_span left)
 fault_at (unsupported span) left = unsupported span
 fault_at too_deep left = too_deep
 

@@ -1,4 +1,5 @@
--- Which runs are types, and where a run stops being one. The levels say how many types may stand inside one another, the outermost counted.
+-- Which runs begin with a type, and where the others stop doing so. `levels` is how many types can stand inside one another; the outermost one
+-- counts.
 use Rattle.std.specs.Prelude.{◌≡◌, ℕ, ◌-◌, ◌<◌, ◌||◌, List, [], ◌∷◌, ◌++◌, Bool, true, false, Some, None}
 use Rattle.logos_token.specs.Tokens.{TokenList, rest_of, append, run_span}
 use Rattle.logos_type.specs.Parts.{Sign, Tree, sign, name, whole, still, trees, none, also}
@@ -6,17 +7,17 @@ use Rattle.logos_type_reader.specs.StillRuns.{still_run}
 use Rattle.logos_type_reader.specs.declared.table.place.Place.{Place}
 use Rattle.logos_type_reader.specs.Table.{Spot, outer, Move, ends, takes, bars, asks, keeps_type, keeps, nests, stops, starts, refused, Fault, unsupported, too_deep, next_at, begin, name_of}
 
--- what comes next there
+-- the next step at a spot
 abbrev pub next_of : Spot → Move
-next_of spot = next_at spot.place spot.run spot.behind
+next_of spot = next_at spot.place spot.run spot.outside
 
--- behind what was read there, where this run is left
-abbrev pub behind_type : Spot → Place → TokenList → Spot
-behind_type spot place run = record { place = place; run = run; behind = spot.behind }
+-- the spot after a type or a path that was read
+abbrev pub after_type : Spot → Place → TokenList → Spot
+after_type spot place run = record { place = place; run = run; outside = spot.outside }
 
 mutual
-  -- The run begins with this type, and behind it is the rest: a name, or a first token and the parts behind it, none of which bars it. Where
-  -- `plus` does not hold, `+` joins no bounds.
+  -- The run begins with this type, and the rest follows: a name, or a first token and the parts after it, none of which makes it a type that is not
+  -- supported. `+` joins bounds only if `plus` holds.
   pub data IsType : ℕ → Bool → TokenList → Tree → TokenList → Type 0 where
     just_name : {levels : ℕ} {plus : Bool} {run : TokenList} {text : List ℕ} →
         0 < levels → name_of run ≡ Some text → IsType levels plus run (name text) (rest_of run)
@@ -24,26 +25,26 @@ mutual
         0 < levels → name_of run ≡ None → begin plus run ≡ starts false s spot → AreParts (levels - 1) false spot parts rest →
         IsType levels plus run (whole (trees (sign s ∷ parts))) rest
 
-  -- the next parts there, whether one of them bars the type, and the spot behind them
+  -- The next parts at a spot, whether one of them makes the type one that is not supported, and the spot after them.
   pub data IsMove : ℕ → Bool → Spot → List Tree → Spot → Type 0 where
-    a_token : {levels : ℕ} {spot : Spot} {s : Sign} {behind : Spot} → next_of spot ≡ takes s behind → IsMove levels false spot (sign s ∷ []) behind
-    a_bar : {levels : ℕ} {spot : Spot} {s : Sign} {behind : Spot} → next_of spot ≡ bars s behind → IsMove levels true spot (sign s ∷ []) behind
+    a_token : {levels : ℕ} {spot : Spot} {s : Sign} {next : Spot} → next_of spot ≡ takes s next → IsMove levels false spot (sign s ∷ []) next
+    a_bar : {levels : ℕ} {spot : Spot} {s : Sign} {next : Spot} → next_of spot ≡ bars s next → IsMove levels true spot (sign s ∷ []) next
     a_type : {levels : ℕ} {spot : Spot} {plus : Bool} {place : Place} {part : Tree} {rest : TokenList} →
-        next_of spot ≡ asks plus place → IsType levels plus spot.run part rest → IsMove levels false spot (part ∷ []) (behind_type spot place rest)
+        next_of spot ≡ asks plus place → IsType levels plus spot.run part rest → IsMove levels false spot (part ∷ []) (after_type spot place rest)
     a_still_type : {levels : ℕ} {spot : Spot} {place : Place} {part : Tree} {rest : TokenList} → next_of spot ≡ keeps_type place →
-        IsType levels true spot.run part rest → IsMove levels false spot (still (also part none) ∷ []) (behind_type spot place rest)
-    still_tokens : {levels : ℕ} {spot : Spot} {run : TokenList} {behind : Spot} → next_of spot ≡ keeps run behind → IsMove levels false spot (still (trees (still_run run)) ∷ []) behind
+        IsType levels true spot.run part rest → IsMove levels false spot (still (also part none) ∷ []) (after_type spot place rest)
+    still_tokens : {levels : ℕ} {spot : Spot} {run : TokenList} {next : Spot} → next_of spot ≡ keeps run next → IsMove levels false spot (still (trees (still_run run)) ∷ []) next
     a_nest : {levels : ℕ} {barred : Bool} {spot : Spot} {s : Sign} {inner : Spot} {place : Place} {parts : List Tree} {rest : TokenList} →
-        next_of spot ≡ nests s inner place → AreParts levels barred inner parts rest → IsMove levels barred spot (sign s ∷ parts) (behind_type spot place rest)
+        next_of spot ≡ nests s inner place → AreParts levels barred inner parts rest → IsMove levels barred spot (sign s ∷ parts) (after_type spot place rest)
 
-  -- the parts from there to the end of what was begun, whether one of them bars the type, and the rest
+  -- The parts from a spot to the end of what was begun there, whether one of them makes the type one that is not supported, and the rest.
   pub data AreParts : ℕ → Bool → Spot → List Tree → TokenList → Type 0 where
-    ended : {levels : ℕ} {spot : Spot} → next_of spot ≡ ends → AreParts levels false spot [] (outer spot.run spot.behind)
-    further : {levels : ℕ} {barred now onward : Bool} {spot behind : Spot} {front parts : List Tree} {rest : TokenList} →
-        IsMove levels now spot front behind → AreParts levels onward behind parts rest → barred ≡ (now || onward) → AreParts levels barred spot (front ++ parts) rest
+    ended : {levels : ℕ} {spot : Spot} → next_of spot ≡ ends → AreParts levels false spot [] (outer spot.run spot.outside)
+    further : {levels : ℕ} {barred now onward : Bool} {spot next : Spot} {front parts : List Tree} {rest : TokenList} →
+        IsMove levels now spot front next → AreParts levels onward next parts rest → barred ≡ (now || onward) → AreParts levels barred spot (front ++ parts) rest
 
 mutual
-  -- the run begins with no type within these levels, and this is the fault from the left
+  -- the run does not begin with a type of at most `levels`, and this is its first fault from the left
   pub data NoType : ℕ → Bool → TokenList → Fault → Type 0 where
     deep_name : {levels : ℕ} {plus : Bool} {run : TokenList} {text : List ℕ} → levels ≡ 0 → name_of run ≡ Some text → NoType levels plus run too_deep
     deep : {levels : ℕ} {plus barred : Bool} {run : TokenList} {s : Sign} {spot : Spot} →
@@ -51,12 +52,12 @@ mutual
     unbegun : {levels : ℕ} {plus : Bool} {run : TokenList} {fault : Fault} → name_of run ≡ None → begin plus run ≡ refused fault → NoType levels plus run fault
     unended : {levels : ℕ} {plus barred : Bool} {run : TokenList} {s : Sign} {spot : Spot} {fault : Fault} →
         0 < levels → name_of run ≡ None → begin plus run ≡ starts barred s spot → NoParts (levels - 1) spot fault → NoType levels plus run fault
-    -- it is a type that is left out: this is all of it
+    -- a type that is not supported: the fault has its whole span
     left_out : {levels : ℕ} {plus first other : Bool} {run : TokenList} {s : Sign} {spot : Spot} {parts : List Tree} {rest : TokenList} (front : TokenList) →
         0 < levels → name_of run ≡ None → begin plus run ≡ starts first s spot → AreParts (levels - 1) other spot parts rest → (first || other) ≡ true →
         run ≡ append front rest → NoType levels plus run (unsupported (run_span front))
 
-  -- nothing that comes next there fits
+  -- nothing fits at the spot
   pub data NoMove : ℕ → Spot → Fault → Type 0 where
     no_token : {levels : ℕ} {spot : Spot} {fault : Fault} → next_of spot ≡ stops fault → NoMove levels spot fault
     no_type : {levels : ℕ} {spot : Spot} {plus : Bool} {place : Place} {fault : Fault} →
@@ -65,8 +66,8 @@ mutual
     no_nest : {levels : ℕ} {spot : Spot} {s : Sign} {inner : Spot} {place : Place} {fault : Fault} →
         next_of spot ≡ nests s inner place → NoParts levels inner fault → NoMove levels spot fault
 
-  -- behind some parts nothing fits
+  -- after some parts nothing fits
   pub data NoParts : ℕ → Spot → Fault → Type 0 where
     here : {levels : ℕ} {spot : Spot} {fault : Fault} → NoMove levels spot fault → NoParts levels spot fault
-    later : {levels : ℕ} {now : Bool} {spot behind : Spot} {parts : List Tree} {fault : Fault} →
-        IsMove levels now spot parts behind → NoParts levels behind fault → NoParts levels spot fault
+    later : {levels : ℕ} {now : Bool} {spot next : Spot} {parts : List Tree} {fault : Fault} →
+        IsMove levels now spot parts next → NoParts levels next fault → NoParts levels spot fault

@@ -1,4 +1,4 @@
--- What the functions that read types promise.
+-- The contracts of the functions that read types.
 use Rattle.std.specs.Prelude.{◌≡◌, ℕ, ◌+◌, ◌*◌, ◌++◌, List, Bool, Option, Some, None, Result, Ok, Err}
 use Rattle.logos_token.specs.Tokens.{TokenList, count_of}
 use Rattle.logos_token.specs.declared.token.views.Tokens.{Tokens}
@@ -7,22 +7,22 @@ use Rattle.logos_type_reader.specs.declared.table.place.Spot.{Spot as SpotView}
 use Rattle.logos_type_reader.specs.declared.table.place.Step.{Step}
 use Rattle.logos_type_reader.specs.declared.table.place.Step.TheVariants.{End, Take, Bar, Ask, KeepType, Keep, Nest}
 use Rattle.logos_type_reader.specs.declared.table.place.Stop.{Stop}
-use Rattle.logos_type_reader.specs.declared.table.place.Stop.TheVariants.{Unsupported, Misfit}
+use Rattle.logos_type_reader.specs.declared.table.place.Stop.TheVariants.{Unsupported, Mismatch}
 use Rattle.logos_type_reader.specs.declared.table.place.Opening.{Opening}
 use Rattle.logos_type.specs.Parts.{Tree, sign_of}
 use Rattle.logos_type_reader.specs.declared.reading.TypeFault.{TypeFault}
 use Rattle.logos_type_reader.specs.declared.reading.TypeFault.TheVariants as faults
 use Rattle.logos_type_reader.specs.Reading.{next_of, IsMove, NoMove, AreParts, NoParts}
-use Rattle.logos_type_reader.specs.Table.{Spot, Move, ends, takes, bars, asks, keeps_type, keeps, nests, stops, First, starts, refused, Fault, unsupported, misfit, too_deep}
+use Rattle.logos_type_reader.specs.Table.{Spot, Move, ends, takes, bars, asks, keeps_type, keeps, nests, stops, First, starts, refused, Fault, unsupported, mismatch, too_deep}
 
-abbrev pub behind_of : Option Tokens → Option TokenList
-behind_of (Some tokens) = Some (tokens_of tokens)
-behind_of None = None
+abbrev pub outside_of : Option Tokens → Option TokenList
+outside_of (Some tokens) = Some (tokens_of tokens)
+outside_of None = None
 
 abbrev pub spot_of : SpotView → Spot
-spot_of spot = record { place = spot.place; run = tokens_of spot.run; behind = behind_of spot.behind }
+spot_of spot = record { place = spot.place; run = tokens_of spot.run; outside = outside_of spot.outside }
 
--- twice the tokens that are left, and one more where a group has to be closed
+-- a measure of what is left: twice the tokens, and one more if a group has to be closed
 abbrev pub left : TokenList → Option TokenList → ℕ
 left run None = 2 * count_of run
 left run (Some rest) = 2 * (count_of run + count_of rest) + 1
@@ -37,35 +37,35 @@ IsStep (Ok (KeepType place)) next = next ≡ keeps_type place
 IsStep (Ok (Keep run spot)) next = next ≡ keeps (tokens_of run) (spot_of spot)
 IsStep (Ok (Nest leaf spot place)) next = next ≡ nests (sign_of leaf) (spot_of spot) place
 IsStep (Err (Unsupported span)) next = next ≡ stops (unsupported span)
-IsStep (Err (Misfit span)) next = next ≡ stops (misfit span)
+IsStep (Err (Mismatch span)) next = next ≡ stops (mismatch span)
 
--- and so of the first token
+-- the same for the first token
 abbrev pub IsFirst : Result Opening Stop → First → Type 0
 IsFirst (Ok read) first = first ≡ starts read.barred (sign_of read.leaf) (spot_of read.spot)
 IsFirst (Err (Unsupported span)) first = first ≡ refused (unsupported span)
-IsFirst (Err (Misfit span)) first = first ≡ refused (misfit span)
+IsFirst (Err (Mismatch span)) first = first ≡ refused (mismatch span)
 
--- what holds of the fault; nothing where memory ran out
+-- this holds of the fault, unless there was not enough memory
 abbrev pub IfFault : (Fault → Type 0) → TypeFault → Type 0
 IfFault Holds (faults.Unsupported span) = Holds (unsupported span)
-IfFault Holds (faults.Misfit span) = Holds (misfit span)
+IfFault Holds (faults.Mismatch span) = Holds (mismatch span)
 IfFault Holds faults.LimitNesting = Holds too_deep
 IfFault Holds faults.Memory = Unit {0}
 
 abbrev pub fault_of : Stop → TypeFault
 fault_of (Unsupported span) = faults.Unsupported span
-fault_of (Misfit span) = faults.Misfit span
+fault_of (Mismatch span) = faults.Mismatch span
 
 abbrev pub spot_left : Spot → ℕ
-spot_left spot = left spot.run spot.behind
+spot_left spot = left spot.run spot.outside
 
--- one move is made: its parts are added, and behind them is the spot, unless nothing comes next; or what comes next does not fit
+-- one step is made: its parts are added, and the spot after them is returned, if something comes next; or the fault is returned
 abbrev pub GivesMove : ℕ → Spot → List Tree → List Tree → Result (Option (Bool × SpotView)) TypeFault → Type 0
 GivesMove levels spot old new (Ok None) = (next_of spot ≡ ends) × (new ≡ old)
 GivesMove levels spot old new (Ok (Some read)) = (front : List Tree) × (new ≡ old ++ front) × IsMove levels read.0 spot front (spot_of read.1)
 GivesMove levels spot old new (Err fault) = IfFault (NoMove levels spot) fault
 
--- all parts from there on are added, one of them bars the type or not, and behind them is the rest
+-- all parts from the spot on are added, and whether one of them makes the type one that is not supported is returned with the rest
 abbrev pub GivesParts : ℕ → Spot → List Tree → List Tree → Result (Bool × Tokens) TypeFault → Type 0
 GivesParts levels spot old new (Ok read) = (parts : List Tree) × (new ≡ old ++ parts) × AreParts levels read.0 spot parts (tokens_of read.1)
 GivesParts levels spot old new (Err fault) = IfFault (NoParts levels spot) fault

@@ -1,4 +1,4 @@
--- The written form of a type, as a table: what may come next at each place of it.
+-- The grammar of types as a table: what can come next at each place inside a type.
 use Rattle.std.specs.Prelude.{ℕ, ◌==◌, ◌&&◌, ◌||◌, not, if◌then◌else◌, List, Bool, true, false, Option, Some, None, codes}
 use Rattle.std.specs.Str.{bytes_eq}
 use Rattle.logos_lexeme.specs.declared.lexeme.Span.{Span}
@@ -14,463 +14,464 @@ use Rattle.logos_type_reader.specs.declared.table.place.Binder.{Binder}
 use Rattle.logos_type_reader.specs.declared.table.place.Binder.TheVariants.{OfFunction, OfTrait}
 use Rattle.logos_type_reader.specs.declared.table.place.Place.{Place}
 use Rattle.logos_type_reader.specs.declared.table.place.Place.TheVariants as place
-use Rattle.logos_type.specs.Parts.{Sign, word, mark, colons, arrow, value, opening, closing, reference, lifetime, kept}
+use Rattle.logos_type.specs.Parts.{Sign, word, mark, colons, arrow, value, opening, closing, reference, lifetime, other_lifetime}
 
--- where the first token is; 0..0 where there is none
+-- the span of the first token, or 0..0 if there is none
 abbrev pub first_span : TokenList → Span
 first_span none = record { from = 0; to = 0 }
 first_span (also token rest) = span_of token
 
--- why a run is not read as a type
+-- why a run does not begin with a type
 pub data Fault : Type 0 where
-  -- at the span stands a type that is left out
+  -- a type that is not supported stands at this span
   unsupported : (span : Span) → Fault
-  -- at the span stands the first token that does not fit
-  misfit : (span : Span) → Fault
-  -- more types stand inside one another than may
+  -- the first token that does not fit stands at this span
+  mismatch : (span : Span) → Fault
+  -- more types stand inside one another than are allowed
   too_deep : Fault
 
--- Where the reader is: the place, the run that is left, and where this run is what a group holds, the run behind the group.
+-- The position of the reader: a place, the tokens that are left there, and, if these are inside a group, the tokens after the group.
 pub record Spot : Type 0 where
   pub place : Place
   pub run : TokenList
-  pub behind : Option TokenList
+  pub outside : Option TokenList
 
--- the run behind all that is open
+-- the tokens after all groups that are open
 abbrev pub outer : TokenList → Option TokenList → TokenList
 outer run None = run
 outer run (Some rest) = rest
 
--- what comes next
+-- the next step
 pub data Move : Type 0 where
-  -- nothing: what was begun ends here
+  -- ends what was begun
   ends : Move
-  -- this token
+  -- takes this token
   takes : Sign → Spot → Move
-  -- this token, which only a type that is left out has
+  -- takes this token, which only types that are not supported have
   bars : Sign → Spot → Move
-  -- a type, in which `+` may join bounds or not, and behind it this place
+  -- reads a type and goes on at this place; `+` can join bounds if `plus` holds
   asks : (plus : Bool) → Place → Move
-  -- a type that stays as it is, and behind it this place
+  -- reads a type that is never replaced and goes on at this place
   keeps_type : Place → Move
-  -- these tokens, which stay as they are
+  -- takes these tokens without reading types in them
   keeps : TokenList → Spot → Move
-  -- this token, with which a path or bounds begin that go on there up to their end, and behind them this place
+  -- takes this token, with which a path or bounds begin, reads these from the spot on, and goes on at this place
   nests : Sign → Spot → Place → Move
-  -- nothing that stands here fits
+  -- nothing fits, for this reason
   stops : Fault → Move
 
--- how a type begins: with this token, which only a type that is left out has or not, and then it goes on there; or not, for this reason
+-- The beginning of a type: its first token, whether only types that are not supported have that, and the spot after it; or the reason why none
+-- begins.
 pub data First : Type 0 where
   starts : (barred : Bool) → Sign → Spot → First
   refused : Fault → First
 
-abbrev pub misfits : TokenList → Move
-misfits run = stops (misfit (first_span run))
+abbrev pub mismatches : TokenList → Move
+mismatches run = stops (mismatch (first_span run))
 
--- a place with what is left there
+-- a place with the tokens that are left there
 abbrev pub to : Place → TokenList → Option TokenList → Spot
-to p run behind = record { place = p; run = run; behind = behind }
+to p run outside = record { place = p; run = run; outside = outside }
 
--- `::` comes first
+-- whether `::` comes first
 abbrev pub begins_colons : TokenList → Bool
 begins_colons (also (punctuation c Joint span) (also (punctuation d spacing other) rest)) = (c == 58) && (d == 58)
 begins_colons run = false
 
--- this character comes first
+-- whether this character comes first
 abbrev pub begins_mark : ℕ → TokenList → Bool
 begins_mark wanted (also (punctuation c spacing span) rest) = c == wanted
 begins_mark wanted run = false
 
--- `->` comes first
+-- whether `->` comes first
 abbrev pub begins_arrow : TokenList → Bool
 begins_arrow (also (punctuation c Joint span) (also (punctuation d spacing other) rest)) = (c == 45) && (d == 62)
 begins_arrow run = false
 
--- `...` comes first
+-- whether `...` comes first
 abbrev pub begins_dots : TokenList → Bool
 begins_dots (also (punctuation c Joint span) (also (punctuation d Joint other) (also (punctuation e spacing third) rest))) = ((c == 46) && (d == 46)) && (e == 46)
 begins_dots run = false
 
--- a parenthesis comes first
+-- whether a group in parentheses comes first
 abbrev pub begins_parenthesis : TokenList → Bool
 begins_parenthesis (also (group Parenthesis span inside) rest) = true
 begins_parenthesis run = false
 
--- a name in front of `:`, and not of `::`
+-- whether `:` comes first that is not the beginning of `::`
 abbrev pub typing : TokenList → Bool
 typing run = begins_mark 58 run && not (begins_colons run)
 
--- behind a name of a path: `<`, `::` or a parenthesis, so that the path goes on
+-- whether a path goes on after a name: with `<`, `::` or a parenthesis
 abbrev pub goes_on : TokenList → Bool
 goes_on run = (begins_mark 60 run || begins_colons run) || begins_parenthesis run
 
--- a bound comes first: a name, `'`, `?`, `::` or a parenthesis
+-- whether a bound comes first: a name, `'`, `?`, `::` or a parenthesis
 abbrev pub begins_bound : TokenList → Bool
 begins_bound (also (identifier text span) rest) = true
 begins_bound run = ((begins_mark 39 run || begins_mark 63 run) || begins_colons run) || begins_parenthesis run
 
--- the run behind its first two tokens
-abbrev pub behind_two : TokenList → TokenList
-behind_two (also first (also second rest)) = rest
-behind_two run = none
+-- the tokens after the first two
+abbrev pub after_two : TokenList → TokenList
+after_two (also first (also second rest)) = rest
+after_two run = none
 
--- the run behind its first three tokens
-abbrev pub behind_three : TokenList → TokenList
-behind_three (also first (also second (also third rest))) = rest
-behind_three run = none
+-- the tokens after the first three
+abbrev pub after_three : TokenList → TokenList
+after_three (also first (also second (also third rest))) = rest
+after_three run = none
 
--- a group, where none is open yet
+-- a group is opened; only one can be open at a time
 abbrev pub opens : Delimiter → Span → Place → TokenList → TokenList → Option TokenList → Move
 opens delimiter span next inside rest None = takes (opening delimiter) (to next inside (Some rest))
-opens delimiter span next inside rest (Some other) = stops (misfit span)
+opens delimiter span next inside rest (Some other) = stops (mismatch span)
 
--- a path that has had arguments is no name of a macro
+-- a path that has had arguments is not the name of a macro
 abbrev pub argued : PathKind → PathKind
 argued Plain = OfType
 argued OfType = OfType
 argued OfBound = OfBound
 
--- behind the last name of a path: `!` makes a macro of it, where the path is a type and has had no arguments
+-- after the last name of a path: `!` makes a macro of the path if it is a type and has had no arguments
 abbrev pub name_end : PathKind → TokenList → Option TokenList → Move
-name_end Plain (also (punctuation c spacing span) rest) behind = if c == 33 then bars (mark 33) (to place.Macro rest behind) else ends
-name_end kind run behind = ends
+name_end Plain (also (punctuation c spacing span) rest) outside = if c == 33 then bars (mark 33) (to place.Macro rest outside) else ends
+name_end kind run outside = ends
 
--- behind a path that has had its arguments
+-- after a path that has had its arguments
 abbrev pub segments_move : PathKind → TokenList → Option TokenList → Move
-segments_move kind run behind = if begins_colons run then takes colons (to (place.Colons kind false) (behind_two run) behind) else ends
+segments_move kind run outside = if begins_colons run then takes colons (to (place.Colons kind false) (after_two run) outside) else ends
 
--- behind a name of a path
+-- after a name of a path
 abbrev pub named_move : PathKind → TokenList → Option TokenList → Move
-named_move kind (also (punctuation c spacing span) rest) behind =
-    if c == 60 then takes (mark 60) (to (place.Arguments (argued kind)) rest behind)
-    else (if begins_colons (also (punctuation c spacing span) rest) then takes colons (to (place.Colons kind true) (behind_two (also (punctuation c spacing span) rest)) behind)
-    else name_end kind (also (punctuation c spacing span) rest) behind)
-named_move kind (also (group Parenthesis span inside) rest) behind = opens Parenthesis span place.Inputs inside rest behind
-named_move kind run behind = ends
+named_move kind (also (punctuation c spacing span) rest) outside =
+    if c == 60 then takes (mark 60) (to (place.Arguments (argued kind)) rest outside)
+    else (if begins_colons (also (punctuation c spacing span) rest) then takes colons (to (place.Colons kind true) (after_two (also (punctuation c spacing span) rest)) outside)
+    else name_end kind (also (punctuation c spacing span) rest) outside)
+named_move kind (also (group Parenthesis span inside) rest) outside = opens Parenthesis span place.Inputs inside rest outside
+named_move kind run outside = ends
 
--- behind the `!` of a macro: a group
+-- after the `!` of a macro: a group
 abbrev pub macro_move : TokenList → Option TokenList → Move
-macro_move (also (group delimiter span inside) rest) behind = takes (opening delimiter) (to place.End rest behind)
-macro_move run behind = misfits run
+macro_move (also (group delimiter span inside) rest) outside = takes (opening delimiter) (to place.End rest outside)
+macro_move run outside = mismatches run
 
--- behind the parentheses of a path or of a function: perhaps `->`
+-- after the parentheses of a path or of a function: perhaps `->`
 abbrev pub output_move : TokenList → Option TokenList → Move
-output_move run behind = if begins_arrow run then takes arrow (to place.Target (behind_two run) behind) else ends
+output_move run outside = if begins_arrow run then takes arrow (to place.Target (after_two run) outside) else ends
 
--- the end of what a group holds, and the place behind it
+-- the end of a group, and the place after it
 abbrev pub closes : Delimiter → Place → Option TokenList → Move
 closes delimiter next (Some rest) = takes (closing delimiter) (to next rest None)
 closes delimiter next None = ends
 
 -- among arguments in parentheses
 abbrev pub inputs_move : TokenList → Option TokenList → Move
-inputs_move none behind = closes Parenthesis place.Output behind
-inputs_move run behind = asks true place.InputEnd
+inputs_move none outside = closes Parenthesis place.Output outside
+inputs_move run outside = asks true place.InputEnd
 
 abbrev pub input_end_move : TokenList → Option TokenList → Move
-input_end_move none behind = closes Parenthesis place.Output behind
-input_end_move (also (punctuation c spacing span) rest) behind = if c == 44 then takes (mark 44) (to place.Inputs rest behind) else stops (misfit span)
-input_end_move run behind = misfits run
+input_end_move none outside = closes Parenthesis place.Output outside
+input_end_move (also (punctuation c spacing span) rest) outside = if c == 44 then takes (mark 44) (to place.Inputs rest outside) else stops (mismatch span)
+input_end_move run outside = mismatches run
 
--- behind `::`: a name, or `<` where arguments may stand
+-- after `::`: a name, or `<` where arguments may stand
 abbrev pub colons_move : PathKind → Bool → TokenList → Option TokenList → Move
-colons_move kind arguments (also (identifier text span) rest) behind = takes (word text) (to (place.Named kind) rest behind)
-colons_move kind arguments (also (punctuation c spacing span) rest) behind =
-    if arguments && (c == 60) then takes (mark 60) (to (place.Arguments (argued kind)) rest behind) else stops (misfit span)
-colons_move kind arguments run behind = misfits run
+colons_move kind arguments (also (identifier text span) rest) outside = takes (word text) (to (place.Named kind) rest outside)
+colons_move kind arguments (also (punctuation c spacing span) rest) outside =
+    if arguments && (c == 60) then takes (mark 60) (to (place.Arguments (argued kind)) rest outside) else stops (mismatch span)
+colons_move kind arguments run outside = mismatches run
 
--- the lifetime among the arguments of such a path
+-- the lifetime among the arguments of a path of this kind
 abbrev pub argument_lifetime : PathKind → List ℕ → Sign
-argument_lifetime OfBound text = kept text
+argument_lifetime OfBound text = other_lifetime text
 argument_lifetime kind text = lifetime text
 
--- behind `'`
+-- after `'`
 abbrev pub lifetime_move : PathKind → TokenList → Option TokenList → Move
-lifetime_move kind (also (identifier text span) rest) behind = takes (argument_lifetime kind text) (to (place.ArgumentEnd kind) rest behind)
-lifetime_move kind run behind = misfits run
+lifetime_move kind (also (identifier text span) rest) outside = takes (argument_lifetime kind text) (to (place.ArgumentEnd kind) rest outside)
+lifetime_move kind run outside = mismatches run
 
--- among arguments, at a name: in front of `=` it is bound, in front of `:` constrained, and else a type begins
+-- among arguments, at a name: before `=` it is bound, before `:` constrained, and else a type begins
 abbrev pub argument_word : PathKind → List ℕ → TokenList → Option TokenList → Move
-argument_word kind text rest behind =
-    if begins_mark 61 rest then takes (word text) (to (place.Equals kind) rest behind)
-    else (if typing rest then bars (word text) (to (place.Constrained kind) rest behind)
+argument_word kind text rest outside =
+    if begins_mark 61 rest then takes (word text) (to (place.Equals kind) rest outside)
+    else (if typing rest then bars (word text) (to (place.Constrained kind) rest outside)
     else asks true (place.ArgumentEnd kind))
 
--- among arguments: `>`, a lifetime, a literal, braces, a name in front of `=` or `:`, or a type
+-- among arguments: `>`, a lifetime, a literal, braces, a name before `=` or `:`, or a type
 abbrev pub arguments_move : PathKind → TokenList → Option TokenList → Move
-arguments_move kind (also (punctuation c spacing span) rest) behind =
-    if c == 62 then takes (mark 62) (to (place.Segments kind) rest behind)
-    else (if c == 39 then lifetime_move kind rest behind
+arguments_move kind (also (punctuation c spacing span) rest) outside =
+    if c == 62 then takes (mark 62) (to (place.Segments kind) rest outside)
+    else (if c == 39 then lifetime_move kind rest outside
     else asks true (place.ArgumentEnd kind))
-arguments_move kind (also (literal text span) rest) behind = takes (value text) (to (place.ArgumentEnd kind) rest behind)
-arguments_move kind (also (identifier text span) rest) behind = argument_word kind text rest behind
-arguments_move kind (also (group Brace span inside) rest) behind = opens Brace span (place.Braced kind) inside rest behind
-arguments_move kind run behind = asks true (place.ArgumentEnd kind)
+arguments_move kind (also (literal text span) rest) outside = takes (value text) (to (place.ArgumentEnd kind) rest outside)
+arguments_move kind (also (identifier text span) rest) outside = argument_word kind text rest outside
+arguments_move kind (also (group Brace span inside) rest) outside = opens Brace span (place.Braced kind) inside rest outside
+arguments_move kind run outside = asks true (place.ArgumentEnd kind)
 
--- in braces: tokens, which stay as they are
+-- in braces: tokens in which no types are read
 abbrev pub braced_move : PathKind → TokenList → Option TokenList → Move
-braced_move kind none behind = closes Brace (place.ArgumentEnd kind) behind
-braced_move kind run behind = keeps run (to (place.Braced kind) none behind)
+braced_move kind none outside = closes Brace (place.ArgumentEnd kind) outside
+braced_move kind run outside = keeps run (to (place.Braced kind) none outside)
 
--- behind a name in front of `=`
+-- after a name before `=`
 abbrev pub equals_move : PathKind → TokenList → Option TokenList → Move
-equals_move kind (also (punctuation c spacing span) rest) behind = if c == 61 then takes (mark 61) (to (place.Value kind) rest behind) else stops (misfit span)
-equals_move kind run behind = misfits run
+equals_move kind (also (punctuation c spacing span) rest) outside = if c == 61 then takes (mark 61) (to (place.Value kind) rest outside) else stops (mismatch span)
+equals_move kind run outside = mismatches run
 
--- behind a name in front of `:`: that, and bounds
+-- after a name before `:`: the `:`, and bounds
 abbrev pub constrained_move : PathKind → TokenList → Option TokenList → Move
-constrained_move kind (also (punctuation c spacing span) rest) behind = if c == 58 then nests (mark 58) (to (place.Bound true) rest None) (place.ArgumentEnd kind) else stops (misfit span)
-constrained_move kind run behind = misfits run
+constrained_move kind (also (punctuation c spacing span) rest) outside = if c == 58 then nests (mark 58) (to (place.Bound true) rest None) (place.ArgumentEnd kind) else stops (mismatch span)
+constrained_move kind run outside = mismatches run
 
--- behind an argument: `,` or `>`
+-- after an argument: `,` or `>`
 abbrev pub argument_end_move : PathKind → TokenList → Option TokenList → Move
-argument_end_move kind (also (punctuation c spacing span) rest) behind =
-    if c == 44 then takes (mark 44) (to (place.Arguments kind) rest behind)
-    else (if c == 62 then takes (mark 62) (to (place.Segments kind) rest behind)
-    else stops (misfit span))
-argument_end_move kind run behind = misfits run
+argument_end_move kind (also (punctuation c spacing span) rest) outside =
+    if c == 44 then takes (mark 44) (to (place.Arguments kind) rest outside)
+    else (if c == 62 then takes (mark 62) (to (place.Segments kind) rest outside)
+    else stops (mismatch span))
+argument_end_move kind run outside = mismatches run
 
--- behind `&` and its lifetime: perhaps `mut`, and a type
+-- after `&` and its lifetime: perhaps `mut`, and a type
 abbrev pub referent_move : TokenList → Option TokenList → Move
-referent_move (also (identifier text span) rest) behind = if bytes_eq text (codes "mut") then takes (word text) (to place.Target rest behind) else asks false place.End
-referent_move run behind = asks false place.End
+referent_move (also (identifier text span) rest) outside = if bytes_eq text (codes "mut") then takes (word text) (to place.Target rest outside) else asks false place.End
+referent_move run outside = asks false place.End
 
--- behind `*`: `const` or `mut`
+-- after `*`: `const` or `mut`
 abbrev pub pointer_move : TokenList → Option TokenList → Move
-pointer_move (also (identifier text span) rest) behind = if bytes_eq text (codes "const") || bytes_eq text (codes "mut") then takes (word text) (to place.Target rest behind) else stops (misfit span)
-pointer_move run behind = misfits run
+pointer_move (also (identifier text span) rest) outside = if bytes_eq text (codes "const") || bytes_eq text (codes "mut") then takes (word text) (to place.Target rest outside) else stops (mismatch span)
+pointer_move run outside = mismatches run
 
--- in parentheses: types with commas between them, and perhaps one behind the last
+-- in parentheses: types with commas between them, and perhaps one after the last
 abbrev pub list_move : TokenList → Option TokenList → Move
-list_move none behind = closes Parenthesis place.End behind
-list_move run behind = asks true place.ListEnd
+list_move none outside = closes Parenthesis place.End outside
+list_move run outside = asks true place.ListEnd
 
 abbrev pub list_end_move : TokenList → Option TokenList → Move
-list_end_move none behind = closes Parenthesis place.End behind
-list_end_move (also (punctuation c spacing span) rest) behind = if c == 44 then takes (mark 44) (to place.List rest behind) else stops (misfit span)
-list_end_move run behind = misfits run
+list_end_move none outside = closes Parenthesis place.End outside
+list_end_move (also (punctuation c spacing span) rest) outside = if c == 44 then takes (mark 44) (to place.List rest outside) else stops (mismatch span)
+list_end_move run outside = mismatches run
 
--- in brackets, behind the type: nothing, or `;`
+-- in brackets, after the type: nothing, or `;`
 abbrev pub element_end_move : TokenList → Option TokenList → Move
-element_end_move none behind = closes Bracket place.End behind
-element_end_move (also (punctuation c spacing span) rest) behind = if c == 59 then takes (mark 59) (to place.Length rest behind) else stops (misfit span)
-element_end_move run behind = misfits run
+element_end_move none outside = closes Bracket place.End outside
+element_end_move (also (punctuation c spacing span) rest) outside = if c == 59 then takes (mark 59) (to place.Length rest outside) else stops (mismatch span)
+element_end_move run outside = mismatches run
 
--- behind that `;`: tokens, which stay as they are
+-- after that `;`: tokens in which no types are read
 abbrev pub length_move : TokenList → Option TokenList → Move
-length_move none behind = misfits none
-length_move run behind = keeps run (to place.LengthEnd none behind)
+length_move none outside = mismatches none
+length_move run outside = keeps run (to place.LengthEnd none outside)
 
--- behind the type with which `<` begins: `as` or `>`
+-- after the type with which `<` begins: `as` or `>`
 abbrev pub self_end_move : TokenList → Option TokenList → Move
-self_end_move (also (identifier text span) rest) behind = if bytes_eq text (codes "as") then takes (word text) (to place.SelfTrait rest behind) else stops (misfit span)
-self_end_move (also (punctuation c spacing span) rest) behind = if c == 62 then takes (mark 62) (to place.SelfClosed rest behind) else stops (misfit span)
-self_end_move run behind = misfits run
+self_end_move (also (identifier text span) rest) outside = if bytes_eq text (codes "as") then takes (word text) (to place.SelfTrait rest outside) else stops (mismatch span)
+self_end_move (also (punctuation c spacing span) rest) outside = if c == 62 then takes (mark 62) (to place.SelfClosed rest outside) else stops (mismatch span)
+self_end_move run outside = mismatches run
 
--- where a path begins, and the place behind it
+-- where a path begins, and the place after it
 abbrev pub path_move : PathKind → Place → TokenList → Move
 path_move kind next (also (identifier text span) rest) = nests (word text) (to (place.Named kind) rest None) next
 path_move kind next (also (punctuation c spacing span) rest) =
-    if begins_colons (also (punctuation c spacing span) rest) then nests colons (to (place.Colons kind false) (behind_two (also (punctuation c spacing span) rest)) None) next
-    else stops (misfit span)
-path_move kind next run = misfits run
+    if begins_colons (also (punctuation c spacing span) rest) then nests colons (to (place.Colons kind false) (after_two (also (punctuation c spacing span) rest)) None) next
+    else stops (mismatch span)
+path_move kind next run = mismatches run
 
--- behind that path: `>`
+-- after that path: `>`
 abbrev pub self_trait_end_move : TokenList → Option TokenList → Move
-self_trait_end_move (also (punctuation c spacing span) rest) behind = if c == 62 then takes (mark 62) (to place.SelfClosed rest behind) else stops (misfit span)
-self_trait_end_move run behind = misfits run
+self_trait_end_move (also (punctuation c spacing span) rest) outside = if c == 62 then takes (mark 62) (to place.SelfClosed rest outside) else stops (mismatch span)
+self_trait_end_move run outside = mismatches run
 
--- behind that `>`: `::`
+-- after that `>`: `::`
 abbrev pub self_closed_move : TokenList → Option TokenList → Move
-self_closed_move run behind = if begins_colons run then takes colons (to (place.Colons OfType false) (behind_two run) behind) else misfits run
+self_closed_move run outside = if begins_colons run then takes colons (to (place.Colons OfType false) (after_two run) outside) else mismatches run
 
--- behind a bound
-abbrev pub behind_bound : BoundKind → Place
-behind_bound (Listed plus) = place.BoundEnd plus
-behind_bound (Enclosed plus) = place.EnclosedEnd plus
+-- after a bound
+abbrev pub after_bound : BoundKind → Place
+after_bound (Listed plus) = place.BoundEnd plus
+after_bound (Enclosed plus) = place.EnclosedEnd plus
 
--- behind `dyn` or `impl`, where a bound stands, at `'`: a lifetime
+-- after `dyn` or `impl`, where a bound stands, at `'`: a lifetime
 abbrev pub bound_lifetime_move : Bool → TokenList → Option TokenList → Move
-bound_lifetime_move plus (also (identifier text span) rest) behind = takes (kept text) (to (place.BoundEnd plus) rest behind)
-bound_lifetime_move plus run behind = misfits run
+bound_lifetime_move plus (also (identifier text span) rest) outside = takes (other_lifetime text) (to (place.BoundEnd plus) rest outside)
+bound_lifetime_move plus run outside = mismatches run
 
--- where the path of a bound may have `for<..>` in front of it
+-- where the path of a bound may have `for<..>` before it
 abbrev pub trait_move : BoundKind → TokenList → Option TokenList → Move
-trait_move kind (also (identifier text span) rest) behind =
-    if bytes_eq text (codes "for") then takes (word text) (to (place.For (OfTrait kind)) rest behind) else path_move OfBound (behind_bound kind) (also (identifier text span) rest)
-trait_move kind run behind = path_move OfBound (behind_bound kind) run
+trait_move kind (also (identifier text span) rest) outside =
+    if bytes_eq text (codes "for") then takes (word text) (to (place.For (OfTrait kind)) rest outside) else path_move OfBound (after_bound kind) (also (identifier text span) rest)
+trait_move kind run outside = path_move OfBound (after_bound kind) run
 
--- where it may have `?` in front of it, too
+-- where the path of a bound may also have `?` before it
 abbrev pub question_move : BoundKind → TokenList → Option TokenList → Move
-question_move kind (also (punctuation c spacing span) rest) behind =
-    if c == 63 then takes (mark 63) (to (place.Trait kind) rest behind) else trait_move kind (also (punctuation c spacing span) rest) behind
-question_move kind run behind = trait_move kind run behind
+question_move kind (also (punctuation c spacing span) rest) outside =
+    if c == 63 then takes (mark 63) (to (place.Trait kind) rest outside) else trait_move kind (also (punctuation c spacing span) rest) outside
+question_move kind run outside = trait_move kind run outside
 
 -- a bound: a lifetime, a path, or a path in parentheses
 abbrev pub bound_move : Bool → TokenList → Option TokenList → Move
-bound_move plus (also (punctuation c spacing span) rest) behind =
-    if c == 39 then bound_lifetime_move plus rest behind else question_move (Listed plus) (also (punctuation c spacing span) rest) behind
-bound_move plus (also (group Parenthesis span inside) rest) behind = opens Parenthesis span (place.Question plus) inside rest behind
-bound_move plus run behind = question_move (Listed plus) run behind
+bound_move plus (also (punctuation c spacing span) rest) outside =
+    if c == 39 then bound_lifetime_move plus rest outside else question_move (Listed plus) (also (punctuation c spacing span) rest) outside
+bound_move plus (also (group Parenthesis span inside) rest) outside = opens Parenthesis span (place.Question plus) inside rest outside
+bound_move plus run outside = question_move (Listed plus) run outside
 
--- behind a bound: perhaps `+`
+-- after a bound: perhaps `+`
 abbrev pub bound_end_move : Bool → TokenList → Option TokenList → Move
-bound_end_move plus (also (punctuation c spacing span) rest) behind = if plus && (c == 43) then takes (mark 43) (to place.Further rest behind) else ends
-bound_end_move plus run behind = ends
+bound_end_move plus (also (punctuation c spacing span) rest) outside = if plus && (c == 43) then takes (mark 43) (to place.Further rest outside) else ends
+bound_end_move plus run outside = ends
 
--- behind `+`: perhaps a bound
+-- after `+`: perhaps a bound
 abbrev pub further_move : TokenList → Option TokenList → Move
-further_move run behind = if begins_bound run then bound_move true run behind else ends
+further_move run outside = if begins_bound run then bound_move true run outside else ends
 
--- behind a bound in parentheses: their end
+-- after a bound in parentheses: their end
 abbrev pub enclosed_end_move : Bool → TokenList → Option TokenList → Move
-enclosed_end_move plus none behind = closes Parenthesis (place.BoundEnd plus) behind
-enclosed_end_move plus run behind = misfits run
+enclosed_end_move plus none outside = closes Parenthesis (place.BoundEnd plus) outside
+enclosed_end_move plus run outside = mismatches run
 
--- behind `for<..>`: a function, or the path of a bound
-abbrev pub behind_for : Binder → Place
-behind_for OfFunction = place.Qualified
-behind_for (OfTrait kind) = place.TraitPath kind
+-- after `for<..>`: a function, or the path of a bound
+abbrev pub after_for : Binder → Place
+after_for OfFunction = place.Qualified
+after_for (OfTrait kind) = place.TraitPath kind
 
--- behind `for`: `<`
+-- after `for`: `<`
 abbrev pub for_move : Binder → TokenList → Option TokenList → Move
-for_move binder (also (punctuation c spacing span) rest) behind = if c == 60 then takes (mark 60) (to (place.ForList binder) rest behind) else stops (misfit span)
-for_move binder run behind = misfits run
+for_move binder (also (punctuation c spacing span) rest) outside = if c == 60 then takes (mark 60) (to (place.ForList binder) rest outside) else stops (mismatch span)
+for_move binder run outside = mismatches run
 
 abbrev pub for_lifetime_move : Binder → TokenList → Option TokenList → Move
-for_lifetime_move binder (also (identifier text span) rest) behind = takes (kept text) (to (place.ForEnd binder) rest behind)
-for_lifetime_move binder run behind = misfits run
+for_lifetime_move binder (also (identifier text span) rest) outside = takes (other_lifetime text) (to (place.ForEnd binder) rest outside)
+for_lifetime_move binder run outside = mismatches run
 
 -- among the lifetimes of `for<..>`: one, or `>`
 abbrev pub for_list_move : Binder → TokenList → Option TokenList → Move
-for_list_move binder (also (punctuation c spacing span) rest) behind =
-    if c == 62 then takes (mark 62) (to (behind_for binder) rest behind)
-    else (if c == 39 then for_lifetime_move binder rest behind
-    else stops (misfit span))
-for_list_move binder run behind = misfits run
+for_list_move binder (also (punctuation c spacing span) rest) outside =
+    if c == 62 then takes (mark 62) (to (after_for binder) rest outside)
+    else (if c == 39 then for_lifetime_move binder rest outside
+    else stops (mismatch span))
+for_list_move binder run outside = mismatches run
 
--- behind one: `,` or `>`
+-- after one: `,` or `>`
 abbrev pub for_end_move : Binder → TokenList → Option TokenList → Move
-for_end_move binder (also (punctuation c spacing span) rest) behind =
-    if c == 44 then takes (mark 44) (to (place.ForList binder) rest behind)
-    else (if c == 62 then takes (mark 62) (to (behind_for binder) rest behind)
-    else stops (misfit span))
-for_end_move binder run behind = misfits run
+for_end_move binder (also (punctuation c spacing span) rest) outside =
+    if c == 44 then takes (mark 44) (to (place.ForList binder) rest outside)
+    else (if c == 62 then takes (mark 62) (to (after_for binder) rest outside)
+    else stops (mismatch span))
+for_end_move binder run outside = mismatches run
 
--- behind `extern` and its literal: `fn`
+-- after `extern` and its literal: `fn`
 abbrev pub linked_move : TokenList → Option TokenList → Move
-linked_move (also (identifier text span) rest) behind = if bytes_eq text (codes "fn") then takes (word text) (to place.Function rest behind) else stops (misfit span)
-linked_move run behind = misfits run
+linked_move (also (identifier text span) rest) outside = if bytes_eq text (codes "fn") then takes (word text) (to place.Function rest outside) else stops (mismatch span)
+linked_move run outside = mismatches run
 
--- behind `unsafe`: `extern` or `fn`
+-- after `unsafe`: `extern` or `fn`
 abbrev pub unsafe_move : TokenList → Option TokenList → Move
-unsafe_move (also (identifier text span) rest) behind = if bytes_eq text (codes "extern") then takes (word text) (to place.Extern rest behind) else linked_move (also (identifier text span) rest) behind
-unsafe_move run behind = misfits run
+unsafe_move (also (identifier text span) rest) outside = if bytes_eq text (codes "extern") then takes (word text) (to place.Extern rest outside) else linked_move (also (identifier text span) rest) outside
+unsafe_move run outside = mismatches run
 
--- behind `for<..>`: `unsafe`, `extern` or `fn`
+-- after `for<..>`: `unsafe`, `extern` or `fn`
 abbrev pub qualified_move : TokenList → Option TokenList → Move
-qualified_move (also (identifier text span) rest) behind = if bytes_eq text (codes "unsafe") then takes (word text) (to place.Unsafe rest behind) else unsafe_move (also (identifier text span) rest) behind
-qualified_move run behind = misfits run
+qualified_move (also (identifier text span) rest) outside = if bytes_eq text (codes "unsafe") then takes (word text) (to place.Unsafe rest outside) else unsafe_move (also (identifier text span) rest) outside
+qualified_move run outside = mismatches run
 
--- behind `extern`: perhaps a literal
+-- after `extern`: perhaps a literal
 abbrev pub extern_move : TokenList → Option TokenList → Move
-extern_move (also (literal text span) rest) behind = takes (value text) (to place.Linked rest behind)
-extern_move run behind = linked_move run behind
+extern_move (also (literal text span) rest) outside = takes (value text) (to place.Linked rest outside)
+extern_move run outside = linked_move run outside
 
--- behind `fn`: what it takes, in parentheses
+-- after `fn`: the parameters, in parentheses
 abbrev pub function_move : TokenList → Option TokenList → Move
-function_move (also (group Parenthesis span inside) rest) behind = opens Parenthesis span place.Taken inside rest behind
-function_move run behind = misfits run
+function_move (also (group Parenthesis span inside) rest) outside = opens Parenthesis span place.Taken inside rest outside
+function_move run outside = mismatches run
 
--- where a type that a function takes may begin, or `...`
+-- where the type of a parameter can begin, or `...`
 abbrev pub taken_value : TokenList → Option TokenList → Move
-taken_value run behind = if begins_dots run then bars (mark 46) (to place.Variadic (behind_three run) behind) else asks true place.OneTaken
+taken_value run outside = if begins_dots run then bars (mark 46) (to place.Variadic (after_three run) outside) else asks true place.OneTaken
 
--- among what a function takes: a name in front of `:`, a type, or `...`
+-- among the parameters: a name before `:`, a type, or `...`
 abbrev pub taken_move : TokenList → Option TokenList → Move
-taken_move none behind = closes Parenthesis place.Output behind
-taken_move (also (identifier text span) rest) behind = if typing rest then takes (word text) (to place.Typed rest behind) else asks true place.OneTaken
-taken_move run behind = taken_value run behind
+taken_move none outside = closes Parenthesis place.Output outside
+taken_move (also (identifier text span) rest) outside = if typing rest then takes (word text) (to place.Typed rest outside) else asks true place.OneTaken
+taken_move run outside = taken_value run outside
 
 -- between a name and `:`
 abbrev pub typed_move : TokenList → Option TokenList → Move
-typed_move (also (punctuation c spacing span) rest) behind = if c == 58 then takes (mark 58) (to place.TypedValue rest behind) else stops (misfit span)
-typed_move run behind = misfits run
+typed_move (also (punctuation c spacing span) rest) outside = if c == 58 then takes (mark 58) (to place.TypedValue rest outside) else stops (mismatch span)
+typed_move run outside = mismatches run
 
 abbrev pub one_taken_move : TokenList → Option TokenList → Move
-one_taken_move none behind = closes Parenthesis place.Output behind
-one_taken_move (also (punctuation c spacing span) rest) behind = if c == 44 then takes (mark 44) (to place.Taken rest behind) else stops (misfit span)
-one_taken_move run behind = misfits run
+one_taken_move none outside = closes Parenthesis place.Output outside
+one_taken_move (also (punctuation c spacing span) rest) outside = if c == 44 then takes (mark 44) (to place.Taken rest outside) else stops (mismatch span)
+one_taken_move run outside = mismatches run
 
--- behind `...`: perhaps `,`
+-- after `...`: perhaps `,`
 abbrev pub variadic_move : TokenList → Option TokenList → Move
-variadic_move none behind = closes Parenthesis place.Output behind
-variadic_move (also (punctuation c spacing span) rest) behind = if c == 44 then takes (mark 44) (to place.VariadicEnd rest behind) else stops (misfit span)
-variadic_move run behind = misfits run
+variadic_move none outside = closes Parenthesis place.Output outside
+variadic_move (also (punctuation c spacing span) rest) outside = if c == 44 then takes (mark 44) (to place.VariadicEnd rest outside) else stops (mismatch span)
+variadic_move run outside = mismatches run
 
 abbrev pub variadic_end_move : TokenList → Option TokenList → Move
-variadic_end_move none behind = closes Parenthesis place.Output behind
-variadic_end_move run behind = misfits run
+variadic_end_move none outside = closes Parenthesis place.Output outside
+variadic_end_move run outside = mismatches run
 
--- what comes next at a place inside a type
+-- the next step at a place inside a type
 unfoldable pub next_at : Place → TokenList → Option TokenList → Move
-next_at place.End run behind = ends
-next_at (place.Named kind) run behind = named_move kind run behind
-next_at (place.Segments kind) run behind = segments_move kind run behind
-next_at (place.Colons kind arguments) run behind = colons_move kind arguments run behind
-next_at (place.Arguments kind) run behind = arguments_move kind run behind
-next_at (place.Equals kind) run behind = equals_move kind run behind
-next_at (place.Value kind) run behind = asks true (place.ArgumentEnd kind)
-next_at (place.Constrained kind) run behind = constrained_move kind run behind
-next_at (place.Braced kind) run behind = braced_move kind run behind
-next_at (place.ArgumentEnd kind) run behind = argument_end_move kind run behind
-next_at place.Macro run behind = macro_move run behind
-next_at place.Inputs run behind = inputs_move run behind
-next_at place.InputEnd run behind = input_end_move run behind
-next_at place.Output run behind = output_move run behind
-next_at place.SelfType run behind = keeps_type place.SelfEnd
-next_at place.SelfEnd run behind = self_end_move run behind
-next_at place.SelfTrait run behind = path_move OfType place.SelfTraitEnd run
-next_at place.SelfTraitEnd run behind = self_trait_end_move run behind
-next_at place.SelfClosed run behind = self_closed_move run behind
-next_at place.Referent run behind = referent_move run behind
-next_at place.Pointer run behind = pointer_move run behind
-next_at place.Target run behind = asks false place.End
-next_at place.List run behind = list_move run behind
-next_at place.ListEnd run behind = list_end_move run behind
-next_at place.Element run behind = asks true place.ElementEnd
-next_at place.ElementEnd run behind = element_end_move run behind
-next_at place.Length run behind = length_move run behind
-next_at place.LengthEnd run behind = closes Bracket place.End behind
-next_at (place.Bound plus) run behind = bound_move plus run behind
-next_at (place.Question plus) run behind = question_move (Enclosed plus) run behind
-next_at (place.Trait kind) run behind = trait_move kind run behind
-next_at (place.TraitPath kind) run behind = path_move OfBound (behind_bound kind) run
-next_at (place.BoundEnd plus) run behind = bound_end_move plus run behind
-next_at place.Further run behind = further_move run behind
-next_at (place.EnclosedEnd plus) run behind = enclosed_end_move plus run behind
-next_at (place.For binder) run behind = for_move binder run behind
-next_at (place.ForList binder) run behind = for_list_move binder run behind
-next_at (place.ForEnd binder) run behind = for_end_move binder run behind
-next_at place.Qualified run behind = qualified_move run behind
-next_at place.Unsafe run behind = unsafe_move run behind
-next_at place.Extern run behind = extern_move run behind
-next_at place.Linked run behind = linked_move run behind
-next_at place.Function run behind = function_move run behind
-next_at place.Taken run behind = taken_move run behind
-next_at place.Typed run behind = typed_move run behind
-next_at place.TypedValue run behind = taken_value run behind
-next_at place.OneTaken run behind = one_taken_move run behind
-next_at place.Variadic run behind = variadic_move run behind
-next_at place.VariadicEnd run behind = variadic_end_move run behind
+next_at place.End run outside = ends
+next_at (place.Named kind) run outside = named_move kind run outside
+next_at (place.Segments kind) run outside = segments_move kind run outside
+next_at (place.Colons kind arguments) run outside = colons_move kind arguments run outside
+next_at (place.Arguments kind) run outside = arguments_move kind run outside
+next_at (place.Equals kind) run outside = equals_move kind run outside
+next_at (place.Value kind) run outside = asks true (place.ArgumentEnd kind)
+next_at (place.Constrained kind) run outside = constrained_move kind run outside
+next_at (place.Braced kind) run outside = braced_move kind run outside
+next_at (place.ArgumentEnd kind) run outside = argument_end_move kind run outside
+next_at place.Macro run outside = macro_move run outside
+next_at place.Inputs run outside = inputs_move run outside
+next_at place.InputEnd run outside = input_end_move run outside
+next_at place.Output run outside = output_move run outside
+next_at place.SelfType run outside = keeps_type place.SelfEnd
+next_at place.SelfEnd run outside = self_end_move run outside
+next_at place.SelfTrait run outside = path_move OfType place.SelfTraitEnd run
+next_at place.SelfTraitEnd run outside = self_trait_end_move run outside
+next_at place.SelfClosed run outside = self_closed_move run outside
+next_at place.Referent run outside = referent_move run outside
+next_at place.Pointer run outside = pointer_move run outside
+next_at place.Target run outside = asks false place.End
+next_at place.List run outside = list_move run outside
+next_at place.ListEnd run outside = list_end_move run outside
+next_at place.Element run outside = asks true place.ElementEnd
+next_at place.ElementEnd run outside = element_end_move run outside
+next_at place.Length run outside = length_move run outside
+next_at place.LengthEnd run outside = closes Bracket place.End outside
+next_at (place.Bound plus) run outside = bound_move plus run outside
+next_at (place.Question plus) run outside = question_move (Enclosed plus) run outside
+next_at (place.Trait kind) run outside = trait_move kind run outside
+next_at (place.TraitPath kind) run outside = path_move OfBound (after_bound kind) run
+next_at (place.BoundEnd plus) run outside = bound_end_move plus run outside
+next_at place.Further run outside = further_move run outside
+next_at (place.EnclosedEnd plus) run outside = enclosed_end_move plus run outside
+next_at (place.For binder) run outside = for_move binder run outside
+next_at (place.ForList binder) run outside = for_list_move binder run outside
+next_at (place.ForEnd binder) run outside = for_end_move binder run outside
+next_at place.Qualified run outside = qualified_move run outside
+next_at place.Unsafe run outside = unsafe_move run outside
+next_at place.Extern run outside = extern_move run outside
+next_at place.Linked run outside = linked_move run outside
+next_at place.Function run outside = function_move run outside
+next_at place.Taken run outside = taken_move run outside
+next_at place.Typed run outside = typed_move run outside
+next_at place.TypedValue run outside = taken_value run outside
+next_at place.OneTaken run outside = one_taken_move run outside
+next_at place.Variadic run outside = variadic_move run outside
+next_at place.VariadicEnd run outside = variadic_end_move run outside
 
--- behind `&'`
+-- after `&'`
 abbrev pub reference_lifetime_first : TokenList → First
 reference_lifetime_first (also (identifier text span) rest) = starts false (reference (Some text)) (to place.Referent rest None)
-reference_lifetime_first run = refused (misfit (first_span run))
+reference_lifetime_first run = refused (mismatch (first_span run))
 
--- behind `&`: perhaps a lifetime
+-- after `&`: perhaps a lifetime
 abbrev pub reference_first : TokenList → First
 reference_first (also (punctuation c spacing span) rest) =
     if c == 39 then reference_lifetime_first rest else starts false (reference None) (to place.Referent (also (punctuation c spacing span) rest) None)
@@ -480,9 +481,9 @@ reference_first run = starts false (reference None) (to place.Referent run None)
 abbrev pub group_first : Delimiter → Span → TokenList → TokenList → First
 group_first Parenthesis span inside rest = starts false (opening Parenthesis) (to place.List inside (Some rest))
 group_first Bracket span inside rest = starts false (opening Bracket) (to place.Element inside (Some rest))
-group_first Brace span inside rest = refused (misfit span)
+group_first Brace span inside rest = refused (mismatch span)
 
--- the place behind the word with which a type begins
+-- the place after the word with which a type begins
 abbrev pub word_place : Bool → List ℕ → Place
 word_place plus text =
     if bytes_eq text (codes "dyn") || bytes_eq text (codes "impl") then place.Bound plus
@@ -505,23 +506,23 @@ mark_first c span run rest =
     else (if c == 42 then starts false (mark 42) (to place.Pointer rest None)
     else (if c == 60 then starts false (mark 60) (to place.SelfType rest None)
     else (if c == 33 then refused (unsupported span)
-    else (if begins_colons run then starts false colons (to (place.Colons Plain false) (behind_two run) None)
-    else refused (misfit span)))))
+    else (if begins_colons run then starts false colons (to (place.Colons Plain false) (after_two run) None)
+    else refused (mismatch span)))))
 
--- how a type begins
+-- the beginning of a type
 unfoldable pub begin : Bool → TokenList → First
 begin plus (also (identifier text span) rest) = word_first plus text span rest
 begin plus (also (group delimiter span inside) rest) = group_first delimiter span inside rest
 begin plus (also (punctuation c spacing span) rest) = mark_first c span (also (punctuation c spacing span) rest) rest
-begin plus run = refused (misfit (first_span run))
+begin plus run = refused (mismatch (first_span run))
 
--- a word that is no name of a type
+-- a word that is reserved, so that it is not the name of a type
 abbrev pub is_reserved : List ℕ → Bool
 is_reserved text =
     ((bytes_eq text (codes "dyn") || bytes_eq text (codes "impl")) || (bytes_eq text (codes "_") || bytes_eq text (codes "for")))
     || ((bytes_eq text (codes "fn") || bytes_eq text (codes "unsafe")) || bytes_eq text (codes "extern"))
 
--- the name, where the type is just a name
+-- the name, if the type is just a name
 abbrev pub name_of : TokenList → Option (List ℕ)
 name_of (also (identifier text span) rest) = if is_reserved text then None else (if goes_on rest || begins_mark 33 rest then None else Some text)
 name_of run = None

@@ -1,18 +1,18 @@
--- A type as it is read: at most 128 types stand inside one another, and `+` joins bounds.
+-- Types as they are read: at most 128 types stand inside one another, and `+` joins bounds.
 use Rattle.std.specs.Prelude.{ℕ, true}
 use Rattle.logos_token.specs.Tokens.{TokenList}
 use Rattle.logos_type.specs.Parts.{Tree}
 use Rattle.logos_type_reader.specs.Table.{Fault}
 use Rattle.logos_type_reader.specs.Reading.{IsType, NoType}
 
--- how many types may stand inside one another, the outermost counted
+-- how many types can stand inside one another; the outermost one counts
 abbrev pub type_nesting : ℕ
 type_nesting = 128
 
--- the run begins with this type, and behind it is the rest
+-- the run begins with this type, and the rest follows
 abbrev pub IsTypeExpr : TokenList → Tree → TokenList → Type 0
 IsTypeExpr run tree rest = IsType type_nesting true run tree rest
 
--- the run begins with no type, and this is the fault from the left
+-- the run does not begin with a type, and this is its first fault from the left
 abbrev pub NoTypeExpr : TokenList → Fault → Type 0
 NoTypeExpr run fault = NoType type_nesting true run fault

@@ -1,4 +1,4 @@
--- How a type is written, form by form: its tokens in front of a rest, the parts it is made of, and what would lengthen it.
+-- How a type is written, form by form: its tokens before a rest, the parts it is made of, and what would lengthen it.
 use Rattle.std.specs.Prelude.{◌≡◌, ℕ, ◌-◌, ◌<◌, not, ◌&&◌, ◌||◌, List, [], ◌∷◌, ◌++◌, Bool, true, false, Some, None, codes, bytes_eq}
 use Rattle.logos_lexeme.specs.declared.lexeme.Span.{Span}
 use Rattle.logos_lexeme.specs.declared.lexeme.Spacing.{Spacing}
@@ -7,7 +7,7 @@ use Rattle.logos_lexeme.specs.declared.lexeme.Delimiter.TheVariants.{Parenthesis
 use Rattle.logos_token.specs.Tokens.{Token, TokenList, identifier, punctuation, literal, group, none, also}
 use Rattle.logos_type_reader.specs.declared.table.place.PathKind.{PathKind}
 use Rattle.logos_type_reader.specs.declared.table.place.PathKind.TheVariants.{Plain, OfType, OfBound}
-use Rattle.logos_type.specs.Parts.{Tree, sign, name, whole, still, trees, none as no_part, also as and_part, word, mark, colons, arrow, value, opening, closing, reference, kept}
+use Rattle.logos_type.specs.Parts.{Tree, sign, name, whole, still, trees, none as no_part, also as and_part, word, mark, colons, arrow, value, opening, closing, reference, other_lifetime}
 use Rattle.logos_type_reader.specs.StillRuns.{still_run}
 use Rattle.logos_type_reader.specs.Table.{is_reserved, goes_on, begins_colons, begins_arrow, begins_mark, begins_bound, typing, argued, argument_lifetime}
 
@@ -64,7 +64,7 @@ abbrev pub begins_for : TokenList → Bool
 begins_for (also (identifier text span) rest) = bytes_eq text (codes "for")
 begins_for run = false
 
--- behind `for`: the lifetimes in angle brackets
+-- after `for`: the lifetimes in angle brackets
 mutual
   pub data Lifetimes : TokenList → List Tree → TokenList → Type 0 where
     -- `<'a, 'b>`
@@ -73,13 +73,13 @@ mutual
   pub data LifetimeList : TokenList → List Tree → TokenList → Type 0 where
     no_lifetime : {s : Span} {p : Spacing} {rest : TokenList} → LifetimeList (also (punctuation 62 p s) rest) (sign (mark 62) ∷ []) rest
     last_lifetime : {text : List ℕ} {s t u : Span} {p q : Spacing} {rest : TokenList} →
-        LifetimeList (also (punctuation 39 p s) (also (identifier text t) (also (punctuation 62 q u) rest))) (sign (kept text) ∷ sign (mark 62) ∷ []) rest
+        LifetimeList (also (punctuation 39 p s) (also (identifier text t) (also (punctuation 62 q u) rest))) (sign (other_lifetime text) ∷ sign (mark 62) ∷ []) rest
     lifetimes : {text : List ℕ} {s t u : Span} {p q : Spacing} {run rest : TokenList} {parts : List Tree} → LifetimeList run parts rest →
-        LifetimeList (also (punctuation 39 p s) (also (identifier text t) (also (punctuation 44 q u) run))) (sign (kept text) ∷ sign (mark 44) ∷ parts) rest
+        LifetimeList (also (punctuation 39 p s) (also (identifier text t) (also (punctuation 44 q u) run))) (sign (other_lifetime text) ∷ sign (mark 44) ∷ parts) rest
 
 mutual
-  -- The run begins with this type, behind which is the rest, and the type ends so. As many types as levels may stand inside one another,
-  -- this one counted; where `plus` does not hold, `+` joins no bounds.
+  -- The run begins with this type, after which is the rest, and the type ends so. As many types as levels may stand inside one another, this one
+  -- counted; where `plus` does not hold, `+` joins no bounds.
   pub data Written : ℕ → Bool → TokenList → Tree → TokenList → Ending → Type 0 where
     -- `Name`
     a_name : {levels : ℕ} {plus : Bool} {text : List ℕ} {s : Span} {rest : TokenList} → 0 < levels → is_reserved text ≡ false →
@@ -133,14 +133,14 @@ mutual
     -- `fn(T, name: T) -> T`, `extern "C" fn(T)`, `unsafe fn(T)`
     function : {levels : ℕ} {plus : Bool} {run rest : TokenList} {parts : List Tree} {e : Ending} → Function levels run parts rest e → Form levels plus run parts rest e
 
-  -- behind `&` and its lifetime
+  -- after `&` and its lifetime
   pub data Referent : ℕ → TokenList → List Tree → TokenList → Ending → Type 0 where
     shared : {levels : ℕ} {run rest : TokenList} {t : Tree} {e : Ending} → begins_mut run ≡ false → Written levels false run t rest e →
         Referent levels run (t ∷ []) rest e
     mutable : {levels : ℕ} {s : Span} {run rest : TokenList} {t : Tree} {e : Ending} → Written levels false run t rest e →
         Referent levels (also (identifier (codes "mut") s) run) (sign (word (codes "mut")) ∷ t ∷ []) rest e
 
-  -- types with commas between them, and perhaps one behind the last
+  -- types with commas between them, and perhaps one after the last
   pub data Listed : ℕ → TokenList → List Tree → Type 0 where
     nothing : {levels : ℕ} → Listed levels none []
     single : {levels : ℕ} {run : TokenList} {t : Tree} {e : Ending} → Written levels true run t none e → Listed levels run (t ∷ [])
@@ -148,7 +148,7 @@ mutual
         Written levels true run t (also (punctuation 44 p s) others) e → Listed levels others parts →
         Listed levels run (t ∷ sign (mark 44) ∷ parts)
 
-  -- behind the `<` with which a type begins: the type stays as it is
+  -- after the `<` with which a type begins: the type stays as it is
   pub data Qualified : ℕ → TokenList → List Tree → TokenList → Ending → Type 0 where
     -- `T>::Name`
     of_type : {levels : ℕ} {s t u : Span} {p q : Spacing} {run further rest : TokenList} {self : Tree} {parts : List Tree} {e f : Ending} →
@@ -173,7 +173,7 @@ mutual
     longer : {levels : ℕ} {kind : PathKind} {text : List ℕ} {s : Span} {run rest : TokenList} {parts : List Tree} {e : Ending} → Longer levels kind run parts rest e →
         Path levels kind (also (identifier text s) run) (sign (word text) ∷ parts) rest e
 
-  -- behind a name of a path, where the path does not end in it
+  -- after a name of a path, where the path does not end in it
   pub data Longer : ℕ → PathKind → TokenList → List Tree → TokenList → Ending → Type 0 where
     -- `::Name`
     member : {levels : ℕ} {kind : PathKind} {s t : Span} {p : Spacing} {run rest : TokenList} {parts : List Tree} {e : Ending} → Path levels kind run parts rest e →
@@ -200,7 +200,7 @@ mutual
     turbofish : {levels : ℕ} {kind : PathKind} {s t u : Span} {p q : Spacing} {run rest : TokenList} {parts : List Tree} → Arguments levels kind run parts rest →
         Angled levels kind (also (punctuation 58 Joint s) (also (punctuation 58 p t) (also (punctuation 60 q u) run))) (sign colons ∷ sign (mark 60) ∷ parts) rest
 
-  -- arguments with commas between them, and perhaps one behind the last, up to `>`
+  -- arguments with commas between them, and perhaps one after the last, up to `>`
   pub data Arguments : ℕ → PathKind → TokenList → List Tree → TokenList → Type 0 where
     finished : {levels : ℕ} {kind : PathKind} {s : Span} {p : Spacing} {rest : TokenList} → Arguments levels kind (also (punctuation 62 p s) rest) (sign (mark 62) ∷ []) rest
     final : {levels : ℕ} {kind : PathKind} {s : Span} {p : Spacing} {run rest : TokenList} {parts : List Tree} → Argument levels kind run parts (also (punctuation 62 p s) rest) →
@@ -226,11 +226,11 @@ mutual
     a_binding : {levels : ℕ} {kind : PathKind} {text : List ℕ} {s u : Span} {p : Spacing} {run rest : TokenList} {t : Tree} {e : Ending} → Written levels true run t rest e →
         Argument levels kind (also (identifier text s) (also (punctuation 61 p u) run)) (sign (word text) ∷ sign (mark 61) ∷ t ∷ []) rest
 
-  -- bounds: one where `plus` does not hold, else some with `+` between them, and perhaps one behind the last
+  -- bounds: one where `plus` does not hold, else some with `+` between them, and perhaps one after the last
   pub data Bounds : ℕ → Bool → TokenList → List Tree → TokenList → Ending → Type 0 where
     one_bound : {levels : ℕ} {run rest : TokenList} {parts : List Tree} {e : Ending} → Bound levels run parts rest e → Bounds levels false run parts rest e
     last_bound : {levels : ℕ} {run rest : TokenList} {parts : List Tree} {e : Ending} → Bound levels run parts rest e → Bounds levels true run parts rest (bounded e)
-    plus_behind : {levels : ℕ} {s : Span} {p : Spacing} {run rest : TokenList} {parts : List Tree} {e : Ending} → Bound levels run parts (also (punctuation 43 p s) rest) e →
+    plus_after : {levels : ℕ} {s : Span} {p : Spacing} {run rest : TokenList} {parts : List Tree} {e : Ending} → Bound levels run parts (also (punctuation 43 p s) rest) e →
         may_follow e (also (punctuation 43 p s) rest) ≡ true → Bounds levels true run (parts ++ (sign (mark 43) ∷ [])) rest trailing
     bounds : {levels : ℕ} {s : Span} {p : Spacing} {run others rest : TokenList} {parts back : List Tree} {e f : Ending} → Bound levels run parts (also (punctuation 43 p s) others) e →
         may_follow e (also (punctuation 43 p s) others) ≡ true → Bounds levels true others back rest f → Bounds levels true run (parts ++ (sign (mark 43) ∷ back)) rest f
@@ -239,20 +239,20 @@ mutual
   pub data Bound : ℕ → TokenList → List Tree → TokenList → Ending → Type 0 where
     -- `'a`
     lifetime_bound : {levels : ℕ} {text : List ℕ} {s t : Span} {p : Spacing} {rest : TokenList} →
-        Bound levels (also (punctuation 39 p s) (also (identifier text t) rest)) (sign (kept text) ∷ []) rest closed
+        Bound levels (also (punctuation 39 p s) (also (identifier text t) rest)) (sign (other_lifetime text) ∷ []) rest closed
     -- `Name`, `?Name`, `for<'a> Name`
     trait_bound : {levels : ℕ} {run rest : TokenList} {parts : List Tree} {e : Ending} → Questioned levels run parts rest e → Bound levels run parts rest e
     -- `(Name)`
     enclosed : {levels : ℕ} {s : Span} {inside rest : TokenList} {parts : List Tree} {e : Ending} → Questioned levels inside parts none e →
         Bound levels (also (group Parenthesis s inside) rest) (sign (opening Parenthesis) ∷ (parts ++ (sign (closing Parenthesis) ∷ []))) rest closed
 
-  -- the path of a bound, perhaps with `?` in front of it
+  -- the path of a bound, perhaps with `?` before it
   pub data Questioned : ℕ → TokenList → List Tree → TokenList → Ending → Type 0 where
     unquestioned : {levels : ℕ} {run rest : TokenList} {parts : List Tree} {e : Ending} → Trait levels run parts rest e → Questioned levels run parts rest e
     questioned : {levels : ℕ} {s : Span} {p : Spacing} {run rest : TokenList} {parts : List Tree} {e : Ending} → Trait levels run parts rest e →
         Questioned levels (also (punctuation 63 p s) run) (sign (mark 63) ∷ parts) rest e
 
-  -- that path, perhaps with `for<..>` in front of it
+  -- that path, perhaps with `for<..>` before it
   pub data Trait : ℕ → TokenList → List Tree → TokenList → Ending → Type 0 where
     unbound : {levels : ℕ} {run rest : TokenList} {parts : List Tree} {e : Ending} → begins_for run ≡ false → AnyPath levels OfBound run parts rest e → Trait levels run parts rest e
     for_all : {levels : ℕ} {s : Span} {run middle rest : TokenList} {parts others : List Tree} {e : Ending} → Lifetimes run parts middle → AnyPath levels OfBound middle others rest e →
@@ -277,7 +277,7 @@ mutual
     unlinked : {levels : ℕ} {t : Span} {run rest : TokenList} {parts : List Tree} {e : Ending} → Taking levels run parts rest e →
         Linked levels (also (identifier (codes "fn") t) run) (sign (word (codes "fn")) ∷ parts) rest e
 
-  -- behind `fn`
+  -- after `fn`
   pub data Taking : ℕ → TokenList → List Tree → TokenList → Ending → Type 0 where
     takes_only : {levels : ℕ} {s : Span} {inside rest : TokenList} {parts : List Tree} → Parameters levels inside parts →
         Taking levels (also (group Parenthesis s inside) rest) (sign (opening Parenthesis) ∷ (parts ++ (sign (closing Parenthesis) ∷ []))) rest taking
@@ -286,7 +286,7 @@ mutual
         Taking levels (also (group Parenthesis s inside) (also (punctuation 45 Joint t) (also (punctuation 62 p u) run)))
         (sign (opening Parenthesis) ∷ (parts ++ (sign (closing Parenthesis) ∷ sign arrow ∷ result ∷ []))) rest e
 
-  -- what a function takes, with commas between, and perhaps one behind the last
+  -- what a function takes, with commas between, and perhaps one after the last
   pub data Parameters : ℕ → TokenList → List Tree → Type 0 where
     no_parameter : {levels : ℕ} → Parameters levels none []
     last_parameter : {levels : ℕ} {run : TokenList} {parts : List Tree} → Parameter levels run parts none → Parameters levels run parts

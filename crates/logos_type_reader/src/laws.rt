@@ -1,4 +1,4 @@
-//! What holds of each run.
+//! Laws of the reading of types. Nothing calls these functions: the contract of each is a law.
 ghost use Rattle.std.specs.Prelude.{◌≡◌, ◌<◌, ◌≤◌, ◌⊎◌, ℕ, Bool, true};
 ghost use Rattle.logos_token.specs.Tokens.{TokenList, IsRestOf, count_of};
 ghost use Rattle.logos_type.specs.Parts.{Tree};
@@ -9,7 +9,8 @@ ghost use Rattle.logos_type_reader.specs.FaultPlaces.{FaultPlace, IsAt, SameSign
 ghost use Rattle.logos_type_reader.specs.TypeExprs.{IsTypeExpr, NoTypeExpr};
 ghost use Rattle.logos_type.specs.Depth.{depth};
 
-/// A run begins with one type at most, and behind it is one rest; it has one fault at most, and none where it begins with a type.
+/// A run begins with at most one type, which leaves one rest. It has at most one fault, and none if
+/// it begins with a type.
 pub fn one_outcome()
     ensures one_type { (run rest other : TokenList) (tree different : Tree) →
         IsTypeExpr run tree rest → IsTypeExpr run different other → (tree ≡ different)
@@ -26,7 +27,8 @@ pub fn some_outcome()
         × IsTypeExpr run tree rest) ⊎ ((fault : Fault) × NoTypeExpr run fault) }
 {}
 
-/// What is read with fewer or more levels is the same type, and where these are too few, the type is deeper.
+/// A type that is read with two different limits is the same type. If one limit is too small, the
+/// type is deeper.
 pub fn levels_only_limit()
     ensures one_type { (levels others : ℕ) (plus : Bool) (run rest other : TokenList)
         (tree different : Tree) →
@@ -38,7 +40,7 @@ pub fn levels_only_limit()
         × (levels < others) }
 {}
 
-/// The levels are passed by just the types that hold more types inside one another.
+/// The limit is passed exactly by the types that are deeper.
 pub fn limit_is_depth()
     ensures within { (levels : ℕ) (plus : Bool) (run rest : TokenList) (tree : Tree) →
         IsType levels plus run tree rest → depth tree ≤ levels }
@@ -48,7 +50,7 @@ pub fn limit_is_depth()
         IsType levels plus run tree rest → others < depth tree → NoType others plus run too_deep }
 {}
 
-/// What is behind a type is the rest of its run, with less left.
+/// What follows a type is the rest of its run, with fewer tokens.
 pub fn type_is_front()
     ensures rest { (run rest : TokenList) (tree : Tree) → IsTypeExpr run tree rest →
         IsRestOf run rest }
@@ -56,14 +58,14 @@ pub fn type_is_front()
         count_of rest < count_of run }
 {}
 
-/// A written type in front of what does not lengthen it is read as that type.
+/// A written type before something that does not lengthen it is read as that type.
 pub fn reads_written()
     ensures { (levels : ℕ) (plus : Bool) (run rest : TokenList) (tree : Tree) (ending : Ending) →
         Written levels plus run tree rest ending → may_follow ending rest ≡ true →
         IsType levels plus run tree rest }
 {}
 
-/// What is read as a type is a written one, in front of what does not lengthen it.
+/// What is read as a type is a written type before something that does not lengthen it.
 pub fn read_is_written()
     ensures { (levels : ℕ) (plus : Bool) (run rest : TokenList) (tree : Tree) →
         IsType levels plus run tree rest → (ending : Ending)

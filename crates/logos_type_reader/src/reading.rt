@@ -5,8 +5,8 @@ ghost use Rattle.logos_token.specs.Views.{tokens_of, inside_of, tree_of as token
 ghost use Rattle.logos_type.specs.Parts.{tree_of, sign_of, sign, opening, closing, still, trees, also, none};
 ghost use Rattle.logos_type_reader.specs.StillRuns.{still_run, still_token};
 ghost use Rattle.logos_type_reader.specs.Table.{Spot as SpotOfRuns, outer, name_of, asks, keeps_type, nests};
-ghost use Rattle.logos_type_reader.specs.Reading.{IsType, NoType, IsMove, behind_type, next_of};
-ghost use Rattle.logos_type_reader.specs.ReadingViews.{spot_of, behind_of, IfFault, IsStep, GivesMove, GivesParts};
+ghost use Rattle.logos_type_reader.specs.Reading.{IsType, NoType, IsMove, after_type, next_of};
+ghost use Rattle.logos_type_reader.specs.ReadingViews.{spot_of, outside_of, IfFault, IsStep, GivesMove, GivesParts};
 ghost use Rattle.logos_type.specs.TypeTrees.{type_tree};
 ghost use Rattle.logos_type_reader.specs.TypeExprs.{IsTypeExpr, NoTypeExpr};
 
@@ -15,16 +15,17 @@ use logos_token::token::{Group, Span, TokenTree, Tokens};
 use logos_type::{Leaf, Part, TypeExpr};
 use std::alloc::{AllocError, AllocFailed, Global};
 
-/// Why a run does not begin with a type.
+/// The reasons why a run does not begin with a type.
 #[derive(Clone, Copy)]
 pub enum TypeFault {
-    /// At the span stands a type that is left out.
+    /// A type that is not supported stands at this span.
     Unsupported { span: Span },
-    /// At the span stands the first token that does not fit; `0..0` where the tokens run out.
-    Misfit { span: Span },
-    /// More types stand inside one another than may.
+    /// The first token that does not fit stands at this span; it is `0..0` at the end of the
+    /// tokens.
+    Mismatch { span: Span },
+    /// More types stand inside one another than are allowed.
     LimitNesting,
-    /// Memory ran out.
+    /// There is not enough memory.
     Memory,
 }
 
@@ -56,15 +57,15 @@ impl From<Stop> for TypeFault {
     fn from(stop: Stop) -> TypeFault {
         match stop {
             Stop::Unsupported(span) => TypeFault::Unsupported { span },
-            Stop::Misfit(span) => TypeFault::Misfit { span },
+            Stop::Mismatch(span) => TypeFault::Mismatch { span },
         }
     }
 }
 
-/// How many types may stand inside one another, the outermost counted.
+/// The greatest number of types that can stand inside one another. The outermost one counts.
 pub const TYPE_NESTING: u32 = 128;
 
-/// Adds a token of a type.
+/// Adds a token.
 fn add_leaf<'s>(leaf: Leaf<'s>, parts: &mut Vec<Part<'s>>) -> Result<(), AllocError>
     ensures { OnOk result (map tree_of parts.new.items ≡
         map tree_of parts.old.items ++ sign (sign_of leaf.entry) ∷ []) }
@@ -73,7 +74,7 @@ fn add_leaf<'s>(leaf: Leaf<'s>, parts: &mut Vec<Part<'s>>) -> Result<(), AllocEr
     Ok(())
 }
 
-/// Adds the tokens of a run as they are, those inside groups too.
+/// Adds the tokens of a run without reading types in them; groups add the tokens inside them.
 #[cycle(keeping)]
 fn keep_tokens<'s>(run: Tokens<'_, 's>, parts: &mut Vec<Part<'s>>) -> Result<(), AllocError>
     ensures { OnOk result (map tree_of parts.new.items ≡
@@ -87,7 +88,7 @@ fn keep_tokens<'s>(run: Tokens<'_, 's>, parts: &mut Vec<Part<'s>>) -> Result<(),
     Ok(())
 }
 
-/// Adds a token as it is.
+/// Adds one token in this way.
 #[cycle(keeping)]
 fn keep_token<'s>(tree: TokenTree<'_, 's>, parts: &mut Vec<Part<'s>>) -> Result<(), AllocError>
     ensures { OnOk result (map tree_of parts.new.items ≡
@@ -105,7 +106,7 @@ fn keep_token<'s>(tree: TokenTree<'_, 's>, parts: &mut Vec<Part<'s>>) -> Result<
     }
 }
 
-/// Adds a group as it is: its delimiters, and between them the tokens inside it.
+/// Adds a group in this way: its delimiters, and the tokens between them.
 #[cycle(keeping)]
 fn keep_group<'s>(group: Group<'_, 's>, parts: &mut Vec<Part<'s>>) -> Result<(), AllocError>
     ensures { OnOk result (map tree_of parts.new.items ≡ map tree_of parts.old.items ++
@@ -117,28 +118,28 @@ fn keep_group<'s>(group: Group<'_, 's>, parts: &mut Vec<Part<'s>>) -> Result<(),
     add_leaf(Leaf::Close(group.delimiter), parts)
 }
 
-/// What is behind all that is open there.
-fn behind_all<'t, 's>(spot: Spot<'t, 's>) -> Tokens<'t, 's>
-    ensures { tokens_of result ≡ outer (tokens_of spot.entry.run) (behind_of spot.entry.behind) }
+/// Returns the tokens after all groups that are open at `spot`.
+fn after_all<'t, 's>(spot: Spot<'t, 's>) -> Tokens<'t, 's>
+    ensures { tokens_of result ≡ outer (tokens_of spot.entry.run) (outside_of spot.entry.outside) }
 {
-    match spot.behind {
+    match spot.outside {
         Some(rest) => rest,
         None => spot.run,
     }
 }
 
-/// A place behind a type or a path that was read.
-fn behind_type<'t, 's>(spot: Spot<'t, 's>, place: Place, run: Tokens<'t, 's>) -> Spot<'t, 's>
-    ensures { spot_of result ≡ behind_type (spot_of spot.entry) place (tokens_of run.entry) }
+/// Returns the spot after a type or a path that was read.
+fn after_type<'t, 's>(spot: Spot<'t, 's>, place: Place, run: Tokens<'t, 's>) -> Spot<'t, 's>
+    ensures { spot_of result ≡ after_type (spot_of spot.entry) place (tokens_of run.entry) }
 {
     Spot {
         place,
         run,
-        behind: spot.behind,
+        outside: spot.outside,
     }
 }
 
-/// Parts of which there is one so far.
+/// Returns a list with one part.
 fn begun_parts<'s>(alloc: Global, part: Part<'s>) -> Result<Vec<Part<'s>>, AllocError>
     ensures { IfOk result (λ parts. map tree_of parts.items ≡ tree_of part.entry ∷ []) }
 {
@@ -147,7 +148,8 @@ fn begun_parts<'s>(alloc: Global, part: Part<'s>) -> Result<Vec<Part<'s>>, Alloc
     Ok(parts)
 }
 
-/// Adds one part, and goes on at the spot behind it: the move, wherever this part is all of it.
+/// Adds one part and goes on at the spot `next`. `bars` says whether the part makes the type one
+/// that is not supported.
 fn move_past<'t, 's>(
     bars: bool,
     part: Part<'s>,
@@ -162,7 +164,7 @@ fn move_past<'t, 's>(
     Ok(Some((bars, next)))
 }
 
-/// Adds the tokens of a run as they are, and goes on at the spot behind them.
+/// Adds the tokens of a run without reading types in them, and goes on at the spot after them.
 fn move_past_run<'t, 's>(
     alloc: Global,
     run: Tokens<'t, 's>,
@@ -174,15 +176,15 @@ fn move_past_run<'t, 's>(
         (spot_of next.entry) →
         GivesMove levels spot (map tree_of parts.old.items) (map tree_of parts.new.items) result }
 {
-    let mut kept = Vec::new(alloc);
-    match keep_tokens(run, &mut kept) {
-        Ok(()) => move_past(false, Part::Still(kept), next, parts),
+    let mut inner = Vec::new(alloc);
+    match keep_tokens(run, &mut inner) {
+        Ok(()) => move_past(false, Part::Still(inner), next, parts),
         Err(_) => Err(TypeFault::Memory),
     }
 }
 
-/// Adds a part that stays as it is, with one part inside it, and goes on at the spot behind it.
-fn move_past_kept<'t, 's>(
+/// Adds a part that is never replaced, made of the one part `part`, and goes on at the spot `next`.
+fn move_past_still<'t, 's>(
     alloc: Global,
     part: Part<'s>,
     next: Spot<'t, 's>,
@@ -194,12 +196,12 @@ fn move_past_kept<'t, 's>(
         GivesMove levels spot (map tree_of parts.old.items) (map tree_of parts.new.items) result }
 {
     match begun_parts(alloc, part) {
-        Ok(kept) => move_past(false, Part::Still(kept), next, parts),
+        Ok(inner) => move_past(false, Part::Still(inner), next, parts),
         Err(_) => Err(TypeFault::Memory),
     }
 }
 
-/// Adds the type that comes next, and goes on at a place behind it.
+/// Reads a type, adds it, and goes on at a place after it.
 #[cycle(types)]
 fn move_past_type<'t, 's>(
     alloc: Global,
@@ -214,12 +216,12 @@ fn move_past_type<'t, 's>(
         (map tree_of parts.new.items) result }
 {
     match type_at(alloc, levels, plus, spot.run) {
-        Ok((part, rest)) => move_past(false, part, behind_type(spot, place, rest), parts),
+        Ok((part, rest)) => move_past(false, part, after_type(spot, place, rest), parts),
         Err(fault) => Err(fault),
     }
 }
 
-/// Adds the type that comes next, which stays as it is, and goes on at a place behind it.
+/// Reads a type, adds it as a part that is never replaced, and goes on at a place after it.
 #[cycle(types)]
 fn move_past_still_type<'t, 's>(
     alloc: Global,
@@ -233,12 +235,13 @@ fn move_past_still_type<'t, 's>(
         (map tree_of parts.new.items) result }
 {
     match type_at(alloc, levels, true, spot.run) {
-        Ok((part, rest)) => move_past_kept(alloc, part, behind_type(spot, place, rest), parts),
+        Ok((part, rest)) => move_past_still(alloc, part, after_type(spot, place, rest), parts),
         Err(fault) => Err(fault),
     }
 }
 
-/// Adds the token with which a path or bounds begin and their parts, and goes on at a place behind.
+/// Adds the first token of a path or of bounds and then their parts, and goes on at a place after
+/// them.
 #[cycle(types)]
 fn move_past_nest<'t, 's>(
     alloc: Global,
@@ -255,12 +258,12 @@ fn move_past_nest<'t, 's>(
     let (leaf, inner) = opening;
     add_leaf(leaf, parts)?;
     match parts_at(alloc, levels, inner, parts) {
-        Ok((barred, rest)) => Ok(Some((barred, behind_type(spot, place, rest)))),
+        Ok((barred, rest)) => Ok(Some((barred, after_type(spot, place, rest)))),
         Err(fault) => Err(fault),
     }
 }
 
-/// Adds the parts of what comes next at a spot.
+/// Adds the parts of the next step at a spot.
 #[cycle(types)]
 fn make_step<'t, 's>(
     alloc: Global,
@@ -286,7 +289,8 @@ fn make_step<'t, 's>(
     }
 }
 
-/// Adds the next parts at a place inside a type: whether one of them bars the type, and the place behind them; `None` where nothing comes next.
+/// Adds the next parts at a spot. Returns whether one of them makes the type one that is not
+/// supported, and the spot after them; `None` if nothing comes next.
 #[cycle(types)]
 fn move_on<'t, 's>(
     alloc: Global,
@@ -297,13 +301,14 @@ fn move_on<'t, 's>(
     ensures { GivesMove levels (spot_of spot.entry) (map tree_of parts.old.items)
         (map tree_of parts.new.items) result }
 {
-    match next_at(spot.place, spot.run, spot.behind) {
+    match next_at(spot.place, spot.run, spot.outside) {
         Ok(step) => make_step(alloc, levels, step, spot, parts),
         Err(stop) => Err(TypeFault::from(stop)),
     }
 }
 
-/// Adds the parts from a place to the end of what was begun there: whether one of them bars the type, and what is behind them.
+/// Adds the parts from a spot to the end of what was begun there. Returns whether one of them makes
+/// the type one that is not supported, and the tokens after them.
 #[cycle(types)]
 fn parts_at<'t, 's>(
     alloc: Global,
@@ -320,10 +325,10 @@ fn parts_at<'t, 's>(
         barred = barred | bars;
         spot = next;
     }
-    Ok((barred, behind_all(spot)))
+    Ok((barred, after_all(spot)))
 }
 
-/// From the first of the tokens up to the rest.
+/// Returns the span of the tokens before the rest.
 fn span_before<'t, 's>(tokens: Tokens<'t, 's>, rest: Tokens<'t, 's>) -> Span
     requires { IsRestOf (tokens_of tokens) (tokens_of rest) }
     ensures { (split : IsRestOf (tokens_of tokens.entry) (tokens_of rest.entry)) →
@@ -333,7 +338,8 @@ fn span_before<'t, 's>(tokens: Tokens<'t, 's>, rest: Tokens<'t, 's>) -> Span
     front.span()
 }
 
-/// The type with which the tokens begin, where they begin with no name, and what is behind it.
+/// Returns the type with which the tokens begin, if that is more than a name, and the tokens after
+/// it.
 #[cycle(types)]
 fn formed_at<'t, 's>(
     alloc: Global,
@@ -367,8 +373,8 @@ fn formed_at<'t, 's>(
     Ok((Part::Whole(parts), rest))
 }
 
-/// The type with which the tokens begin, and what is behind it. At most `levels` types stand inside one another, the outermost counted.
-/// Where `plus` does not hold, `+` joins no bounds.
+/// Returns the type with which the tokens begin, and the tokens after it. At most `levels` types
+/// can stand inside one another; the outermost one counts. `+` joins bounds only if `plus` holds.
 #[cycle(types)]
 pub(crate) fn type_at<'t, 's>(
     alloc: Global,
@@ -389,7 +395,13 @@ pub(crate) fn type_at<'t, 's>(
     Ok((Part::Name(name), rest))
 }
 
-/// The type with which the tokens begin, and what is behind it. At most 128 types stand inside one another.
+/// Returns the type with which the tokens begin, and the tokens after it.
+///
+/// # Errors
+///
+/// `Unsupported` with the span of a type that is not supported, `Mismatch` with the span of the
+/// first token that does not fit, `LimitNesting` if more than 128 types stand inside one another,
+/// and `Memory` if there is not enough memory.
 pub fn read_type<'t, 's>(
     alloc: Global,
     tokens: Tokens<'t, 's>,

@@ -1,7 +1,7 @@
-//! The written form of a type, place by place: what may come next.
+//! The grammar of types, place by place: what can come next.
 ghost use Rattle.logos_token.specs.Views.{tokens_of};
 ghost use Rattle.logos_type_reader.specs.Table.{next_at};
-ghost use Rattle.logos_type_reader.specs.ReadingViews.{behind_of, spot_of, IsStep};
+ghost use Rattle.logos_type_reader.specs.ReadingViews.{outside_of, spot_of, IsStep};
 ghost use Rattle.logos_type_reader.specs.inside.Actions.{IsAction};
 
 mod acting;
@@ -23,8 +23,8 @@ use functions::{
     taken_value_step, typed_step, unsafe_step, variadic_end_step, variadic_step,
 };
 use groups::{
-    element_end_step, length_step, list_end_step, list_step, pointer_step, referent_step,
-    self_closed_step, self_end_step, self_trait_end_step,
+    element_end_step, length_step, pointer_step, referent_step, self_closed_step, self_end_step,
+    self_trait_end_step, tuple_end_step, tuple_step,
 };
 use logos_token::token::{Delimiter, Tokens};
 pub(crate) use openings::{begin, read_name};
@@ -33,13 +33,13 @@ use paths::{
     input_end_step, inputs_step, macro_step, named_step, output_step, path_step, segments_step,
 };
 pub(crate) use place::{Place, Spot, Step, Stop};
-use place::{Action, Behind, BoundKind, Next, PathKind};
+use place::{Action, BoundKind, Next, Outside, PathKind};
 
-/// What is to be done at a place inside a type.
+/// Returns what is to be done at a place inside a type.
 #[tactic(auto, unfolding(crate::specs::Table::next_at))]
 fn action_at(at: &Spot<'_, '_>) -> Next
     ensures { IsAction result (spot_of at.now)
-        (next_at at.now.place (tokens_of at.now.run) (behind_of at.now.behind)) }
+        (next_at at.now.place (tokens_of at.now.run) (outside_of at.now.outside)) }
 {
     match at.place {
         Place::End => Ok(Action::End),
@@ -64,8 +64,8 @@ fn action_at(at: &Spot<'_, '_>) -> Next
         Place::Referent => referent_step(at),
         Place::Pointer => pointer_step(at),
         Place::Target => Ok(Action::Ask(false, Place::End)),
-        Place::List => list_step(at),
-        Place::ListEnd => list_end_step(at),
+        Place::List => tuple_step(at),
+        Place::ListEnd => tuple_end_step(at),
         Place::Element => Ok(Action::Ask(true, Place::ElementEnd)),
         Place::ElementEnd => element_end_step(at),
         Place::Length => length_step(at),
@@ -94,17 +94,21 @@ fn action_at(at: &Spot<'_, '_>) -> Next
     }
 }
 
-/// What comes next at a place inside a type.
+/// Returns the next step at a place inside a type.
 pub(crate) fn next_at<'t, 's>(
     place: Place,
     run: Tokens<'t, 's>,
-    behind: Behind<'t, 's>,
+    outside: Outside<'t, 's>,
 ) -> Result<Step<'t, 's>, Stop>
-    ensures { IsStep result (next_at place (tokens_of run.entry) (behind_of behind.entry)) }
+    ensures { IsStep result (next_at place (tokens_of run.entry) (outside_of outside.entry)) }
 {
-    let at = Spot { place, run, behind };
+    let at = Spot {
+        place,
+        run,
+        outside,
+    };
     match action_at(&at) {
-        Ok(action) => act(action, run, behind),
+        Ok(action) => act(action, run, outside),
         Err(stop) => Err(stop),
     }
 }

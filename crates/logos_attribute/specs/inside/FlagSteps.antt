@@ -5,17 +5,17 @@ use Rattle.logos_token.specs.Tokens.{TokenList, count_of}
 use Rattle.logos_token.specs.Views.{tokens_of}
 use Rattle.logos_token.specs.declared.token.views.Tokens.{Tokens}
 use Rattle.logos_attribute.specs.Slices.{Slice}
-use Rattle.logos_attribute.specs.Told.{Tells}
-use Rattle.logos_attribute.specs.Flags.{flags_told, behind_flag}
+use Rattle.logos_attribute.specs.Reports.{IsReport}
+use Rattle.logos_attribute.specs.Flags.{flags_report, after_flag}
 
--- behind `case`: the flags go on behind a comma, or they end here
+-- after `case`: the flags go on after a comma, or they end here
 abbrev pub GoesOn : Slice → TokenList → List Fault → List Fault → Option Tokens → Type 0
 GoesOn name run old new next = MatchOption next
-    (Tells (behind_flag name run) true old new)
-    (λ rest. (behind_flag name run ≡ flags_told name true true (tokens_of rest)) × (new ≡ old) × (count_of (tokens_of rest) < count_of run))
+    (IsReport (after_flag name run) true old new)
+    (λ rest. (after_flag name run ≡ flags_report name true true (tokens_of rest)) × (new ≡ old) × (count_of (tokens_of rest) < count_of run))
 
 -- `case` comes first, or the flags end here
 abbrev pub HasCase : Slice → Bool → TokenList → List Fault → List Fault → Option Tokens → Type 0
 HasCase name found run old new next = MatchOption next
-    ((ignore_case : Bool) → Tells (flags_told name found ignore_case run) ignore_case old new)
-    (λ rest. ((ignore_case : Bool) → flags_told name found ignore_case run ≡ behind_flag name (tokens_of rest)) × (new ≡ old) × (count_of (tokens_of rest) < count_of run))
+    ((ignore_case : Bool) → IsReport (flags_report name found ignore_case run) ignore_case old new)
+    (λ rest. ((ignore_case : Bool) → flags_report name found ignore_case run ≡ after_flag name (tokens_of rest)) × (new ≡ old) × (count_of (tokens_of rest) < count_of run))

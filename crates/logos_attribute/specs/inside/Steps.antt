@@ -1,8 +1,8 @@
 -- What is known between the steps of a reading.
 use Rattle.std.specs.Prelude.{◌≡◌, List, ◌++◌}
 use Rattle.logos_token.specs.Faults.{Fault}
-use Rattle.logos_attribute.specs.Told.{Told}
+use Rattle.logos_attribute.specs.Reports.{Report}
 
--- what is told of the whole is what is told of the rest, behind the faults that are listed by then
-abbrev pub Completes : {A : Type 0} → Told A → List Fault → Told A → List Fault → Type 0
+-- The report of the whole is the report of the rest, with the faults that were already reported before it.
+abbrev pub Completes : {A : Type 0} → Report A → List Fault → Report A → List Fault → Type 0
 Completes whole old rest now = (whole.value ≡ rest.value) × (old ++ whole.faults ≡ now ++ rest.faults)

@@ -2,7 +2,8 @@
 ghost use Rattle.std.specs.Prelude.{◌≡◌, IfOk};
 ghost use Rattle.logos_code.specs.CodeView.{code_of, IsKept};
 
-use super::rows::rows_of;
+use super::masks::masks_of;
+use super::rows::{first_row, rows_of};
 use super::signs::signs_of;
 use super::uses::uses_of;
 use super::{Code, CodeParts};
@@ -17,11 +18,15 @@ pub fn make_code<'s>(alloc: Global, parts: CodeParts<'s>) -> Result<Code<'s>, Al
     ensures { IfOk result (λ code. code ≡ code_of parts.entry) }
 {
     let rows = rows_of(alloc, &parts)?;
+    let masks = masks_of(alloc, &parts)?;
     let signs = signs_of(alloc, &parts)?;
     let uses = uses_of(alloc, &parts)?;
+    let first = first_row(&rows[parts.root]);
     Ok(Code {
         parts,
+        first,
         rows,
+        masks,
         signs,
         uses,
     })

@@ -1,5 +1,5 @@
-//! Rows: what each byte does in a state, found by one look.
-ghost use Rattle.std.specs.Prelude.{◌≡◌, ◌==◌, ◌<◌, ◌⊎◌, false, ℕ, List, length, map};
+//! Rows: what each byte does in each state, as one number.
+ghost use Rattle.std.specs.Prelude.{◌≡◌, ◌<◌, ◌⊎◌, false, ℕ, List, length, map};
 ghost use Rattle.std.specs.Prelude.{None, Some, option_map, IfOk, IfSome, slice_index_or};
 ghost use Rattle.logos_byte_class.specs.Bytes.{comparison_of, some_compares};
 ghost use Rattle.logos_code.specs.Bytes.{passes_test};
@@ -7,76 +7,111 @@ ghost use Rattle.logos_code.specs.Code.{by_conditions};
 ghost use Rattle.logos_code.specs.Headline.{IsSound, NamesTest, NamesState};
 ghost use Rattle.logos_code.specs.Headline.{NamesCondition, NamesFork, NamesWhatIsThere};
 ghost use Rattle.logos_code.specs.Runs.{stays, target, passes};
-ghost use Rattle.logos_code.specs.CodeView.{mark_of, condition_of, branch_of, fork_of};
+ghost use Rattle.logos_code.specs.CodeView.{mark_of, condition_of, branch_of, fork_of, use_of};
 ghost use Rattle.logos_code.specs.CodeView.{jumps_of, state_of, has_mask, code_of};
-ghost use Rattle.logos_code.specs.Rows.{closing, IsStepOf, Says, IsEntry, IsRow, AreRows};
+ghost use Rattle.logos_code.specs.Rows.{closing, IsStepOf, first_halting, first_closing, IsUse};
+ghost use Rattle.logos_code.specs.Rows.{IsPlainUse, Says, IsHalting, IsEntry, IsRow, AreRows};
+ghost use Rattle.logos_code.specs.Rows.{IsFirstEntry, IsFirstOf};
 
-use super::{CodeParts, CodeState, Condition, Fork, Mark, target_of};
+use super::{CodeLeaf, CodeParts, CodeState, Condition, Fork, Mark, target_of};
 use logos_byte_class::byte_class::Comparisons;
 use logos_hir::leaf::LeafId;
+use logos_pattern::leaf::VariantKind;
 use std::alloc::{AllocError, Global};
 
-/// The entry of a row for a byte that the state's fast loop takes.
-const STAYS: u32 = u32::MAX - 1;
+/// How many states, tests and leaves entries can name.
+const NAMED: u32 = 1 << 28;
 
-/// Whether the fast loop takes a byte with this entry.
-#[inline(always)]
-pub fn is_staying(entry: u32) -> bool
-    ensures { result ≡ (entry == 4294967294) }
-{
-    entry == STAYS
+/// An entry below `STAYS` leads to the state with its number. Any other entry is the first of its kind plus the number of
+/// what it names. An entry of this kind names a test: the byte stays in the state, whose fast loop has this test.
+pub const STAYS: u32 = NAMED;
+
+/// The first entry that names a leaf whose match ends before the byte, and is skipped without a callback.
+pub const LEAVES: u32 = 2 * NAMED;
+
+/// The first entry that names a leaf whose match ends before the byte, and is a token without a callback.
+pub const HALTS: u32 = 3 * NAMED;
+
+/// The first entry that names a leaf whose match ends after the byte, and is a token without a callback.
+pub const CLOSES: u32 = 4 * NAMED;
+
+/// The first entry that names a leaf whose match ends after the byte, and is skipped without a callback.
+pub const SHUTS: u32 = 5 * NAMED;
+
+/// The first entry that names a leaf whose match ends before the byte, and is up to a callback.
+pub const ASKS: u32 = 6 * NAMED;
+
+/// The first entry that names a leaf whose match ends after the byte, and is up to a callback.
+pub const ASKS_AFTER: u32 = 7 * NAMED;
+
+/// The first entry that says nothing of its byte.
+pub const UNSAID: u32 = 8 * NAMED;
+
+/// What becomes of the matches of a leaf, as far as entries say it.
+#[derive(Clone, Copy)]
+pub enum MatchUse {
+    /// They are tokens, without a callback.
+    Emits,
+    /// They are skipped, without a callback.
+    Skips,
+    /// A callback may decide.
+    Asks,
 }
 
-/// The entry of a row that says nothing of its byte.
-const UNSAID: u32 = u32::MAX;
-
-/// How many states and leaves entries name.
-const NAMED: u32 = 1 << 30;
-
-/// What a byte does in a state whose fast loop does not take it.
+/// What a byte does in a state.
 #[derive(Clone, Copy)]
 pub enum Step {
     /// It leads to this state.
     Leads(usize),
-    /// It leads to a state that marks a match of this leaf, and does nothing else.
-    Closes(LeafId),
+    /// It stays in the state, whose fast loop has this test.
+    Stays(usize),
     /// It leads nowhere, and a match of this leaf ends before it.
-    Halts(LeafId),
+    Halts(LeafId, MatchUse),
+    /// It leads to a state that marks a match of this leaf, and does nothing else.
+    Closes(LeafId, MatchUse),
     /// It does something that entries do not name.
     Unsaid,
 }
 
-/// The step that the entry of a byte stands for that does not stay.
-#[inline(always)]
-pub fn step_of(entry: u32) -> Step
-    ensures { IsStepOf entry result }
-{
-    if entry < NAMED {
-        return Step::Leads(entry as usize);
-    }
-    if entry < 2 * NAMED {
-        return Step::Closes(LeafId((entry - NAMED) as usize));
-    }
-    if entry < 3 * NAMED {
-        return Step::Halts(LeafId((entry - 2 * NAMED) as usize));
-    }
-    Step::Unsaid
-}
-
-/// The entry that stands for the step.
-fn entry_of_step(step: Step) -> u32
-    ensures is { IsStepOf result step ⊎ (result ≡ 4294967295) }
-    ensures moves { (result == 4294967294) ≡ false }
+/// Returns the entry that stands for the step, or one that says nothing.
+pub(super) fn entry_of_step(step: Step) -> u32
+    ensures { IsStepOf result step ⊎ IsStepOf result Step.Unsaid }
 {
     match step {
         Step::Leads(state) if state < NAMED as usize => state as u32,
-        Step::Closes(leaf) if leaf.0 < NAMED as usize => NAMED + leaf.0 as u32,
-        Step::Halts(leaf) if leaf.0 < NAMED as usize => 2 * NAMED + leaf.0 as u32,
+        Step::Stays(test) if test < NAMED as usize => STAYS + test as u32,
+        Step::Halts(leaf, used) if leaf.0 < NAMED as usize => first_halting(used) + leaf.0 as u32,
+        Step::Closes(leaf, used) if leaf.0 < NAMED as usize => first_closing(used) + leaf.0 as u32,
         _ => UNSAID,
     }
 }
 
-/// The rows of all states.
+/// Returns the first entry for a match that ends before the byte.
+fn first_halting(used: MatchUse) -> u32
+    ensures { result ≡ first_halting used }
+{
+    match used {
+        MatchUse::Emits => HALTS,
+        MatchUse::Skips => LEAVES,
+        MatchUse::Asks => ASKS,
+    }
+}
+
+/// Returns the first entry for a match that ends after the byte.
+fn first_closing(used: MatchUse) -> u32
+    ensures { result ≡ first_closing used }
+{
+    match used {
+        MatchUse::Emits => CLOSES,
+        MatchUse::Skips => SHUTS,
+        MatchUse::Asks => ASKS_AFTER,
+    }
+}
+
+/// Makes the rows of all states.
+///
+/// # Errors
+/// Returns an error when memory runs out.
 pub(super) fn rows_of(alloc: Global, parts: &CodeParts) -> Result<Vec<[u32; 256]>, AllocError>
     requires { IsSound (code_of parts.now) }
     ensures { IfOk result (λ rows. AreRows (code_of parts.now) rows.items) }
@@ -88,7 +123,7 @@ pub(super) fn rows_of(alloc: Global, parts: &CodeParts) -> Result<Vec<[u32; 256]
     Ok(rows)
 }
 
-/// What each byte does in the state.
+/// Returns what each byte does in the state.
 fn row_of(parts: &CodeParts, state: &CodeState) -> [u32; 256]
     requires { NamesWhatIsThere (code_of parts.now)
         (state_of parts.now.jump_tables.items state.now) }
@@ -101,20 +136,40 @@ fn row_of(parts: &CodeParts, state: &CodeState) -> [u32; 256]
     row
 }
 
-/// What the byte does in the state.
+/// Returns what the byte does in the state.
 fn entry_at(parts: &CodeParts, state: &CodeState, byte: u8) -> u32
     requires { NamesWhatIsThere (code_of parts.now)
         (state_of parts.now.jump_tables.items state.now) }
     ensures { IsEntry (code_of parts.now)
         (state_of parts.now.jump_tables.items state.now) byte result }
 {
-    if parts.stays(state.fast_loop, byte) {
-        return STAYS;
-    }
     entry_of_step(parts.step(state, byte))
 }
 
-/// The leaf of the match that the state marks, if it does nothing else.
+/// Returns the row for the first byte of a try, from the row of the state in which tries begin. An entry of it leads to a
+/// state, closes a match or says nothing.
+pub(super) fn first_row(row: &[u32; 256]) -> [u32; 256]
+    ensures { IsFirstOf row.now result }
+{
+    let mut first = [UNSAID; 256];
+    for b in 0..256 {
+        first[b] = first_entry(row[b]);
+    }
+    first
+}
+
+/// Returns the entry of the row for first bytes.
+fn first_entry(entry: u32) -> u32
+    ensures { IsFirstEntry entry result }
+{
+    if entry < STAYS || entry >= CLOSES {
+        entry
+    } else {
+        UNSAID
+    }
+}
+
+/// Returns the leaf of the match that the state marks, if it does nothing else.
 fn closing_leaf(state: &CodeState) -> Option<LeafId>
     ensures { IfSome result (λ leaf. (tables : List (List ℕ)) →
         state_of tables state.now ≡ closing leaf.0) }
@@ -128,7 +183,7 @@ fn closing_leaf(state: &CodeState) -> Option<LeafId>
     early_leaf(state.mark)
 }
 
-/// The leaf of a mark that is not late.
+/// Returns the leaf of a mark that is not late.
 pub(super) fn early_leaf(mark: Option<Mark>) -> Option<LeafId>
     ensures { IfSome result (λ leaf. option_map mark_of mark
         ≡ Some (record { leaf = leaf.0; late = false })) }
@@ -140,7 +195,7 @@ pub(super) fn early_leaf(mark: Option<Mark>) -> Option<LeafId>
 }
 
 impl CodeParts<'_> {
-    /// Whether the fast loop takes the byte.
+    /// Returns whether the fast loop takes the byte.
     fn stays(&self, fast_loop: Option<usize>, byte: u8) -> bool
         requires { IfSome fast_loop (NamesTest (code_of self.now)) }
         ensures { result ≡ stays (code_of self.now) fast_loop byte }
@@ -151,26 +206,60 @@ impl CodeParts<'_> {
         }
     }
 
-    /// What the byte does in the state, where its fast loop does not take it.
+    /// Returns what the byte does in the state.
     fn step(&self, state: &CodeState, byte: u8) -> Step
         requires { NamesWhatIsThere (code_of self.now)
             (state_of self.now.jump_tables.items state.now) }
         ensures { Says (code_of self.now)
             (state_of self.now.jump_tables.items state.now) byte result }
     {
+        if !self.stays(state.fast_loop, byte) {
+            return self.step_out(state, byte);
+        }
+        match state.fast_loop {
+            Some(test) => Step::Stays(test),
+            None => Step::Unsaid,
+        }
+    }
+
+    /// Returns what a byte does that does not stay in the state.
+    fn step_out(&self, state: &CodeState, byte: u8) -> Step
+        requires there { NamesWhatIsThere (code_of self.now)
+            (state_of self.now.jump_tables.items state.now) }
+        requires out { stays (code_of self.now) state.now.fast_loop byte ≡ false }
+        ensures { Says (code_of self.now)
+            (state_of self.now.jump_tables.items state.now) byte result }
+    {
         let Some(target) = self.target(&state.fork, byte) else {
-            return match early_leaf(state.mark) {
-                Some(leaf) => Step::Halts(leaf),
-                None => Step::Unsaid,
-            };
+            return self.halting_step(state.mark);
         };
         match closing_leaf(&self.states[target]) {
-            Some(leaf) => Step::Closes(leaf),
+            Some(leaf) => Step::Closes(leaf, self.match_use(leaf)),
             None => Step::Leads(target),
         }
     }
 
-    /// Where the byte leads.
+    /// Returns what is done in a state with this mark where nothing leads on.
+    pub(super) fn halting_step(&self, mark: Option<Mark>) -> Step
+        ensures { IsHalting (code_of self.now) (option_map mark_of mark) result }
+    {
+        match early_leaf(mark) {
+            Some(leaf) => Step::Halts(leaf, self.match_use(leaf)),
+            None => Step::Unsaid,
+        }
+    }
+
+    /// Returns what becomes of the matches of the leaf.
+    fn match_use(&self, leaf: LeafId) -> MatchUse
+        ensures { IsUse (code_of self.now) leaf.0 result }
+    {
+        match self.leaves.get(leaf.0) {
+            Some(leaf) if leaf.callback.is_none() => plain_use(leaf),
+            _ => MatchUse::Asks,
+        }
+    }
+
+    /// Returns the state to which the byte leads, if it leads anywhere.
     pub(super) fn target(&self, fork: &Fork, byte: u8) -> Option<usize>
         requires { NamesFork (code_of self.now) (fork_of self.now.jump_tables.items fork.now) }
         ensures is { result ≡ target (code_of self.now)
@@ -183,7 +272,7 @@ impl CodeParts<'_> {
         }
     }
 
-    /// The target of the first of the branches whose condition holds.
+    /// Returns the target of the first of the branches whose condition holds.
     fn first_target(&self, branches: &[(Condition, usize)], byte: u8) -> Option<usize>
         requires { NamesFork (code_of self.now) (by_conditions (map branch_of branches.now)) }
         ensures { result ≡ target (code_of self.now)
@@ -197,7 +286,7 @@ impl CodeParts<'_> {
         None
     }
 
-    /// Whether the condition holds for the byte.
+    /// Returns whether the condition holds for the byte.
     fn passes(&self, condition: &Condition, byte: u8) -> bool
         requires { NamesCondition (code_of self.now) (condition_of condition.now) }
         ensures { result ≡ passes (code_of self.now) (condition_of condition.now) byte }
@@ -208,8 +297,8 @@ impl CodeParts<'_> {
         }
     }
 
-    /// Whether the byte passes the test with this number.
-    fn passes_test(&self, k: usize, byte: u8) -> bool
+    /// Returns whether the byte passes the test with this number.
+    pub(super) fn passes_test(&self, k: usize, byte: u8) -> bool
         requires { NamesTest (code_of self.now) k }
         ensures { result ≡ passes_test self.now.bit_tables.items k byte }
     {
@@ -217,14 +306,25 @@ impl CodeParts<'_> {
     }
 }
 
-/// The entry of a jump table for the byte.
+/// Returns what becomes of the matches of a leaf without a callback.
+fn plain_use(leaf: &CodeLeaf) -> MatchUse
+    requires { leaf.now.callback ≡ None }
+    ensures { IsPlainUse (use_of leaf.now) result }
+{
+    match leaf.kind {
+        VariantKind::Skip => MatchUse::Skips,
+        _ => MatchUse::Emits,
+    }
+}
+
+/// Returns where the jump table leads for the byte.
 fn jump(table: &[u32; 256], byte: u8) -> Option<usize>
     ensures { result ≡ slice_index_or (jumps_of table.now) byte None }
 {
     target_of(table[byte as usize])
 }
 
-/// Whether one of the comparisons holds for the byte.
+/// Returns whether one of the comparisons holds for the byte.
 fn some_holds(comparisons: &[Comparisons], byte: u8) -> bool
     ensures { result ≡ some_compares (map comparison_of comparisons.now) byte }
 {
@@ -236,7 +336,7 @@ fn some_holds(comparisons: &[Comparisons], byte: u8) -> bool
     false
 }
 
-/// Whether the table's entry for the byte has a bit of the mask.
+/// Returns whether the table's entry for the byte has a bit of the mask.
 fn has_mask(table: &[u8; 256], mask: u8, byte: u8) -> bool
     ensures { result ≡ has_mask table.now mask byte }
 {

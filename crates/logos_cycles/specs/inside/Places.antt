@@ -1,11 +1,11 @@
--- What shows where nodes stand among the components of a graph.
+-- Evidence of the components of a graph.
 use Rattle.std.specs.Prelude.{◌≡◌, ◌<◌, ◌⊎◌, ℕ, List, Some, Vec, Contains, length, map}
 use Rattle.std.specs.List.{slice_get}
 use Rattle.std.specs.declared.alloc.Global.{Global}
 use Rattle.logos_cycles.specs.Cycles.{targets_of}
 use Rattle.logos_cycles.specs.declared.evidence.Place.{Place}
 
--- the graph that lists of numbers are
+-- the lists of a call as a graph
 abbrev pub graph : List (Vec ℕ Global) → List (List ℕ)
 graph lists = map (λ list. list.items) lists
 
@@ -13,17 +13,17 @@ graph lists = map (λ list. list.items) lists
 abbrev pub Edge : List (List ℕ) → ℕ → ℕ → Type 0
 Edge graph from to = Contains (targets_of graph from) to
 
--- the second place is of a later component, or of the same one
+-- the second place is in a later component, or in the same one
 abbrev pub Follows : Place → Place → Type 0
 Follows place next = (place.order < next.order)
     ⊎ ((place.order ≡ next.order) × (place.root ≡ next.root))
 
--- each of these nodes is of a later component, or of the same one
+-- each of these nodes is in a later component, or in the same one
 abbrev pub FollowAll : List Place → Place → List ℕ → Type 0
 FollowAll places place targets = (to : ℕ) → Contains targets to → (next : Place) →
     slice_get places to ≡ Some next → Follows place next
 
--- an edge leads to a node of the same root that is nearer to it
+-- an edge leads to a node with the same root that is nearer to it
 pub record StepsToward (graph : List (List ℕ)) (places : List Place)
     (node : ℕ) (place : Place) : Type 0 where
   pub to : ℕ
@@ -36,7 +36,7 @@ pub record StepsToward (graph : List (List ℕ)) (places : List Place)
 abbrev pub GoesToward : List (List ℕ) → List Place → ℕ → Place → Type 0
 GoesToward graph places node place = (place.root ≡ node) ⊎ StepsToward graph places node place
 
--- an edge leads from a node of the same root that is nearer behind it
+-- an edge comes from a node with the same root that the root reaches in fewer edges
 pub record StepsFrom (graph : List (List ℕ)) (places : List Place)
     (node : ℕ) (place : Place) : Type 0 where
   pub from : ℕ
@@ -49,14 +49,14 @@ pub record StepsFrom (graph : List (List ℕ)) (places : List Place)
 abbrev pub ComesFrom : List (List ℕ) → List Place → ℕ → Place → Type 0
 ComesFrom graph places node place = (place.root ≡ node) ⊎ StepsFrom graph places node place
 
--- a node stands where it is said
+-- a node stands at its place: it leads to its root, its root leads to it, and its edges lead to its own component or to later ones
 pub record IsPlaced (graph : List (List ℕ)) (places : List Place)
     (node : ℕ) (place : Place) : Type 0 where
   pub toward : GoesToward graph places node place
   pub from : ComesFrom graph places node place
   pub follow : FollowAll places place (targets_of graph node)
 
--- each node stands where it is said
+-- each node stands at its place
 pub record IsEvidence (graph : List (List ℕ)) (places : List Place) : Type 0 where
   pub same_length : length places ≡ length graph
   pub placed : (node : ℕ) (place : Place) → slice_get places node ≡ Some place →

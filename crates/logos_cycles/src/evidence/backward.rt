@@ -2,28 +2,28 @@
 use crate::evidence::{Place, meets};
 use std::alloc::{AllocError, Global};
 
-/// An edge, as it is seen from the node to which it leads.
+/// An edge, seen from the node to which it leads.
 #[derive(Clone, Copy)]
 struct Arrow {
     from: usize,
-    /// Which of that node's edges it is.
+    /// The index of the edge among those of `from`.
     edge: usize,
 }
 
-/// How far the walks have come.
+/// The state of the walks against the edges.
 #[derive(Drop)]
 pub(crate) struct Backward {
-    /// Where the nodes stand, as far as they were met.
+    /// The places of the nodes; those that were met have their components.
     pub(crate) places: Vec<Place>,
     /// The edges that lead to each node.
     arrows: Vec<Vec<Arrow>>,
-    /// Which nodes were met.
+    /// For each node, whether it was met.
     met: Vec<bool>,
-    /// The nodes that were met, in that order.
+    /// The nodes that were met, in the order in which they were.
     order: Vec<usize>,
 }
 
-/// Notes the edges of a node where they lead.
+/// Adds the edges of a node to the lists of the nodes to which they lead.
 fn note_edges(arrows: &mut [Vec<Arrow>], from: usize, list: &[usize]) -> Result<(), AllocError> {
     for (edge, to) in list.iter().enumerate() {
         if let Some(row) = arrows.get_mut(*to) {
@@ -33,7 +33,7 @@ fn note_edges(arrows: &mut [Vec<Arrow>], from: usize, list: &[usize]) -> Result<
     Ok(())
 }
 
-/// So many empty lists.
+/// Returns `len` empty lists.
 fn no_arrows(alloc: Global, len: usize) -> Result<Vec<Vec<Arrow>>, AllocError> {
     let mut arrows = Vec::new(alloc);
     for _ in 0..len {
@@ -43,7 +43,11 @@ fn no_arrows(alloc: Global, len: usize) -> Result<Vec<Vec<Arrow>>, AllocError> {
 }
 
 impl Backward {
-    /// Walks that have met no node.
+    /// Returns the state before the first walk.
+    ///
+    /// # Errors
+    ///
+    /// `AllocError` if there is not enough memory.
     pub(crate) fn new(
         alloc: Global,
         lists: &[Vec<usize>],
@@ -62,7 +66,8 @@ impl Backward {
         })
     }
 
-    /// Places a node in a component, if it was not met: one of its edges leads nearer to the root.
+    /// Puts `node` into the component of `root`, unless it was met before. `edge` is its edge that
+    /// leads nearer to the root.
     fn place(
         &mut self,
         node: usize,
@@ -84,7 +89,7 @@ impl Backward {
         Ok(())
     }
 
-    /// How many edges lead to a node.
+    /// Returns how many edges lead to a node.
     fn arrow_count(&self, node: usize) -> usize {
         match self.arrows.get(node) {
             Some(row) => row.len(),
@@ -92,12 +97,12 @@ impl Backward {
         }
     }
 
-    /// One of the edges that lead to a node.
+    /// Returns one of the edges that lead to a node.
     fn arrow(&self, node: usize, at: usize) -> Option<Arrow> {
         self.arrows.get(node)?.get(at).copied()
     }
 
-    /// Places the nodes that lead to this one.
+    /// Puts the nodes that lead to `node` into its component.
     fn spread(&mut self, node: usize, root: usize, start: usize) -> Result<(), AllocError> {
         for at in 0..self.arrow_count(node) {
             if let Some(arrow) = self.arrow(node, at) {
@@ -107,7 +112,8 @@ impl Backward {
         Ok(())
     }
 
-    /// Goes through the nodes that were met from this place on, and places those that lead to them.
+    /// Visits the nodes that were met from the index `start` on, and puts those that lead to them
+    /// into the component.
     fn finish(&mut self, root: usize, start: usize) -> Result<(), AllocError> {
         let mut at = start;
         while let Some(node) = self.order.get(at).copied() {
@@ -117,7 +123,11 @@ impl Backward {
         Ok(())
     }
 
-    /// Goes through these nodes, from the last one.
+    /// Walks from each of these nodes, the last one first.
+    ///
+    /// # Errors
+    ///
+    /// `AllocError` if there is not enough memory.
     pub(crate) fn walk(&mut self, nodes: &[usize]) -> Result<(), AllocError> {
         for root in nodes.iter().rev() {
             let start = self.order.len();

@@ -1,29 +1,31 @@
-//! A walk along the edges, which leaves a node behind all that it leads to.
+//! A walk along the edges, which finishes a node after all nodes to which it leads.
 use crate::evidence::{Place, meets};
 use std::alloc::{AllocError, Global};
 
-/// A node whose edges are gone through.
+/// A node on the path, some of whose edges are still to be followed.
 #[derive(Clone, Copy)]
 struct Frame {
     node: usize,
-    /// Its next edge.
+    /// The index of its next edge.
     next: usize,
 }
 
-/// How far the walk has come.
+/// The state of the walk along the edges.
 #[derive(Drop)]
 pub(crate) struct Forward {
-    /// Through which edge each node was met, and how many nodes were on the path then.
+    /// For each node the edge through which it was met, and the length of the path then.
     pub(crate) places: Vec<Place>,
-    /// The nodes whose edges are all gone through, in that order.
+    /// The nodes that are finished, in the order in which they were.
     pub(crate) left: Vec<usize>,
-    /// Which nodes were met.
+    /// For each node, whether it was met.
     met: Vec<bool>,
-    /// The nodes whose edges are gone through, each led to by the one in front of it.
+    /// The path from the start to the current node. Each node on it was met through an edge of the
+    /// one before.
     path: Vec<Frame>,
 }
 
-/// How many steps a walk takes at most: one along each edge, and one to leave each node.
+/// Returns the greatest number of steps that a walk can take: one for each edge, and one to finish
+/// each node.
 fn steps_along(lists: &[Vec<usize>]) -> usize {
     let mut steps = lists.len();
     for list in lists {
@@ -33,7 +35,11 @@ fn steps_along(lists: &[Vec<usize>]) -> usize {
 }
 
 impl Forward {
-    /// A walk that has met none of so many nodes.
+    /// Returns the state before the walk through `len` nodes.
+    ///
+    /// # Errors
+    ///
+    /// `AllocError` if there is not enough memory.
     pub(crate) fn new(alloc: Global, len: usize) -> Result<Forward, AllocError> {
         let nowhere = Place {
             root: len,
@@ -54,7 +60,7 @@ impl Forward {
         })
     }
 
-    /// Follows an edge, and puts the node to which it leads on the path if it was not met.
+    /// Follows an edge. Adds the node to which it leads to the path, unless it was met before.
     fn follow(&mut self, from: usize, edge: usize, to: usize) -> Result<(), AllocError> {
         if !meets(&mut self.met, to) {
             return Ok(());
@@ -69,7 +75,7 @@ impl Forward {
         Ok(())
     }
 
-    /// Goes on from a node at the end of the path, which was taken off it.
+    /// Follows the next edge of the node that was last on the path, or finishes the node.
     fn step(&mut self, lists: &[Vec<usize>], frame: Frame) -> Result<(), AllocError> {
         let Some(list) = lists.get(frame.node) else {
             return Ok(());
@@ -85,7 +91,7 @@ impl Forward {
         self.follow(frame.node, frame.next, *to)
     }
 
-    /// Goes through all that is on the path and that it leads to, in at most so many steps.
+    /// Walks until the path is empty, for at most `steps` steps.
     fn finish(&mut self, lists: &[Vec<usize>], steps: usize) -> Result<(), AllocError> {
         for _ in 0..steps {
             let Some(frame) = self.path.pop() else {
@@ -96,7 +102,11 @@ impl Forward {
         Ok(())
     }
 
-    /// Goes through all nodes.
+    /// Walks from each node that was not met.
+    ///
+    /// # Errors
+    ///
+    /// `AllocError` if there is not enough memory.
     pub(crate) fn walk(&mut self, lists: &[Vec<usize>]) -> Result<(), AllocError> {
         let steps = steps_along(lists);
         for node in 0..lists.len() {

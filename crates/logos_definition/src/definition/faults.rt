@@ -1,24 +1,27 @@
-//! The faults of definitions: each function lists one.
+//! Reports faults of definitions. Each function adds one fault.
 ghost use Rattle.std.specs.Prelude.{OnOk};
 ghost use Rattle.logos_token.specs.Views.{tokens_of};
 ghost use Rattle.logos_attribute.specs.Slices.{ident_slice};
-ghost use Rattle.logos_attribute.specs.Told.{Lists};
+ghost use Rattle.logos_attribute.specs.Reports.{AddsFault};
 ghost use Rattle.logos_definition.specs.Definitions.{priority_value, priority_twice};
 ghost use Rattle.logos_definition.specs.Definitions.{priority_form, greedy_value, greedy_twice};
 ghost use Rattle.logos_definition.specs.Definitions.{greedy_form, callback_form, ignore_form};
 ghost use Rattle.logos_definition.specs.Definitions.{unknown_nested, named_expected};
 ghost use Rattle.logos_definition.specs.Definitions.{unexpected_token};
 
-use logos_attribute::listing::{list_form, list_named, list_run};
+use logos_attribute::reporting::{report_form, report_named, report_run};
 use logos_token::error::{Errors, FaultCode, Memory};
 use logos_token::token::{Ident, Tokens};
-use std::alloc::Global;
 
-/// Lists that a run is no number.
-pub(super) fn list_priority_value(tokens: Tokens<'_, '_>, errors: &mut Errors) -> Result<(), Memory>
-    ensures { OnOk result (Lists (priority_value (tokens_of tokens.entry)) errors.old errors.new) }
+/// Reports a priority that is not a number.
+pub(super) fn report_priority_value(
+    tokens: Tokens<'_, '_>,
+    errors: &mut Errors,
+) -> Result<(), Memory>
+    ensures { OnOk result
+        (AddsFault (priority_value (tokens_of tokens.entry)) errors.old errors.new) }
 {
-    list_run(
+    report_run(
         errors,
         FaultCode::PriorityValue,
         "Expected an unsigned integer",
@@ -26,11 +29,15 @@ pub(super) fn list_priority_value(tokens: Tokens<'_, '_>, errors: &mut Errors) -
     )
 }
 
-/// Lists a second priority.
-pub(super) fn list_priority_twice(tokens: Tokens<'_, '_>, errors: &mut Errors) -> Result<(), Memory>
-    ensures { OnOk result (Lists (priority_twice (tokens_of tokens.entry)) errors.old errors.new) }
+/// Reports a second priority.
+pub(super) fn report_priority_twice(
+    tokens: Tokens<'_, '_>,
+    errors: &mut Errors,
+) -> Result<(), Memory>
+    ensures { OnOk result
+        (AddsFault (priority_twice (tokens_of tokens.entry)) errors.old errors.new) }
 {
-    list_run(
+    report_run(
         errors,
         FaultCode::PriorityTwice,
         "Resetting previously set priority",
@@ -38,11 +45,12 @@ pub(super) fn list_priority_twice(tokens: Tokens<'_, '_>, errors: &mut Errors) -
     )
 }
 
-/// Lists another form of `priority`.
-pub(super) fn list_priority_form(name: Ident<'_>, errors: &mut Errors) -> Result<(), Memory>
-    ensures { OnOk result (Lists (priority_form (ident_slice name.entry)) errors.old errors.new) }
+/// Reports an unknown form of `priority`.
+pub(super) fn report_priority_form(name: Ident<'_>, errors: &mut Errors) -> Result<(), Memory>
+    ensures { OnOk result
+        (AddsFault (priority_form (ident_slice name.entry)) errors.old errors.new) }
 {
-    list_form(
+    report_form(
         errors,
         FaultCode::PriorityForm,
         "Expected: priority = <integer>",
@@ -50,11 +58,12 @@ pub(super) fn list_priority_form(name: Ident<'_>, errors: &mut Errors) -> Result
     )
 }
 
-/// Lists that a run is neither `true` nor `false`.
-pub(super) fn list_greedy_value(tokens: Tokens<'_, '_>, errors: &mut Errors) -> Result<(), Memory>
-    ensures { OnOk result (Lists (greedy_value (tokens_of tokens.entry)) errors.old errors.new) }
+/// Reports an `allow_greedy` that is neither `true` nor `false`.
+pub(super) fn report_greedy_value(tokens: Tokens<'_, '_>, errors: &mut Errors) -> Result<(), Memory>
+    ensures { OnOk result
+        (AddsFault (greedy_value (tokens_of tokens.entry)) errors.old errors.new) }
 {
-    list_run(
+    report_run(
         errors,
         FaultCode::GreedyValue,
         "Expected `true` or `false`",
@@ -62,11 +71,12 @@ pub(super) fn list_greedy_value(tokens: Tokens<'_, '_>, errors: &mut Errors) -> 
     )
 }
 
-/// Lists a second `allow_greedy`.
-pub(super) fn list_greedy_twice(tokens: Tokens<'_, '_>, errors: &mut Errors) -> Result<(), Memory>
-    ensures { OnOk result (Lists (greedy_twice (tokens_of tokens.entry)) errors.old errors.new) }
+/// Reports a second `allow_greedy`.
+pub(super) fn report_greedy_twice(tokens: Tokens<'_, '_>, errors: &mut Errors) -> Result<(), Memory>
+    ensures { OnOk result
+        (AddsFault (greedy_twice (tokens_of tokens.entry)) errors.old errors.new) }
 {
-    list_run(
+    report_run(
         errors,
         FaultCode::GreedyTwice,
         "Resetting previously set allow_greedy",
@@ -74,11 +84,11 @@ pub(super) fn list_greedy_twice(tokens: Tokens<'_, '_>, errors: &mut Errors) -> 
     )
 }
 
-/// Lists another form of `allow_greedy`.
-pub(super) fn list_greedy_form(name: Ident<'_>, errors: &mut Errors) -> Result<(), Memory>
-    ensures { OnOk result (Lists (greedy_form (ident_slice name.entry)) errors.old errors.new) }
+/// Reports an unknown form of `allow_greedy`.
+pub(super) fn report_greedy_form(name: Ident<'_>, errors: &mut Errors) -> Result<(), Memory>
+    ensures { OnOk result (AddsFault (greedy_form (ident_slice name.entry)) errors.old errors.new) }
 {
-    list_form(
+    report_form(
         errors,
         FaultCode::GreedyForm,
         "Expected: allow_greedy = ...",
@@ -86,11 +96,12 @@ pub(super) fn list_greedy_form(name: Ident<'_>, errors: &mut Errors) -> Result<(
     )
 }
 
-/// Lists another form of `callback`.
-pub(crate) fn list_callback_form(name: Ident<'_>, errors: &mut Errors) -> Result<(), Memory>
-    ensures { OnOk result (Lists (callback_form (ident_slice name.entry)) errors.old errors.new) }
+/// Reports an unknown form of `callback`.
+pub(crate) fn report_callback_form(name: Ident<'_>, errors: &mut Errors) -> Result<(), Memory>
+    ensures { OnOk result
+        (AddsFault (callback_form (ident_slice name.entry)) errors.old errors.new) }
 {
-    list_form(
+    report_form(
         errors,
         FaultCode::CallbackForm,
         "Expected: callback = ...",
@@ -98,11 +109,11 @@ pub(crate) fn list_callback_form(name: Ident<'_>, errors: &mut Errors) -> Result
     )
 }
 
-/// Lists another form of `ignore`.
-pub(super) fn list_ignore_form(name: Ident<'_>, errors: &mut Errors) -> Result<(), Memory>
-    ensures { OnOk result (Lists (ignore_form (ident_slice name.entry)) errors.old errors.new) }
+/// Reports an unknown form of `ignore`.
+pub(super) fn report_ignore_form(name: Ident<'_>, errors: &mut Errors) -> Result<(), Memory>
+    ensures { OnOk result (AddsFault (ignore_form (ident_slice name.entry)) errors.old errors.new) }
 {
-    list_form(
+    report_form(
         errors,
         FaultCode::IgnoreForm,
         "Expected: ignore(<flag>, ...)",
@@ -110,16 +121,12 @@ pub(super) fn list_ignore_form(name: Ident<'_>, errors: &mut Errors) -> Result<(
     )
 }
 
-/// Lists a name that no argument has.
-pub(super) fn list_unknown(
-    alloc: Global,
-    name: Ident<'_>,
-    errors: &mut Errors,
-) -> Result<(), Memory>
-    ensures { OnOk result (Lists (unknown_nested (ident_slice name.entry)) errors.old errors.new) }
+/// Reports an unknown name.
+pub(super) fn report_unknown(name: Ident<'_>, errors: &mut Errors) -> Result<(), Memory>
+    ensures { OnOk result
+        (AddsFault (unknown_nested (ident_slice name.entry)) errors.old errors.new) }
 {
-    list_named(
-        alloc,
+    report_named(
         errors,
         FaultCode::UnknownNested,
         "Unknown nested attribute: ",
@@ -128,12 +135,12 @@ pub(super) fn list_unknown(
     )
 }
 
-/// Lists tokens that belong to no argument.
-pub(crate) fn list_unexpected(tokens: Tokens<'_, '_>, errors: &mut Errors) -> Result<(), Memory>
+/// Reports tokens that belong to no argument.
+pub(crate) fn report_unexpected(tokens: Tokens<'_, '_>, errors: &mut Errors) -> Result<(), Memory>
     ensures { OnOk result
-        (Lists (unexpected_token (tokens_of tokens.entry)) errors.old errors.new) }
+        (AddsFault (unexpected_token (tokens_of tokens.entry)) errors.old errors.new) }
 {
-    list_run(
+    report_run(
         errors,
         FaultCode::UnexpectedToken,
         "Unexpected token in attribute",
@@ -141,11 +148,15 @@ pub(crate) fn list_unexpected(tokens: Tokens<'_, '_>, errors: &mut Errors) -> Re
     )
 }
 
-/// Lists an argument without a name.
-pub(crate) fn list_named_expected(tokens: Tokens<'_, '_>, errors: &mut Errors) -> Result<(), Memory>
-    ensures { OnOk result (Lists (named_expected (tokens_of tokens.entry)) errors.old errors.new) }
+/// Reports an argument without a name.
+pub(crate) fn report_named_expected(
+    tokens: Tokens<'_, '_>,
+    errors: &mut Errors,
+) -> Result<(), Memory>
+    ensures { OnOk result
+        (AddsFault (named_expected (tokens_of tokens.entry)) errors.old errors.new) }
 {
-    list_run(
+    report_run(
         errors,
         FaultCode::NamedExpected,
         "Expected a named argument at this position\n\nhint: If you are trying to define a callback here use: callback = ...",

@@ -1,8 +1,9 @@
-//! The faults of the options of a lexer: each function lists one, or one with the former place.
+//! Reports faults of the options of a lexer. Each function adds one fault, or one and the place of
+//! the former value.
 ghost use Rattle.std.specs.Prelude.{◌≡◌, ◌++◌, OnOk, Some};
 ghost use Rattle.logos_token.specs.Views.{tokens_of};
 ghost use Rattle.logos_attribute.specs.Slices.{ident_slice};
-ghost use Rattle.logos_attribute.specs.Told.{Lists};
+ghost use Rattle.logos_attribute.specs.Reports.{AddsFault};
 ghost use Rattle.logos_definition.specs.OptionFaults.{once_only, utf8_twice, extras_twice};
 ghost use Rattle.logos_definition.specs.OptionFaults.{error_twice, export_twice, skip_form};
 ghost use Rattle.logos_definition.specs.OptionFaults.{skip_group, utf8_value, utf8_form};
@@ -11,13 +12,12 @@ ghost use Rattle.logos_definition.specs.OptionFaults.{export_form, subpattern_fo
 ghost use Rattle.logos_definition.specs.OptionFaults.{source_old, unknown_logos, invalid_nested};
 ghost use Rattle.logos_definition.specs.OptionFaults.{type_form};
 
-use logos_attribute::listing::{list_form, list_named, list_run};
+use logos_attribute::reporting::{report_form, report_named, report_run};
 use logos_token::error::{Errors, FaultCode, Memory};
 use logos_token::token::{Ident, Span, Tokens};
-use std::alloc::Global;
 
-/// Lists that something is said here, and was said there before.
-fn list_twice(
+/// Reports a second value, and the place of the former one.
+fn report_twice(
     errors: &mut Errors,
     code: FaultCode,
     message: &str,
@@ -31,11 +31,11 @@ fn list_twice(
     Ok(())
 }
 
-/// Lists that the mode was said before, and where.
-pub(super) fn list_mode_twice(here: Span, there: Span, errors: &mut Errors) -> Result<(), Memory>
+/// Reports a second UTF-8 mode, and the place of the former one.
+pub(super) fn report_mode_twice(here: Span, there: Span, errors: &mut Errors) -> Result<(), Memory>
     ensures { OnOk result (errors.new ≡ errors.old ++ utf8_twice here (Some there)) }
 {
-    list_twice(
+    report_twice(
         errors,
         FaultCode::Utf8Twice,
         "Utf8 mode can be defined only once",
@@ -44,11 +44,15 @@ pub(super) fn list_mode_twice(here: Span, there: Span, errors: &mut Errors) -> R
     )
 }
 
-/// Lists that extras were said before, and where.
-pub(super) fn list_extras_twice(here: Span, there: Span, errors: &mut Errors) -> Result<(), Memory>
+/// Reports a second type of extras, and the place of the former one.
+pub(super) fn report_extras_twice(
+    here: Span,
+    there: Span,
+    errors: &mut Errors,
+) -> Result<(), Memory>
     ensures { OnOk result (errors.new ≡ errors.old ++ extras_twice here (Some there)) }
 {
-    list_twice(
+    report_twice(
         errors,
         FaultCode::ExtrasTwice,
         "Extras can be defined only once",
@@ -57,11 +61,11 @@ pub(super) fn list_extras_twice(here: Span, there: Span, errors: &mut Errors) ->
     )
 }
 
-/// Lists that a type of errors was said before, and where.
-pub(super) fn list_error_twice(here: Span, there: Span, errors: &mut Errors) -> Result<(), Memory>
+/// Reports a second error type, and the place of the former one.
+pub(super) fn report_error_twice(here: Span, there: Span, errors: &mut Errors) -> Result<(), Memory>
     ensures { OnOk result (errors.new ≡ errors.old ++ error_twice here (Some there)) }
 {
-    list_twice(
+    report_twice(
         errors,
         FaultCode::ErrorTwice,
         "Error type can be defined only once",
@@ -70,11 +74,15 @@ pub(super) fn list_error_twice(here: Span, there: Span, errors: &mut Errors) -> 
     )
 }
 
-/// Lists that a path was said before, and where.
-pub(super) fn list_export_twice(here: Span, there: Span, errors: &mut Errors) -> Result<(), Memory>
+/// Reports a second export path, and the place of the former one.
+pub(super) fn report_export_twice(
+    here: Span,
+    there: Span,
+    errors: &mut Errors,
+) -> Result<(), Memory>
     ensures { OnOk result (errors.new ≡ errors.old ++ export_twice here (Some there)) }
 {
-    list_twice(
+    report_twice(
         errors,
         FaultCode::ExportTwice,
         "Export path can be defined only once",
@@ -83,11 +91,11 @@ pub(super) fn list_export_twice(here: Span, there: Span, errors: &mut Errors) ->
     )
 }
 
-/// Lists another form of `skip`.
-pub(super) fn list_skip_form(name: Ident<'_>, errors: &mut Errors) -> Result<(), Memory>
-    ensures { OnOk result (Lists (skip_form (ident_slice name.entry)) errors.old errors.new) }
+/// Reports an unknown form of `skip`.
+pub(super) fn report_skip_form(name: Ident<'_>, errors: &mut Errors) -> Result<(), Memory>
+    ensures { OnOk result (AddsFault (skip_form (ident_slice name.entry)) errors.old errors.new) }
 {
-    list_form(
+    report_form(
         errors,
         FaultCode::SkipForm,
         "Expected: #[logos(skip \"regex literal\")] or #[logos(skip(...))]",
@@ -95,11 +103,11 @@ pub(super) fn list_skip_form(name: Ident<'_>, errors: &mut Errors) -> Result<(),
     )
 }
 
-/// Lists another form of `utf8`.
-pub(super) fn list_utf8_form(name: Ident<'_>, errors: &mut Errors) -> Result<(), Memory>
-    ensures { OnOk result (Lists (utf8_form (ident_slice name.entry)) errors.old errors.new) }
+/// Reports an unknown form of `utf8`.
+pub(super) fn report_utf8_form(name: Ident<'_>, errors: &mut Errors) -> Result<(), Memory>
+    ensures { OnOk result (AddsFault (utf8_form (ident_slice name.entry)) errors.old errors.new) }
 {
-    list_form(
+    report_form(
         errors,
         FaultCode::Utf8Form,
         "Expected: #[logos(utf8 = true)]",
@@ -107,11 +115,11 @@ pub(super) fn list_utf8_form(name: Ident<'_>, errors: &mut Errors) -> Result<(),
     )
 }
 
-/// Lists another form of `extras`.
-pub(super) fn list_extras_form(name: Ident<'_>, errors: &mut Errors) -> Result<(), Memory>
-    ensures { OnOk result (Lists (extras_form (ident_slice name.entry)) errors.old errors.new) }
+/// Reports an unknown form of `extras`.
+pub(super) fn report_extras_form(name: Ident<'_>, errors: &mut Errors) -> Result<(), Memory>
+    ensures { OnOk result (AddsFault (extras_form (ident_slice name.entry)) errors.old errors.new) }
 {
-    list_form(
+    report_form(
         errors,
         FaultCode::ExtrasForm,
         "Expected: #[logos(extras = SomeType)]",
@@ -119,11 +127,11 @@ pub(super) fn list_extras_form(name: Ident<'_>, errors: &mut Errors) -> Result<(
     )
 }
 
-/// Lists another form of `crate`.
-pub(super) fn list_crate_form(name: Ident<'_>, errors: &mut Errors) -> Result<(), Memory>
-    ensures { OnOk result (Lists (crate_form (ident_slice name.entry)) errors.old errors.new) }
+/// Reports an unknown form of `crate`.
+pub(super) fn report_crate_form(name: Ident<'_>, errors: &mut Errors) -> Result<(), Memory>
+    ensures { OnOk result (AddsFault (crate_form (ident_slice name.entry)) errors.old errors.new) }
 {
-    list_form(
+    report_form(
         errors,
         FaultCode::CrateForm,
         "Expected: #[logos(crate = path::to::logos)]",
@@ -131,11 +139,11 @@ pub(super) fn list_crate_form(name: Ident<'_>, errors: &mut Errors) -> Result<()
     )
 }
 
-/// Lists another form of `export_dir`.
-pub(super) fn list_export_form(name: Ident<'_>, errors: &mut Errors) -> Result<(), Memory>
-    ensures { OnOk result (Lists (export_form (ident_slice name.entry)) errors.old errors.new) }
+/// Reports an unknown form of `export_dir`.
+pub(super) fn report_export_form(name: Ident<'_>, errors: &mut Errors) -> Result<(), Memory>
+    ensures { OnOk result (AddsFault (export_form (ident_slice name.entry)) errors.old errors.new) }
 {
-    list_form(
+    report_form(
         errors,
         FaultCode::ExportForm,
         "Expected #[logos(export_dir = \"path/to/export/dir\")]",
@@ -143,11 +151,12 @@ pub(super) fn list_export_form(name: Ident<'_>, errors: &mut Errors) -> Result<(
     )
 }
 
-/// Lists another form of `subpattern`.
-pub(super) fn list_subpattern_form(name: Ident<'_>, errors: &mut Errors) -> Result<(), Memory>
-    ensures { OnOk result (Lists (subpattern_form (ident_slice name.entry)) errors.old errors.new) }
+/// Reports an unknown form of `subpattern`.
+pub(super) fn report_subpattern_form(name: Ident<'_>, errors: &mut Errors) -> Result<(), Memory>
+    ensures { OnOk result
+        (AddsFault (subpattern_form (ident_slice name.entry)) errors.old errors.new) }
 {
-    list_form(
+    report_form(
         errors,
         FaultCode::SubpatternForm,
         "Expected: #[logos(subpattern name = r\"regex\")]",
@@ -155,11 +164,11 @@ pub(super) fn list_subpattern_form(name: Ident<'_>, errors: &mut Errors) -> Resu
     )
 }
 
-/// Lists another form of `error`.
-pub(super) fn list_error_form(name: Ident<'_>, errors: &mut Errors) -> Result<(), Memory>
-    ensures { OnOk result (Lists (error_form (ident_slice name.entry)) errors.old errors.new) }
+/// Reports an unknown form of `error`.
+pub(super) fn report_error_form(name: Ident<'_>, errors: &mut Errors) -> Result<(), Memory>
+    ensures { OnOk result (AddsFault (error_form (ident_slice name.entry)) errors.old errors.new) }
 {
-    list_form(
+    report_form(
         errors,
         FaultCode::ErrorForm,
         "Expected: #[logos(error = SomeType)] or #[logos(error(SomeType[, callback))]",
@@ -167,11 +176,11 @@ pub(super) fn list_error_form(name: Ident<'_>, errors: &mut Errors) -> Result<()
     )
 }
 
-/// Lists the name `source`, in place of which `utf8` stands.
-pub(super) fn list_source_old(name: Ident<'_>, errors: &mut Errors) -> Result<(), Memory>
-    ensures { OnOk result (Lists (source_old (ident_slice name.entry)) errors.old errors.new) }
+/// Reports the name `source`, which `utf8` has replaced.
+pub(super) fn report_source_old(name: Ident<'_>, errors: &mut Errors) -> Result<(), Memory>
+    ensures { OnOk result (AddsFault (source_old (ident_slice name.entry)) errors.old errors.new) }
 {
-    list_form(
+    report_form(
         errors,
         FaultCode::SourceOld,
         "The `source` attribute is deprecated. Use the `utf8` attribute instead",
@@ -179,11 +188,11 @@ pub(super) fn list_source_old(name: Ident<'_>, errors: &mut Errors) -> Result<()
     )
 }
 
-/// Lists a `skip(..)` without a literal in front.
-pub(super) fn list_skip_group(tokens: Tokens<'_, '_>, errors: &mut Errors) -> Result<(), Memory>
-    ensures { OnOk result (Lists (skip_group (tokens_of tokens.entry)) errors.old errors.new) }
+/// Reports a `skip(..)` that does not begin with a literal.
+pub(super) fn report_skip_group(tokens: Tokens<'_, '_>, errors: &mut Errors) -> Result<(), Memory>
+    ensures { OnOk result (AddsFault (skip_group (tokens_of tokens.entry)) errors.old errors.new) }
 {
-    list_run(
+    report_run(
         errors,
         FaultCode::SkipGroup,
         "Expected #[logos(skip(\"regex literal\"[, [callback = ] callback, priority = priority]))]",
@@ -191,11 +200,11 @@ pub(super) fn list_skip_group(tokens: Tokens<'_, '_>, errors: &mut Errors) -> Re
     )
 }
 
-/// Lists a mode that is neither `true` nor `false`.
-pub(super) fn list_utf8_value(tokens: Tokens<'_, '_>, errors: &mut Errors) -> Result<(), Memory>
-    ensures { OnOk result (Lists (utf8_value (tokens_of tokens.entry)) errors.old errors.new) }
+/// Reports a UTF-8 mode that is neither `true` nor `false`.
+pub(super) fn report_utf8_value(tokens: Tokens<'_, '_>, errors: &mut Errors) -> Result<(), Memory>
+    ensures { OnOk result (AddsFault (utf8_value (tokens_of tokens.entry)) errors.old errors.new) }
 {
-    list_run(
+    report_run(
         errors,
         FaultCode::Utf8Value,
         "Expected a boolean literal: expected boolean literal",
@@ -203,18 +212,23 @@ pub(super) fn list_utf8_value(tokens: Tokens<'_, '_>, errors: &mut Errors) -> Re
     )
 }
 
-/// Lists a path that is a byte string.
-pub(super) fn list_export_bytes(tokens: Tokens<'_, '_>, errors: &mut Errors) -> Result<(), Memory>
-    ensures { OnOk result (Lists (export_bytes (tokens_of tokens.entry)) errors.old errors.new) }
+/// Reports an export path that is a byte string.
+pub(super) fn report_export_bytes(tokens: Tokens<'_, '_>, errors: &mut Errors) -> Result<(), Memory>
+    ensures { OnOk result
+        (AddsFault (export_bytes (tokens_of tokens.entry)) errors.old errors.new) }
 {
-    list_run(errors, FaultCode::ExportBytes, "Expected a &str", tokens)
+    report_run(errors, FaultCode::ExportBytes, "Expected a &str", tokens)
 }
 
-/// Lists tokens that are no argument.
-pub(super) fn list_invalid_nested(tokens: Tokens<'_, '_>, errors: &mut Errors) -> Result<(), Memory>
-    ensures { OnOk result (Lists (invalid_nested (tokens_of tokens.entry)) errors.old errors.new) }
+/// Reports tokens that are not an argument.
+pub(super) fn report_invalid_nested(
+    tokens: Tokens<'_, '_>,
+    errors: &mut Errors,
+) -> Result<(), Memory>
+    ensures { OnOk result
+        (AddsFault (invalid_nested (tokens_of tokens.entry)) errors.old errors.new) }
 {
-    list_run(
+    report_run(
         errors,
         FaultCode::InvalidNested,
         "Invalid nested attribute",
@@ -222,16 +236,12 @@ pub(super) fn list_invalid_nested(tokens: Tokens<'_, '_>, errors: &mut Errors) -
     )
 }
 
-/// Lists a name that no option has.
-pub(super) fn list_unknown_logos(
-    alloc: Global,
-    name: Ident<'_>,
-    errors: &mut Errors,
-) -> Result<(), Memory>
-    ensures { OnOk result (Lists (unknown_logos (ident_slice name.entry)) errors.old errors.new) }
+/// Reports an unknown name.
+pub(super) fn report_unknown_logos(name: Ident<'_>, errors: &mut Errors) -> Result<(), Memory>
+    ensures { OnOk result
+        (AddsFault (unknown_logos (ident_slice name.entry)) errors.old errors.new) }
 {
-    list_named(
-        alloc,
+    report_named(
         errors,
         FaultCode::UnknownLogos,
         "Unknown nested attribute #[logos(",
@@ -240,11 +250,11 @@ pub(super) fn list_unknown_logos(
     )
 }
 
-/// Lists another form of `type`.
-pub(super) fn list_type_form(name: Ident<'_>, errors: &mut Errors) -> Result<(), Memory>
-    ensures { OnOk result (Lists (type_form (ident_slice name.entry)) errors.old errors.new) }
+/// Reports an unknown form of `type`.
+pub(super) fn report_type_form(name: Ident<'_>, errors: &mut Errors) -> Result<(), Memory>
+    ensures { OnOk result (AddsFault (type_form (ident_slice name.entry)) errors.old errors.new) }
 {
-    list_form(
+    report_form(
         errors,
         FaultCode::TypeForm,
         "Expected: #[logos(type T = SomeType)]",

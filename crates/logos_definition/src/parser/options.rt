@@ -1,15 +1,16 @@
-//! The arguments of `logos(..)`, one after another.
+//! Adds the arguments of `logos(..)` one by one.
 
 use crate::definition::{Definition, read_definition};
 use crate::error_type::{ErrorType, error_in};
 use crate::parser::faults::{
-    list_crate_form, list_error_form, list_error_twice, list_export_bytes, list_export_form,
-    list_export_twice, list_extras_form, list_extras_twice, list_invalid_nested, list_mode_twice,
-    list_skip_form, list_skip_group, list_source_old, list_subpattern_form, list_type_form,
-    list_unknown_logos, list_utf8_form, list_utf8_value,
+    report_crate_form, report_error_form, report_error_twice, report_export_bytes,
+    report_export_form, report_export_twice, report_extras_form, report_extras_twice,
+    report_invalid_nested, report_mode_twice, report_skip_form, report_skip_group,
+    report_source_old, report_subpattern_form, report_type_form, report_unknown_logos,
+    report_utf8_form, report_utf8_value,
 };
 use crate::parser::{ExportPath, Parser, Utf8Mode};
-use logos_attribute::literal::{list_syntax, read_text, string_in};
+use logos_attribute::literal::{read_text, report_syntax, string_in};
 use logos_attribute::nested::{AttributeParser, Nested, NestedValue};
 use logos_attribute::value::boolean_in;
 use logos_pattern::pattern::Literal;
@@ -23,105 +24,105 @@ impl<'s> Parser<'s> {
     ghost use Rattle.logos_attribute.specs.Pieces.{grouped, named};
     ghost use Rattle.logos_token.specs.Views.{tokens_of};
     ghost use Rattle.logos_attribute.specs.Slices.{ident_slice, literal_slice};
-    ghost use Rattle.logos_attribute.specs.Told.{Tells, told_as, and_then};
-    ghost use Rattle.logos_attribute.specs.Literals.{text_told, string_in};
+    ghost use Rattle.logos_attribute.specs.Reports.{IsReport, map_report, and_then};
+    ghost use Rattle.logos_attribute.specs.Literals.{text_report, string_in};
     ghost use Rattle.logos_attribute.specs.LiteralViews.{literal_view};
     ghost use Rattle.logos_attribute.specs.Nested.{value_of, piece_of, pieces_left};
-    ghost use Rattle.logos_definition.specs.Definitions.{definition_told};
+    ghost use Rattle.logos_definition.specs.Definitions.{definition_report};
     ghost use Rattle.logos_definition.specs.ErrorTypeViews.{error_view};
-    ghost use Rattle.logos_definition.specs.Options.{skip_plain, skip_whole, skip_told};
-    ghost use Rattle.logos_definition.specs.Options.{mode_set, utf8_told, extras_set};
-    ghost use Rattle.logos_definition.specs.Options.{extras_told, crate_told, path_set};
-    ghost use Rattle.logos_definition.specs.Options.{held_path, export_told, subpattern_set};
-    ghost use Rattle.logos_definition.specs.Options.{subpattern_told, error_set, error_told};
-    ghost use Rattle.logos_definition.specs.Options.{setting_told, option_told};
+    ghost use Rattle.logos_definition.specs.Options.{skip_plain, skip_whole, skip_report};
+    ghost use Rattle.logos_definition.specs.Options.{mode_set, utf8_report, extras_set};
+    ghost use Rattle.logos_definition.specs.Options.{extras_report, crate_report, path_set};
+    ghost use Rattle.logos_definition.specs.Options.{held_path, export_report, subpattern_set};
+    ghost use Rattle.logos_definition.specs.Options.{subpattern_report, error_set, error_report};
+    ghost use Rattle.logos_definition.specs.Options.{setting_report, option_report};
     ghost use Rattle.logos_definition.specs.Arguments.{ErrorSays, TypeSays, PieceSays, PiecesSay};
     ghost use Rattle.logos_definition.specs.ParserViews.{parser_view};
 
-    /// Sets the mode that is assigned, in place of the former one.
+    /// Sets the UTF-8 mode, in place of a former one.
     fn set_mode(&mut self, tokens: Tokens<'_, 's>) -> Result<(), Memory>
-        ensures { OnOk result (Tells (mode_set (tokens_of tokens.entry) (parser_view self.old))
+        ensures { OnOk result (IsReport (mode_set (tokens_of tokens.entry) (parser_view self.old))
             (parser_view self.new) self.old.errors self.new.errors) }
     {
         let Some(value) = boolean_in(tokens) else {
-            return list_utf8_value(tokens, &mut self.errors);
+            return report_utf8_value(tokens, &mut self.errors);
         };
         let span = tokens.span();
         if let Some(former) = self.utf8_mode.replace(Utf8Mode { value, span }) {
-            list_mode_twice(span, former.span, &mut self.errors)?;
+            report_mode_twice(span, former.span, &mut self.errors)?;
         }
         Ok(())
     }
 
-    /// Adds what `utf8` says.
-    fn add_utf8(&mut self, name: Ident<'s>, value: NestedValue<'_, 's>) -> Result<(), Memory>
-        ensures { OnOk result (Tells
-            (utf8_told (ident_slice name.entry) (value_of value.entry) (parser_view self.old))
+    /// Adds the argument `utf8`.
+    fn add_utf8(&mut self, name: Ident<'s>, value: &NestedValue<'_, 's>) -> Result<(), Memory>
+        ensures { OnOk result (IsReport
+            (utf8_report (ident_slice name.entry) (value_of value.now) (parser_view self.old))
             (parser_view self.new) self.old.errors self.new.errors) }
     {
         match value {
-            NestedValue::Assign(tokens) => self.set_mode(tokens)?,
-            _ => list_utf8_form(name, &mut self.errors)?,
+            NestedValue::Assign(tokens) => self.set_mode(*tokens)?,
+            _ => report_utf8_form(name, &mut self.errors)?,
         }
         Ok(())
     }
 
-    /// Sets the extras that are assigned, in place of the former ones.
+    /// Sets the type of extras, in place of a former one.
     fn set_extras(&mut self, tokens: Tokens<'_, 's>) -> Result<(), Memory>
-        ensures { OnOk result (Tells (extras_set (tokens_of tokens.entry) (parser_view self.old))
+        ensures { OnOk result (IsReport (extras_set (tokens_of tokens.entry) (parser_view self.old))
             (parser_view self.new) self.old.errors self.new.errors) }
     {
         let stream = tokens.to_stream(self.alloc)?;
         if let MaybeVoid::Some(former) = self.extras.replace(stream) {
-            list_extras_twice(tokens.span(), former.run().span(), &mut self.errors)?;
+            report_extras_twice(tokens.span(), former.run().span(), &mut self.errors)?;
         }
         Ok(())
     }
 
-    /// Adds what `extras` says.
-    fn add_extras(&mut self, name: Ident<'s>, value: NestedValue<'_, 's>) -> Result<(), Memory>
-        ensures { OnOk result (Tells
-            (extras_told (ident_slice name.entry) (value_of value.entry) (parser_view self.old))
+    /// Adds the argument `extras`.
+    fn add_extras(&mut self, name: Ident<'s>, value: &NestedValue<'_, 's>) -> Result<(), Memory>
+        ensures { OnOk result (IsReport
+            (extras_report (ident_slice name.entry) (value_of value.now) (parser_view self.old))
             (parser_view self.new) self.old.errors self.new.errors) }
     {
         match value {
-            NestedValue::Assign(tokens) => self.set_extras(tokens)?,
-            _ => list_extras_form(name, &mut self.errors)?,
+            NestedValue::Assign(tokens) => self.set_extras(*tokens)?,
+            _ => report_extras_form(name, &mut self.errors)?,
         }
         Ok(())
     }
 
-    /// Adds what `crate` says: the path stands in place of the former one.
-    fn add_crate(&mut self, name: Ident<'s>, value: NestedValue<'_, 's>) -> Result<(), Memory>
-        ensures { OnOk result (Tells
-            (crate_told (ident_slice name.entry) (value_of value.entry) (parser_view self.old))
+    /// Adds the argument `crate`. Its path replaces a former one.
+    fn add_crate(&mut self, name: Ident<'s>, value: &NestedValue<'_, 's>) -> Result<(), Memory>
+        ensures { OnOk result (IsReport
+            (crate_report (ident_slice name.entry) (value_of value.now) (parser_view self.old))
             (parser_view self.new) self.old.errors self.new.errors) }
     {
         match value {
             NestedValue::Assign(tokens) => {
                 self.logos_path = Some(tokens.to_stream(self.alloc)?);
             }
-            _ => list_crate_form(name, &mut self.errors)?,
+            _ => report_crate_form(name, &mut self.errors)?,
         }
         Ok(())
     }
 
-    /// Sets the path of the exported chart, in place of the former one.
+    /// Sets the path of the exported chart, in place of a former one.
     fn set_path(&mut self, tokens: Tokens<'_, 's>, path: String) -> Result<(), Memory>
-        ensures { OnOk result (Tells
+        ensures { OnOk result (IsReport
             (path_set (tokens_of tokens.entry) (string_bytes path) (parser_view self.old))
             (parser_view self.new) self.old.errors self.new.errors) }
     {
         let span = tokens.span();
         if let Some(former) = self.export_path.replace(ExportPath { path, span }) {
-            list_export_twice(span, former.span, &mut self.errors)?;
+            report_export_twice(span, former.span, &mut self.errors)?;
         }
         Ok(())
     }
 
     /// Adds the path that a literal holds.
     fn add_path(&mut self, tokens: Tokens<'_, 's>, literal: &Literal<'s>) -> Result<(), Memory>
-        ensures { OnOk result (Tells
+        ensures { OnOk result (IsReport
             (held_path (tokens_of tokens.entry) (parser_view self.old)
             (literal_view literal.now).held)
             (parser_view self.new) self.old.errors self.new.errors) }
@@ -131,128 +132,133 @@ impl<'s> Parser<'s> {
                 let path = literal.escape(self.alloc, false)?;
                 self.set_path(tokens, path)?;
             }
-            Literal::Bytes(_) => list_export_bytes(tokens, &mut self.errors)?,
+            Literal::Bytes(_) => report_export_bytes(tokens, &mut self.errors)?,
         }
         Ok(())
     }
 
-    /// Adds what `export_dir` says.
-    fn add_export(&mut self, name: Ident<'s>, value: NestedValue<'_, 's>) -> Result<(), Memory>
-        ensures { OnOk result (Tells
-            (export_told (ident_slice name.entry) (value_of value.entry) (parser_view self.old))
+    /// Adds the argument `export_dir`.
+    fn add_export(&mut self, name: Ident<'s>, value: &NestedValue<'_, 's>) -> Result<(), Memory>
+        ensures { OnOk result (IsReport
+            (export_report (ident_slice name.entry) (value_of value.now) (parser_view self.old))
             (parser_view self.new) self.old.errors self.new.errors) }
     {
         match value {
-            NestedValue::Assign(tokens) => match string_in(self.alloc, tokens)? {
-                Some(literal) => self.add_path(tokens, &literal)?,
-                None => list_syntax(tokens, &mut self.errors)?,
+            NestedValue::Assign(tokens) => match string_in(self.alloc, *tokens)? {
+                Some(literal) => self.add_path(*tokens, &literal)?,
+                None => report_syntax(*tokens, &mut self.errors)?,
             },
-            _ => list_export_form(name, &mut self.errors)?,
+            _ => report_export_form(name, &mut self.errors)?,
         }
         Ok(())
     }
 
-    /// Adds a subpattern of this name.
+    /// Adds a subpattern with this name.
     fn set_subpattern(&mut self, name: Ident<'s>, tokens: Tokens<'_, 's>) -> Result<(), Memory>
-        ensures { OnOk result (Tells
+        ensures { OnOk result (IsReport
             (subpattern_set (ident_slice name.entry) (tokens_of tokens.entry)
             (parser_view self.old) (string_in (tokens_of tokens.entry)))
             (parser_view self.new) self.old.errors self.new.errors) }
     {
         match string_in(self.alloc, tokens)? {
             Some(literal) => self.subpatterns.push((name, literal))?,
-            None => list_syntax(tokens, &mut self.errors)?,
+            None => report_syntax(tokens, &mut self.errors)?,
         }
         Ok(())
     }
 
-    /// Adds what `subpattern` says.
-    fn add_subpattern(&mut self, name: Ident<'s>, value: NestedValue<'_, 's>) -> Result<(), Memory>
-        ensures { OnOk result (Tells
-            (subpattern_told (ident_slice name.entry) (value_of value.entry)
+    /// Adds the argument `subpattern`.
+    fn add_subpattern(&mut self, name: Ident<'s>, value: &NestedValue<'_, 's>) -> Result<(), Memory>
+        ensures { OnOk result (IsReport
+            (subpattern_report (ident_slice name.entry) (value_of value.now)
             (parser_view self.old))
             (parser_view self.new) self.old.errors self.new.errors) }
     {
         match value {
-            NestedValue::KeywordAssign(second, tokens) => self.set_subpattern(second, tokens)?,
-            _ => list_subpattern_form(name, &mut self.errors)?,
+            NestedValue::KeywordAssign(second, tokens) => self.set_subpattern(*second, *tokens)?,
+            _ => report_subpattern_form(name, &mut self.errors)?,
         }
         Ok(())
     }
 
-    /// Sets the type of errors that a run says, in place of the former one.
+    /// Sets the error type, in place of a former one. `tokens` is the value in the source.
     fn set_error(&mut self, tokens: Tokens<'_, 's>, error: ErrorType<'s>) -> Result<(), Memory>
-        ensures { OnOk result (Tells
+        ensures { OnOk result (IsReport
             (error_set (tokens_of tokens.entry) (error_view error.entry) (parser_view self.old))
             (parser_view self.new) self.old.errors self.new.errors) }
     {
         if let Some(former) = self.error_type.replace(error) {
-            list_error_twice(tokens.span(), former.span(), &mut self.errors)?;
+            report_error_twice(tokens.span(), former.span(), &mut self.errors)?;
         }
         Ok(())
     }
 
-    /// Adds what `error` says of a type alone.
-    fn add_error_alone(&mut self, name: Ident<'s>, value: NestedValue<'_, 's>) -> Result<(), Memory>
-        ensures { OnOk result (Tells
-            (error_told (ident_slice name.entry) (value_of value.entry) (parser_view self.old))
+    /// Adds the argument `error` in any other form than `error(..)`.
+    fn add_error_alone(
+        &mut self,
+        name: Ident<'s>,
+        value: &NestedValue<'_, 's>,
+    ) -> Result<(), Memory>
+        ensures { OnOk result (IsReport
+            (error_report (ident_slice name.entry) (value_of value.now) (parser_view self.old))
             (parser_view self.new) self.old.errors self.new.errors) }
     {
         match value {
             NestedValue::Assign(tokens) => {
                 let error = ErrorType::new(tokens.to_stream(self.alloc)?);
-                self.set_error(tokens, error)?;
+                self.set_error(*tokens, error)?;
             }
-            _ => list_error_form(name, &mut self.errors)?,
+            _ => report_error_form(name, &mut self.errors)?,
         }
         Ok(())
     }
 
-    /// Adds what `error(..)` says, and whether the arguments behind it are read.
+    /// Adds the argument `error(..)`. Returns whether the arguments after it are read.
     fn add_error_group(&mut self, name: Ident<'s>, group: Tokens<'_, 's>) -> Result<bool, Memory>
         ensures { IfOk result (λ goes_on. ErrorSays (ident_slice name.entry)
             (parser_view self.old) (parser_view self.new) self.old.errors self.new.errors
             (grouped (tokens_of group.entry)) goes_on) }
     {
-        let Some(error) = error_in(self.alloc, group, &mut self.errors)? else {
+        let Some(error) = error_in(group, &mut self.errors)? else {
             return Ok(false);
         };
         self.set_error(group, error)?;
         Ok(true)
     }
 
-    /// Adds what `error` says, and whether the arguments behind it are read.
-    fn add_error(&mut self, name: Ident<'s>, value: NestedValue<'_, 's>) -> Result<bool, Memory>
+    /// Adds the argument `error`. Returns whether the arguments after it are read.
+    fn add_error(&mut self, name: Ident<'s>, value: &NestedValue<'_, 's>) -> Result<bool, Memory>
         ensures { IfOk result (λ goes_on. ErrorSays (ident_slice name.entry)
             (parser_view self.old) (parser_view self.new) self.old.errors self.new.errors
-            (value_of value.entry) goes_on) }
+            (value_of value.now) goes_on) }
     {
         if let NestedValue::Group(group) = value {
-            return self.add_error_group(name, group);
+            return self.add_error_group(name, *group);
         }
         self.add_error_alone(name, value)?;
         Ok(true)
     }
 
-    /// Adds what `type` says.
-    fn add_type(&mut self, name: Ident<'s>, value: NestedValue<'_, 's>) -> Result<(), Memory>
+    /// Adds the argument `type`.
+    fn add_type(&mut self, name: Ident<'s>, value: &NestedValue<'_, 's>) -> Result<(), Memory>
         ensures { OnOk result (TypeSays (ident_slice name.entry)
             (parser_view self.old) (parser_view self.new) self.old.errors self.new.errors
-            (value_of value.entry)) }
+            (value_of value.now)) }
     {
         match value {
             NestedValue::KeywordAssign(second, tokens) => {
-                self.types.set(second, tokens, &mut self.errors)?
+                self.types.set(*second, *tokens, &mut self.errors)?
             }
-            _ => list_type_form(name, &mut self.errors)?,
+            _ => report_type_form(name, &mut self.errors)?,
         }
         Ok(())
     }
 
-    /// Adds the literal of a `skip`.
+    /// Adds the literal of `skip "..."`.
     fn skip_text(&mut self, token: token::Literal<'s>) -> Result<(), Memory>
-        ensures { OnOk result (Tells
-            (told_as (skip_plain (parser_view self.old)) (text_told (literal_slice token.entry)))
+        ensures { OnOk result (IsReport
+            (map_report (skip_plain (parser_view self.old))
+            (text_report (literal_slice token.entry)))
             (parser_view self.new) self.old.errors self.new.errors) }
     {
         if let Some(literal) = read_text(self.alloc, token, &mut self.errors)? {
@@ -263,36 +269,36 @@ impl<'s> Parser<'s> {
 
     /// Adds the definition in `skip(..)`.
     fn skip_group(&mut self, tokens: Tokens<'_, 's>) -> Result<(), Memory>
-        ensures { OnOk result (Tells
-            (and_then (definition_told (tokens_of tokens.entry))
+        ensures { OnOk result (IsReport
+            (and_then (definition_report (tokens_of tokens.entry))
             (skip_whole (tokens_of tokens.entry) (parser_view self.old)))
             (parser_view self.new) self.old.errors self.new.errors) }
     {
-        match read_definition(self.alloc, tokens, &mut self.errors)? {
+        match read_definition(tokens, &mut self.errors)? {
             Some(definition) => self.skips.push(definition)?,
-            None => list_skip_group(tokens, &mut self.errors)?,
+            None => report_skip_group(tokens, &mut self.errors)?,
         }
         Ok(())
     }
 
-    /// Adds what `skip` says.
-    fn add_skip(&mut self, name: Ident<'s>, value: NestedValue<'_, 's>) -> Result<(), Memory>
-        ensures { OnOk result (Tells
-            (skip_told (ident_slice name.entry) (value_of value.entry) (parser_view self.old))
+    /// Adds the argument `skip`.
+    fn add_skip(&mut self, name: Ident<'s>, value: &NestedValue<'_, 's>) -> Result<(), Memory>
+        ensures { OnOk result (IsReport
+            (skip_report (ident_slice name.entry) (value_of value.now) (parser_view self.old))
             (parser_view self.new) self.old.errors self.new.errors) }
     {
         match value {
-            NestedValue::Literal(token) => self.skip_text(token)?,
-            NestedValue::Group(tokens) => self.skip_group(tokens)?,
-            _ => list_skip_form(name, &mut self.errors)?,
+            NestedValue::Literal(token) => self.skip_text(*token)?,
+            NestedValue::Group(tokens) => self.skip_group(*tokens)?,
+            _ => report_skip_form(name, &mut self.errors)?,
         }
         Ok(())
     }
 
-    /// Adds an argument that says no pattern, path or type of errors.
-    fn add_setting(&mut self, name: Ident<'s>, value: NestedValue<'_, 's>) -> Result<(), Memory>
-        ensures { OnOk result (Tells
-            (setting_told (ident_slice name.entry) (value_of value.entry) (parser_view self.old))
+    /// Adds the argument `utf8`, `extras` or `crate`, and reports `source` and unknown names.
+    fn add_setting(&mut self, name: Ident<'s>, value: &NestedValue<'_, 's>) -> Result<(), Memory>
+        ensures { OnOk result (IsReport
+            (setting_report (ident_slice name.entry) (value_of value.now) (parser_view self.old))
             (parser_view self.new) self.old.errors self.new.errors) }
     {
         if name.text == "utf8" {
@@ -305,15 +311,15 @@ impl<'s> Parser<'s> {
             return self.add_crate(name, value);
         }
         if name.text == "source" {
-            return list_source_old(name, &mut self.errors);
+            return report_source_old(name, &mut self.errors);
         }
-        list_unknown_logos(self.alloc, name, &mut self.errors)
+        report_unknown_logos(name, &mut self.errors)
     }
 
-    /// Adds an argument with a name that says no type.
-    fn add_plain(&mut self, name: Ident<'s>, value: NestedValue<'_, 's>) -> Result<(), Memory>
-        ensures { OnOk result (Tells
-            (option_told (ident_slice name.entry) (value_of value.entry) (parser_view self.old))
+    /// Adds a named argument other than `error` and `type`.
+    fn add_plain(&mut self, name: Ident<'s>, value: &NestedValue<'_, 's>) -> Result<(), Memory>
+        ensures { OnOk result (IsReport
+            (option_report (ident_slice name.entry) (value_of value.now) (parser_view self.old))
             (parser_view self.new) self.old.errors self.new.errors) }
     {
         if name.text == "skip" {
@@ -328,11 +334,11 @@ impl<'s> Parser<'s> {
         self.add_setting(name, value)
     }
 
-    /// Adds an argument with a name, and whether those behind it are read.
-    fn add_named(&mut self, name: Ident<'s>, value: NestedValue<'_, 's>) -> Result<bool, Memory>
+    /// Adds a named argument. Returns whether the arguments after it are read.
+    fn add_named(&mut self, name: Ident<'s>, value: &NestedValue<'_, 's>) -> Result<bool, Memory>
         ensures { IfOk result (PieceSays
             (parser_view self.old) (parser_view self.new) self.old.errors self.new.errors
-            (named (ident_slice name.entry) (value_of value.entry))) }
+            (named (ident_slice name.entry) (value_of value.now))) }
     {
         if name.text == "error" {
             return self.add_error(name, value);
@@ -345,21 +351,21 @@ impl<'s> Parser<'s> {
         Ok(true)
     }
 
-    /// Adds an argument, and whether those behind it are read.
+    /// Adds an argument. Returns whether the arguments after it are read.
     fn add_piece(&mut self, piece: Nested<'_, 's>) -> Result<bool, Memory>
         ensures { IfOk result (PieceSays
             (parser_view self.old) (parser_view self.new) self.old.errors self.new.errors
             (piece_of piece.entry)) }
     {
         match piece {
-            Nested::Named(name, value) => return self.add_named(name, value),
-            Nested::Unnamed(tokens) => list_invalid_nested(tokens, &mut self.errors)?,
-            Nested::Unexpected(tokens) => list_invalid_nested(tokens, &mut self.errors)?,
+            Nested::Named(name, value) => return self.add_named(name, &value),
+            Nested::Unnamed(tokens) => report_invalid_nested(tokens, &mut self.errors)?,
+            Nested::Unexpected(tokens) => report_invalid_nested(tokens, &mut self.errors)?,
         }
         Ok(true)
     }
 
-    /// Adds all arguments, or those up to one behind which none is read.
+    /// Adds the arguments in order, up to one after which no more are read.
     pub(super) fn add_pieces(&mut self, pieces: AttributeParser<'_, 's>) -> Result<(), Memory>
         ensures { OnOk result (PiecesSay
             (parser_view self.old) (parser_view self.new) self.old.errors self.new.errors

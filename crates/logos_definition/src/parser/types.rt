@@ -1,44 +1,97 @@
-//! The declared type parameters, and what becomes of types that name them.
+//! Declares the generic parameters of an enum, and replaces them in types.
+
+ghost use Rattle.std.specs.Prelude.{OnOk};
+ghost use Rattle.logos_attribute.specs.Reports.{AddsFault};
+ghost use Rattle.logos_definition.specs.Attributes.{const_generic};
 
 use crate::parser::Parser;
-use logos_token::error::Memory;
+use logos_item::{Parameter, ParameterKind};
+use logos_token::error::{Errors, FaultCode, Memory};
 use logos_token::token::Span;
 use logos_type::TypeExpr;
 use logos_type_params::Generics;
 
+/// Reports a constant parameter.
+fn report_const(span: Span, errors: &mut Errors) -> Result<(), Memory>
+    ensures { OnOk result (AddsFault (const_generic span) errors.old errors.new) }
+{
+    errors.err(
+        FaultCode::ConstGeneric,
+        "Logos doesn't support const generics.",
+        span,
+    )
+}
+
 impl<'s> Parser<'s> {
     ghost use Rattle.std.specs.Prelude.{◌≡◌, ◌++◌, [], IfOk, OnOk, OnErr, option_map, true};
+    ghost use Rattle.logos_token.specs.Tokens.{run_span};
+    ghost use Rattle.logos_token.specs.Views.{tokens_of};
     ghost use Rattle.logos_type.specs.TypeTrees.{type_tree};
+    ghost use Rattle.logos_attribute.specs.Reports.{IsReport};
+    ghost use Rattle.logos_attribute.specs.Slices.{ident_slice};
+    ghost use Rattle.logos_definition.specs.Attributes.{parameter_report};
     ghost use Rattle.logos_type_params.specs.Generics.{generics, generics_of, missing_types};
     ghost use Rattle.logos_type_params.specs.TypeParams.{value_of};
     ghost use Rattle.logos_definition.specs.ParserTypes.{GetsUnheld};
     ghost use Rattle.logos_definition.specs.ParserViews.{parser_view, HasNotFailed};
 
-    /// What stands between the angle brackets behind the enum's name: `'s` if a lifetime is declared,
-    /// then the types given to the declared parameters, in order of declaration; nothing where there
-    /// is neither. A parameter without a type is listed. After `Memory` the parser has failed.
+    /// Adds a generic parameter.
+    fn add_parameter(&mut self, parameter: Parameter<'_, 's>) -> Result<(), Memory>
+        ensures { OnOk result (IsReport
+            (parameter_report parameter.entry.kind (ident_slice parameter.entry.name)
+            (run_span (tokens_of parameter.entry.run)) (parser_view self.old))
+            (parser_view self.new) self.old.errors self.new.errors) }
+    {
+        let span = parameter.run.span();
+        match parameter.kind {
+            ParameterKind::Lifetime => self.types.explicit_lifetime(span, &mut self.errors),
+            ParameterKind::Type => self.types.add(parameter.name),
+            ParameterKind::Const => report_const(span, &mut self.errors),
+        }
+    }
+
+    /// Adds a generic parameter: a lifetime; a type, whose name is declared; or a constant, which
+    /// is reported. A second lifetime is reported too. The faults have the span of the whole
+    /// parameter.
+    ///
+    /// # Errors
+    ///
+    /// `Memory` if there is not enough memory. The parser has then failed.
+    pub fn parse_generic(&mut self, parameter: Parameter<'_, 's>) -> Result<(), Memory>
+        ensures ok { OnOk result (IsReport
+            (parameter_report parameter.entry.kind (ident_slice parameter.entry.name)
+            (run_span (tokens_of parameter.entry.run)) (parser_view self.old))
+            (parser_view self.new) self.old.errors self.new.errors) }
+        ensures going { OnOk result (HasNotFailed self.old self.new) }
+        ensures err { OnErr result (self.new.failed ≡ true) }
+    {
+        unless_failed!(self, self.add_parameter(parameter))
+    }
+
+    /// Returns the generic arguments that follow the enum's name: `'s` if a lifetime is declared,
+    /// then the types given to the declared parameters, in order of declaration. `None` if there
+    /// are none. Reports each parameter without a type.
+    ///
+    /// # Errors
+    ///
+    /// `Memory` if there is not enough memory. The parser has then failed.
     pub fn generics(&mut self) -> Result<Option<Generics<'s>>, Memory>
         ensures value { IfOk result (λ made. option_map generics_of made
             ≡ generics (value_of self.old.types)) }
         ensures faults { OnOk result (self.new.errors ≡ self.old.errors ++ missing_types
             (value_of self.old.types).types [] (value_of self.old.types).names) }
-        ensures kept { OnOk result (parser_view self.new ≡ parser_view self.old) }
+        ensures options { OnOk result (parser_view self.new ≡ parser_view self.old) }
         ensures going { OnOk result (HasNotFailed self.old self.new) }
         ensures err { OnErr result (self.new.failed ≡ true) }
     {
-        if self.failed {
-            return Err(Memory);
-        }
-        let outcome = self.types.generics(&mut self.errors);
-        self.failed = outcome.is_err();
-        outcome
+        unless_failed!(self, self.types.generics(&mut self.errors))
     }
 
-    /// What becomes of a written type, without asking whether the parser has failed.
+    /// Does what `get_type` does, without asking whether the parser has failed.
     fn written_type(&mut self, written: &TypeExpr<'s>, span: Span) -> Result<TypeExpr<'s>, Memory>
         ensures got { IfOk result (λ got. GetsUnheld self.old.types (type_tree written.now) span
             self.old.errors self.new.errors (type_tree got)) }
-        ensures kept { parser_view self.new ≡ parser_view self.old }
+        ensures options { parser_view self.new ≡ parser_view self.old }
         ensures going { self.new.failed ≡ self.old.failed }
     {
         let held = self.types.held_names()?;
@@ -46,23 +99,21 @@ impl<'s> Parser<'s> {
         Ok(got)
     }
 
-    /// What becomes of a written type: its declared parameters are replaced by the types given to
-    /// them, but for those that hold themselves, and its lifetimes are set to `'s`. Where more types
-    /// than may would stand inside one another then, that is listed at this span, and the type stays
-    /// as it is written. Each call looks for the parameters that hold themselves. After `Memory` the
-    /// parser has failed.
+    /// Returns a written type with its declared parameters replaced by the types given to them, but
+    /// for those that hold themselves, and with its lifetimes set to `'s`. If too many types stand
+    /// inside one another then, reports that at this span and returns the type as it is written.
+    /// Each call looks for the parameters that hold themselves.
+    ///
+    /// # Errors
+    ///
+    /// `Memory` if there is not enough memory. The parser has then failed.
     pub fn get_type(&mut self, written: &TypeExpr<'s>, span: Span) -> Result<TypeExpr<'s>, Memory>
         ensures ok { IfOk result (λ got. GetsUnheld self.old.types (type_tree written.now) span
             self.old.errors self.new.errors (type_tree got)) }
-        ensures kept { OnOk result (parser_view self.new ≡ parser_view self.old) }
+        ensures options { OnOk result (parser_view self.new ≡ parser_view self.old) }
         ensures going { OnOk result (HasNotFailed self.old self.new) }
         ensures err { OnErr result (self.new.failed ≡ true) }
     {
-        if self.failed {
-            return Err(Memory);
-        }
-        let outcome = self.written_type(written, span);
-        self.failed = outcome.is_err();
-        outcome
+        unless_failed!(self, self.written_type(written, span))
     }
 }

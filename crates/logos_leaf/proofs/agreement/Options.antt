@@ -7,13 +7,13 @@ use Rattle.logos_type.specs.Parts.{Tree}
 use Rattle.logos_type_params.specs.TypeParams.{Value}
 use Rattle.logos_item.specs.AttributeValues.{AttributeValue}
 use Rattle.logos_attribute.specs.Slices.{Slice}
-use Rattle.logos_attribute.specs.Pieces.{PieceValue, Piece, pieces, up_to_comma, behind_comma}
-use Rattle.logos_definition.specs.ErrorTypes.{ErrorView, error_read, error_arguments_told}
+use Rattle.logos_attribute.specs.Pieces.{PieceValue, Piece, pieces, up_to_comma, after_comma}
+use Rattle.logos_definition.specs.ErrorTypes.{ErrorView, error_read, error_arguments_report}
 use Rattle.logos_definition.specs.Options.{OptionsView, error_set}
 use Rattle.logos_definition.specs.Metas.{Meta}
 use Rattle.logos_definition.specs.Arguments.{ErrorGroup, nothing, no_type, a_type, ErrorSays, alone, with_arguments, without_type, with_types, TypeSays, is_given, other_form, PieceSays, on_error, on_type, on_other, without_name, no_argument, PiecesSay, no_piece, one_more, ends}
 use Rattle.logos_definition.specs.Attributes.{MetaSays, no_arguments, with_arguments as a_group, AttributeSays, other_name, a_logos, is_logos}
-use Rattle.logos_leaf.proofs.agreement.Told.{Grows, Agree, grows_by, grows_same, grows_then, told_grows, none_before, never, told_once, no_some, the_same, not_both}
+use Rattle.logos_leaf.proofs.agreement.Report.{Grows, Agree, grows_by, grows_same, grows_then, report_grows, none_before, never, report_once, no_some, the_same, not_both}
 use Rattle.logos_leaf.proofs.agreement.Types.{read_grows, none_read, read_once, set_grows, set_once}
 
 -- ---- the type of errors
@@ -21,7 +21,7 @@ use Rattle.logos_leaf.proofs.agreement.Types.{read_grows, none_read, read_once, 
 group_grows : {group : TokenList} {old new : List Fault} {read : Option ErrorView} → ErrorGroup group old new read → Grows old new
 group_grows (nothing e f) = grows_by _ f
 group_grows (no_type s r) = read_grows r
-group_grows (a_type s r t) = grows_then (read_grows r) (told_grows _ t)
+group_grows (a_type s r t) = grows_then (read_grows r) (report_grows _ t)
 
 none_in_group : {group : TokenList} {old new : List Fault} → ErrorGroup group old new None → new ≡ [] → ⊥
 none_in_group (nothing e f) n = never _ _ _ f n
@@ -32,48 +32,48 @@ group_once : {group : TokenList} {old new old' new' : List Fault} {error : Error
 group_once n (a_type s r t) (nothing e f) = absurd (s e)
 group_once n (a_type s r t) (no_type c q) = absurd (no_some (read_once r q).1)
 group_once {group = group} n (a_type s r t) (a_type c q u) =
-    let same = ap (λ (x : Tree). error_arguments_told true (pieces (behind_comma group)) (error_read (up_to_comma group) x)) (the_same (read_once r q).1) in
-    let k = told_once _ same n t u in (k.0 ∙ (read_once r q).0, ap (λ (x : ErrorView). Some x) k.1)
+    let same = ap (λ (x : Tree). error_arguments_report true (pieces (after_comma group)) (error_read (up_to_comma group) x)) (the_same (read_once r q).1) in
+    let k = report_once _ same n t u in (k.0 ∙ (read_once r q).0, ap (λ (x : ErrorView). Some x) k.1)
 
 error_grows : {name : Slice} {o : OptionsView} {o' : OptionsView} {old new : List Fault} {value : PieceValue} {further : Bool} → ErrorSays name o o' old new value further → Grows old new
-error_grows (alone g t) = told_grows _ t
-error_grows (with_arguments g t) = grows_then (group_grows g) (told_grows _ t)
+error_grows (alone g t) = report_grows _ t
+error_grows (with_arguments g t) = grows_then (group_grows g) (report_grows _ t)
 error_grows (without_type g e) = group_grows g
 
 module _ {name : Slice} {o : OptionsView} {p : OptionsView} {q : OptionsView} {old new old' new' : List Fault} where
   error_once : {value : PieceValue} {a b : Bool} → new ≡ [] → ErrorSays name o p old new value a → ErrorSays name o q old' new' value b → (new' ≡ old') × (p ≡ q) × (a ≡ b)
   error_once n (without_type g e) s = absurd (none_in_group g n)
-  error_once n (alone g t) (alone h u) = let k = told_once _ refl n t u in (k.0, k.1, refl)
+  error_once n (alone g t) (alone h u) = let k = report_once _ refl n t u in (k.0, k.1, refl)
   error_once n (alone g t) (with_arguments h u) = absurd (not_both refl g)
   error_once n (alone g t) (without_type h e) = absurd (not_both refl g)
   error_once n (with_arguments g t) (alone h u) = absurd (not_both refl h)
   error_once n (with_arguments {group = group} g t) (with_arguments h u) =
-      let k = group_once (none_before (told_grows _ t) n) g h in
-      let l = told_once _ (ap (λ (x : ErrorView). error_set group x o) (the_same k.1)) n t u in
+      let k = group_once (none_before (report_grows _ t) n) g h in
+      let l = report_once _ (ap (λ (x : ErrorView). error_set group x o) (the_same k.1)) n t u in
       (l.0 ∙ k.0, l.1, refl)
-  error_once n (with_arguments g t) (without_type h e) = absurd (no_some (group_once (none_before (told_grows _ t) n) g h).1)
+  error_once n (with_arguments g t) (without_type h e) = absurd (no_some (group_once (none_before (report_grows _ t) n) g h).1)
 
 -- ---- types that are given
 
 type_grows : {name : Slice} {o : OptionsView} {o' : OptionsView} {old new : List Fault} {value : PieceValue} → TypeSays name o o' old new value → Grows old new
 type_grows (is_given s e) = set_grows s
-type_grows (other_form k t) = told_grows _ t
+type_grows (other_form k t) = report_grows _ t
 
 type_once : {name : Slice} {o : OptionsView} {p : OptionsView} {q : OptionsView} {old new old' new' : List Fault} {value : PieceValue} → new ≡ [] → TypeSays name o p old new value →
     TypeSays name o q old' new' value → Agree p q old' new'
 type_once {o = o} n (is_given s e) (is_given r f) = let k = set_once n s r in (k.0, e ∙ (ap (λ (v : Value). with_types o v) k.1 ∙ sym f))
 type_once n (is_given s e) (other_form k t) = absurd (not_both refl k)
 type_once n (other_form k t) (is_given s e) = absurd (not_both refl k)
-type_once n (other_form k t) (other_form l u) = told_once _ refl n t u
+type_once n (other_form k t) (other_form l u) = report_once _ refl n t u
 
 -- ---- arguments
 
 piece_grows : {o : OptionsView} {o' : OptionsView} {old new : List Fault} {piece : Piece} {further : Bool} → PieceSays o o' old new piece further → Grows old new
 piece_grows (on_error e s) = error_grows s
 piece_grows (on_type e f s) = type_grows s
-piece_grows (on_other e f t) = told_grows _ t
-piece_grows (without_name t) = told_grows _ t
-piece_grows (no_argument t) = told_grows _ t
+piece_grows (on_other e f t) = report_grows _ t
+piece_grows (without_name t) = report_grows _ t
+piece_grows (no_argument t) = report_grows _ t
 
 with_more : {p : OptionsView} {q : OptionsView} {old new : List Fault} → Agree p q old new → (new ≡ old) × (p ≡ q) × (true ≡ true)
 with_more k = (k.0, k.1, refl)
@@ -88,9 +88,9 @@ module _ {o : OptionsView} {p : OptionsView} {q : OptionsView} {old new old' new
   piece_once n (on_type e f s) (on_other g h t) = absurd (not_both f h)
   piece_once n (on_other e f t) (on_error g r) = absurd (not_both g e)
   piece_once n (on_other e f t) (on_type g h r) = absurd (not_both h f)
-  piece_once n (on_other e f t) (on_other g h u) = with_more (told_once _ refl n t u)
-  piece_once n (without_name t) (without_name u) = with_more (told_once _ refl n t u)
-  piece_once n (no_argument t) (no_argument u) = with_more (told_once _ refl n t u)
+  piece_once n (on_other e f t) (on_other g h u) = with_more (report_once _ refl n t u)
+  piece_once n (without_name t) (without_name u) = with_more (report_once _ refl n t u)
+  piece_once n (no_argument t) (no_argument u) = with_more (report_once _ refl n t u)
 
 pieces_grow : {o : OptionsView} {o' : OptionsView} {old new : List Fault} {list : List Piece} → PiecesSay o o' old new list → Grows old new
 pieces_grow no_piece = grows_same refl

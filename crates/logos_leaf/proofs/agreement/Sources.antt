@@ -7,13 +7,13 @@ use Rattle.logos_type_params.specs.Substitution.{ParamValue}
 use Rattle.logos_item.specs.AttributeValues.{SplitAttribute, attribute_in}
 use Rattle.logos_item.specs.EnumValues.{EnumValue, VariantValue}
 use Rattle.logos_item.specs.Values.{ParameterValue}
-use Rattle.logos_definition.specs.Attributes.{AttributeSays, parameter_told}
+use Rattle.logos_definition.specs.Attributes.{AttributeSays, parameter_report}
 use Rattle.logos_definition.specs.Options.{OptionsView}
 use Rattle.logos_subpattern.specs.Substitution.{Stored}
 use Rattle.logos_leaf.specs.Leaves.{LeafView}
 use Rattle.logos_leaf.specs.Variants.{VariantsAdd, SkipsAdd}
 use Rattle.logos_leaf.specs.Sources.{ParametersSay, no_parameter, one_parameter, AttributesSay, no_attribute, one_attribute, LeavesSay, SourceSays}
-use Rattle.logos_leaf.proofs.agreement.Told.{Grows, Agree, grows_same, grows_then, told_grows, none_before, told_once, no_some, the_same}
+use Rattle.logos_leaf.proofs.agreement.Report.{Grows, Agree, grows_same, grows_then, report_grows, none_before, report_once, no_some, the_same}
 use Rattle.logos_leaf.proofs.agreement.Types.{are_checked_grow, are_checked_once, given_same}
 use Rattle.logos_leaf.proofs.agreement.Options.{attribute_grows, attribute_once}
 use Rattle.logos_leaf.proofs.agreement.Subpatterns.{are_added_grow, are_added_once}
@@ -22,13 +22,13 @@ use Rattle.logos_leaf.proofs.agreement.Variants.{variants_grow, variants_once, s
 
 parameters_grow : {o : OptionsView} {o' : OptionsView} {old new : List Fault} {list : List ParameterValue} → ParametersSay o o' old new list → Grows old new
 parameters_grow no_parameter = grows_same refl
-parameters_grow (one_parameter t rest) = grows_then (told_grows _ t) (parameters_grow rest)
+parameters_grow (one_parameter t rest) = grows_then (report_grows _ t) (parameters_grow rest)
 
 parameters_once : {o : OptionsView} {o' : OptionsView} {p : OptionsView} {p' : OptionsView} {old new old' new' : List Fault} {list : List ParameterValue} → o ≡ p → new ≡ [] →
     ParametersSay o o' old new list → ParametersSay p p' old' new' list → Agree o' p' old' new'
 parameters_once e n no_parameter no_parameter = (refl, e)
 parameters_once e n (one_parameter {parameter = parameter} t rest) (one_parameter u others) =
-    let k = told_once _ (ap (λ (x : OptionsView). parameter_told parameter.kind (record { text = parameter.name.text; span = parameter.name.span }) (run_span parameter.run) x) e) (none_before (parameters_grow rest) n) t u in
+    let k = report_once _ (ap (λ (x : OptionsView). parameter_report parameter.kind (record { text = parameter.name.text; span = parameter.name.span }) (run_span parameter.run) x) e) (none_before (parameters_grow rest) n) t u in
     let j = parameters_once k.1 n rest others in
     (j.0 ∙ k.0, j.1)
 

@@ -13,7 +13,7 @@ use Rattle.logos_type_params.specs.SelfFaults.{IsChecked, declared_again, leads_
 use Rattle.logos_type_params.specs.TypeParams.{Named, Value, ReadsValue, is_type, goes_on, no_type, with_lifetimes, is_declared, former, given_more, given_faults, IsSet, no_value, undeclared, is_given}
 use Rattle.logos_type_params.specs.WrittenTypes.{AreHeld, GetsType, replaced, as_written}
 use Rattle.logos_type_params.proofs.SubstitutionLaws.{one_after, deeper}
-use Rattle.logos_leaf.proofs.agreement.Told.{Grows, Agree, grows_by, grows_same, grows_then, none_before, never, none_added, added_none, no_some, the_same, not_both}
+use Rattle.logos_leaf.proofs.agreement.Report.{Grows, Agree, grows_by, grows_same, grows_then, none_before, never, none_added, added_none, no_some, the_same, not_both}
 
 -- ---- values that are types
 

@@ -14,14 +14,14 @@ use Rattle.logos_item.specs.AttributeValues.{AttributeValue, SplitAttribute, att
 use Rattle.logos_item.specs.EnumValues.{FieldsValue, VariantValue}
 use Rattle.logos_item.specs.Values.{ident_slice}
 use Rattle.logos_pattern.specs.Leaf.{KindValue, skipped}
-use Rattle.logos_attribute.specs.Told.{Tells}
-use Rattle.logos_definition.specs.Attributes.{meta_told}
+use Rattle.logos_attribute.specs.Reports.{IsReport}
+use Rattle.logos_definition.specs.Attributes.{meta_report}
 use Rattle.logos_definition.specs.Definitions.{DefinitionView}
 use Rattle.logos_definition.specs.Metas.{Meta, meta_of}
 use Rattle.logos_subpattern.specs.Substitution.{Stored}
 use Rattle.logos_leaf.specs.Leaves.{LeafView, IsTokenLeaf, IsRegexLeaf}
 use Rattle.logos_leaf.specs.Variants.{holds, KindIs, no_field, empty, with_first, with_names, is_named, TokenGives, no_token, a_token, RegexGives, no_regex, a_regex, AttributeGives, on_error, on_token, on_regex, on_other, AttributesAdd, no_attribute, one_attribute, VariantAdds, VariantsAdd, no_variant, one_variant, SkipsAdd, no_skip, one_skip}
-use Rattle.logos_leaf.proofs.agreement.Told.{Grows, Agree, grows_by, grows_same, grows_then, told_grows, none_before, never, none_added, added_none, told_once, no_some, the_same, not_both}
+use Rattle.logos_leaf.proofs.agreement.Report.{Grows, Agree, grows_by, grows_same, grows_then, report_grows, none_before, never, none_added, added_none, report_once, no_some, the_same, not_both}
 use Rattle.logos_leaf.proofs.agreement.Types.{gets_grows, gets_once}
 use Rattle.logos_leaf.proofs.agreement.Leaves.{ShownKind, shown_kind, Shown, shown, token_once, regex_once}
 
@@ -49,12 +49,12 @@ module _ (p q : Params) (same : (text : List ℕ) → given p text ≡ given q t
 -- ---- attributes
 
 token_grows : {kind : KindValue} {attribute : AttributeValue} {old new : List Fault} {leaf : Option LeafView} → TokenGives kind attribute old new leaf → Grows old new
-token_grows (no_token t l) = grows_then (told_grows _ t) (grows_by _ l)
-token_grows (a_token t i) = grows_then (told_grows _ t) (told_grows _ i.tells)
+token_grows (no_token t l) = grows_then (report_grows _ t) (grows_by _ l)
+token_grows (a_token t i) = grows_then (report_grows _ t) (report_grows _ i.reports)
 
 regex_grows : {names : List Stored} {kind : KindValue} {attribute : AttributeValue} {old new : List Fault} {leaf : Option LeafView} → RegexGives names kind attribute old new leaf → Grows old new
-regex_grows (no_regex t l) = grows_then (told_grows _ t) (grows_by _ l)
-regex_grows (a_regex t i) = grows_then (told_grows _ t) (told_grows _ i.tells)
+regex_grows (no_regex t l) = grows_then (report_grows _ t) (grows_by _ l)
+regex_grows (a_regex t i) = grows_then (report_grows _ t) (report_grows _ i.reports)
 
 gives_grows : {names : List Stored} {kind : KindValue} {attribute : AttributeValue} {old new : List Fault} {leaf : Option LeafView} → AttributeGives names kind attribute old new leaf → Grows old new
 gives_grows (on_error e l) = grows_by _ l
@@ -83,26 +83,26 @@ leaves_alike : (before before' : List LeafView) (leaf leaf' : Option LeafView) �
 leaves_alike before before' leaf leaf' e f =
     map_leaf before leaf ∙ (ap (λ (xs : List Shown). xs ++ option_to_list (option_map shown leaf)) e ∙ (ap (λ (x : Option Shown). map shown before' ++ option_to_list x) f ∙ sym (map_leaf before' leaf')))
 
-definition_once : {x y : Option DefinitionView} {new new' : List Fault} (attribute : AttributeValue) (old old' : List Fault) → new ≡ [] → Tells (meta_told (meta_of attribute)) x old new →
-    Tells (meta_told (meta_of attribute)) y old' new' → Agree x y old' new'
-definition_once attribute old old' n t u = told_once old refl n t u
+definition_once : {x y : Option DefinitionView} {new new' : List Fault} (attribute : AttributeValue) (old old' : List Fault) → new ≡ [] → IsReport (meta_report (meta_of attribute)) x old new →
+    IsReport (meta_report (meta_of attribute)) y old' new' → Agree x y old' new'
+definition_once attribute old old' n t u = report_once old refl n t u
 
 module _ {kind other : KindValue} (alike : shown_kind kind ≡ shown_kind other) where
   token_gives_once : {attribute : AttributeValue} {old new old' new' : List Fault} {leaf leaf' : Option LeafView} → new ≡ [] → TokenGives kind attribute old new leaf →
       TokenGives other attribute old' new' leaf' → Agree (option_map shown leaf) (option_map shown leaf') old' new'
   token_gives_once n (no_token t l) g = absurd (never _ _ _ l n)
-  token_gives_once {attribute = a} {old = c} {old' = c'} n (a_token t i) (no_token u l) = absurd (no_some (definition_once a c c' (none_before (told_grows _ i.tells) n) t u).1)
+  token_gives_once {attribute = a} {old = c} {old' = c'} n (a_token t i) (no_token u l) = absurd (no_some (definition_once a c c' (none_before (report_grows _ i.reports) n) t u).1)
   token_gives_once {attribute = a} {old = c} {old' = c'} {new' = new'} {leaf' = leaf'} n (a_token {definition = d} t i) (a_token {mid = m} u j) =
-      let k = definition_once a c c' (none_before (told_grows _ i.tells) n) t u in
+      let k = definition_once a c c' (none_before (report_grows _ i.reports) n) t u in
       let h = token_once d kind other alike n i (subst (λ (x : DefinitionView). IsTokenLeaf x other leaf' m new') (sym (the_same k.1)) j) in
       (h.0 ∙ k.0, h.1)
 
   regex_gives_once : {names : List Stored} {attribute : AttributeValue} {old new old' new' : List Fault} {leaf leaf' : Option LeafView} → new ≡ [] → RegexGives names kind attribute old new leaf →
       RegexGives names other attribute old' new' leaf' → Agree (option_map shown leaf) (option_map shown leaf') old' new'
   regex_gives_once n (no_regex t l) g = absurd (never _ _ _ l n)
-  regex_gives_once {attribute = a} {old = c} {old' = c'} n (a_regex t i) (no_regex u l) = absurd (no_some (definition_once a c c' (none_before (told_grows _ i.tells) n) t u).1)
+  regex_gives_once {attribute = a} {old = c} {old' = c'} n (a_regex t i) (no_regex u l) = absurd (no_some (definition_once a c c' (none_before (report_grows _ i.reports) n) t u).1)
   regex_gives_once {names} {attribute = a} {old = c} {old' = c'} {new' = new'} {leaf' = leaf'} n (a_regex {definition = d} t i) (a_regex {mid = m} u j) =
-      let k = definition_once a c c' (none_before (told_grows _ i.tells) n) t u in
+      let k = definition_once a c c' (none_before (report_grows _ i.reports) n) t u in
       let h = regex_once d kind other alike n i (subst (λ (x : DefinitionView). IsRegexLeaf x other names leaf' m new') (sym (the_same k.1)) j) in
       (h.0 ∙ k.0, h.1)
 
@@ -163,7 +163,7 @@ module _ (p q : Params) (same : (text : List ℕ) → given p text ≡ given q t
 
 pub skips_grow : {names : List Stored} {list : List DefinitionView} {before after : List LeafView} {old new : List Fault} → SkipsAdd names list before after old new → Grows old new
 skips_grow no_skip = grows_same refl
-skips_grow (one_skip i rest) = grows_then (told_grows _ i.tells) (skips_grow rest)
+skips_grow (one_skip i rest) = grows_then (report_grows _ i.reports) (skips_grow rest)
 
 pub skips_once : {names : List Stored} {list : List DefinitionView} {before after before' after' : List LeafView} {old new old' new' : List Fault} → map shown before ≡ map shown before' → new ≡ [] →
     SkipsAdd names list before after old new → SkipsAdd names list before' after' old' new' → Agree (map shown after) (map shown after') old' new'

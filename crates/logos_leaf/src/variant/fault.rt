@@ -1,6 +1,6 @@
 //! The faults of variants and of the attributes on them. Each function reports one.
 ghost use Rattle.std.specs.Prelude.{◌≡◌, ◌++◌, IfOk, OnOk, string_bytes};
-ghost use Rattle.logos_attribute.specs.Told.{Lists};
+ghost use Rattle.logos_attribute.specs.Reports.{AddsFault};
 ghost use Rattle.logos_leaf.specs.VariantFaults.{fields_text, variant_fields, count_faults};
 ghost use Rattle.logos_leaf.specs.VariantFaults.{named_fields, error_variant};
 ghost use Rattle.logos_leaf.specs.VariantFaults.{token_form, regex_form};
@@ -25,7 +25,7 @@ pub(super) fn report_variant_fields(
     span: Span,
     errors: &mut Errors,
 ) -> Result<(), Memory>
-    ensures { OnOk result (Lists (variant_fields count span) errors.old errors.new) }
+    ensures { OnOk result (AddsFault (variant_fields count span) errors.old errors.new) }
 {
     let text = fields_text(errors.alloc(), count)?;
     errors.err(FaultCode::VariantFields, text.as_str(), span)
@@ -43,7 +43,7 @@ pub(super) fn report_count(count: usize, span: Span, errors: &mut Errors) -> Res
 
 /// Reports a variant with named fields.
 pub(super) fn report_named_fields(span: Span, errors: &mut Errors) -> Result<(), Memory>
-    ensures { OnOk result (Lists (named_fields span) errors.old errors.new) }
+    ensures { OnOk result (AddsFault (named_fields span) errors.old errors.new) }
 {
     errors.err(
         FaultCode::NamedFields,
@@ -54,7 +54,7 @@ pub(super) fn report_named_fields(span: Span, errors: &mut Errors) -> Result<(),
 
 /// Reports an `error` attribute.
 pub(super) fn report_error_variant(span: Span, errors: &mut Errors) -> Result<(), Memory>
-    ensures { OnOk result (Lists (error_variant span) errors.old errors.new) }
+    ensures { OnOk result (AddsFault (error_variant span) errors.old errors.new) }
 {
     errors.err(
         FaultCode::ErrorVariant,
@@ -65,14 +65,14 @@ pub(super) fn report_error_variant(span: Span, errors: &mut Errors) -> Result<()
 
 /// Reports a `token` attribute without a definition.
 pub(super) fn report_token_form(span: Span, errors: &mut Errors) -> Result<(), Memory>
-    ensures { OnOk result (Lists (token_form span) errors.old errors.new) }
+    ensures { OnOk result (AddsFault (token_form span) errors.old errors.new) }
 {
     errors.err(FaultCode::TokenForm, "Expected #[token(...)]", span)
 }
 
 /// Reports a `regex` attribute without a definition.
 pub(super) fn report_regex_form(span: Span, errors: &mut Errors) -> Result<(), Memory>
-    ensures { OnOk result (Lists (regex_form span) errors.old errors.new) }
+    ensures { OnOk result (AddsFault (regex_form span) errors.old errors.new) }
 {
     errors.err(FaultCode::RegexForm, "Expected #[regex(...)]", span)
 }

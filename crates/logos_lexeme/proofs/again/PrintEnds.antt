@@ -44,14 +44,14 @@ module _ (a b : List ℕ) (p q k : ℕ) (w : Window a b p q k) where
       let n = r.quote_at + q - p in
       let le = Steps-le (InQuotes quote a) (InQuotes-moves quote a) r.until.steps in
       let at : At r.quote_at n = (omega (arith, e.0, e.1), omega (arith, e.1)) in
-      let behind = r.behind in
+      let after = r.after in
       record {
         quote_at = n;
         until = record {
           steps = steps_same (p + k) (InQuotes quote a) (InQuotes quote b) (λ _. Unit {0}) (in_quotes quote) (λ _ _ _ _. tt) (InQuotes-moves quote a) r.until.steps y n e at (omega arith) tt;
           stop = w.same r.quote_at n at.0 at.1 (omega arith) ∙ r.until.stop;
         };
-        behind = omega (arith, f.0, f.1, at.0, at.1);
+        after = omega (arith, f.0, f.1, at.0, at.1);
       }
 
   -- raw strings
@@ -72,7 +72,7 @@ module _ (a b : List ℕ) (p q k : ℕ) (w : Window a b p q k) where
   raw_same count x y z v e f high r =
       let n = r.quote_at + q - p in
       let begun = r.first.begun in
-      let behind = r.behind in
+      let after = r.after in
       let at : At r.quote_at n = (omega (arith, e.0, e.1), omega (arith, e.1)) in
       record {
         quote_at = n;
@@ -81,7 +81,7 @@ module _ (a b : List ℕ) (p q k : ℕ) (w : Window a b p q k) where
           holds = raw_end_same count r.quote_at n at (omega arith) r.first.holds;
           first = λ i l m g. r.first.first (i + p - q) (omega (arith, e.0, e.1)) (omega (arith, e.0, e.1)) (raw_end_back count (i + p - q) i (omega (arith, e.0, e.1), omega (arith, e.0, e.1)) (omega (arith, e.0, e.1)) g);
         };
-        behind = omega (arith, f.0, f.1, at.0, at.1);
+        after = omega (arith, f.0, f.1, at.0, at.1);
       }
 
   -- comments

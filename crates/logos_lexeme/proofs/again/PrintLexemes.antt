@@ -74,16 +74,16 @@ module _ (bytes : List ℕ) (at : ℕ) where
   head-le : (o : Opening) (end : ℕ) → IsLiteral bytes at o → Ends bytes at o end → head_end bytes at o ≤ end
   head-le o end (number e) r = omega (arith, Ends-after bytes at Number end r)
   head-le o end (quotes content) r = omega (arith, IsQuoted-after 34 bytes (at + prefix_of content + 1) end r)
-  head-le o end (raw_quotes content count) r = let f = r.first.begun in let g = r.behind in omega arith
+  head-le o end (raw_quotes content count) r = let f = r.first.begun in let g = r.after in omega arith
   head-le o end (apostrophes content) r = omega (arith, IsQuoted-after 39 bytes (at + prefix_of content + 1) end r)
-  head-le o end (character_between e) r = let g = r.behind in omega arith
+  head-le o end (character_between e) r = let g = r.after in omega arith
 
   long : (o : Opening) (end : ℕ) → IsLiteral bytes at o → Ends bytes at o end → get_or bytes at 0 ≡ 39 → at + 2 ≤ end
   long o end (number e) r f = absurd (false≢true (ap is_ascii_digit (sym f) ∙ e))
   long o end (quotes content) r f = omega (arith, IsQuoted-after 34 bytes (at + prefix_of content + 1) end r)
-  long o end (raw_quotes content count) r f = let h = r.first.begun in let g = r.behind in omega arith
+  long o end (raw_quotes content count) r f = let h = r.first.begun in let g = r.after in omega arith
   long o end (apostrophes content) r f = omega (arith, IsQuoted-after 39 bytes (at + prefix_of content + 1) end r)
-  long o end (character_between e) r f = let g = r.behind in let m = past-moves bytes (at + 1) in omega arith
+  long o end (character_between e) r f = let g = r.after in let m = past-moves bytes (at + 1) in omega arith
 
 -- how what stands at a place opens
 pub data Opens (bytes : List ℕ) (at : ℕ) : Opening → Type 0 where
@@ -184,7 +184,7 @@ module _ (a b : List ℕ) (p q k : ℕ) (w : Window a b p q k) (bound : IsCharBo
   literal_next before o end (raw_quotes content count) e ends sound suffix =
       let le = IsSuffix-le a end (p + k) suffix in
       let after = ends.first.begun in
-      let behind = ends.behind in
+      let close = ends.after in
       let n = end + q - p in
       made b q Literal (Raw content count) n (q + k) (opens_literal b q (Raw content count) (literal_there before (Raw content count) end e ends le))
       (raw_same a b p q k w count (p + prefix_of content + 1 + count + 1) (q + prefix_of content + 1 + count + 1) end n (omega arith, omega arith) (omega arith, omega arith) le ends)
@@ -200,12 +200,12 @@ module _ (a b : List ℕ) (p q k : ℕ) (w : Window a b p q k) (bound : IsCharBo
       refl (suffix_same a b p q k w end n (omega arith) (omega arith) (Ends-boundary a w.utf8 p inside_a bound (Apostrophes content) end ends) suffix) w.holds
   literal_next before o end (character_between d) e ends sound suffix =
       let le = IsSuffix-le a end (p + k) suffix in
-      let behind = ends.behind in
+      let close = ends.after in
       let moves = past-moves a (p + 1) in
       let n = end + q - p in
       let places = same_past a b p q k w (p + 1) (q + 1) (omega arith) (omega arith) (omega arith) (ascii_next d) in
       made b q Literal Character n (q + k) (opens_literal b q Character (literal_there before Character end e ends le))
-      (record { quote = w.same (past a (p + 1)) (past b (q + 1)) places (omega arith) (omega arith) ∙ ends.quote; behind = omega arith })
+      (record { quote = w.same (past a (p + 1)) (past b (q + 1)) places (omega arith) (omega arith) ∙ ends.quote; after = omega arith })
       (λ f. sound (sym (w.same (p + 1) (q + 1) (omega arith) (omega arith) (omega arith)) ∙ f))
       refl (suffix_same a b p q k w end n (omega arith) (omega arith) (Ends-boundary a w.utf8 p inside_a bound Character end ends) suffix) w.holds
 
@@ -352,23 +352,23 @@ module _ (a b : List ℕ) (p q k : ℕ) (w : Window a b p q k) (bound : IsCharBo
       let l' = (d == 39) && is_start (character b (past b q)) in
       let f' = (d == 0xFEFF) && (q == 0) in
       let s' = spacing b (past b q) in
-      let behind_l = cond l' (Some (Punctuation Joint)) (cond f' (Some Gap) (delimiter_kind d)) in
+      let after_l = cond l' (Some (Punctuation Joint)) (cond f' (Some Gap) (delimiter_kind d)) in
       elim (single_cases (is_mark c) ((c == 39) && is_start (character a (past a p))) ((c == 0xFEFF) && (p == 0)) (spacing a (past a p)) (delimiter_kind c) kind e) [
         | inl (m, is) ↦
             let there : s' ≡ spacing a (past a p) = spacing_there (spacing a (past a p)) (subst IsPlaced is placed) refl in
-            cond-true (is_mark d) (Some (Punctuation s')) behind_l (ap is_mark same ∙ m) ∙ ap (λ s. Some (Punctuation s)) there ∙ ap (λ (x : Kind). Some x) (sym is)
+            cond-true (is_mark d) (Some (Punctuation s')) after_l (ap is_mark same ∙ m) ∙ ap (λ s. Some (Punctuation s)) there ∙ ap (λ (x : Kind). Some x) (sym is)
         | inr r ↦ elim r [
           | inl (m, l, is) ↦
               let parts = and_parts (c == 39) (is_start (character a (past a p))) l in
               let start : is_start (character b (past b q)) ≡ true = ap is_start (same_character a b p q k w (past a p) (past b q) places (omega arith) (placed.0 is) next) ∙ parts.1 in
               let quote : (d == 39) ≡ true = ap (λ x. x == 39) same ∙ parts.0 in
-              cond-false (is_mark d) (Some (Punctuation s')) behind_l (ap is_mark same ∙ m)
+              cond-false (is_mark d) (Some (Punctuation s')) after_l (ap is_mark same ∙ m)
               ∙ cond-true l' (Some (Punctuation Joint)) (cond f' (Some Gap) (delimiter_kind d)) (and_from (d == 39) (is_start (character b (past b q))) quote start) ∙ ap (λ (x : Kind). Some x) (sym is)
           | inr s ↦ elim s [
             | inl is ↦ absurd (no_gap is)
             | inr (m, l, is) ↦
                 let is' : delimiter_kind d ≡ Some kind = ap delimiter_kind same ∙ is in
-                cond-false (is_mark d) (Some (Punctuation s')) behind_l (ap is_mark same ∙ m)
+                cond-false (is_mark d) (Some (Punctuation s')) after_l (ap is_mark same ∙ m)
                 ∙ cond-false l' (Some (Punctuation Joint)) (cond f' (Some Gap) (delimiter_kind d)) (and_left (d == 39) (is_start (character b (past b q))) (no_delimiter d 39 kind is' delimiter-quote))
                 ∙ cond-false f' (Some Gap) (delimiter_kind d) (and_left (d == 0xFEFF) (q == 0) (no_delimiter d 0xFEFF kind is' delimiter-mark))
                 ∙ is'

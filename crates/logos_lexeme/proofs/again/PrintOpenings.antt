@@ -27,9 +27,9 @@ hashes_are bytes at n all other inside =
     (λ i l. ap (λ c. c == 35) (get_or-drop at bytes i 0) ∙ eq-eqb (get_or bytes (at + i) 0) 35 (all i l))
     (λ l. ap (λ c. c == 35) (get_or-drop at bytes n 0) ∙ ne_eqb (get_or bytes (at + n) 0) 35 other)
 
-other_behind : (bytes : List ℕ) (at : ℕ) → get_or bytes (at + hashes bytes at) 0 ≢ 35
+other_after : (bytes : List ℕ) (at : ℕ) → get_or bytes (at + hashes bytes at) 0 ≢ 35
 unfolding hashes
-other_behind bytes at e =
+other_after bytes at e =
     let n = prefix_len (λ c. c == 35) (drop at bytes) in
     let inside = inside_from_byte bytes (at + n) (omega arith) in
     let stops = prefix_len_stops (λ c. c == 35) (drop at bytes) 0 (omega (arith, length-drop at bytes)) in
@@ -94,7 +94,7 @@ module _ (a b : List ℕ) (p q k : ℕ) (w : Window a b p q k) where
   raw_inside content x y e low l =
       let n = hashes a x in
       let byte : get_or b (y + n) 0 ≡ get_or a (x + n) 0 = w.same (x + n) (y + n) (omega arith) (omega arith) l in
-      let h : hashes b y ≡ hashes a x = hashes_are b y n (λ i m. w.same (x + i) (y + i) (omega arith) (omega arith) (omega arith) ∙ all_hashes a x i m) (λ f. other_behind a x (sym byte ∙ f)) (omega (arith, w.holds)) in
+      let h : hashes b y ≡ hashes a x = hashes_are b y n (λ i m. w.same (x + i) (y + i) (omega arith) (omega arith) (omega arith) ∙ all_hashes a x i m) (λ f. other_after a x (sym byte ∙ f)) (omega (arith, w.holds)) in
       rw (h, byte) refl
 
   raw_same : (content : Content) (x y : ℕ) → x + q ≡ y + p → x ≡ p + prefix_of content + 1 → x ≤ p + k → Heads a p (p + k) (raw_opening content a x) → raw_opening content b y ≡ raw_opening content a x
@@ -189,15 +189,15 @@ module _ (a b : List ℕ) (p q k : ℕ) (w : Window a b p q k) where
       let c = get_or a p 0 in
       let n = Some Number in
       let d = is_ascii_digit c in
-      let behind_c = cond (c == 99) (string_opening C a (p + 1)) (string_opening Text a p) in
-      let behind_b = cond (c == 98) (bytes_opening a (p + 1)) behind_c in
-      let behind_q = cond (c == 39) (character_opening a (p + 1)) behind_b in
-      let f0 : d ≡ false → Heads a p (p + k) behind_q = heads-false a p (p + k) d n behind_q fit in
-      let f1 : d ≡ false → (c == 39) ≡ false → Heads a p (p + k) behind_b = λ t. heads-false a p (p + k) (c == 39) (character_opening a (p + 1)) behind_b (f0 t) in
-      let f2 : d ≡ false → (c == 39) ≡ false → (c == 98) ≡ false → Heads a p (p + k) behind_c = λ t u. heads-false a p (p + k) (c == 98) (bytes_opening a (p + 1)) behind_c (f1 t u) in
+      let after_c = cond (c == 99) (string_opening C a (p + 1)) (string_opening Text a p) in
+      let after_b = cond (c == 98) (bytes_opening a (p + 1)) after_c in
+      let after_q = cond (c == 39) (character_opening a (p + 1)) after_b in
+      let f0 : d ≡ false → Heads a p (p + k) after_q = heads-false a p (p + k) d n after_q fit in
+      let f1 : d ≡ false → (c == 39) ≡ false → Heads a p (p + k) after_b = λ t. heads-false a p (p + k) (c == 39) (character_opening a (p + 1)) after_b (f0 t) in
+      let f2 : d ≡ false → (c == 39) ≡ false → (c == 98) ≡ false → Heads a p (p + k) after_c = λ t u. heads-false a p (p + k) (c == 98) (bytes_opening a (p + 1)) after_c (f1 t u) in
       rw (w.same p q (omega arith) (omega arith) (omega (arith, w.filled)))
       (cond_same d _ _ _ _ (λ t. refl) (λ t.
-      cond_same (c == 39) _ _ _ _ (λ u. let h = quote (eqb-true c 39 u) in character_same h.0 h.1 (heads-true a p (p + k) (c == 39) (character_opening a (p + 1)) behind_b (f0 t) u)) (λ u.
-      cond_same (c == 98) _ _ _ _ (λ v. bytes_same (heads-true a p (p + k) (c == 98) (bytes_opening a (p + 1)) behind_c (f1 t u) v)) (λ v.
+      cond_same (c == 39) _ _ _ _ (λ u. let h = quote (eqb-true c 39 u) in character_same h.0 h.1 (heads-true a p (p + k) (c == 39) (character_opening a (p + 1)) after_b (f0 t) u)) (λ u.
+      cond_same (c == 98) _ _ _ _ (λ v. bytes_same (heads-true a p (p + k) (c == 98) (bytes_opening a (p + 1)) after_c (f1 t u) v)) (λ v.
       cond_same (c == 99) _ _ _ _ (λ s. string_same C (p + 1) (q + 1) (omega arith) refl (omega (arith, w.filled)) (heads-true a p (p + k) (c == 99) (string_opening C a (p + 1)) (string_opening Text a p) (f2 t u v) s)) (λ s.
       string_same Text p q (omega arith) (omega arith) (omega arith) (heads-false a p (p + k) (c == 99) (string_opening C a (p + 1)) (string_opening Text a p) (f2 t u v) s))))))

@@ -1,4 +1,4 @@
-//! What stands inside literals.
+//! Checks the contents of literals and reads the pieces of strings.
 
 ghost use Rattle.std.specs.Prelude.{◌≡◌, ℕ, ◌+◌, ◌^◌, ◌<◌, ◌≤◌, ◌↔◌, ◌==◌, ◌||◌, Bool, true, List, IsTrue, IsFalse, length, slice_index, slice_range, MatchOption};
 ghost use Rattle.std.specs.Char.{digit_value};
@@ -12,18 +12,18 @@ use crate::lexeme::characters::byte_at;
 use crate::lexeme::ends::prefix_of;
 use crate::lexeme::openings::{Content, Opening};
 
-/// What a piece of a string holds.
+/// The value of one piece of a string.
 #[derive(Clone, Copy)]
 pub enum Piece {
-    /// Nothing.
+    /// No bytes: an escaped line break.
     Nothing,
-    /// A byte.
+    /// One byte.
     Byte(u8),
-    /// A character.
+    /// One character.
     Character(char),
 }
 
-/// Whether a backslash and this letter are an escape.
+/// Returns whether `letter` after a backslash is an escape by itself.
 #[tactic(auto, unfolding(crate::specs::LiteralBodies::is_simple))]
 fn is_simple(letter: u8) -> bool
     ensures { result ≡ is_simple letter }
@@ -31,7 +31,7 @@ fn is_simple(letter: u8) -> bool
     b"nrt\\0'\"".contains(&letter)
 }
 
-/// The byte that a letter behind a backslash writes.
+/// Returns the byte that `letter` after a backslash stands for.
 #[tactic(auto, unfolding(crate::specs::LiteralBodies::simple_value))]
 fn simple_value(letter: u8) -> u8
     ensures { result ≡ simple_value letter }
@@ -51,7 +51,7 @@ fn simple_value(letter: u8) -> u8
     letter
 }
 
-/// Whether a byte is blank: space, tab, LF or CR.
+/// Returns whether `byte` is a space, tab, LF or CR.
 #[tactic(auto, unfolding(crate::specs::LiteralBodies::is_blank))]
 fn is_blank(byte: u8) -> bool
     ensures { result ≡ is_blank byte }
@@ -59,7 +59,7 @@ fn is_blank(byte: u8) -> bool
     (byte == b' ') | (byte == b'\t') | (byte == b'\n') | (byte == b'\r')
 }
 
-/// The value of a hexadecimal digit.
+/// Returns the value of a hexadecimal digit, or `None` if `byte` is not one.
 fn digit_of(byte: u8) -> Option<u32>
     ensures { MatchOption result
         (IsFalse (is_hex byte))
@@ -68,7 +68,7 @@ fn digit_of(byte: u8) -> Option<u32>
     char::from(byte).to_digit(16)
 }
 
-/// The greatest byte that two hexadecimal digits may write.
+/// Returns the greatest byte that `\xNN` can stand for in a literal of this content.
 fn greatest_of(content: Content) -> u32
     ensures { result ≡ greatest_of content }
 {
@@ -78,7 +78,8 @@ fn greatest_of(content: Content) -> u32
     }
 }
 
-/// The byte that `\xNN` writes.
+/// Returns the byte that `\xNN` at the byte offset `at` stands for. `None` if a digit is missing or
+/// the byte is too great.
 fn hex_escape(source: &str, content: Content, at: usize) -> Option<u8>
     requires within { at ≤ length source.now }
     requires backslash { slice_index source.now at ≡ 92 }
@@ -97,7 +98,7 @@ fn hex_escape(source: &str, content: Content, at: usize) -> Option<u8>
     Some(value as u8)
 }
 
-/// Whether a byte may stand among the digits of `\u{..}`.
+/// Returns whether `byte` can stand among the digits of `\u{..}`.
 fn is_digit_or_line(byte: u8) -> bool
     ensures { result ≡ (is_hex byte || (byte == 95)) }
 {
@@ -107,7 +108,7 @@ fn is_digit_or_line(byte: u8) -> bool
     }
 }
 
-/// Where digits and `_` end.
+/// Returns the byte offset of the first byte from `from` on that is neither a digit nor `_`.
 fn digits_end(source: &str, from: usize) -> usize
     requires { from ≤ length source.now }
     ensures within { result ≤ length source.now }
@@ -122,7 +123,7 @@ fn digits_end(source: &str, from: usize) -> usize
     end
 }
 
-/// How many digits were read, and what they write.
+/// The digits read so far: their count and the number that they write.
 #[derive(Clone, Copy)]
 struct Digits {
     count: u32,
@@ -130,7 +131,7 @@ struct Digits {
 }
 
 impl Digits {
-    /// Reads one more byte; `None` where it is a seventh digit.
+    /// Adds one byte. A `_` changes nothing; `None` if the byte is a seventh digit.
     fn with(self, byte: u8) -> Option<Digits>
         requires few { self.count ≤ 6 }
         requires small { self.value < 16 ^ self.count }
@@ -150,7 +151,7 @@ impl Digits {
     }
 }
 
-/// What the digits of a span write, if they are at most six.
+/// Returns the number that the digits of a span write. `None` if there are more than six.
 fn number_between(source: &str, from: usize, to: usize) -> Option<u32>
     requires begun { from ≤ to }
     requires within { to ≤ length source.now }
@@ -166,7 +167,8 @@ fn number_between(source: &str, from: usize, to: usize) -> Option<u32>
     Some(digits.value)
 }
 
-/// The character that `\u{..}` writes, and where its closing brace stands.
+/// Returns the character that `\u{..}` at the byte offset `at` stands for, and the byte offset of
+/// its closing brace.
 fn unicode_escape(source: &str, at: usize) -> Option<(char, usize)>
     requires within { at ≤ length source.now }
     requires backslash { slice_index source.now at ≡ 92 }
@@ -189,7 +191,7 @@ fn unicode_escape(source: &str, at: usize) -> Option<(char, usize)>
     Some((character, brace))
 }
 
-/// An escape, from its backslash on: what it holds, and where it ends.
+/// Returns the value of the escape at the byte offset `at`, and the byte offset after it.
 fn escape_at(source: &str, content: Content, at: usize) -> Option<(Piece, usize)>
     requires { at ≤ length source.now }
     ensures { MatchOption result
@@ -217,7 +219,7 @@ fn escape_at(source: &str, content: Content, at: usize) -> Option<(Piece, usize)
     None
 }
 
-/// Whether a line break stands here.
+/// Returns whether a line break begins at the byte offset `at`.
 fn breaks_line(source: &str, at: usize) -> bool
     requires { at ≤ length source.now + 1 }
     ensures { IsTrue result ↔ BreaksLine source.now at }
@@ -229,7 +231,7 @@ fn breaks_line(source: &str, at: usize) -> bool
     byte == b'\r' && byte_at(source, at + 1) == b'\n'
 }
 
-/// The first byte that is not blank.
+/// Returns the byte offset of the first byte from `from` on that is not blank.
 fn blanks_end(source: &str, from: usize) -> usize
     requires { from ≤ length source.now }
     ensures { IsFirst (λ i. IsFalse (is_blank (slice_index source.now i))) from result }
@@ -241,7 +243,7 @@ fn blanks_end(source: &str, from: usize) -> usize
     end
 }
 
-/// Whether a byte may stand for itself, or for a part of a character.
+/// Returns whether `byte` can stand for itself, or for a part of a character that does.
 fn is_allowed(content: Content, byte: u8) -> bool
     ensures { IsTrue result ↔ IsAllowed content byte }
 {
@@ -254,7 +256,8 @@ fn is_allowed(content: Content, byte: u8) -> bool
     }
 }
 
-/// A byte that stands for itself, or a line break of CR and LF: what it holds, and where it ends.
+/// Returns the value of the byte at `at` that stands for itself, or of the line break CR LF, and
+/// the byte offset after it.
 fn plain_at(source: &str, content: Content, at: usize) -> Option<(Piece, usize)>
     requires { at ≤ length source.now }
     ensures { MatchOption result
@@ -271,7 +274,8 @@ fn plain_at(source: &str, content: Content, at: usize) -> Option<(Piece, usize)>
     None
 }
 
-/// A piece of a string: what it holds, and where it ends.
+/// Returns the value of the piece of a string at the byte offset `at`, and the byte offset after
+/// it. `None` if there is no piece. `escapes` says whether the string has escapes.
 pub fn piece_at(source: &str, escapes: bool, content: Content, at: usize) -> Option<(Piece, usize)>
     requires { at ≤ length source.now }
     ensures { MatchOption result
@@ -290,7 +294,7 @@ pub fn piece_at(source: &str, escapes: bool, content: Content, at: usize) -> Opt
     escape_at(source, content, at)
 }
 
-/// Whether pieces of a string fill the span.
+/// Returns whether the span from `from` to `to` consists of pieces of a string.
 fn is_body(source: &str, escapes: bool, content: Content, from: usize, to: usize) -> bool
     requires { to ≤ length source.now }
     ensures { IsTrue result ↔ Steps (IsPiece escapes content source.now) from to }
@@ -305,7 +309,7 @@ fn is_body(source: &str, escapes: bool, content: Content, from: usize, to: usize
     at == to
 }
 
-/// What stands between apostrophes: where it ends.
+/// Returns the byte offset after the one character or escape at the byte offset `at`.
 fn character_piece_end(source: &str, content: Content, at: usize) -> Option<usize>
     requires { at ≤ length source.now }
     ensures { MatchOption result
@@ -323,7 +327,7 @@ fn character_piece_end(source: &str, content: Content, at: usize) -> Option<usiz
     None
 }
 
-/// Whether what stands between apostrophes fills the span.
+/// Returns whether the span from `from` to `to` is one character or escape.
 fn is_character(source: &str, content: Content, from: usize, to: usize) -> bool
     requires { from ≤ length source.now }
     ensures { IsTrue result ↔ IsCharacterPiece content source.now from to }
@@ -334,8 +338,8 @@ fn is_character(source: &str, content: Content, from: usize, to: usize) -> bool
     }
 }
 
-/// Whether a literal that opens at `from` and ends at `end`, its suffix left out, keeps to its
-/// rules; anything else does.
+/// Returns whether the contents of a literal keep to its rules. The literal opens at `from` and
+/// ends at `end`, without its suffix. Anything that is not a literal keeps to them.
 pub(crate) fn is_sound(source: &str, from: usize, opens: Opening, end: usize) -> bool
     requires inside { from < length source.now }
     requires ends { Ends source.now from opens end }

@@ -1,10 +1,10 @@
-//! Bytes and characters at a place of a source text.
+//! Reads bytes and characters at byte offsets of a source text, and classifies characters.
 
 ghost use Rattle.std.specs.Prelude.{◌≡◌, ◌<◌, ◌≤◌, length, slice_index};
 ghost use Rattle.std.specs.Str.{IsCharBoundary};
 ghost use Rattle.logos_lexeme.specs.LexemeCharacters.{character, past, is_space, is_start, is_continuing, is_mark};
 
-/// The byte at a place, and 0 past the end.
+/// Returns the byte at `at`, or 0 at the end of the source and after it.
 pub fn byte_at(source: &str, at: usize) -> u8
     ensures { result ≡ slice_index source.now at }
 {
@@ -12,7 +12,7 @@ pub fn byte_at(source: &str, at: usize) -> u8
     if at < bytes.len() { bytes[at] } else { 0 }
 }
 
-/// The character that begins at a place, and NUL at the end.
+/// Returns the character that begins at `at`, or NUL at the end of the source.
 pub(crate) fn char_at(source: &str, at: usize) -> char
     requires { IsCharBoundary source.now at }
     ensures { result ≡ character source.now at }
@@ -20,7 +20,7 @@ pub(crate) fn char_at(source: &str, at: usize) -> char
     source[at..].chars().next().unwrap_or('\0')
 }
 
-/// The place behind the character that begins at a place.
+/// Returns the byte offset after the character that begins at `at`.
 pub(crate) fn past(source: &str, at: usize) -> usize
     requires inside { at < length source.now }
     requires boundary { IsCharBoundary source.now at }
@@ -30,7 +30,7 @@ pub(crate) fn past(source: &str, at: usize) -> usize
     at + char_at(source, at).len_utf8()
 }
 
-/// Whether a character is one of Pattern_White_Space.
+/// Returns whether a character has the property Pattern_White_Space.
 pub(crate) fn is_space(c: char) -> bool
     ensures { result ≡ is_space c }
 {
@@ -41,21 +41,21 @@ pub(crate) fn is_space(c: char) -> bool
         | (('\u{2028}' <= c) & (c <= '\u{2029}'))
 }
 
-/// Whether a character can begin an identifier.
+/// Returns whether a character can begin an identifier.
 pub(crate) fn is_start(c: char) -> bool
     ensures { result ≡ is_start c }
 {
     unicode_ident::is_xid_start(c) | (c == '_')
 }
 
-/// Whether a character can go on with an identifier.
+/// Returns whether a character can continue an identifier.
 pub(crate) fn is_continuing(c: char) -> bool
     ensures { result ≡ is_continuing c }
 {
     unicode_ident::is_xid_continue(c)
 }
 
-/// Whether a character is one of punctuation.
+/// Returns whether a character is punctuation.
 pub(crate) fn is_mark(c: char) -> bool
     ensures { result ≡ is_mark c }
 {

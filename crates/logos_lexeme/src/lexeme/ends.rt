@@ -1,4 +1,4 @@
-//! Where what opens at a place ends.
+//! Finds the end of the lexeme or gap that opens at a byte offset.
 
 ghost use Rattle.std.specs.Prelude.{◌≡◌, ◌≢◌, ℕ, ◌+◌, ◌-◌, ◌<◌, ◌≤◌, ◌↔◌, length, slice_index, MatchOption, IsTrue};
 ghost use Rattle.std.specs.Str.{IsCharBoundary};
@@ -11,7 +11,7 @@ ghost use Rattle.logos_lexeme.specs.inside.CommentReads.{IsOnward};
 use crate::lexeme::characters::{byte_at, char_at, is_continuing, is_space, past};
 use crate::lexeme::openings::{Content, Opening, name_at};
 
-/// Where a run of white space ends.
+/// Returns the byte offset after a run of white space.
 fn spaces_end(source: &str, from: usize) -> usize
     requires { IsCharBoundary source.now from }
     ensures { Run (Passes is_space source.now) from result }
@@ -23,7 +23,7 @@ fn spaces_end(source: &str, from: usize) -> usize
     end
 }
 
-/// Where a run of characters that continue an identifier ends.
+/// Returns the byte offset after a run of characters that continue an identifier.
 fn letters_end(source: &str, from: usize) -> usize
     requires { IsCharBoundary source.now from }
     ensures run { Run (Passes is_continuing source.now) from result }
@@ -36,7 +36,7 @@ fn letters_end(source: &str, from: usize) -> usize
     end
 }
 
-/// Whether a number that begins here starts with a base.
+/// Returns whether the number that begins at `from` starts with a base.
 #[tactic(auto, unfolding(crate::specs::LexemeEnds::has_base))]
 fn has_base(source: &str, from: usize) -> bool
     requires { from < length source.now }
@@ -46,7 +46,7 @@ fn has_base(source: &str, from: usize) -> bool
     (byte_at(source, from) == b'0') & ((letter == b'x') | (letter == b'o') | (letter == b'b'))
 }
 
-/// How far a number goes on by one step, if it does.
+/// Returns the byte offset after the next step of a number, or `None` if the number ends at `at`.
 fn number_step(source: &str, based: bool, at: usize) -> Option<usize>
     requires inside { at < length source.now }
     requires boundary { IsCharBoundary source.now at }
@@ -72,7 +72,7 @@ fn number_step(source: &str, based: bool, at: usize) -> Option<usize>
     None
 }
 
-/// Where a number ends that goes on from here.
+/// Returns the byte offset after the rest of a number.
 fn number_end(source: &str, based: bool, from: usize) -> usize
     requires boundary { IsCharBoundary source.now from }
     requires begun { 0 < from }
@@ -87,7 +87,7 @@ fn number_end(source: &str, based: bool, from: usize) -> usize
     end
 }
 
-/// The next LF, or the source's end.
+/// Returns the byte offset of the next LF, or of the end of the source.
 fn feed_at(source: &str, from: usize) -> usize
     requires { from ≤ length source.now }
     ensures begun { from ≤ result }
@@ -102,7 +102,7 @@ fn feed_at(source: &str, from: usize) -> usize
     at
 }
 
-/// Where a line comment ends, from behind its `//` on.
+/// Returns the byte offset after a line comment whose text begins at `from`, after its `//`.
 fn line_end(source: &str, from: usize) -> usize
     requires { from ≤ length source.now }
     ensures { IsFirst (IsLineEnd source.now) from result }
@@ -114,7 +114,8 @@ fn line_end(source: &str, from: usize) -> usize
     end
 }
 
-/// One step inside block comments: how many are open behind it, and where; `None` at the end.
+/// Takes one step inside block comments. Returns how many comments are open after it, and the byte
+/// offset; `None` at the end of the source.
 fn block_step(source: &str, depth: usize, at: usize) -> Option<(usize, usize)>
     requires open { 0 < depth }
     requires shallow { depth ≤ at + 1 }
@@ -137,7 +138,8 @@ fn block_step(source: &str, depth: usize, at: usize) -> Option<(usize, usize)>
     Some((depth, at + 1))
 }
 
-/// Where a block comment ends, from behind its `/*` on.
+/// Returns the byte offset after a block comment whose text begins at `from`, after its `/*`.
+/// `None` if it has no end.
 fn block_end(source: &str, from: usize) -> Option<usize>
     requires { from ≤ length source.now + 2 }
     ensures { MatchOption result
@@ -154,7 +156,7 @@ fn block_end(source: &str, from: usize) -> Option<usize>
     Some(at)
 }
 
-/// How many bytes a byte inside quotes takes with what it escapes.
+/// Returns how many bytes `byte` takes inside quotes, together with what it escapes.
 fn width_of(byte: u8) -> usize
     ensures escaped { byte ≡ 92 → result ≡ 2 }
     ensures plain { byte ≢ 92 → result ≡ 1 }
@@ -162,7 +164,7 @@ fn width_of(byte: u8) -> usize
     if byte == b'\\' { 2 } else { 1 }
 }
 
-/// The next quote that is not escaped.
+/// Returns the byte offset of the next quote that is not escaped.
 fn quote_at(source: &str, quote: u8, from: usize) -> Option<usize>
     requires visible { 0 < quote }
     requires no_backslash { quote ≢ 92 }
@@ -181,7 +183,7 @@ fn quote_at(source: &str, quote: u8, from: usize) -> Option<usize>
     None
 }
 
-/// Where a literal ends that ends with an unescaped quote.
+/// Returns the byte offset after the next quote that is not escaped.
 fn quote_end(source: &str, quote: u8, body: usize) -> Option<usize>
     requires visible { 0 < quote }
     requires no_backslash { quote ≢ 92 }
@@ -193,7 +195,7 @@ fn quote_end(source: &str, quote: u8, body: usize) -> Option<usize>
     Some(at + 1)
 }
 
-/// Whether a quote with so many `#` behind it stands here.
+/// Returns whether a quote followed by `count` `#` stands at the byte offset `at`.
 fn is_raw_end(source: &str, count: u8, at: usize) -> bool
     requires { at < length source.now }
     ensures { IsTrue result ↔ IsRawEnd count source.now at }
@@ -209,7 +211,8 @@ fn is_raw_end(source: &str, count: u8, at: usize) -> bool
     true
 }
 
-/// Where a raw string ends.
+/// Returns the byte offset after a raw string whose contents begin at `body`. `None` if it has no
+/// end.
 fn raw_end(source: &str, count: u8, body: usize) -> Option<usize>
     ensures { MatchOption result
         ((to : ℕ) → IsRaw count source.now body to → ⊥)
@@ -225,7 +228,7 @@ fn raw_end(source: &str, count: u8, body: usize) -> Option<usize>
     None
 }
 
-/// Where an identifier ends.
+/// Returns the byte offset after the identifier at `at`, or `None` if there is none.
 fn name_end(source: &str, at: usize) -> Option<usize>
     requires { IsCharBoundary source.now at }
     ensures { MatchOption result
@@ -236,7 +239,8 @@ fn name_end(source: &str, at: usize) -> Option<usize>
     Some(letters_end(source, past(source, name)))
 }
 
-/// Where the suffix of a literal ends; it may be none.
+/// Returns the byte offset after the suffix of a literal that ends at `at`. The suffix can be
+/// empty.
 pub(crate) fn suffix_end(source: &str, at: usize) -> usize
     requires { IsCharBoundary source.now at }
     ensures suffix { IsSuffix source.now at result }
@@ -248,7 +252,7 @@ pub(crate) fn suffix_end(source: &str, at: usize) -> usize
     }
 }
 
-/// How many bytes stand in front of a literal's `r`, `'` or quote.
+/// Returns how many bytes stand before the `r`, `'` or quote of a literal.
 pub fn prefix_of(content: Content) -> usize
     ensures { result ≡ prefix_of content }
 {
@@ -258,7 +262,8 @@ pub fn prefix_of(content: Content) -> usize
     }
 }
 
-/// Where what opens at `from` ends, the suffix of a literal left out; `None` where it has no end.
+/// Returns the byte offset after what opens at `from`, without the suffix of a literal. `None` if
+/// it has no end.
 pub fn end_of(source: &str, from: usize, opens: Opening) -> Option<usize>
     requires inside { from < length source.now }
     requires boundary { IsCharBoundary source.now from }

@@ -1,4 +1,4 @@
-//! What opens at a place of a source text.
+//! Classifies what opens at a byte offset of a source text.
 
 ghost use Rattle.std.specs.Prelude.{◌≡◌, ◌+◌, ◌<◌, ◌≤◌, min, length, slice_index};
 ghost use Rattle.std.specs.Char.{is_ascii_digit};
@@ -8,7 +8,7 @@ ghost use Rattle.logos_lexeme.specs.LexemeOpenings.{hashes, raw_opening, string_
 use crate::lexeme::characters::{byte_at, char_at, is_mark, is_space, is_start, past};
 use crate::lexeme::{Delimiter, Kind, Spacing};
 
-/// What a literal holds.
+/// What a literal can hold.
 #[derive(Clone, Copy)]
 pub enum Content {
     /// Characters.
@@ -19,7 +19,7 @@ pub enum Content {
     C,
 }
 
-/// What opens at a place.
+/// The lexemes and gaps by how they open.
 #[derive(Clone, Copy)]
 pub enum Opening {
     /// White space.
@@ -42,7 +42,7 @@ pub enum Opening {
     Character,
     /// A lexeme of one character.
     Single(Kind),
-    /// Nothing.
+    /// Nothing opens.
     Nothing,
 }
 
@@ -99,8 +99,8 @@ fn character_opening(source: &str, at: usize) -> Option<Opening>
     if byte_at(source, at) == b'\\' {
         return Some(Opening::Apostrophes(Content::Text));
     }
-    let behind = at + char_at(source, at).len_utf8();
-    if byte_at(source, behind) == b'\'' {
+    let after = at + char_at(source, at).len_utf8();
+    if byte_at(source, after) == b'\'' {
         return Some(Opening::Character);
     }
     None
@@ -258,11 +258,11 @@ fn single_kind(source: &str, at: usize) -> Option<Kind>
     ensures { result ≡ single_kind source.now at }
 {
     let c = char_at(source, at);
-    let behind = past(source, at);
+    let after = past(source, at);
     if is_mark(c) {
-        return Some(Kind::Punctuation(spacing(source, behind)));
+        return Some(Kind::Punctuation(spacing(source, after)));
     }
-    if c == '\'' && is_start(char_at(source, behind)) {
+    if c == '\'' && is_start(char_at(source, after)) {
         return Some(Kind::Punctuation(Spacing::Joint));
     }
     if c == '\u{FEFF}' && at == 0 {
@@ -344,7 +344,7 @@ pub fn opening_at(source: &str, at: usize) -> Opening
     other_opening(source, at)
 }
 
-/// Returns the kind of the lexeme that opens so.
+/// Returns the kind of the lexeme or gap that opens so.
 pub(crate) fn kind_of(opens: Opening) -> Kind
     ensures { result ≡ kind_of opens }
 {

@@ -1,35 +1,84 @@
--- What contracts see of a look from a state on.
-use Rattle.std.specs.Prelude.{◌≡◌, ℕ, ◌+◌, ◌-◌, ◌<◌, ◌≤◌, List, length, drop, Option, Some, None}
-use Rattle.logos_automaton.specs.Munch.{matched}
+-- What contracts see of the fast way of a try.
+use Rattle.std.specs.Prelude.{◌≡◌, ℕ, ◌+◌, ◌-◌, ◌<◌, ◌≤◌, ◌⊎◌, List, length, drop, Option, Some}
+use Rattle.std.specs.List.{prefix_len}
+use Rattle.logos_automaton.specs.Munch.{Found, ended, matched, failed}
+use Rattle.logos_code.specs.Bytes.{passes_test}
 use Rattle.logos_code.specs.Code.{CodeValue}
-use Rattle.logos_code.specs.CodeView.{state_at}
-use Rattle.logos_code.specs.Rows.{IsStepOf}
-use Rattle.logos_code.specs.Runs.{enters, acts, looped, Does, Tries}
-use Rattle.logos_machine.specs.inside.Stands.{IsMatch}
+use Rattle.logos_code.specs.Rows.{IsStepOf, IsUse}
+use Rattle.logos_code.specs.Runs.{enters, acts, Does, Goes, Tries}
+use Rattle.logos_machine.specs.inside.Stands.{IsStand, StaysWithin}
+use Rattle.logos_code.specs.declared.code.rows.MatchUse.TheVariants.{Emits, Skips}
 use Rattle.logos_code.specs.declared.code.rows.Step.{Step}
-use Rattle.logos_code.specs.declared.code.rows.Step.TheVariants.{Leads, Closes, Halts, Unsaid}
+use Rattle.logos_code.specs.declared.code.rows.Step.TheVariants.{Leads, Stays, Closes, Halts, Unsaid}
+use Rattle.logos_machine.specs.declared.machine.walk.Outcome.{Outcome}
+use Rattle.logos_machine.specs.declared.machine.walk.Outcome.TheVariants.{Skips as SkipsTo, Emits as EmitsTo, Asks as AsksTo, Fails, Ends}
+
+-- where the bytes end that pass a test
+abbrev pub StopsAt : CodeValue → ℕ → List ℕ → ℕ → ℕ → Type 0
+StopsAt code test bytes from stop = stop ≡ from + prefix_len (passes_test code.bit_tables test) (drop from bytes)
 
 module _ (code : CodeValue) (bytes : List ℕ) (start : ℕ) where
-  -- A step that is seen from a state on is what the state does, whatever was passed before. The fast loop ends at the stop.
-  abbrev pub Sees : (state offset stop : ℕ) → Step → Type 0
-  Sees state offset stop (Leads next) = (context : Option (ℕ × ℕ)) → (passed : Option (ℕ × ℕ)) ×
+  -- the state leads to another one, whatever was passed before
+  abbrev pub LeadsOn : (state offset stop next : ℕ) → Type 0
+  LeadsOn state offset stop next = (context : Option (ℕ × ℕ)) → (passed : Option (ℕ × ℕ)) ×
       Does code bytes start (record { state = state; offset = offset; context = context }) (enters (record { state = next; offset = stop + 1; context = passed }))
-  Sees state offset stop (Closes leaf) = (context : Option (ℕ × ℕ)) → (next : ℕ) × (passed : Option (ℕ × ℕ)) ×
+
+  -- the try ends in the state with a match of the leaf up to the stop
+  abbrev pub EndsHere : (state offset stop leaf : ℕ) → Type 0
+  EndsHere state offset stop leaf = (context : Option (ℕ × ℕ)) →
+      Does code bytes start (record { state = state; offset = offset; context = context }) (acts (Some (leaf, stop)) stop)
+
+  -- or in the next one, one byte later
+  abbrev pub EndsNext : (state offset stop leaf : ℕ) → Type 0
+  EndsNext state offset stop leaf = (context : Option (ℕ × ℕ)) → (next : ℕ) × (passed : Option (ℕ × ℕ)) ×
       Does code bytes start (record { state = state; offset = offset; context = context }) (enters (record { state = next; offset = stop + 1; context = passed })) ×
-      Does code bytes start (record { state = next; offset = stop + 1; context = passed }) (acts (Some (leaf.0, stop + 1)) (stop + 1))
-  Sees state offset stop (Halts leaf) = (context : Option (ℕ × ℕ)) →
-      Does code bytes start (record { state = state; offset = offset; context = context }) (acts (Some (leaf.0, stop)) stop)
+      Does code bytes start (record { state = next; offset = stop + 1; context = passed }) (acts (Some (leaf, stop + 1)) (stop + 1))
+
+  -- A step that is seen from a state on is what the state does. Its fast loop ends at the stop.
+  abbrev pub Sees : (state offset stop : ℕ) → Step → Type 0
+  Sees state offset stop (Leads next) = LeadsOn state offset stop next
+  Sees state offset stop (Stays test) = Unit {0}
+  Sees state offset stop (Halts leaf used) = EndsHere state offset stop leaf.0 × IsUse code leaf.0 used
+  Sees state offset stop (Closes leaf used) = EndsNext state offset stop leaf.0 × IsUse code leaf.0 used
   Sees state offset stop Unsaid = Unit {0}
 
--- What is seen from a state on: the bytes up to the end of the input stay in it, or a byte stands at the stop whose entry says what it does.
-abbrev pub SeesBy : CodeValue → List ℕ → (state offset : ℕ) → Option (ℕ × ℕ) → Type 0
-SeesBy code bytes state offset None = length bytes ≡ offset + looped code (state_at code state).fast_loop (drop offset bytes)
-SeesBy code bytes state offset (Some seen) = (offset ≤ seen.0) × (seen.0 < length bytes) ×
-    ((start : ℕ) → start ≤ offset → (step : Step) → IsStepOf seen.1 step → Sees code bytes start state offset seen.0 step)
+  -- The try enters the state after so many others, and what goes on from there is the whole try.
+  pub record Comes (state offset before : ℕ) : Type 0 where
+    pub context : Option (ℕ × ℕ)
+    pub stands : IsStand code bytes start (record { state = state; offset = offset; context = context })
+    pub few : before + start ≤ offset
+    pub goes_on : (found : Found) (n : ℕ) → Goes code bytes start (record { state = state; offset = offset; context = context }) found n → Tries code bytes start found (before + n)
 
-module _ (code : CodeValue) (bytes : List ℕ) (start : ℕ) where
-  -- a match that a try finds in this many states
-  pub record FindsSoon (leaf to steps : ℕ) : Type 0 where
-    pub tries : Tries code bytes start (matched leaf to) steps
-    pub match : IsMatch code bytes start leaf to
+  -- The try comes to a state after so many others, whose fast loop ends at the stop, and the entry says what the state does there.
+  pub record Reaches (entry stop before : ℕ) : Type 0 where
+    pub state : ℕ
+    pub offset : ℕ
+    pub comes : Comes state offset before
+    pub past : offset ≤ stop
+    pub within : stop ≤ length bytes
+    pub sees : (step : Step) → IsStepOf entry step → Sees state offset stop step
+
+  -- a try finds this in so many states
+  pub record Tried (found : Found) (steps : ℕ) : Type 0 where
+    pub tries : Tries code bytes start found steps
+    pub within : StaysWithin code bytes start found
     pub few : steps ≤ (length bytes - start) + 2
+
+  -- what a try finds
+  abbrev pub IsOutcome : Outcome → Type 0
+  IsOutcome (SkipsTo to) = (leaf : ℕ) × (steps : ℕ) × Tried (matched leaf to) steps × IsUse code leaf Skips
+  IsOutcome (EmitsTo leaf to steps) = Tried (matched leaf.0 to) steps × IsUse code leaf.0 Emits
+  IsOutcome (AsksTo leaf to steps) = Tried (matched leaf.0 to) steps
+  IsOutcome (Fails to steps) = Tried (failed to) steps
+  IsOutcome (Ends steps) = Tried ended steps
+
+-- An entry that comes after those that lead and stay, or that leads at a byte.
+abbrev pub GoesOnOrEnds : List ℕ → (entry stop : ℕ) → Type 0
+GoesOnOrEnds bytes entry stop = ((entry < 268435456) × (stop < length bytes)) ⊎ (536870912 ≤ entry)
+
+-- what the entry at the stop says of the state that is entered at the offset
+pub record LooksAhead (code : CodeValue) (bytes : List ℕ) (state offset entry stop : ℕ) : Type 0 where
+  pub past : offset ≤ stop
+  pub within : stop ≤ length bytes
+  pub moves : GoesOnOrEnds bytes entry stop
+  pub sees : (start : ℕ) → start ≤ offset → (step : Step) → IsStepOf entry step → Sees code bytes start state offset stop step

@@ -1,16 +1,14 @@
-//! One try: from a place of the input to a match, an error or the end.
+//! The slow way of a try: state by state, with the marks that it passes.
 ghost use Rattle.std.specs.Prelude.{◌≡◌, ◌+◌, ◌-◌, ◌<◌, ◌≤◌, ℕ, max, length, slice_get, drop};
 ghost use Rattle.std.specs.Prelude.{option_map, IfSome, IsTrue, IsCharBoundary, ◌^◌, ◌↔◌};
 ghost use Rattle.logos_code.specs.CodeView.{state_at};
 ghost use Rattle.logos_code.specs.Signs.{mark_by};
 ghost use Rattle.logos_code.specs.Runs.{Does, Tries, EndsError, target, looped, marked};
 ghost use Rattle.logos_machine.specs.inside.Stands.{IsStand, StaysWithin};
-ghost use Rattle.logos_machine.specs.inside.Looks.{SeesBy, FindsSoon};
 ghost use Rattle.logos_machine.specs.inside.Attempts.{context_of, stand_of, turn_of, found_of};
 
-use super::fast_loop::{first_stop, stop_in};
+use super::fast_loop::stop;
 use logos_code::code::Code;
-use logos_code::code::rows::{Step, step_of};
 use logos_code::code::signs::Sign;
 use logos_hir::leaf::LeafId;
 
@@ -90,15 +88,31 @@ fn stop_of(code: &Code, input: &[u8], state: usize, offset: usize) -> Stop
             target: None,
         };
     }
-    match stop_in(code.row(state), &input[offset..]) {
-        Some((len, _)) => Stop {
-            offset: offset + len,
-            target: Some(code.target(state, input[offset + len])),
-        },
-        None => Stop {
-            offset: input.len(),
+    let end = loop_end(code, input, state, offset);
+    if end >= input.len() {
+        return Stop {
+            offset: end,
             target: None,
-        },
+        };
+    }
+    Stop {
+        offset: end,
+        target: Some(code.target(state, input[end])),
+    }
+}
+
+/// Returns the end of the fast loop of a state that is entered at the offset.
+#[inline]
+fn loop_end(code: &Code, input: &[u8], state: usize, offset: usize) -> usize
+    requires state { state < length code.now.states }
+    requires within { offset ≤ length input.now }
+    ensures is { result
+        ≡ offset + looped code.now (state_at code.now state).fast_loop (drop offset input.now) }
+    ensures within { result ≤ length input.now }
+{
+    match code.fast_loop(state) {
+        Some(test) => stop(code, test, input, offset),
+        None => offset,
     }
 }
 
@@ -151,76 +165,10 @@ fn is_continuation(byte: u8) -> bool
     matches!(byte, 0x80..=0xBF)
 }
 
-/// What is found from a place of the input on, and the number of states entered.
-#[inline(always)]
-pub(super) fn attempt(code: &Code, input: &[u8], start: usize) -> (Found, usize)
-    requires { start ≤ length input.now }
-    ensures tries { Tries code.now input.now start (found_of result.0) result.1 }
-    ensures within { StaysWithin code.now input.now start (found_of result.0) }
-    ensures few { result.1 ≤ (length input.now - start) + 2 }
-{
-    match match_soon(code, input, start) {
-        Some((leaf, to, steps)) => (Found::Matched(leaf, to), steps),
-        None => attempt_again(code, input, start),
-    }
-}
-
-/// A match that ends in the state in which the try does: no mark has to be kept for it. Its leaf, its end, and the
-/// number of states entered.
-#[inline(always)]
-fn match_soon(code: &Code, input: &[u8], start: usize) -> Option<(LeafId, usize, usize)>
-    requires { start ≤ length input.now }
-    ensures { IfSome result (λ r. FindsSoon code.now input.now start r.0.0 r.1 r.2) }
-{
-    let mut seen = look(code, input, code.root(), start)?;
-    let mut before = 0;
-    loop {
-        let (stop, entry) = seen;
-        match step_of(entry) {
-            Step::Leads(next) => match look(code, input, next, stop + 1) {
-                Some(later) => seen = later,
-                None => {
-                    return match code.last_step(next) {
-                        Step::Halts(leaf) => Some((leaf, input.len(), before + 2)),
-                        _ => None,
-                    };
-                }
-            },
-            Step::Closes(leaf) => return Some((leaf, stop + 1, before + 2)),
-            Step::Halts(leaf) => return Some((leaf, stop, before + 1)),
-            Step::Unsaid => return None,
-        }
-        before += 1;
-    }
-}
-
-/// Where the state's fast loop ends, and the entry of the byte there, if one is there.
-#[inline(always)]
-fn look(code: &Code, input: &[u8], state: usize, offset: usize) -> Option<(usize, u32)>
-    requires state { state < length code.now.states }
-    requires within { offset ≤ length input.now }
-    ensures { SeesBy code.now input.now state offset result }
-{
-    match first_stop(code.row(state), &input[offset..]) {
-        Some((len, entry)) => Some((offset + len, entry)),
-        None => None,
-    }
-}
-
-/// A try that keeps the marks passed, called apart. The room for what it gives is made here, so a try that needs no marks makes none.
-#[inline(always)]
-fn attempt_again(code: &Code, input: &[u8], start: usize) -> (Found, usize)
-    requires { start ≤ length input.now }
-    ensures tries { Tries code.now input.now start (found_of result.0) result.1 }
-    ensures within { StaysWithin code.now input.now start (found_of result.0) }
-    ensures few { result.1 ≤ (length input.now - start) + 2 }
-{
-    attempt_with_marks(code, input, start)
-}
-
 /// What is found from a place on, and the number of states entered, by a try that keeps the marks passed.
+#[cold]
 #[inline(never)]
-fn attempt_with_marks(code: &Code, input: &[u8], start: usize) -> (Found, usize)
+pub(super) fn attempt_with_marks(code: &Code, input: &[u8], start: usize) -> (Found, usize)
     requires { start ≤ length input.now }
     ensures tries { Tries code.now input.now start (found_of result.0) result.1 }
     ensures within { StaysWithin code.now input.now start (found_of result.0) }

@@ -1,55 +1,88 @@
-//! Fast loops: where the bytes end that stay in a state.
-ghost use Rattle.logos_code.specs.Rows.{StopsIn};
+//! Fast loops: where the bytes end that pass a test.
+ghost use Rattle.std.specs.Prelude.{◌≡◌, ◌<◌, ◌≤◌, ◌^◌, length, map, not};
+ghost use lib.Lanes.{mask_l};
+ghost use Rattle.logos_code.specs.Bytes.{passes_test};
+ghost use Rattle.logos_code.specs.Headline.{NamesTest};
+ghost use Rattle.logos_code.specs.Masks.{mask_bit};
+ghost use Rattle.logos_machine.specs.inside.Looks.{StopsAt};
 
-use logos_code::code::rows::is_staying;
+use logos_code::code::Code;
 
-/// The first byte that does not stay in the state of the row: how many are in front of it, and its
-/// entry, as by `stop_in`. One byte is looked at by itself, since in most states it leads on.
+/// Returns the index of the first byte from `from` on that does not pass the test, or the length of the input. Eight
+/// bytes are tested at once, without a branch for each.
 #[inline(always)]
-pub(super) fn first_stop(row: &[u32; 256], bytes: &[u8]) -> Option<(usize, u32)>
-    ensures { StopsIn row.now bytes.now result }
+pub(super) fn stop(code: &Code, test: usize, input: &[u8], from: usize) -> usize
+    requires test { NamesTest code.now test }
+    requires within { from ≤ length input.now }
+    ensures { StopsAt code.now test input.now from result }
 {
-    let [byte, rest @ ..] = bytes else {
-        return None;
+    let Some(block) = input[from..].first_chunk::<8>() else {
+        return stop_late(code, test, input, from);
     };
-    let entry = row[*byte as usize];
-    if !is_staying(entry) {
-        return Some((0, entry));
+    let bits = stopping(code, test, block);
+    if bits != 0 {
+        return from + bits.trailing_zeros() as usize;
     }
-    match stop_in(row, rest) {
-        Some((len, entry)) => Some((len + 1, entry)),
-        None => None,
-    }
+    stop_far(code, test, input, from + 8)
 }
 
-/// Where the bytes at the front end that stay in the state of the row: how many they are, and the entry of the byte behind them.
-/// Eight bytes are taken at a time while eight are there.
+/// Returns a number whose bit `k` is set if byte `k` of the block does not pass the test.
 #[inline(always)]
-pub(super) fn stop_in(row: &[u32; 256], bytes: &[u8]) -> Option<(usize, u32)>
-    ensures { StopsIn row.now bytes.now result }
+fn stopping(code: &Code, test: usize, block: &[u8; 8]) -> u8
+    requires { NamesTest code.now test }
+    ensures { result ≡ mask_l (map (λ b. not (passes_test code.now.bit_tables test b)) block.now) }
 {
-    let mut at = 0;
-    while bytes.len() - at >= 8 {
-        if let Some((i, entry)) = stop_in_few(row, &bytes[at..at + 8]) {
-            return Some((at + i, entry));
+    bit(code, test, block[0], 0)
+        + bit(code, test, block[1], 1)
+        + bit(code, test, block[2], 2)
+        + bit(code, test, block[3], 3)
+        + bit(code, test, block[4], 4)
+        + bit(code, test, block[5], 5)
+        + bit(code, test, block[6], 6)
+        + bit(code, test, block[7], 7)
+}
+
+/// Returns bit `k` alone if the byte does not pass the test, and else 0.
+#[inline(always)]
+fn bit(code: &Code, test: usize, byte: u8, k: usize) -> u8
+    requires test { NamesTest code.now test }
+    requires place { k < 8 }
+    ensures is { result ≡ mask_bit (passes_test code.now.bit_tables test byte) k }
+    ensures small { result ≤ 2 ^ k }
+{
+    code.mask(test)[8 * byte as usize + k]
+}
+
+/// Does what `stop` does, where a run is long.
+#[cold]
+#[inline(never)]
+fn stop_far(code: &Code, test: usize, input: &[u8], from: usize) -> usize
+    requires test { NamesTest code.now test }
+    requires within { from ≤ length input.now }
+    ensures { StopsAt code.now test input.now from result }
+{
+    let mut at = from;
+    while let Some(block) = input[at..].first_chunk::<8>() {
+        let bits = stopping(code, test, block);
+        if bits != 0 {
+            return at + bits.trailing_zeros() as usize;
         }
         at += 8;
     }
-    let (i, entry) = stop_in_few(row, &bytes[at..])?;
-    Some((at + i, entry))
+    stop_late(code, test, input, at)
 }
 
-/// What `stop_in` finds, for a few bytes that are looked at one by one. The compiler unrolls it where
-/// eight are handed over.
-#[inline(always)]
-fn stop_in_few(row: &[u32; 256], bytes: &[u8]) -> Option<(usize, u32)>
-    ensures { StopsIn row.now bytes.now result }
+/// Does what `stop` does, byte by byte, where fewer than eight bytes are left.
+#[cold]
+#[inline(never)]
+fn stop_late(code: &Code, test: usize, input: &[u8], from: usize) -> usize
+    requires test { NamesTest code.now test }
+    requires within { from ≤ length input.now }
+    ensures { StopsAt code.now test input.now from result }
 {
-    for (i, byte) in bytes.iter().enumerate() {
-        let entry = row[*byte as usize];
-        if !is_staying(entry) {
-            return Some((i, entry));
-        }
+    let mut at = from;
+    while at < input.len() && bit(code, test, input[at], 0) == 0 {
+        at += 1;
     }
-    None
+    at
 }

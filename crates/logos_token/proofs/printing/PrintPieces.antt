@@ -10,14 +10,14 @@ use Rattle.logos_lexeme.specs.declared.lexeme.Kind.{Kind}
 use Rattle.logos_lexeme.specs.declared.lexeme.Kind.TheVariants.{Gap, Identifier, Literal, Doc, Punctuation, Opening, Closing}
 use Rattle.logos_lexeme.specs.Lexemes.{IsNext}
 use Rattle.logos_token.specs.Spelling.{Piece, Pieces, lexeme_of, seen}
-use Rattle.logos_token.specs.Printing.{Part, gap_behind, is_line_comment}
+use Rattle.logos_token.specs.Printing.{Part, gap_after, is_line_comment}
 use Rattle.logos_token.proofs.reading.PieceLemmas.{piece-advances, piece-boundary}
 use Rattle.logos_lexeme.proofs.again.PrintWindows.{Window}
 use Rattle.logos_token.proofs.printing.PrintParts.{parts, parts-append, after}
 
 -- what is printed behind a lexeme of this kind
 abbrev pub gap_of : List ℕ → Kind → ℕ → ℕ → List ℕ
-gap_of bytes (Punctuation spacing) from to = gap_behind spacing
+gap_of bytes (Punctuation spacing) from to = gap_after spacing
 gap_of bytes Doc from to = cond (is_line_comment (slice_range bytes from to)) (10 ∷ []) (32 ∷ [])
 gap_of bytes _ from to = 32 ∷ []
 

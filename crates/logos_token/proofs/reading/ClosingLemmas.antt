@@ -48,18 +48,18 @@ module _ (bytes : List ℕ) (delimiter : Delimiter) (span : Span) (entries : Lis
   unfolding place_of
   top-place = ap (λ b. b.place) i.is-top
 
-  kept : frame_entries i.rest i.frame.before ++ group_entry i.frame.delimiter i.frame.span 0 ∷ flat r.current ≡ entries
-  kept = ap (λ fs. frame_entries fs r.current) (sym i.is) ∙ r.kept
+  held : frame_entries i.rest i.frame.before ++ group_entry i.frame.delimiter i.frame.span 0 ∷ flat r.current ≡ entries
+  held = ap (λ fs. frame_entries fs r.current) (sym i.is) ∙ r.held
 
   pub top-within : top.place + 1 ≤ length entries
   top-within =
-      let e = ap length (sym kept) ∙ length-append (frame_entries i.rest i.frame.before) (group_entry i.frame.delimiter i.frame.span 0 ∷ flat r.current) in
+      let e = ap length (sym held) ∙ length-append (frame_entries i.rest i.frame.before) (group_entry i.frame.delimiter i.frame.span 0 ∷ flat r.current) in
       let p = top-place in
       omega arith
 
   top-size : length entries - top.place - 1 ≡ length (flat r.current)
   top-size =
-      let e = ap length (sym kept) ∙ length-append (frame_entries i.rest i.frame.before) (group_entry i.frame.delimiter i.frame.span 0 ∷ flat r.current) in
+      let e = ap length (sym held) ∙ length-append (frame_entries i.rest i.frame.before) (group_entry i.frame.delimiter i.frame.span 0 ∷ flat r.current) in
       let p = top-place in
       omega arith
 
@@ -88,7 +88,7 @@ module _ (bytes : List ℕ) (delimiter : Delimiter) (span : Span) (entries : Lis
         ∙ ap (λ s. front ++ E delimiter s.from (length (flat r.current)) ∷ flat r.current) top-span
         ∙ ap (λ n. front ++ E delimiter top.span.from n ∷ flat r.current) (sym top-size)
         ∙ sym (set_at front (group_entry i.frame.delimiter i.frame.span 0) (flat r.current) (E delimiter top.span.from (length entries - top.place - 1)) top.place top-place)
-        ∙ ap (λ es. set es top.place (E delimiter top.span.from (length entries - top.place - 1))) kept
+        ∙ ap (λ es. set es top.place (E delimiter top.span.from (length entries - top.place - 1))) held
 
     pub read-closing : IsRead bytes span.to (set entries top.place (group_entry delimiter (record { from = top.span.from; to = span.to }) (length entries - top.place - 1))) begun
     read-closing =

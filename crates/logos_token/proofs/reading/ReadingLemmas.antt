@@ -80,14 +80,14 @@ module _ (bytes : List ℕ) (kind : Kind) (span : Span) (entries : List EntryVal
         current = current;
         openings = openings;
         nested = nested ∙ ap (λ ls. ls ++ lexeme_of bytes kind span) r.nested ∙ sym more;
-        kept = refl;
+        held = refl;
         places = refl;
       }
 
 pub read-gap : (bytes : List ℕ) (span : Span) (entries : List EntryValue) (begun : List OpenGroup) → IsRead bytes span.from entries begun → IsNext bytes span.from Gap span.to → IsRead bytes span.to entries begun
 read-gap bytes span entries begun r next =
     let more = read-more bytes Gap span entries begun r next r.frames r.current r.openings (sym (append-nil (frame_lexemes r.frames r.current))) (read-shallow bytes span.from entries begun r) in
-    rw (r.kept, r.places) at more
+    rw (r.held, r.places) at more
 
 -- a token without others inside
 pub read-leaf : (bytes : List ℕ) (kind : Kind) (span : Span) (entries : List EntryValue) (begun : List OpenGroup) (token : Token) (value : EntryValue) → IsRead bytes span.from entries begun → IsNext bytes span.from kind span.to →
@@ -98,9 +98,9 @@ read-leaf bytes kind span entries begun token value r next is lexeme entry =
     frame_lexemes-append r.frames r.current new ∙ ap (λ ls. frame_lexemes r.frames r.current ++ ls) (append-nil (token_lexemes token) ∙ lexeme ∙ sym is) in
     let most : most_open (length (marks r.frames)) (lexeme_of bytes kind span) ≤ 128 = rw is (read-shallow bytes span.from entries begun r) in
     let more = read-more bytes kind span entries begun r next r.frames (append r.current new) r.openings nested most in
-    let kept : frame_entries r.frames (append r.current new) ≡ entries ++ value ∷ [] =
-    frame_entries-append r.frames r.current new ∙ ap (λ es. es ++ (flat_token token ++ [])) r.kept ∙ ap (λ es. entries ++ es) (append-nil (flat_token token) ∙ entry) in
-    rw (kept, r.places) at more
+    let held : frame_entries r.frames (append r.current new) ≡ entries ++ value ∷ [] =
+    frame_entries-append r.frames r.current new ∙ ap (λ es. es ++ (flat_token token ++ [])) r.held ∙ ap (λ es. entries ++ es) (append-nil (flat_token token) ∙ entry) in
+    rw (held, r.places) at more
 
 pub read-opening : (bytes : List ℕ) (delimiter : Delimiter) (span : Span) (entries : List EntryValue) (begun : List OpenGroup) (place : ℕ) → IsRead bytes span.from entries begun → IsNext bytes span.from (Opening delimiter) span.to →
     length begun < 128 → length entries ≡ place → IsRead bytes span.to (entries ++ group_entry delimiter span 0 ∷ []) (begun ++ (record { delimiter = delimiter; span = span; place = place }) ∷ [])
@@ -108,7 +108,7 @@ read-opening bytes delimiter span entries begun place r next room is =
     let frame : Frame = record { before = r.current; delimiter = delimiter; span = span } in
     let count = read-count bytes span.from entries begun r in
     let more = read-more bytes (Opening delimiter) span entries begun r next (frame ∷ r.frames) none (next, r.openings) refl (omega arith) in
-    rw (r.kept, r.places, is) at more
+    rw (r.held, r.places, is) at more
 
 pub read-too_deep : (bytes : List ℕ) (delimiter : Delimiter) (span : Span) (entries : List EntryValue) (begun : List OpenGroup) → IsRead bytes span.from entries begun → IsNext bytes span.from (Opening delimiter) span.to →
     128 ≤ length begun → IsTooDeep bytes span
@@ -119,7 +119,7 @@ read-too_deep bytes delimiter span entries begun r next full =
 
 -- nothing is read
 pub read-start : (bytes : List ℕ) → IsRead bytes 0 [] []
-read-start bytes = record { pieces = []; filled = refl; shallow = omega arith; frames = []; current = none; openings = tt; nested = refl; kept = refl; places = refl }
+read-start bytes = record { pieces = []; filled = refl; shallow = omega arith; frames = []; current = none; openings = tt; nested = refl; held = refl; places = refl }
 
 -- no group is begun
 no-frames : (frames : List Frame) → frame_places frames ≡ [] → frames ≡ []
@@ -147,7 +147,7 @@ read-whole bytes entries r =
     let shallow = r.shallow in
     record {
       tokens = r.current;
-      is = ap (λ fs. frame_entries fs r.current) (sym is) ∙ r.kept;
+      is = ap (λ fs. frame_entries fs r.current) (sym is) ∙ r.held;
       spells = record { pieces = r.pieces; filled = r.filled; nested = nested };
       shallow = omega arith;
     }

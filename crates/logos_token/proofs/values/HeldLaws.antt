@@ -68,7 +68,7 @@ module _ (escapes : Bool) (content : Content) (bytes : List ℕ) (closes : ℕ �
 
   nothing_more : (at to : ℕ) (held : List ℕ) → at ≡ to → Holds escapes content bytes at to held → held ≡ []
   nothing_more at to held e none = refl
-  nothing_more at to held e (more {mid = mid} {said = said} {rest = rest} s h f) = absurd (omega (arith, Says-moves escapes content bytes at mid said s, Holds-le escapes content bytes mid to rest h))
+  nothing_more at to held e (more {mid = mid} {first = said} {rest = rest} s h f) = absurd (omega (arith, Says-moves escapes content bytes at mid said s, Holds-le escapes content bytes mid to rest h))
 
   still_open : (at to : ℕ) → Close at to → to < at + 0 → (b : Bool) → closes at ≡ b → ⊥
   still_open at to c l true e = let f = closing.one at to e c in omega arith
@@ -77,7 +77,7 @@ module _ (escapes : Bool) (content : Content) (bytes : List ℕ) (closes : ℕ �
   goes : (most at to : ℕ) (held : List ℕ) → closes at ≡ false → Close at to → ((next : ℕ) (rest : List ℕ) → Close next to → Holds escapes content bytes next to rest → at < next → from most next ≡ Some rest) →
       Holds escapes content bytes at to held → behind most (piece_at escapes content bytes at) ≡ Some held
   goes most at to held e c all none = absurd (let f = closing.ahead at to e c in omega arith)
-  goes most at to held e c all (more {mid = mid} {said = said} {rest = rest} s h f) =
+  goes most at to held e c all (more {mid = mid} {first = said} {rest = rest} s h f) =
       let others = all mid rest (closing.back at mid to said e s c) h (Says-moves escapes content bytes at mid said s) in
       rw (piece-all content bytes at escapes mid said s) (rw others (ap Some (sym f)))
 
@@ -298,7 +298,7 @@ as-one content other xs e = ap (λ c. held_as c xs) e
 module _ (text : List ℕ) where
   quotes-held : (content other : Content) (end : ℕ) (xs : List ℕ) → Ends text 0 (Quotes content) end → HoldsIn text (Quotes content) end other xs → held_in text (Quotes content) ≡ held_as other xs
   quotes-held content other end xs e h =
-      let whole : end - 1 ≡ e.quote_at = omega (arith, e.behind) in
+      let whole : end - 1 ≡ e.quote_at = omega (arith, e.after) in
       let closing = closing-quote text content in
       let inside = quote-within text (body_of (Quotes content) 0) e.quote_at e.until in
       let filled : Holds true content text (body_of (Quotes content) 0) e.quote_at xs = rw whole at (subst (λ c. Holds true c text (body_of (Quotes content) 0) (end - 1) xs) refl h.1) in
@@ -306,7 +306,7 @@ module _ (text : List ℕ) where
 
   raw-held : (content other : Content) (count end : ℕ) (xs : List ℕ) → Ends text 0 (Raw content count) end → HoldsIn text (Raw content count) end other xs → held_in text (Raw content count) ≡ held_as other xs
   raw-held content other count end xs e h =
-      let whole : end - 1 - count ≡ e.quote_at = omega (arith, e.behind) in
+      let whole : end - 1 - count ≡ e.quote_at = omega (arith, e.after) in
       let closing = closing-raw count text content in
       let inside = closing.inside (body_of (Raw content count) 0) e.quote_at e.first in
       let filled : Holds false content text (body_of (Raw content count) 0) e.quote_at xs = rw whole at h.1 in
@@ -349,13 +349,13 @@ module _ (text : List ℕ) where
       let k = kind_of_held content (held_from true content (is_quote text) text (length text) body) other xs h e f in
       let filled = held-some true content text (is_quote text) (ReachesQuote 34 text) (closing-quote text content) (length text) body xs k.1 in
       let whole : filled.0 ≡ filled.0 + 1 - 1 = omega arith in
-      (filled.0 + 1, record { quote_at = filled.0; until = filled.1; behind = refl }, (k.0, rw whole at filled.2))
+      (filled.0 + 1, record { quote_at = filled.0; until = filled.1; after = refl }, (k.0, rw whole at filled.2))
   in-back (Raw content count) other xs h e f =
       let body = body_of (Raw content count) 0 in
       let k = kind_of_held content (held_from false content (is_raw_quote count text) text (length text) body) other xs h e f in
       let filled = held-some false content text (is_raw_quote count text) (Close count text) (closing-raw count text content) (length text) body xs k.1 in
       let whole : filled.0 ≡ filled.0 + 1 + count - 1 - count = omega arith in
-      (filled.0 + 1 + count, record { quote_at = filled.0; first = filled.1; behind = refl }, (k.0, rw whole at filled.2))
+      (filled.0 + 1 + count, record { quote_at = filled.0; first = filled.1; after = refl }, (k.0, rw whole at filled.2))
   in-back Space other xs h e f = absurd (cc)
   in-back (Line kind) other xs h e f = absurd (cc)
   in-back (Block kind) other xs h e f = absurd (cc)

@@ -24,26 +24,26 @@ use Rattle.logos_lexeme.specs.declared.lexeme.openings.Opening.TheVariants.{Spac
 use Rattle.logos_token.specs.LiteralValues.{HoldsIn, BeginsWithString, IsValue}
 use Rattle.logos_token.specs.inside.ValueReads.{IsHeld}
 use Rattle.logos_lexeme.proofs.EndLaws.{Ends-one}
-use Rattle.logos_lexeme.proofs.CharacterLaws.{boundary-behind}
+use Rattle.logos_lexeme.proofs.CharacterLaws.{boundary-after}
 use Rattle.logos_lexeme.proofs.BodyLaws.{Says-one, Says-moves}
 
 module _ (escapes : Bool) (content : Content) (bytes : List ℕ) where
   pub Holds-le : (at to : ℕ) (held : List ℕ) → Holds escapes content bytes at to held → at ≤ to
   Holds-le at to held none = omega arith
-  Holds-le at to held (more {mid = mid} {said = said} {rest = rest} s h e) = omega (arith, Says-moves escapes content bytes at mid said s, Holds-le mid to rest h)
+  Holds-le at to held (more {mid = mid} {first = said} {rest = rest} s h e) = omega (arith, Says-moves escapes content bytes at mid said s, Holds-le mid to rest h)
 
   -- the first piece is the one that stands there
   first_piece : (at next to : ℕ) (said held : List ℕ) → Says escapes content bytes at next said → at < to → Holds escapes content bytes at to held → (rest : List ℕ) × Holds escapes content bytes next to rest
   first_piece at next to said held s ahead none = absurd (omega arith)
-  first_piece at next to said held s ahead (more {mid = mid} {said = other} {rest = rest} t h e) =
+  first_piece at next to said held s ahead (more {mid = mid} {first = other} {rest = rest} t h e) =
       (rest, subst (λ m. Holds escapes content bytes m to rest) (Says-one escapes content bytes at mid next other said t s).0 h)
 
   -- a span holds the same bytes, however it is cut
   Holds-one : (at to end : ℕ) (xs ys : List ℕ) → Holds escapes content bytes at to xs → Holds escapes content bytes at end ys → to ≡ end → xs ≡ ys
   Holds-one at to end xs ys none none d = refl
-  Holds-one at to end xs ys none (more {mid = mid} {said = said} {rest = rest} s h e) d = absurd (omega (arith, Says-moves escapes content bytes at mid said s, Holds-le mid end rest h))
-  Holds-one at to end xs ys (more {mid = mid} {said = said} {rest = rest} s h e) none d = absurd (omega (arith, Says-moves escapes content bytes at mid said s, Holds-le mid to rest h))
-  Holds-one at to end xs ys (more {mid = mid} {said = said} {rest = rest} s h e) (more {mid = next} {said = other} {rest = others} t i f) d =
+  Holds-one at to end xs ys none (more {mid = mid} {first = said} {rest = rest} s h e) d = absurd (omega (arith, Says-moves escapes content bytes at mid said s, Holds-le mid end rest h))
+  Holds-one at to end xs ys (more {mid = mid} {first = said} {rest = rest} s h e) none d = absurd (omega (arith, Says-moves escapes content bytes at mid said s, Holds-le mid to rest h))
+  Holds-one at to end xs ys (more {mid = mid} {first = said} {rest = rest} s h e) (more {mid = next} {first = other} {rest = others} t i f) d =
       let same = Says-one escapes content bytes at mid next said other s t in
       let rests = Holds-one mid to end rest others h (subst (λ n. Holds escapes content bytes n end others) (sym same.0) i) d in
       e ∙ ap (λ ws. ws ++ rest) same.1 ∙ ap (λ ws. other ++ ws) rests ∙ sym f
@@ -71,7 +71,7 @@ module _ (escapes : Bool) (content : Content) (bytes : List ℕ) where
 
   no_piece : (at to : ℕ) (held : List ℕ) → at < to → ((next : ℕ) (said : List ℕ) → Says escapes content bytes at next said → ⊥) → Holds escapes content bytes at to held → ⊥
   no_piece at to held ahead other none = omega arith
-  no_piece at to held ahead other (more {mid = mid} {said = said} s h e) = other mid said s
+  no_piece at to held ahead other (more {mid = mid} {first = said} s h e) = other mid said s
 
   pub rest-stuck : (at to : ℕ) → at < to → ((next : ℕ) (said : List ℕ) → Says escapes content bytes at next said → ⊥) → (held : List ℕ) → Holds escapes content bytes at to held → ⊥
   rest-stuck at to ahead other held h = no_piece at to held ahead other h
@@ -145,9 +145,9 @@ module _ (escapes : Bool) (bytes : List ℕ) (at next : ℕ) where
 
 module _ (escapes : Bool) (bytes : List ℕ) (utf8 : IsUtf8 bytes) (at next : ℕ) where
   escape-boundary : (held : List ℕ) → IsEscape Text bytes at next held → IsCharBoundary bytes next
-  escape-boundary held (simple e s v) = let a = simple_ascii (get_or bytes (at + 1) 0) s in boundary-behind bytes utf8 (at + 1) next (omega (arith, a.0)) (omega (arith, a.1)) (omega arith)
-  escape-boundary held (hex h v) = let a = hex_ascii (get_or bytes (at + 3) 0) h.second in boundary-behind bytes utf8 (at + 3) next (omega (arith, a.0)) (omega (arith, a.1)) (omega arith)
-  escape-boundary held (unicode {brace} c u v) = let e = u.closes in boundary-behind bytes utf8 brace next (omega arith) (omega arith) v
+  escape-boundary held (simple e s v) = let a = simple_ascii (get_or bytes (at + 1) 0) s in boundary-after bytes utf8 (at + 1) next (omega (arith, a.0)) (omega (arith, a.1)) (omega arith)
+  escape-boundary held (hex h v) = let a = hex_ascii (get_or bytes (at + 3) 0) h.second in boundary-after bytes utf8 (at + 3) next (omega (arith, a.0)) (omega (arith, a.1)) (omega arith)
+  escape-boundary held (unicode {brace} c u v) = let e = u.closes in boundary-after bytes utf8 brace next (omega arith) (omega arith) v
 
   last_blank : IsContinuation bytes at next → (at + 1 < next) × (is_blank (get_or bytes (next - 1) 0) ≡ true)
   last_blank k =
@@ -156,14 +156,14 @@ module _ (escapes : Bool) (bytes : List ℕ) (utf8 : IsUtf8 bytes) (at next : �
       (ahead, true_from_ne_false (is_blank (get_or bytes (next - 1) 0)) (k.blanks.first (next - 1) (omega arith) (omega arith)))
 
   pub says-boundary : (held : List ℕ) → Says escapes Text bytes at next held → (get_or bytes at 0 ≡ 13) ⊎ (get_or bytes at 0 ≡ 92) → IsCharBoundary bytes next
-  says-boundary held (plain e a v) (inl f) = boundary-behind bytes utf8 at next (omega arith) (omega arith) v
-  says-boundary held (plain e a v) (inr f) = boundary-behind bytes utf8 at next (omega arith) (omega arith) v
-  says-boundary held (return r) f = let e = r.1 in boundary-behind bytes utf8 (at + 1) next (omega arith) (omega arith) (omega (arith, r.2))
+  says-boundary held (plain e a v) (inl f) = boundary-after bytes utf8 at next (omega arith) (omega arith) v
+  says-boundary held (plain e a v) (inr f) = boundary-after bytes utf8 at next (omega arith) (omega arith) v
+  says-boundary held (return r) f = let e = r.1 in boundary-after bytes utf8 (at + 1) next (omega arith) (omega arith) (omega (arith, r.2))
   says-boundary held (escape t e) f = escape-boundary held e
   says-boundary held (continuation t k) f =
       let b = last_blank k in
       let a = blank_ascii (get_or bytes (next - 1) 0) b.1 in
-      boundary-behind bytes utf8 (next - 1) next (omega (arith, a.0)) (omega (arith, a.1)) (omega (arith, b.0))
+      boundary-after bytes utf8 (next - 1) next (omega (arith, a.0)) (omega (arith, a.1)) (omega (arith, b.0))
 
 pub special_ascii : (bytes : List ℕ) (at : ℕ) → (get_or bytes at 0 ≡ 13) ⊎ (get_or bytes at 0 ≡ 92) → get_or bytes at 0 < 128
 special_ascii bytes at (inl e) = omega arith

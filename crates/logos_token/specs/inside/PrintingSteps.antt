@@ -1,6 +1,5 @@
--- What is held while tokens are printed.
-use Rattle.std.specs.Prelude.{◌≡◌, ℕ, ◌+◌, ◌*◌, ◌<◌, List, [], ◌∷◌, ◌++◌, fold, string_bytes, Option, IfSome, MatchOption}
-use Rattle.logos_token.specs.declared.token.printing.Printer.{Printer}
+-- What is known while tokens are printed.
+use Rattle.std.specs.Prelude.{◌≡◌, ℕ, ◌+◌, ◌*◌, ◌<◌, List, [], ◌∷◌, ◌++◌, fold, Option, IfSome, MatchOption}
 use Rattle.logos_token.specs.declared.token.printing.Outer.{Outer}
 use Rattle.logos_token.specs.declared.token.views.Tokens.{Tokens}
 use Rattle.logos_token.specs.declared.token.views.Group.{Group}
@@ -8,38 +7,34 @@ use Rattle.logos_token.specs.Tokens.{Token, group, TokenList, count_of}
 use Rattle.logos_token.specs.Views.{tokens_of, inside_of}
 use Rattle.logos_token.specs.Printing.{Part, opening_text, closing_text, spaced, token_parts, run_parts, Printed, print_part}
 
--- what is printed so far
-abbrev pub printed_of : Printer → Printed
-printed_of printer = record { text = string_bytes printer.text; gap = printer.gap.now }
-
--- the lexemes behind the groups that are begun, the innermost last in the list
+-- the lexemes after the groups that are open; the innermost group is last in the list
 abbrev pub outer_parts : List Outer → List Part
 outer_parts [] = []
 outer_parts (o ∷ inner) = outer_parts inner ++ spaced (closing_text o.delimiter) ∷ run_parts (tokens_of o.rest)
 
--- what will be printed in the end
+-- the whole text that will be printed
 abbrev pub whole : Printed → List Outer → TokenList → Printed
 whole printed outer rest = fold print_part printed (run_parts rest ++ outer_parts outer)
 
--- how much is left
+-- a measure of the groups that are open: twice the tokens left after each, and one
 abbrev pub outer_left : List Outer → ℕ
 outer_left [] = 0
 outer_left (o ∷ inner) = 2 * count_of (tokens_of o.rest) + 1 + outer_left inner
 
--- and in the run too
+-- the same with the run that comes next
 abbrev pub left_of : List Outer → TokenList → ℕ
 left_of outer rest = 2 * count_of rest + outer_left outer
 
--- a tree was printed; of a group, which is given, only the opening delimiter
+-- a tree was printed; of a group, which is returned, only the opening delimiter
 abbrev pub PrintsTree : Printed → Token → Printed → Option Group → Type 0
 PrintsTree before tree after inner =
     MatchOption inner (after ≡ fold print_part before (token_parts tree)) (λ g. (tree ≡ group g.delimiter g.span (inside_of g)) × (after ≡ print_part before (spaced (opening_text g.delimiter))))
 
--- what will be printed in the end stays the same, with the run that is next; it is printed where none is
+-- A step leaves the text that will be printed unchanged. It is finished where no run comes next.
 abbrev pub PrintsOn : Printed → List Outer → TokenList → Printed → List Outer → Option Tokens → Type 0
 PrintsOn before outer rest after next_outer next =
     MatchOption next (after ≡ whole before outer rest) (λ run. whole after next_outer (tokens_of run) ≡ whole before outer rest)
 
--- and less is left
+-- a step leaves less to print
 abbrev pub LeavesFewer : List Outer → TokenList → List Outer → Option Tokens → Type 0
 LeavesFewer outer rest next_outer next = IfSome next (λ run. left_of next_outer (tokens_of run) < left_of outer rest)

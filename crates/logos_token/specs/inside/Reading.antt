@@ -1,4 +1,4 @@
--- What is held while a source is read.
+-- What is known while a source is read.
 use Rattle.std.specs.Prelude.{◌≡◌, ℕ, ◌≤◌, List, [], ◌∷◌, ◌++◌, map, length, Result, IfOk, IfErr, OnOk}
 use Rattle.logos_lexeme.specs.declared.lexeme.Span.{Span}
 use Rattle.logos_lexeme.specs.declared.lexeme.Delimiter.{Delimiter}
@@ -15,33 +15,33 @@ use Rattle.logos_token.specs.Spelling.{Piece, Pieces, Lexeme, opens, lexemes, se
 use Rattle.logos_token.specs.Refusals.{IsRefusal}
 use Rattle.logos_token.specs.Views.{stream_tokens}
 
--- a group that is begun: the tokens in front of it, and its opening delimiter
+-- a group that is open: the tokens before it, and its opening delimiter
 pub record Frame : Type 0 where
   pub before : TokenList
   pub delimiter : Delimiter
   pub span : Span
 
--- the lexemes of groups that are begun, innermost first, and of the tokens behind them
+-- the lexemes of the groups that are open, innermost first, and of the tokens after them
 abbrev pub frame_lexemes : List Frame → TokenList → List Lexeme
 frame_lexemes [] current = lexemes current
 frame_lexemes (f ∷ frames) current = frame_lexemes frames f.before ++ opens f.delimiter f.span.from ∷ lexemes current
 
--- their entries, of which the groups count none yet
+-- their entries; the groups do not count any yet
 abbrev pub frame_entries : List Frame → TokenList → List EntryValue
 frame_entries [] current = flat current
 frame_entries (f ∷ frames) current = frame_entries frames f.before ++ group_entry f.delimiter f.span 0 ∷ flat current
 
--- where the groups' entries stand, outermost first
+-- where the entries of the groups stand, outermost first
 abbrev pub frame_places : List Frame → List OpenGroup
 frame_places [] = []
 frame_places (f ∷ frames) = frame_places frames ++ (record { delimiter = f.delimiter; span = f.span; place = length (frame_entries frames f.before) }) ∷ []
 
--- each group's opening delimiter stands in the source
+-- the opening delimiter of each group stands in the source
 abbrev pub AreOpenings : List ℕ → List Frame → Type 0
 AreOpenings bytes [] = Unit {0}
 AreOpenings bytes (f ∷ frames) = IsNext bytes f.span.from (Opening f.delimiter) f.span.to × AreOpenings bytes frames
 
--- the source is read up to there, into these entries and these groups that are begun
+-- the source is read up to `to`, into these entries and these open groups
 pub record IsRead (bytes : List ℕ) (to : ℕ) (entries : List EntryValue) (begun : List OpenGroup) : Type 0 where
   pub pieces : List Piece
   pub filled : Pieces bytes 0 pieces to
@@ -50,25 +50,25 @@ pub record IsRead (bytes : List ℕ) (to : ℕ) (entries : List EntryValue) (beg
   pub current : TokenList
   pub openings : AreOpenings bytes frames
   pub nested : frame_lexemes frames current ≡ seen bytes pieces
-  pub kept : frame_entries frames current ≡ entries
+  pub held : frame_entries frames current ≡ entries
   pub places : frame_places frames ≡ begun
 
--- where the next piece is of this kind, it is read too, unless there is an error
+-- unless there is an error, a next piece of this kind is read too
 abbrev pub ReadsOn : Kind → Span → (entries : List Entry) (open_groups : List OpenGroup) (next_entries : List Entry) (next_open : List OpenGroup) → Result (Unit {0}) TokenError → Type 0
 ReadsOn kind span entries open_groups next_entries next_open result =
     (bytes : List ℕ) → IsNext bytes span.from kind span.to → IsRead bytes span.from (map value_of entries) open_groups → OnOk result (IsRead bytes span.to (map value_of next_entries) next_open)
 
--- and an error says why the source is refused
+-- an error says why the source is refused
 abbrev pub RefusesAt : Kind → Span → List Entry → List OpenGroup → Result (Unit {0}) TokenError → Type 0
 RefusesAt kind span entries open_groups result =
     (bytes : List ℕ) → IsNext bytes span.from kind span.to → IsRead bytes span.from (map value_of entries) open_groups → IfErr result (IsRefusal bytes)
 
--- a source that is read to its end spells the tokens of the result, unless there is an error
+-- unless there is an error, the source that was read to its end spells the tokens of the result
 abbrev pub SpellsAtEnd : List Entry → List OpenGroup → Result TokenStream TokenError → Type 0
 SpellsAtEnd entries open_groups result =
     (bytes : List ℕ) → IsRead bytes (length bytes) (map value_of entries) open_groups → IfOk result (λ stream. Spells bytes (stream_tokens stream) × (depth_of (stream_tokens stream) ≤ 128))
 
--- and an error says why it is refused
+-- an error at the end says why the source is refused
 abbrev pub RefusesAtEnd : List Entry → List OpenGroup → Result TokenStream TokenError → Type 0
 RefusesAtEnd entries open_groups result =
     (bytes : List ℕ) → IsRead bytes (length bytes) (map value_of entries) open_groups → IfErr result (IsRefusal bytes)

@@ -1,10 +1,10 @@
-//! What can be wrong with a source.
+//! The codes of faults.
 ghost use Rattle.std.specs.Prelude.{◌≡◌};
 ghost use Rattle.logos_token.specs.FaultNames.{name_of};
 
 use std::fmt;
 
-/// What is wrong.
+/// What is wrong with a source. Each code has a name, by which it is printed.
 #[derive(Clone, Copy, PartialEq, Eq)]
 pub enum FaultCode {
     /// The source cannot be cut into tokens here.
@@ -155,7 +155,7 @@ pub enum FaultCode {
     NoUniversalStart,
     /// A pattern that repeats any character without a bound, greedily.
     GreedyDot,
-    /// The former place that another fault names.
+    /// The earlier place that another fault is about.
     Previous,
 }
 

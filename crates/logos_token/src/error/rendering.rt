@@ -1,4 +1,4 @@
-//! The text of faults for the compiler.
+//! Renders faults as Rust text that reports them when it is compiled.
 ghost use Rattle.std.specs.Prelude.{◌≡◌, ◌++◌, OnOk, string_bytes};
 ghost use Rattle.std.specs.List.{flat_map};
 ghost use Rattle.logos_token.specs.FaultView.{faults_of, fault_of};
@@ -7,7 +7,7 @@ ghost use Rattle.logos_token.specs.Rendering.{rendered_fault};
 use crate::error::{Errors, Memory, SpannedError};
 use crate::util::push_escaped;
 
-/// Adds the item that says the message of one fault.
+/// Appends the item that reports the message of one fault.
 fn push_fault(text: &mut String, fault: &SpannedError) -> Result<(), Memory>
     ensures { OnOk result
         (string_bytes text.new ≡ string_bytes text.old ++ rendered_fault (fault_of fault.now)) }
@@ -18,7 +18,7 @@ fn push_fault(text: &mut String, fault: &SpannedError) -> Result<(), Memory>
     Ok(())
 }
 
-/// Adds the items of faults, one behind another.
+/// Appends the items of all faults in order.
 fn push_faults(text: &mut String, faults: &[SpannedError]) -> Result<(), Memory>
     ensures { OnOk result
         (string_bytes text.new ≡
@@ -34,8 +34,12 @@ impl Errors {
     ghost use Rattle.std.specs.Prelude.{◌≡◌, IfOk, option_map, string_bytes};
     ghost use Rattle.logos_token.specs.Rendering.{rendered};
 
-    /// A function that does not compile, with the messages as what the compiler says; nothing where
-    /// there is no fault. It fails only where there is no memory.
+    /// Returns a function that does not compile and whose compiler errors are the messages of the
+    /// faults. `None` if there is no fault.
+    ///
+    /// # Errors
+    ///
+    /// `Memory` if there is not enough memory.
     pub fn render(&self) -> Result<Option<String>, Memory>
         ensures { IfOk result (λ text. option_map string_bytes text ≡ rendered self.now) }
     {

@@ -2,14 +2,14 @@
 
 use crate::token::{Delimiter, Doc, Ident, Literal, Punct, Span};
 
-/// A token without the tokens inside it, which follow it.
+/// One token. The tokens inside a group are the entries after it.
 #[derive(Clone, Copy)]
 pub enum Entry<'s> {
     Ident(Ident<'s>),
     Punct(Punct),
     Literal(Literal<'s>),
     Doc(Doc<'s>),
-    /// A group, with the number of entries inside it, which are the next ones.
+    /// A group with the number of entries inside it. They are the next ones.
     Group {
         delimiter: Delimiter,
         span: Span,
@@ -21,7 +21,7 @@ impl Entry<'_> {
     ghost use Rattle.std.specs.Prelude.{◌≡◌};
     ghost use Rattle.logos_token.specs.Flat.{size_of};
 
-    /// How many of the entries behind this one belong to it.
+    /// Returns how many of the next entries belong to this one.
     pub fn size(&self) -> usize
         ensures { result ≡ size_of self.now }
     {

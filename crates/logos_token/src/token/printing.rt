@@ -1,35 +1,36 @@
-//! Printing tokens.
+//! Prints tokens.
 ghost use Rattle.std.specs.Prelude.{◌≡◌, ◌<◌, ◌∷◌, [], List, ℕ, IsUtf8, IfOk, IfSome, MatchOption, string_bytes, codes, if◌then◌else◌};
 ghost use Rattle.logos_token.specs.PrintedAgain.{SpellsAgain, IsRunOf, EndsJoint};
 ghost use Rattle.logos_token.specs.Spelling.{Spells};
 ghost use Rattle.logos_token.specs.Tokens.{TokenList, none};
 ghost use Rattle.logos_token.specs.Views.{tokens_of};
-ghost use Rattle.logos_token.specs.Printing.{opening_text, closing_text, gap_behind, is_line_comment, printed};
-ghost use Rattle.logos_token.specs.inside.PrintingSteps.{printed_of, PrintsOn, LeavesFewer};
+ghost use Rattle.logos_token.specs.Printing.{opening_text, closing_text, gap_after, is_line_comment, printed};
+ghost use Rattle.logos_token.specs.PrinterViews.{printed_of};
+ghost use Rattle.logos_token.specs.inside.PrintingSteps.{PrintsOn, LeavesFewer};
 
 use crate::error::Memory;
 use crate::token::{Delimiter, Group, Spacing, TokenTree, Tokens};
 use std::alloc::Global;
 
-/// What is printed so far.
+/// Prints lexemes one by one, each with the gap after it.
 #[derive(Drop)]
-struct Printer {
-    /// The lexemes up to here.
+pub struct Printer {
+    /// The lexemes so far.
     text: String,
-    /// What parts it from the next lexeme.
+    /// The gap to print before the next lexeme.
     gap: &'static str,
 }
 
-/// A group that is begun.
+/// A group whose opening delimiter is printed and whose closing one is not.
 #[derive(Clone, Copy)]
 struct Outer<'t, 's> {
-    /// What encloses it.
+    /// The delimiters of the group.
     delimiter: Delimiter,
-    /// The trees behind the group.
+    /// The trees after the group.
     rest: Tokens<'t, 's>,
 }
 
-/// The text of an opening delimiter.
+/// Returns the text of an opening delimiter.
 pub fn opening_text(delimiter: Delimiter) -> &'static str
     ensures { result.now ≡ opening_text delimiter }
 {
@@ -40,7 +41,7 @@ pub fn opening_text(delimiter: Delimiter) -> &'static str
     }
 }
 
-/// The text of a closing delimiter.
+/// Returns the text of a closing delimiter.
 pub fn closing_text(delimiter: Delimiter) -> &'static str
     ensures { result.now ≡ closing_text delimiter }
 {
@@ -51,9 +52,9 @@ pub fn closing_text(delimiter: Delimiter) -> &'static str
     }
 }
 
-/// What parts a punctuation from the next lexeme.
-pub fn gap_behind(spacing: Spacing) -> &'static str
-    ensures { result.now ≡ gap_behind spacing }
+/// Returns the gap to print between punctuation and the next lexeme.
+pub fn gap_after(spacing: Spacing) -> &'static str
+    ensures { result.now ≡ gap_after spacing }
 {
     match spacing {
         Spacing::Alone => " ",
@@ -61,8 +62,9 @@ pub fn gap_behind(spacing: Spacing) -> &'static str
     }
 }
 
-/// What parts a documentation comment from the next lexeme: the line's end behind a line comment.
-pub fn gap_behind_doc(text: &str) -> &'static str
+/// Returns the gap to print between a documentation comment and the next lexeme: LF after a line
+/// comment.
+pub fn gap_after_doc(text: &str) -> &'static str
     ensures { result.now ≡ (if is_line_comment text.now then 10 ∷ [] else codes " ") }
 {
     match text.as_bytes() {
@@ -72,14 +74,33 @@ pub fn gap_behind_doc(text: &str) -> &'static str
 }
 
 impl Printer {
-    ghost use Rattle.std.specs.Prelude.{◌≡◌, OnOk, IfOk};
+    ghost use Rattle.std.specs.Prelude.{◌≡◌, [], OnOk, IfOk, string_bytes};
     ghost use Rattle.std.specs.Char.{encode_utf8};
     ghost use Rattle.logos_token.specs.Views.{tree_of};
     ghost use Rattle.logos_token.specs.Printing.{print_part};
-    ghost use Rattle.logos_token.specs.inside.PrintingSteps.{printed_of, PrintsTree};
+    ghost use Rattle.logos_token.specs.PrinterViews.{printed_of};
+    ghost use Rattle.logos_token.specs.inside.PrintingSteps.{PrintsTree};
 
-    /// Adds a lexeme.
-    fn add(&mut self, text: &str, gap: &'static str) -> Result<(), Memory>
+    /// Returns a printer of nothing so far. It takes its memory from `alloc`.
+    pub fn new(alloc: Global) -> Printer
+        ensures { printed_of result ≡ record { text = []; gap = [] } }
+    {
+        Printer {
+            text: String::new(alloc),
+            gap: "",
+        }
+    }
+
+    /// Returns the text printed so far, without the gap after its last lexeme.
+    pub fn into_text(self) -> String
+        ensures { string_bytes result ≡ (printed_of self).text }
+    {
+        self.text
+    }
+
+    /// Prints a lexeme, and the gap before it. `gap` is the gap after it. After an error a part of
+    /// it can have been printed.
+    pub fn add(&mut self, text: &str, gap: &'static str) -> Result<(), Memory>
         ensures { OnOk result (printed_of self.new ≡
             print_part (printed_of self.old) (record { text = text.now; gap = gap.now })) }
     {
@@ -89,8 +110,8 @@ impl Printer {
         Ok(())
     }
 
-    /// Adds a lexeme of one character.
-    fn add_character(&mut self, character: char, gap: &'static str) -> Result<(), Memory>
+    /// Prints a lexeme of one character in the same way.
+    pub fn add_character(&mut self, character: char, gap: &'static str) -> Result<(), Memory>
         ensures { OnOk result (printed_of self.new ≡ print_part
             (printed_of self.old) (record { text = encode_utf8 character; gap = gap.now })) }
     {
@@ -100,7 +121,8 @@ impl Printer {
         Ok(())
     }
 
-    /// Adds a token; of a group only the opening delimiter.
+    /// Prints a token, or the opening delimiter of a group. Returns the group, whose contents come
+    /// next.
     fn add_tree<'t, 's>(&mut self, tree: TokenTree<'t, 's>) -> Result<Option<Group<'t, 's>>, Memory>
         ensures { IfOk result (λ inner.
             PrintsTree (printed_of self.old) (tree_of tree.entry) (printed_of self.new) inner) }
@@ -108,10 +130,10 @@ impl Printer {
         match tree {
             TokenTree::Ident(ident) => self.add(ident.text, " ")?,
             TokenTree::Punct(punct) => {
-                self.add_character(punct.character, gap_behind(punct.spacing))?
+                self.add_character(punct.character, gap_after(punct.spacing))?
             }
             TokenTree::Literal(literal) => self.add(literal.text, " ")?,
-            TokenTree::Doc(doc) => self.add(doc.text, gap_behind_doc(doc.text))?,
+            TokenTree::Doc(doc) => self.add(doc.text, gap_after_doc(doc.text))?,
             TokenTree::Group(group) => {
                 self.add(opening_text(group.delimiter), " ")?;
                 return Ok(Some(group));
@@ -121,7 +143,7 @@ impl Printer {
     }
 }
 
-/// Leaves the innermost group that is begun, if there is one.
+/// Closes the innermost open group and returns the trees after it. `None` if no group is open.
 fn leave<'t, 's>(
     printer: &mut Printer,
     outer: &mut Vec<Outer<'t, 's>>,
@@ -137,7 +159,8 @@ fn leave<'t, 's>(
     Ok(Some(group.rest))
 }
 
-/// Prints the first tree of the rest, and gives what is to be printed next.
+/// Prints the first tree of `rest`, or closes a group if `rest` is empty. Returns what is to be
+/// printed next.
 fn step<'t, 's>(
     printer: &mut Printer,
     outer: &mut Vec<Outer<'t, 's>>,
@@ -162,11 +185,15 @@ fn step<'t, 's>(
     Ok(Some(group.run()))
 }
 
-/// The text of the tokens: their lexemes with one space in between, none behind a joint
-/// punctuation, and a line's end behind a comment that ends with its line. Where the tokens stand
-/// in a source and the last of them is no joint punctuation, the text spells the same tokens again,
-/// their spans aside.
-/// It fails only where there is no memory.
+/// Returns the text of the tokens: their lexemes with a space between each two, no space after
+/// joint punctuation, and LF after a line comment.
+///
+/// If the tokens stand in a source and the last of them is not joint punctuation, the text spells
+/// the same tokens again, apart from their spans.
+///
+/// # Errors
+///
+/// `Memory` if there is not enough memory.
 pub fn print(alloc: Global, run: Tokens<'_, '_>) -> Result<String, Memory>
     ensures text { IfOk result (λ text. string_bytes text ≡ printed (tokens_of run.entry)) }
     ensures back { IfOk result (λ text. (source : List ℕ) (tokens : TokenList) →
@@ -174,10 +201,7 @@ pub fn print(alloc: Global, run: Tokens<'_, '_>) -> Result<String, Memory>
         (EndsJoint (tokens_of run.entry) → ⊥) →
         SpellsAgain (string_bytes text) (tokens_of run.entry)) }
 {
-    let mut printer = Printer {
-        text: String::new(alloc),
-        gap: "",
-    };
+    let mut printer = Printer::new(alloc);
     let mut outer = Vec::new(alloc);
     let mut rest = run;
     'trees: while let Some(next) = step(&mut printer, &mut outer, rest)? {

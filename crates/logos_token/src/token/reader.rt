@@ -1,4 +1,4 @@
-//! Reading a source into tokens.
+//! Reads a source text into tokens.
 ghost use Rattle.std.specs.Prelude.{◌≡◌, ℕ, ◌<◌, ◌≤◌, ◌↔◌, List, [], ◌∷◌, ◌++◌, map, length, IfOk, IfErr, OnOk, MatchResult, IsTrue};
 ghost use Rattle.std.specs.Str.{IsCharBoundary};
 ghost use Rattle.logos_lexeme.specs.Lexemes.{IsNext};
@@ -15,22 +15,22 @@ use crate::token::{Delimiter, Doc, Ident, Literal, Punct, Span};
 use logos_lexeme::lexeme::{Kind, LexicalKind, lexeme_at};
 use std::alloc::{AllocError, AllocFailed, Global};
 
-/// The most bytes that a source may have.
+/// The greatest length of a source, in bytes.
 const MAX_SOURCE: usize = 16_777_216;
 
-/// The most delimiters that may be open at one place.
+/// The greatest number of delimiters that can be open at one place.
 const MAX_NESTING: usize = 128;
 
-/// Why a source gives no tokens.
+/// The reasons why a source text cannot be read into tokens.
 #[derive(Clone, Copy, Debug, PartialEq, Eq)]
 pub enum TokenError {
-    /// The source is not well formed: its first fault from the left.
+    /// The first fault of the source, from the left.
     Lexical { kind: LexicalKind, span: Span },
-    /// The source has more than 16,777,216 bytes.
+    /// The source is longer than 16,777,216 bytes.
     LimitSource,
-    /// At this opening delimiter more than 128 would be open.
+    /// More than 128 delimiters are open at this opening delimiter.
     LimitTokenNesting { span: Span },
-    /// There is no memory for the tokens.
+    /// There is not enough memory for the tokens.
     Memory,
 }
 
@@ -56,24 +56,24 @@ impl<T: Drop> From<AllocFailed<T>> for TokenError {
     }
 }
 
-/// A group without its closing delimiter.
+/// A group whose closing delimiter has not been read yet.
 #[derive(Clone, Copy)]
 struct OpenGroup {
     delimiter: Delimiter,
     /// The opening delimiter.
     span: Span,
-    /// The place of the group among the entries.
+    /// The index of the group among the entries.
     place: usize,
 }
 
-/// Whether the closing delimiter is of the opening one's kind.
+/// Returns whether `closing` closes `opening`.
 fn is_partner(opening: Delimiter, closing: Delimiter) -> bool
     ensures { IsTrue result ↔ (opening ≡ closing) }
 {
     opening == closing
 }
 
-/// Adds an opening delimiter.
+/// Begins a group at its opening delimiter.
 fn begin_group(
     entries: &mut Vec<Entry<'_>>,
     open_groups: &mut Vec<OpenGroup>,
@@ -101,7 +101,7 @@ fn begin_group(
     Ok(())
 }
 
-/// Adds a closing delimiter.
+/// Ends the innermost open group at its closing delimiter.
 fn end_group(
     entries: &mut Vec<Entry<'_>>,
     open_groups: &mut Vec<OpenGroup>,
@@ -137,7 +137,7 @@ fn end_group(
     Ok(())
 }
 
-/// Adds a token without others inside.
+/// Adds a token that is not a group.
 fn push<'s>(entries: &mut Vec<Entry<'s>>, entry: Entry<'s>) -> Result<(), TokenError>
     ensures ok { OnOk result (entries.new.items ≡ entries.old.items ++ entry.entry ∷ []) }
     ensures err { IfErr result (λ error. error ≡ TokenError.Memory) }
@@ -146,7 +146,7 @@ fn push<'s>(entries: &mut Vec<Entry<'s>>, entry: Entry<'s>) -> Result<(), TokenE
     Ok(())
 }
 
-/// Adds a piece of the source.
+/// Adds the lexeme of this kind and span; a gap adds nothing.
 fn add<'s>(
     entries: &mut Vec<Entry<'s>>,
     open_groups: &mut Vec<OpenGroup>,
@@ -193,7 +193,7 @@ fn add<'s>(
     }
 }
 
-/// The tokens of a source that is read to its end.
+/// Returns the tokens of a source that was read to its end. A group that is still open is a fault.
 fn finish<'s>(
     entries: Vec<Entry<'s>>,
     mut open_groups: Vec<OpenGroup>,
@@ -212,8 +212,14 @@ fn finish<'s>(
     }
 }
 
-/// The tokens of a source. Its length is tested first; then it is read from the left, and the first
-/// fault is named. A delimiter that stays open is met at the end of the source.
+/// Returns the tokens of a source text.
+///
+/// # Errors
+///
+/// `LimitSource` if the source is longer than 16,777,216 bytes; then it is not read. `Lexical` with
+/// the first fault from the left; a delimiter that is never closed is met at the end of the source.
+/// `LimitTokenNesting` at the first opening delimiter at which more than 128 are open. `Memory` if
+/// there is not enough memory.
 pub fn tokenize<'s>(alloc: Global, src: &'s str) -> Result<TokenStream<'s>, TokenError>
     ensures ok { IfOk result (λ stream. Spells src.now (stream_tokens stream)) }
     ensures shallow { IfOk result (λ stream. depth_of (stream_tokens stream) ≤ 128) }
@@ -242,14 +248,14 @@ pub fn tokenize<'s>(alloc: Global, src: &'s str) -> Result<TokenStream<'s>, Toke
     finish(entries, open_groups)
 }
 
-/// A source spells one run of tokens at most.
+/// A source spells at most one run of tokens.
 pub fn spells_once()
     ensures { (bytes : List ℕ) (tokens other : TokenList) →
         Spells bytes tokens → Spells bytes other → tokens ≡ other }
 {}
 
-/// The tokens that a source spells stand in it in order, each with the source at its span as its
-/// text.
+/// The tokens that a source spells stand in it in order. The text of each is the source at its
+/// span.
 pub fn spelled_in_order()
     ensures { (bytes : List ℕ) (tokens : TokenList) →
         Spells bytes tokens → RunStands bytes 0 tokens (length bytes) }

@@ -1,4 +1,4 @@
-//! What string literals hold.
+//! Reads the values of string and byte string literals.
 
 ghost use Rattle.std.specs.Prelude.{◌≡◌, ℕ, ◌+◌, ◌<◌, ◌≤◌, ◌++◌, ◌⊎◌, ◌==◌, ◌&&◌, ◌||◌, List, length, slice_index, slice_range, string_bytes, option_map, IfOk, OnOk, MatchOption};
 ghost use Rattle.std.specs.Str.{IsCharBoundary};
@@ -17,7 +17,7 @@ use logos_lexeme::lexeme::ends::{end_of, prefix_of};
 use logos_lexeme::lexeme::openings::{Content, Opening, opening_at};
 use std::alloc::{AllocError, Global};
 
-/// What a string literal holds.
+/// The value of a string or byte string literal.
 #[derive(Debug, Drop)]
 pub enum LiteralValue {
     /// The text of a string.
@@ -26,14 +26,14 @@ pub enum LiteralValue {
     Bytes(Vec<u8>),
 }
 
-/// Whether a byte of a string's text does not stand for itself.
+/// Returns whether `byte` in the contents of a string does not stand for itself.
 fn is_special(escapes: bool, byte: u8) -> bool
     ensures { result ≡ ((byte == 13) || (escapes && (byte == 92))) }
 {
     (byte == b'\r') | (escapes & (byte == b'\\'))
 }
 
-/// Where a run of bytes of a string's text ends that stand for themselves.
+/// Returns the byte offset, at most `to`, after a run of bytes that stand for themselves.
 fn plain_end(source: &str, escapes: bool, from: usize, to: usize) -> usize
     requires inside { from ≤ to }
     requires within { to ≤ length source.now }
@@ -51,7 +51,7 @@ fn plain_end(source: &str, escapes: bool, from: usize, to: usize) -> usize
     end
 }
 
-/// Adds what a piece holds to a text.
+/// Appends the value of a piece to a text.
 fn push_text(value: &mut String, piece: Piece) -> Result<(), AllocError>
     requires { IsAscii piece }
     ensures { OnOk result (string_bytes value.new ≡ string_bytes value.old ++ bytes_of piece) }
@@ -63,7 +63,8 @@ fn push_text(value: &mut String, piece: Piece) -> Result<(), AllocError>
     }
 }
 
-/// Adds the next run or piece of a string to a text: where it ends; `None` where no piece stands.
+/// Appends the value of the next run or piece of a string to a text, and returns the byte offset
+/// after it. `None` if no piece stands there.
 fn add_text(
     value: &mut String,
     source: &str,
@@ -91,7 +92,8 @@ fn add_text(
     Ok(Some(next))
 }
 
-/// The text that the pieces of a string hold that fill a span; `None` where none do.
+/// Returns the text of a string whose contents are the span from `from` to `to`. `None` if they do
+/// not consist of pieces.
 fn text_between(
     alloc: Global,
     source: &str,
@@ -119,7 +121,7 @@ fn text_between(
     Ok(Some(value))
 }
 
-/// Adds what a piece holds to bytes.
+/// Appends the value of a piece to bytes.
 fn push_bytes(value: &mut Vec<u8>, piece: Piece) -> Result<(), AllocError>
     ensures { OnOk result (value.new.items ≡ value.old.items ++ bytes_of piece) }
 {
@@ -133,7 +135,8 @@ fn push_bytes(value: &mut Vec<u8>, piece: Piece) -> Result<(), AllocError>
     }
 }
 
-/// The bytes that the pieces of a byte string hold that fill a span; `None` where none do.
+/// Returns the bytes of a byte string whose contents are a span. `None` if they do not consist of
+/// pieces.
 fn bytes_between(
     alloc: Global,
     source: &str,
@@ -161,7 +164,8 @@ fn bytes_between(
     Ok(Some(value))
 }
 
-/// The value of a string whose pieces fill a span.
+/// Returns the value of a string or byte string whose contents are a span. `None` if they break the
+/// rules.
 fn value_between(
     alloc: Global,
     source: &str,
@@ -187,7 +191,8 @@ fn value_between(
     }
 }
 
-/// The value of the string with which a text begins; `None` where it begins with none.
+/// Returns the value of the string or byte string with which a text begins. `None` if it begins
+/// with neither.
 fn string_value(alloc: Global, text: &str) -> Result<Option<LiteralValue>, AllocError>
     ensures { IfOk result (λ value. IsValue text.now value) }
 {
@@ -214,9 +219,13 @@ fn string_value(alloc: Global, text: &str) -> Result<Option<LiteralValue>, Alloc
 }
 
 impl Literal<'_> {
-    /// What the literal holds: the text of a string or the bytes of a byte string, with its escapes
-    /// read and each CR LF as LF; its suffix is left out. `None` where the literal is no such
-    /// string, or breaks its rules. `Memory` where there is none for the value.
+    /// Returns the text of a string or the bytes of a byte string. Escapes are read, each CR LF
+    /// becomes LF, and the suffix is left out. `None` if the literal is neither a string nor a byte
+    /// string, or breaks its rules.
+    ///
+    /// # Errors
+    ///
+    /// `Memory` if there is not enough memory for the value.
     pub fn value(&self, alloc: Global) -> Result<Option<LiteralValue>, Memory>
         ensures value { IfOk result (λ value. IsValue self.now.text.now value) }
         ensures held { IfOk result (λ value.

@@ -1,4 +1,4 @@
-//! A buffer of tokens, and views of the runs in it.
+//! Holds the tokens of a source in one flat buffer, and gives views of the runs in it.
 ghost use Rattle.std.proofs.Props.{props};
 ghost use Rattle.logos_token.specs.Flat.{IsFlat};
 
@@ -9,21 +9,21 @@ use crate::token::entry::Entry;
 use crate::token::{Delimiter, Doc, Ident, Literal, Punct, Span};
 use std::alloc::{AllocError, Global};
 
-/// All tokens of a source.
+/// The tokens of a whole source, which own their buffer.
 #[derive(Drop)]
 pub struct TokenStream<'s> {
     entries: Vec<Entry<'s>>,
     ghost nested: { IsFlat entries.items } by { Prim.hlevel props },
 }
 
-/// A run of neighbouring token trees. It is a view of a buffer and copies nothing.
+/// A run of neighbouring token trees: a view of a buffer, which copies nothing.
 #[derive(Clone, Copy)]
 pub struct Tokens<'t, 's> {
     entries: &'t [Entry<'s>],
     ghost nested: { IsFlat entries.now } by { Prim.hlevel props },
 }
 
-/// A delimiter, its partner, and what stands between them.
+/// A group: its delimiters and the tokens between them.
 #[derive(Clone, Copy)]
 pub struct Group<'t, 's> {
     pub delimiter: Delimiter,
@@ -42,7 +42,7 @@ pub enum TokenTree<'t, 's> {
     Group(Group<'t, 's>),
 }
 
-/// The trees of a run, one after another.
+/// An iterator over the trees of a run.
 #[derive(Clone, Copy)]
 pub struct TokenIter<'t, 's> {
     rest: Tokens<'t, 's>,
@@ -54,7 +54,7 @@ impl<'s> TokenStream<'s> {
     ghost use Rattle.logos_token.specs.Tokens.{identifier, none, also};
     ghost use Rattle.logos_token.specs.Views.{stream_tokens, tokens_of};
 
-    /// The tokens of these entries.
+    /// Returns the buffer with these entries.
     pub(super) fn from_entries(entries: Vec<Entry<'s>>) -> TokenStream<'s>
         requires { IsFlat entries.items }
         ensures { stream_tokens result ≡ tokens_in entries.entry.items }
@@ -62,7 +62,11 @@ impl<'s> TokenStream<'s> {
         TokenStream { entries }
     }
 
-    /// A buffer with this identifier alone. It fails only where there is no memory for it.
+    /// Returns a buffer with just this identifier.
+    ///
+    /// # Errors
+    ///
+    /// `AllocError` if there is not enough memory.
     pub fn from_ident(alloc: Global, ident: Ident<'s>) -> Result<TokenStream<'s>, AllocError>
         ensures { IfOk result (λ stream. stream_tokens stream ≡
             also (identifier ident.entry.text.now ident.entry.span) none) }
@@ -71,7 +75,7 @@ impl<'s> TokenStream<'s> {
         Ok(TokenStream { entries })
     }
 
-    /// All trees.
+    /// Returns the run of all trees.
     pub fn run(&self) -> Tokens<'_, 's>
         ensures { tokens_of result ≡ stream_tokens self.now }
     {
@@ -99,21 +103,21 @@ impl<'t, 's> Tokens<'t, 's> {
     ghost use Rattle.logos_token.specs.Tokens.{none, also, IsRestOf, first_of, rest_of, run_span, count_of};
     ghost use Rattle.logos_token.specs.Views.{stream_tokens, tokens_of, tree_of, iter_rest, listed};
 
-    /// Whether there is no tree.
+    /// Returns whether the run has no tree.
     pub fn is_empty(self) -> bool
         ensures { IsTrue result ↔ (tokens_of self.entry ≡ none) }
     {
         self.entries.is_empty()
     }
 
-    /// How many tokens there are, those inside groups too; a group counts as one beside them.
+    /// Returns the number of tokens, with those inside groups. A group itself counts as one.
     pub fn count(self) -> usize
         ensures { result ≡ count_of (tokens_of self.entry) }
     {
         self.entries.len()
     }
 
-    /// The first tree, if there is one.
+    /// Returns the first tree, or `None` if the run is empty.
     pub fn first(self) -> Option<TokenTree<'t, 's>>
         ensures value { option_map tree_of result ≡ first_of (tokens_of self.entry) }
         ensures cases { MatchOption result (tokens_of self.entry ≡ none)
@@ -139,7 +143,7 @@ impl<'t, 's> Tokens<'t, 's> {
         }
     }
 
-    /// The trees behind the first one; none where there are none.
+    /// Returns the trees after the first one. An empty run stays empty.
     pub fn rest(self) -> Tokens<'t, 's>
         ensures { tokens_of result ≡ rest_of (tokens_of self.entry) }
     {
@@ -151,7 +155,7 @@ impl<'t, 's> Tokens<'t, 's> {
         }
     }
 
-    /// The trees in front of `rest`, which is what is left of this run behind some of its trees.
+    /// Returns the trees before `rest`, which must be the rest of this run after some of its trees.
     pub fn before(self, rest: Tokens<'t, 's>) -> Tokens<'t, 's>
         requires { IsRestOf (tokens_of self) (tokens_of rest) }
         ensures { (split : IsRestOf (tokens_of self.entry) (tokens_of rest.entry)) →
@@ -162,7 +166,7 @@ impl<'t, 's> Tokens<'t, 's> {
         }
     }
 
-    /// From the first tree to the last; `0..0` where there is none.
+    /// Returns the span from the first tree to the last one, or `0..0` if the run is empty.
     pub fn span(self) -> Span
         ensures { result ≡ run_span (tokens_of self.entry) }
     {
@@ -178,7 +182,11 @@ impl<'t, 's> Tokens<'t, 's> {
         Span { from, to }
     }
 
-    /// A buffer of its own with these trees. It fails only where there is no memory for it.
+    /// Copies the trees into a buffer of their own.
+    ///
+    /// # Errors
+    ///
+    /// `Memory` if there is not enough memory.
     pub fn to_stream(self, alloc: Global) -> Result<TokenStream<'s>, Memory>
         ensures { IfOk result (λ stream. stream_tokens stream ≡ tokens_of self.entry) }
     {
@@ -186,7 +194,7 @@ impl<'t, 's> Tokens<'t, 's> {
         Ok(TokenStream { entries })
     }
 
-    /// The trees, one after another.
+    /// Returns an iterator over the trees.
     pub fn iter(self) -> TokenIter<'t, 's>
         ensures { iter_rest result ≡ listed (tokens_of self.entry) }
     {
@@ -198,7 +206,7 @@ impl<'t, 's> Group<'t, 's> {
     ghost use Rattle.std.specs.Prelude.{◌≡◌};
     ghost use Rattle.logos_token.specs.Views.{tokens_of, inside_of};
 
-    /// The trees between the delimiters.
+    /// Returns the run of trees between the delimiters.
     pub fn run(self) -> Tokens<'t, 's>
         ensures { tokens_of result ≡ inside_of self.entry }
     {
@@ -211,7 +219,7 @@ impl TokenTree<'_, '_> {
     ghost use Rattle.logos_token.specs.Tokens.{span_of};
     ghost use Rattle.logos_token.specs.Views.{tree_of};
 
-    /// Where it stands in the source.
+    /// Returns the span of the tree in the source.
     pub fn span(self) -> Span
         ensures { result ≡ span_of (tree_of self.entry) }
     {

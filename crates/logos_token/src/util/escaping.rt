@@ -1,10 +1,10 @@
-//! The text between the quotes of string literals that are printed.
+//! Writes texts as the contents of string literals.
 ghost use Rattle.std.specs.Prelude.{◌≡◌, ◌++◌, OnOk, string_bytes};
 ghost use Rattle.logos_token.specs.EscapedTexts.{escaped_character, escaped};
 
 use crate::error::Memory;
 
-/// Adds a character as it stands between the quotes.
+/// Appends a character as it is written between the quotes of a string literal.
 fn push_character(text: &mut String, character: char) -> Result<(), Memory>
     ensures { OnOk result
         (string_bytes text.new ≡ string_bytes text.old ++ escaped_character character) }
@@ -20,9 +20,12 @@ fn push_character(text: &mut String, character: char) -> Result<(), Memory>
     Ok(())
 }
 
-/// Adds to `text` what stands between the quotes of a string literal that holds `value`: `"`, `\`,
-/// LF, CR and tab as escapes, and each other character as it is. It fails only where there is no
-/// memory; `text` has then perhaps a part of it.
+/// Appends `value` as it is written between the quotes of a string literal: `"`, `\`, LF, CR and
+/// tab as escapes, each other character as it is.
+///
+/// # Errors
+///
+/// `Memory` if there is not enough memory. A part of the value may then have been appended.
 pub fn push_escaped(text: &mut String, value: &str) -> Result<(), Memory>
     ensures { OnOk result (string_bytes text.new ≡ string_bytes text.old ++ escaped value.now) }
 {

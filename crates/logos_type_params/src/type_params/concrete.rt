@@ -1,4 +1,4 @@
-//! The types that declared parameters have, and what stands between the angle brackets behind the enum's name.
+//! Finds the types given to the declared parameters, and the generic arguments of the enum.
 ghost use Rattle.std.specs.Prelude.{◌≡◌, ◌++◌, ◌∷◌, [], map, IfOk, OnOk, option_map};
 ghost use Rattle.logos_type.specs.TypeTrees.{type_tree};
 ghost use Rattle.logos_type_params.specs.TypeParams.{named_of, given_of};
@@ -6,7 +6,7 @@ ghost use Rattle.logos_type_params.specs.Generics.{type_of, generics_of, no_conc
 ghost use Rattle.logos_type_params.specs.inside.Checks.{CopiesName};
 
 use super::TypeParams;
-use crate::listing::list_about;
+use crate::reporting::report_about;
 use crate::substitution::TypeParam;
 use indexmap::{IndexMap, IndexSet};
 use logos_token::error::{Errors, FaultCode, Memory};
@@ -14,16 +14,16 @@ use logos_token::token::Ident;
 use logos_type::{Part, TypeExpr};
 use std::alloc::Global;
 
-/// What stands between the angle brackets behind the enum's name.
+/// The generic arguments that follow the enum's name, in angle brackets.
 #[derive(Drop)]
 pub struct Generics<'s> {
-    /// Whether `'s` stands there, in front of the types.
+    /// Whether `'s` is the first of them.
     pub lifetime: bool,
     /// The types of the declared parameters, in order of declaration.
     pub types: Vec<TypeExpr<'s>>,
 }
 
-/// A copy of the type that is given to a name.
+/// Copies the type given to a name. `None` if none is.
 fn copy_given<'s>(
     types: &IndexMap<&'s str, TypeParam<'s>>,
     text: &str,
@@ -38,7 +38,8 @@ fn copy_given<'s>(
     Ok(Some(TypeExpr { part }))
 }
 
-/// A copy of the type of a declared name behind those in front. It is one of these from now on.
+/// Copies the type given to a declared name, unless the name is in `front`, and adds the name to
+/// `front`.
 fn copy_concrete<'s>(
     front: &mut IndexSet<&'s str>,
     types: &IndexMap<&'s str, TypeParam<'s>>,
@@ -53,12 +54,11 @@ fn copy_concrete<'s>(
     copy_given(types, name.text)
 }
 
-/// Lists that a declared name has no type.
-fn list_missing(alloc: Global, name: Ident<'_>, errors: &mut Errors) -> Result<(), Memory>
+/// Reports that no type is given to a declared name.
+fn report_missing(name: Ident<'_>, errors: &mut Errors) -> Result<(), Memory>
     ensures { OnOk result (errors.new ≡ errors.old ++ no_concrete_type (named_of name.entry) ∷ []) }
 {
-    list_about(
-        alloc,
+    report_about(
         errors,
         FaultCode::NoConcreteType,
         "Generic type parameter without a concrete type\n\nDefine a concrete type Logos can use: #[logos(type ",
@@ -67,9 +67,8 @@ fn list_missing(alloc: Global, name: Ident<'_>, errors: &mut Errors) -> Result<(
     )
 }
 
-/// Adds the type of a declared name, or lists that it has none.
-fn add_or_list<'s>(
-    alloc: Global,
+/// Adds the type of a declared name, or reports that it has none.
+fn add_or_report<'s>(
     found: Option<TypeExpr<'s>>,
     name: Ident<'s>,
     types: &mut Vec<TypeExpr<'s>>,
@@ -81,15 +80,14 @@ fn add_or_list<'s>(
         errors.old ++ and_fault (option_map type_tree found.entry) (named_of name.entry) []) }
 {
     let Some(type_expr) = found else {
-        return list_missing(alloc, name, errors);
+        return report_missing(name, errors);
     };
     types.push(type_expr)?;
     Ok(())
 }
 
-/// The types of declared names, in order; where one has none, that is listed.
+/// Copies the types of declared names in order, and reports each name that has none.
 fn copy_types<'s>(
-    alloc: Global,
     names: &[Ident<'s>],
     types: &IndexMap<&'s str, TypeParam<'s>>,
     errors: &mut Errors,
@@ -99,16 +97,17 @@ fn copy_types<'s>(
     ensures faults { OnOk result (errors.new ≡ errors.old
         ++ missing_types (map given_of types.now.entries) [] (map named_of names.now)) }
 {
+    let alloc = errors.alloc();
     let mut front = IndexSet::new(alloc);
     let mut copies = Vec::new(alloc);
     for name in names {
         let found = copy_concrete(&mut front, types, *name)?;
-        add_or_list(alloc, found, *name, &mut copies, errors)?;
+        add_or_report(found, *name, &mut copies, errors)?;
     }
     Ok(copies)
 }
 
-/// A lifetime or none and these types, if there is any of both.
+/// Returns the generic arguments, or `None` if there is neither a lifetime nor a type.
 fn bracketed<'s>(lifetime: bool, types: Vec<TypeExpr<'s>>) -> Option<Generics<'s>>
     ensures { option_map generics_of result ≡
         between_brackets lifetime (map type_tree types.entry.items) }
@@ -125,8 +124,12 @@ impl<'s> TypeParams<'s> {
     ghost use Rattle.logos_type_params.specs.TypeParams.{value_of};
     ghost use Rattle.logos_type_params.specs.Generics.{type_at, generics, generics_of, missing_types};
 
-    /// A copy of the type that is given to the parameter which this path just names. There is none where the path is more than a name, or where
-    /// no type is given to the name. Only want of memory is an error.
+    /// Returns a copy of the type given to the parameter that this path names. `None` if the path
+    /// is more than a name, or if no type is given to the name.
+    ///
+    /// # Errors
+    ///
+    /// `Memory` if there is not enough memory.
     pub fn find(&self, path: &TypeExpr<'s>) -> Result<Option<TypeExpr<'s>>, Memory>
         ensures { IfOk result (λ found. option_map type_tree found ≡
             type_at (value_of self.now).types (type_tree path.now)) }
@@ -137,20 +140,24 @@ impl<'s> TypeParams<'s> {
         }
     }
 
-    /// What stands between the angle brackets behind the enum's name: `'s` if a lifetime is declared, and then the types that are given to the
-    /// declared parameters, in order of declaration. There is nothing where there is neither. A declared name without a type is listed where it is
-    /// declared, as `NoConcreteType`, and stands for nothing; a name that is declared again has no type there. Only want of memory is an error;
-    /// after it the faults are as before.
+    /// Returns the generic arguments that follow the enum's name: `'s` if a lifetime is declared,
+    /// and then the types given to the declared parameters, in order of declaration. `None` if
+    /// there are none. Reports a parameter without a type as `NoConcreteType` at its declaration,
+    /// and leaves it out; a name that is declared twice counts once.
+    ///
+    /// # Errors
+    ///
+    /// `Memory` if there is not enough memory. The faults are then unchanged.
     pub fn generics(&self, errors: &mut Errors) -> Result<Option<Generics<'s>>, Memory>
         ensures value { IfOk result (λ made. option_map generics_of made ≡
             generics (value_of self.now)) }
         ensures faults { OnOk result (errors.new ≡ errors.old ++ missing_types
             (value_of self.now).types [] (value_of self.now).names) }
-        ensures unlisted { OnErr result (errors.new ≡ errors.old) }
+        ensures unreported { OnErr result (errors.new ≡ errors.old) }
     {
         let mut missing = Errors::new(self.alloc);
         let names = self.names.list.as_slice();
-        let types = copy_types(self.alloc, names, &self.types, &mut missing)?;
+        let types = copy_types(names, &self.types, &mut missing)?;
         errors.append(missing)?;
         Ok(bracketed(self.lifetime, types))
     }

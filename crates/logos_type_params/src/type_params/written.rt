@@ -1,4 +1,4 @@
-//! What becomes of a written type, and which names are left in place there.
+//! Replaces parameters in written types, and finds the names that are left in place there.
 ghost use Rattle.std.specs.Prelude.{◌≡◌, ◌++◌, ◌∷◌, [], map, IfOk, OnOk, OnErr};
 ghost use Rattle.logos_type.specs.TypeTrees.{type_tree};
 ghost use Rattle.logos_type_params.specs.SelfReference.{texts};
@@ -7,7 +7,7 @@ ghost use Rattle.logos_type_params.specs.Substitution.{param_value};
 ghost use Rattle.logos_type_params.specs.inside.Checks.{AsksName};
 
 use super::TypeParams;
-use crate::listing::list_depth;
+use crate::reporting::report_depth;
 use crate::self_reference::Chains;
 use crate::substitution::{Replacing, type_after};
 use indexmap::IndexSet;
@@ -31,7 +31,8 @@ fn add_held<'s>(
     Ok(())
 }
 
-/// The type as it is written; that the limit is passed is listed at this span. After an error the faults are as before.
+/// Copies the type as it is written, and reports at this span that it passes the limit. After an
+/// error the faults are unchanged.
 fn leave_written<'s>(
     written: &TypeExpr<'s>,
     span: Span,
@@ -39,10 +40,10 @@ fn leave_written<'s>(
 ) -> Result<TypeExpr<'s>, Memory>
     ensures same { IfOk result (λ left. type_tree left ≡ type_tree written.now) }
     ensures faults { OnOk result (errors.new ≡ errors.old ++ limit_type_nesting span ∷ []) }
-    ensures unlisted { OnErr result (errors.new ≡ errors.old) }
+    ensures unreported { OnErr result (errors.new ≡ errors.old) }
 {
     let left = written.clone()?;
-    list_depth(errors, span)?;
+    report_depth(errors, span)?;
     Ok(left)
 }
 
@@ -52,8 +53,12 @@ impl<'s> TypeParams<'s> {
     ghost use Rattle.logos_type_params.specs.SelfReference.{texts};
     ghost use Rattle.logos_type_params.specs.WrittenTypes.{types_of, params_with, AreHeld, GetsType};
 
-    /// The names of the given types whose chain leads back to them: `get_type` is to leave these in place. The time grows with the sizes of all types. Only
-    /// want of memory is an error.
+    /// Returns the names of the parameters whose types lead back to them. `get_type` leaves these
+    /// in place. This takes time linear in the sizes of all types.
+    ///
+    /// # Errors
+    ///
+    /// `Memory` if there is not enough memory.
     pub fn held_names(&self) -> Result<IndexSet<&'s str>, Memory>
         ensures { IfOk result (λ held. AreHeld (types_of self.now) (texts held.keys)) }
     {
@@ -68,9 +73,14 @@ impl<'s> TypeParams<'s> {
         Ok(held)
     }
 
-    /// What becomes of a written type: its declared parameters are replaced by the types given to them, but for the held names, and its lifetimes
-    /// are set to `'s`. Where more types than may would stand inside one another then, that is listed at this span, as `LimitTypeNesting`, and the
-    /// type stays as it is written. Only want of memory is an error; after it the faults are as before.
+    /// Returns a written type with its declared parameters replaced by the types given to them, but
+    /// for the names in `held`, and with its lifetimes set to `'s`. If too many types stand inside
+    /// one another then, reports `LimitTypeNesting` at this span and returns the type as it is
+    /// written.
+    ///
+    /// # Errors
+    ///
+    /// `Memory` if there is not enough memory. The faults are then unchanged.
     pub fn get_type(
         &self,
         held: &IndexSet<&'s str>,
@@ -80,7 +90,7 @@ impl<'s> TypeParams<'s> {
     ) -> Result<TypeExpr<'s>, Memory>
         ensures ok { IfOk result (λ got. GetsType (params_with self.now (texts held.now.keys))
             (type_tree written.now) span errors.old errors.new (type_tree got)) }
-        ensures unlisted { OnErr result (errors.new ≡ errors.old) }
+        ensures unreported { OnErr result (errors.new ≡ errors.old) }
     {
         let params = Replacing {
             types: &self.types,
@@ -89,7 +99,7 @@ impl<'s> TypeParams<'s> {
         match type_after(self.alloc, TYPE_NESTING, params, &written.part) {
             Ok(part) => Ok(TypeExpr { part }),
             Err(TypeFault::LimitNesting) => leave_written(written, span, errors),
-            // Nothing but want of memory is left.
+            // Only a lack of memory is left.
             Err(_) => Err(Memory),
         }
     }

@@ -1,4 +1,4 @@
--- What the rows of the table say in terms of the run that is left.
+-- The rows of the table in terms of the tokens that are left.
 use Rattle.std.specs.Prelude.{◌≡◌, ℕ, List, [], Bool, false, Option, Some, None, Result, Ok, Err}
 use Rattle.std.specs.Str.{bytes_eq}
 use Rattle.logos_lexeme.specs.declared.lexeme.Span.{Span}
@@ -14,10 +14,10 @@ use Rattle.logos_type_reader.specs.declared.table.place.Start.{Start}
 use Rattle.logos_type_reader.specs.declared.table.place.Start.TheVariants as start
 use Rattle.logos_type_reader.specs.declared.table.place.Stop.{Stop}
 use Rattle.logos_type_reader.specs.declared.table.place.Stop.TheVariants as stop
-use Rattle.logos_type_reader.specs.Table.{Spot, Move, ends, takes, bars, asks, keeps_type, keeps, nests, stops, First, starts, refused, first_span, unsupported, misfit, misfits, to, opens, closes, behind_two, behind_three}
-use Rattle.logos_type.specs.Parts.{Sign, word, mark, colons, arrow, value, opening, reference, lifetime, kept}
+use Rattle.logos_type_reader.specs.Table.{Spot, Move, ends, takes, bars, asks, keeps_type, keeps, nests, stops, First, starts, refused, first_span, unsupported, mismatch, mismatches, to, opens, closes, after_two, after_three}
+use Rattle.logos_type.specs.Parts.{Sign, word, mark, colons, arrow, value, opening, reference, lifetime, other_lifetime}
 
--- a run begins with this
+-- a run begins so
 abbrev pub Looks : Look → TokenList → Type 0
 Looks look.Nothing run = run ≡ none
 Looks look.Word run = (text : List ℕ) × (span : Span) × (rest : TokenList) × (run ≡ also (identifier text span) rest)
@@ -26,18 +26,18 @@ Looks look.Literal run = (text : List ℕ) × (span : Span) × (rest : TokenList
 Looks look.Doc run = (text : List ℕ) × (span : Span) × (rest : TokenList) × (run ≡ also (doc text span) rest)
 Looks (look.Group delimiter) run = (span : Span) × (inside : TokenList) × (rest : TokenList) × (run ≡ also (group delimiter span inside) rest)
 
--- this name comes first
+-- whether this name comes first
 abbrev pub begins_word : List ℕ → TokenList → Bool
 begins_word wanted (also (identifier text span) rest) = bytes_eq text wanted
 begins_word wanted run = false
 
--- the text of the first token, where that is a name or a literal
+-- the text of the first token if it is a name or a literal
 abbrev pub first_text : TokenList → List ℕ
 first_text (also (identifier text span) rest) = text
 first_text (also (literal text span) rest) = text
 first_text run = []
 
--- what is taken from the front of a run
+-- the token that a lead takes from the front of a run
 abbrev pub lead_sign : Lead → TokenList → Sign
 lead_sign lead.Word run = word (first_text run)
 lead_sign (lead.Mark c) run = mark c
@@ -48,54 +48,54 @@ lead_sign lead.Dots run = mark 46
 lead_sign lead.Reference run = reference None
 lead_sign lead.ReferenceLifetime run = reference (Some (first_text (rest_of (rest_of run))))
 lead_sign lead.Lifetime run = lifetime (first_text (rest_of run))
-lead_sign lead.Kept run = kept (first_text (rest_of run))
+lead_sign lead.OtherLifetime run = other_lifetime (first_text (rest_of run))
 lead_sign (lead.Group delimiter) run = opening delimiter
 
--- the run behind it
-abbrev pub behind_lead : Lead → TokenList → TokenList
-behind_lead lead.Colons run = behind_two run
-behind_lead lead.Arrow run = behind_two run
-behind_lead lead.Dots run = behind_three run
-behind_lead lead.ReferenceLifetime run = rest_of (rest_of (rest_of run))
-behind_lead lead.Lifetime run = rest_of (rest_of run)
-behind_lead lead.Kept run = rest_of (rest_of run)
-behind_lead other run = rest_of run
+-- the run after that token
+abbrev pub after_lead : Lead → TokenList → TokenList
+after_lead lead.Colons run = after_two run
+after_lead lead.Arrow run = after_two run
+after_lead lead.Dots run = after_three run
+after_lead lead.ReferenceLifetime run = rest_of (rest_of (rest_of run))
+after_lead lead.Lifetime run = rest_of (rest_of run)
+after_lead lead.OtherLifetime run = rest_of (rest_of run)
+after_lead other run = rest_of run
 
--- what opens the group there, where none is open yet
+-- the group is opened; only one can be open at a time
 abbrev pub opens_first : Place → TokenList → Option TokenList → Move
-opens_first place (also (group delimiter span inside) rest) behind = opens delimiter span place inside rest behind
-opens_first place run behind = misfits run
+opens_first place (also (group delimiter span inside) rest) outside = opens delimiter span place inside rest outside
+opens_first place run outside = mismatches run
 
--- what comes next, where this is to be done with the run that is left
+-- the next step for an action and the run that is left
 abbrev pub acts : Action → TokenList → Option TokenList → Move
-acts action.End run behind = ends
-acts (action.Take l place) run behind = takes (lead_sign l run) (to place (behind_lead l run) behind)
-acts (action.Bar l place) run behind = bars (lead_sign l run) (to place (behind_lead l run) behind)
-acts (action.Ask plus place) run behind = asks plus place
-acts (action.KeepType place) run behind = keeps_type place
-acts (action.Keep place) run behind = keeps run (to place none behind)
-acts (action.Nest l place next) run behind = nests (lead_sign l run) (to place (behind_lead l run) None) next
-acts (action.Open place) run behind = opens_first place run behind
-acts (action.Close delimiter place) run behind = closes delimiter place behind
+acts action.End run outside = ends
+acts (action.Take l place) run outside = takes (lead_sign l run) (to place (after_lead l run) outside)
+acts (action.Bar l place) run outside = bars (lead_sign l run) (to place (after_lead l run) outside)
+acts (action.Ask plus place) run outside = asks plus place
+acts (action.KeepType place) run outside = keeps_type place
+acts (action.Keep place) run outside = keeps run (to place none outside)
+acts (action.Nest l place next) run outside = nests (lead_sign l run) (to place (after_lead l run) None) next
+acts (action.Open place) run outside = opens_first place run outside
+acts (action.Close delimiter place) run outside = closes delimiter place outside
 
--- what is to be done makes this come next
+-- the action leads to this step
 abbrev pub IsAction : Result Action Stop → Spot → Move → Type 0
-IsAction (Ok action) spot next = next ≡ acts action spot.run spot.behind
+IsAction (Ok action) spot next = next ≡ acts action spot.run spot.outside
 IsAction (Err (stop.Unsupported span)) spot next = next ≡ stops (unsupported span)
-IsAction (Err (stop.Misfit span)) spot next = next ≡ stops (misfit span)
+IsAction (Err (stop.Mismatch span)) spot next = next ≡ stops (mismatch span)
 
--- what opens the group with which a type begins
+-- the group with which a type begins is opened
 abbrev pub opens_type : Place → TokenList → First
 opens_type place (also (group delimiter span inside) rest) = starts false (opening delimiter) (to place inside (Some rest))
-opens_type place run = refused (misfit (first_span run))
+opens_type place run = refused (mismatch (first_span run))
 
--- how a type begins that this says of its run
+-- the beginning of a type that begins so
 abbrev pub begun : Start → TokenList → First
-begun (start.Lead barred l place) run = starts barred (lead_sign l run) (to place (behind_lead l run) None)
+begun (start.Lead barred l place) run = starts barred (lead_sign l run) (to place (after_lead l run) None)
 begun (start.Open place) run = opens_type place run
 
--- and so of the first token
+-- the same for the first token
 abbrev pub IsStart : Result Start Stop → TokenList → First → Type 0
 IsStart (Ok found) run first = first ≡ begun found run
 IsStart (Err (stop.Unsupported span)) run first = first ≡ refused (unsupported span)
-IsStart (Err (stop.Misfit span)) run first = first ≡ refused (misfit span)
+IsStart (Err (stop.Mismatch span)) run first = first ≡ refused (mismatch span)

@@ -1,20 +1,20 @@
-//! Bounds, and the lifetimes of `for<..>`.
+//! Bounds, and the lifetimes in `for<..>`.
 ghost use Rattle.std.specs.Prelude.{◌≡◌};
 ghost use Rattle.logos_token.specs.Tokens.{rest_of};
 ghost use Rattle.logos_token.specs.Views.{tokens_of};
-ghost use Rattle.logos_type_reader.specs.Table.{behind_bound, bound_lifetime_move, trait_move, question_move, bound_move, bound_end_move, further_move, enclosed_end_move, behind_for, for_move, for_lifetime_move, for_list_move, for_end_move, path_move};
+ghost use Rattle.logos_type_reader.specs.Table.{after_bound, bound_lifetime_move, trait_move, question_move, bound_move, bound_end_move, further_move, enclosed_end_move, after_for, for_move, for_lifetime_move, for_list_move, for_end_move, path_move};
 ghost use Rattle.logos_type_reader.specs.declared.table.place.PathKind.TheVariants.{OfBound};
-ghost use Rattle.logos_type_reader.specs.ReadingViews.{behind_of, spot_of};
+ghost use Rattle.logos_type_reader.specs.ReadingViews.{outside_of, spot_of};
 ghost use Rattle.logos_type_reader.specs.inside.Actions.{IsAction};
 
 use crate::table::paths::path_step;
 use crate::table::place::{Action, Binder, BoundKind, Lead, Look, Next, PathKind, Place, Spot};
-use crate::table::tokens::{begins_bound, begins_word, look, misfit, misfit_behind};
+use crate::table::tokens::{begins_bound, begins_word, look, mismatch, mismatch_after};
 use logos_token::token::Delimiter;
 
-/// The place behind a bound.
-fn behind_bound(kind: BoundKind) -> Place
-    ensures { result ≡ behind_bound kind }
+/// Returns the place after a bound.
+fn after_bound(kind: BoundKind) -> Place
+    ensures { result ≡ after_bound kind }
 {
     match kind {
         BoundKind::Listed(plus) => Place::BoundEnd(plus),
@@ -22,42 +22,42 @@ fn behind_bound(kind: BoundKind) -> Place
     }
 }
 
-/// At `'` where a bound stands.
+/// Returns the step at `'` where a bound stands.
 fn bound_lifetime_step(plus: bool, at: &Spot<'_, '_>) -> Next
     ensures { IsAction result (spot_of at.now)
-        (bound_lifetime_move plus (rest_of (tokens_of at.now.run)) (behind_of at.now.behind)) }
+        (bound_lifetime_move plus (rest_of (tokens_of at.now.run)) (outside_of at.now.outside)) }
 {
     match look(at.run.rest()) {
-        Look::Word => Ok(Action::Take(Lead::Kept, Place::BoundEnd(plus))),
-        _ => misfit_behind(at),
+        Look::Word => Ok(Action::Take(Lead::OtherLifetime, Place::BoundEnd(plus))),
+        _ => mismatch_after(at),
     }
 }
 
-/// Where the path of a bound stands, perhaps behind `for<..>`.
+/// Returns the step where the path of a bound stands, perhaps after `for<..>`.
 pub(super) fn trait_step(kind: BoundKind, at: &Spot<'_, '_>) -> Next
     ensures { IsAction result (spot_of at.now)
-        (trait_move kind (tokens_of at.now.run) (behind_of at.now.behind)) }
+        (trait_move kind (tokens_of at.now.run) (outside_of at.now.outside)) }
 {
     match look(at.run) {
         Look::Word if begins_word("for", at.run) => {
             Ok(Action::Take(Lead::Word, Place::For(Binder::OfTrait(kind))))
         }
-        _ => path_step(PathKind::OfBound, behind_bound(kind), at),
+        _ => path_step(PathKind::OfBound, after_bound(kind), at),
     }
 }
 
-/// Where the path of a bound stands, behind `for<..>`.
+/// Returns the step where the path of a bound stands, after `for<..>`.
 pub(super) fn trait_path_step(kind: BoundKind, at: &Spot<'_, '_>) -> Next
     ensures { IsAction result (spot_of at.now)
-        (path_move OfBound (behind_bound kind) (tokens_of at.now.run)) }
+        (path_move OfBound (after_bound kind) (tokens_of at.now.run)) }
 {
-    path_step(PathKind::OfBound, behind_bound(kind), at)
+    path_step(PathKind::OfBound, after_bound(kind), at)
 }
 
-/// Where `?` may stand in front of it, too.
+/// Returns the step where a `?` can stand before the path of a bound.
 pub(super) fn question_step(kind: BoundKind, at: &Spot<'_, '_>) -> Next
     ensures { IsAction result (spot_of at.now)
-        (question_move kind (tokens_of at.now.run) (behind_of at.now.behind)) }
+        (question_move kind (tokens_of at.now.run) (outside_of at.now.outside)) }
 {
     match look(at.run) {
         Look::Mark('?', _) => Ok(Action::Take(Lead::Mark('?'), Place::Trait(kind))),
@@ -65,10 +65,10 @@ pub(super) fn question_step(kind: BoundKind, at: &Spot<'_, '_>) -> Next
     }
 }
 
-/// Where a bound stands.
+/// Returns the step where a bound stands.
 pub(super) fn bound_step(plus: bool, at: &Spot<'_, '_>) -> Next
     ensures { IsAction result (spot_of at.now)
-        (bound_move plus (tokens_of at.now.run) (behind_of at.now.behind)) }
+        (bound_move plus (tokens_of at.now.run) (outside_of at.now.outside)) }
 {
     match look(at.run) {
         Look::Mark('\'', _) => bound_lifetime_step(plus, at),
@@ -77,10 +77,10 @@ pub(super) fn bound_step(plus: bool, at: &Spot<'_, '_>) -> Next
     }
 }
 
-/// Behind a bound.
+/// Returns the step after a bound.
 pub(super) fn bound_end_step(plus: bool, at: &Spot<'_, '_>) -> Next
     ensures { IsAction result (spot_of at.now)
-        (bound_end_move plus (tokens_of at.now.run) (behind_of at.now.behind)) }
+        (bound_end_move plus (tokens_of at.now.run) (outside_of at.now.outside)) }
 {
     match look(at.run) {
         Look::Mark('+', _) if plus => { Ok(Action::Take(Lead::Mark('+'), Place::Further)) }
@@ -88,10 +88,10 @@ pub(super) fn bound_end_step(plus: bool, at: &Spot<'_, '_>) -> Next
     }
 }
 
-/// Behind the `+` behind a bound.
+/// Returns the step after a `+` that follows a bound.
 pub(super) fn further_step(at: &Spot<'_, '_>) -> Next
     ensures { IsAction result (spot_of at.now)
-        (further_move (tokens_of at.now.run) (behind_of at.now.behind)) }
+        (further_move (tokens_of at.now.run) (outside_of at.now.outside)) }
 {
     if begins_bound(at.run) {
         return bound_step(true, at);
@@ -99,20 +99,20 @@ pub(super) fn further_step(at: &Spot<'_, '_>) -> Next
     Ok(Action::End)
 }
 
-/// Behind a path in the parentheses of a bound.
+/// Returns the step after a path in the parentheses of a bound.
 pub(super) fn enclosed_end_step(plus: bool, at: &Spot<'_, '_>) -> Next
     ensures { IsAction result (spot_of at.now)
-        (enclosed_end_move plus (tokens_of at.now.run) (behind_of at.now.behind)) }
+        (enclosed_end_move plus (tokens_of at.now.run) (outside_of at.now.outside)) }
 {
     match look(at.run) {
         Look::Nothing => Ok(Action::Close(Delimiter::Parenthesis, Place::BoundEnd(plus))),
-        _ => misfit(at),
+        _ => mismatch(at),
     }
 }
 
-/// The place behind `for<..>`.
-fn behind_for(binder: Binder) -> Place
-    ensures { result ≡ behind_for binder }
+/// Returns the place after `for<..>`.
+fn after_for(binder: Binder) -> Place
+    ensures { result ≡ after_for binder }
 {
     match binder {
         Binder::OfFunction => Place::Qualified,
@@ -120,48 +120,48 @@ fn behind_for(binder: Binder) -> Place
     }
 }
 
-/// Behind `for`.
+/// Returns the step after `for`.
 pub(super) fn for_step(binder: Binder, at: &Spot<'_, '_>) -> Next
     ensures { IsAction result (spot_of at.now)
-        (for_move binder (tokens_of at.now.run) (behind_of at.now.behind)) }
+        (for_move binder (tokens_of at.now.run) (outside_of at.now.outside)) }
 {
     match look(at.run) {
         Look::Mark('<', _) => { Ok(Action::Take(Lead::Mark('<'), Place::ForList(binder))) }
-        _ => misfit(at),
+        _ => mismatch(at),
     }
 }
 
-/// At `'` in `for<..>`.
+/// Returns the step at `'` in `for<..>`.
 fn for_lifetime_step(binder: Binder, at: &Spot<'_, '_>) -> Next
     ensures { IsAction result (spot_of at.now)
-        (for_lifetime_move binder (rest_of (tokens_of at.now.run)) (behind_of at.now.behind)) }
+        (for_lifetime_move binder (rest_of (tokens_of at.now.run)) (outside_of at.now.outside)) }
 {
     match look(at.run.rest()) {
-        Look::Word => Ok(Action::Take(Lead::Kept, Place::ForEnd(binder))),
-        _ => misfit_behind(at),
+        Look::Word => Ok(Action::Take(Lead::OtherLifetime, Place::ForEnd(binder))),
+        _ => mismatch_after(at),
     }
 }
 
-/// In `for<..>`, where a lifetime may stand.
+/// Returns the step in `for<..>`, where a lifetime may stand.
 pub(super) fn for_list_step(binder: Binder, at: &Spot<'_, '_>) -> Next
     ensures { IsAction result (spot_of at.now)
-        (for_list_move binder (tokens_of at.now.run) (behind_of at.now.behind)) }
+        (for_list_move binder (tokens_of at.now.run) (outside_of at.now.outside)) }
 {
     match look(at.run) {
-        Look::Mark('>', _) => { Ok(Action::Take(Lead::Mark('>'), behind_for(binder))) }
+        Look::Mark('>', _) => { Ok(Action::Take(Lead::Mark('>'), after_for(binder))) }
         Look::Mark('\'', _) => for_lifetime_step(binder, at),
-        _ => misfit(at),
+        _ => mismatch(at),
     }
 }
 
-/// Behind a lifetime in `for<..>`.
+/// Returns the step after a lifetime in `for<..>`.
 pub(super) fn for_end_step(binder: Binder, at: &Spot<'_, '_>) -> Next
     ensures { IsAction result (spot_of at.now)
-        (for_end_move binder (tokens_of at.now.run) (behind_of at.now.behind)) }
+        (for_end_move binder (tokens_of at.now.run) (outside_of at.now.outside)) }
 {
     match look(at.run) {
         Look::Mark(',', _) => { Ok(Action::Take(Lead::Mark(','), Place::ForList(binder))) }
-        Look::Mark('>', _) => { Ok(Action::Take(Lead::Mark('>'), behind_for(binder))) }
-        _ => misfit(at),
+        Look::Mark('>', _) => { Ok(Action::Take(Lead::Mark('>'), after_for(binder))) }
+        _ => mismatch(at),
     }
 }

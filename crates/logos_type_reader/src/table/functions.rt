@@ -1,28 +1,28 @@
-//! Functions.
+//! Function types.
 ghost use Rattle.logos_token.specs.Views.{tokens_of};
 ghost use Rattle.logos_type_reader.specs.Table.{linked_move, unsafe_move, qualified_move, extern_move, function_move, taken_value, taken_move, typed_move, one_taken_move, variadic_move, variadic_end_move};
-ghost use Rattle.logos_type_reader.specs.ReadingViews.{behind_of, spot_of};
+ghost use Rattle.logos_type_reader.specs.ReadingViews.{outside_of, spot_of};
 ghost use Rattle.logos_type_reader.specs.inside.Actions.{IsAction};
 
 use crate::table::place::{Action, Lead, Look, Next, Place, Spot};
-use crate::table::tokens::{begins_dots, begins_word, is_typing, look, misfit};
+use crate::table::tokens::{begins_dots, begins_word, is_typing, look, mismatch};
 use logos_token::token::Delimiter;
 
-/// Behind `extern` and its literal.
+/// Returns the step after `extern` and its literal.
 pub(super) fn linked_step(at: &Spot<'_, '_>) -> Next
     ensures { IsAction result (spot_of at.now)
-        (linked_move (tokens_of at.now.run) (behind_of at.now.behind)) }
+        (linked_move (tokens_of at.now.run) (outside_of at.now.outside)) }
 {
     match look(at.run) {
         Look::Word if begins_word("fn", at.run) => Ok(Action::Take(Lead::Word, Place::Function)),
-        _ => misfit(at),
+        _ => mismatch(at),
     }
 }
 
-/// Behind `unsafe`.
+/// Returns the step after `unsafe`.
 pub(super) fn unsafe_step(at: &Spot<'_, '_>) -> Next
     ensures { IsAction result (spot_of at.now)
-        (unsafe_move (tokens_of at.now.run) (behind_of at.now.behind)) }
+        (unsafe_move (tokens_of at.now.run) (outside_of at.now.outside)) }
 {
     match look(at.run) {
         Look::Word if begins_word("extern", at.run) => Ok(Action::Take(Lead::Word, Place::Extern)),
@@ -30,10 +30,10 @@ pub(super) fn unsafe_step(at: &Spot<'_, '_>) -> Next
     }
 }
 
-/// Behind the `for<..>` of a function.
+/// Returns the step after the `for<..>` of a function.
 pub(super) fn qualified_step(at: &Spot<'_, '_>) -> Next
     ensures { IsAction result (spot_of at.now)
-        (qualified_move (tokens_of at.now.run) (behind_of at.now.behind)) }
+        (qualified_move (tokens_of at.now.run) (outside_of at.now.outside)) }
 {
     match look(at.run) {
         Look::Word if begins_word("unsafe", at.run) => Ok(Action::Take(Lead::Word, Place::Unsafe)),
@@ -41,10 +41,10 @@ pub(super) fn qualified_step(at: &Spot<'_, '_>) -> Next
     }
 }
 
-/// Behind `extern`.
+/// Returns the step after `extern`.
 pub(super) fn extern_step(at: &Spot<'_, '_>) -> Next
     ensures { IsAction result (spot_of at.now)
-        (extern_move (tokens_of at.now.run) (behind_of at.now.behind)) }
+        (extern_move (tokens_of at.now.run) (outside_of at.now.outside)) }
 {
     match look(at.run) {
         Look::Literal => Ok(Action::Take(Lead::Literal, Place::Linked)),
@@ -52,21 +52,21 @@ pub(super) fn extern_step(at: &Spot<'_, '_>) -> Next
     }
 }
 
-/// Behind `fn`.
+/// Returns the step after `fn`.
 pub(super) fn function_step(at: &Spot<'_, '_>) -> Next
     ensures { IsAction result (spot_of at.now)
-        (function_move (tokens_of at.now.run) (behind_of at.now.behind)) }
+        (function_move (tokens_of at.now.run) (outside_of at.now.outside)) }
 {
     match look(at.run) {
         Look::Group(Delimiter::Parenthesis) => Ok(Action::Open(Place::Taken)),
-        _ => misfit(at),
+        _ => mismatch(at),
     }
 }
 
-/// Where a type that a function takes begins, or `...`.
+/// Returns the step where the type of a parameter begins, or `...`.
 pub(super) fn taken_value_step(at: &Spot<'_, '_>) -> Next
     ensures { IsAction result (spot_of at.now)
-        (taken_value (tokens_of at.now.run) (behind_of at.now.behind)) }
+        (taken_value (tokens_of at.now.run) (outside_of at.now.outside)) }
 {
     if begins_dots(at.run) {
         return Ok(Action::Bar(Lead::Dots, Place::Variadic));
@@ -74,10 +74,10 @@ pub(super) fn taken_value_step(at: &Spot<'_, '_>) -> Next
     Ok(Action::Ask(true, Place::OneTaken))
 }
 
-/// Among what a function takes.
+/// Returns the step among the parameters of a function.
 pub(super) fn taken_step(at: &Spot<'_, '_>) -> Next
     ensures { IsAction result (spot_of at.now)
-        (taken_move (tokens_of at.now.run) (behind_of at.now.behind)) }
+        (taken_move (tokens_of at.now.run) (outside_of at.now.outside)) }
 {
     match look(at.run) {
         Look::Nothing => Ok(Action::Close(Delimiter::Parenthesis, Place::Output)),
@@ -86,48 +86,48 @@ pub(super) fn taken_step(at: &Spot<'_, '_>) -> Next
     }
 }
 
-/// Between a name and `:`.
+/// Returns the step between a name and `:`.
 pub(super) fn typed_step(at: &Spot<'_, '_>) -> Next
     ensures { IsAction result (spot_of at.now)
-        (typed_move (tokens_of at.now.run) (behind_of at.now.behind)) }
+        (typed_move (tokens_of at.now.run) (outside_of at.now.outside)) }
 {
     match look(at.run) {
         Look::Mark(':', _) => Ok(Action::Take(Lead::Mark(':'), Place::TypedValue)),
-        _ => misfit(at),
+        _ => mismatch(at),
     }
 }
 
-/// Behind one type that a function takes.
+/// Returns the step after one parameter of a function.
 pub(super) fn one_taken_step(at: &Spot<'_, '_>) -> Next
     ensures { IsAction result (spot_of at.now)
-        (one_taken_move (tokens_of at.now.run) (behind_of at.now.behind)) }
+        (one_taken_move (tokens_of at.now.run) (outside_of at.now.outside)) }
 {
     match look(at.run) {
         Look::Nothing => Ok(Action::Close(Delimiter::Parenthesis, Place::Output)),
         Look::Mark(',', _) => Ok(Action::Take(Lead::Mark(','), Place::Taken)),
-        _ => misfit(at),
+        _ => mismatch(at),
     }
 }
 
-/// Behind `...`.
+/// Returns the step after `...`.
 pub(super) fn variadic_step(at: &Spot<'_, '_>) -> Next
     ensures { IsAction result (spot_of at.now)
-        (variadic_move (tokens_of at.now.run) (behind_of at.now.behind)) }
+        (variadic_move (tokens_of at.now.run) (outside_of at.now.outside)) }
 {
     match look(at.run) {
         Look::Nothing => Ok(Action::Close(Delimiter::Parenthesis, Place::Output)),
         Look::Mark(',', _) => Ok(Action::Take(Lead::Mark(','), Place::VariadicEnd)),
-        _ => misfit(at),
+        _ => mismatch(at),
     }
 }
 
-/// Behind the `,` behind `...`.
+/// Returns the step after a `,` that follows `...`.
 pub(super) fn variadic_end_step(at: &Spot<'_, '_>) -> Next
     ensures { IsAction result (spot_of at.now)
-        (variadic_end_move (tokens_of at.now.run) (behind_of at.now.behind)) }
+        (variadic_end_move (tokens_of at.now.run) (outside_of at.now.outside)) }
 {
     match look(at.run) {
         Look::Nothing => Ok(Action::Close(Delimiter::Parenthesis, Place::Output)),
-        _ => misfit(at),
+        _ => mismatch(at),
     }
 }

@@ -1,17 +1,17 @@
 //! References, pointers, groups, and `<T as P>`.
 ghost use Rattle.logos_token.specs.Views.{tokens_of};
 ghost use Rattle.logos_type_reader.specs.Table.{referent_move, pointer_move, list_move, list_end_move, element_end_move, length_move, self_end_move, self_trait_end_move, self_closed_move};
-ghost use Rattle.logos_type_reader.specs.ReadingViews.{behind_of, spot_of};
+ghost use Rattle.logos_type_reader.specs.ReadingViews.{outside_of, spot_of};
 ghost use Rattle.logos_type_reader.specs.inside.Actions.{IsAction};
 
 use crate::table::place::{Action, Lead, Look, Next, PathKind, Place, Spot};
-use crate::table::tokens::{begins_colons, begins_word, look, misfit};
+use crate::table::tokens::{begins_colons, begins_word, look, mismatch};
 use logos_token::token::Delimiter;
 
-/// Behind `&` and its lifetime.
+/// Returns the step after `&` and its lifetime.
 pub(super) fn referent_step(at: &Spot<'_, '_>) -> Next
     ensures { IsAction result (spot_of at.now)
-        (referent_move (tokens_of at.now.run) (behind_of at.now.behind)) }
+        (referent_move (tokens_of at.now.run) (outside_of at.now.outside)) }
 {
     match look(at.run) {
         Look::Word if begins_word("mut", at.run) => Ok(Action::Take(Lead::Word, Place::Target)),
@@ -19,23 +19,23 @@ pub(super) fn referent_step(at: &Spot<'_, '_>) -> Next
     }
 }
 
-/// Behind `*`.
+/// Returns the step after `*`.
 pub(super) fn pointer_step(at: &Spot<'_, '_>) -> Next
     ensures { IsAction result (spot_of at.now)
-        (pointer_move (tokens_of at.now.run) (behind_of at.now.behind)) }
+        (pointer_move (tokens_of at.now.run) (outside_of at.now.outside)) }
 {
     match look(at.run) {
         Look::Word if begins_word("const", at.run) | begins_word("mut", at.run) => {
             Ok(Action::Take(Lead::Word, Place::Target))
         }
-        _ => misfit(at),
+        _ => mismatch(at),
     }
 }
 
-/// In parentheses, where a type may begin.
-pub(super) fn list_step(at: &Spot<'_, '_>) -> Next
+/// Returns the step in parentheses, where a type may begin.
+pub(super) fn tuple_step(at: &Spot<'_, '_>) -> Next
     ensures { IsAction result (spot_of at.now)
-        (list_move (tokens_of at.now.run) (behind_of at.now.behind)) }
+        (list_move (tokens_of at.now.run) (outside_of at.now.outside)) }
 {
     match look(at.run) {
         Look::Nothing => Ok(Action::Close(Delimiter::Parenthesis, Place::End)),
@@ -43,71 +43,71 @@ pub(super) fn list_step(at: &Spot<'_, '_>) -> Next
     }
 }
 
-/// Behind a type in parentheses.
-pub(super) fn list_end_step(at: &Spot<'_, '_>) -> Next
+/// Returns the step after a type in parentheses.
+pub(super) fn tuple_end_step(at: &Spot<'_, '_>) -> Next
     ensures { IsAction result (spot_of at.now)
-        (list_end_move (tokens_of at.now.run) (behind_of at.now.behind)) }
+        (list_end_move (tokens_of at.now.run) (outside_of at.now.outside)) }
 {
     match look(at.run) {
         Look::Nothing => Ok(Action::Close(Delimiter::Parenthesis, Place::End)),
         Look::Mark(',', _) => Ok(Action::Take(Lead::Mark(','), Place::List)),
-        _ => misfit(at),
+        _ => mismatch(at),
     }
 }
 
-/// Behind a type in brackets.
+/// Returns the step after a type in brackets.
 pub(super) fn element_end_step(at: &Spot<'_, '_>) -> Next
     ensures { IsAction result (spot_of at.now)
-        (element_end_move (tokens_of at.now.run) (behind_of at.now.behind)) }
+        (element_end_move (tokens_of at.now.run) (outside_of at.now.outside)) }
 {
     match look(at.run) {
         Look::Nothing => Ok(Action::Close(Delimiter::Bracket, Place::End)),
         Look::Mark(';', _) => Ok(Action::Take(Lead::Mark(';'), Place::Length)),
-        _ => misfit(at),
+        _ => mismatch(at),
     }
 }
 
-/// Behind the `;` of an array.
+/// Returns the step after the `;` of an array.
 pub(super) fn length_step(at: &Spot<'_, '_>) -> Next
     ensures { IsAction result (spot_of at.now)
-        (length_move (tokens_of at.now.run) (behind_of at.now.behind)) }
+        (length_move (tokens_of at.now.run) (outside_of at.now.outside)) }
 {
     match look(at.run) {
-        Look::Nothing => misfit(at),
+        Look::Nothing => mismatch(at),
         _ => Ok(Action::Keep(Place::LengthEnd)),
     }
 }
 
-/// Behind the type behind `<`.
+/// Returns the step after the type that follows `<`.
 pub(super) fn self_end_step(at: &Spot<'_, '_>) -> Next
     ensures { IsAction result (spot_of at.now)
-        (self_end_move (tokens_of at.now.run) (behind_of at.now.behind)) }
+        (self_end_move (tokens_of at.now.run) (outside_of at.now.outside)) }
 {
     match look(at.run) {
         Look::Word if begins_word("as", at.run) => Ok(Action::Take(Lead::Word, Place::SelfTrait)),
         Look::Mark('>', _) => Ok(Action::Take(Lead::Mark('>'), Place::SelfClosed)),
-        _ => misfit(at),
+        _ => mismatch(at),
     }
 }
 
-/// Behind the path behind `as`.
+/// Returns the step after the path that follows `as`.
 pub(super) fn self_trait_end_step(at: &Spot<'_, '_>) -> Next
     ensures { IsAction result (spot_of at.now)
-        (self_trait_end_move (tokens_of at.now.run) (behind_of at.now.behind)) }
+        (self_trait_end_move (tokens_of at.now.run) (outside_of at.now.outside)) }
 {
     match look(at.run) {
         Look::Mark('>', _) => Ok(Action::Take(Lead::Mark('>'), Place::SelfClosed)),
-        _ => misfit(at),
+        _ => mismatch(at),
     }
 }
 
-/// Behind the `>` of `<T as P>`.
+/// Returns the step after the `>` of `<T as P>`.
 pub(super) fn self_closed_step(at: &Spot<'_, '_>) -> Next
     ensures { IsAction result (spot_of at.now)
-        (self_closed_move (tokens_of at.now.run) (behind_of at.now.behind)) }
+        (self_closed_move (tokens_of at.now.run) (outside_of at.now.outside)) }
 {
     if begins_colons(at.run) {
         return Ok(Action::Take(Lead::Colons, Place::Colons(PathKind::OfType, false)));
     }
-    misfit(at)
+    mismatch(at)
 }

@@ -1,4 +1,4 @@
-//! How a type begins.
+//! The beginnings of types.
 ghost use Rattle.std.specs.Prelude.{◌≡◌, Some, None, MatchOption};
 ghost use Rattle.logos_token.specs.Tokens.{rest_of};
 ghost use Rattle.logos_token.specs.Views.{tokens_of};
@@ -11,7 +11,7 @@ use crate::table::place::{Binder, First, Lead, Look, Opening, PathKind, Place, S
 use crate::table::tokens::{begins_colons, begins_mark, first_span, first_text, goes_on, look};
 use logos_token::token::{Delimiter, Tokens};
 
-/// At `&`, with which a type begins.
+/// Returns the step at `&`, with which a type begins.
 fn reference_first(run: Tokens<'_, '_>) -> First
     ensures { IsStart result (tokens_of run.entry)
         (reference_first (rest_of (tokens_of run.entry))) }
@@ -22,7 +22,7 @@ fn reference_first(run: Tokens<'_, '_>) -> First
     }
 }
 
-/// At `&'`, with which a type begins.
+/// Returns the step at `&'`, with which a type begins.
 fn reference_lifetime(run: Tokens<'_, '_>) -> First
     ensures { IsStart result (tokens_of run.entry)
         (reference_lifetime_first (rest_of (rest_of (tokens_of run.entry)))) }
@@ -30,11 +30,11 @@ fn reference_lifetime(run: Tokens<'_, '_>) -> First
     let name = run.rest().rest();
     match look(name) {
         Look::Word => Ok(Start::Lead(false, Lead::ReferenceLifetime, Place::Referent)),
-        _ => Err(Stop::Misfit(first_span(name))),
+        _ => Err(Stop::Mismatch(first_span(name))),
     }
 }
 
-/// The place behind the word with which a type begins.
+/// Returns the place after the word with which a type begins.
 fn word_place(plus: bool, text: &str) -> Place
     ensures { result ≡ word_place plus text.now }
 {
@@ -56,7 +56,7 @@ fn word_place(plus: bool, text: &str) -> Place
     Place::Named(PathKind::Plain)
 }
 
-/// At the word with which a type begins.
+/// Returns the step at the word with which a type begins.
 fn word_first(plus: bool, run: Tokens<'_, '_>) -> First
     ensures { IsStart result (tokens_of run.entry)
         (word_first plus (first_text (tokens_of run.entry)) (first_span (tokens_of run.entry))
@@ -69,7 +69,7 @@ fn word_first(plus: bool, run: Tokens<'_, '_>) -> First
     Ok(Start::Lead(text == "impl", Lead::Word, word_place(plus, text)))
 }
 
-/// At the punctuation with which a type begins.
+/// Returns the step at the punctuation with which a type begins.
 fn mark_first(mark: char, run: Tokens<'_, '_>) -> First
     ensures { IsStart result (tokens_of run.entry)
         (mark_first mark (first_span (tokens_of run.entry)) (tokens_of run.entry)
@@ -83,11 +83,11 @@ fn mark_first(mark: char, run: Tokens<'_, '_>) -> First
         _ if begins_colons(run) => {
             Ok(Start::Lead(false, Lead::Colons, Place::Colons(PathKind::Plain, false)))
         }
-        _ => Err(Stop::Misfit(first_span(run))),
+        _ => Err(Stop::Mismatch(first_span(run))),
     }
 }
 
-/// How the type begins with which a run begins.
+/// Returns how the type begins with which the run begins.
 #[tactic(auto, unfolding(crate::specs::Table::begin))]
 fn start_at(plus: bool, run: Tokens<'_, '_>) -> First
     ensures { IsStart result (tokens_of run.entry) (begin plus (tokens_of run.entry)) }
@@ -97,11 +97,11 @@ fn start_at(plus: bool, run: Tokens<'_, '_>) -> First
         Look::Group(Delimiter::Parenthesis) => Ok(Start::Open(Place::List)),
         Look::Group(Delimiter::Bracket) => Ok(Start::Open(Place::Element)),
         Look::Mark(mark, _) => mark_first(mark, run),
-        _ => Err(Stop::Misfit(first_span(run))),
+        _ => Err(Stop::Mismatch(first_span(run))),
     }
 }
 
-/// The first token of a type.
+/// Returns the first token of a type.
 pub(crate) fn begin<'t, 's>(plus: bool, run: Tokens<'t, 's>) -> Result<Opening<'t, 's>, Stop>
     ensures { IsFirst result (begin plus (tokens_of run.entry)) }
 {
@@ -111,7 +111,7 @@ pub(crate) fn begin<'t, 's>(plus: bool, run: Tokens<'t, 's>) -> Result<Opening<'
     }
 }
 
-/// Whether a word is no name of a type.
+/// Returns whether a word is reserved, so that it is not the name of a type.
 fn is_reserved(text: &str) -> bool
     ensures { result ≡ is_reserved text.now }
 {
@@ -119,7 +119,7 @@ fn is_reserved(text: &str) -> bool
         | (((text == "fn") | (text == "unsafe")) | (text == "extern"))
 }
 
-/// The name and what is behind it, where the type is just a name.
+/// Returns the name and the tokens after it if the type is just a name.
 pub(crate) fn read_name<'t, 's>(tokens: Tokens<'t, 's>) -> Option<(&'s str, Tokens<'t, 's>)>
     ensures { MatchOption result (name_of (tokens_of tokens.entry) ≡ None)
         (λ read. (name_of (tokens_of tokens.entry) ≡ Some read.0.now)

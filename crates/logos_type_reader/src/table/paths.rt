@@ -3,16 +3,16 @@ ghost use Rattle.std.specs.Prelude.{◌≡◌};
 ghost use Rattle.logos_token.specs.Tokens.{rest_of};
 ghost use Rattle.logos_token.specs.Views.{tokens_of};
 ghost use Rattle.logos_type_reader.specs.Table.{argued, name_end, segments_move, named_move, macro_move, output_move, inputs_move, input_end_move, colons_move, lifetime_move, argument_word, arguments_move, braced_move, equals_move, constrained_move, argument_end_move, path_move};
-ghost use Rattle.logos_type_reader.specs.ReadingViews.{behind_of, spot_of};
+ghost use Rattle.logos_type_reader.specs.ReadingViews.{outside_of, spot_of};
 ghost use Rattle.logos_type_reader.specs.inside.Actions.{first_text, IsAction};
 
 use crate::table::place::{Action, Lead, Look, Next, PathKind, Place, Spot};
 use crate::table::tokens::{
-    begins_arrow, begins_colons, begins_mark, is_typing, look, misfit, misfit_behind,
+    begins_arrow, begins_colons, begins_mark, is_typing, look, mismatch, mismatch_after,
 };
 use logos_token::token::Delimiter;
 
-/// What the path is once it has had arguments.
+/// Returns the kind of a path that has had arguments.
 fn argued(kind: PathKind) -> PathKind
     ensures { result ≡ argued kind }
 {
@@ -22,10 +22,10 @@ fn argued(kind: PathKind) -> PathKind
     }
 }
 
-/// Behind the last name of a path.
+/// Returns the step after the last name of a path.
 fn name_end(kind: PathKind, at: &Spot<'_, '_>) -> Next
     ensures { IsAction result (spot_of at.now)
-        (name_end kind (tokens_of at.now.run) (behind_of at.now.behind)) }
+        (name_end kind (tokens_of at.now.run) (outside_of at.now.outside)) }
 {
     let PathKind::Plain = kind else {
         return Ok(Action::End);
@@ -36,10 +36,10 @@ fn name_end(kind: PathKind, at: &Spot<'_, '_>) -> Next
     }
 }
 
-/// Behind the arguments of a name.
+/// Returns the step after the arguments of a name.
 pub(super) fn segments_step(kind: PathKind, at: &Spot<'_, '_>) -> Next
     ensures { IsAction result (spot_of at.now)
-        (segments_move kind (tokens_of at.now.run) (behind_of at.now.behind)) }
+        (segments_move kind (tokens_of at.now.run) (outside_of at.now.outside)) }
 {
     if begins_colons(at.run) {
         return Ok(Action::Take(Lead::Colons, Place::Colons(kind, false)));
@@ -47,10 +47,10 @@ pub(super) fn segments_step(kind: PathKind, at: &Spot<'_, '_>) -> Next
     Ok(Action::End)
 }
 
-/// Behind a name of a path.
+/// Returns the step after a name of a path.
 pub(super) fn named_step(kind: PathKind, at: &Spot<'_, '_>) -> Next
     ensures { IsAction result (spot_of at.now)
-        (named_move kind (tokens_of at.now.run) (behind_of at.now.behind)) }
+        (named_move kind (tokens_of at.now.run) (outside_of at.now.outside)) }
 {
     match look(at.run) {
         Look::Mark('<', _) => { Ok(Action::Take(Lead::Mark('<'), Place::Arguments(argued(kind)))) }
@@ -60,21 +60,21 @@ pub(super) fn named_step(kind: PathKind, at: &Spot<'_, '_>) -> Next
     }
 }
 
-/// Behind the `!` of a macro.
+/// Returns the step after the `!` of a macro.
 pub(super) fn macro_step(at: &Spot<'_, '_>) -> Next
     ensures { IsAction result (spot_of at.now)
-        (macro_move (tokens_of at.now.run) (behind_of at.now.behind)) }
+        (macro_move (tokens_of at.now.run) (outside_of at.now.outside)) }
 {
     match look(at.run) {
         Look::Group(delimiter) => Ok(Action::Take(Lead::Group(delimiter), Place::End)),
-        _ => misfit(at),
+        _ => mismatch(at),
     }
 }
 
-/// Behind the parentheses of a path or of a function.
+/// Returns the step after the parentheses of a path or of a function.
 pub(super) fn output_step(at: &Spot<'_, '_>) -> Next
     ensures { IsAction result (spot_of at.now)
-        (output_move (tokens_of at.now.run) (behind_of at.now.behind)) }
+        (output_move (tokens_of at.now.run) (outside_of at.now.outside)) }
 {
     if begins_arrow(at.run) {
         return Ok(Action::Take(Lead::Arrow, Place::Target));
@@ -82,10 +82,10 @@ pub(super) fn output_step(at: &Spot<'_, '_>) -> Next
     Ok(Action::End)
 }
 
-/// In the parentheses of a path, where a type may begin.
+/// Returns the step in the parentheses of a path, where a type may begin.
 pub(super) fn inputs_step(at: &Spot<'_, '_>) -> Next
     ensures { IsAction result (spot_of at.now)
-        (inputs_move (tokens_of at.now.run) (behind_of at.now.behind)) }
+        (inputs_move (tokens_of at.now.run) (outside_of at.now.outside)) }
 {
     match look(at.run) {
         Look::Nothing => Ok(Action::Close(Delimiter::Parenthesis, Place::Output)),
@@ -93,51 +93,51 @@ pub(super) fn inputs_step(at: &Spot<'_, '_>) -> Next
     }
 }
 
-/// Behind a type in the parentheses of a path.
+/// Returns the step after a type in the parentheses of a path.
 pub(super) fn input_end_step(at: &Spot<'_, '_>) -> Next
     ensures { IsAction result (spot_of at.now)
-        (input_end_move (tokens_of at.now.run) (behind_of at.now.behind)) }
+        (input_end_move (tokens_of at.now.run) (outside_of at.now.outside)) }
 {
     match look(at.run) {
         Look::Nothing => Ok(Action::Close(Delimiter::Parenthesis, Place::Output)),
         Look::Mark(',', _) => Ok(Action::Take(Lead::Mark(','), Place::Inputs)),
-        _ => misfit(at),
+        _ => mismatch(at),
     }
 }
 
-/// Behind `::`.
+/// Returns the step after `::`.
 pub(super) fn colons_step(kind: PathKind, arguments: bool, at: &Spot<'_, '_>) -> Next
     ensures { IsAction result (spot_of at.now)
-        (colons_move kind arguments (tokens_of at.now.run) (behind_of at.now.behind)) }
+        (colons_move kind arguments (tokens_of at.now.run) (outside_of at.now.outside)) }
 {
     match look(at.run) {
         Look::Word => Ok(Action::Take(Lead::Word, Place::Named(kind))),
         Look::Mark('<', _) if arguments => {
             Ok(Action::Take(Lead::Mark('<'), Place::Arguments(argued(kind))))
         }
-        _ => misfit(at),
+        _ => mismatch(at),
     }
 }
 
-/// At `'` among arguments.
+/// Returns the step at `'` among arguments.
 fn lifetime_step(kind: PathKind, at: &Spot<'_, '_>) -> Next
     ensures { IsAction result (spot_of at.now)
-        (lifetime_move kind (rest_of (tokens_of at.now.run)) (behind_of at.now.behind)) }
+        (lifetime_move kind (rest_of (tokens_of at.now.run)) (outside_of at.now.outside)) }
 {
     let Look::Word = look(at.run.rest()) else {
-        return misfit_behind(at);
+        return mismatch_after(at);
     };
     match kind {
-        PathKind::OfBound => Ok(Action::Take(Lead::Kept, Place::ArgumentEnd(kind))),
+        PathKind::OfBound => Ok(Action::Take(Lead::OtherLifetime, Place::ArgumentEnd(kind))),
         _ => Ok(Action::Take(Lead::Lifetime, Place::ArgumentEnd(kind))),
     }
 }
 
-/// At a name among arguments.
+/// Returns the step at a name among arguments.
 fn argument_word(kind: PathKind, at: &Spot<'_, '_>) -> Next
     ensures { IsAction result (spot_of at.now)
         (argument_word kind (first_text (tokens_of at.now.run)) (rest_of (tokens_of at.now.run))
-        (behind_of at.now.behind)) }
+        (outside_of at.now.outside)) }
 {
     let rest = at.run.rest();
     if begins_mark('=', rest) {
@@ -149,10 +149,10 @@ fn argument_word(kind: PathKind, at: &Spot<'_, '_>) -> Next
     Ok(Action::Ask(true, Place::ArgumentEnd(kind)))
 }
 
-/// Among arguments.
+/// Returns the step among arguments.
 pub(super) fn arguments_step(kind: PathKind, at: &Spot<'_, '_>) -> Next
     ensures { IsAction result (spot_of at.now)
-        (arguments_move kind (tokens_of at.now.run) (behind_of at.now.behind)) }
+        (arguments_move kind (tokens_of at.now.run) (outside_of at.now.outside)) }
 {
     match look(at.run) {
         Look::Mark('>', _) => { Ok(Action::Take(Lead::Mark('>'), Place::Segments(kind))) }
@@ -164,10 +164,10 @@ pub(super) fn arguments_step(kind: PathKind, at: &Spot<'_, '_>) -> Next
     }
 }
 
-/// In braces that are an argument.
+/// Returns the step in braces that are an argument.
 pub(super) fn braced_step(kind: PathKind, at: &Spot<'_, '_>) -> Next
     ensures { IsAction result (spot_of at.now)
-        (braced_move kind (tokens_of at.now.run) (behind_of at.now.behind)) }
+        (braced_move kind (tokens_of at.now.run) (outside_of at.now.outside)) }
 {
     match look(at.run) {
         Look::Nothing => Ok(Action::Close(Delimiter::Brace, Place::ArgumentEnd(kind))),
@@ -175,21 +175,21 @@ pub(super) fn braced_step(kind: PathKind, at: &Spot<'_, '_>) -> Next
     }
 }
 
-/// Between a name and `=`.
+/// Returns the step between a name and `=`.
 pub(super) fn equals_step(kind: PathKind, at: &Spot<'_, '_>) -> Next
     ensures { IsAction result (spot_of at.now)
-        (equals_move kind (tokens_of at.now.run) (behind_of at.now.behind)) }
+        (equals_move kind (tokens_of at.now.run) (outside_of at.now.outside)) }
 {
     match look(at.run) {
         Look::Mark('=', _) => Ok(Action::Take(Lead::Mark('='), Place::Value(kind))),
-        _ => misfit(at),
+        _ => mismatch(at),
     }
 }
 
-/// Between a name and `:` among arguments.
+/// Returns the step between a name and `:` among arguments.
 pub(super) fn constrained_step(kind: PathKind, at: &Spot<'_, '_>) -> Next
     ensures { IsAction result (spot_of at.now)
-        (constrained_move kind (tokens_of at.now.run) (behind_of at.now.behind)) }
+        (constrained_move kind (tokens_of at.now.run) (outside_of at.now.outside)) }
 {
     match look(at.run) {
         Look::Mark(':', _) => Ok(Action::Nest(
@@ -197,23 +197,23 @@ pub(super) fn constrained_step(kind: PathKind, at: &Spot<'_, '_>) -> Next
             Place::Bound(true),
             Place::ArgumentEnd(kind),
         )),
-        _ => misfit(at),
+        _ => mismatch(at),
     }
 }
 
-/// Behind an argument.
+/// Returns the step after an argument.
 pub(super) fn argument_end_step(kind: PathKind, at: &Spot<'_, '_>) -> Next
     ensures { IsAction result (spot_of at.now)
-        (argument_end_move kind (tokens_of at.now.run) (behind_of at.now.behind)) }
+        (argument_end_move kind (tokens_of at.now.run) (outside_of at.now.outside)) }
 {
     match look(at.run) {
         Look::Mark(',', _) => { Ok(Action::Take(Lead::Mark(','), Place::Arguments(kind))) }
         Look::Mark('>', _) => { Ok(Action::Take(Lead::Mark('>'), Place::Segments(kind))) }
-        _ => misfit(at),
+        _ => mismatch(at),
     }
 }
 
-/// Where a path begins, in front of the place behind it.
+/// Returns the step where a path begins. `next` is the place after it.
 pub(super) fn path_step(kind: PathKind, next: Place, at: &Spot<'_, '_>) -> Next
     ensures { IsAction result (spot_of at.now) (path_move kind next (tokens_of at.now.run)) }
 {
@@ -222,6 +222,6 @@ pub(super) fn path_step(kind: PathKind, next: Place, at: &Spot<'_, '_>) -> Next
         _ if begins_colons(at.run) => {
             Ok(Action::Nest(Lead::Colons, Place::Colons(kind, false), next))
         }
-        _ => misfit(at),
+        _ => mismatch(at),
     }
 }

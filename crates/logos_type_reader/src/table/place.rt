@@ -1,29 +1,29 @@
-//! The places inside a type, and what may come next there.
+//! The places inside a type, and the steps that can come next there.
 
 use logos_token::token::{Delimiter, Spacing, Span, Tokens};
 use logos_type::Leaf;
 
-/// What a path is.
+/// The kinds of paths.
 #[derive(Clone, Copy)]
 pub(crate) enum PathKind {
-    /// A type, without arguments so far: it may still be the name of a macro.
+    /// A type that has had no arguments yet: it can still be the name of a macro.
     Plain,
-    /// A type, or the trait behind `as`.
+    /// A type, or the trait after `as`.
     OfType,
     /// A bound of a `dyn` type.
     OfBound,
 }
 
-/// Where a bound stands.
+/// The kinds of places where a bound stands.
 #[derive(Clone, Copy)]
 pub(crate) enum BoundKind {
-    /// In a list, where `+` may join another one or not.
+    /// In a list. `+` can join another bound if the flag holds.
     Listed(bool),
-    /// In parentheses in such a list.
+    /// In parentheses inside such a list.
     Enclosed(bool),
 }
 
-/// What `for<..>` stands in front of.
+/// The constructs that `for<..>` can stand before.
 #[derive(Clone, Copy)]
 pub(crate) enum Binder {
     OfFunction,
@@ -33,144 +33,146 @@ pub(crate) enum Binder {
 /// A place inside a type.
 #[derive(Clone, Copy)]
 pub(crate) enum Place {
-    /// Behind the last token.
+    /// After the last token.
     End,
-    /// Behind a name of a path.
+    /// After a name of a path.
     Named(PathKind),
-    /// Behind the arguments of a name.
+    /// After the arguments of a name.
     Segments(PathKind),
-    /// Behind `::`, where arguments may stand or not.
+    /// After `::`. Arguments can follow if the flag holds.
     Colons(PathKind, bool),
-    /// Behind `<`, or `,` among arguments.
+    /// After `<`, or `,` among arguments.
     Arguments(PathKind),
     /// Between a name and `=`.
     Equals(PathKind),
-    /// Behind that `=`.
+    /// After that `=`.
     Value(PathKind),
     /// Between a name and `:` among arguments.
     Constrained(PathKind),
     /// In the braces that are an argument.
     Braced(PathKind),
-    /// Behind an argument.
+    /// After an argument.
     ArgumentEnd(PathKind),
-    /// Behind the `!` of a macro.
+    /// After the `!` of a macro.
     Macro,
-    /// Behind `(`, or `,`, in the parentheses of a path.
+    /// After `(`, or `,`, in the parentheses of a path.
     Inputs,
-    /// Behind a type in the parentheses of a path.
+    /// After a type in the parentheses of a path.
     InputEnd,
-    /// Behind the parentheses of a path or of a function.
+    /// After the parentheses of a path or of a function.
     Output,
-    /// Behind the `<` with which a type begins.
+    /// After the `<` with which a type begins.
     SelfType,
-    /// Behind the type behind it.
+    /// After the type that follows that `<`.
     SelfEnd,
-    /// Behind `as`.
+    /// After `as`.
     SelfTrait,
-    /// Behind the path behind it.
+    /// After the path that follows `as`.
     SelfTraitEnd,
-    /// Behind the `>` that ends it.
+    /// After the `>` that ends it.
     SelfClosed,
-    /// Behind `&` and its lifetime.
+    /// After `&` and its lifetime.
     Referent,
-    /// Behind `*`.
+    /// After `*`.
     Pointer,
-    /// Behind `mut`, `const` or `->`.
+    /// After `mut`, `const` or `->`.
     Target,
-    /// Behind `(`, or `,` in parentheses.
+    /// After `(`, or `,` in parentheses.
     List,
-    /// Behind a type in parentheses.
+    /// After a type in parentheses.
     ListEnd,
-    /// Behind `[`.
+    /// After `[`.
     Element,
-    /// Behind a type in brackets.
+    /// After a type in brackets.
     ElementEnd,
-    /// Behind the `;` behind it.
+    /// After the `;` that follows it.
     Length,
-    /// Behind the tokens behind that.
+    /// After the tokens that follow the `;`.
     LengthEnd,
     /// Where a bound stands.
     Bound(bool),
-    /// Behind the `(` of a bound.
+    /// After the `(` of a bound.
     Question(bool),
     /// Where the path of a bound stands, perhaps with `for<..>`.
     Trait(BoundKind),
-    /// Behind that `for<..>`.
+    /// After that `for<..>`.
     TraitPath(BoundKind),
-    /// Behind a bound.
+    /// After a bound.
     BoundEnd(bool),
-    /// Behind the `+` behind it.
+    /// After the `+` that follows a bound.
     Further,
-    /// Behind a path in the parentheses of a bound.
+    /// After a path in the parentheses of a bound.
     EnclosedEnd(bool),
-    /// Behind `for`.
+    /// After `for`.
     For(Binder),
-    /// Behind the `<` behind it, or `,`.
+    /// After the `<` that follows `for`, or after `,`.
     ForList(Binder),
-    /// Behind a lifetime there.
+    /// After a lifetime there.
     ForEnd(Binder),
-    /// Behind the `for<..>` of a function.
+    /// After the `for<..>` of a function.
     Qualified,
-    /// Behind `unsafe`.
+    /// After `unsafe`.
     Unsafe,
-    /// Behind `extern`.
+    /// After `extern`.
     Extern,
-    /// Behind the literal behind `extern`.
+    /// After the literal that follows `extern`.
     Linked,
-    /// Behind `fn`.
+    /// After `fn`.
     Function,
-    /// Behind `(`, or `,`, among what a function takes.
+    /// After `(`, or `,`, among the parameters of a function.
     Taken,
     /// Between a name and `:`.
     Typed,
-    /// Behind that `:`.
+    /// After that `:`.
     TypedValue,
-    /// Behind one type that a function takes.
+    /// After one parameter of a function.
     OneTaken,
-    /// Behind `...`.
+    /// After `...`.
     Variadic,
-    /// Behind the `,` behind it.
+    /// After the `,` that follows `...`.
     VariadicEnd,
 }
 
-/// The run behind the group that is open, if one is.
-pub(crate) type Behind<'t, 's> = Option<Tokens<'t, 's>>;
+/// The tokens after the group that is open, if one is.
+pub(crate) type Outside<'t, 's> = Option<Tokens<'t, 's>>;
 
-/// A place, the run that is left there, and where this run is what a group holds, the run behind the group.
+/// A place inside a type, the tokens that are left there, and, if these are inside a group, the
+/// tokens after the group.
 #[derive(Clone, Copy)]
 pub(crate) struct Spot<'t, 's> {
     pub place: Place,
     pub run: Tokens<'t, 's>,
-    pub behind: Behind<'t, 's>,
+    pub outside: Outside<'t, 's>,
 }
 
-/// What comes next.
+/// The next step at a spot.
 #[derive(Clone, Copy)]
 pub(crate) enum Step<'t, 's> {
-    /// Nothing: what was begun ends here.
+    /// Ends what was begun.
     End,
-    /// This token.
+    /// Takes this token.
     Take(Leaf<'s>, Spot<'t, 's>),
-    /// This token, which only a type that is left out has.
+    /// Takes this token, which only types that are not supported have.
     Bar(Leaf<'s>, Spot<'t, 's>),
-    /// A type, in which `+` may join bounds or not, and behind it this place.
+    /// Reads a type and goes on at this place. `+` can join bounds if the flag holds.
     Ask(bool, Place),
-    /// A type that stays as it is, and behind it this place.
+    /// Reads a type that is never replaced and goes on at this place.
     KeepType(Place),
-    /// These tokens, which stay as they are.
+    /// Takes these tokens without reading types in them.
     Keep(Tokens<'t, 's>, Spot<'t, 's>),
-    /// This token, with which a path or bounds begin that go on there up to their end, and behind them this place.
+    /// Takes this token, with which a path or bounds begin, reads these from the spot on, and goes
+    /// on at this place.
     Nest(Leaf<'s>, Spot<'t, 's>, Place),
 }
 
-/// What a run begins with.
+/// The first token of a run.
 #[derive(Clone, Copy)]
 pub(crate) enum Look {
-    /// Nothing: it has no tokens.
+    /// None: the run has no tokens.
     Nothing,
     /// A name.
     Word,
-    /// This character of punctuation, and what stands behind it.
+    /// This character of punctuation, and what stands after it.
     Mark(char, Spacing),
     /// A literal.
     Literal,
@@ -180,14 +182,14 @@ pub(crate) enum Look {
     Group(Delimiter),
 }
 
-/// What is taken from the front of a run.
+/// The tokens that are taken from the front of a run.
 #[derive(Clone, Copy)]
 pub(crate) enum Lead {
-    /// The name there.
+    /// The name.
     Word,
     /// This character of punctuation.
     Mark(char),
-    /// The literal there.
+    /// The literal.
     Literal,
     /// `::`
     Colons,
@@ -197,40 +199,42 @@ pub(crate) enum Lead {
     Dots,
     /// `&`
     Reference,
-    /// `&`, and behind it a lifetime.
+    /// `&` and a lifetime.
     ReferenceLifetime,
     /// `'` and a name, among the angle arguments of a path that is a type.
     Lifetime,
     /// `'` and a name elsewhere.
-    Kept,
-    /// The delimiters of the group there.
+    OtherLifetime,
+    /// The delimiters of the group.
     Group(Delimiter),
 }
 
-/// What is to be done with the run that is left, so that what comes next is said without the run.
+/// What is to be done next. It names no tokens, so it is the same for all runs that begin alike.
 #[derive(Clone, Copy)]
 pub(crate) enum Action {
-    /// Nothing: what was begun ends here.
+    /// End what was begun.
     End,
-    /// Take this, and go on behind it at this place.
+    /// Take this and go on after it at this place.
     Take(Lead, Place),
-    /// Take this, which only a type that is left out has, and go on behind it at this place.
+    /// Take this, which only types that are not supported have, and go on after it at this place.
     Bar(Lead, Place),
-    /// Read a type, in which `+` may join bounds or not, and go on behind it at this place.
+    /// Read a type and go on after it at this place. `+` can join bounds if the flag holds.
     Ask(bool, Place),
-    /// Read a type that stays as it is, and go on behind it at this place.
+    /// Read a type that is never replaced and go on after it at this place.
     KeepType(Place),
-    /// Keep all tokens as they are, and go on behind them at this place.
+    /// Take all tokens without reading types in them and go on at this place.
     Keep(Place),
-    /// Take this, read what begins with it from the one place on, and go on behind that at the other.
+    /// Take this, read what begins with it from the first place on, and go on after it at the
+    /// second place.
     Nest(Lead, Place, Place),
-    /// Take what opens the group there, and go on in it at this place.
+    /// Open the group and go on inside it at this place.
     Open(Place),
-    /// Take what closes the group that is open, and go on behind it at this place.
+    /// Close the group and go on after it at this place.
     Close(Delimiter, Place),
 }
 
-/// How a type begins: with this token, which only a type that is left out has or not, and then it goes on there.
+/// The beginning of a type: its first token, whether only types that are not supported have that,
+/// and the spot after it.
 #[derive(Clone, Copy)]
 pub(crate) struct Opening<'t, 's> {
     pub barred: bool,
@@ -238,26 +242,27 @@ pub(crate) struct Opening<'t, 's> {
     pub spot: Spot<'t, 's>,
 }
 
-/// How a type begins, said without its run.
+/// The beginning of a type, without its tokens.
 #[derive(Clone, Copy)]
 pub(crate) enum Start {
-    /// With this, which only a type that is left out has or not, and then it goes on at this place.
+    /// Begins with this and goes on at this place. The flag says whether only types that are not
+    /// supported have it.
     Lead(bool, Lead, Place),
-    /// With what opens the group there, and then it goes on in it at this place.
+    /// Begins with a group and goes on inside it at this place.
     Open(Place),
 }
 
-/// Why nothing fits.
+/// The reasons why no step fits.
 #[derive(Clone, Copy)]
 pub(crate) enum Stop {
-    /// At the span stands a type that is left out.
+    /// A type that is not supported stands at this span.
     Unsupported(Span),
-    /// At the span stands a token that does not fit.
-    Misfit(Span),
+    /// A token that does not fit stands at this span.
+    Mismatch(Span),
 }
 
-/// What is to be done at a place, or why nothing fits.
+/// What is to be done at a place, or the reason why nothing fits.
 pub(crate) type Next = Result<Action, Stop>;
 
-/// How a type begins, or why none does.
+/// The beginning of a type, or the reason why none begins.
 pub(crate) type First = Result<Start, Stop>;

@@ -1,15 +1,15 @@
-//! The first tokens of a run, and what they say.
+//! Looks at the first tokens of a run.
 ghost use Rattle.std.specs.Prelude.{◌≡◌};
 ghost use Rattle.logos_token.specs.Tokens.{rest_of};
 ghost use Rattle.logos_token.specs.Views.{tokens_of};
-ghost use Rattle.logos_type_reader.specs.Table.{misfits, first_span, begins_colons, begins_mark, begins_arrow, begins_dots, begins_parenthesis, begins_bound, typing, goes_on};
+ghost use Rattle.logos_type_reader.specs.Table.{mismatches, first_span, begins_colons, begins_mark, begins_arrow, begins_dots, begins_parenthesis, begins_bound, typing, goes_on};
 ghost use Rattle.logos_type_reader.specs.ReadingViews.{spot_of};
 ghost use Rattle.logos_type_reader.specs.inside.Actions.{Looks, first_text, begins_word, IsAction};
 
 use crate::table::place::{Look, Next, Spot, Stop};
 use logos_token::token::{Delimiter, Spacing, Span, TokenTree, Tokens};
 
-/// What a run begins with.
+/// Returns what the first token of a run is.
 pub(super) fn look(run: Tokens<'_, '_>) -> Look
     ensures { Looks result (tokens_of run.entry) }
 {
@@ -23,7 +23,7 @@ pub(super) fn look(run: Tokens<'_, '_>) -> Look
     }
 }
 
-/// The text of the first token, where that is a name or a literal.
+/// Returns the text of the first token if it is a name or a literal, or else an empty text.
 pub(super) fn first_text<'s>(run: Tokens<'_, 's>) -> &'s str
     ensures { result.now ≡ first_text (tokens_of run.entry) }
 {
@@ -34,7 +34,7 @@ pub(super) fn first_text<'s>(run: Tokens<'_, 's>) -> &'s str
     }
 }
 
-/// Where the first token stands.
+/// Returns the span of the first token, or `0..0` if there is none.
 pub(super) fn first_span(run: Tokens<'_, '_>) -> Span
     ensures { result ≡ first_span (tokens_of run.entry) }
 {
@@ -44,7 +44,7 @@ pub(super) fn first_span(run: Tokens<'_, '_>) -> Span
     }
 }
 
-/// Whether this name comes first.
+/// Returns whether this name comes first.
 pub(super) fn begins_word(word: &str, run: Tokens<'_, '_>) -> bool
     ensures { result ≡ begins_word word.now (tokens_of run.entry) }
 {
@@ -54,7 +54,7 @@ pub(super) fn begins_word(word: &str, run: Tokens<'_, '_>) -> bool
     }
 }
 
-/// Whether this character comes first.
+/// Returns whether this character comes first.
 pub(super) fn begins_mark(mark: char, run: Tokens<'_, '_>) -> bool
     ensures { result ≡ begins_mark mark (tokens_of run.entry) }
 {
@@ -64,7 +64,7 @@ pub(super) fn begins_mark(mark: char, run: Tokens<'_, '_>) -> bool
     }
 }
 
-/// Whether a parenthesis comes first.
+/// Returns whether a group in parentheses comes first.
 fn begins_parenthesis(run: Tokens<'_, '_>) -> bool
     ensures { result ≡ begins_parenthesis (tokens_of run.entry) }
 {
@@ -74,7 +74,7 @@ fn begins_parenthesis(run: Tokens<'_, '_>) -> bool
     }
 }
 
-/// Whether `::` comes first.
+/// Returns whether `::` comes first.
 pub(super) fn begins_colons(run: Tokens<'_, '_>) -> bool
     ensures { result ≡ begins_colons (tokens_of run.entry) }
 {
@@ -87,7 +87,7 @@ pub(super) fn begins_colons(run: Tokens<'_, '_>) -> bool
     (first == ':') & (second == ':')
 }
 
-/// Whether `->` comes first.
+/// Returns whether `->` comes first.
 pub(super) fn begins_arrow(run: Tokens<'_, '_>) -> bool
     ensures { result ≡ begins_arrow (tokens_of run.entry) }
 {
@@ -100,7 +100,7 @@ pub(super) fn begins_arrow(run: Tokens<'_, '_>) -> bool
     (first == '-') & (second == '>')
 }
 
-/// Whether `...` comes first.
+/// Returns whether `...` comes first.
 pub(super) fn begins_dots(run: Tokens<'_, '_>) -> bool
     ensures { result ≡ begins_dots (tokens_of run.entry) }
 {
@@ -116,21 +116,21 @@ pub(super) fn begins_dots(run: Tokens<'_, '_>) -> bool
     ((first == '.') & (second == '.')) & (third == '.')
 }
 
-/// Whether `:` comes first, and no `::`.
+/// Returns whether `:` comes first that is not the beginning of `::`.
 pub(super) fn is_typing(run: Tokens<'_, '_>) -> bool
     ensures { result ≡ typing (tokens_of run.entry) }
 {
     begins_mark(':', run) & !begins_colons(run)
 }
 
-/// Whether a path goes on behind a name.
+/// Returns whether a path goes on after a name.
 pub(super) fn goes_on(run: Tokens<'_, '_>) -> bool
     ensures { result ≡ goes_on (tokens_of run.entry) }
 {
     begins_mark('<', run) | begins_colons(run) | begins_parenthesis(run)
 }
 
-/// Whether a bound comes first.
+/// Returns whether a bound comes first.
 pub(super) fn begins_bound(run: Tokens<'_, '_>) -> bool
     ensures { result ≡ begins_bound (tokens_of run.entry) }
 {
@@ -140,16 +140,16 @@ pub(super) fn begins_bound(run: Tokens<'_, '_>) -> bool
     begins_mark('\'', run) | begins_mark('?', run) | begins_colons(run) | begins_parenthesis(run)
 }
 
-/// That the first token that is left does not fit.
-pub(super) fn misfit(at: &Spot<'_, '_>) -> Next
-    ensures { IsAction result (spot_of at.now) (misfits (tokens_of at.now.run)) }
+/// Returns the fault that the first token does not fit.
+pub(super) fn mismatch(at: &Spot<'_, '_>) -> Next
+    ensures { IsAction result (spot_of at.now) (mismatches (tokens_of at.now.run)) }
 {
-    Err(Stop::Misfit(first_span(at.run)))
+    Err(Stop::Mismatch(first_span(at.run)))
 }
 
-/// That the second token that is left does not fit.
-pub(super) fn misfit_behind(at: &Spot<'_, '_>) -> Next
-    ensures { IsAction result (spot_of at.now) (misfits (rest_of (tokens_of at.now.run))) }
+/// Returns the fault that the second token does not fit.
+pub(super) fn mismatch_after(at: &Spot<'_, '_>) -> Next
+    ensures { IsAction result (spot_of at.now) (mismatches (rest_of (tokens_of at.now.run))) }
 {
-    Err(Stop::Misfit(first_span(at.run.rest())))
+    Err(Stop::Mismatch(first_span(at.run.rest())))
 }

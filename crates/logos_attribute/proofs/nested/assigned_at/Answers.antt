@@ -7,4 +7,4 @@ use Rattle.logos_attribute.proofs.PieceLemmas.{through_is}
 use Rattle.logos_attribute.proofs.nested.assigned_at.Goals as goal
 
 pub returns : goal.returns
-returns c = (through_is (λ (run : TokenList). named (ident_slice c.args.name) (assigned run)) (tokens_of c.args.tokens) _ _ _ c.run_at.ensures.run c.run_at.ensures.behind c.begin.ensures.pieces, ap tokens_of c.begin.ensures.rest ∙ c.run_at.ensures.behind)
+returns c = (through_is (λ (run : TokenList). named (ident_slice c.args.name) (assigned run)) (tokens_of c.args.tokens) _ _ _ c.run_at.ensures.run c.run_at.ensures.after c.begin.ensures.pieces, ap tokens_of c.begin.ensures.rest ∙ c.run_at.ensures.after)

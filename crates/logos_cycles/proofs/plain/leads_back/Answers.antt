@@ -10,26 +10,26 @@ loop-from-init c =
     let is = c.in_ok-vec.ensures.items_if_clones_equal (λ y e. e) in
     let long = c.in_ok-vec.ensures.len in
     let same = length-map lists (λ v. v.items) in
-    walk_begun (graph lists) c.args.node c.in_ok-vec.field-0.items c.go_on.new.reached.found.items c.go_on.new.reached.waiting.items
+    walk_begun (graph lists) c.args.node c.in_ok-vec.field-0.items c.go_on.new.traversal.found.items c.go_on.new.traversal.waiting.items
     (omega (arith, long, same)) (λ node h. none_found c.in_ok-vec.field-0.items (length lists) node is h)
     (rw c.new.ensures.items at c.in_ok-go_on.ensures)
 
 pub loop-from-preserved : goal.loop-from-preserved
 loop-from-preserved c =
-    walk_on (graph c.args.lists.now) c.args.node c.in-Some.from c.loop-from.reached.found.items c.go_on-in-Some.new.reached.found.items
-    c.loop-from.reached.waiting.items c.pop.new.self.items c.go_on-in-Some.new.reached.waiting.items
+    walk_on (graph c.args.lists.now) c.args.node c.in-Some.from c.loop-from.traversal.found.items c.go_on-in-Some.new.traversal.found.items
+    c.loop-from.traversal.waiting.items c.pop.new.self.items c.go_on-in-Some.new.traversal.waiting.items
     c.in-Some.ensures.items c.loop-from.invariant c.in_ok-go_on-2.ensures
 
 pub loop-from-smaller : goal.loop-from-smaller
 loop-from-smaller c =
-    walk_smaller c.loop-from.reached.found.items c.go_on-in-Some.new.reached.found.items
-    c.loop-from.reached.waiting.items c.pop.new.self.items c.go_on-in-Some.new.reached.waiting.items c.in-Some.from
+    walk_smaller c.loop-from.traversal.found.items c.go_on-in-Some.new.traversal.found.items
+    c.loop-from.traversal.waiting.items c.pop.new.self.items c.go_on-in-Some.new.traversal.waiting.items c.in-Some.from
     c.in-Some.ensures.items c.in_ok-go_on-2.ensures.left
 
 pub returns : goal.returns
 returns c =
-    let found = c.loop-from.reached.found.items in
-    let waiting = c.loop-from.reached.waiting.items in
+    let found = c.loop-from.traversal.found.items in
+    let waiting = c.loop-from.traversal.waiting.items in
     let same = length-map c.args.lists.now (λ v. v.items) in
     let within = c.requires in
     let lt : c.args.node < length (graph c.args.lists.now) = omega (arith, within, same) in

@@ -1,13 +1,13 @@
 use Rattle.std.proofs.Common.{◌≡◌, ◌≤◌}
 use Rattle.logos_token.specs.Tokens.{count_of, IsRestOf}
 use Rattle.logos_token.specs.Views.{tokens_of}
-use Rattle.logos_item.specs.Attributes.{behind_attributes}
+use Rattle.logos_item.specs.Attributes.{after_attributes}
 use Rattle.logos_item.proofs.attributes.read_attributes.Given as goal
 
 abbrev pub invariant-loop-next : goal.invariant-loop-next
 invariant-loop-next l =
     record {
-      same : behind_attributes (tokens_of l.tokens) ≡ behind_attributes (tokens_of l.rest);
+      same : after_attributes (tokens_of l.tokens) ≡ after_attributes (tokens_of l.rest);
       front : IsRestOf (tokens_of l.tokens) (tokens_of l.rest);
       shorter : count_of (tokens_of l.rest) ≤ count_of (tokens_of l.tokens);
     }

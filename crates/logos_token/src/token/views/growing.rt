@@ -1,4 +1,4 @@
-//! Buffers that are made tree by tree.
+//! Makes buffers tree by tree.
 ghost use Rattle.std.specs.Prelude.{◌≡◌, ◌++◌, List, map, IfOk, OnOk};
 ghost use Rattle.logos_token.specs.Flat.{value_of, flat_token};
 ghost use Rattle.logos_token.specs.Tokens.{group, none, also, append};
@@ -10,7 +10,7 @@ use crate::token::views::{Group, TokenStream, TokenTree};
 use crate::token::{Delimiter, Span};
 use std::alloc::Global;
 
-/// Adds a tree: its entry, and behind it those inside it.
+/// Adds a tree: its entry, and after it the entries inside it.
 fn push_tree<'s>(entries: &mut Vec<Entry<'s>>, tree: TokenTree<'_, 's>) -> Result<(), Memory>
     ensures { OnOk result (map value_of entries.new.items ≡
         map value_of entries.old.items ++ flat_token (tree_of tree.entry)) }
@@ -33,7 +33,7 @@ fn push_tree<'s>(entries: &mut Vec<Entry<'s>>, tree: TokenTree<'_, 's>) -> Resul
 }
 
 impl<'s> TokenStream<'s> {
-    /// A buffer without trees.
+    /// Returns a buffer without trees.
     pub fn new(alloc: Global) -> TokenStream<'s>
         ensures { stream_tokens result ≡ none }
     {
@@ -42,7 +42,11 @@ impl<'s> TokenStream<'s> {
         }
     }
 
-    /// The buffer with one more tree behind its own. It fails only where there is no memory for it; then nothing is kept.
+    /// Returns the buffer with `tree` added at its end.
+    ///
+    /// # Errors
+    ///
+    /// `Memory` if there is not enough memory. The buffer is then lost.
     pub fn with_tree(self, tree: TokenTree<'_, 's>) -> Result<TokenStream<'s>, Memory>
         ensures { IfOk result (λ stream. stream_tokens stream ≡
             append (stream_tokens self.entry) (also (tree_of tree.entry) none)) }
@@ -52,7 +56,7 @@ impl<'s> TokenStream<'s> {
         Ok(TokenStream { entries })
     }
 
-    /// A group that holds all trees.
+    /// Returns a group that holds all trees.
     pub fn group(&self, delimiter: Delimiter, span: Span) -> Group<'_, 's>
         ensures { group result.delimiter result.span (inside_of result) ≡
             group delimiter span (stream_tokens self.now) }

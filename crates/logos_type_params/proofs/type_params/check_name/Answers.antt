@@ -18,7 +18,7 @@ returns-then-not-lead_back c =
 pub returns : goal.returns
 returns c =
     let i = c.in_ok-insert.ensures in
-    on_ok_one c.list_about.result
-    (checked_held c.args.name.text (named_of c.args.name) refl c.args.front.now.keys c.insert.new.self.keys i.keys (map param_value c.args.chains.now.types.now.entries) c.args.chains.now.held.items c.args.errors.now c.list_about.new.errors
+    on_ok_one c.report_about.result
+    (checked_held c.args.name.text (named_of c.args.name) refl c.args.front.now.keys c.insert.new.self.keys i.keys (map param_value c.args.chains.now.types.now.entries) c.args.chains.now.held.items c.args.errors.now c.report_about.new.errors
     (among c.args.name.text c.args.front.now.keys c.in_ok-insert.field-0 true i.added c.if-not-branch.false) c.lead_back.result c.if-not-lead_back.false c.lead_back.ensures)
-    c.list_about.ensures.ok
+    c.report_about.ensures.ok

@@ -7,4 +7,4 @@ pub returns-then-is_empty-clause-ok : goal.returns-then-is_empty-clause-ok
 returns-then-is_empty-clause-ok c = is_type (rw (c.is_empty.ensures.0 c.if-is_empty.true) at c.requires) refl
 
 pub returns-clause-ok : goal.returns-clause-ok
-returns-clause-ok c = more_left _ _ (λ e. let t = c.is_empty.ensures.1 e in let f = c.if-is_empty.false in absurd (cc)) c.requires c.in_ok-list_syntax.ensures.ok
+returns-clause-ok c = more_left _ _ (λ e. let t = c.is_empty.ensures.1 e in let f = c.if-is_empty.false in absurd (cc)) c.requires c.in_ok-report_syntax.ensures.ok

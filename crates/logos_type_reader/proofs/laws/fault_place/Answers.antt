@@ -1,6 +1,6 @@
 use Rattle.std.proofs.Common.{◌≡◌}
 use Rattle.logos_token.specs.Tokens.{TokenList}
-use Rattle.logos_type_reader.specs.Table.{Fault, misfit, unsupported, too_deep}
+use Rattle.logos_type_reader.specs.Table.{Fault, mismatch, unsupported, too_deep}
 use Rattle.logos_type_reader.specs.FaultPlaces.{Front, StandsAt, fault_at}
 use Rattle.logos_type_reader.proofs.ReadingLaws.{refused_type}
 use Rattle.logos_type_reader.proofs.WrittenReads.{type_stands}
@@ -9,7 +9,7 @@ use Rattle.logos_type_reader.proofs.laws.fault_place.Goals as goal
 
 -- a fault with a place is none of depth
 not_deep : (fault : Fault) (front : Front) (left other : TokenList) → StandsAt fault front left → fault_at fault other ≡ too_deep → ⊥
-not_deep (misfit span) front left other s e = cc
+not_deep (mismatch span) front left other s e = cc
 not_deep (unsupported span) front left other s e = cc
 not_deep too_deep front left other s e = s
 

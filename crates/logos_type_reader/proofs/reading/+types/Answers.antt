@@ -28,7 +28,7 @@ pub parts_at-returns : goal.parts_at-returns
 parts_at-returns t c =
     let e = rw c.in_default.is at c.in_ok-bars.ensures in
     let f = finished c.args.levels (spot_of c.args.from) (map tree_of c.args.parts.now.items) (map tree_of c.loop-bars.parts.items) c.loop-bars.barred (spot_of c.loop-bars.spot) c.loop-bars.invariant e.0 in
-    (f.0, e.1 ∙ f.1, rw c.behind_all.ensures f.2)
+    (f.0, e.1 ∙ f.1, rw c.after_all.ensures f.2)
 
 pub formed_at-returns-in-Err-clause-err : goal.formed_at-returns-in-Err-clause-err
 formed_at-returns-in-Err-clause-err t c = rw c.from.ensures (stop_type c.args.levels c.args.plus (tokens_of c.args.tokens) _ c.requires c.in-Err.ensures)
@@ -89,14 +89,14 @@ make_step-returns-in-Keep t c =
 
 pub move_past_type-returns-in-Ok : goal.move_past_type-returns-in-Ok
 move_past_type-returns-in-Ok t c =
-    c.move_past.ensures c.args.levels (spot_of c.args.spot) (rw c.behind_type.ensures (a_type c.requires c.in-Ok.ensures.ok))
+    c.move_past.ensures c.args.levels (spot_of c.args.spot) (rw c.after_type.ensures (a_type c.requires c.in-Ok.ensures.ok))
 
 pub move_past_type-returns-in-Err : goal.move_past_type-returns-in-Err
 move_past_type-returns-in-Err t c = asked_fault c.args.levels (spot_of c.args.spot) _ _ _ c.requires c.in-Err.ensures.err
 
 pub move_past_still_type-returns-in-Ok : goal.move_past_still_type-returns-in-Ok
 move_past_still_type-returns-in-Ok t c =
-    c.move_past_kept.ensures c.args.levels (spot_of c.args.spot) (rw c.behind_type.ensures (a_still_type c.requires c.in-Ok.ensures.ok))
+    c.move_past_still.ensures c.args.levels (spot_of c.args.spot) (rw c.after_type.ensures (a_still_type c.requires c.in-Ok.ensures.ok))
 
 pub move_past_still_type-returns-in-Err : goal.move_past_still_type-returns-in-Err
 move_past_still_type-returns-in-Err t c = still_fault c.args.levels (spot_of c.args.spot) _ _ c.requires c.in-Err.ensures.err
@@ -112,7 +112,7 @@ move_past_nest-returns-in-Err t c = nest_fault c.args.levels (spot_of c.args.spo
 pub move_past_nest-returns-in-Ok : goal.move_past_nest-returns-in-Ok
 move_past_nest-returns-in-Ok t c =
     let g = c.in-Ok.ensures in
-    (_, g.1 ∙ ap (λ (x : List Tree). x ++ g.0) c.in_ok-add_leaf.ensures ∙ append_assoc (map tree_of c.args.parts.now.items) (sign (sign_of c.args.opening.0) ∷ []) g.0, rw c.behind_type.ensures (a_nest c.requires g.2))
+    (_, g.1 ∙ ap (λ (x : List Tree). x ++ g.0) c.in_ok-add_leaf.ensures ∙ append_assoc (map tree_of c.args.parts.now.items) (sign (sign_of c.args.opening.0) ∷ []) g.0, rw c.after_type.ensures (a_nest c.requires g.2))
 
 pub make_step-move_past_type-requires : goal.make_step-move_past_type-requires
 make_step-move_past_type-requires t c =

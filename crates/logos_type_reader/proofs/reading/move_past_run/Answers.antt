@@ -8,5 +8,5 @@ use Rattle.logos_type_reader.proofs.reading.move_past_run.Goals as goal
 
 pub returns-in-Ok : goal.returns-in-Ok
 returns-in-Ok c =
-    let k : map tree_of c.keep_tokens.new.parts.items ≡ still_run (tokens_of c.args.run) = c.in-Ok.ensures ∙ ap (λ (ps : List Part). map tree_of ps ++ still_run (tokens_of c.args.run)) c.new-kept.ensures.items in
+    let k : map tree_of c.keep_tokens.new.parts.items ≡ still_run (tokens_of c.args.run) = c.in-Ok.ensures ∙ ap (λ (ps : List Part). map tree_of ps ++ still_run (tokens_of c.args.run)) c.new-inner.ensures.items in
     λ levels spot m. c.move_past.ensures levels spot (rw (tree-Still c.keep_tokens.new.parts, k) m)

@@ -1,6 +1,6 @@
 use Rattle.std.proofs.Common.{◌≡◌, ◌+◌, get_or, refl, sym, ◌∙◌, ap, arith}
 use Rattle.logos_lexeme.specs.LexemeCharacters.{past}
-use Rattle.logos_lexeme.proofs.CharacterLaws.{boundary-behind, inside_from_byte, past-moves}
+use Rattle.logos_lexeme.proofs.CharacterLaws.{boundary-after, inside_from_byte, past-moves}
 use Rattle.logos_lexeme.proofs.OpeningLaws.{line_fits, is_between}
 use Rattle.logos_lexeme.proofs.lexeme.ends.end_of.Goals as goal
 use Rattle.logos_lexeme.proofs.lexeme.ends.end_of.Goals.{In-Character}
@@ -19,9 +19,9 @@ past-requires-in-Character-clause-inside c =
 pub past-requires-in-Character-clause-boundary : goal.past-requires-in-Character-clause-boundary
 past-requires-in-Character-clause-boundary c =
     let b = (between c).0 in
-    boundary-behind c.args.source.now c.utf8.source c.args.from (c.args.from + 1) (omega arith) (omega arith) refl
+    boundary-after c.args.source.now c.utf8.source c.args.from (c.args.from + 1) (omega arith) (omega arith) refl
 
 pub returns-in-Character : goal.returns-in-Character
 returns-in-Character c =
     let b = between (goal.at.returns-in-Character c).In-Character in
-    rw c.in-Character.is (record { quote = b.1; behind = ap (λ n. n + 1) c.past-in-Character.ensures.value })
+    rw c.in-Character.is (record { quote = b.1; after = ap (λ n. n + 1) c.past-in-Character.ensures.value })

@@ -1,79 +1,121 @@
-use Rattle.std.proofs.Common.{◌≡◌, ◌≤◌, length, [], ◌∷◌, refl, arith}
+use Rattle.std.proofs.Common.{◌≡◌, ◌∙◌, ◌≤◌, length, None, [], ◌∷◌, slice_range, option_map, sym, ap, subst}
 use Rattle.logos_automaton.specs.Munch.{matched, failed, ended}
-use Rattle.logos_code.specs.Items.{items_of}
-use Rattle.logos_code.specs.Runs.{Tries}
-use Rattle.logos_machine.specs.inside.Stands.{IsMatch}
-use Rattle.logos_machine.specs.LexerValue.{LexerValue, item_of, answers_of}
-use Rattle.logos_machine.proofs.LexerLemmas.{item_span, none_of, match_runs, match_next, pass_next, fault_runs, fault_next, over_runs}
+use Rattle.logos_code.specs.Items.{items_of, token, error}
+use Rattle.logos_machine.specs.inside.Looks.{IsOutcome}
+use Rattle.logos_machine.specs.LexerValue.{LexerValue, MatchGives, item_of, answers_of}
+use Rattle.logos_machine.specs.declared.machine.walk.Outcome.TheVariants.{Skips, Emits, Asks, Fails, Ends}
+use Rattle.logos_machine.proofs.LexerLemmas.{none_of, moved, goes_past, goes_past_skip, keeps, gives_item, gives_token, gives_error, ends_run}
 use Rattle.logos_machine.proofs.machine.Lexer.next.Goals as goal
 
-pub returns-in-Ended-clause-item : goal.returns-in-Ended-clause-item
-returns-in-Ended-clause-item g c =
-    let l = c.loop-to.self-inside in
-    let past : length l.input.now ≤ l.to = rw c.in-Ended.is at c.attempt-found.ensures.within in
-    let tries : Tries l.code.now l.input.now l.to ended c.attempt-found.result.1 = rw c.in-Ended.is at c.attempt-found.ensures.tries in
-    let within = c.loop-to.invariant.within in
+pub loop-to-preserved-in-Skips : goal.loop-to-preserved-in-Skips
+loop-to-preserved-in-Skips g c =
+    let o : IsOutcome c.args.self.now.code c.args.self.now.input c.loop-to.from (Skips c.in-Skips.to) =
+    subst (λ (l : LexerValue g.row.C.Denot). IsOutcome l.code l.input c.loop-to.from (Skips c.in-Skips.to)) c.self.view_is c.in-Skips.ensures in
     record {
-      from = omega (arith, past, within);
-      to = omega (arith, past, within);
-      over = c.loop-to.invariant.goes_on [] (over_runs l.code.now _ l.input.now l.to c.attempt-found.result.1 tries);
+      same = c.loop-to.invariant.same;
+      on = goes_past_skip (answers_of g.C.Fn c.args.self.now.callback) c.args.self.now c.loop-to.from c.in-Skips.to o.0 o.1 c.loop-to.invariant.on o.2 o.3;
     }
 
-pub returns-in-Failed-clause-item : goal.returns-in-Failed-clause-item
-returns-in-Failed-clause-item g c =
-    let l = c.loop-to.self-inside in
-    let tries : Tries l.code.now l.input.now l.to (failed c.in-Failed.to) c.attempt-found.result.1 = rw c.in-Failed.is at c.attempt-found.ensures.tries in
-    let within = rw c.in-Failed.is at c.attempt-found.ensures.within in
-    record {
-      span = (refl {a = l.to}, refl {a = c.in-Failed.to});
-      behind = c.loop-to.invariant.behind;
-      nonempty = within.0;
-      within = within.1;
-      is = c.loop-to.invariant.passed _ _ (fault_next l.code.now _ l.input.now l.to c.in-Failed.to c.attempt-found.result.1 tries);
-      next = λ rest r. c.loop-to.invariant.goes_on _
-          (fault_runs l.code.now _ l.input.now l.to c.in-Failed.to c.attempt-found.result.1 rest tries (rw (← c.loop-to.invariant.same_callback) at r));
-    }
+pub stand_after-requires-clause-within : goal.stand_after-requires-clause-within
+stand_after-requires-clause-within g c =
+    let o : IsOutcome c.args.self.now.code c.args.self.now.input c.loop-to.from (Emits c.in-Emits.leaf c.in-Emits.to c.in-Emits.steps) =
+    subst (λ (l : LexerValue g.row.C.Denot). IsOutcome l.code l.input c.loop-to.from (Emits c.in-Emits.leaf c.in-Emits.to c.in-Emits.steps)) c.self.view_is c.in-Emits.ensures in
+    subst (λ (l : LexerValue g.row.C.Denot). c.in-Emits.to ≤ length l.input) (sym c.loop-to.invariant.same) (o.0.within.2)
+
+pub returns-in-Emits-clause-keeps : goal.returns-in-Emits-clause-keeps
+returns-in-Emits-clause-keeps g c =
+    let o : IsOutcome c.args.self.now.code c.args.self.now.input c.loop-to.from (Emits c.in-Emits.leaf c.in-Emits.to c.in-Emits.steps) =
+    subst (λ (l : LexerValue g.row.C.Denot). IsOutcome l.code l.input c.loop-to.from (Emits c.in-Emits.leaf c.in-Emits.to c.in-Emits.steps)) c.self.view_is c.in-Emits.ensures in
+    let is_new = c.stand_after.ensures ∙ ap (λ (l : LexerValue g.row.C.Denot). moved l c.loop-to.from c.in-Emits.to c.in-Emits.steps) c.loop-to.invariant.same in
+    keeps (answers_of g.C.Fn c.args.self.now.callback) c.args.self.now c.loop-to.from c.in-Emits.to c.in-Emits.steps c.stand_after.new.self is_new (matched c.in-Emits.leaf.0 c.in-Emits.to) o.0
+
+pub returns-in-Emits-clause-item : goal.returns-in-Emits-clause-item
+returns-in-Emits-clause-item g c =
+    let o : IsOutcome c.args.self.now.code c.args.self.now.input c.loop-to.from (Emits c.in-Emits.leaf c.in-Emits.to c.in-Emits.steps) =
+    subst (λ (l : LexerValue g.row.C.Denot). IsOutcome l.code l.input c.loop-to.from (Emits c.in-Emits.leaf c.in-Emits.to c.in-Emits.steps)) c.self.view_is c.in-Emits.ensures in
+    let is_new = c.stand_after.ensures ∙ ap (λ (l : LexerValue g.row.C.Denot). moved l c.loop-to.from c.in-Emits.to c.in-Emits.steps) c.loop-to.invariant.same in
+    let is = subst (λ (l : LexerValue g.row.C.Denot). item_of c.token.result ≡ token c.in-Emits.leaf.0 c.loop-to.from c.in-Emits.to (slice_range l.input c.loop-to.from c.in-Emits.to)) c.self.view_is c.token.ensures in
+    gives_token (answers_of g.C.Fn c.args.self.now.callback) c.args.self.now c.loop-to.from c.in-Emits.to c.in-Emits.steps c.stand_after.new.self is_new c.in-Emits.leaf.0 (item_of c.token.result) c.loop-to.invariant.on o.0 o.1 is
+
+pub matched_item-requires-clause-callable : goal.matched_item-requires-clause-callable
+matched_item-requires-clause-callable g c =
+    let e : c.self-in-Asks.inside.callback ≡ c.args.self.now.callback = ap (λ (l : LexerValue g.row.C.Denot). l.callback) (c.self-in-Asks.view_is ∙ c.loop-to.invariant.same) in
+    rw e c.requires
+
+pub stand_after-requires-in-Some-clause-within : goal.stand_after-requires-in-Some-clause-within
+stand_after-requires-in-Some-clause-within g c =
+    let o : IsOutcome c.args.self.now.code c.args.self.now.input c.loop-to.from (Asks c.in-Asks.leaf c.in-Asks.to c.in-Asks.steps) =
+    subst (λ (l : LexerValue g.row.C.Denot). IsOutcome l.code l.input c.loop-to.from (Asks c.in-Asks.leaf c.in-Asks.to c.in-Asks.steps)) c.self.view_is c.in-Asks.ensures in
+    subst (λ (l : LexerValue g.row.C.Denot). c.in-Asks.to ≤ length l.input) (sym c.loop-to.invariant.same) (o.within.2)
+
+pub returns-in-Some-clause-keeps : goal.returns-in-Some-clause-keeps
+returns-in-Some-clause-keeps g c =
+    let o : IsOutcome c.args.self.now.code c.args.self.now.input c.loop-to.from (Asks c.in-Asks.leaf c.in-Asks.to c.in-Asks.steps) =
+    subst (λ (l : LexerValue g.row.C.Denot). IsOutcome l.code l.input c.loop-to.from (Asks c.in-Asks.leaf c.in-Asks.to c.in-Asks.steps)) c.self.view_is c.in-Asks.ensures in
+    let is_new = c.stand_after-in-Some.ensures ∙ ap (λ (l : LexerValue g.row.C.Denot). moved l c.loop-to.from c.in-Asks.to c.in-Asks.steps) c.loop-to.invariant.same in
+    keeps (answers_of g.C.Fn c.args.self.now.callback) c.args.self.now c.loop-to.from c.in-Asks.to c.in-Asks.steps c.stand_after-in-Some.new.self is_new (matched c.in-Asks.leaf.0 c.in-Asks.to) o
 
 pub returns-in-Some-clause-item : goal.returns-in-Some-clause-item
 returns-in-Some-clause-item g c =
-    let l = c.loop-to.self-inside in
-    let to = c.in-Matched.to in
-    let leaf = c.in-Matched.leaf.0 in
-    let tries : Tries l.code.now l.input.now l.to (matched leaf to) c.attempt-found.result.1 = rw c.in-Matched.is at c.attempt-found.ensures.tries in
-    let within : IsMatch l.code.now l.input.now l.to leaf to = rw c.in-Matched.is at c.attempt-found.ensures.within in
-    let gives = c.matched_item.ensures in
-    let is : items_of l.code.now.leaves (answers_of g.C.Fn l.callback) l.input.now gives.answer leaf l.to to ≡ item_of c.in-Some.item ∷ [] = rw c.in-Some.is at gives.is in
-    let new : LexerValue g.row.C.Denot = record { code = l.code.now; input = l.input.now; callback = l.callback; from = l.to; to = to; steps = c.attempt-found.result.1 } in
-    record {
-      span = item_span new l.to to refl refl l.code.now.leaves (answers_of g.C.Fn l.callback) l.input.now gives.answer leaf (item_of c.in-Some.item) is;
-      behind = c.loop-to.invariant.behind;
-      nonempty = within.1;
-      within = within.2;
-      is = c.loop-to.invariant.passed _ _ (match_next l.code.now _ l.input.now l.to to leaf c.attempt-found.result.1 gives.answer (item_of c.in-Some.item) tries gives.may is);
-      next = λ rest r. c.loop-to.invariant.goes_on _
-          (match_runs l.code.now _ l.input.now l.to to leaf c.attempt-found.result.1 gives.answer (item_of c.in-Some.item ∷ []) rest tries gives.may is
-          (rw (← c.loop-to.invariant.same_callback) at r));
-    }
+    let o : IsOutcome c.args.self.now.code c.args.self.now.input c.loop-to.from (Asks c.in-Asks.leaf c.in-Asks.to c.in-Asks.steps) =
+    subst (λ (l : LexerValue g.row.C.Denot). IsOutcome l.code l.input c.loop-to.from (Asks c.in-Asks.leaf c.in-Asks.to c.in-Asks.steps)) c.self.view_is c.in-Asks.ensures in
+    let is_new = c.stand_after-in-Some.ensures ∙ ap (λ (l : LexerValue g.row.C.Denot). moved l c.loop-to.from c.in-Asks.to c.in-Asks.steps) c.loop-to.invariant.same in
+    let e : c.self-in-Asks.inside.callback ≡ c.args.self.now.callback = ap (λ (l : LexerValue g.row.C.Denot). l.callback) (c.self-in-Asks.view_is ∙ c.loop-to.invariant.same) in
+    let seen = subst (λ f. MatchGives c.self.inside.code.now (answers_of g.C.Fn f) c.self.inside.input.now c.in-Asks.leaf.0 c.loop-to.from c.in-Asks.to (option_map item_of c.matched_item.result)) e c.matched_item.ensures in
+    let gives : MatchGives c.args.self.now.code (answers_of g.C.Fn c.args.self.now.callback) c.args.self.now.input c.in-Asks.leaf.0 c.loop-to.from c.in-Asks.to (option_map item_of c.matched_item.result) =
+    subst (λ (l : LexerValue g.row.C.Denot). MatchGives l.code (answers_of g.C.Fn c.args.self.now.callback) l.input c.in-Asks.leaf.0 c.loop-to.from c.in-Asks.to (option_map item_of c.matched_item.result)) c.self.view_is seen in
+    let is : items_of c.args.self.now.code.leaves (answers_of g.C.Fn c.args.self.now.callback) c.args.self.now.input gives.answer c.in-Asks.leaf.0 c.loop-to.from c.in-Asks.to ≡ item_of c.in-Some.item ∷ [] = rw c.in-Some.is at gives.is in
+    gives_item (answers_of g.C.Fn c.args.self.now.callback) c.args.self.now c.loop-to.from c.in-Asks.to c.in-Asks.steps c.stand_after-in-Some.new.self is_new c.in-Asks.leaf.0 gives.answer (item_of c.in-Some.item) c.loop-to.invariant.on o gives.may is
 
 pub loop-to-preserved : goal.loop-to-preserved
 loop-to-preserved g c =
-    let l = c.loop-to.self-inside in
-    let to = c.in-Matched.to in
-    let leaf = c.in-Matched.leaf.0 in
-    let i = c.loop-to.invariant in
-    let behind = i.behind in
-    let tries : Tries l.code.now l.input.now l.to (matched leaf to) c.attempt-found.result.1 = rw c.in-Matched.is at c.attempt-found.ensures.tries in
-    let within : IsMatch l.code.now l.input.now l.to leaf to = rw c.in-Matched.is at c.attempt-found.ensures.within in
-    let gives = c.matched_item.ensures in
-    let is : items_of l.code.now.leaves (answers_of g.C.Fn l.callback) l.input.now gives.answer leaf l.to to ≡ [] = rw (none_of c.matched_item.result c.in_default.not-Some) at gives.is in
+    let o : IsOutcome c.args.self.now.code c.args.self.now.input c.loop-to.from (Asks c.in-Asks.leaf c.in-Asks.to c.in-Asks.steps) =
+    subst (λ (l : LexerValue g.row.C.Denot). IsOutcome l.code l.input c.loop-to.from (Asks c.in-Asks.leaf c.in-Asks.to c.in-Asks.steps)) c.self.view_is c.in-Asks.ensures in
+    let e : c.self-in-Asks.inside.callback ≡ c.args.self.now.callback = ap (λ (l : LexerValue g.row.C.Denot). l.callback) (c.self-in-Asks.view_is ∙ c.loop-to.invariant.same) in
+    let seen = subst (λ f. MatchGives c.self.inside.code.now (answers_of g.C.Fn f) c.self.inside.input.now c.in-Asks.leaf.0 c.loop-to.from c.in-Asks.to (option_map item_of c.matched_item.result)) e c.matched_item.ensures in
+    let gives : MatchGives c.args.self.now.code (answers_of g.C.Fn c.args.self.now.callback) c.args.self.now.input c.in-Asks.leaf.0 c.loop-to.from c.in-Asks.to (option_map item_of c.matched_item.result) =
+    subst (λ (l : LexerValue g.row.C.Denot). MatchGives l.code (answers_of g.C.Fn c.args.self.now.callback) l.input c.in-Asks.leaf.0 c.loop-to.from c.in-Asks.to (option_map item_of c.matched_item.result)) c.self.view_is seen in
+    let is : items_of c.args.self.now.code.leaves (answers_of g.C.Fn c.args.self.now.callback) c.args.self.now.input gives.answer c.in-Asks.leaf.0 c.loop-to.from c.in-Asks.to ≡ [] = rw (none_of c.matched_item.result c.in_default.not-Some) at gives.is in
     record {
-      same_code = i.same_code;
-      same_input = i.same_input;
-      same_callback = i.same_callback;
-      behind = omega (arith, behind, within.1);
-      order = omega (arith, within.1);
-      within = within.2;
-      goes_on = λ items r. i.goes_on items
-          (match_runs l.code.now _ l.input.now l.to to leaf c.attempt-found.result.1 gives.answer [] items tries gives.may is r);
-      passed = λ item end r. i.passed item end (pass_next l.code.now _ l.input.now l.to to leaf c.attempt-found.result.1 gives.answer item end tries gives.may is r);
+      same = c.loop-to.invariant.same;
+      on = goes_past (answers_of g.C.Fn c.args.self.now.callback) c.args.self.now c.loop-to.from c.in-Asks.to c.in-Asks.leaf.0 c.in-Asks.steps gives.answer c.loop-to.invariant.on o gives.may is;
     }
+
+pub stand_after-requires-in-Fails-clause-within : goal.stand_after-requires-in-Fails-clause-within
+stand_after-requires-in-Fails-clause-within g c =
+    let o : IsOutcome c.args.self.now.code c.args.self.now.input c.loop-to.from (Fails c.in-Fails.to c.in-Fails.steps) =
+    subst (λ (l : LexerValue g.row.C.Denot). IsOutcome l.code l.input c.loop-to.from (Fails c.in-Fails.to c.in-Fails.steps)) c.self.view_is c.in-Fails.ensures in
+    subst (λ (l : LexerValue g.row.C.Denot). c.in-Fails.to ≤ length l.input) (sym c.loop-to.invariant.same) (o.within.1)
+
+pub returns-in-Fails-clause-keeps : goal.returns-in-Fails-clause-keeps
+returns-in-Fails-clause-keeps g c =
+    let o : IsOutcome c.args.self.now.code c.args.self.now.input c.loop-to.from (Fails c.in-Fails.to c.in-Fails.steps) =
+    subst (λ (l : LexerValue g.row.C.Denot). IsOutcome l.code l.input c.loop-to.from (Fails c.in-Fails.to c.in-Fails.steps)) c.self.view_is c.in-Fails.ensures in
+    let is_new = c.stand_after-in-Fails.ensures ∙ ap (λ (l : LexerValue g.row.C.Denot). moved l c.loop-to.from c.in-Fails.to c.in-Fails.steps) c.loop-to.invariant.same in
+    keeps (answers_of g.C.Fn c.args.self.now.callback) c.args.self.now c.loop-to.from c.in-Fails.to c.in-Fails.steps c.stand_after-in-Fails.new.self is_new (failed c.in-Fails.to) o
+
+pub returns-in-Fails-clause-item : goal.returns-in-Fails-clause-item
+returns-in-Fails-clause-item g c =
+    let o : IsOutcome c.args.self.now.code c.args.self.now.input c.loop-to.from (Fails c.in-Fails.to c.in-Fails.steps) =
+    subst (λ (l : LexerValue g.row.C.Denot). IsOutcome l.code l.input c.loop-to.from (Fails c.in-Fails.to c.in-Fails.steps)) c.self.view_is c.in-Fails.ensures in
+    let is_new = c.stand_after-in-Fails.ensures ∙ ap (λ (l : LexerValue g.row.C.Denot). moved l c.loop-to.from c.in-Fails.to c.in-Fails.steps) c.loop-to.invariant.same in
+    let is = subst (λ (l : LexerValue g.row.C.Denot). item_of c.error.result ≡ error None c.loop-to.from c.in-Fails.to (slice_range l.input c.loop-to.from c.in-Fails.to)) c.self.view_is c.error.ensures in
+    gives_error (answers_of g.C.Fn c.args.self.now.callback) c.args.self.now c.loop-to.from c.in-Fails.to c.in-Fails.steps c.stand_after-in-Fails.new.self is_new (item_of c.error.result) c.loop-to.invariant.on o is
+
+pub stand_after-requires-in-Ends-clause-within : goal.stand_after-requires-in-Ends-clause-within
+stand_after-requires-in-Ends-clause-within g c =
+    subst (λ (l : LexerValue g.row.C.Denot). c.loop-to.from ≤ length l.input) (sym c.loop-to.invariant.same) c.loop-to.invariant.on.within
+
+pub returns-in-Ends-clause-keeps : goal.returns-in-Ends-clause-keeps
+returns-in-Ends-clause-keeps g c =
+    let o : IsOutcome c.args.self.now.code c.args.self.now.input c.loop-to.from (Ends c.in-Ends.steps) =
+    subst (λ (l : LexerValue g.row.C.Denot). IsOutcome l.code l.input c.loop-to.from (Ends c.in-Ends.steps)) c.self.view_is c.in-Ends.ensures in
+    let is_new = c.stand_after-in-Ends.ensures ∙ ap (λ (l : LexerValue g.row.C.Denot). moved l c.loop-to.from c.loop-to.from c.in-Ends.steps) c.loop-to.invariant.same in
+    keeps (answers_of g.C.Fn c.args.self.now.callback) c.args.self.now c.loop-to.from c.loop-to.from c.in-Ends.steps c.stand_after-in-Ends.new.self is_new ended o
+
+pub returns-in-Ends-clause-item : goal.returns-in-Ends-clause-item
+returns-in-Ends-clause-item g c =
+    let o : IsOutcome c.args.self.now.code c.args.self.now.input c.loop-to.from (Ends c.in-Ends.steps) =
+    subst (λ (l : LexerValue g.row.C.Denot). IsOutcome l.code l.input c.loop-to.from (Ends c.in-Ends.steps)) c.self.view_is c.in-Ends.ensures in
+    let is_new = c.stand_after-in-Ends.ensures ∙ ap (λ (l : LexerValue g.row.C.Denot). moved l c.loop-to.from c.loop-to.from c.in-Ends.steps) c.loop-to.invariant.same in
+    ends_run (answers_of g.C.Fn c.args.self.now.callback) c.args.self.now c.loop-to.from c.in-Ends.steps c.stand_after-in-Ends.new.self is_new c.loop-to.invariant.on o

@@ -1,4 +1,4 @@
-use Rattle.logos_token.specs.inside.PrintingSteps.{printed_of}
+use Rattle.logos_token.specs.PrinterViews.{printed_of}
 use Rattle.logos_token.proofs.printing.PrintingLemmas.{leave-whole, leave-left}
 use Rattle.logos_token.proofs.token.printing.leave.Goals as goal
 

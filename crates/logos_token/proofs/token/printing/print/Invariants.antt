@@ -1,6 +1,7 @@
 use Rattle.std.proofs.Common.{◌≡◌, []}
 use Rattle.logos_token.specs.Views.{tokens_of}
-use Rattle.logos_token.specs.inside.PrintingSteps.{printed_of, whole, left_of}
+use Rattle.logos_token.specs.PrinterViews.{printed_of}
+use Rattle.logos_token.specs.inside.PrintingSteps.{whole, left_of}
 use Rattle.logos_token.proofs.token.printing.print.Given as goal
 
 abbrev pub invariant-trees : goal.invariant-trees

@@ -2,7 +2,8 @@ use Rattle.std.proofs.Common.{◌≡◌, sym, ◌∙◌, ap}
 use Rattle.logos_token.specs.declared.token.printing.Outer.{Outer}
 use Rattle.logos_token.specs.Tokens.{group, also, rest_of}
 use Rattle.logos_token.specs.Views.{tokens_of, inside_of}
-use Rattle.logos_token.specs.inside.PrintingSteps.{printed_of, whole}
+use Rattle.logos_token.specs.PrinterViews.{printed_of}
+use Rattle.logos_token.specs.inside.PrintingSteps.{whole}
 use Rattle.logos_token.proofs.printing.PrintingLemmas.{enter-whole, enter-left}
 use Rattle.logos_token.proofs.token.printing.step.Goals as goal
 use Rattle.logos_token.proofs.token.printing.step.Goals.{After-run}

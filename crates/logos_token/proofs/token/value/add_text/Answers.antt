@@ -20,7 +20,7 @@ push_text-requires c = ascii_piece c.args.escapes c.args.source.now c.args.at c.
 
 pub returns : goal.returns
 returns c = record {
-  said = bytes_of c.in-Some.piece;
+  first = bytes_of c.in-Some.piece;
   added = c.in_ok-push_text.ensures;
   rest = rest-piece c.args.escapes Text c.args.source.now c.args.at c.in-Some.next c.args.to (bytes_of c.in-Some.piece) c.in-Some.ensures c.requires.before;
   moves = Says-moves c.args.escapes Text c.args.source.now c.args.at c.in-Some.next (bytes_of c.in-Some.piece) c.in-Some.ensures;

@@ -2,7 +2,7 @@ use Rattle.std.proofs.Common.{◌≡◌, ◌+◌, ◌-◌, true, false, sym, ◌
 use Rattle.std.proofs.lemmas.Str.{IsCharBoundary-start}
 use Rattle.logos_lexeme.specs.LexemeOpenings.{prefix_of}
 use Rattle.logos_lexeme.specs.declared.lexeme.openings.Opening.TheVariants.{Quotes, Raw}
-use Rattle.logos_lexeme.proofs.CharacterLaws.{boundary-behind}
+use Rattle.logos_lexeme.proofs.CharacterLaws.{boundary-after}
 use Rattle.logos_lexeme.proofs.OpeningLaws.{quote_fits, raw_fits}
 use Rattle.std.proofs.lemmas.Result.{IfOk-weaker}
 use Rattle.logos_lexeme.specs.LexemeEnds.{body_of}
@@ -20,12 +20,12 @@ end_of-requires-clause-boundary c = IsCharBoundary-start c.args.text.now c.utf8.
 pub value_between-requires-clause-boundary : goal.value_between-requires-clause-boundary
 value_between-requires-clause-boundary c =
     let quote = rw zero-add at (quote_fits c.args.text.now 0 c.in-Quotes.content (sym c.opening_at-opens.ensures ∙ c.in-Quotes.is)) in
-    rw c.prefix_of-from.ensures (boundary-behind c.args.text.now c.utf8.text (prefix_of c.in-Quotes.content) (prefix_of c.in-Quotes.content + 1) (omega arith) (omega arith) refl)
+    rw c.prefix_of-from.ensures (boundary-after c.args.text.now c.utf8.text (prefix_of c.in-Quotes.content) (prefix_of c.in-Quotes.content + 1) (omega arith) (omega arith) refl)
 
 pub value_between-requires-in-Raw-clause-boundary : goal.value_between-requires-in-Raw-clause-boundary
 value_between-requires-in-Raw-clause-boundary c =
     let quote = rw zero-add at (raw_fits c.args.text.now 0 c.in-Raw.content c.in-Raw.count (sym c.opening_at-opens.ensures ∙ c.in-Raw.is)) in
-    rw c.prefix_of.ensures (boundary-behind c.args.text.now c.utf8.text (prefix_of c.in-Raw.content + 1 + c.in-Raw.count) (prefix_of c.in-Raw.content + 1 + c.in-Raw.count + 1) (omega arith) (omega arith) refl)
+    rw c.prefix_of.ensures (boundary-after c.args.text.now c.utf8.text (prefix_of c.in-Raw.content + 1 + c.in-Raw.count) (prefix_of c.in-Raw.content + 1 + c.in-Raw.count + 1) (omega arith) (omega arith) refl)
 
 pub returns-in-Quotes : goal.returns-in-Quotes
 returns-in-Quotes c =

@@ -9,7 +9,7 @@ loop-at-preserved c =
     let a : IsAdded c.args.escapes c.args.source.now c.loop-at.at c.in-Some.next c.args.to (string_bytes c.loop-at.value) (string_bytes c.add_text.new.value) = rw c.in-Some.is at c.in_ok-next.ensures in
     record {
       boundary = a.boundary;
-      rest = rw a.added (rest-join c.args.escapes Text c.args.source.now c.args.from c.loop-at.at c.in-Some.next c.args.to (string_bytes c.loop-at.value) a.said c.loop-at.invariant.rest a.rest);
+      rest = rw a.added (rest-join c.args.escapes Text c.args.source.now c.args.from c.loop-at.at c.in-Some.next c.args.to (string_bytes c.loop-at.value) a.first c.loop-at.invariant.rest a.rest);
     }
 
 pub returns-then-at-to : goal.returns-then-at-to

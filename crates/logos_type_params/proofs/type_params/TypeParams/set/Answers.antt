@@ -10,9 +10,9 @@ use Rattle.logos_type_params.proofs.type_params.TypeParams.set.Goals as goal
 pub returns-then-not-contains-clause-ok : goal.returns-then-not-contains-clause-ok
 returns-then-not-contains-clause-ok c =
     let r = rw (c.in-Some.is, c.span-span.ensures) at c.in_ok-written.ensures.ok in
-    on_ok_weaker c.list_about.result
-    (λ e. set_undeclared (value_of c.args.self.now) (named_of c.args.name) (tokens_of c.args.value) c.args.errors.now c.read_value.new.errors c.list_about.new.errors (type_tree c.in-Some.written) r (sym c.contains.ensures ∙ c.if-not-contains.true) e)
-    c.list_about.ensures.ok
+    on_ok_weaker c.report_about.result
+    (λ e. set_undeclared (value_of c.args.self.now) (named_of c.args.name) (tokens_of c.args.value) c.args.errors.now c.read_value.new.errors c.report_about.new.errors (type_tree c.in-Some.written) r (sym c.contains.ensures ∙ c.if-not-contains.true) e)
+    c.report_about.ensures.ok
 
 pub returns-clause-ok : goal.returns-clause-ok
 returns-clause-ok c =

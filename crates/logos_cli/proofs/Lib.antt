@@ -1,0 +1,4 @@
+pub mod GatherLemmas
+pub mod RunLemmas
+pub mod ShownLemmas
+pub mod WordLemmas

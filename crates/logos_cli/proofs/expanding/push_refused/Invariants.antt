@@ -1,0 +1,8 @@
+use Rattle.std.proofs.Common.{drop}
+use Rattle.logos_report.specs.Pages.{PageValue, Shows}
+use Rattle.logos_cli.specs.inside.Gathering.{refused_texts}
+use Rattle.logos_cli.proofs.expanding.push_refused.Given as goal
+
+-- with the refusals that are left the page shows all of them
+abbrev pub invariant-loop-one : goal.invariant-loop-one
+invariant-loop-one l = (new : PageValue) → Shows (refused_texts l.source (drop l.one-index l.refused)) l.page new → Shows (refused_texts l.source l.refused) l.initial.page new

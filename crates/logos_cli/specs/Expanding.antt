@@ -1,0 +1,80 @@
+-- A file with the derive of its lexers expanded.
+use Rattle.std.specs.Prelude.{◌≡◌, ◌⊎◌, ℕ, List, [], ◌∷◌, ◌++◌, Option, true, false, slice_range, string_bytes}
+use Rattle.std.specs.List.{Contains}
+use Rattle.logos_code.specs.Code.{CodeValue}
+use Rattle.logos_code.specs.declared.code.Config.{Config}
+use Rattle.logos_codegen.specs.Given.{IsGiven}
+use Rattle.logos_codegen.specs.Source.{IsRefused}
+use Rattle.logos_files.specs.declared.finding.FoundEnum.{FoundEnum}
+use Rattle.logos_files.specs.declared.replacing.Replacement.{Replacement}
+use Rattle.logos_files.specs.Files.{AreEnumsOf}
+use Rattle.logos_files.specs.Replacing.{replaced}
+use Rattle.logos_graph.specs.View.{GraphValue}
+use Rattle.logos_item.specs.Values.{Slice}
+use Rattle.logos_report.specs.declared.stop.Stop.{Stop}
+use Rattle.logos_report.specs.Stops.{status_of}
+use Rattle.logos_files.specs.Handed.{EndsReading}
+use Rattle.logos_files.specs.Handed.{IsStripped}
+use Rattle.logos_text.specs.Standing.{StandInOrder}
+use Rattle.logos_text.specs.Texts.{texts_of}
+use Rattle.logos_token.specs.Faults.{Fault}
+use Rattle.logos_token.specs.Printing.{printed}
+use Rattle.logos_token.specs.Tokens.{TokenList}
+
+-- This is the text of a lexer of a source without faults, in this shape: the texts of all its tables, and those of all its conditions, stand in it.
+pub record IsLexerText (config : Config) (source shown : List ℕ) : Type 0 where
+  pub graph : GraphValue
+  pub code : CodeValue
+  pub name : Slice
+  pub export : Option (List ℕ)
+  pub given : IsGiven source config graph code name export
+  pub stand : StandInOrder (texts_of code) shown
+
+-- this is an enum without what belongs to the derive, printed, and after LF the text of its lexer
+pub record IsExpansion (config : Config) (source shown : List ℕ) : Type 0 where
+  pub left : TokenList
+  pub lexer : List ℕ
+  pub stripped : IsStripped source left
+  pub is_lexer : IsLexerText config source lexer
+  pub is : shown ≡ printed left ++ 10 ∷ lexer
+
+-- the text of an enum of a file
+abbrev pub text_at : List ℕ → FoundEnum → List ℕ
+text_at text found = slice_range text found.span.from found.span.to
+
+-- each enum that derives `Logos` is replaced by its expansion, in order, and no other one
+pub data Replaces (config : Config) (text : List ℕ) : List FoundEnum → List Replacement → Type 0 where
+  ended : Replaces config text [] []
+  stays : {one : FoundEnum} {rest : List FoundEnum} {parts : List Replacement} → one.derives ≡ false → Replaces config text rest parts → Replaces config text (one ∷ rest) parts
+  gives : {one : FoundEnum} {part : Replacement} {rest : List FoundEnum} {parts : List Replacement} →
+      one.derives ≡ true → part.span ≡ one.span → IsExpansion config (text_at text one) (string_bytes part.text) → Replaces config text rest parts → Replaces config text (one ∷ rest) (part ∷ parts)
+
+-- these bytes are the file with the derive of its lexers expanded, and all other bytes as they were
+pub record IsExpanded (config : Config) (text bytes : List ℕ) : Type 0 where
+  pub found : List FoundEnum
+  pub parts : List Replacement
+  pub are : AreEnumsOf text found
+  pub replaces : Replaces config text found parts
+  pub is : bytes ≡ replaced text 0 parts
+
+-- an enum of the file that derives `Logos` has faults
+pub record HasFaultyEnum (text : List ℕ) : Type 0 where
+  pub found : List FoundEnum
+  pub are : AreEnumsOf text found
+  pub one : FoundEnum
+  pub contains : Contains found one
+  pub derives : one.derives ≡ true
+  pub faults : List Fault
+  pub refused : IsRefused (text_at text one) faults
+
+-- the file cannot be read into tokens, and this is its one fault
+abbrev pub IsUnreadable : List ℕ → List Fault → Type 0
+IsUnreadable text faults = (ending : Fault) × EndsReading text ending × (faults ≡ ending ∷ [])
+
+-- the file cannot be read into tokens, or one of its lexers has faults
+abbrev pub HasFaults : List ℕ → Type 0
+HasFaults text = ((faults : List Fault) × IsUnreadable text faults) ⊎ HasFaultyEnum text
+
+-- what was asked for was refused, for this reason, or a file or memory failed
+abbrev pub FailsBy : Type 0 → Stop → Type 0
+FailsBy Reason stop = (status_of stop ≡ 3) ⊎ ((status_of stop ≡ 1) × Reason)

@@ -1,0 +1,4 @@
+pub mod Orders
+pub mod Expanding
+pub mod Runs
+pub mod inside

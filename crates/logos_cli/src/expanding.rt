@@ -1,0 +1,256 @@
+//! A file with the derive of its lexers expanded.
+ghost use Rattle.std.specs.Prelude.{◌≡◌, ◌≤◌, All, IfErr, IfOk, OnOk, length, map, string_bytes};
+ghost use Rattle.logos_token.specs.Views.{tokens_of};
+ghost use Rattle.logos_codegen.specs.Source.{IsRefused};
+ghost use Rattle.logos_files.specs.Replacing.{AreInOrder, IsFoundCut, found_span, place_of};
+ghost use Rattle.logos_files.specs.Files.{AreEnumsOf};
+ghost use Rattle.logos_report.specs.Pages.{Shows, StandInOrder};
+ghost use Rattle.logos_files.specs.Handed.{Refuses};
+ghost use Rattle.logos_cli.specs.Expanding.{FailsBy, HasFaults, IsExpanded, IsExpansion};
+ghost use Rattle.logos_cli.specs.Expanding.{IsUnreadable};
+ghost use Rattle.logos_cli.specs.inside.Gathering.{AddsRefusal, GathersAll, GathersOne};
+ghost use Rattle.logos_cli.specs.inside.Gathering.{IsExpansionBy, IsPrintedWith, refused_texts};
+
+use logos_codegen::error::{Errors, Memory};
+use logos_codegen::generator::Config;
+use logos_codegen::token::{Tokens, print};
+use logos_codegen::{Generated, Refusal, generate, strip_attributes};
+use logos_files::{FoundEnum, Replacement, enums_in, replace};
+use logos_report::{Page, Part, Source, Stop, count_errors, push_faults, push_summary};
+use std::alloc::{AllocError, Global};
+
+/// A file with the derive of its lexers expanded.
+#[derive(Drop)]
+pub(crate) struct Expansion {
+    pub(crate) bytes: Vec<u8>,
+    /// How many enums were expanded.
+    pub(crate) count: usize,
+}
+
+/// What begins at an offset of a file, and its faults.
+#[derive(Drop)]
+struct Refused {
+    offset: usize,
+    errors: Errors,
+}
+
+/// What the enums of a file give.
+#[derive(Drop)]
+struct Gathered {
+    parts: Vec<Replacement>,
+    refused: Vec<Refused>,
+}
+
+/// A file: its path and its text.
+#[derive(Clone, Copy)]
+pub(crate) struct File<'f> {
+    pub(crate) path: &'f str,
+    pub(crate) text: &'f str,
+}
+
+/// Returns a file with each enum that derives `Logos` replaced by the enum without what belongs to
+/// the derive, and by the implementation. All other text stays as it is. `is_colored` says whether
+/// messages have colors.
+///
+/// # Errors
+///
+/// Returns `Refused` with all faults of all these enums, in the order of the file, or with the one
+/// fault of a file that cannot be read into tokens. Returns `Memory` if memory runs out.
+pub(crate) fn expand<'w>(
+    alloc: Global,
+    file: File<'_>,
+    config: Config,
+    is_colored: bool,
+) -> Result<Expansion, Stop<'w>>
+    ensures done { IfOk result (λ made. IsExpanded config file.entry.text.now made.bytes.items) }
+    ensures denied { IfErr result (FailsBy (HasFaults file.entry.text.now)) }
+{
+    let found = match enums_in(alloc, file.text) {
+        Ok(found) => found,
+        Err(refusal) => return Err(refused_whole(alloc, file, is_colored, refusal)),
+    };
+    expand_enums(alloc, file, config, is_colored, &found)
+}
+
+/// Returns why a file is refused that cannot be read into tokens.
+fn refused_whole<'w>(alloc: Global, file: File<'_>, is_colored: bool, refusal: Refusal) -> Stop<'w>
+    requires { Refuses (IsUnreadable file.text.now) refusal }
+    ensures { FailsBy (HasFaults file.entry.text.now) result }
+{
+    let mut refused = Vec::new(alloc);
+    match push_refusal(&mut refused, 0, refusal) {
+        Ok(()) => refused_file(alloc, file, is_colored, &refused),
+        Err(Memory) => Stop::Memory,
+    }
+}
+
+/// Returns a file with these enums expanded.
+fn expand_enums<'w>(
+    alloc: Global,
+    file: File<'_>,
+    config: Config,
+    is_colored: bool,
+    found: &[FoundEnum],
+) -> Result<Expansion, Stop<'w>>
+    requires enums { AreEnumsOf file.text.now found.now }
+    requires order { AreInOrder 0 (map found_span found.now) (length file.text.now) }
+    requires cut { All (IsFoundCut file.text.now) found.now }
+    ensures done { IfOk result (λ made. IsExpanded config file.entry.text.now made.bytes.items) }
+    ensures denied { IfErr result (FailsBy (HasFaults file.entry.text.now)) }
+{
+    let gathered = gather(alloc, file.text, config, found)?;
+    if gathered.refused.is_empty() {
+        return Ok(Expansion {
+            bytes: replace(alloc, file.text, &gathered.parts)?,
+            count: gathered.parts.len(),
+        });
+    }
+    Err(refused_file(alloc, file, is_colored, &gathered.refused))
+}
+
+/// Returns what these enums of a file give.
+fn gather(
+    alloc: Global,
+    text: &str,
+    config: Config,
+    found: &[FoundEnum],
+) -> Result<Gathered, Memory>
+    requires order { AreInOrder 0 (map found_span found.now) (length text.now) }
+    requires cut { All (IsFoundCut text.now) found.now }
+    ensures gathers { IfOk result (GathersAll config text.now found.now) }
+    ensures order { IfOk result (λ gathered.
+        AreInOrder 0 (map place_of gathered.parts.items) (length text.now)) }
+{
+    let mut gathered = Gathered {
+        parts: Vec::new(alloc),
+        refused: Vec::new(alloc),
+    };
+    for one in found {
+        gather_enum(alloc, text, config, *one, &mut gathered)?;
+    }
+    Ok(gathered)
+}
+
+/// Pushes what an enum gives, if it derives `Logos`.
+fn gather_enum(
+    alloc: Global,
+    text: &str,
+    config: Config,
+    one: FoundEnum,
+    gathered: &mut Gathered,
+) -> Result<(), Memory>
+    requires order { one.span.from ≤ one.span.to }
+    requires cut { IsFoundCut text.now one }
+    ensures { OnOk result (GathersOne config text.now one gathered.old gathered.new) }
+{
+    if !one.derives {
+        return Ok(());
+    }
+    let span = one.span;
+    match expanded(alloc, &text[span.from..span.to], config) {
+        Ok(text) => {
+            gathered.parts.push(Replacement { span, text })?;
+            Ok(())
+        }
+        Err(refusal) => push_refusal(&mut gathered.refused, span.from, refusal),
+    }
+}
+
+/// Pushes the faults of what begins at an offset of the file.
+fn push_refusal(refused: &mut Vec<Refused>, offset: usize, refusal: Refusal) -> Result<(), Memory>
+    ensures { OnOk result (AddsRefusal offset refusal refused.old.items refused.new.items) }
+{
+    match refusal {
+        Refusal::Errors(errors) => {
+            refused.push(Refused { offset, errors })?;
+            Ok(())
+        }
+        Refusal::Memory => Err(Memory),
+    }
+}
+
+/// Returns an enum without what belongs to the derive, and the implementation.
+fn expanded(alloc: Global, source: &str, config: Config) -> Result<String, Refusal>
+    ensures done { IfOk result
+        (λ text. IsExpansion config source.now (string_bytes text)) }
+    ensures refused { IfErr result (Refuses (IsRefused source.now)) }
+{
+    match generate(alloc, source, config) {
+        Ok(made) => expansion_by(alloc, source, &made),
+        Err(refusal) => Err(refusal),
+    }
+}
+
+/// Returns an enum without what belongs to the derive, and the text of its lexer.
+fn expansion_by(alloc: Global, source: &str, made: &Generated<'_>) -> Result<String, Refusal>
+    ensures done { IfOk result (λ text. IsExpansionBy made.now.code source.now (string_bytes text)) }
+    ensures refused { IfErr result (Refuses (IsRefused source.now)) }
+{
+    match strip_attributes(alloc, source) {
+        Ok(left) => match printed_with(alloc, left.run(), made) {
+            Ok(text) => Ok(text),
+            Err(Memory) => Err(Refusal::Memory),
+        },
+        Err(refusal) => Err(refusal),
+    }
+}
+
+/// Returns the text of tokens, and after LF the text of a lexer.
+fn printed_with(alloc: Global, left: Tokens<'_, '_>, made: &Generated<'_>) -> Result<String, Memory>
+    ensures { IfOk result (λ text. IsPrintedWith made.now.code (tokens_of left.entry)
+        (string_bytes text)) }
+{
+    let lexer = made.text(alloc)?;
+    let mut text = print(alloc, left)?;
+    text.push('\n')?;
+    text.push_str(lexer.as_str())?;
+    Ok(text)
+}
+
+/// Returns why a file is refused: the text of all its faults.
+fn refused_file<'w>(
+    alloc: Global,
+    file: File<'_>,
+    is_colored: bool,
+    refused: &[Refused],
+) -> Stop<'w>
+    requires { HasFaults file.text.now }
+    ensures { FailsBy (HasFaults file.entry.text.now) result }
+{
+    match refusal_text(alloc, file, is_colored, refused) {
+        Ok(text) => Stop::Refused(text),
+        Err(AllocError) => Stop::Memory,
+    }
+}
+
+/// Returns the text of all faults of a file, in order, with their number. The text has for each the
+/// name of its code, the first line of its message and its place in the file.
+fn refusal_text(
+    alloc: Global,
+    file: File<'_>,
+    is_colored: bool,
+    refused: &[Refused],
+) -> Result<String, AllocError>
+    ensures { IfOk result (λ text. StandInOrder
+        (refused_texts (record { path = file.entry.path.now; text = file.entry.text.now }) refused.now)
+        (string_bytes text)) }
+{
+    let source = Source::new(alloc, file.path, file.text)?;
+    let mut page = Page::new(alloc, is_colored);
+    let count = push_refused(&mut page, &source, refused);
+    push_summary(&mut page, count);
+    page.finish()
+}
+
+/// Pushes all these faults. Returns how many of them are errors.
+fn push_refused(page: &mut Page, source: &Source<'_>, refused: &[Refused]) -> usize
+    ensures { Shows (refused_texts source.now refused.now) page.old page.new }
+{
+    let mut count: usize = 0;
+    for one in refused {
+        let offset = one.offset;
+        push_faults(page, Part { source, offset }, &one.errors);
+        count = count.saturating_add(count_errors(&one.errors));
+    }
+    count
+}

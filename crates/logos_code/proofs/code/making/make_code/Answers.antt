@@ -1,0 +1,15 @@
+use Rattle.logos_code.specs.CodeView.{code_of}
+use Rattle.logos_code.proofs.CodeLemmas.{root_there}
+use Rattle.logos_code.proofs.RowLemmas.{first_row_says}
+use Rattle.logos_code.proofs.code.making.make_code.Goals as goal
+
+pub invariant_of-result : goal.invariant_of-result
+invariant_of-result c = record {
+  kept = c.requires;
+  first_row = first_row_says (code_of c.args.parts) c.in_ok-rows.rows.items c.index.result.now c.first_row-first.result c.in_ok-rows.ensures
+      (root_there (code_of c.args.parts) c.requires.sound) c.index.ensures c.first_row-first.ensures;
+  all_rows = c.in_ok-rows.ensures;
+  all_masks = c.in_ok-masks.ensures;
+  all_signs = c.in_ok-signs.ensures;
+  all_uses = c.in_ok-uses.ensures;
+}

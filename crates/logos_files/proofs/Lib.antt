@@ -1,0 +1,5 @@
+mod FrontLemmas
+mod FindLemmas
+mod OrderLemmas
+mod ReplaceLemmas
+mod CutLemmas

@@ -1,0 +1,6 @@
+pub mod Handed
+pub mod Derives
+pub mod Fronts
+pub mod Files
+pub mod Replacing
+pub mod inside

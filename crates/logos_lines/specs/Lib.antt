@@ -1,0 +1,4 @@
+pub mod Places
+pub mod Cursors
+pub mod Starts
+pub mod inside

@@ -1,0 +1,77 @@
+//! A place in a text that moves forward.
+ghost use Rattle.std.specs.Prelude.{◌≡◌, max, min, length};
+ghost use Rattle.logos_lines.specs.Places.{place_at};
+ghost use Rattle.logos_lines.specs.Starts.{IsStart};
+
+use crate::place::Position;
+use std::marker::Model;
+
+/// An offset in a text, in bytes, with its line and column. It only moves forward.
+///
+/// Walking a whole text by one cursor takes time linear in its length.
+#[derive(Drop)]
+pub struct Cursor<'t> {
+    bytes: &'t [u8],
+    offset: usize,
+    position: Position,
+}
+
+impl<'t> Model for Cursor<'t> {
+    ghost use Rattle.std.specs.Prelude.{◌≡◌, ◌≤◌, length};
+    ghost use Rattle.logos_lines.specs.Places.{place_at};
+    ghost use Rattle.logos_lines.specs.Cursors.{CursorValue};
+
+    ghost Value = { CursorValue };
+
+    ghost view = { λ c. record { text = c.bytes.now; at = c.offset } };
+
+    ghost invariant = { λ c. (c.offset ≤ length c.bytes.now) ×
+        (c.position ≡ place_at c.bytes.now c.offset) };
+}
+
+impl<'t> Cursor<'t> {
+    /// Returns a cursor at the start of a text.
+    pub fn new(bytes: &'t [u8]) -> Cursor<'t>
+        ensures { result ≡ record { text = bytes.now; at = 0 } }
+    {
+        Cursor {
+            bytes,
+            offset: 0,
+            position: Position::first(),
+        }
+    }
+
+    /// Returns a cursor at the start of a line, by its offset and its number.
+    pub(crate) fn at_line(bytes: &'t [u8], offset: usize, line: usize) -> Cursor<'t>
+        requires { IsStart bytes.now line offset }
+        ensures { result ≡ record { text = bytes.now; at = offset } }
+    {
+        Cursor {
+            bytes,
+            offset,
+            position: Position { line, column: 1 },
+        }
+    }
+
+    /// Returns the line and the column of the cursor's offset.
+    pub fn position(&self) -> Position
+        ensures { result ≡ place_at self.now.text self.now.at }
+    {
+        self.position
+    }
+
+    /// Moves to an offset, or to the end of the text if the offset is past it. An offset before
+    /// the cursor changes nothing.
+    pub fn go_to(&mut self, offset: usize)
+        ensures { self.new ≡ record {
+          text = self.old.text;
+          at = max self.old.at (min offset (length self.old.text));
+        } }
+    {
+        let end = offset.min(self.bytes.len());
+        while self.offset < end {
+            self.position = self.position.after(self.bytes[self.offset]);
+            self.offset += 1;
+        }
+    }
+}

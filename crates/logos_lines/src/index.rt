@@ -1,0 +1,194 @@
+//! The lines of a text.
+ghost use Rattle.std.specs.Prelude.{◌≡◌, ◌<◌, ◌≤◌, ◌+◌, ◌^◌, ◌∷◌, [], ℕ, List, Some, None};
+ghost use Rattle.std.specs.Prelude.{IfOk, IfSome, MatchOption, OnOk, IsCharBoundary};
+ghost use Rattle.std.specs.Prelude.{◌++◌, ◌==◌, if◌then◌else◌, length, drop, slice_index};
+ghost use Rattle.logos_lines.specs.Places.{place_at, ends_line, line_length};
+ghost use Rattle.logos_lines.specs.inside.Search.{ends_search, next_column};
+ghost use Rattle.logos_lines.specs.Starts.{AreStarts, IsLineOf, IsNoLine, IsStart};
+
+use crate::cursor::Cursor;
+use crate::place::{Position, continues};
+use std::alloc::{AllocError, Global};
+use std::marker::Model;
+
+/// A text with the offsets at which its lines begin. A line ends in LF or CR LF.
+///
+/// Offsets count bytes from 0, lines count from 1, and columns count characters from 1.
+#[derive(Drop)]
+pub struct LineIndex<'t> {
+    text: &'t str,
+    starts: Vec<usize>,
+}
+
+impl<'t> Model for LineIndex<'t> {
+    ghost use Rattle.std.specs.Prelude.{ℕ, List, IsUtf8};
+    ghost use Rattle.logos_lines.specs.Starts.{AreStarts};
+
+    ghost Value = { List ℕ };
+
+    ghost view = { λ index. index.text.now };
+
+    ghost invariant = { λ index. AreStarts index.text.now index.starts.items };
+}
+
+impl<'t> LineIndex<'t> {
+    /// Indexes the lines of a text.
+    ///
+    /// # Errors
+    ///
+    /// Returns `AllocError` if memory runs out.
+    pub fn new(alloc: Global, text: &'t str) -> Result<LineIndex<'t>, AllocError>
+        ensures { IfOk result (λ index. index ≡ text.now) }
+    {
+        let starts = line_starts(alloc, text)?;
+        Ok(LineIndex { text, starts })
+    }
+
+    /// Returns the line and the column of an offset. An offset past the end of the text has those
+    /// of the end, and one inside a character those after its first byte.
+    pub fn line_column(&self, offset: usize) -> Position
+        ensures { result ≡ place_at self.now offset }
+    {
+        let last = last_start(&self.starts, offset);
+        let mut cursor = Cursor::at_line(self.text.as_bytes(), self.starts[last], last + 1);
+        cursor.go_to(offset);
+        cursor.position()
+    }
+
+    /// Returns the offset of a line and a column, or `None` if the text does not have them. On
+    /// boundaries between characters this is the inverse of `line_column`.
+    pub fn offset(&self, line: usize, column: usize) -> Option<usize>
+        ensures found { IfSome result (λ offset. IsCharBoundary self.now offset
+            × (place_at self.now offset ≡ record { line = line; column = column })) }
+        ensures every { (offset : ℕ) → IsCharBoundary self.now offset →
+            place_at self.now offset ≡ record { line = line; column = column } →
+            result ≡ Some offset }
+    {
+        let start = self.start_of(line)?;
+        offset_in_line(self.text, start, line, column)
+    }
+
+    /// Returns the text of a line without LF or CR LF, or `None` if the text has no such line.
+    pub fn line_text(&self, line: usize) -> Option<&'t str>
+        ensures { MatchOption result (IsNoLine self.now line)
+            (λ text. IsLineOf self.now line text.now) }
+    {
+        let start = self.start_of(line)?;
+        let end = line_end(self.text, start);
+        Some(&self.text[start..end])
+    }
+
+    /// Returns the offset at which a line begins, or `None` if the text has no such line.
+    fn start_of(&self, line: usize) -> Option<usize>
+        ensures { MatchOption result (IsNoLine self.now line) (IsStart self.now line) }
+    {
+        let before = line.checked_sub(1)?;
+        Some(*self.starts.get(before)?)
+    }
+}
+
+/// Returns the offsets at which the lines of a text begin.
+fn line_starts(alloc: Global, text: &str) -> Result<Vec<usize>, AllocError>
+    ensures { IfOk result (λ starts. AreStarts text.now starts.items) }
+{
+    let bytes = text.as_bytes();
+    let mut starts = Vec::new(alloc);
+    starts.push(0)?;
+    for at in 0..bytes.len() {
+        push_start(&mut starts, at, bytes[at])?;
+    }
+    Ok(starts)
+}
+
+/// Pushes the offset after a byte if the byte is LF.
+fn push_start(starts: &mut Vec<usize>, at: usize, byte: u8) -> Result<(), AllocError>
+    requires { at + 1 < 2 ^ 64 }
+    ensures { OnOk result (starts.new.items ≡ (if byte == 10 then starts.old.items ++ (at + 1) ∷ []
+        else starts.old.items)) }
+{
+    if byte == b'\n' {
+        starts.push(at + 1)?;
+    }
+    Ok(())
+}
+
+/// Returns the index of an offset in `starts` that is at most `offset`: of the last one, if they are
+/// in order.
+fn last_start(starts: &[usize], offset: usize) -> usize
+    requires some { 0 < length starts.now }
+    requires first { slice_index starts.now 0 ≡ 0 }
+    ensures inside { result < length starts.now }
+    ensures before { slice_index starts.now result ≤ offset }
+{
+    let mut low = 0;
+    let mut high = starts.len();
+    while high - low > 1 {
+        let middle = low + (high - low) / 2;
+        if starts[middle] <= offset {
+            low = middle;
+        } else {
+            high = middle;
+        }
+    }
+    low
+}
+
+/// Returns whether the search for a column ends before a character that begins with this byte.
+fn ends_search(byte: u8, reached: usize, column: usize) -> bool
+    ensures { result ≡ ends_search byte reached column }
+{
+    !continues(byte) & ((reached == column) | (byte == b'\n'))
+}
+
+/// Returns the column after a byte that is not LF.
+fn next_column(byte: u8, column: usize) -> usize
+    requires { column + 1 < 2 ^ 64 }
+    ensures { result ≡ next_column byte column }
+{
+    if continues(byte) { column } else { column + 1 }
+}
+
+/// Returns the offset of a column of the line that begins at `start`, or `None` if the line is
+/// shorter.
+fn offset_in_line(text: &str, start: usize, line: usize, column: usize) -> Option<usize>
+    requires { IsStart text.now line start }
+    ensures found { IfSome result (λ offset. IsCharBoundary text.now offset
+        × (place_at text.now offset ≡ record { line = line; column = column })) }
+    ensures every { (offset : ℕ) → IsCharBoundary text.now offset →
+        place_at text.now offset ≡ record { line = line; column = column } →
+        result ≡ Some offset }
+{
+    let bytes = text.as_bytes();
+    let mut at = start;
+    let mut reached = 1;
+    while at < bytes.len() && !ends_search(bytes[at], reached, column) {
+        reached = next_column(bytes[at], reached);
+        at += 1;
+    }
+    if reached == column { Some(at) } else { None }
+}
+
+/// Returns whether LF or CR LF stands at an offset.
+fn ends_line(bytes: &[u8], at: usize) -> bool
+    requires { at < length bytes.now }
+    ensures { result ≡ ends_line (drop at bytes.now) }
+{
+    let next = at + 1;
+    let is_return = next < bytes.len() && bytes[at] == b'\r' && bytes[next] == b'\n';
+    (bytes[at] == b'\n') | is_return
+}
+
+/// Returns the offset at which the text of a line ends, by the offset at which it begins.
+fn line_end(text: &str, start: usize) -> usize
+    requires { start ≤ length text.now }
+    ensures value { result ≡ start + line_length (drop start text.now) }
+    ensures after { start ≤ result }
+    ensures boundary { IsCharBoundary text.now result }
+{
+    let bytes = text.as_bytes();
+    let mut end = start;
+    while end < bytes.len() && !ends_line(bytes, end) {
+        end += 1;
+    }
+    end
+}

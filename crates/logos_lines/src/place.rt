@@ -1,0 +1,54 @@
+//! Lines and columns.
+ghost use Rattle.std.specs.Prelude.{◌≡◌, ◌<◌, ◌+◌, ◌^◌, ℕ, List, IsCharBoundary};
+ghost use Rattle.logos_lines.specs.Places.{after_byte, continues, place_at};
+
+/// A line and a column of a text. Both count from 1, and a column counts characters.
+#[derive(Clone, Copy, Debug, PartialEq, Eq)]
+pub struct Position {
+    pub line: usize,
+    pub column: usize,
+}
+
+impl Position {
+    /// Returns the position of the start of a text.
+    pub(crate) fn first() -> Position
+        ensures { result ≡ record { line = 1; column = 1 } }
+    {
+        Position { line: 1, column: 1 }
+    }
+
+    /// Returns the position after one more byte.
+    pub(crate) fn after(self, byte: u8) -> Position
+        requires line { self.line + 1 < 2 ^ 64 }
+        requires column { self.column + 1 < 2 ^ 64 }
+        ensures { result ≡ after_byte self byte }
+    {
+        let Position { line, column } = self;
+        if byte == b'\n' {
+            return Position {
+                line: line + 1,
+                column: 1,
+            };
+        }
+        if continues(byte) {
+            return self;
+        }
+        Position {
+            line,
+            column: column + 1,
+        }
+    }
+}
+
+/// Returns whether a byte continues a character that an earlier byte began.
+pub(crate) fn continues(byte: u8) -> bool
+    ensures { result ≡ continues byte }
+{
+    (128 <= byte) & (byte < 192)
+}
+
+/// No two boundaries between characters have the same line and column.
+pub fn one_place()
+    ensures { (text : List ℕ) (one other : ℕ) → IsCharBoundary text one →
+        IsCharBoundary text other → place_at text one ≡ place_at text other → one ≡ other }
+{}

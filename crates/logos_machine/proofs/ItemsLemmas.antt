@@ -1,0 +1,45 @@
+-- From item to item: what completes the run after the items so far completes the whole run.
+use Rattle.std.proofs.Common.{◌≡◌, ℕ, Bool, true, false, List, [], ◌∷◌, ◌++◌, append_assoc, append-nil, MatchBool}
+use Rattle.logos_automaton.specs.Munch.{Use}
+use Rattle.logos_code.specs.Code.{CodeValue}
+use Rattle.logos_code.specs.Items.{Callback, Search, Item, asks, MayAnswer, Lexes, over, match, fault}
+use Rattle.logos_code.specs.Runs.{CodeFinds, Runs}
+use Rattle.logos_code.specs.declared.action.Action.{Action}
+use Rattle.logos_code.specs.declared.action.Action.TheVariants.{Emit, Skip, Error}
+use Rattle.logos_machine.specs.LexerValue.{LexerValue, Gives, Ends}
+
+-- the same items by a callback that answers no less
+pub may_by : (uses : List Use) (bytes : List ℕ) (callback other : Callback) → ((leaf : ℕ) (slice : List ℕ) (answer : Action) → callback leaf slice answer → other leaf slice answer) →
+    (leaf : ℕ) (slice : List ℕ) (answer : Action) → MayAnswer uses callback bytes leaf slice answer → MayAnswer uses other bytes leaf slice answer
+may_by uses bytes callback other h leaf slice answer m = go (asks uses callback bytes leaf) m
+  where
+    go : (b : Bool) → MatchBool b (callback leaf slice answer) (answer ≡ Emit) → MatchBool b (other leaf slice answer) (answer ≡ Emit)
+    go true m = h leaf slice answer m
+    go false m = m
+
+pub lexes_by : (uses : List Use) (bytes : List ℕ) (search : Search) (callback other : Callback) → ((leaf : ℕ) (slice : List ℕ) (answer : Action) → callback leaf slice answer → other leaf slice answer) →
+    {from : ℕ} {items : List Item} → Lexes uses callback bytes search from items → Lexes uses other bytes search from items
+lexes_by uses bytes search callback other h (over from s) = over from s
+lexes_by uses bytes search callback other h (match from to leaf Emit rest s m l) = match from to leaf Emit rest s (may_by uses bytes callback other h leaf _ Emit m) (lexes_by uses bytes search callback other h l)
+lexes_by uses bytes search callback other h (match from to leaf Skip rest s m l) = match from to leaf Skip rest s (may_by uses bytes callback other h leaf _ Skip m) (lexes_by uses bytes search callback other h l)
+lexes_by uses bytes search callback other h (match from to leaf Error rest s m l) = match from to leaf Error rest s (may_by uses bytes callback other h leaf _ Error m) (lexes_by uses bytes search callback other h l)
+lexes_by uses bytes search callback other h (fault from to rest s l) = fault from to rest s (lexes_by uses bytes search callback other h l)
+
+-- one item more
+pub more_items : {C : Type 0} (callback other : Callback) (code : CodeValue) (input : List ℕ) (old new : LexerValue C) (from : ℕ) (items : List Item) (item : Item) → Gives callback old new item →
+    old.code ≡ code → old.input ≡ input → new.code ≡ code → new.input ≡ input →
+    ((leaf : ℕ) (slice : List ℕ) (answer : Action) → other leaf slice answer → callback leaf slice answer) →
+    ((leaf : ℕ) (slice : List ℕ) (answer : Action) → callback leaf slice answer → other leaf slice answer) →
+    ((rest : List Item) → Runs code other input old.to rest → Runs code other input from (items ++ rest)) →
+    (rest : List Item) → Runs code other input new.to rest → Runs code other input from ((items ++ item ∷ []) ++ rest)
+more_items callback other code input old new from items item g c i d j to_it back h rest r =
+    let here : Runs new.code callback new.input new.to rest = rw (d, j) (lexes_by code.leaves input (CodeFinds code input) other callback to_it r) in
+    let before : Runs code callback input old.to (item ∷ rest) = rw (c, i) at (g.next rest here) in
+    rw append_assoc (h (item ∷ rest) (lexes_by code.leaves input (CodeFinds code input) callback other back before))
+
+pub no_items : {C : Type 0} (callback other : Callback) (code : CodeValue) (input : List ℕ) (old new : LexerValue C) (from : ℕ) (items : List Item) → Ends callback old new → old.code ≡ code → old.input ≡ input →
+    ((leaf : ℕ) (slice : List ℕ) (answer : Action) → callback leaf slice answer → other leaf slice answer) →
+    ((rest : List Item) → Runs code other input old.to rest → Runs code other input from (items ++ rest)) → Runs code other input from items
+no_items callback other code input old new from items g c i back h =
+    let here : Runs code callback input old.to [] = rw (c, i) at g.over in
+    rw append-nil at (h [] (lexes_by code.leaves input (CodeFinds code input) callback other back here))

@@ -1,0 +1,170 @@
+-- Tries by entries.
+use Rattle.std.proofs.Common.{◌≡◌, ℕ, suc, ◌+◌, ◌-◌, ◌<◌, ◌≤◌, inl, inr, ⊎_elim, true, false, List, length, drop, get_or, Some, None, refl, arith, length-drop}
+use Rattle.std.proofs.lemmas.Option.{slice_get-get_or, slice_get_past}
+use Rattle.logos_automaton.specs.Munch.{matched}
+use Rattle.logos_code.specs.Code.{CodeValue, CodeState}
+use Rattle.logos_code.specs.CodeView.{state_at, no_state}
+use Rattle.logos_code.specs.Headline.{IsSound, NamesTest, NamesWhatIsThere}
+use Rattle.logos_code.specs.Rows.{IsEntry, IsLastEntry, IsUse, first_halting, first_closing}
+use Rattle.logos_code.specs.Runs.{Stand, goes_on, acts_on, looped, stays}
+use Rattle.logos_code.proofs.RowLemmas.{loop_stops, entry_moves}
+use Rattle.logos_code.proofs.TargetLemmas.{All-slice_get}
+use Rattle.logos_machine.specs.inside.Looks.{Sees, Comes, Reaches, Tried, LooksAhead, StopsAt}
+use Rattle.logos_code.specs.declared.code.rows.MatchUse.{MatchUse}
+use Rattle.logos_code.specs.declared.code.rows.Step.TheVariants.{Leads, Stays, Closes, Halts}
+use Rattle.logos_machine.proofs.StandLemmas.{looped-fits, stands_first, stands_next, stands_match}
+use Rattle.logos_machine.proofs.StopLemmas.{stop_looped, stop_within}
+use Rattle.logos_machine.proofs.LookLemmas.{loops_on, sees_byte, sees_end, sees_entry}
+
+-- the test of a state's fast loop is there
+pub loop_named : (code : CodeValue) (s test : ℕ) → IsSound code → s < length code.states → (state_at code s).fast_loop ≡ Some test → NamesTest code test
+loop_named code s test sound there is =
+    let got = slice_get-get_or code.states s no_state there in
+    let names = All-slice_get (NamesWhatIsThere code) code.states s (state_at code s) sound.states got in
+    rw is at names.fast_loop
+
+-- the entry of a byte that stays names the test of its state
+pub stays_test : (code : CodeValue) (state : CodeState) (b entry : ℕ) → IsEntry code state b entry → (268435456 ≤ entry) × (entry < 536870912) →
+    (stays code state.fast_loop b ≡ true) × (state.fast_loop ≡ Some (entry - 268435456))
+stays_test code state b entry is h = is (Stays (entry - 268435456)) (omega (arith, h.0), omega (arith, h.0, h.1))
+
+module _ (code : CodeValue) (sound : IsSound code) (bytes : List ℕ) (s : ℕ) (there : s < length code.states) (at entry stop : ℕ) (within : at < length bytes)
+    (is : IsEntry code (state_at code s) (get_or bytes at 0) entry) (kind : (268435456 ≤ entry) × (entry < 536870912)) (stops : StopsAt code (entry - 268435456) bytes (at + 1) stop) where
+  -- a fast loop begins at the byte and ends at the stop
+  loop_ends : stop ≡ at + looped code (state_at code s).fast_loop (drop at bytes)
+  loop_ends =
+      let test = entry - 268435456 in
+      let said = stays_test code (state_at code s) (get_or bytes at 0) entry is kind in
+      let on = loops_on code test bytes at within (rw said.1 at said.0) in
+      let rest = stop_looped code test bytes (at + 1) stop stops in
+      rw said.1 (omega (arith, on, rest))
+
+  fits : (at + 1 ≤ stop) × (stop ≤ length bytes)
+  fits = stop_within code (entry - 268435456) bytes (at + 1) stop stops (omega (arith, within))
+
+  -- it takes all bytes that are left
+  pub looks_end : (last : ℕ) → length bytes ≤ stop → IsLastEntry code (state_at code s) last → LooksAhead code bytes s at last stop
+  looks_end last past says = record {
+    past = omega (arith, fits.0);
+    within = fits.1;
+    moves = inr says.last;
+    sees = λ start h step f. sees_end code bytes start s there at stop sound step loop_ends (slice_get_past bytes stop past) (says.says step f);
+  }
+
+  -- it ends at a byte
+  pub looks_byte : (later : ℕ) → stop < length bytes → IsEntry code (state_at code s) (get_or bytes stop 0) later → LooksAhead code bytes s at later stop
+  looks_byte later inside says =
+      let loop = (state_at code s).fast_loop in
+      let e = loop_ends in
+      let out : stays code loop (get_or bytes stop 0) ≡ false = rw (← e) at (loop_stops code loop bytes at 0 (rw e at inside)) in
+      record {
+        past = omega (arith, fits.0);
+        within = fits.1;
+        moves = ⊎_elim (λ h. inl (h, inside)) (λ h. inr h) (entry_moves code (state_at code s) (get_or bytes stop 0) later says out);
+        sees = λ start h step f. sees_byte code bytes start s there at stop (get_or bytes stop 0) step h e (slice_get-get_or bytes stop 0 inside) (says step f);
+      }
+
+module _ (code : CodeValue) (sound : IsSound code) (bytes : List ℕ) (start : ℕ) (starts : start ≤ length bytes) where
+  -- a try begins in the root
+  pub comes_first : Comes code bytes start code.root start 0
+  comes_first = record {
+    context = None;
+    stands = stands_first code sound bytes start starts;
+    few = omega arith;
+    goes_on = λ found n g. let e : 0 + n ≡ n = omega arith in rw e g;
+  }
+
+  -- a look from a state on
+  pub looks_on : (state offset before entry stop : ℕ) → Comes code bytes start state offset before → LooksAhead code bytes state offset entry stop → Reaches code bytes start entry stop before
+  looks_on state offset before entry stop comes looks = record {
+    state = state;
+    offset = offset;
+    comes = comes;
+    past = looks.past;
+    within = looks.within;
+    sees = looks.sees start (let s = comes.stands in s.begun);
+  }
+
+  -- the end of the input
+  pub looks_past : (state at before last : ℕ) → Comes code bytes start state at before → at ≡ length bytes → IsLastEntry code (state_at code state) last → Reaches code bytes start last at before
+  looks_past state at before last comes end says =
+      let stands = comes.stands in
+      let none : looped code (state_at code state).fast_loop (drop at bytes) ≡ 0 = omega (arith, looped-fits code (state_at code state).fast_loop (drop at bytes), length-drop at bytes, end) in
+      record {
+        state = state;
+        offset = at;
+        comes = comes;
+        past = omega arith;
+        within = omega (arith, end);
+        sees = λ step f. sees_end code bytes start state stands.state at at sound step (omega (arith, none)) (slice_get_past bytes at (omega (arith, end))) (says.says step f);
+      }
+
+  -- the entry of the byte there
+  pub looks_here : (state at before entry : ℕ) → Comes code bytes start state at before → at < length bytes → IsEntry code (state_at code state) (get_or bytes at 0) entry →
+      Reaches code bytes start entry at before
+  looks_here state at before entry comes within is = record {
+    state = state;
+    offset = at;
+    comes = comes;
+    past = omega arith;
+    within = omega (arith, within);
+    sees = let s = comes.stands in sees_entry code bytes start state s.state at entry s.begun within is;
+  }
+
+  module _ (entry stop before : ℕ) (r : Reaches code bytes start entry stop before) where
+    abbrev at : Stand
+    at = record { state = r.state; offset = r.offset; context = r.comes.context }
+
+    -- an entry that leads
+    pub leads_on : entry < 268435456 → Comes code bytes start entry (stop + 1) (before + 1)
+    leads_on h =
+        let sees : Sees code bytes start r.state r.offset stop (Leads entry) = r.sees (Leads entry) (refl, h) in
+        let does = sees r.comes.context in
+        let next : Stand = record { state = entry; offset = stop + 1; context = does.0 } in
+        let n = stands_next code sound bytes start starts at next r.comes.stands does.1 in
+        let few = r.comes.few in
+        let moves = n.1 in
+        record {
+          context = does.0;
+          stands = n.0;
+          few = omega (arith, few, moves);
+          goes_on = λ found m g.
+              let e : before + suc m ≡ before + 1 + m = omega arith in
+              rw (← e) (r.comes.goes_on found (suc m) (goes_on at next found m does.1 g));
+        }
+
+    -- an entry that halts
+    pub halts_soon : (leaf : ℕ) (used : MatchUse) → entry ≡ first_halting used + leaf → leaf < 268435456 → Tried code bytes start (matched leaf stop) (before + 1) × IsUse code leaf used
+    halts_soon leaf used is small =
+        let sees : Sees code bytes start r.state r.offset stop (Halts (record { 0 = leaf }) used) = r.sees (Halts (record { 0 = leaf }) used) (is, small) in
+        let does = sees.0 r.comes.context in
+        let few = r.comes.few in
+        let past = r.past in
+        let within = r.within in (
+          record {
+            tries = r.comes.goes_on (matched leaf stop) 1 (acts_on at (Some (leaf, stop)) stop (matched leaf stop) does refl);
+            within = stands_match code sound bytes start starts at (Some (leaf, stop)) stop r.comes.stands does;
+            few = omega (arith, few, past, within);
+          },
+          sees.1,
+        )
+
+    -- an entry that closes
+    pub closes_soon : (leaf : ℕ) (used : MatchUse) → entry ≡ first_closing used + leaf → leaf < 268435456 → Tried code bytes start (matched leaf (stop + 1)) (before + 2) × IsUse code leaf used
+    closes_soon leaf used is small =
+        let sees : Sees code bytes start r.state r.offset stop (Closes (record { 0 = leaf }) used) = r.sees (Closes (record { 0 = leaf }) used) (is, small) in
+        let does = sees.0 r.comes.context in
+        let next : Stand = record { state = does.0; offset = stop + 1; context = does.1 } in
+        let n = stands_next code sound bytes start starts at next r.comes.stands does.2 in
+        let few = r.comes.few in
+        let past = r.past in
+        let m = stands_match code sound bytes start starts next (Some (leaf, stop + 1)) (stop + 1) n.0 does.3 in
+        let within = m.2 in (
+          record {
+            tries = r.comes.goes_on (matched leaf (stop + 1)) 2
+                (goes_on at next (matched leaf (stop + 1)) 1 does.2 (acts_on next (Some (leaf, stop + 1)) (stop + 1) (matched leaf (stop + 1)) does.3 refl));
+            within = m;
+            few = omega (arith, few, past, within);
+          },
+          sees.1,
+        )

@@ -1,0 +1,13 @@
+use Rattle.std.proofs.Common.{◌-◌, ◌≤◌, length}
+use Rattle.logos_machine.specs.inside.Looks.{Comes}
+use Rattle.logos_machine.proofs.machine.walk.walk.Given as goal
+
+-- what goes on from here is the whole try
+abbrev pub invariant-loop-at : goal.invariant-loop-at
+invariant-loop-at l = record {
+  comes : Comes l.code l.input l.start l.state l.at l.before;
+  within : l.at ≤ length l.input;
+}
+
+abbrev pub decreases-loop-at : goal.decreases-loop-at
+decreases-loop-at l = length l.input - l.at

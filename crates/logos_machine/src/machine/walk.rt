@@ -1,0 +1,145 @@
+//! The fast way of a try: a look at an entry for each byte.
+ghost use Rattle.std.specs.Prelude.{◌<◌, ◌≤◌, length, slice_index_or};
+ghost use Rattle.logos_code.specs.CodeView.{state_at};
+ghost use Rattle.logos_code.specs.Headline.{IsSound};
+ghost use Rattle.logos_code.specs.Rows.{IsEntry};
+ghost use Rattle.logos_machine.specs.inside.Looks.{Reaches, LooksAhead, IsOutcome};
+
+use super::attempt::{Found, attempt_with_marks};
+use super::fast_loop::stop;
+use logos_code::code::Code;
+use logos_code::code::rows::{ASKS, ASKS_AFTER, CLOSES, HALTS, LEAVES, SHUTS, STAYS, UNSAID};
+use logos_hir::leaf::LeafId;
+
+/// What a try finds. The numbers after leaves are the end of the match and how many states were entered.
+#[derive(Clone, Copy)]
+pub(super) enum Outcome {
+    /// A match up to this offset that is skipped.
+    Skips(usize),
+    /// A match that is a token.
+    Emits(LeafId, usize, usize),
+    /// A match that may be up to a callback.
+    Asks(LeafId, usize, usize),
+    /// No match. The error ends at this offset, after so many states.
+    Fails(usize, usize),
+    /// The end of the input, after so many states.
+    Ends(usize),
+}
+
+/// Returns what is found from a place of the input on.
+#[inline(always)]
+pub(super) fn attempt(code: &Code, input: &[u8], start: usize) -> Outcome
+    requires { start ≤ length input.now }
+    ensures { IsOutcome code.now input.now start result }
+{
+    if start >= input.len() {
+        return attempt_slowly(code, input, start);
+    }
+    let first = code.first_entry(input[start]);
+    if first >= CLOSES && first < SHUTS {
+        return Outcome::Emits(LeafId((first - CLOSES) as usize), start + 1, 2);
+    }
+    if first >= STAYS {
+        return end_of(code, input, start, (first, start, 0));
+    }
+    let last = walk(code, input, start, first);
+    end_of(code, input, start, last)
+}
+
+/// Returns what is found from a place on by a try that keeps the marks passed. Only that try is called out of line: its
+/// result is in memory, and this one is made anew from it, so that the compiler can keep it in registers.
+#[inline(always)]
+fn attempt_slowly(code: &Code, input: &[u8], start: usize) -> Outcome
+    requires { start ≤ length input.now }
+    ensures { IsOutcome code.now input.now start result }
+{
+    match attempt_with_marks(code, input, start) {
+        (Found::Ended, steps) => Outcome::Ends(steps),
+        (Found::Matched(leaf, to), steps) => Outcome::Asks(leaf, to, steps),
+        (Found::Failed(to), steps) => Outcome::Fails(to, steps),
+    }
+}
+
+/// Returns what a try finds that ends with this entry, where and after so many states.
+#[inline(always)]
+fn end_of(code: &Code, input: &[u8], start: usize, last: (u32, usize, usize)) -> Outcome
+    requires sound { IsSound code.now }
+    requires start { start ≤ length input.now }
+    requires reaches { Reaches code.now input.now start last.0 last.1 last.2 }
+    requires ends { 536870912 ≤ last.0 }
+    ensures { IsOutcome code.now input.now start result }
+{
+    let (entry, stop, before) = last;
+    if entry < HALTS {
+        return Outcome::Skips(stop);
+    }
+    if entry < CLOSES {
+        return Outcome::Emits(LeafId((entry - HALTS) as usize), stop, before + 1);
+    }
+    if entry < SHUTS {
+        return Outcome::Emits(LeafId((entry - CLOSES) as usize), stop + 1, before + 2);
+    }
+    if entry < ASKS {
+        return Outcome::Skips(stop + 1);
+    }
+    if entry < ASKS_AFTER {
+        return Outcome::Asks(LeafId((entry - ASKS) as usize), stop, before + 1);
+    }
+    if entry < UNSAID {
+        return Outcome::Asks(LeafId((entry - ASKS_AFTER) as usize), stop + 1, before + 2);
+    }
+    attempt_slowly(code, input, start)
+}
+
+/// Returns the last entry of a try, where its byte is, and how many states were entered before the one that has it.
+#[inline(always)]
+fn walk(code: &Code, input: &[u8], start: usize, first: u32) -> (u32, usize, usize)
+    requires sound { IsSound code.now }
+    requires start { start < length input.now }
+    requires leads { first < 268435456 }
+    requires reaches { Reaches code.now input.now start first start 0 }
+    ensures reaches { Reaches code.now input.now start result.0 result.1 result.2 }
+    ensures ends { 536870912 ≤ result.0 }
+{
+    let mut state = first as usize;
+    let mut at = start + 1;
+    let mut before = 1;
+    while at < input.len() {
+        let entry = code.entry(state, input[at]);
+        if entry < STAYS {
+            state = entry as usize;
+            at += 1;
+            before += 1;
+            continue;
+        }
+        if entry >= LEAVES {
+            return (entry, at, before);
+        }
+        let (later, stop) = look_far(code, input, state, at, entry);
+        if later >= STAYS {
+            return (later, stop, before);
+        }
+        state = later as usize;
+        at = stop + 1;
+        before += 1;
+    }
+    (code.last_entry(state), at, before)
+}
+
+/// Returns the entry after a fast loop, and where its byte is.
+#[inline(always)]
+fn look_far(code: &Code, input: &[u8], state: usize, at: usize, entry: u32) -> (u32, usize)
+    requires sound { IsSound code.now }
+    requires state { state < length code.now.states }
+    requires at { at < length input.now }
+    requires stays { (268435456 ≤ entry) × (entry < 536870912) }
+    requires entry { IsEntry code.now (state_at code.now state)
+        (slice_index_or input.now at 0) entry }
+    ensures { LooksAhead code.now input.now state at result.0 result.1 }
+{
+    let stop = stop(code, (entry - STAYS) as usize, input, at + 1);
+    if stop >= input.len() {
+        return (code.last_entry(state), stop);
+    }
+    (code.entry(state, input[stop]), stop)
+}

@@ -1,0 +1,5 @@
+pub mod Codes
+pub mod Pages
+pub mod Places
+pub mod Faults
+pub mod Stops

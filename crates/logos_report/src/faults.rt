@@ -1,0 +1,280 @@
+//! The faults of a file.
+ghost use Rattle.std.specs.Prelude.{◌≡◌, ◌∷◌, ◌++◌, [], decimal, if◌then◌else◌, string_bytes};
+ghost use Rattle.std.specs.List.{count_by, flat_map};
+ghost use Rattle.logos_token.specs.FaultNames.{name_of};
+ghost use Rattle.logos_token.specs.FaultView.{fault_of, faults_of};
+ghost use Rattle.logos_report.specs.Codes.{is_error};
+ghost use Rattle.logos_report.specs.Faults.{fault_texts, faults_texts, first_line, head_texts};
+ghost use Rattle.logos_report.specs.Faults.{is_fault_error};
+ghost use Rattle.logos_report.specs.Pages.{Shows};
+
+use crate::frame::{push_frame, push_place};
+use crate::help::help_for;
+use crate::page::{Page, Style};
+use crate::source::Part;
+use logos_token::error::{Errors, FaultCode, SpannedError};
+
+/// Pushes the faults of a part of a file, in order. For each, the name of its code, the first line
+/// of its message and its place in the file stand in what is pushed.
+pub fn push_faults(page: &mut Page, part: Part<'_, '_>, errors: &Errors)
+    ensures { Shows (faults_texts part.entry.source.now part.entry.offset errors.now) page.old page.new }
+{
+    push_all(page, part, errors.list());
+}
+
+/// Pushes these faults.
+fn push_all(page: &mut Page, part: Part<'_, '_>, faults: &[SpannedError])
+    ensures { Shows (faults_texts part.entry.source.now part.entry.offset (faults_of faults.now))
+        page.old page.new }
+{
+    for fault in faults {
+        push_fault(page, part, faults, fault);
+    }
+}
+
+/// Returns how many of these faults are errors. `Previous` is the place of an earlier definition that
+/// an error speaks of.
+pub fn count_errors(errors: &Errors) -> usize
+    ensures { result ≡ count_by is_fault_error errors.now }
+{
+    count_all(errors.list())
+}
+
+/// Returns how many of these faults are errors.
+fn count_all(faults: &[SpannedError]) -> usize
+    ensures { result ≡ count_by is_fault_error (faults_of faults.now) }
+{
+    let mut count = 0;
+    for fault in faults {
+        count += usize::from(is_error(fault.code));
+    }
+    count
+}
+
+/// Returns whether a fault with this code is an error.
+fn is_error(code: FaultCode) -> bool
+    ensures { result ≡ is_error code }
+{
+    !matches!(code, FaultCode::Previous)
+}
+
+/// Pushes the line that says how many errors there are.
+pub fn push_summary(page: &mut Page, count: usize)
+    ensures { Shows (decimal count ∷ []) page.old page.new }
+{
+    page.paint(Style::Error, "error");
+    page.begin(Style::Strong);
+    push_count(page, count);
+    page.end();
+    page.push("\n");
+}
+
+/// Pushes how many errors there are.
+fn push_count(page: &mut Page, count: usize)
+    ensures { Shows (decimal count ∷ []) page.old page.new }
+{
+    page.push(": aborting due to ");
+    page.push_number(count);
+    page.push(if count == 1 {
+        " previous error"
+    } else {
+        " previous errors"
+    });
+}
+
+/// Pushes a fault, which is one of `faults`.
+fn push_fault(page: &mut Page, part: Part<'_, '_>, faults: &[SpannedError], fault: &SpannedError)
+    ensures { Shows (fault_texts part.entry.source.now part.entry.offset (fault_of fault.now))
+        page.old page.new }
+{
+    push_head(page, fault);
+    let width = push_frame(page, part, fault.span, style_of(fault.code));
+    push_notes(
+        page,
+        Shown {
+            part,
+            faults,
+            fault,
+            width,
+        },
+    );
+}
+
+/// Pushes the code of a fault and the first line of its message.
+fn push_head(page: &mut Page, fault: &SpannedError)
+    ensures { Shows (head_texts (fault_of fault.now)) page.old page.new }
+{
+    push_code(page, fault.code);
+    page.begin(Style::Strong);
+    page.push(": ");
+    page.push(first_line(fault.message.as_str()));
+    page.end();
+    page.push("\n");
+}
+
+/// Pushes the code of a fault.
+fn push_code(page: &mut Page, code: FaultCode)
+    ensures { Shows (if is_error code then name_of code ∷ [] else []) page.old page.new }
+{
+    if is_error(code) {
+        page.begin(Style::Error);
+        page.push("error[");
+        page.push(code.name());
+        page.push("]");
+        page.end();
+    } else {
+        page.paint(Style::Frame, "note");
+    }
+}
+
+/// Returns the style of the carets of a fault.
+fn style_of(code: FaultCode) -> Style {
+    if is_error(code) {
+        Style::Error
+    } else {
+        Style::Frame
+    }
+}
+
+/// Returns a text up to its first LF.
+fn first_line(text: &str) -> &str
+    ensures { result.now ≡ first_line text.now }
+{
+    match text.split_once('\n') {
+        Some(parts) => parts.0,
+        None => text,
+    }
+}
+
+/// A fault that was shown with its place. What belongs to it follows.
+#[derive(Clone, Copy)]
+struct Shown<'f, 'p, 't> {
+    part: Part<'p, 't>,
+    /// The faults of this part of the file.
+    faults: &'f [SpannedError],
+    /// The one that was shown.
+    fault: &'f SpannedError,
+    /// How wide the column of line numbers is.
+    width: usize,
+}
+
+/// Pushes the notes and the help of a fault, and an empty line.
+fn push_notes(page: &mut Page, shown: Shown<'_, '_, '_>)
+    ensures { Shows [] page.old page.new }
+{
+    push_other_lines(page, shown);
+    push_other_place(page, shown);
+    push_help(page, shown);
+    page.push("\n");
+}
+
+/// Begins a line under a fault.
+fn push_note(page: &mut Page, width: usize, kind: &str, text: &str)
+    ensures { Shows [] page.old page.new }
+{
+    push_note_mark(page, width);
+    page.paint(Style::Strong, kind);
+    page.push(": ");
+    page.push(text);
+}
+
+/// Pushes the mark of a line under a fault.
+fn push_note_mark(page: &mut Page, width: usize)
+    ensures { Shows [] page.old page.new }
+{
+    page.push_times(" ", width.saturating_add(1));
+    page.paint(Style::Frame, "=");
+    page.push(" ");
+}
+
+/// Pushes the second place of a fault, if it has one.
+fn push_other_place(page: &mut Page, shown: Shown<'_, '_, '_>)
+    ensures { Shows [] page.old page.new }
+{
+    if let Some(also) = shown.fault.also {
+        push_note(page, shown.width, "note", "see also ");
+        push_place(page, shown.part, also.from);
+        page.push("\n");
+    }
+}
+
+/// Pushes what to do about a fault, if there is something to say.
+fn push_help(page: &mut Page, shown: Shown<'_, '_, '_>)
+    ensures { Shows [] page.old page.new }
+{
+    if let Some(help) = help_for(shown.fault.code) {
+        push_note(page, shown.width, "help", help);
+        page.push("\n");
+    }
+}
+
+/// Pushes the lines of a message after its first one. The other patterns of an ambiguity get their
+/// places.
+fn push_other_lines(page: &mut Page, shown: Shown<'_, '_, '_>)
+    ensures { Shows [] page.old page.new }
+{
+    let mut next = 0;
+    for line in shown.fault.message.as_str().split('\n').skip(1) {
+        next = push_other_line(page, shown, line, next);
+    }
+}
+
+/// Pushes a line of a message. Faults from `next` on may be those of other patterns of an ambiguity.
+/// Returns where to look for the next one.
+fn push_other_line(page: &mut Page, shown: Shown<'_, '_, '_>, line: &str, next: usize) -> usize
+    ensures { Shows [] page.old page.new }
+{
+    if line.is_empty() {
+        return next;
+    }
+    let Some(name) = line.strip_prefix("  ") else {
+        push_note(page, shown.width, "note", line);
+        page.push("\n");
+        return next;
+    };
+    push_note(page, shown.width, "note", name);
+    let other = find_pattern(shown, name, next);
+    push_pattern_place(page, shown, other);
+    other.saturating_add(1)
+}
+
+/// Pushes the place of the fault with this number, if there is one, and ends the line.
+fn push_pattern_place(page: &mut Page, shown: Shown<'_, '_, '_>, number: usize)
+    ensures { Shows [] page.old page.new }
+{
+    if let Some(other) = shown.faults.get(number) {
+        page.push(" at ");
+        push_place(page, shown.part, other.span.from);
+    }
+    page.push("\n");
+}
+
+/// Returns the number, at least `from`, of another fault that is an ambiguity of the pattern with
+/// this name, or the number of faults if there is none.
+fn find_pattern(shown: Shown<'_, '_, '_>, name: &str, from: usize) -> usize {
+    for number in from..shown.faults.len() {
+        if is_other_ambiguity(&shown.faults[number], shown.fault, name) {
+            return number;
+        }
+    }
+    shown.faults.len()
+}
+
+/// Returns whether a fault is at another place than `own`, and an ambiguity of the pattern with this
+/// name.
+fn is_other_ambiguity(fault: &SpannedError, own: &SpannedError, name: &str) -> bool {
+    let is_other = fault.span.from != own.span.from;
+    let is_ambiguity = matches!(fault.code, FaultCode::Disambiguation);
+    is_other && is_ambiguity && names_pattern(fault.message.as_str(), name)
+}
+
+/// Returns whether the message of an ambiguity begins with the pattern with this name.
+fn names_pattern(message: &str, name: &str) -> bool {
+    let Some(rest) = message.strip_prefix("The pattern ") else {
+        return false;
+    };
+    match rest.strip_prefix(name) {
+        Some(rest) => rest.starts_with(" can match simultaneously"),
+        None => false,
+    }
+}

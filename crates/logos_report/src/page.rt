@@ -1,0 +1,147 @@
+//! A text that grows.
+ghost use Rattle.std.specs.Prelude.{◌≡◌, ◌↔◌, [], ◌∷◌, true, false, IfOk, IsOk, IsTrue};
+ghost use Rattle.std.specs.Prelude.{decimal, encode_utf8, string_bytes};
+ghost use Rattle.logos_report.specs.Pages.{Gains, Shows, times};
+
+use std::alloc::{AllocError, Global};
+use std::marker::Model;
+
+/// How a part of a text looks if there are colors.
+#[derive(Clone, Copy, Debug, PartialEq, Eq)]
+pub enum Style {
+    /// An error: bold and red.
+    Error,
+    /// A warning: bold and yellow.
+    Warning,
+    /// What surrounds a line of a file: bold and blue.
+    Frame,
+    /// Bold.
+    Strong,
+}
+
+/// A text that grows. It notes if memory runs out, so only `finish` can fail.
+#[derive(Drop)]
+pub struct Page {
+    text: String,
+    is_colored: bool,
+    is_whole: bool,
+}
+
+impl Model for Page {
+    ghost use Rattle.std.specs.Prelude.{string_bytes};
+    ghost use Rattle.logos_report.specs.Pages.{PageValue};
+
+    ghost Value = { PageValue };
+
+    ghost view = { λ page. record {
+      text = string_bytes page.text;
+      is_colored = page.is_colored;
+      is_whole = page.is_whole;
+    } };
+}
+
+impl Page {
+    /// Returns an empty page, with or without colors.
+    pub fn new(alloc: Global, is_colored: bool) -> Page
+        ensures { result ≡ record { text = []; is_colored = is_colored; is_whole = true } }
+    {
+        Page {
+            text: String::new(alloc),
+            is_colored,
+            is_whole: true,
+        }
+    }
+
+    /// Pushes a text.
+    pub fn push(&mut self, text: &str)
+        ensures { Gains text.now self.old self.new }
+    {
+        if self.text.push_str(text).is_err() {
+            self.is_whole = false;
+        }
+    }
+
+    /// Pushes a character.
+    pub fn push_char(&mut self, character: char)
+        ensures { Gains (encode_utf8 character) self.old self.new }
+    {
+        if self.text.push(character).is_err() {
+            self.is_whole = false;
+        }
+    }
+
+    /// Pushes a number.
+    pub fn push_number(&mut self, number: usize)
+        ensures { Gains (decimal number) self.old self.new }
+    {
+        if write!(self.text, "{number}").is_err() {
+            self.is_whole = false;
+        }
+    }
+
+    /// Pushes a text `count` times.
+    pub fn push_times(&mut self, text: &str, count: usize)
+        ensures { Gains (times count text.now) self.old self.new }
+    {
+        let mut pushed = 0;
+        while pushed < count {
+            self.push(text);
+            pushed += 1;
+        }
+    }
+
+    /// Begins a part of this style.
+    pub fn begin(&mut self, style: Style)
+        ensures shows { Shows [] self.old self.new }
+        ensures plain { self.old.is_colored ≡ false → self.new ≡ self.old }
+    {
+        if self.is_colored {
+            self.push(style_text(style));
+        }
+    }
+
+    /// Ends a part that has a style.
+    pub fn end(&mut self)
+        ensures shows { Shows [] self.old self.new }
+        ensures plain { self.old.is_colored ≡ false → self.new ≡ self.old }
+    {
+        if self.is_colored {
+            self.push("\u{1b}[0m");
+        }
+    }
+
+    /// Pushes a text of this style.
+    pub fn paint(&mut self, style: Style, text: &str)
+        ensures { Shows (text.now ∷ []) self.old self.new }
+    {
+        self.begin(style);
+        self.push(text);
+        self.end();
+    }
+
+    /// Returns the whole text.
+    ///
+    /// # Errors
+    ///
+    /// Returns `AllocError` if memory ran out for any part of it.
+    pub fn finish(self) -> Result<String, AllocError>
+        ensures whole { IsOk result ↔ IsTrue self.is_whole }
+        ensures text { IfOk result (λ text. string_bytes text ≡ self.text) }
+    {
+        if self.is_whole {
+            Ok(self.text)
+        } else {
+            Err(AllocError)
+        }
+    }
+}
+
+/// Returns what begins a part of this style on a terminal.
+fn style_text(style: Style) -> &'static str {
+    match style {
+        Style::Error => "\u{1b}[1;31m",
+        Style::Warning => "\u{1b}[1;33m",
+        Style::Frame => "\u{1b}[1;34m",
+        Style::Strong => "\u{1b}[1m",
+    }
+}

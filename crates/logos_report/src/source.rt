@@ -1,0 +1,93 @@
+//! Files whose places are shown.
+ghost use Rattle.std.specs.Prelude.{◌≡◌, IfOk};
+ghost use Rattle.logos_lines.specs.Places.{place_at};
+
+use logos_lines::{LineIndex, Position};
+use std::alloc::{AllocError, Global};
+use std::marker::Model;
+
+/// A part of a file. Its offsets count bytes from where it begins.
+#[derive(Clone, Copy)]
+pub struct Part<'p, 't> {
+    /// The whole file.
+    pub source: &'p Source<'t>,
+    /// Where the part begins in the file, in bytes.
+    pub offset: usize,
+}
+
+impl Part<'_, '_> {
+    ghost use Rattle.std.specs.Prelude.{◌≡◌};
+    ghost use Rattle.logos_lines.specs.Places.{place_at};
+    ghost use Rattle.logos_report.specs.Places.{in_file};
+
+    /// Returns the line and the column in the file of an offset of the part.
+    pub fn position(self, offset: usize) -> Position
+        ensures { result ≡ place_at self.entry.source.now.text
+            (in_file self.entry.offset offset) }
+    {
+        self.source.position(offset.saturating_add(self.offset))
+    }
+}
+
+/// A file: its path, and its text with the index of its lines.
+#[derive(Drop)]
+pub struct Source<'t> {
+    path: &'t str,
+    text: &'t str,
+    index: LineIndex<'t>,
+}
+
+impl<'t> Model for Source<'t> {
+    ghost use Rattle.std.specs.Prelude.{◌≡◌};
+    ghost use Rattle.logos_report.specs.Places.{SourceValue};
+
+    ghost Value = { SourceValue };
+
+    ghost view = { λ source. record { path = source.path.now; text = source.text.now } };
+
+    ghost invariant = { λ source. source.index ≡ source.text.now };
+}
+
+impl<'t> Source<'t> {
+    /// Returns a file with this path and text.
+    ///
+    /// # Errors
+    ///
+    /// Returns `AllocError` if memory runs out.
+    pub fn new(alloc: Global, path: &'t str, text: &'t str) -> Result<Source<'t>, AllocError>
+        ensures { IfOk result
+            (λ source. source ≡ record { path = path.now; text = text.now }) }
+    {
+        let index = LineIndex::new(alloc, text)?;
+        Ok(Source { path, text, index })
+    }
+
+    /// Returns the path of the file.
+    pub fn path(&self) -> &'t str
+        ensures { result.now ≡ self.now.path }
+    {
+        self.path
+    }
+
+    /// Returns the text of the file.
+    pub fn text(&self) -> &'t str
+        ensures { result.now ≡ self.now.text }
+    {
+        self.text
+    }
+
+    /// Returns the line and the column of an offset in bytes.
+    pub fn position(&self, offset: usize) -> Position
+        ensures { result ≡ place_at self.now.text offset }
+    {
+        self.index.line_column(offset)
+    }
+
+    /// Returns the text of a line, or an empty one if the file has no such line.
+    pub fn line(&self, line: usize) -> &'t str {
+        match self.index.line_text(line) {
+            Some(text) => text,
+            None => "",
+        }
+    }
+}

@@ -1,0 +1,106 @@
+//! How many items there were of each kind.
+
+use crate::lines::push_number;
+use logos_codegen::code::CodeLeaf;
+use logos_codegen::leaf::VariantKind;
+use std::alloc::{AllocError, Global};
+
+/// How many items there were of each leaf, and how many errors.
+#[derive(Drop)]
+pub(crate) struct Counts {
+    by_leaf: Vec<usize>,
+    errors: usize,
+}
+
+impl Counts {
+    /// No items of so many leaves.
+    pub(crate) fn new(alloc: Global, leaves: usize) -> Result<Counts, AllocError> {
+        let mut by_leaf = Vec::new(alloc);
+        for _ in 0..leaves {
+            by_leaf.push(0)?;
+        }
+        Ok(Counts { by_leaf, errors: 0 })
+    }
+
+    /// Counts an item of a leaf.
+    #[inline(always)]
+    pub(crate) fn count_token(&mut self, leaf: usize) {
+        if let Some(count) = self.by_leaf.get_mut(leaf) {
+            *count = count.saturating_add(1);
+        }
+    }
+
+    /// Counts an error.
+    pub(crate) fn count_error(&mut self) {
+        self.errors = self.errors.saturating_add(1);
+    }
+
+    /// Adds a line for each variant with the number of its items, and one with that of errors. The
+    /// leaves of a variant follow one another.
+    pub(crate) fn push_lines(
+        &self,
+        block: &mut Vec<u8>,
+        leaves: &[CodeLeaf<'_>],
+    ) -> Result<(), AllocError> {
+        block.push(b'\n')?;
+        let mut sum = 0;
+        for number in 0..leaves.len() {
+            sum = self.push_leaf(block, leaves, number, sum)?;
+        }
+        push_count(block, "errors", self.errors)
+    }
+
+    /// Adds the items of a leaf to those of the leaves of its variant before it, and returns the sum.
+    /// At the last leaf of a variant it adds the line of the variant instead, and returns 0.
+    fn push_leaf(
+        &self,
+        block: &mut Vec<u8>,
+        leaves: &[CodeLeaf<'_>],
+        number: usize,
+        before: usize,
+    ) -> Result<usize, AllocError> {
+        let Some(name) = name_at(leaves, number) else {
+            return Ok(0);
+        };
+        let sum = before.saturating_add(self.of_leaf(number));
+        if name_at(leaves, number.saturating_add(1)) == Some(name) {
+            return Ok(sum);
+        }
+        push_count(block, name, sum)?;
+        Ok(0)
+    }
+
+    /// Returns how many items there were of a leaf.
+    fn of_leaf(&self, number: usize) -> usize {
+        match self.by_leaf.get(number) {
+            Some(count) => *count,
+            None => 0,
+        }
+    }
+}
+
+/// Returns the name of the variant of a leaf; `None` for a skip, and where there is no such leaf.
+pub(crate) fn name_at<'l>(leaves: &'l [CodeLeaf<'_>], number: usize) -> Option<&'l str> {
+    match leaves.get(number) {
+        Some(leaf) => variant_of(&leaf.kind),
+        None => None,
+    }
+}
+
+/// Returns the name of a variant.
+fn variant_of<'l>(kind: &'l VariantKind<'_>) -> Option<&'l str> {
+    match kind {
+        VariantKind::Unit(name) => Some(name.text),
+        VariantKind::Value(name, _) => Some(name.text),
+        VariantKind::Skip => None,
+    }
+}
+
+/// Adds a line with a name and a number.
+pub(crate) fn push_count(block: &mut Vec<u8>, name: &str, count: usize) -> Result<(), AllocError> {
+    block.extend_from_slice(name.as_bytes())?;
+    block.extend_from_slice(b": ")?;
+    push_number(block, count)?;
+    block.push(b'\n')?;
+    Ok(())
+}

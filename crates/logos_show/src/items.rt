@@ -1,0 +1,214 @@
+//! The items of an input, a line each.
+
+ghost use Rattle.std.specs.Prelude.{IfErr};
+ghost use Rattle.logos_show.specs.Orders.{IsNoMisuse};
+
+use crate::counts::{Counts, name_at, push_count};
+use crate::lines::{LINE, push_item};
+use logos_codegen::code::{Code, CodeLeaf};
+use logos_codegen::leaf::LeafId;
+use logos_codegen::machine::{Action, Item, Lexer};
+use logos_lines::Cursor;
+use logos_report::Stop;
+use std::alloc::{AllocError, Global};
+use std::io::Write;
+use std::time::{Clock, Duration};
+
+/// How many bytes a block has at least when it is written.
+const BLOCK: usize = 65_536;
+
+/// What names an error in its line.
+const ERROR: &[u8] = b"  <error>  \"";
+
+/// Where the lines of items go.
+#[derive(Drop)]
+struct Lines {
+    /// The lines that are not written yet.
+    block: Vec<u8>,
+    /// Where a short line is put together.
+    line: [u8; LINE],
+    counts: Counts,
+    /// For each leaf the part of a line between the place and the text: its variant, with what
+    /// stands around it.
+    heads: Vec<Vec<u8>>,
+}
+
+/// Writes a line for each item of an input, and then what was counted.
+///
+/// # Errors
+/// Returns `NotUtf8` if the lexer reads text and the input is not UTF-8, `Output` if writing fails,
+/// and `Memory` if memory runs out.
+pub(crate) fn write_items<O: Write, C: Clock>(
+    alloc: Global,
+    code: &Code<'_>,
+    input: &[u8],
+    clock: &C,
+    out: &mut O,
+) -> Result<(), Stop<'static>>
+    ensures { IfErr result IsNoMisuse }
+{
+    let mut lines = Lines {
+        block: Vec::with_capacity(alloc, BLOCK + BLOCK / 16)?,
+        line: [0; LINE],
+        counts: Counts::new(alloc, code.leaves().len())?,
+        heads: heads_of(alloc, code.leaves())?,
+    };
+    let start = now(clock);
+    write_all(code, input, &mut lines, out)?;
+    let passed = milliseconds(start, now(clock));
+    lines.counts.push_lines(&mut lines.block, code.leaves())?;
+    push_count(&mut lines.block, "bytes", input.len())?;
+    if let Some(passed) = passed {
+        push_count(&mut lines.block, "milliseconds", passed)?;
+    }
+    write_block(&mut lines.block, out)?;
+    flush(out)
+}
+
+/// Returns the heads of the lines of these leaves.
+fn heads_of(alloc: Global, leaves: &[CodeLeaf<'_>]) -> Result<Vec<Vec<u8>>, AllocError> {
+    let mut heads = Vec::new(alloc);
+    for number in 0..leaves.len() {
+        heads.push(head_of(alloc, name_at(leaves, number))?)?;
+    }
+    Ok(heads)
+}
+
+/// Returns the head of the lines of a variant. A skip has no lines.
+fn head_of(alloc: Global, name: Option<&str>) -> Result<Vec<u8>, AllocError> {
+    let mut head = Vec::new(alloc);
+    if let Some(name) = name {
+        head.extend_from_slice(b"  ")?;
+        head.extend_from_slice(name.as_bytes())?;
+        head.extend_from_slice(b"  \"")?;
+    }
+    Ok(head)
+}
+
+/// Returns the time, if there is a clock.
+fn now<C: Clock>(clock: &C) -> Option<Duration> {
+    match clock.monotonic() {
+        Ok(time) => Some(time),
+        Err(_) => None,
+    }
+}
+
+/// Returns the milliseconds between two times.
+fn milliseconds(start: Option<Duration>, end: Option<Duration>) -> Option<usize> {
+    let passed = end?.checked_sub(start?)?;
+    match usize::try_from(passed.as_millis()) {
+        Ok(milliseconds) => Some(milliseconds),
+        Err(_) => None,
+    }
+}
+
+/// Writes a line for each item of an input, by blocks. The last block is left to the caller.
+fn write_all<O: Write>(
+    code: &Code<'_>,
+    input: &[u8],
+    lines: &mut Lines,
+    out: &mut O,
+) -> Result<(), Stop<'static>>
+    ensures { IfErr result IsNoMisuse }
+{
+    let emit = |_leaf: LeafId, _slice: &[u8]| Action::Emit;
+    match Lexer::new_bytes(code, input, emit) {
+        Ok(lexer) => {
+            let mut lexer = lexer;
+            write_lexed(&mut lexer, input, lines, out)
+        }
+        Err(error) => Err(Stop::NotUtf8 {
+            valid_up_to: error.valid_up_to,
+        }),
+    }
+}
+
+/// Writes a line for each item that a lexer still gives, by blocks.
+fn write_lexed<C: Fn(LeafId, &[u8]) -> Action, O: Write>(
+    lexer: &mut Lexer<'_, '_, '_, C>,
+    input: &[u8],
+    lines: &mut Lines,
+    out: &mut O,
+) -> Result<(), Stop<'static>>
+    requires { C.IsAlwaysCallable lexer.old.callback }
+    ensures { IfErr result IsNoMisuse }
+{
+    let mut cursor = Cursor::new(input);
+    while let Some(item) = lexer.next() {
+        add_item(lines, &mut cursor, item)?;
+        write_full(&mut lines.block, out)?;
+    }
+    Ok(())
+}
+
+/// Adds the line of an item, and counts it.
+#[inline(always)]
+fn add_item(lines: &mut Lines, cursor: &mut Cursor<'_>, item: Item<'_>) -> Result<(), AllocError> {
+    match item {
+        Item::Token { leaf, span, slice } => {
+            cursor.go_to(span.from);
+            lines.counts.count_token(leaf.0);
+            let head = head_at(&lines.heads, leaf.0);
+            push_item(
+                &mut lines.block,
+                &mut lines.line,
+                cursor.position(),
+                head,
+                slice,
+            )
+        }
+        Item::Error { span, slice, .. } => {
+            cursor.go_to(span.from);
+            lines.counts.count_error();
+            push_item(
+                &mut lines.block,
+                &mut lines.line,
+                cursor.position(),
+                ERROR,
+                slice,
+            )
+        }
+    }
+}
+
+/// Returns the head of the lines of a leaf.
+#[inline(always)]
+fn head_at(heads: &[Vec<u8>], leaf: usize) -> &[u8] {
+    match heads.get(leaf) {
+        Some(head) => head.as_slice(),
+        None => &[],
+    }
+}
+
+/// Writes a block that is full, and empties it.
+#[inline(always)]
+fn write_full<O: Write>(block: &mut Vec<u8>, out: &mut O) -> Result<(), Stop<'static>>
+    ensures { IfErr result IsNoMisuse }
+{
+    if block.len() < BLOCK {
+        return Ok(());
+    }
+    write_block(block, out)
+}
+
+/// Writes a block, and empties it.
+fn write_block<O: Write>(block: &mut Vec<u8>, out: &mut O) -> Result<(), Stop<'static>>
+    ensures { IfErr result IsNoMisuse }
+{
+    let written = out.write_all(block.as_slice());
+    block.clear();
+    match written {
+        Ok(()) => Ok(()),
+        Err(_) => Err(Stop::Output),
+    }
+}
+
+/// Flushes a writer, which may hold back what it is given until then.
+fn flush<O: Write>(out: &mut O) -> Result<(), Stop<'static>>
+    ensures { IfErr result IsNoMisuse }
+{
+    match out.flush() {
+        Ok(()) => Ok(()),
+        Err(_) => Err(Stop::Output),
+    }
+}

@@ -1,0 +1,201 @@
+//! The line of an item.
+
+ghost use Rattle.std.specs.Prelude.{◌≡◌, ◌<◌, ◌≤◌, ◌+◌, length};
+
+use itoa::write_digits;
+use logos_lines::Position;
+use std::alloc::AllocError;
+use std::str;
+
+/// How many characters of an item are shown.
+const SHOWN: usize = 60;
+
+/// The length in bytes of two numbers of 20 digits and a colon between them.
+const PLACE: usize = 41;
+
+/// The length in bytes of the longest head for which a line is put together at once.
+const HEAD: usize = 64;
+
+/// The length in bytes of the longest line that is put together at once: a place, a head, an escape
+/// of four bytes for each byte that is shown, a quote and a line end.
+pub(crate) const LINE: usize = 347;
+
+/// Adds the line of an item: its place, its head, which names it, and its text in quotes. A short
+/// line is put together in `line` first.
+#[inline(always)]
+pub(crate) fn push_item(
+    block: &mut Vec<u8>,
+    line: &mut [u8; LINE],
+    place: Position,
+    head: &[u8],
+    slice: &[u8],
+) -> Result<(), AllocError> {
+    let from = write_place(line, place);
+    if head.len() <= HEAD && slice.len() <= SHOWN && slice.is_ascii() {
+        let to = write_short(line, head, slice);
+        return block.extend_from_slice(&line[from..to]);
+    }
+    block.extend_from_slice(&line[from..PLACE])?;
+    block.extend_from_slice(head)?;
+    push_quoted(block, slice)?;
+    block.extend_from_slice(b"\n")
+}
+
+/// Writes a place as `line:column` so that it ends at `PLACE`, and returns where it begins.
+#[inline(always)]
+fn write_place(line: &mut [u8; LINE], place: Position) -> usize
+    ensures { result ≤ 41 }
+{
+    let end = write_digits(place.column as u64, line, PLACE);
+    let colon = end - 1;
+    line[colon] = b':';
+    write_digits(place.line as u64, line, colon)
+}
+
+/// Writes what follows the place of an item whose text is short and ASCII, and returns where it
+/// ends.
+#[inline(always)]
+fn write_short(line: &mut [u8; LINE], head: &[u8], slice: &[u8]) -> usize
+    requires head { length head.now ≤ 64 }
+    requires short { length slice.now ≤ 60 }
+    ensures after { 41 ≤ result }
+    ensures within { result ≤ 347 }
+{
+    let mut at = write_text(line, PLACE, head);
+    for byte in slice {
+        at = write_byte(line, at, *byte);
+    }
+    line[at] = b'"';
+    line[at + 1] = b'\n';
+    at + 2
+}
+
+/// Writes a text, and returns where it ends.
+#[inline(always)]
+fn write_text(line: &mut [u8], at: usize, text: &[u8]) -> usize
+    requires { at + length text.now ≤ length line.old }
+    ensures { result ≡ at + length text.now }
+{
+    let end = at + text.len();
+    line[at..end].copy_from_slice(text);
+    end
+}
+
+/// Writes a byte that stands for itself in quotes, or the escape of another one, and returns where
+/// that ends.
+#[inline(always)]
+fn write_byte(text: &mut [u8], at: usize, byte: u8) -> usize
+    requires { at + 4 ≤ length text.old }
+    ensures after { at ≤ result }
+    ensures within { result ≤ at + 4 }
+{
+    if is_plain(byte) {
+        text[at] = byte;
+        return at + 1;
+    }
+    write_escape(text, at, byte)
+}
+
+/// Returns whether a byte is a character of ASCII that stands for itself in quotes.
+#[inline(always)]
+fn is_plain(byte: u8) -> bool {
+    (b' ' <= byte) & (byte <= b'~') & (byte != b'"') & (byte != b'\\')
+}
+
+/// Writes the escape of a byte, and returns where it ends.
+fn write_escape(text: &mut [u8], at: usize, byte: u8) -> usize
+    requires { at + 4 ≤ length text.old }
+    ensures after { at ≤ result }
+    ensures within { result ≤ at + 4 }
+{
+    text[at] = b'\\';
+    if let Some(letter) = letter_of(byte) {
+        text[at + 1] = letter;
+        return at + 2;
+    }
+    text[at + 1] = b'x';
+    text[at + 2] = hexadecimal_digit(byte / 16);
+    text[at + 3] = hexadecimal_digit(byte % 16);
+    at + 4
+}
+
+/// Returns what follows the backslash in the escape of a byte that has one of two bytes.
+fn letter_of(byte: u8) -> Option<u8> {
+    match byte {
+        b'"' | b'\\' => Some(byte),
+        b'\n' => Some(b'n'),
+        b'\r' => Some(b'r'),
+        b'\t' => Some(b't'),
+        _ => None,
+    }
+}
+
+/// Returns the digit of a number below 16.
+fn hexadecimal_digit(number: u8) -> u8
+    requires { number < 16 }
+{
+    if number < 10 {
+        b'0' + number
+    } else {
+        b'A' + (number - 10)
+    }
+}
+
+/// Adds a number in decimal.
+pub(crate) fn push_number(block: &mut Vec<u8>, number: usize) -> Result<(), AllocError> {
+    let mut digits = [0; 20];
+    let from = write_digits(number as u64, &mut digits, 20);
+    block.extend_from_slice(&digits[from..])
+}
+
+/// Adds what is shown of an item, and the closing quote.
+fn push_quoted(block: &mut Vec<u8>, slice: &[u8]) -> Result<(), AllocError> {
+    match str::from_utf8(slice) {
+        Ok(text) => push_text(block, text),
+        Err(_) => push_bytes(block, slice),
+    }
+}
+
+/// Adds what is shown of a text, and the closing quote.
+fn push_text(block: &mut Vec<u8>, text: &str) -> Result<(), AllocError> {
+    for character in text.chars().take(SHOWN) {
+        push_character(block, character)?;
+    }
+    push_end(block, text.chars().count(), " characters")
+}
+
+/// Adds what is shown of bytes that are not UTF-8, and the closing quote.
+fn push_bytes(block: &mut Vec<u8>, slice: &[u8]) -> Result<(), AllocError> {
+    for byte in slice.iter().take(SHOWN) {
+        push_byte(block, *byte)?;
+    }
+    push_end(block, slice.len(), " bytes")
+}
+
+/// Adds the closing quote, and the length if not all is shown.
+fn push_end(block: &mut Vec<u8>, count: usize, unit: &str) -> Result<(), AllocError> {
+    block.extend_from_slice(b"\"")?;
+    if count <= SHOWN {
+        return Ok(());
+    }
+    block.extend_from_slice(b".. ")?;
+    push_number(block, count)?;
+    block.extend_from_slice(unit.as_bytes())
+}
+
+/// Adds a character, or its escape.
+fn push_character(block: &mut Vec<u8>, character: char) -> Result<(), AllocError> {
+    let code = character as u32;
+    if code < 128 {
+        return push_byte(block, code as u8);
+    }
+    let mut bytes = [0; 4];
+    block.extend_from_slice(character.encode_utf8(&mut bytes).as_bytes())
+}
+
+/// Adds a byte, or its escape.
+fn push_byte(block: &mut Vec<u8>, byte: u8) -> Result<(), AllocError> {
+    let mut text = [0; 4];
+    let to = write_byte(&mut text, 0, byte);
+    block.extend_from_slice(&text[..to])
+}

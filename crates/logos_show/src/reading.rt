@@ -1,0 +1,104 @@
+//! Files and their enums.
+ghost use Rattle.std.specs.Prelude.{IfErr};
+ghost use Rattle.logos_show.specs.Orders.{IsNoMisuse};
+
+use logos_codegen::Refusal;
+use logos_codegen::error::Memory;
+use logos_codegen::item::{ReadError, read_enum};
+use logos_codegen::token::{Span, TokenError, tokenize};
+use logos_disk::{FileError, Files};
+use logos_files::FoundEnum;
+use logos_report::{Page, Part, Source, Stop, count_errors, push_faults, push_summary};
+use std::alloc::{AllocError, Global};
+
+/// Returns all bytes of a file.
+pub(crate) fn read_bytes<'w, F: Files>(path: &'w str, files: &mut F) -> Result<Vec<u8>, Stop<'w>>
+    ensures { IfErr result IsNoMisuse }
+{
+    match files.read(path) {
+        Ok(bytes) => Ok(bytes),
+        Err(FileError::Failed) => Err(Stop::Read(path)),
+        Err(FileError::Memory) => Err(Stop::Memory),
+    }
+}
+
+/// Returns the text of a file.
+pub(crate) fn read_text<'w, F: Files>(path: &'w str, files: &mut F) -> Result<String, Stop<'w>>
+    ensures { IfErr result IsNoMisuse }
+{
+    match String::from_utf8(read_bytes(path, files)?) {
+        Ok(text) => Ok(text),
+        Err(_) => Err(Stop::Read(path)),
+    }
+}
+
+/// Returns the text at a span.
+fn slice(text: &str, span: Span) -> &str {
+    match text.get(span.from..span.to) {
+        Some(slice) => slice,
+        None => "",
+    }
+}
+
+/// Returns the text of an enum of a file.
+pub(crate) fn text_of<'t>(source: &Source<'t>, found: FoundEnum) -> &'t str {
+    slice(source.text(), found.span)
+}
+
+/// Returns why a part of a file is refused.
+pub(crate) fn refused(
+    alloc: Global,
+    part: Part<'_, '_>,
+    is_colored: bool,
+    refusal: Refusal,
+) -> Stop<'static>
+    ensures { IsNoMisuse result }
+{
+    let Refusal::Errors(errors) = refusal else {
+        return Stop::Memory;
+    };
+    let mut page = Page::new(alloc, is_colored);
+    push_faults(&mut page, part, &errors);
+    push_summary(&mut page, count_errors(&errors));
+    match page.finish() {
+        Ok(text) => Stop::Refused(text),
+        Err(AllocError) => Stop::Memory,
+    }
+}
+
+/// Returns the first of these enums that derives `Logos` and has the name, if one is given.
+pub(crate) fn chosen(
+    alloc: Global,
+    source: &Source<'_>,
+    found: &[FoundEnum],
+    name: Option<&str>,
+) -> Result<Option<FoundEnum>, Memory> {
+    for one in found {
+        if one.derives && has_name(alloc, text_of(source, *one), name)? {
+            return Ok(Some(*one));
+        }
+    }
+    Ok(None)
+}
+
+/// Returns whether an enum has the name, if one is given.
+fn has_name(alloc: Global, text: &str, name: Option<&str>) -> Result<bool, Memory> {
+    match name {
+        Some(name) => is_named(alloc, text, name),
+        None => Ok(true),
+    }
+}
+
+/// Returns whether an enum has this name.
+fn is_named(alloc: Global, text: &str, name: &str) -> Result<bool, Memory> {
+    let stream = match tokenize(alloc, text) {
+        Ok(stream) => stream,
+        Err(TokenError::Memory) => return Err(Memory),
+        Err(_) => return Ok(false),
+    };
+    match read_enum(alloc, stream.run()) {
+        Ok(item) => Ok(item.name.text == name),
+        Err(ReadError::Memory) => Err(Memory),
+        Err(_) => Ok(false),
+    }
+}

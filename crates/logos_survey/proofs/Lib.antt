@@ -1,0 +1,3 @@
+pub mod NearLemmas
+pub mod MarkLemmas
+pub mod WarningLemmas

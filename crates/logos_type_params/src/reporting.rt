@@ -1,0 +1,68 @@
+//! Reports faults of names and types. Each function adds one fault.
+ghost use Rattle.std.specs.Prelude.{◌≡◌, ◌++◌, ◌∷◌, [], IfOk, OnOk, OnErr, string_bytes};
+ghost use Rattle.logos_type_params.specs.TypeParams.{named_of, about, previous};
+ghost use Rattle.logos_type_params.specs.TypeParams.{type_nesting_text, limit_type_nesting};
+
+use logos_token::error::{Errors, FaultCode, Memory};
+use logos_token::token::{Ident, Span};
+use std::alloc::Global;
+
+/// Returns three texts in a row.
+fn joined(alloc: Global, before: &str, text: &str, after: &str) -> Result<String, Memory>
+    ensures { IfOk result (λ message.
+        string_bytes message ≡ (before.now ++ text.now) ++ after.now) }
+{
+    let mut message = String::from_str(alloc, before)?;
+    message.push_str(text)?;
+    message.push_str(after)?;
+    Ok(message)
+}
+
+/// Reports a fault of a name. The message has the name between two texts.
+///
+/// # Errors
+///
+/// `Memory` if there is not enough memory. The faults are then unchanged.
+pub fn report_about(
+    errors: &mut Errors,
+    code: FaultCode,
+    before: &str,
+    name: Ident<'_>,
+    after: &str,
+) -> Result<(), Memory>
+    ensures ok { OnOk result (errors.new
+        ≡ errors.old ++ (about code before.now (named_of name.entry) after.now) ∷ []) }
+    ensures err { OnErr result (errors.new ≡ errors.old) }
+{
+    let message = joined(errors.alloc(), before, name.text, after)?;
+    errors.err(code, message.as_str(), name.span)?;
+    Ok(())
+}
+
+/// Reports the span of an earlier value, after the fault that is about it.
+///
+/// # Errors
+///
+/// `Memory` if there is not enough memory. The faults are then unchanged.
+pub fn report_previous(errors: &mut Errors, at: Span) -> Result<(), Memory>
+    ensures ok { OnOk result (errors.new ≡ errors.old ++ previous at ∷ []) }
+    ensures err { OnErr result (errors.new ≡ errors.old) }
+{
+    errors.err(FaultCode::Previous, "Previously assigned here", at)
+}
+
+/// Returns the message of the fault that too many types stand inside one another.
+pub fn type_nesting_text() -> &'static str
+    ensures { result.now ≡ type_nesting_text }
+{
+    "limit LimitTypeNesting passed"
+}
+
+/// Reports that too many types stand inside one another in the value at this span. After an error
+/// the faults are unchanged.
+pub(crate) fn report_depth(errors: &mut Errors, at: Span) -> Result<(), Memory>
+    ensures ok { OnOk result (errors.new ≡ errors.old ++ limit_type_nesting at ∷ []) }
+    ensures err { OnErr result (errors.new ≡ errors.old) }
+{
+    errors.err(FaultCode::LimitTypeNesting, type_nesting_text(), at)
+}
