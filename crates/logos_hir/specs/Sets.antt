@@ -51,7 +51,7 @@ next c = if c == 0xD7FF then 0xE000 else c + 1
 abbrev pub is_range : ℕ × ℕ → Bool
 is_range r = (scalar r.0 && scalar r.1) && nat_le r.0 r.1
 
--- each is a range, the first from n on, and each other behind the character after the one before
+-- each is a range, the first from n on, and each other after the character after the one before
 abbrev pub rises_from : ℕ → List (ℕ × ℕ) → Bool
 rises_from n [] = true
 rises_from n (r ∷ rest) = (nat_le n r.0 && is_range r) && rises_from (next r.1 + 1) rest
@@ -62,7 +62,7 @@ AreCanonical ranges = rises_from 0 ranges ≡ true
 
 -- ---- the ranges of a set, as few as can be
 
--- a number in front of ranges that start behind it: it lengthens the first range, or is one of its own
+-- a number in front of ranges that start after it: it lengthens the first range, or is one of its own
 abbrev pub with_number : ℕ → List (ℕ × ℕ) → List (ℕ × ℕ)
 with_number c [] = (c, c) ∷ []
 with_number c (r ∷ rest) = if next c == r.0 then (c, r.1) ∷ rest else (c, c) ∷ r ∷ rest

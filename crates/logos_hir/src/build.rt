@@ -155,7 +155,7 @@ pub fn repetition(
 }
 
 /// Adds a part, and bytes after it. A literal takes the bytes in.
-fn push_behind(parts: &mut Vec<Hir>, last: Hir, bytes: Vec<u8>) -> Result<(), AllocError>
+fn push_after(parts: &mut Vec<Hir>, last: Hir, bytes: Vec<u8>) -> Result<(), AllocError>
     ensures { OnOk result (map tree_of parts.new.items ≡
         map tree_of parts.old.items ++ part_text (tree_of last) bytes.items) }
 {
@@ -177,7 +177,7 @@ fn push_literal(parts: &mut Vec<Hir>, bytes: Vec<u8>) -> Result<(), AllocError>
         add_text (map tree_of parts.old.items) bytes.items) }
 {
     match parts.pop() {
-        Some(last) => push_behind(parts, last, bytes),
+        Some(last) => push_after(parts, last, bytes),
         None => Ok(parts.push(Hir::Literal(bytes))?),
     }
 }
@@ -215,13 +215,13 @@ fn is_literal(hir: &Hir) -> bool
 fn are_apart(parts: &[Hir]) -> bool
     ensures { result ≡ are_apart false (map tree_of parts.now) }
 {
-    let mut behind = false;
+    let mut before = false;
     for part in parts {
         let here = is_literal(part);
-        if behind && here {
+        if before && here {
             return false;
         }
-        behind = here;
+        before = here;
     }
     true
 }

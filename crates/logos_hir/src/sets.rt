@@ -83,7 +83,7 @@ fn gaps(alloc: Global, ranges: &[Range], last: u32) -> Result<Vec<Range>, AllocE
     Ok(out)
 }
 
-/// The first character that is not before `c`, or a number behind all characters.
+/// Returns the first character that is not before `c`, or a number after all characters.
 fn first_char(c: u32) -> u32
     ensures same { (d : ℕ) → scalar d ≡ true → nat_le result d ≡ nat_le c d }
     ensures char { result ≤ 0x10_FFFF → scalar result ≡ true }
@@ -95,7 +95,7 @@ fn first_char(c: u32) -> u32
     }
 }
 
-/// The last character that is not behind `c`.
+/// Returns the last character that is not after `c`.
 fn last_char(c: u32) -> u32
     ensures same { (d : ℕ) → scalar d ≡ true → nat_le d result ≡ nat_le d c }
     ensures char { scalar result ≡ true }

@@ -66,7 +66,7 @@ impl<'s> Pattern<'s> {
         ensures complete { (depth : ℕ) → depth ≤ 250 →
             IsSpelled (first_flags unicode ignore_case) (chars regex.now) depth →
             IfErr result (λ e. e ≡ errors.Memory) }
-        ensures kept { IfOk result (λ p. (p.is_literal ≡ is_literal) ×
+        ensures same { IfOk result (λ p. (p.is_literal ≡ is_literal) ×
             (p.source.now ≡ source.now)) }
     {
         let flags = Flags {

@@ -98,7 +98,7 @@ outside_effects (x ∷ es) before c h e =
     outside_effects es (selection before (set_of x.inside) (set_of x.outside)) c h
     (ap (λ b. cond b (set_of x.inside c) (set_of x.outside c)) e ∙ no_character (pairs x.outside.ranges.items) c h)
 
--- an operand behind others
+-- an operand after others
 pub one_more : (es : List Effect) (o : Option SetOperator) (xs ins outs : List (ℕ × ℕ)) → IsMade (members outs) (members ins) (λ before. with_operand o before (members xs)) →
     selection (effects_on es (λ n. false)) (members ins) (members outs) ≡ with_operand o (effects_on es (λ n. false)) (members xs)
 one_more es o xs ins outs h = fun_ext (λ c. at c (scalar c) refl)

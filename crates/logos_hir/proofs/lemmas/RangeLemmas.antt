@@ -25,7 +25,7 @@ or_false false = refl
 
 -- ---- characters
 
--- what lies behind a character lies at the next one or behind it
+-- what lies after a character lies at the next one or after it
 pub next_le : (a c : ℕ) → scalar a ≡ true → scalar c ≡ true → nat_le (next a) c ≡ nat_lt a c
 next_le a c ha hc =
     let pa = scalar_cases a ha in
@@ -91,7 +91,7 @@ gap_range first end last to c e ht hc =
 pub no_gap : (first end last c : ℕ) → end ≤ first → in_gap first end last c ≡ false
 no_gap first end last c h = grind (arith, nat_tests)
 
--- a range behind a gap: what the gap and the rest leave out is what the range and the rest leave out
+-- a range after a gap: what the gap and the rest leave out is what the range and the rest leave out
 pub gap_step : (out rest : Bool) (first last c : ℕ) (r : ℕ × ℕ) → is_range r ≡ true → scalar c ≡ true → (rest ≡ true → r.0 ≤ c) →
     ((out || in_gap first r.0 last c) || (nat_le (max first (next r.1)) c && (nat_le c last && not rest)))
     ≡ (out || (nat_le first c && (nat_le c last && not (in_range r c || rest))))
@@ -168,7 +168,7 @@ starts_le (x ∷ xs) n c starts h =
     (λ later. starts_le xs n c (λ k d lt. starts (suc k) d (omega arith)) later)
     (or_cases (in_range (x.first, x.last) c) (in_ranges (pairs xs) c) h)
 
--- the members of the ranges behind an index are not before the start of the one at it
+-- the members of the ranges after an index are not before the start of the one at it
 pub later_starts : (xs : List Range) (i c : ℕ) (d : Range) → IsNonDecreasingBy (λ (r : Range). r.first) xs → i < length xs →
     in_ranges (pairs (drop (i + 1) xs)) c ≡ true → (get_or xs i d).first ≤ c
 later_starts xs i c d sorted lt =

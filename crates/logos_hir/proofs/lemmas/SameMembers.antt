@@ -38,7 +38,7 @@ next_char a b ha hb lt =
     let pb = scalar_cases b hb in
     (grind (arith, nat_tests), grind (arith, nat_tests))
 
--- a member in front of all ranges, or behind the first one, is no member
+-- a member in front of all ranges, or after the first one, is no member
 not_before : (n : ℕ) (y : ℕ × ℕ) (ys : List (ℕ × ℕ)) (c : ℕ) → rises_from n (y ∷ ys) ≡ true → c < y.0 → members (y ∷ ys) c ≡ false
 not_before n y ys c h lt =
     let p = rises_parts n y ys h in
@@ -74,7 +74,7 @@ ends_first n x y xs ys hx hy same start =
     absurd (both_ways _ gone (same (next x.1) ∙ there)))
     (λ ge. ge) (cases_lt x.1 y.1)
 
--- behind the first range the others have the same members
+-- after the first range the others have the same members
 same_rest : (n : ℕ) (x y : ℕ × ℕ) (xs ys : List (ℕ × ℕ)) → rises_from n (x ∷ xs) ≡ true → rises_from n (y ∷ ys) ≡ true →
     ((c : ℕ) → members (x ∷ xs) c ≡ members (y ∷ ys) c) → x.1 ≡ y.1 → (c : ℕ) → members xs c ≡ members ys c
 same_rest n x y xs ys hx hy same ends c =
@@ -115,7 +115,7 @@ same_ranges xs ys hx hy same = same_from 0 xs ys hx hy (λ c. ap (λ (s : Set). 
 
 -- ---- the ranges of a set
 
--- a number in front of ranges behind it
+-- a number in front of ranges after it
 with_number_rises : (n c : ℕ) (xs : List (ℕ × ℕ)) → n ≤ c → scalar c ≡ true → rises_from (c + 1) xs ≡ true → rises_from n (with_number c xs) ≡ true
 with_number_rises n c [] le hc h = rises_from_parts n (c, c) [] le (is_range_from (c, c) hc hc (omega arith)) refl
 with_number_rises n c (x ∷ xs) le hc h =

@@ -61,7 +61,7 @@ part (capture body) = is_other (λ _. refl) (λ _. refl) (λ _. refl) (λ _ _. r
 part (concat parts) = is_other (λ _. refl) (λ _. refl) (λ _. refl) (λ _ _. refl)
 part (alternation branches) = is_other (λ _. refl) (λ _. refl) (λ _. refl) (λ _ _. refl)
 
--- ---- bytes and parts behind others
+-- ---- bytes and parts after others
 
 pub add_text-last : (rs : List Tree) (r : Tree) (b : List ℕ) → add_text (rs ++ r ∷ []) b ≡ rs ++ part_text r b
 add_text-last [] r b = refl
@@ -72,7 +72,7 @@ pub add_parts-append : (ps xs ys : List Tree) → add_parts ps (xs ++ ys) ≡ ad
 add_parts-append ps [] ys = refl
 add_parts-append ps (x ∷ xs) ys = add_parts-append (add_part ps x) xs ys
 
--- text in front and text behind
+-- text in front and text after
 with_text-add_text : (a b : List ℕ) (zs : List Tree) → with_text a (add_text zs b) ≡ add_text (with_text a zs) b
 with_text-add_text a b [] = refl
 with_text-add_text a b (z ∷ []) = go (part z)
@@ -86,7 +86,7 @@ with_text-add_text a b (z ∷ y ∷ rest) = go (part z)
     go (is_text m e) = rw e refl
     go (is_other f g p w) = w a (add_text (y ∷ rest) b) ∙ ap (λ t. add_text t b) (sym (w a (y ∷ rest)))
 
--- text in front, and another part behind
+-- text in front, and another part after
 with_text-push : (a : List ℕ) (zs : List Tree) (y : Tree) → ((rest : List Tree) → with_text a (y ∷ rest) ≡ literal a ∷ y ∷ rest) → with_text a (zs ++ y ∷ []) ≡ with_text a zs ++ y ∷ []
 with_text-push a [] y h = h []
 with_text-push a (z ∷ zs) y h = go (part z)

@@ -46,7 +46,7 @@ after_there bytes rest b =
     slice_get-get_or (bytes ++ b ∷ rest) (length bytes) 0 (let e = length-append bytes (b ∷ rest) in omega (arith, e))
     ∙ ap Some (get_or-append_seam bytes b rest 0)
 
--- the same between bytes and a byte behind them
+-- the same between bytes and a byte after them
 pub held_at_end : (l : Look) (bytes rest : List ℕ) (b : ℕ) → is_word (Some b) ≡ false → b ≢ 10 → b ≢ 13 →
     Holds l (bytes ++ b ∷ rest) (length bytes) → Holds l bytes (length bytes)
 held_at_end l bytes rest b w lf cr h =

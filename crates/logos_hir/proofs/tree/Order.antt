@@ -1,4 +1,4 @@
--- A match lies within the bytes, or is empty behind them.
+-- A match lies within the bytes, or is empty after them.
 use Rattle.std.proofs.Common.{◌≡◌, ℕ, zero, suc, ◌-◌, ◌≤◌, List, [], ◌∷◌, length, drop, slice_range, min, max, sym, ◌∙◌, ap, arith, inl, inr, encode_utf8}
 use Rattle.std.proofs.lemmas.List.{length-take, length-drop}
 use Rattle.logos_hir.specs.Text.{StandsAt}

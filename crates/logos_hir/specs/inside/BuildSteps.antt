@@ -30,8 +30,8 @@ is_literal_tree t = false
 
 -- no two literals stand side by side, whether a literal comes before them or not
 abbrev pub are_apart : Bool → List Tree → Bool
-are_apart behind [] = true
-are_apart behind (t ∷ rest) = not (behind && is_literal_tree t) && are_apart (is_literal_tree t) rest
+are_apart before [] = true
+are_apart before (t ∷ rest) = not (before && is_literal_tree t) && are_apart (is_literal_tree t) rest
 
 -- the ranges are there and follow the old ones, or they are not there
 abbrev pub IsAdded : Option (List (ℕ × ℕ)) → Bool → List (ℕ × ℕ) → List (ℕ × ℕ) → Type 0

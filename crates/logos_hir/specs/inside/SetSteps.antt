@@ -12,7 +12,7 @@ IsPlace c = (scalar c || (c == 0x11_0000)) ≡ true
 abbrev pub AreRanges : List (ℕ × ℕ) → Type 0
 AreRanges ranges = list_all is_range ranges ≡ true
 
--- the least number that a further range may start at, behind ranges that start at n or behind it
+-- the least number that a further range may start at, after ranges that start at n or after it
 abbrev pub free_from : ℕ → List (ℕ × ℕ) → ℕ
 free_from n [] = n
 free_from n (r ∷ rest) = free_from (next r.1 + 1) rest

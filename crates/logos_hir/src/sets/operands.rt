@@ -66,8 +66,8 @@ impl Effect {
     ghost use Rattle.logos_hir.specs.Operands.{combination, with_operand, selection};
     ghost use Rattle.logos_hir.specs.inside.Effects.{Makes};
 
-    /// The effect of an operand behind an operator.
-    fn behind(alloc: Global, op: SetOperator, set: &RangeSet) -> Result<Effect, AllocError>
+    /// Returns the effect of an operand after an operator.
+    fn after_operator(alloc: Global, op: SetOperator, set: &RangeSet) -> Result<Effect, AllocError>
         ensures { IfOk result (λ effect. Makes effect
             (λ before. combination op before (set_of set.now))) }
     {
@@ -101,7 +101,7 @@ impl Effect {
                 outside: copy(alloc, set)?,
                 inside: copy(alloc, set)?,
             }),
-            Some(op) => Effect::behind(alloc, op, set),
+            Some(op) => Effect::after_operator(alloc, op, set),
         }
     }
 
@@ -121,7 +121,7 @@ impl Effect {
     }
 }
 
-/// Adds an effect behind those of so many operands. As a counter carries, it is put together with
+/// Adds an effect after those of so many operands. As a counter carries, it is put together with
 /// the last one for each binary digit 1 at the number's end.
 fn push_effect(effects: &mut Vec<Effect>, count: usize, effect: Effect) -> Result<(), AllocError>
     ensures { (before : Set) → OnOk result (effects_on effects.new.items before ≡

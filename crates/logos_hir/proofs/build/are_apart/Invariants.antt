@@ -5,4 +5,4 @@ use Rattle.logos_hir.proofs.build.are_apart.Given as goal
 
 -- none join in the whole exactly if none do in what is left
 abbrev pub invariant-loop-part : goal.invariant-loop-part
-invariant-loop-part l = are_apart l.behind (map tree_of (drop l.part-index l.parts)) ≡ are_apart false (map tree_of l.parts)
+invariant-loop-part l = are_apart l.before (map tree_of (drop l.part-index l.parts)) ≡ are_apart false (map tree_of l.parts)

@@ -10,4 +10,4 @@ returns-in-Some c =
     let bytes = c.args.bytes.items in
     let e : add_text (map tree_of c.args.parts.now.items) bytes ≡ map tree_of c.pop.new.self.items ++ part_text (tree_of c.in-Some.last) bytes =
     ap (λ xs. add_text (map tree_of xs) bytes) c.in-Some.ensures.items ∙ ap (λ ts. add_text ts bytes) (map_push tree_of c.pop.new.self.items c.in-Some.last) ∙ add_text-last _ _ _ in
-    rw e c.push_behind.ensures
+    rw e c.push_after.ensures

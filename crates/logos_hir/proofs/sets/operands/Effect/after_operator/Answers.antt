@@ -2,7 +2,7 @@ use Rattle.std.proofs.Common.{ap}
 use Rattle.logos_hir.specs.RangeSets.{set_of}
 use Rattle.logos_hir.specs.Operands.{combination}
 use Rattle.logos_hir.proofs.lemmas.OperandLemmas.{same_made, by_intersection, by_difference, by_symmetric_difference}
-use Rattle.logos_hir.proofs.sets.operands.Effect.behind.Goals as goal
+use Rattle.logos_hir.proofs.sets.operands.Effect.after_operator.Goals as goal
 
 pub returns-in_ok-copy-in-Intersection : goal.returns-in_ok-copy-in-Intersection
 returns-in_ok-copy-in-Intersection c =
