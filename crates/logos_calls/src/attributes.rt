@@ -1,7 +1,7 @@
 //! Calls of the pieces of an attribute's arguments, and how these are written.
 
 use crate::answer::Answer;
-use crate::errors::{are_kept, push_errors};
+use crate::errors::{are_unchanged, push_errors};
 use crate::stop::Stop;
 use crate::tokens::tokens_of;
 use logos_attribute::nested::{AttributeParser, Nested, NestedValue};
@@ -150,7 +150,7 @@ fn push_words(
         match word_of(alloc, way, &mut pieces, whole, &mut errors) {
             Ok(word) => answer.text(word),
             Err(Memory) => {
-                are_kept(&errors, count)?;
+                are_unchanged(&errors, count)?;
                 answer.text(word_of(alloc, way, &mut pieces, whole, &mut errors)?);
             }
         }

@@ -4,7 +4,7 @@ ghost use Rattle.std.specs.Prelude.{◌≡◌, []};
 
 use crate::answer::Answer;
 use crate::lexers::{push_first, push_items, push_utf8, push_walk};
-use crate::nodes::{push_kept, push_nodes};
+use crate::nodes::{push_nodes, push_options};
 use crate::notation::has_word;
 use crate::rules::{NAME, label, leaves_of};
 use crate::single::push_single;
@@ -34,8 +34,8 @@ pub enum View {
     Nodes,
     /// The nodes that a generator makes one by one.
     Single,
-    /// What it keeps of what its generator was given.
-    Kept,
+    /// The options that its generator was given.
+    Options,
     /// Whether its text has this part.
     Part,
     /// Whether its text is its tokens, printed.
@@ -66,7 +66,7 @@ fn push_view(
         View::Utf8 => push_utf8(alloc, answer, code, asked.input),
         View::Nodes => Ok(push_nodes(answer, code)),
         View::Single => Err(Stop::Input),
-        View::Kept => Ok(push_kept(answer, code)),
+        View::Options => Ok(push_options(answer, code)),
         View::Part => push_part(alloc, answer, code, asked.input),
         View::Again => push_again(alloc, answer, code),
         View::Around => push_around(alloc, answer, code),

@@ -37,7 +37,7 @@ pub fn push_errors(answer: &mut Answer, before: &str, errors: &Errors, has_texts
 }
 
 /// Fails unless there are as many faults as before a refused request.
-pub fn are_kept(errors: &Errors, count: usize) -> Result<(), Stop> {
+pub fn are_unchanged(errors: &Errors, count: usize) -> Result<(), Stop> {
     if errors.list().len() == count {
         Ok(())
     } else {
@@ -86,7 +86,7 @@ pub fn added(alloc: Global, answer: &mut Answer, name: &str, text: &str) -> Resu
     push_errors(answer, "", &errors, true);
     let count = errors.list().len();
     if add(alloc, &mut errors, name, text).is_err() {
-        are_kept(&errors, count)?;
+        are_unchanged(&errors, count)?;
         add(alloc, &mut errors, name, text)?;
     }
     push_errors(answer, " | ", &errors, true);

@@ -29,10 +29,10 @@ pub enum View {
     Children,
     /// The leaf and the length of the match at the front of each of the texts.
     Found,
-    /// Whether a text tells two of its states apart: `0,1 a` asks states 0 and 1 about `a`, and `0,1,end a` about `a` and the end.
+    /// Whether a text distinguishes two of its states: `0,1 a` asks states 0 and 1 about `a`, and `0,1,end a` about `a` and the end.
     Checks,
-    /// Whether the bytes that it gives for each two different states tell them apart, and are fewer than the states.
-    Telling,
+    /// Whether the bytes that it gives for each two different states distinguish them, and are fewer than the states.
+    Evidence,
     /// The names of its states.
     Names,
     /// Which made states equal the first of them.
@@ -92,51 +92,56 @@ fn state_at(graph: &Graph<'_>, number: &str) -> Option<State> {
     graph.iter_states().nth(number)
 }
 
-/// Adds whether a text tells two states apart: 1 if it does, else 0; `?` where one is not there.
+/// Adds whether a text distinguishes two states: 1 if it does, else 0; `?` where one is not there.
 fn push_check(answer: &mut Answer, graph: &Graph<'_>, case: &str) {
     let (head, text) = case.split_once(' ').unwrap_or((case, ""));
     let (one, rest) = head.split_once(',').unwrap_or((head, ""));
     let (other, end) = rest.split_once(',').unwrap_or((rest, ""));
     match (state_at(graph, one), state_at(graph, other)) {
         (Some(one), Some(other)) if graph.contains(one) & graph.contains(other) => {
-            let tells = graph.checks(one, other, text.as_bytes(), end == "end");
-            answer.text(if tells { "1" } else { "0" })
+            let differ = graph.checks(one, other, text.as_bytes(), end == "end");
+            answer.text(if differ { "1" } else { "0" })
         }
         _ => answer.text("?"),
     }
 }
 
-/// Adds whether each text tells two states apart.
+/// Adds whether each text distinguishes two states.
 fn push_checks(answer: &mut Answer, graph: &Graph<'_>, cases: &str) {
     for case in cases.split(" ¦ ") {
         push_check(answer, graph, case);
     }
 }
 
-/// Returns whether fewer bytes than there are states tell two different states apart, but none from itself.
-fn tells_apart(alloc: Global, graph: &Graph<'_>, one: State, other: State) -> Result<bool, Memory> {
+/// Returns whether fewer bytes than there are states distinguish two different states, but no state from itself.
+fn are_distinguished(
+    alloc: Global,
+    graph: &Graph<'_>,
+    one: State,
+    other: State,
+) -> Result<bool, Memory> {
     if !(graph.contains(one) & graph.contains(other)) || one.index() == other.index() {
         return Ok(false);
     }
-    let telling = graph.telling(alloc, one, other)?;
-    let is_short = telling.bytes.len() < count_states(graph);
-    let tells = graph.checks(one, other, &telling.bytes, telling.at_end);
-    let tells_itself = graph.checks(one, one, &telling.bytes, telling.at_end);
-    Ok(is_short & tells & !tells_itself)
+    let evidence = graph.telling(alloc, one, other)?;
+    let is_short = evidence.bytes.len() < count_states(graph);
+    let differ = graph.checks(one, other, &evidence.bytes, evidence.at_end);
+    let differs_from_itself = graph.checks(one, one, &evidence.bytes, evidence.at_end);
+    Ok(is_short & differ & !differs_from_itself)
 }
 
-/// Returns how many states the given bytes tell apart from this one.
+/// Returns how many states the given bytes distinguish from this one.
 fn count_apart(alloc: Global, graph: &Graph<'_>, one: State) -> Result<usize, Memory> {
     let mut count = 0usize;
     for other in graph.iter_states() {
-        let tells = tells_apart(alloc, graph, one, other)?;
-        count = count.saturating_add(usize::from(tells));
+        let differ = are_distinguished(alloc, graph, one, other)?;
+        count = count.saturating_add(usize::from(differ));
     }
     Ok(count)
 }
 
-/// Adds `all` if the given bytes tell each two states apart, else for how many they do.
-fn push_telling(alloc: Global, answer: &mut Answer, graph: &Graph<'_>) -> Result<(), Stop> {
+/// Adds `all` if the given bytes distinguish each two states, else how many pairs they do.
+fn push_evidence(alloc: Global, answer: &mut Answer, graph: &Graph<'_>) -> Result<(), Stop> {
     let mut count = 0usize;
     for one in graph.iter_states() {
         let found = count_apart(alloc, graph, one)?;
@@ -171,7 +176,7 @@ fn push_view(
         View::Children => push_children(answer, graph.dfa()),
         View::Found => push_finds(answer, graph, texts),
         View::Checks => push_checks(answer, graph, texts),
-        View::Telling => return push_telling(alloc, answer, graph),
+        View::Evidence => return push_evidence(alloc, answer, graph),
         View::Names => push_names(alloc, answer, graph),
         View::Equal => return push_equal(alloc, answer, graph),
     }

@@ -139,8 +139,8 @@ pub fn push_leaf(answer: &mut Answer, leaf: &CodeLeaf<'_>) {
     answer.text(";");
 }
 
-/// Adds what a code keeps of what its generator was given: shape, name, type, error callback.
-pub fn push_kept(answer: &mut Answer, code: &Code<'_>) {
+/// Adds the options that a generator was given: shape, name, type, error callback.
+pub fn push_options(answer: &mut Answer, code: &Code<'_>) {
     let is_loop = code.shape().use_state_machine_codegen;
     answer.text(if is_loop { "one loop; " } else { "functions; " });
     answer.text(code.name().text);

@@ -2,7 +2,7 @@
 
 use crate::answer::Answer;
 use crate::definitions::failed;
-use crate::errors::{are_kept, push_errors};
+use crate::errors::{are_unchanged, push_errors};
 use crate::stop::Stop;
 use crate::types::type_of;
 use indexmap::{IndexMap, IndexSet};
@@ -48,7 +48,7 @@ pub fn checked<'s>(
     read_given(parser, run)?;
     let count = parser.errors.list().len();
     if parser.types.check(&mut parser.errors).is_err() {
-        are_kept(&parser.errors, count)?;
+        are_unchanged(&parser.errors, count)?;
         parser.types.check(&mut parser.errors)?;
     }
     push_errors(answer, "", &parser.errors, true);
@@ -181,7 +181,7 @@ pub fn lent<'s>(
     match ask(alloc, answer, name, parser, run) {
         Ok(()) => {}
         Err(Stop::Memory) => {
-            are_kept(&parser.errors, count)?;
+            are_unchanged(&parser.errors, count)?;
             ask(alloc, answer, name, parser, run)?;
         }
         Err(stop) => return Err(stop),

@@ -21,8 +21,8 @@ use std::alloc::Global;
 /// What is asked of what a source makes.
 #[derive(Clone, Copy)]
 pub enum View {
-    /// What its code keeps: its shape, its name, and what becomes of the matches of each leaf.
-    Kept,
+    /// The options of its code: its shape, its name, and what becomes of the matches of each leaf.
+    Options,
     /// The priority of the first leaf.
     Priority,
     /// Whether the first variant has this type.
@@ -44,8 +44,8 @@ fn push_faults(answer: &mut Answer, errors: &Errors) {
     }
 }
 
-/// Adds what a code keeps of its source.
-fn push_kept(answer: &mut Answer, code: &Code<'_>) {
+/// Adds the options of a code: its shape, its name, and what becomes of the matches of each leaf.
+fn push_options(answer: &mut Answer, code: &Code<'_>) {
     answer.debug(&code.shape().use_state_machine_codegen);
     answer.text(" ");
     answer.text(code.name().text);
@@ -112,7 +112,7 @@ fn push_view(
     text: &str,
 ) -> Result<(), Stop> {
     match view {
-        View::Kept => Ok(push_kept(answer, &made.code)),
+        View::Options => Ok(push_options(answer, &made.code)),
         View::Variants => Ok(push_variants(answer, made)),
         View::Priority | View::Type => push_first(alloc, answer, &made.graph, view, text),
         View::Part => {

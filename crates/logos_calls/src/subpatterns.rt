@@ -1,7 +1,7 @@
 //! Calls of subpatterns, and of texts that are read as patterns.
 
 use crate::answer::Answer;
-use crate::errors::{are_kept, push_errors};
+use crate::errors::{are_unchanged, push_errors};
 use crate::notation::has_word;
 use crate::patterns::string_of;
 use crate::stop::Stop;
@@ -51,7 +51,7 @@ fn subpatterns_of<'s>(
     match Subpatterns::new(alloc, list, utf8_mode, errors) {
         Ok(subpatterns) => Ok(subpatterns),
         Err(Memory) => {
-            are_kept(errors, 0)?;
+            are_unchanged(errors, 0)?;
             Ok(Subpatterns::new(alloc, list, utf8_mode, errors)?)
         }
     }
@@ -68,7 +68,7 @@ fn put_in(
     match subpatterns.subst_subpatterns(alloc, pattern, PLACE, errors) {
         Ok(whole) => Ok(whole),
         Err(Memory) => {
-            are_kept(errors, count)?;
+            are_unchanged(errors, count)?;
             Ok(subpatterns.subst_subpatterns(alloc, pattern, PLACE, errors)?)
         }
     }
