@@ -3,6 +3,7 @@
 ghost use Rattle.std.specs.Prelude.{◌≡◌, []};
 
 use crate::answer::Answer;
+use crate::graphs::graph_of;
 use crate::lexers::{push_first, push_items, push_utf8, push_walk};
 use crate::nodes::{push_nodes, push_options};
 use crate::notation::has_word;
@@ -14,8 +15,9 @@ use crate::tokens::tokens_of;
 use crate::types::type_of;
 use logos_generator::code::{Code, Config};
 use logos_generator::generator::Generator;
-use logos_graph::graph::{BuildError, Config as GraphConfig, Graph};
-use logos_pattern::leaf::Callback;
+use logos_graph::graph::{BuildError, Graph};
+use logos_pattern::leaf::{Callback, Leaf};
+use logos_token::error::Memory;
 use logos_type::TypeExpr;
 use std::alloc::Global;
 
@@ -73,6 +75,42 @@ fn push_view(
     }
 }
 
+/// Returns the code that a generator makes of its graph. What `generate` promises ends here.
+fn code_of(alloc: Global, generator: &mut Generator<'_, 'static>) -> Result<Code<'static>, Memory> {
+    generator.generate(alloc)
+}
+
+/// Adds what is asked of a code that was made.
+fn push_code(
+    alloc: Global,
+    answer: &mut Answer,
+    code: &Result<Code<'_>, Memory>,
+    asked: Asked<'_>,
+) -> Result<(), Stop> {
+    match code {
+        Ok(code) => push_view(alloc, answer, code, asked),
+        Err(_) => Err(Stop::Memory),
+    }
+}
+
+/// Adds what is asked of the code that a generator makes of its graph, or of the nodes that it makes one by one.
+fn push_asked(
+    alloc: Global,
+    answer: &mut Answer,
+    asked: Asked<'_>,
+    generator: &mut Generator<'_, 'static>,
+    graph: &Graph<'static>,
+) -> Result<(), Stop>
+    requires faultless { graph.now.faults ≡ [] }
+    requires same { generator.old.graph ≡ graph.now }
+{
+    if matches!(asked.view, View::Single) {
+        return push_single(alloc, answer, generator, graph);
+    }
+    let code = code_of(alloc, generator);
+    push_code(alloc, answer, &code, asked)
+}
+
 /// Answers what is asked of the code that a generator makes of its graph, or of the nodes that it makes one by one.
 fn by_generator(
     alloc: Global,
@@ -84,15 +122,10 @@ fn by_generator(
     requires same { generator.old.graph ≡ graph.now }
 {
     let mut answer = Answer::new(alloc);
-    if matches!(asked.view, View::Single) {
-        push_single(alloc, &mut answer, generator, graph)?;
-        return answer.finish();
+    match push_asked(alloc, &mut answer, asked, generator, graph) {
+        Ok(()) => answer.finish(),
+        Err(stop) => Err(stop),
     }
-    match generator.generate(alloc) {
-        Ok(code) => push_view(alloc, &mut answer, &code, asked)?,
-        Err(_) => return Err(Stop::Memory),
-    }
-    answer.finish()
 }
 
 /// Answers what is asked of the code of a graph without faults, of the enum that is this type, with this callback of errors.
@@ -129,16 +162,21 @@ fn of_graph(alloc: Global, asked: Asked<'_>, graph: &Graph<'static>) -> Result<S
     by_graph(alloc, asked, graph, &this, failed.as_ref())
 }
 
-/// Answers what is asked of the code of rules; the text that it is asked of stands after ` ‖ `.
-pub fn code(alloc: Global, view: View, words: &str, text: &str) -> Result<String, Stop> {
-    let (rules, input) = text.split_once(" ‖ ").unwrap_or((text, ""));
-    let leaves = leaves_of(alloc, rules)?;
-    let config = GraphConfig {
-        utf8_mode: !has_word(words, "bytes"),
-    };
-    match &Graph::new(alloc, leaves, config) {
-        Ok(graph) => of_graph(alloc, Asked { view, words, input }, graph),
+/// Answers what is asked of the code of the graph of leaves.
+fn of_leaves(alloc: Global, asked: Asked<'_>, leaves: Vec<Leaf<'static>>) -> Result<String, Stop> {
+    match &graph_of(alloc, leaves, !has_word(asked.words, "bytes")) {
+        Ok(graph) => of_graph(alloc, asked, graph),
         Err(BuildError::Memory) => Err(Stop::Memory),
         Err(_) => Err(Stop::Input),
     }
+}
+
+/// Answers what is asked of the code of rules; the text that it is asked of stands after ` ‖ `.
+pub fn code(alloc: Global, view: View, words: &str, text: &str) -> Result<String, Stop> {
+    let (rules, input) = text.split_once(" ‖ ").unwrap_or((text, ""));
+    of_leaves(
+        alloc,
+        Asked { view, words, input },
+        leaves_of(alloc, rules)?,
+    )
 }

@@ -6,6 +6,7 @@ use crate::rules::leaves_of;
 use crate::states::{found, push_equal, push_names};
 use crate::stop::Stop;
 use logos_graph::graph::{BuildError, Config, Graph, State};
+use logos_pattern::leaf::Leaf;
 use logos_token::error::Memory;
 use std::alloc::Global;
 
@@ -183,15 +184,47 @@ fn push_view(
     Ok(())
 }
 
+/// Returns the graph of rules. What `Graph::new` promises ends here: it would be carried along wherever its answer is looked at.
+pub fn graph_of(
+    alloc: Global,
+    leaves: Vec<Leaf<'static>>,
+    utf8_mode: bool,
+) -> Result<Graph<'static>, BuildError> {
+    Graph::new(alloc, leaves, Config { utf8_mode })
+}
+
+/// Adds what is asked of a graph, or the limit that its rules pass.
+fn push_graph(
+    alloc: Global,
+    answer: &mut Answer,
+    graph: &Result<Graph<'_>, BuildError>,
+    view: View,
+    texts: &str,
+) -> Result<(), Stop> {
+    match graph {
+        Ok(graph) => push_view(alloc, answer, graph, view, texts),
+        Err(BuildError::Memory) => Err(Stop::Memory),
+        Err(error) => Ok(answer.debug(error)),
+    }
+}
+
+/// Answers what is asked of the graph of leaves, of these texts perhaps; or the limit that they pass.
+fn of_leaves(
+    alloc: Global,
+    leaves: Vec<Leaf<'static>>,
+    view: View,
+    texts: &str,
+) -> Result<String, Stop> {
+    let mut answer = Answer::new(alloc);
+    let graph = graph_of(alloc, leaves, true);
+    match push_graph(alloc, &mut answer, &graph, view, texts) {
+        Ok(()) => answer.finish(),
+        Err(stop) => Err(stop),
+    }
+}
+
 /// Answers what is asked of the graph of rules, of the texts after ` ‖ ` perhaps; or the limit that it passes.
 pub fn graph(alloc: Global, view: View, text: &str) -> Result<String, Stop> {
-    let mut answer = Answer::new(alloc);
     let (rules, texts) = text.split_once(" ‖ ").unwrap_or((text, ""));
-    let leaves = leaves_of(alloc, rules)?;
-    match &Graph::new(alloc, leaves, Config { utf8_mode: true }) {
-        Ok(graph) => push_view(alloc, &mut answer, graph, view, texts)?,
-        Err(BuildError::Memory) => return Err(Stop::Memory),
-        Err(error) => answer.debug(error),
-    }
-    answer.finish()
+    of_leaves(alloc, leaves_of(alloc, rules)?, view, texts)
 }

@@ -15,6 +15,7 @@ use logos_codegen::machine::{Action, Item};
 use logos_codegen::nested::AttributeParser;
 use logos_codegen::{Generated, LexSourceError, Refusal, generate, lex_source, strip_attributes};
 use logos_hir::leaf::LeafId;
+use logos_token::token::TokenStream;
 use logos_type::is_same_type;
 use std::alloc::Global;
 
@@ -129,16 +130,42 @@ fn shape_of(words: &str) -> Config {
     }
 }
 
+/// Returns what a source makes. What `generate` promises ends here: it would be carried along wherever its answer is looked at.
+fn generated<'s>(alloc: Global, source: &'s str, config: Config) -> Result<Generated<'s>, Refusal> {
+    generate(alloc, source, config)
+}
+
+/// Adds the faults of a source.
+fn push_refusal(answer: &mut Answer, refusal: &Refusal) -> Result<(), Stop> {
+    match refusal {
+        Refusal::Memory => Err(Stop::Memory),
+        Refusal::Errors(errors) => Ok(push_faults(answer, errors)),
+    }
+}
+
+/// Adds what is asked of what a source makes, or its faults.
+fn push_made(
+    alloc: Global,
+    answer: &mut Answer,
+    made: &Result<Generated<'_>, Refusal>,
+    view: View,
+    asked: &str,
+) -> Result<(), Stop> {
+    match made {
+        Ok(made) => push_view(alloc, answer, made, view, asked),
+        Err(refusal) => push_refusal(answer, refusal),
+    }
+}
+
 /// Answers what is asked of what a source makes, or its faults. The text that it is asked of stands after ` ‖ `.
 pub fn made(alloc: Global, view: View, words: &str, text: &str) -> Result<String, Stop> {
     let mut answer = Answer::new(alloc);
     let (source, asked) = text.split_once(" ‖ ").unwrap_or((text, ""));
-    match &generate(alloc, source, shape_of(words)) {
-        Ok(made) => push_view(alloc, &mut answer, made, view, asked)?,
-        Err(Refusal::Memory) => return Err(Stop::Memory),
-        Err(Refusal::Errors(errors)) => push_faults(&mut answer, errors),
+    let made = generated(alloc, source, shape_of(words));
+    match push_made(alloc, &mut answer, &made, view, asked) {
+        Ok(()) => answer.finish(),
+        Err(stop) => Err(stop),
     }
-    answer.finish()
 }
 
 /// Adds items.
@@ -160,6 +187,24 @@ fn items_of<'i>(
     lex_source(alloc, source, config, input, |_, _: &[u8]| action)
 }
 
+/// Adds what a source gives on an input.
+fn push_given(
+    answer: &mut Answer,
+    given: &Result<Vec<Item<'_>>, LexSourceError>,
+) -> Result<(), Stop> {
+    match given {
+        Ok(items) => push_items(answer, items),
+        Err(LexSourceError::Refused(errors)) => push_faults(answer, errors),
+        Err(LexSourceError::Memory) => return Err(Stop::Memory),
+        Err(LexSourceError::NotUtf8 { valid_up_to }) => {
+            answer.text("not UTF-8 from ");
+            answer.display(valid_up_to);
+            answer.text(" on");
+        }
+    }
+    Ok(())
+}
+
 /// Returns what a source gives on an input, where each callback does this.
 fn given(
     alloc: Global,
@@ -169,17 +214,11 @@ fn given(
     action: Action,
 ) -> Result<String, Stop> {
     let mut answer = Answer::new(alloc);
-    match &items_of(alloc, source, input, config, action) {
-        Ok(items) => push_items(&mut answer, items),
-        Err(LexSourceError::Refused(errors)) => push_faults(&mut answer, errors),
-        Err(LexSourceError::Memory) => return Err(Stop::Memory),
-        Err(LexSourceError::NotUtf8 { valid_up_to }) => {
-            answer.text("not UTF-8 from ");
-            answer.display(valid_up_to);
-            answer.text(" on");
-        }
+    let given = items_of(alloc, source, input, config, action);
+    match push_given(&mut answer, &given) {
+        Ok(()) => answer.finish(),
+        Err(stop) => Err(stop),
     }
-    answer.finish()
 }
 
 /// Answers what a source gives on the input after ` ‖ `, in one shape. Each callback emits, or does what a word says.
@@ -191,13 +230,28 @@ pub fn items(alloc: Global, words: &str, text: &str) -> Result<String, Stop> {
     given(alloc, source, &input, shape_of(words), action_of(words))
 }
 
+/// Returns a source without what belongs to the derive macro. What `strip_attributes` promises ends here.
+fn strip<'s>(alloc: Global, source: &'s str) -> Result<TokenStream<'s>, Refusal> {
+    strip_attributes(alloc, source)
+}
+
+/// Adds how a source is printed without what belongs to the derive macro, or its faults.
+fn push_stripped(
+    answer: &mut Answer,
+    stripped: &Result<TokenStream<'_>, Refusal>,
+) -> Result<(), Stop> {
+    match stripped {
+        Ok(stream) => Ok(answer.tokens(stream.run())),
+        Err(refusal) => push_refusal(answer, refusal),
+    }
+}
+
 /// Answers how a source is printed without what belongs to the derive macro, or its faults.
 pub fn stripped(alloc: Global, text: &str) -> Result<String, Stop> {
     let mut answer = Answer::new(alloc);
-    match &strip_attributes(alloc, text) {
-        Ok(stream) => answer.tokens(stream.run()),
-        Err(Refusal::Memory) => return Err(Stop::Memory),
-        Err(Refusal::Errors(errors)) => push_faults(&mut answer, errors),
+    let stripped = strip(alloc, text);
+    match push_stripped(&mut answer, &stripped) {
+        Ok(()) => answer.finish(),
+        Err(stop) => Err(stop),
     }
-    answer.finish()
 }
