@@ -1,8 +1,9 @@
-//! From a table of targets and marks to the least table, its states numbered by first visit, and how any two of them are
-//! told apart.
+//! Reduces a table of targets and marks to the least one, with its states numbered by first visit, and gives evidence that
+//! any two of them differ.
 
 #![tactic(auto)]
 
+mod evidence;
 pub mod lists;
 pub mod merge;
 mod number;
@@ -12,4 +13,3 @@ pub mod reduction;
 pub mod rows;
 mod settle;
 pub mod table;
-mod telling;
