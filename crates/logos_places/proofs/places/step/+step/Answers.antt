@@ -1,4 +1,4 @@
-use Rattle.std.proofs.Common.{Bool, ◌≡◌, ◌+◌, ◌-◌, ◌*◌, ◌≤◌, ◌<◌, ◌^◌, true, false, not, refl, true≢false, sym, ap, ◌∙◌, arith, rules, max}
+use Rattle.std.proofs.Common.{Bool, ◌≡◌, ◌+◌, ◌-◌, ◌*◌, ◌≤◌, ◌<◌, ◌^◌, false, true≢false, sym, ap, ◌∙◌, arith, rules, max}
 use Rattle.std.proofs.Math.Nat.{mul-le-mul_left}
 use Rattle.std.proofs.lemmas.Result.{IfOk-weaker}
 use Rattle.logos_hir.specs.Hir.{pairs}
@@ -18,13 +18,9 @@ use Rattle.logos_places.proofs.steps.SteppedLemmas.{stepped_nothing, stepped_cat
 use Rattle.logos_places.proofs.steps.OweLemmas.{owes_front_step, owes_front_skip, owes_up_to_step, owes_up_to_skip}
 use Rattle.logos_places.proofs.places.step.+step.Goals as goal
 
-off : (b : Bool) → not b ≡ true → b ≡ false
-off true e = absurd (true≢false (sym e))
-off false e = refl
-
 pub step-returns-then-not-any_mark : goal.step-returns-then-not-any_mark
 step-returns-then-not-any_mark t c =
-    rw (off c.args.spot.entered c.if-not-spot.true)
+    rw c.if-not-spot.true
     (stepped_nothing (test_at c.args.by.at) c.args.by.byte c.args.by.marks.now (core_of c.args.node.now) _ c.args.spot.base c.requires.set
     (λ q lt has. true≢false (sym (c.any_mark.ensures.1 (q, omega (arith, lt, c.width.ensures), has)) ∙ c.if-not-any_mark.true)))
 
