@@ -23,7 +23,7 @@ make_repository() {
         cp -r "$at"/{src,specs,proofs} "$room/crates/${at##*/}" 2> /dev/null
     done
     cp "$root/crates.txt" "$root/HANDLES" "$room"
-    echo 'examples: indexmap logos_codegen' >> "$room/crates.txt"
+    echo 'examples: indexmap logos_codegen logos_disk logos_lines' >> "$room/crates.txt"
     git -C "$room" init -q
 }
 
