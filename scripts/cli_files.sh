@@ -6,7 +6,7 @@
 # It needs the program as `rt ci` or `rt run` leaves it in crates/logos_cli/out, or the first argument.
 set -euo pipefail
 
-program=$(realpath "${1:-$(dirname "${BASH_SOURCE[0]}")/../crates/logos_cli/out/logos_cli}")
+program=$(realpath -m "${1:-$(dirname "${BASH_SOURCE[0]}")/../crates/logos_cli/out/logos_cli}")
 room=$(mktemp -d)
 trap 'rm -rf "$room"' EXIT
 cd "$room"
@@ -22,6 +22,8 @@ fail() {
     echo "$met passed, 1 failed"
     exit 1
 }
+
+[ -x "$program" ] || fail "the program $program is missing"
 
 # Fails unless the command that just ran with this status wrote these lines.
 wants() {

@@ -1,14 +1,19 @@
 #!/usr/bin/env bash
 # Runs the examples: `cargo test` in each Cargo package of examples/, and of runtime/rust, without a network.
 #
-# The programs `logos` and `logos_cli` are those that the gate has built, or the first two arguments. Where cargo is missing, that is printed, and nothing is
-# tested. The last line is `examples: N passed, M failed`.
+# The program `logos_cli` is the one that the gate has built, or the first argument. Where cargo is missing, that is printed, and nothing is tested. The
+# last line is `examples: N passed, M failed`.
 set -uo pipefail
 
 root=$(cd "$(dirname "${BASH_SOURCE[0]}")/.." && pwd)
-LOGOS=$(realpath "${1:-$root/crates/logos_program/out/logos_program}")
-LOGOS_CLI=$(realpath "${2:-$root/crates/logos_cli/out/logos_cli}")
-export LOGOS LOGOS_CLI
+LOGOS_CLI=${1:-$root/crates/logos_cli/out/logos_cli}
+if [ ! -x "$LOGOS_CLI" ]; then
+    echo "examples: the program $LOGOS_CLI is missing"
+    echo "examples: 0 passed, 1 failed"
+    exit 1
+fi
+LOGOS_CLI=$(realpath "$LOGOS_CLI")
+export LOGOS_CLI
 packages=(runtime/rust examples/json examples/template examples/highlight examples/ini)
 room=$(mktemp -d)
 trap 'rm -rf "$room"' EXIT

@@ -3,8 +3,9 @@
 
   faults.py [PROGRAM]
 
-PROGRAM is the one that the gate has built, without. Every code of the library needs an entry, and every kind a row of its table. The last
-line is `faults: N passed, M failed`."""
+PROGRAM is `logos` as the gate has built it, if it is not given. Every code of the library needs an entry, and every kind a row of its table.
+Every code also needs a row of `logos_cli` that is named after it and shows how the program prints it. The last line is
+`faults: N passed, M failed`."""
 import os
 import re
 import subprocess
@@ -13,6 +14,7 @@ import tempfile
 
 ROOT = os.path.dirname(os.path.dirname(os.path.realpath(__file__)))
 PAGE = f"{ROOT}/docs/FAULTS.md"
+SHOWN = f"{ROOT}/rows/commands_cli/faults.rows"
 # The enums that list the codes and kinds, each with the level of its names on the page.
 CODES = f"{ROOT}/crates/logos_token/src/error/fault_code.rt", "FaultCode"
 KINDS = [(f"{ROOT}/crates/logos_lexeme/src/lexeme.rt", "LexicalKind"), (f"{ROOT}/crates/logos_pattern_tokens/src/error.rt", "Kind")]
@@ -67,14 +69,34 @@ def rows(page):
             yield kind, f'enum E {{ #[regex(r"{shown}")] A }}', f"17..{len(shown) + 20} Regex: regex fault at byte {place}: {kind}"
 
 
+def shown():
+    """Returns the codes that a row of `logos_cli` shows: it is named after the code, and its messages have a line for it."""
+    with open(SHOWN, encoding="utf-8") as it:
+        rows = it.read().split("\n=== the fault ")[1:]
+    found = set()
+    for row in rows:
+        code, _, rest = row.partition("\n")
+        messages = rest.partition("\n--- stderr\n")[2]
+        # The place of an earlier text is a note of the fault in front of it.
+        line = r"^note: Previous" if code == "Previous" else rf"^error\[{code}\]: "
+        if re.search(line, messages, re.M):
+            found.add(code)
+    return found
+
+
 def main():
     program = os.path.realpath((sys.argv[1:] or [f"{ROOT}/crates/logos_program/out/logos_program"])[0])
+    if not os.access(program, os.X_OK):
+        print(f"faults: the program {program} is missing\nfaults: 0 passed, 1 failed")
+        sys.exit(1)
     with open(PAGE, encoding="utf-8") as it:
         page = it.read()
     asked = [*entries(page), *[(kind, source, None, line + "\n") for kind, source, line in rows(page)]]
+    printed_by_cli = shown()
     met = {it[0].strip("`") for it in asked}
     wanted = [*variants(*CODES), *[name for kind in KINDS for name in variants(*kind)]]
     failed = [f"{name} has no entry" for name in wanted if name not in met]
+    failed += [f"{name} has no row in rows/commands_cli/faults.rows" for name in variants(*CODES) if name not in printed_by_cli]
     passed = 0
     with tempfile.TemporaryDirectory() as room:
         for heading, source, given, lines in asked:

@@ -10,9 +10,9 @@
 set -euo pipefail
 
 root=$(cd "$(dirname "${BASH_SOURCE[0]}")/.." && pwd)
-program=$(realpath "${1:-$root/crates/logos_program/out/logos_program}")
-cli=$(realpath "${2:-$root/crates/logos_cli/out/logos_cli}")
-show=$(realpath "${3:-$root/crates/logos_show/out/logos_show}")
+program=$(realpath -m "${1:-$root/crates/logos_program/out/logos_program}")
+cli=$(realpath -m "${2:-$root/crates/logos_cli/out/logos_cli}")
+show=$(realpath -m "${3:-$root/crates/logos_show/out/logos_show}")
 room=$(mktemp -d)
 trap 'rm -rf "$room"' EXIT
 cd "$root"
@@ -24,6 +24,10 @@ fail() {
     echo "$ran passed, 1 failed" >&3
     exit 1
 }
+
+for name in "$program" "$cli" "$show"; do
+    [ -x "$name" ] || fail "the program $name is missing"
+done
 
 logos() {
     "$program" "$@"
@@ -72,7 +76,7 @@ check_page() {
     [ "$((ran - ran_before))" = "$3" ] || fail "$1: $((ran - ran_before)) commands ran, where $3 are stated"
 }
 
-check_page docs/GUIDE.md 22 40 alone
+check_page docs/GUIDE.md 22 41 alone
 check_page README.md 1 3 others
 sed -n '/^pub const SOURCE/,/^"#;$/p' crates/logos_codegen/src/expr.rt | sed -e '1s/^[^"]*"//' -e '$d' | cmp -s - docs/guide/expr.rs \
     || fail "another enum than that of the tokenizer"

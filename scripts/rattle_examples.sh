@@ -1,12 +1,20 @@
 #!/usr/bin/env bash
 # Runs the examples in Rattle, and the one of README.md, as another repository would: in a folder with a copy of crates/, the lines of
-# crates.txt, and a line for a new crate. The examples are modules of this one crate, so that `rt try` compiles the libraries once for
-# all of them. They are not proved: they use what the contracts say, and say nothing of their own.
+# crates.txt, and a line for a new crate.
+#
+#   bash scripts/rattle_examples.sh            runs them as modules of this one crate, so that `rt try` compiles the libraries once for all of
+#                                              them, and proves nothing
+#   bash scripts/rattle_examples.sh --proved   proves each example as a crate of its own, by `rt ci`, and runs it. This is not in the gate
 #
 # Each example is examples/NAME/main.rt.in, with the crates that it uses, NAME.rs and the files of data/, and has to print data/expected
 # and end with status 0. The last line is `rattle_examples: N passed, M failed`.
 set -uo pipefail
 
+if [ $# -gt 0 ] && [ "$*" != --proved ]; then
+    echo 'usage: scripts/rattle_examples.sh [--proved]' >&2
+    exit 2
+fi
+mode=${1:-tried}
 root=$(cd "$(dirname "${BASH_SOURCE[0]}")/.." && pwd)
 room=$(mktemp -d)
 trap 'rm -rf "$room"' EXIT
@@ -14,16 +22,18 @@ crate=$room/crates/examples
 names=()
 given=()
 
-# Makes the other repository: the library as it stands, and its list with the new crate.
+# The libraries that an example may use.
+libraries='indexmap logos_codegen logos_disk logos_lines'
+
+# Makes the other repository: the library as it stands, and its list.
 make_repository() {
     local at
-    mkdir -p "$crate/src" "$crate/data" "$room/cases"
+    mkdir -p "$room/crates" "$room/cases"
     for at in "$root"/crates/*; do
         mkdir "$room/crates/${at##*/}"
         cp -r "$at"/{src,specs,proofs} "$room/crates/${at##*/}" 2> /dev/null
     done
     cp "$root/crates.txt" "$root/HANDLES" "$room"
-    echo 'examples: indexmap logos_codegen' >> "$room/crates.txt"
     git -C "$room" init -q
 }
 
@@ -57,33 +67,82 @@ write_program() {
     printf '        _ => Ok(ExitCode::from(2)),\n    }\n}\n'
 }
 
+# Makes a crate of its own for an example: its name, what it has to print, and its words. Its program is read from standard input.
+add_crate() {
+    local at=$room/crates/$1 text
+    names+=("$1")
+    text=$(cat)
+    [[ $text == *'#![tactic(auto)]'* ]] || text=$'#![tactic(auto)]\n\n'$text
+    mkdir -p "$at/src"
+    printf '%s\n' "$text" > "$at/src/main.rt"
+    cp "$2" "$at/stdout"
+    if [ $# -gt 2 ]; then
+        printf '%s\n' "${@:3}" > "$at/args"
+        mkdir "$at/data"
+        cp "$root/examples/$1/$1.rs" "$root/examples/$1/data"/* "$at/data"
+        rm "$at/data/expected"
+    fi
+    echo "$1: $libraries" >> "$room/crates.txt"
+    (cd "$at" && rt fmt) > /dev/null
+}
+
+# Takes an example: its name, what it has to print, and its words. Its program is read from standard input.
+take() {
+    local file
+    if [ "$mode" = --proved ]; then
+        add_crate "$@"
+        return
+    fi
+    if [ $# -gt 2 ]; then
+        for file in "$root/examples/$1/$1.rs" "$root/examples/$1/data"/*; do
+            [ "${file##*/}" = expected ] || add_data "$file"
+        done
+    fi
+    add_example "$@"
+}
+
+# Runs all examples by `rt try`, and prints the name of each that fails.
+try_all() {
+    local name
+    write_program > "$crate/src/main.rt"
+    echo "examples: $libraries" >> "$room/crates.txt"
+    (cd "$crate" && rt try --cases "$room/cases" "${given[@]}") > "$room/output" 2> "$room/messages" < /dev/null
+    for name in "${names[@]}"; do
+        grep -q "^case=$name run=ended status=0 .*output=expected" "$room/messages" || echo "$name"
+    done
+}
+
+# Proves and runs all examples by `rt ci`, and prints the name of each that fails.
+prove_all() {
+    local name failures=0
+    (cd "$room" && rt ci "${names[@]}") > "$room/output" 2> "$room/messages" < /dev/null && return
+    for name in "${names[@]}"; do
+        grep -q "^rt: $name \(proved\|is kept\)" "$room/output" || { echo "$name"; failures=1; }
+    done
+    [ "$failures" = 1 ] || echo 'a run'
+}
+
 make_repository
 sed -n '/^```text$/,/^```$/p' "$root/README.md" | sed '1d;$d' > "$room/readme.expected"
 sed -n '/^```rust$/,/^```$/p' "$root/README.md" | sed '1d;$d' > "$room/readme.rt"
-add_example readme "$room/readme.expected" < "$room/readme.rt"
+[ "$mode" = --proved ] || mkdir -p "$crate/src" "$crate/data"
+take readme "$room/readme.expected" < "$room/readme.rt"
 while read -r name words; do
-    for file in "$root/examples/$name/$name.rs" "$root/examples/$name/data"/*; do
-        [ "${file##*/}" = expected ] || add_data "$file"
-    done
     # (the words are parted by blanks)
-    add_example "$name" "$root/examples/$name/data/expected" $words < "$root/examples/$name/main.rt.in"
+    take "$name" "$root/examples/$name/data/expected" $words < "$root/examples/$name/main.rt.in"
 done << 'END'
 config data/config.rs data/good.toml data/bad.toml
 query data/query.rs data/query.sql
 log data/log.rs data/access.log
 END
-write_program > "$crate/src/main.rt"
 
-(cd "$crate" && rt try --cases "$room/cases" "${given[@]}") > "$room/output" 2> "$room/messages" < /dev/null
-passed=0
-for name in "${names[@]}"; do
-    if grep -q "^case=$name run=ended status=0 .*output=expected" "$room/messages"; then
-        passed=$((passed + 1))
-    else
-        echo "rattle_examples: $name failed"
-    fi
-done
-failed=$((${#names[@]} - passed))
-[ "$failed" = 0 ] || tail -n 40 "$room/output" "$room/messages"
+if [ "$mode" = --proved ]; then
+    prove_all > "$room/failures"
+else
+    try_all > "$room/failures"
+fi
+failed=$(wc -l < "$room/failures")
+passed=$((${#names[@]} - failed))
+[ "$failed" = 0 ] || { sed 's/^/rattle_examples: failed: /' "$room/failures"; tail -n 40 "$room/output" "$room/messages"; }
 echo "rattle_examples: $passed passed, $failed failed"
 [ "$failed" = 0 ]

@@ -9,8 +9,8 @@
 set -euo pipefail
 
 root=$(cd "$(dirname "${BASH_SOURCE[0]}")/.." && pwd)
-cli=$(realpath "${1:-$root/crates/logos_cli/out/logos_cli}")
-show=$(realpath "${2:-$root/crates/logos_show/out/logos_show}")
+cli=$(realpath -m "${1:-$root/crates/logos_cli/out/logos_cli}")
+show=$(realpath -m "${2:-$root/crates/logos_show/out/logos_show}")
 lexers=8
 room=$(mktemp -d)
 trap 'rm -rf "$room"' EXIT
@@ -21,6 +21,9 @@ fail() {
     exit 1
 }
 
+for program in "$cli" "$show"; do
+    [ -x "$program" ] || fail "the program $program is missing"
+done
 command -v rustc > /dev/null || fail "rustc is missing"
 rustc --edition 2021 -A warnings --crate-name logos --crate-type rlib -o "$room/liblogos.rlib" "$root/runtime/rust/src/lib.rs"
 

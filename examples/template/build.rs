@@ -1,34 +1,25 @@
-//! Makes both lexers: each enum without its attributes, and after it what `logos gen` prints.
+//! Expands the derive of both lexers in `src/rules.rs` by `logos_cli`. Everything else in that file stays as it is.
 //!
-//! The program is `logos` on the path, or the one that the variable LOGOS names.
+//! The program is `logos_cli` on the path, or the one that the variable LOGOS_CLI names.
 
 use std::path::Path;
-use std::process::Command;
-use std::{env, fs};
+use std::process::{exit, Command};
+use std::env;
 
 fn main() {
-    println!("cargo::rerun-if-env-changed=LOGOS");
+    let source = "src/rules.rs";
+    println!("cargo::rerun-if-changed={source}");
+    println!("cargo::rerun-if-env-changed=LOGOS_CLI");
+    let program = env::var("LOGOS_CLI").unwrap_or_else(|_| "logos_cli".into());
     let folder = env::var("OUT_DIR").expect("cargo names the folder");
-    for name in ["outside", "inside"] {
-        let source = format!("src/{name}.rs");
-        println!("cargo::rerun-if-changed={source}");
-        let text = [logos("strip", &source), logos("gen", &source)].concat();
-        fs::write(Path::new(&folder).join(format!("{name}.rs")), text).expect("the lexer can be written");
-    }
-}
-
-/// Returns what the command prints. Where it refuses the enum, its faults are the build's errors.
-fn logos(command: &str, source: &str) -> String {
-    let program = env::var("LOGOS").unwrap_or_else(|_| "logos".into());
     let output = Command::new(&program)
-        .args([command, source])
+        .arg(source)
+        .arg("--output")
+        .arg(Path::new(&folder).join("rules.rs"))
         .output()
         .unwrap_or_else(|error| panic!("{program} cannot be run ({error}): install it with scripts/install.sh"));
     if !output.status.success() {
-        for line in String::from_utf8_lossy(&output.stderr).lines() {
-            println!("cargo::error={source}:{line}");
-        }
-        std::process::exit(1);
+        eprint!("{}", String::from_utf8_lossy(&output.stderr));
+        exit(1);
     }
-    String::from_utf8(output.stdout).expect("a lexer is text")
 }

@@ -1,9 +1,6 @@
-//! The two lexers, which the build makes of `outside.rs` and `inside.rs`.
+//! The two lexers: `rules.rs` with its derives expanded by the build.
 
 // Printed text names things that not every enum needs.
 #![allow(unused_variables, unused_parens, unused_imports, unused_macros, unreachable_code, dead_code)]
 
-use logos::Logos;
-
-include!(concat!(env!("OUT_DIR"), "/outside.rs"));
-include!(concat!(env!("OUT_DIR"), "/inside.rs"));
+include!(concat!(env!("OUT_DIR"), "/rules.rs"));
