@@ -1,6 +1,6 @@
-//! Making code values. This module is for the generator of codes alone: it is not handed on with `code`.
+//! Makes code values. This module is for the generator of codes alone, so `code` does not export it.
 ghost use Rattle.std.specs.Prelude.{◌≡◌, IfOk};
-ghost use Rattle.logos_code.specs.CodeView.{code_of, IsKept};
+ghost use Rattle.logos_code.specs.CodeView.{code_of, IsValid};
 
 use super::masks::masks_of;
 use super::rows::{first_row, rows_of};
@@ -14,14 +14,14 @@ use std::alloc::{AllocError, Global};
 /// # Errors
 /// Returns an error when memory runs out.
 pub fn make_code<'s>(alloc: Global, parts: CodeParts<'s>) -> Result<Code<'s>, AllocError>
-    requires { IsKept parts }
+    requires { IsValid parts }
     ensures { IfOk result (λ code. code ≡ code_of parts.entry) }
 {
     let rows = rows_of(alloc, &parts)?;
     let masks = masks_of(alloc, &parts)?;
     let signs = signs_of(alloc, &parts)?;
     let uses = uses_of(alloc, &parts)?;
-    let first = first_row(&rows[parts.root]);
+    let first = first_row(&rows, parts.root);
     Ok(Code {
         parts,
         first,
