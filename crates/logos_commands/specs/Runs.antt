@@ -106,7 +106,7 @@ module _ {F : Type 0} (gives : F → List ℕ → List ℕ → F → Type 0) whe
 
   -- what is asked for cannot be had: the files give what is refused so
   abbrev pub IsDenied : Asked → F → Failure → Type 0
-  IsDenied (asks_text file shape) files failure = ReadsSome gives files file (λ source. RefusesLexer source Text failure)
+  IsDenied (asks_text file shape) files failure = ReadsSome gives files file (λ source. RefusesLexer source (Text shape) failure)
   IsDenied (asks_items file input shape) files failure = ReadsBoth gives files file input (λ source bytes. RefusesInput source bytes failure)
   IsDenied (asks_chart file) files failure = ReadsSome gives files file (λ source. RefusesLexer source Chart failure)
   IsDenied (asks_export file) files failure = ReadsSome gives files file (λ source. RefusesLexer source Export failure)

@@ -1,5 +1,6 @@
 //! Warnings, with their places.
 
+use crate::showing::PlacedEnum;
 use logos_codegen::error::Memory;
 use logos_codegen::graph::Graph;
 use logos_codegen::item::{ItemEnum, ReadError, read_enum};
@@ -13,33 +14,30 @@ use std::alloc::{AllocError, Global};
 pub(crate) fn push_warnings(
     alloc: Global,
     page: &mut Page,
-    part: Part<'_, '_>,
-    text: &str,
-    derives: bool,
+    one: PlacedEnum<'_, '_>,
 ) -> Result<(), Memory> {
-    let stream = match tokenize(alloc, text) {
+    let stream = match tokenize(alloc, one.text) {
         Ok(stream) => stream,
         Err(TokenError::Memory) => return Err(Memory),
         Err(_) => return Ok(()),
     };
     match read_enum(alloc, stream.run()) {
-        Ok(item) => push_item(alloc, page, part, &item, derives),
+        Ok(item) => push_item(alloc, page, one, &item),
         Err(ReadError::Memory) => Err(Memory),
         Err(_) => Ok(()),
     }
 }
 
-/// Adds the warnings of an enum.
+/// Adds the warnings of an enum, which is read as `item`.
 fn push_item(
     alloc: Global,
     page: &mut Page,
-    part: Part<'_, '_>,
+    one: PlacedEnum<'_, '_>,
     item: &ItemEnum<'_, '_>,
-    derives: bool,
 ) -> Result<(), Memory> {
-    let warnings = warnings_of(alloc, item, derives)?;
+    let warnings = warnings_of(alloc, item, one.derives)?;
     for warning in &warnings {
-        push_warning(page, part, item.name.text, *warning);
+        push_warning(page, one.part, item.name.text, *warning);
     }
     Ok(())
 }
@@ -51,7 +49,10 @@ fn push_warning(page: &mut Page, part: Part<'_, '_>, name: &str, warning: Warnin
             name,
             intended,
             span,
-        } => push_misspelled(page, part, name, intended, span),
+        } => {
+            push_misspelled(page, name, intended);
+            push_place(page, part, span);
+        }
         Warning::Useless { span } => {
             push_message(page, "`logos` has no effect on a variant", "", "");
             push_place(page, part, span);
@@ -68,8 +69,8 @@ fn push_warning(page: &mut Page, part: Part<'_, '_>, name: &str, warning: Warnin
     }
 }
 
-/// Adds the warning of an attribute whose name is near to that of a helper attribute.
-fn push_misspelled(page: &mut Page, part: Part<'_, '_>, name: &str, intended: Helper, span: Span) {
+/// Adds the message about an attribute whose name is near to that of a helper attribute.
+fn push_misspelled(page: &mut Page, name: &str, intended: Helper) {
     begin(page);
     page.push("`");
     page.push(name);
@@ -77,7 +78,6 @@ fn push_misspelled(page: &mut Page, part: Part<'_, '_>, name: &str, intended: He
     page.push(intended.name());
     page.push("`");
     end(page);
-    push_place(page, part, span);
 }
 
 /// Adds a warning for each leaf of a graph that the graph does not mark.
