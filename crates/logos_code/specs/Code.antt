@@ -3,7 +3,7 @@ use Rattle.std.specs.Prelude.{ℕ, Bool, List, Option}
 use Rattle.logos_automaton.specs.Munch.{Use}
 use Rattle.logos_byte_class.specs.Bytes.{Comparison}
 use Rattle.logos_code.specs.declared.code.CodeLeaf.{CodeLeaf}
-use Rattle.logos_code.specs.declared.code.Kept.{Kept}
+use Rattle.logos_code.specs.declared.code.Header.{Header}
 
 -- a match of this leaf ends here, or one byte before where it is late
 pub record Mark : Type 0 where
@@ -40,5 +40,5 @@ pub record CodeValue : Type 0 where
   pub utf8 : Bool
   -- no run reads these; a fork by a table holds the entries of its table
   pub jump_tables : List (List ℕ)
-  pub kept : Kept
-  pub kept_leaves : List CodeLeaf
+  pub header : Header
+  pub code_leaves : List CodeLeaf

@@ -57,8 +57,8 @@ code_of code = record {
   root = code.root;
   utf8 = code.utf8;
   jump_tables = code.jump_tables.items;
-  kept = code.kept;
-  kept_leaves = code.leaves.items;
+  header = code.header;
+  code_leaves = code.leaves.items;
 }
 
 -- a state without anything, for the states that are not there
@@ -84,7 +84,7 @@ has_mask table mask b = not (bit_and (slice_index table b) mask == 0)
 abbrev pub AreDifferent : List (List ℕ) → Type 0
 AreDifferent tables = (i j : ℕ) → i < length tables → j < length tables → slice_get tables i ≡ slice_get tables j → i ≡ j
 
--- what the type of a code value keeps
-pub record IsKept (code : CodeParts) : Type 0 where
+-- the parts that a code can have
+pub record IsValid (code : CodeParts) : Type 0 where
   pub sound : IsSound (code_of code)
   pub once : AreDifferent code.jump_tables.items

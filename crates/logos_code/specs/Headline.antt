@@ -55,7 +55,7 @@ pub record IsRoot (code : CodeValue) (state : CodeState) : Type 0 where
 abbrev pub IsEnd : CodeValue → Option ℕ → Type 0
 IsEnd code at_end = IfSome at_end (λ t. IsLate code t × IsSomeAnd (slice_get code.states t) (λ next. next.at_end ≡ None))
 
--- What the type of a code value keeps.
+-- The invariant of a code value.
 pub record IsSound (code : CodeValue) : Type 0 where
   pub states : All (NamesWhatIsThere code) code.states
   pub root : IsSomeAnd (slice_get code.states code.root) (IsRoot code)

@@ -46,7 +46,7 @@ module _ (uses : List Use) (callback : Callback) (bytes : List ℕ) where
         search from (failed to) → Lexes search to rest →
         Lexes search from (error None from to (slice_range bytes from to) ∷ rest)
 
-  -- The next item from a place on, and the place behind it: matches that give none are passed.
+  -- The next item from a place on, and the place after it: matches that give none are passed.
   pub data NextItem (search : Search) : ℕ → Item → ℕ → Type 0 where
     passes : (from to leaf : ℕ) (answer : Action) (item : Item) (end : ℕ) →
         search from (matched leaf to) → MayAnswer leaf (slice_range bytes from to) answer → items_of answer leaf from to ≡ [] →
@@ -60,6 +60,6 @@ module _ (uses : List Use) (callback : Callback) (bytes : List ℕ) where
 abbrev pub Items : List Rule → Callback → Bool → List ℕ → ℕ → List Item → Type 0
 Items rules callback utf8 bytes = Lexes (map (λ rule. rule.use_of) rules) callback bytes (Finds rules utf8 bytes)
 
--- the next item of maximal munch from a place on, and the place behind it
+-- the next item of maximal munch from a place on, and the place after it
 abbrev pub IsNext : List Rule → Callback → Bool → List ℕ → ℕ → Item → ℕ → Type 0
 IsNext rules callback utf8 bytes = NextItem (map (λ rule. rule.use_of) rules) callback bytes (Finds rules utf8 bytes)

@@ -21,7 +21,7 @@ pub data Turn : Type 0 where
   acts : Option (ℕ × ℕ) → (offset : ℕ) → Turn
   returns : Turn
 
--- the context behind a mark at the offset
+-- the context after a mark at the offset
 abbrev pub marked : Option Mark → ℕ → Option (ℕ × ℕ) → Option (ℕ × ℕ)
 marked None offset context = context
 marked (Some mark) offset context = Some (mark.leaf, if mark.late then offset - 1 else offset)
@@ -50,7 +50,7 @@ module _ (code : CodeValue) where
   looped None rest = 0
   looped (Some k) rest = length (take_while (passes_test code.bit_tables k) rest)
 
-  -- behind the fork's byte, if there is one, or at the end of the input
+  -- what the fork's byte does, if there is one, or the end of the input
   abbrev pub forked : CodeState → Option ℕ → Bool → ℕ → Option (ℕ × ℕ) → Turn
   forked state (Some b) fresh offset context = led (target state.fork b) offset context
   forked state None fresh offset context = if fresh then returns else led state.at_end offset context
@@ -66,7 +66,7 @@ module _ (code : CodeValue) where
     abbrev pub Does : Stand → Turn → Type 0
     Does at what = (state : CodeState) × (slice_get code.states at.state ≡ Some state) × (turn state at ≡ what)
 
-    -- where an error ends that has come to the offset: behind a byte at least, and in UTF-8 mode behind a character
+    -- where an error ends that has come to the offset: after one byte at least, and in UTF-8 mode between characters
     pub record EndsError (offset to : ℕ) : Type 0 where
       pub past : max offset (start + 1) ≤ to
       pub boundary : IsTrue code.utf8 → IsCharBoundary bytes to
@@ -98,6 +98,6 @@ CodeFinds code bytes from found = (n : ℕ) × Tries code bytes from found n
 abbrev pub Runs : CodeValue → Callback → List ℕ → ℕ → List Item → Type 0
 Runs code callback bytes = Lexes code.leaves callback bytes (CodeFinds code bytes)
 
--- the next item of a run of the code value from a place on, and the place behind it
+-- the next item of a run of the code value from a place on, and the place after it
 abbrev pub RunsOn : CodeValue → Callback → List ℕ → ℕ → Item → ℕ → Type 0
 RunsOn code callback bytes = NextItem code.leaves callback bytes (CodeFinds code bytes)

@@ -1,7 +1,7 @@
--- What contracts see of the uses that a code keeps of its leaves.
+-- What contracts see of the uses of leaves.
 use Rattle.std.specs.Prelude.{◌≡◌, ℕ, List, map}
 use Rattle.logos_automaton.specs.Munch.{Use}
-use Rattle.logos_code.specs.CodeView.{code_of, IsKept}
+use Rattle.logos_code.specs.CodeView.{code_of, IsValid}
 use Rattle.logos_code.specs.Masks.{AreMasks}
 use Rattle.logos_code.specs.Rows.{AreRows, IsFirstRow}
 use Rattle.logos_code.specs.Signs.{mark_by, AreSigns}
@@ -12,9 +12,9 @@ use Rattle.logos_code.specs.declared.code.uses.LeafUse.{LeafUse}
 abbrev pub use_by : LeafUse → Use
 use_by flags = record { skips = flags.skips; asks = flags.asks }
 
--- the parts are kept, and the tables beside them say what these parts do
+-- the parts are valid, and the tables beside them agree with them
 pub record IsWhole (parts : CodeParts) (first : List ℕ) (rows masks : List (List ℕ)) (signs : List Sign) (uses : List LeafUse) : Type 0 where
-  pub kept : IsKept parts
+  pub valid : IsValid parts
   pub first_row : IsFirstRow (code_of parts) first
   pub all_rows : AreRows (code_of parts) rows
   pub all_masks : AreMasks (code_of parts) masks

@@ -3,7 +3,7 @@ ghost use Rattle.std.specs.Prelude.{◌≡◌, ◌<◌, length, option_map, opti
 ghost use Rattle.logos_code.specs.Bytes.{passes_test};
 ghost use Rattle.logos_code.specs.Headline.{IsSound, NamesTest};
 ghost use Rattle.logos_code.specs.CodeView.{entry_of, state_at, asks_for};
-ghost use Rattle.logos_code.specs.CodeView.{skips_over, code_of, IsKept};
+ghost use Rattle.logos_code.specs.CodeView.{skips_over, code_of, IsValid};
 ghost use Rattle.logos_code.specs.Runs.{target};
 ghost use Rattle.logos_code.specs.Masks.{IsMask};
 ghost use Rattle.logos_code.specs.Rows.{IsEntry, IsFirst, IsLastEntry};
@@ -80,9 +80,9 @@ pub struct Config {
     pub use_state_machine_codegen: bool,
 }
 
-/// What a code value keeps as its generator was given it.
+/// What a generator is given beside the graph, which the code has unchanged.
 #[derive(Drop)]
-pub struct Kept<'s> {
+pub struct Header<'s> {
     /// The shape of its text.
     pub shape: Config,
     /// The name of the enum.
@@ -96,7 +96,7 @@ pub struct Kept<'s> {
 /// What a code value is made of: its nodes, and the tables that they name by number.
 #[derive(Drop)]
 pub struct CodeParts<'s> {
-    pub kept: Kept<'s>,
+    pub header: Header<'s>,
     pub states: Vec<CodeState>,
     /// Test number k is bit k mod 8 of the entries of table k / 8.
     pub bit_tables: Vec<[u8; 256]>,
@@ -150,44 +150,44 @@ impl<'s> Model for Code<'s> {
 impl<'s> Code<'s> {
     /// Returns the shape of its text.
     pub fn shape(&self) -> Config
-        ensures { result ≡ self.now.kept.shape }
+        ensures { result ≡ self.now.header.shape }
     {
-        self.parts.kept.shape
+        self.parts.header.shape
     }
 
     /// Returns the name of the enum.
     pub fn name(&self) -> Ident<'s>
-        ensures { result ≡ self.now.kept.name }
+        ensures { result ≡ self.now.header.name }
     {
-        self.parts.kept.name
+        self.parts.header.name
     }
 
     /// Returns the type that the enum is: its name with its generic arguments.
     pub fn this(&self) -> &TypeExpr<'s>
-        ensures { result.now ≡ self.now.kept.this }
+        ensures { result.now ≡ self.now.header.this }
     {
-        &self.parts.kept.this
+        &self.parts.header.this
     }
 
     /// Returns the parts of the code: its nodes and its tables. Each state, table, test and leaf that they name exists, and no two jump
     /// tables are equal.
     pub fn parts(&self) -> &CodeParts<'s>
         ensures is { code_of result.now ≡ self.now }
-        ensures keeps { IsKept result.now }
+        ensures valid { IsValid result.now }
     {
         &self.parts
     }
 
     /// Returns the callback for errors, if there is one.
     pub fn error_callback(&self) -> Option<&Callback<'s>>
-        ensures { option_copied result ≡ self.now.kept.error_callback }
+        ensures { option_copied result ≡ self.now.header.error_callback }
     {
-        self.parts.kept.error_callback.as_ref()
+        self.parts.header.error_callback.as_ref()
     }
 
     /// Returns the leaves, in the order of their numbers: what becomes of the matches of each.
     pub fn leaves(&self) -> &[CodeLeaf<'s>]
-        ensures { result.now ≡ self.now.kept_leaves }
+        ensures { result.now ≡ self.now.code_leaves }
     {
         self.parts.leaves.as_slice()
     }

@@ -40,11 +40,11 @@ error_callback options = elim options.error_type [ None ↦ None | Some error �
 
 -- The code has the shape, the name of the enum, its type, the callback for errors, and for each leaf its kind and its callback.
 pub record KeepsEnum (config : Config) (name : Slice) (options : OptionsView) (graph : GraphValue) (code : CodeValue) : Type 0 where
-  pub shape : code.kept.shape ≡ config
-  pub same_name : ident_slice code.kept.name ≡ name
-  pub this : type_tree code.kept.this ≡ enum_type name.text (generics options.types)
-  pub on_error : option_map callback_view code.kept.error_callback ≡ error_callback options
-  pub leaves : map code_leaf_value code.kept_leaves ≡ map leaf_value graph.leaves
+  pub shape : code.header.shape ≡ config
+  pub same_name : ident_slice code.header.name ≡ name
+  pub this : type_tree code.header.this ≡ enum_type name.text (generics options.types)
+  pub on_error : option_map callback_view code.header.error_callback ≡ error_callback options
+  pub leaves : map code_leaf_value code.code_leaves ≡ map leaf_value graph.leaves
 
 -- What a source without faults gives: its graph, a code in this shape, its name, and the path of its chart, if the options have one.
 pub record IsGiven (source : List ℕ) (config : Config) (graph : GraphValue) (code : CodeValue) (name : Slice) (export : Option (List ℕ)) : Type 0 where

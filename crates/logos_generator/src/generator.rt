@@ -16,7 +16,7 @@ mod states;
 mod tests_by_bits;
 
 pub use logos_code::code::Config;
-use logos_code::code::{Code, Kept};
+use logos_code::code::{Code, Header};
 use logos_graph::graph::Graph;
 use logos_pattern::leaf::Callback;
 use logos_token::error::Memory;
@@ -142,21 +142,21 @@ impl<'g, 's> Generator<'g, 's> {
         ensures nodes { IfOk result (HasNodesOf self.now.graph.states) }
         ensures tests { OnOk result (tables.new.tests.keys ≡ tests_of self.now.graph.states) }
         ensures jumps { OnOk result (tables.new.jumps.keys ≡ jump_tables_of self.now.graph.states) }
-        ensures kept { IfOk result (λ code. IsCopy self.now.given code.kept) }
-        ensures kept_leaves { IfOk result
-            (λ code. map code_leaf_value code.kept_leaves ≡ map leaf_value self.now.graph.leaves) }
+        ensures header { IfOk result (λ code. IsCopy self.now.given code.header) }
+        ensures code_leaves { IfOk result
+            (λ code. map code_leaf_value code.code_leaves ≡ map leaf_value self.now.graph.leaves) }
     {
-        match self.kept() {
-            Ok(kept) => code_of(alloc, tables, kept, self.graph, self.graph.iter_states()),
+        match self.header() {
+            Ok(header) => code_of(alloc, tables, header, self.graph, self.graph.iter_states()),
             Err(error) => Err(error),
         }
     }
 
     /// Returns copies of what the generator was given, for the code.
-    fn kept(&self) -> Result<Kept<'s>, AllocError>
+    fn header(&self) -> Result<Header<'s>, AllocError>
         ensures { IfOk result (IsCopy self.now.given) }
     {
-        Ok(Kept {
+        Ok(Header {
             shape: self.config,
             name: self.name,
             this: self.this.clone()?,

@@ -70,7 +70,7 @@ module _ (code : CodeValue) (callback : Callback) (bytes : List ℕ) (from : ℕ
       items_of code.leaves callback bytes answer leaf from to ≡ item ∷ [] → RunsOn code callback bytes from item to
   match_next to leaf n answer item tries may is = let finds : CodeFinds code bytes from (matched leaf to) = (n, tries) in gives from to leaf answer item finds may is
 
-  -- it stands behind a match that gives none
+  -- it stands after a match that gives none
   pub pass_next : (to leaf n : ℕ) (answer : Action) (item : Item) (end : ℕ) → Tries code bytes from (matched leaf to) n → MayAnswer code.leaves callback bytes leaf (slice_range bytes from to) answer →
       items_of code.leaves callback bytes answer leaf from to ≡ [] → RunsOn code callback bytes to item end → RunsOn code callback bytes from item end
   pass_next to leaf n answer item end tries may is next =
@@ -125,7 +125,7 @@ module _ {C : Type 0} (callback : Callback) (old : LexerValue C) where
         let fits : IsMatch old.code old.input from leaf to = t.within in
         let made : Gives callback old (moved old from to steps) item = record {
           span = item_span (moved old from to steps) from to refl refl old.code.leaves callback old.input answer leaf item is;
-          behind = i.after;
+          after = i.after;
           nonempty = fits.1;
           within = fits.2;
           is = i.passed item to (match_next old.code callback old.input from to leaf steps answer item t.tries may is);
@@ -146,7 +146,7 @@ module _ {C : Type 0} (callback : Callback) (old : LexerValue C) where
         let span : (from < to) × (to ≤ length old.input) = t.within in
         let made : Gives callback old (moved old from to steps) (error None from to (slice_range old.input from to)) = record {
           span = (refl {a = from}, refl {a = to});
-          behind = i.after;
+          after = i.after;
           nonempty = span.0;
           within = span.1;
           is = i.passed _ _ (fault_next old.code callback old.input from to steps t.tries);

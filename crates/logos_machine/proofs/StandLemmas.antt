@@ -82,7 +82,7 @@ module _ (code : CodeValue) (sound : IsSound code) (bytes : List ℕ) (start : �
     loop_fits : looped code state.fast_loop (drop at.offset bytes) ≤ length bytes - at.offset
     loop_fits = omega (arith, looped-fits code state.fast_loop (drop at.offset bytes), length-drop at.offset bytes)
 
-    -- behind the loop
+    -- after the loop
     in_bytes : at.offset ≤ length bytes → offset ≤ length bytes
     in_bytes h = omega (arith, loop_fits)
 
@@ -201,7 +201,7 @@ module _ (code : CodeValue) (sound : IsSound code) (bytes : List ℕ) (start : �
             begun true e = absurd (cc)
             begun false e = on state.at_end refl e
 
-    -- what a try can act on: a match, or nothing, and then there is a byte behind the start
+    -- what a try can act on: a match, or nothing, and then there is a byte after the start
     record ActsWithin (context : Option (ℕ × ℕ)) (end : ℕ) : Type 0 where
       pub match : IsContext code bytes start context
       pub rest : context ≡ None → (start < length bytes) × (end ≤ length bytes)
@@ -219,7 +219,7 @@ module _ (code : CodeValue) (sound : IsSound code) (bytes : List ℕ) (start : �
         go None f e = f
         go (Some mark) f e = absurd (cc)
 
-    -- nothing is passed, so no place behind the input is reached
+    -- nothing is passed, so no place past the input is reached
     in_input : passed ≡ None → at.offset ≤ length bytes
     in_input e = ⊎_elim (λ h. h) (λ h. absurd (rw (unmarked e) at (late_marked at.state state is h.late))) s.within
 

@@ -39,14 +39,14 @@ abbrev pub item_of : TheItem → Item
 item_of (Token leaf span slice) = token leaf.0 span.from span.to slice.now
 item_of (Error leaf span slice) = error (option_map (λ l. l.0) leaf) span.from span.to slice.now
 
--- What a call of `next` does: it gives the next item of the run, and stands behind it.
+-- What a call of `next` does: it gives the next item of the run, and stands after it.
 pub record Gives {C : Type 0} (callback : Callback) (old new : LexerValue C) (item : Item) : Type 0 where
   pub span : HasSpan new item
-  -- the item lies behind the last one, is nonempty, and ends in the input
-  pub behind : old.to ≤ new.from
+  -- the item lies after the last one, is nonempty, and ends in the input
+  pub after : old.to ≤ new.from
   pub nonempty : new.from < new.to
   pub within : new.to ≤ length new.input
-  -- it is the next one from the old place on, whatever comes behind it
+  -- it is the next one from the old place on, whatever comes after it
   pub is : RunsOn old.code callback old.input old.to item new.to
   pub next : (rest : List Item) → Runs new.code callback new.input new.to rest → Runs old.code callback old.input old.to (item ∷ rest)
 

@@ -193,7 +193,7 @@ impl<'c, 's, 'i, C: Fn(LeafId, &[u8]) -> Action> Lexer<'c, 's, 'i, C> {
         &self.input[self.from..self.to]
     }
 
-    /// The input behind the span of the last item.
+    /// Returns the input after the span of the last item.
     pub fn remainder(&self) -> &'i [u8]
         ensures { result.now ≡ drop self.now.to self.now.input }
     {

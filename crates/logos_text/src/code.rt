@@ -27,7 +27,7 @@ pub fn text(alloc: Global, code: &Code<'_>) -> Result<String, Memory>
     ensures { IfOk result (λ text. StandInOrder (texts_of code.now) (string_bytes text)) }
 {
     let parts = code.parts();
-    let this = print_type(alloc, &parts.kept.this)?;
+    let this = print_type(alloc, &parts.header.this)?;
     let mut text = String::new(alloc);
     push_code(alloc, &mut text, parts, Names::new(parts, &this))?;
     Ok(text)
@@ -41,7 +41,7 @@ pub fn text_in(alloc: Global, code: &Code<'_>, around: Around<'_>) -> Result<Str
     ensures { IfOk result (λ text. StandInOrder (texts_of code.now) (string_bytes text)) }
 {
     let parts = code.parts();
-    let this = print_type(alloc, &parts.kept.this)?;
+    let this = print_type(alloc, &parts.header.this)?;
     let mut text = String::new(alloc);
     push_front(&mut text, around, &this)?;
     push_code(alloc, &mut text, parts, Names::new(parts, &this))?;
@@ -84,7 +84,7 @@ fn push_functions(
 ) -> Result<(), Memory>
     ensures { OnOk result (Grows (string_bytes text.old) (string_bytes text.new)) }
 {
-    push_make_error(alloc, text, parts.kept.error_callback.as_ref(), names)?;
+    push_make_error(alloc, text, parts.header.error_callback.as_ref(), names)?;
     push_get_action(alloc, text, &parts.leaves, names)?;
     push_leaf_names(text, parts.leaves.len())?;
     push_opening(alloc, text, parts.states.len(), parts.root, names.shape)

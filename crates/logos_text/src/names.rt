@@ -14,11 +14,11 @@ pub(crate) struct Names<'p> {
 impl<'p> Names<'p> {
     /// Returns the names for the text of this code, where `this` is the enum as a type.
     pub(crate) fn new(parts: &'p CodeParts<'_>, this: &'p str) -> Names<'p>
-        ensures { result.shape ≡ parts.now.kept.shape }
+        ensures { result.shape ≡ parts.now.header.shape }
     {
         Names {
-            shape: parts.kept.shape,
-            name: parts.kept.name.text,
+            shape: parts.header.shape,
+            name: parts.header.name.text,
             this,
         }
     }

@@ -1,6 +1,6 @@
 //! Making code values. This module is for the generator of codes alone: it is not handed on with `code`.
 ghost use Rattle.std.specs.Prelude.{◌≡◌, IfOk};
-ghost use Rattle.logos_code.specs.CodeView.{code_of, IsKept};
+ghost use Rattle.logos_code.specs.CodeView.{code_of, IsValid};
 
 use super::masks::masks_of;
 use super::rows::{first_row, rows_of};
@@ -14,7 +14,7 @@ use std::alloc::{AllocError, Global};
 /// # Errors
 /// Returns an error when memory runs out.
 pub fn make_code<'s>(alloc: Global, parts: CodeParts<'s>) -> Result<Code<'s>, AllocError>
-    requires { IsKept parts }
+    requires { IsValid parts }
     ensures { IfOk result (λ code. code ≡ code_of parts.entry) }
 {
     let rows = rows_of(alloc, &parts)?;

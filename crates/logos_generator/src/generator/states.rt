@@ -19,7 +19,7 @@ use super::fork::{impl_fork, maybe_impl_fast_loop};
 use super::leaves::leaves_of;
 use super::node_tables::NodeTables;
 use super::tests_by_bits::tables_of;
-use logos_code::code::{Code, CodeParts, CodeState, Kept, Mark};
+use logos_code::code::{Code, CodeParts, CodeState, Header, Mark};
 use logos_code::make_code;
 use logos_graph::graph::{Graph, State, StateData, StateType, States};
 use std::alloc::{AllocError, Global};
@@ -28,7 +28,7 @@ use std::alloc::{AllocError, Global};
 pub(super) fn code_of<'s>(
     alloc: Global,
     tables: &mut NodeTables,
-    kept: Kept<'s>,
+    header: Header<'s>,
     graph: &Graph<'s>,
     states: States,
 ) -> Result<Code<'s>, AllocError>
@@ -42,14 +42,14 @@ pub(super) fn code_of<'s>(
     ensures runs { IfOk result (λ code. RunsAs graph.now.states graph.now.utf8 code) }
     ensures mode { IfOk result (λ code. code.utf8 ≡ graph.now.utf8) }
     ensures leaves { IfOk result (λ code. code.leaves ≡ map leaf_use graph.now.leaves) }
-    ensures kept { IfOk result (λ code. code.kept ≡ kept.entry) }
-    ensures kept_leaves { IfOk result
-        (λ code. map code_leaf_value code.kept_leaves ≡ map leaf_value graph.now.leaves) }
+    ensures header { IfOk result (λ code. code.header ≡ header.entry) }
+    ensures code_leaves { IfOk result
+        (λ code. map code_leaf_value code.code_leaves ≡ map leaf_value graph.now.leaves) }
 {
     let made = tables_made(alloc, tables, graph, states)?;
     let leaves = leaves_of(alloc, graph.leaves())?;
     let parts = CodeParts {
-        kept,
+        header,
         states: made.states,
         bit_tables: made.bit_tables,
         jump_tables: made.jump_tables,

@@ -14,8 +14,8 @@ module _ (code : CodeValue) (bytes : List ℕ) (start : ℕ) where
   abbrev pub IsContext : Option (ℕ × ℕ) → Type 0
   IsContext context = IfSome context (λ c. IsMatch c.0 c.1)
 
-  -- one step behind the input, in a state that the end leads to
-  pub record IsBehind (at : Stand) : Type 0 where
+  -- one step past the input, in a state that the end leads to
+  pub record IsPast (at : Stand) : Type 0 where
     pub offset : at.offset ≡ length bytes + 1
     pub late : IsLate code at.state
     pub last : (state_at code at.state).at_end ≡ None
@@ -26,7 +26,7 @@ module _ (code : CodeValue) (bytes : List ℕ) (start : ℕ) where
     pub begun : start ≤ at.offset
     pub first : at.offset ≡ start → (at.state ≡ code.root) × (at.context ≡ None)
     pub second : IsLate code at.state → start + 1 < at.offset
-    pub within : (at.offset ≤ length bytes) ⊎ IsBehind at
+    pub within : (at.offset ≤ length bytes) ⊎ IsPast at
     pub context : IsContext at.context
 
   -- what is found is nonempty and ends in the input

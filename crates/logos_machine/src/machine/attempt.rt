@@ -116,7 +116,7 @@ fn loop_end(code: &Code, input: &[u8], state: usize, offset: usize) -> usize
     }
 }
 
-/// The context behind a mark.
+/// Returns the context after a mark.
 #[inline]
 fn marked(sign: Sign, offset: usize, context: Option<(LeafId, usize)>) -> Option<(LeafId, usize)>
     requires { IfSome (mark_by sign) (λ m. IsTrue m.late → 0 < offset) }
@@ -129,7 +129,7 @@ fn marked(sign: Sign, offset: usize, context: Option<(LeafId, usize)>) -> Option
     }
 }
 
-/// Where an error ends that has come to the offset: behind a byte at least, and in UTF-8 mode behind a character.
+/// Returns the end of an error that has come to the offset: after one byte at least, and in UTF-8 mode between characters.
 fn error_end(code: &Code, input: &[u8], start: usize, offset: usize) -> usize
     requires start { start < length input.now }
     requires offset { offset ≤ length input.now }

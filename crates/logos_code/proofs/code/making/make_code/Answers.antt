@@ -5,7 +5,7 @@ use Rattle.logos_code.proofs.code.making.make_code.Goals as goal
 
 pub invariant_of-result : goal.invariant_of-result
 invariant_of-result c = record {
-  kept = c.requires;
+  valid = c.requires;
   first_row = first_row_says (code_of c.args.parts) c.in_ok-rows.rows.items c.index.result.now c.first_row-first.result c.in_ok-rows.ensures
       (root_there (code_of c.args.parts) c.requires.sound) c.index.ensures c.first_row-first.ensures;
   all_rows = c.in_ok-rows.ensures;

@@ -26,7 +26,7 @@ tables_made-requires-clause-codable c = λ k d h.
 pub make_code-requires : goal.make_code-requires
 make_code-requires c =
     let t = c.in_ok-made.ensures.tables in
-    let parts : CodeParts = record { kept = c.args.kept; states = c.in_ok-made.made.states; bit_tables = c.in_ok-made.made.bit_tables; jump_tables = c.in_ok-made.made.jump_tables; leaves = c.in_ok-leaves.leaves; root = 0; utf8 = c.utf8_mode.result } in
+    let parts : CodeParts = record { header = c.args.header; states = c.in_ok-made.made.states; bit_tables = c.in_ok-made.made.bit_tables; jump_tables = c.in_ok-made.made.jump_tables; leaves = c.in_ok-leaves.leaves; root = 0; utf8 = c.utf8_mode.result } in
     let finished = subst (IsFinished c.args.graph.now.states) (same_count c.in_ok-leaves.leaves.items c.args.graph.now.leaves (rw c.leaves.ensures at c.in_ok-leaves.ensures.uses)) c.requires.finished in
     record { sound = parts_sound (tests_of c.args.graph.now.states) c.args.graph.now.states parts refl t.are t.hold t.fit finished; once = t.once }
 
@@ -34,22 +34,22 @@ pub returns-clause-runs : goal.returns-clause-runs
 returns-clause-runs c =
     let t = c.in_ok-made.ensures.tables in
     let graph = c.args.graph.now.states in
-    let parts : CodeParts = record { kept = c.args.kept; states = c.in_ok-made.made.states; bit_tables = c.in_ok-made.made.bit_tables; jump_tables = c.in_ok-made.made.jump_tables; leaves = c.in_ok-leaves.leaves; root = 0; utf8 = c.utf8_mode.result } in
+    let parts : CodeParts = record { header = c.args.header; states = c.in_ok-made.made.states; bit_tables = c.in_ok-made.made.bit_tables; jump_tables = c.in_ok-made.made.jump_tables; leaves = c.in_ok-leaves.leaves; root = 0; utf8 = c.utf8_mode.result } in
     let finished = subst (IsFinished graph) (same_count c.in_ok-leaves.leaves.items c.args.graph.now.leaves (rw c.leaves.ensures at c.in_ok-leaves.ensures.uses)) c.requires.finished in
     let runs : RunsAs graph c.args.graph.now.utf8 (code_of parts) = subst (λ u. RunsAs graph u (code_of parts)) c.utf8_mode.ensures
     (runs_as graph c.utf8_mode.result (code_of parts) (parts_made (tests_of graph) graph parts refl t.are t.hold t.fit finished)) in
     IfOk-weaker c.make_code.result (λ code. code ≡ code_of parts) (RunsAs graph c.args.graph.now.utf8) (λ code e. rw e runs) c.make_code.ensures
 
-pub returns-clause-kept : goal.returns-clause-kept
-returns-clause-kept c =
-    let parts : CodeParts = record { kept = c.args.kept; states = c.in_ok-made.made.states; bit_tables = c.in_ok-made.made.bit_tables; jump_tables = c.in_ok-made.made.jump_tables; leaves = c.in_ok-leaves.leaves; root = 0; utf8 = c.utf8_mode.result } in
-    IfOk-weaker c.make_code.result (λ code. code ≡ code_of parts) (λ code. code.kept ≡ c.args.kept) (λ code e. ap (λ code. code.kept) e) c.make_code.ensures
+pub returns-clause-header : goal.returns-clause-header
+returns-clause-header c =
+    let parts : CodeParts = record { header = c.args.header; states = c.in_ok-made.made.states; bit_tables = c.in_ok-made.made.bit_tables; jump_tables = c.in_ok-made.made.jump_tables; leaves = c.in_ok-leaves.leaves; root = 0; utf8 = c.utf8_mode.result } in
+    IfOk-weaker c.make_code.result (λ code. code ≡ code_of parts) (λ code. code.header ≡ c.args.header) (λ code e. ap (λ code. code.header) e) c.make_code.ensures
 
 pub returns-clause-nodes : goal.returns-clause-nodes
 returns-clause-nodes c =
     let t = c.in_ok-made.ensures.tables in
     let graph = c.args.graph.now.states in
-    let parts : CodeParts = record { kept = c.args.kept; states = c.in_ok-made.made.states; bit_tables = c.in_ok-made.made.bit_tables; jump_tables = c.in_ok-made.made.jump_tables; leaves = c.in_ok-leaves.leaves; root = 0; utf8 = c.utf8_mode.result } in
+    let parts : CodeParts = record { header = c.args.header; states = c.in_ok-made.made.states; bit_tables = c.in_ok-made.made.bit_tables; jump_tables = c.in_ok-made.made.jump_tables; leaves = c.in_ok-leaves.leaves; root = 0; utf8 = c.utf8_mode.result } in
     let finished = subst (IsFinished graph) (same_count c.in_ok-leaves.leaves.items c.args.graph.now.leaves (rw c.leaves.ensures at c.in_ok-leaves.ensures.uses)) c.requires.finished in
     let nodes : HasNodesOf graph (code_of parts) = parts_nodes (tests_of graph) graph parts refl t.are t.hold t.fit finished refl t.tables t.jumps in
     IfOk-weaker c.make_code.result (λ code. code ≡ code_of parts) (HasNodesOf graph) (λ code e. rw e nodes) c.make_code.ensures
