@@ -50,7 +50,7 @@ exits-exits_repeat-requires t c =
     let fits = rw c.in-Repeat.is at c.requires.fits in
     let w = width-Repeat _ _ _ _ h in
     let n = c.new-copies.ensures in
-    let room : c.args.base + c.in-Repeat.each * count_of c.in-Repeat.least c.in-Repeat.most < 2 ^ 64 = omega (arith, fits, w) in (
+    let room : c.args.spot.base + c.in-Repeat.each * count_of c.in-Repeat.least c.in-Repeat.most < 2 ^ 64 = omega (arith, fits, w) in (
       search (rules, the_lemmas),
       (rw (← n.base, ← n.each, ← n.count) at room, (rw (← n.count) at p.ordered, (rw c.deref-in-Repeat.ensures (rw (← n.each) at p.each_is), (rw c.deref-in-Repeat.ensures p.body_is, c.requires.rising)))),
     )
@@ -64,7 +64,7 @@ exits-returns-in-Cat t c =
     let p = pair-Cat _ _ c.in-Cat.first c.in-Cat.second (rw c.in-Cat.is at c.requires.measured) in
     rw (ap core_of c.in-Cat.is ∙ core-Cat _ _ _ _)
     (exits_cat (test_at c.args.at) c.args.marks.now (core_of c.in-Cat.first.value) (core_of c.in-Cat.second.value)
-    c.args.base c.in-Cat.split (IsTrue c.args.entered) c.exits-left.result c.exits.result p.split_is
+    c.args.spot.base c.in-Cat.split (IsTrue c.args.spot.entered) c.exits-left.result c.exits.result p.split_is
     (rw c.deref-in-Cat.ensures at c.exits-left.ensures)
     (rw c.deref-in-Cat-2.ensures at c.exits.ensures))
 
@@ -73,7 +73,7 @@ exits-returns-in-Alt t c =
     let p = pair-Alt _ _ c.in-Alt.first c.in-Alt.second (rw c.in-Alt.is at c.requires.measured) in
     rw (ap core_of c.in-Alt.is ∙ core-Alt _ _ _ _)
     (exits_alt (test_at c.args.at) c.args.marks.now (core_of c.in-Alt.first.value) (core_of c.in-Alt.second.value)
-    c.args.base c.in-Alt.split (IsTrue c.args.entered) c.exits-one.result c.exits-other.result p.split_is
+    c.args.spot.base c.in-Alt.split (IsTrue c.args.spot.entered) c.exits-one.result c.exits-other.result p.split_is
     (rw c.deref-in-Alt.ensures at c.exits-one.ensures)
     (rw c.deref-in-Alt-2.ensures at c.exits-other.ensures))
 
@@ -90,7 +90,7 @@ exits_copies-loop-done-init t c =
     record {
       within = n.bound;
       same = λ b. rw (all, start) at
-          (front_skip (test_at c.args.at) c.args.marks.now a c.args.copies.each c.args.copies.base c.requires.each b 0 c.next_copy-done.result c.args.copies.count c.args.entered
+          (front_skip (test_at c.args.at) c.args.marks.now a c.args.copies.each c.args.copies.base c.requires.each b 0 c.next_copy-done.result c.args.copies.count c.args.copies.entered
           n.after n.bound n.stays n.unmarked);
     }
 
@@ -131,7 +131,7 @@ exits_up_to-loop-done-init t c =
     record {
       within = n.bound;
       same = iff_trans (rw (all, start) at
-          (up_to_skip (test_at c.args.at) c.args.marks.now a c.args.copies.each c.args.copies.base c.requires.each 0 c.next_copy-done.result c.args.copies.count false c.args.entered
+          (up_to_skip (test_at c.args.at) c.args.marks.now a c.args.copies.each c.args.copies.base c.requires.each 0 c.next_copy-done.result c.args.copies.count false c.args.copies.entered
           n.after n.bound n.stays n.unmarked))
           (λ h. ⊎_elim (λ e. absurd (true≢false (sym e))) (λ u. u) h, inr);
     }
