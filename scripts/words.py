@@ -6,9 +6,10 @@
 
 Read are the comments and the names in `src` and `specs` of each crate, the names of these files, the pages in `docs`, and the README. Text
 between quotes is left out, and so are blocks of code on pages. `docs/GLOSSARY.md` has the words that are not used, with what stands in their place;
-each of them has its patterns here. Each word of that page has a home, which must be there.
+each of them has its patterns here. Each word of that page has a home, which must be there. So must each function of the walk in `docs/MAP.md` from `main`
+to the first item, which has at most 45 functions.
 
-The crates and pages in `NOT_YET` are not clean yet, and only counted. Each other crate and page counts as one, and so does each home. The last line is
+The crates and pages in `NOT_YET` are not clean yet, and only counted. Each other crate and page counts as one, and so do each home and each row of the walk. The last line is
 `words: N passed, M failed`."""
 import collections
 import os
@@ -17,6 +18,8 @@ import sys
 
 ROOT = os.path.dirname(os.path.dirname(os.path.realpath(__file__)))
 GLOSSARY = "docs/GLOSSARY.md"
+MAP = "docs/MAP.md"
+LONGEST_WALK = 45
 # With fewer that pass, files or rows were lost, or are no longer read.
 LEAST = 60
 # The crates and pages that are not clean yet. An entry goes when none of these words is left in it.
@@ -164,6 +167,19 @@ def homes():
         yield f"{entry}: not both in {GLOSSARY} and in this script"
 
 
+def walk():
+    """Yields each row of the map's walk with a function that its file does not have, and None for each other row."""
+    page = read(MAP).split("## From `main` to the first item")[1].split("\n## ")[0]
+    rows = re.findall(r"^\| (`[^|]+`) \| `([\w./]+)` \|$", page, re.M)
+    names = [(name, path) for cell, path in rows for name in re.findall(r"`(\w+)`", cell)]
+    if not 0 < len(names) <= LONGEST_WALK:
+        yield f"{MAP}: the walk has {len(names)} functions"
+    for cell, path in rows:
+        code = read(f"crates/{path}")
+        missing = [name for name in re.findall(r"`(\w+)`", cell) if not re.search(rf"\bfn {name}\b", code)]
+        yield f"{MAP}: {path} has no {' and no '.join(missing)}" if missing else None
+
+
 def main():
     show = sys.argv[1:] == ["--all"]
     if sys.argv[1:] and not show:
@@ -189,7 +205,7 @@ def main():
             print(f"words: {unit} is clean, and leaves the list NOT_YET")
         if show and number:
             print(f"{unit}: {number} left: " + ", ".join(f"{count} {entry}" for entry, count in counts.most_common()))
-    for missing in homes():
+    for missing in [*homes(), *walk()]:
         passed += missing is None
         failed += missing is not None
         if missing:

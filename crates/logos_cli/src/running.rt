@@ -47,7 +47,7 @@ pub(crate) struct Streams<'s, O, E> {
 }
 
 /// Does what the words ask for, and returns the exit status: 0 done, 1 refused, 2 for words that are
-/// no command, 3 if a file or memory fails. What is wrong is written to standard error.
+/// not a command, 3 if a file or memory fails. What is wrong is written to standard error.
 pub(crate) fn run<F: ComparableFiles, O: Write, E: Write + IsTerminal>(
     alloc: Global,
     words: &[String],
@@ -73,7 +73,7 @@ pub(crate) fn run<F: ComparableFiles, O: Write, E: Write + IsTerminal>(
     }
 }
 
-/// Writes why there are no words, and returns the exit status: 3 if memory ran out, and else 2, since
+/// Writes why the words cannot be read, and returns the exit status: 3 if memory ran out, and else 2, since
 /// a word is not UTF-8.
 pub(crate) fn refuse_words<E: Write>(why: ErrorKind, err: &mut E) -> u8
     ensures memory { (result ≡ 3) ↔ (why ≡ ErrorKind.OutOfMemory) }

@@ -167,7 +167,7 @@ impl Language {
     /// Returns the tokens of a text, in order, without the blanks between them.
     ///
     /// # Errors
-    /// Returns `Bad` with the span of the first error when something in the text is no token: the span
+    /// Returns `Bad` with the span of the first error where no token begins: the span
     /// reaches over the longest beginning of a token, or over one character. Returns `Memory` when
     /// memory runs out.
     pub fn tokens<'i>(&self, alloc: Global, input: &'i str) -> Result<Vec<ExprToken<'i>>, ExprError>

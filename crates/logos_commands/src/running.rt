@@ -18,7 +18,7 @@ use std::io;
 use std::io::{ErrorKind, Write};
 
 /// Runs the command that the words name, and returns the exit status: 0 if it was carried out, 1 if the source or the input was
-/// refused, 2 if the words are no command, 3 if a file, the output or the memory failed.
+/// refused, 2 if the words are not a command, 3 if a file, the output or the memory failed.
 ///
 /// Where the status is not 0, a message goes to `err`. Then nothing was written to `out`, unless writing to it failed.
 pub fn run<F: Files, O: Write, E: Write>(

@@ -13,7 +13,7 @@ pub(crate) struct Counts {
 }
 
 impl Counts {
-    /// No items of so many leaves.
+    /// Returns counts of no item, for this many leaves.
     pub(crate) fn new(alloc: Global, leaves: usize) -> Result<Counts, AllocError> {
         let mut by_leaf = Vec::new(alloc);
         for _ in 0..leaves {

@@ -45,7 +45,7 @@ pub(crate) struct Host<'h, F, C, O, E> {
 }
 
 /// Carries out what the words ask for, and returns the exit status: 0 done, 1 refused, 2 for words
-/// that are no command, 3 for files, outputs and memory. With a status above 0 a message goes to
+/// that are not a command, 3 for files, outputs and memory. With a status above 0 a message goes to
 /// standard error, and so do warnings.
 pub(crate) fn run<F: Files, C: Clock, O: Write, E: Write + IsTerminal>(
     alloc: Global,
@@ -87,7 +87,7 @@ const NOT_TEXT: Stop<'static> = Stop::Misuse {
 #[derive(Clone, Copy)]
 struct Task<'w> {
     order: Order<'w>,
-    /// Messages have colors.
+    /// Whether messages have colors.
     is_colored: bool,
 }
 
@@ -185,7 +185,7 @@ fn lexer_in<'w>(alloc: Global, task: Task<'w>, source: &Source<'_>) -> Result<Fo
     }
 }
 
-/// Returns why a file is refused that has no such lexer.
+/// Returns the refusal of a file that has no such lexer.
 fn no_lexer<'w>(alloc: Global, order: Order<'w>) -> Stop<'w>
     ensures { IsNoMisuse result }
 {

@@ -30,7 +30,7 @@ pub(crate) struct Shown {
 struct Pages {
     tables: Page,
     warnings: Page,
-    /// Faults are shown in colors.
+    /// Whether faults are shown in colors.
     is_colored: bool,
 }
 
