@@ -24,7 +24,7 @@ LONGEST_WALK = 45
 LEAST = 60
 # The crates and pages that are not clean yet. An entry goes when none of these words is left in it.
 NOT_YET = """
-logos_calls logos_graph logos_reduce
+logos_calls
 docs/DEFINITIONS.md docs/MAP.md
 """.split()
 # Each entry of the glossary's last table: the words in a name, and the pattern in a sentence.

@@ -51,7 +51,106 @@ def plain(rng, count):
     return ['    #[token("a")]\n    A,\n'] + [f"    V{number},\n" for number in range(count - 1)]
 
 
-KINDS = {"keywords": keywords, "beside_names": beside_names, "short": short, "one_regex": one_regex, "repeated": repeated, "plain": plain}
+def regexes(patterns):
+    return [f'    #[regex(r#"{pattern}"#)]\n    R{number},\n' for number, pattern in enumerate(patterns)]
+
+
+def unicode_names(rng, count):
+    """Keywords, and identifiers of all scripts."""
+    return tokens(long_words(rng, count)) + regexes([r"[_\p{XID_Start}]\p{XID_Continue}*"])
+
+
+def sql_words(rng, count):
+    return [f'    #[token("{word}", ignore(case))]\n    V{number},\n' for number, word in enumerate(long_words(rng, count))]
+
+
+SQL_REST = [r"[0-9]+(\.[0-9]+)?", r"'([^']|'')*'", r"--[^\n]*", r"[ \t\r\n]+", r"<=|>=|<>|\|\||[-+*/%=<>(),.;]"]
+
+
+def sql(rng, count):
+    """Keywords in any case, names in ASCII, numbers, strings, comments and operators."""
+    return sql_words(rng, count) + regexes([r"[a-zA-Z_][a-zA-Z_0-9$]*", *SQL_REST])
+
+
+def sql_unicode(rng, count):
+    """The same with names of all scripts."""
+    return sql_words(rng, count) + regexes([r"[\p{XID_Start}_][\p{XID_Continue}$]*", *SQL_REST])
+
+
+RUST_WORDS = """abstract as async await become box break const continue crate do dyn else enum extern false final fn for gen if impl in let loop
+macro macro_rules match mod move mut override priv pub raw ref return safe self Self static struct super trait true try type typeof union unsafe
+unsized use virtual where while yield""".split()
+RUST_SIGNS = """+ - * / % ^ ! & | && || << >> += -= *= /= %= ^= &= |= <<= >>= = == != > < >= <= @ _ . .. ... ..= , ; : :: -> <- => # $ ? ~
+( ) [ ] { }""".split()
+
+
+def rust_like(rng, count):
+    """The words and signs of a language like Rust, with its literals, comments, lifetimes and names of all scripts. The size says nothing."""
+    patterns = [
+        r"[_\p{XID_Start}]\p{XID_Continue}*",
+        r"'[_\p{XID_Start}]\p{XID_Continue}*",
+        r"[0-9][0-9_]*([uif](8|16|32|64|128|size))?",
+        r"0x[0-9a-fA-F_]+|0o[0-7_]+|0b[01_]+",
+        r"[0-9][0-9_]*\.[0-9][0-9_]*([eE][+-]?[0-9_]+)?(f32|f64)?",
+        r'b?"([^"\\]|\\.)*"',
+        r"b?'([^'\\]|\\[^u\n]|\\u\{[0-9a-fA-F]{1,6}\})'",
+        r"//[^\n]*",
+        r"\s+",
+    ]
+    return tokens(RUST_WORDS + RUST_SIGNS) + regexes(patterns)
+
+
+SCRIPTS = """Arabic Armenian Balinese Bengali Bopomofo Braille Buginese Canadian_Aboriginal Cherokee Coptic Cyrillic Devanagari Ethiopic Georgian
+Glagolitic Gothic Greek Gujarati Gurmukhi Han Hangul Hebrew Hiragana Javanese Kannada Katakana Khmer Lao Latin Lisu Malayalam Mongolian Myanmar
+Ogham Oriya Runic Sinhala Syriac Tamil Thai""".split()
+SETS = [r"[\p{{L}}--\p{{{0}}}]", r"[\p{{L}}\p{{N}}~~\p{{{0}}}]", r"[\p{{L}}&&\P{{{0}}}]"]
+
+
+def class_sets(rng, count):
+    """Repeated sets of characters, each of two properties, with a number after them that keeps the rules apart."""
+    return regexes([SETS[number % 3].format(SCRIPTS[number % len(SCRIPTS)]) + f"+#{number}" for number in range(count)])
+
+
+def beginnings(rng, count):
+    """Regexes of which many begin alike: one of twenty words, a sign, and then letters or digits."""
+    words = long_words(rng, 20)
+    ends = ["[a-z]+", "[0-9]+", "[a-z0-9]+x", "[a-f]{2,5}", "(ab|cd)+e"]
+    return regexes([words[number % 20] + "-" + "xy"[number // 20 % 2] * (number // 40 + 1) + ends[number // 20 % 5] for number in range(count)])
+
+
+def log_lines(rng, count):
+    """What stands in lines of a log: dates, addresses, identifiers, paths, levels, words. The size says nothing."""
+    levels = ["TRACE", "DEBUG", "INFO", "WARN", "ERROR", "FATAL"]
+    patterns = [
+        r"[0-9]{4}-[01][0-9]-[0-3][0-9][T ][0-2][0-9]:[0-5][0-9]:[0-5][0-9](\.[0-9]{1,9})?(Z|[+-][0-2][0-9]:[0-5][0-9])?",
+        r"[0-9]{1,3}\.[0-9]{1,3}\.[0-9]{1,3}\.[0-9]{1,3}(:[0-9]{1,5})?",
+        r"[0-9a-fA-F]{8}-[0-9a-fA-F]{4}-[0-9a-fA-F]{4}-[0-9a-fA-F]{4}-[0-9a-fA-F]{12}",
+        r"(/[A-Za-z0-9_.-]+)+",
+        r"[A-Za-z0-9_.+-]+@[A-Za-z0-9-]+(\.[A-Za-z0-9-]+)+",
+        r"https?://[A-Za-z0-9.-]+(:[0-9]+)?(/[^ \t\n]*)?",
+        r"[0-9]+(\.[0-9]+)?(ns|us|ms|s|B|kB|MB)?",
+        r"0x[0-9a-fA-F]+",
+        r'"([^"\\\n]|\\.)*"',
+        r"[A-Za-z_][A-Za-z_0-9]*=?",
+        r"[ \t]+",
+        r"\n",
+        r"[^A-Za-z0-9_ \t\n]",
+    ]
+    return tokens(levels) + regexes(patterns)
+
+
+def groups(rng, count):
+    """Branches of one character in one alternation, inside 249 groups with a branch in front of each."""
+    branches = "|".join("abcdefghij"[number % 10] for number in range(count - 1)) + "|ab"
+    return regexes(["(?:k|" * 249 + branches + ")" * 249])
+
+
+KINDS = {
+    kind.__name__: kind
+    for kind in (
+        keywords, beside_names, short, one_regex, repeated, plain, unicode_names, sql, sql_unicode, rust_like, class_sets, beginnings, log_lines, groups,
+    )
+}
 
 
 def main():

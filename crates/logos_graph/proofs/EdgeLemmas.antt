@@ -269,7 +269,7 @@ within first last b e = go (cases_lt b first) (cases_lt last b)
     go (inr l) (inl m) = let x = sym (out_of first last b (inr m)) ∙ e in absurd (cc)
     go (inr l) (inr m) = (l, m)
 
--- a range behind the last one, which it does not touch
+-- a range after the last one, which it does not touch
 separated_push : (least : ℕ) (ranges : List (ℕ × ℕ)) (a b c d : ℕ) → AreSeparatedFrom least (ranges ++ (a, b) ∷ []) → b + 2 ≤ c → c ≤ d →
     AreSeparatedFrom least ((ranges ++ (a, b) ∷ []) ++ (c, d) ∷ [])
 separated_push least [] a b c d s l m = (s.0, s.1, (l, m, tt))

@@ -17,7 +17,7 @@ use Rattle.logos_reduce.specs.Edges.{StateType, Edges}
 use Rattle.logos_reduce.specs.Raw.{IsRaw}
 use Rattle.logos_reduce.specs.Reduction.{IsReductionOf}
 use Rattle.logos_reduce.specs.Rows.{target_in}
-use Rattle.logos_reduce.specs.Settle.{IsKeptOrSpare}
+use Rattle.logos_reduce.specs.Settle.{IsNeededOrSpare}
 use Rattle.logos_reduce.specs.Table.{size, to, mark, type_of, edges}
 use Rattle.logos_reduce.specs.declared.reduction.Reduction.{Reduction}
 use Rattle.logos_reduce.specs.declared.table.Table.{Table}
@@ -110,7 +110,7 @@ module _ (raw : Table) (root : ℕ) (reduction : Reduction) (made : IsReductionO
       root_late : (mark mid root).accept ≡ None
       root_late = go (made.settled.late root is_raw.root_in)
         where
-          go : IsKeptOrSpare raw mid root → (mark mid root).accept ≡ None
+          go : IsNeededOrSpare raw mid root → (mark mid root).accept ≡ None
           go (inl x) = x.0 ∙ is_raw.root_mark
           go (inr x) = x.0
 

@@ -27,9 +27,9 @@ use Rattle.logos_reduce.specs.Edges.{StateType, IsMarked, Edges, reach}
 use Rattle.logos_reduce.specs.Prune.{IsOfUse}
 use Rattle.logos_reduce.specs.Raw.{IsRaw}
 use Rattle.logos_reduce.specs.Reduction as table
-use Rattle.logos_reduce.specs.Settle.{AllAccepted, IsKeptOrSpare}
+use Rattle.logos_reduce.specs.Settle.{AllAccepted, IsNeededOrSpare}
 use Rattle.logos_reduce.specs.Table.{size, to, mark, type_of, edges}
-use Rattle.logos_reduce.specs.Tellable.{IsTellable}
+use Rattle.logos_reduce.specs.History.{GivesEvidence}
 use Rattle.logos_reduce.specs.declared.reduction.Reduction.{Reduction}
 use Rattle.logos_reduce.specs.declared.table.Table.{Table}
 use Rattle.logos_reduce.proofs.settling.LeadLemmas.{none_is_none, kept_accept}
@@ -60,9 +60,9 @@ same_state graph s t e [] true =
 same_state graph s t e (b ∷ bytes) ends = let q : next_by graph s b ≡ next_by graph t b = ap (λ (o : Option GraphState). option_and_then (λ (state : GraphState). option_map (λ edge. edge.1) (find (λ edge. is_in edge.0 b) state.normal)) o) e in
     ap (λ (o : Option ℕ). option_and_then (λ t. option_map (λ (state : GraphState). state.state_type) (slice_get graph t)) (option_and_then (λ next. walk graph next bytes ends) o)) q
 
--- a graph that shows a table whose states are told apart
+-- a graph that shows a table whose states are distinguished
 module _ (final : Table) (apart : table.IsLeast final) (ends : (s t k : ℕ) → to final s 256 ≡ Some t → to final t k ≡ None) (graph : List GraphState) (shows : Shows final graph) where
-  -- different states are told apart by fewer bytes than there are states
+  -- fewer bytes than there are states distinguish different states
   pub short_evidence : (s t : ℕ) → s < length graph → t < length graph → s ≢ t →
       (bytes : List ℕ) × (ends : Bool) × IsBytes bytes × IsEvidence graph s t bytes ends
   short_evidence s t ls lt d =
@@ -71,10 +71,10 @@ module _ (final : Table) (apart : table.IsLeast final) (ends : (s t k : ℕ) →
       let ht : t < size final = omega arith in
       let w = apart s t hs ht d in
       let x = evidence final graph shows ends w.0 s t hs ht w.2 in
-      (x.0, x.1, x.2, record { tells = x.4; short = let a = w.1 in let b = x.3 in omega arith })
+      (x.0, x.1, x.2, record { distinguishes = x.4; short = let a = w.1 in let b = x.3 in omega arith })
 
   pub least : IsLeast graph
-  least s t ls lt d = let x = short_evidence s t ls lt d in (x.0, x.1, x.2, x.3.tells)
+  least s t ls lt d = let x = short_evidence s t ls lt d in (x.0, x.1, x.2, x.3.distinguishes)
 
   -- the type of a state of the graph
   has_type : (s : ℕ) (P : StateType → Type 0) → s < size final → P (type_of (mark final s)) → reduced.HasType graph s P
@@ -221,18 +221,18 @@ module _ (raw : Table) (root : ℕ) (reduction : Reduction) (made : table.IsRedu
   no_accept : (s : ℕ) → s < size raw → (mark raw s).accept ≡ None → (mark mid s).accept ≡ None
   no_accept s l e = go (made.settled.late s l)
     where
-      go : IsKeptOrSpare raw mid s → (mark mid s).accept ≡ None
+      go : IsNeededOrSpare raw mid s → (mark mid s).accept ≡ None
       go (inl x) = x.0 ∙ e
       go (inr x) = x.0
 
   not_late : (type : StateType) → type.accept ≡ None → IsLate type → ⊥
   not_late type e l = none_is_none type.accept e l.1
 
-  -- a state behind the end has a late mark
-  late_behind : (s u : ℕ) → to raw s 256 ≡ Some u → IsOfUse mid u → IsLate (type_of (mark mid u))
-  late_behind s u e (inr m) = absurd (end.dead_end raw root reduction made is_raw s u e m)
-  late_behind s u e (inl (inl m)) = absurd (none_is_none (mark mid u).early (end.late_end raw root reduction made is_raw s u e) m)
-  late_behind s u e (inl (inr m)) = (end.late_end raw root reduction made is_raw s u e, m)
+  -- a state after the end has a late mark
+  late_at_end : (s u : ℕ) → to raw s 256 ≡ Some u → IsOfUse mid u → IsLate (type_of (mark mid u))
+  late_at_end s u e (inr m) = absurd (end.dead_end raw root reduction made is_raw s u e m)
+  late_at_end s u e (inl (inl m)) = absurd (none_is_none (mark mid u).early (end.late_end raw root reduction made is_raw s u e) m)
+  late_at_end s u e (inl (inr m)) = (end.late_end raw root reduction made is_raw s u e, m)
 
   -- the type of a state of the final table
   leader_type : (i : ℕ) → i < size final → (t : ℕ) × IsIn t × (type_of (mark final i) ≡ type_of (mark mid t))
@@ -259,7 +259,7 @@ module _ (raw : Table) (root : ℕ) (reduction : Reduction) (made : table.IsRedu
   late_after_end s t e =
       let p = end.final_target raw root reduction made s 256 t e in
       let m = mid_edge (end.leader_of raw root reduction made s) 256 p.0 p.1 in
-      let late = late_behind (end.leader_of raw root reduction made s) p.0 (sym (raw_edge (end.leader_of raw root reduction made s) 256) ∙ m.0) m.1 in
+      let late = late_at_end (end.leader_of raw root reduction made s) p.0 (sym (raw_edge (end.leader_of raw root reduction made s) 256) ∙ m.0) m.1 in
       let same : type_of (mark final t) ≡ type_of (mark mid p.0) = ap (λ (j : ℕ). type_of (mark final j)) (sym p.3) ∙ number_type p.0 p.2 in
       (subst IsLate (sym same) late, end.final_end raw root reduction made is_raw s t 256 e)
 
@@ -340,7 +340,7 @@ module _ (raw : Table) (root : ℕ) (reduction : Reduction) (made : table.IsRedu
         go None q = refl
         go (Some t) q =
             let x = first_edge_of 256 t q in
-            absurd (not_late (type_of (mark mid x.0)) (no_accept x.0 (in_raw x.0 x.2) (first_end_unmarked x.0 x.1)) (late_behind root x.0 x.1 x.4))
+            absurd (not_late (type_of (mark mid x.0)) (no_accept x.0 (in_raw x.0 x.2) (first_end_unmarked x.0 x.1)) (late_at_end root x.0 x.1 x.4))
 
     pub is_fit : (leaves : ℕ) → ((s : ℕ) → s < size raw → NamesLeaves leaves (type_of (mark raw s))) → IsFit final leaves
     is_fit leaves named = record {
@@ -352,9 +352,9 @@ module _ (raw : Table) (root : ℕ) (reduction : Reduction) (made : table.IsRedu
       first_end = first_no_end;
     }
 
-  module _ (apart : table.IsLeast final) (order : table.IsInOrder final) (spareless : table.IsSpareless final) (tellable : IsTellable reduction) (graph : List GraphState) (shows : Shows final graph) where
+  module _ (apart : table.IsLeast final) (order : table.IsInOrder final) (spareless : table.IsSpareless final) (evidence : GivesEvidence reduction) (graph : List GraphState) (shows : Shows final graph) where
     abbrev ends : (s t k : ℕ) → to final s 256 ≡ Some t → to final t k ≡ None
-    ends = tellable.ends
+    ends = evidence.ends
 
     -- the settled table, with the edges of the automaton
     abbrev early_too : Edges ℕ

@@ -1,10 +1,10 @@
--- A word of symbols that tells two states of a table apart gives bytes, with the end after them or not, that tell the states of the graph apart.
+-- A word of symbols that distinguishes two states of a table gives bytes, with the end after them or not, that distinguish the states of the graph.
 use Rattle.std.proofs.Common.{◌≡◌, ◌≢◌, ℕ, ◌<◌, ◌≤◌, ◌⊎◌, inl, inr, Bool, true, false, List, [], ◌∷◌, length, Option, Some, None, option_map, refl, sym, ◌∙◌, ap, arith}
 use Rattle.std.proofs.lemmas.Bool.{cases_lt}
 use Rattle.std.proofs.lemmas.List.Elements.{All-cons, All-nil}
 use Rattle.logos_hir.specs.Text.{IsBytes}
-use Rattle.logos_graph.specs.Graph.{GraphState, type_after, TellsApart}
-use Rattle.logos_reduce.specs.Words.{state_behind, Tells}
+use Rattle.logos_graph.specs.Graph.{GraphState, type_after, Distinguishes}
+use Rattle.logos_reduce.specs.Words.{state_after, WordDistinguishes}
 use Rattle.logos_reduce.specs.Table.{size, to, mark, type_of}
 use Rattle.logos_graph.specs.ReduceShown.{Shows}
 use Rattle.logos_reduce.specs.declared.table.Mark.{Mark}
@@ -32,7 +32,7 @@ module _ (table : Table) (graph : List GraphState) (shows : Shows table graph) w
 
   -- bytes, and the end after them or not, that tell two states apart
   abbrev pub Evidence : ℕ → ℕ → ℕ → Type 0
-  Evidence n s t = (bytes : List ℕ) × (ends : Bool) × IsBytes bytes × (length bytes ≤ n) × TellsApart graph s t bytes ends
+  Evidence n s t = (bytes : List ℕ) × (ends : Bool) × IsBytes bytes × (length bytes ≤ n) × Distinguishes graph s t bytes ends
 
   clash : {A : Type 0} (o : Option A) (x : A) → o ≡ None → o ≡ Some x → ⊥
   clash o x e f = cc
@@ -66,13 +66,13 @@ module _ (table : Table) (graph : List GraphState) (shows : Shows table graph) w
     turned : (n s t : ℕ) → Evidence n s t → Evidence n t s
     turned n s t x = (x.0, x.1, x.2, x.3, λ q. x.4 (sym q))
 
-    -- behind the end nothing is told by more symbols
-    behind_end : (s a t b : ℕ) (word : List ℕ) → to table s 256 ≡ Some a → to table t 256 ≡ Some b → Tells table a b word → mark table a ≢ mark table b
-    behind_end s a t b [] e f d = λ q. d (ap Some q)
-    behind_end s a t b (k ∷ word) e f d =
+    -- after the end more symbols distinguish nothing
+    after_end : (s a t b : ℕ) (word : List ℕ) → to table s 256 ≡ Some a → to table t 256 ≡ Some b → WordDistinguishes table a b word → mark table a ≢ mark table b
+    after_end s a t b [] e f d = λ q. d (ap Some q)
+    after_end s a t b (k ∷ word) e f d =
         let p = ends_last s a k e in
         let q = ends_last t b k f in
-        absurd (d (ap (λ (o : Option ℕ). option_map (mark table) (state_behind table o word)) p ∙ sym (ap (λ (o : Option ℕ). option_map (mark table) (state_behind table o word)) q)))
+        absurd (d (ap (λ (o : Option ℕ). option_map (mark table) (state_after table o word)) p ∙ sym (ap (λ (o : Option ℕ). option_map (mark table) (state_after table o word)) q)))
 
     both_end : (n s t a b : ℕ) → s < size table → t < size table → to table s 256 ≡ Some a → to table t 256 ≡ Some b → mark table a ≢ mark table b → Evidence n s t
     both_end n s t a b hs ht e f d = (
@@ -84,7 +84,7 @@ module _ (table : Table) (graph : List GraphState) (shows : Shows table graph) w
           d (same_mark (mark table a) (mark table b) (cc)),
     )
 
-    pub evidence : (word : List ℕ) (s t : ℕ) → s < size table → t < size table → Tells table s t word → Evidence (length word) s t
+    pub evidence : (word : List ℕ) (s t : ℕ) → s < size table → t < size table → WordDistinguishes table s t word → Evidence (length word) s t
     evidence [] s t hs ht d = (
       [],
       false,
@@ -95,8 +95,8 @@ module _ (table : Table) (graph : List GraphState) (shows : Shows table graph) w
     )
     evidence (k ∷ word) s t hs ht d = go (to table s k) refl (to table t k) refl (evidence word)
       where
-        none_of : (o : Option ℕ) → o ≡ None → option_map (mark table) (state_behind table o word) ≡ None
-        none_of o e = ap (λ (o : Option ℕ). option_map (mark table) (state_behind table o word)) e
+        none_of : (o : Option ℕ) → o ≡ None → option_map (mark table) (state_after table o word) ≡ None
+        none_of o e = ap (λ (o : Option ℕ). option_map (mark table) (state_after table o word)) e
 
         by_place : (a : ℕ) → to table s k ≡ Some a → to table t k ≡ None → (k < 256) ⊎ (256 ≤ k) → Evidence (length (k ∷ word)) s t
         by_place a e f (inl l) = at_byte (length (k ∷ word)) s t k a (omega arith) hs ht l e f
@@ -112,7 +112,7 @@ module _ (table : Table) (graph : List GraphState) (shows : Shows table graph) w
             let z : k ≡ 256 = omega arith in
             turned (length (k ∷ word)) t s (at_end (length (k ∷ word)) t s b ht hs (ap (to table t) (sym z) ∙ f) (ap (to table s) (sym z) ∙ e))
 
-        on : (a b : ℕ) → to table s k ≡ Some a → to table t k ≡ Some b → Tells table a b word → (k < 256) ⊎ (256 ≤ k) → ((s t : ℕ) → s < size table → t < size table → Tells table s t word → Evidence (length word) s t) → Evidence (length (k ∷ word)) s t
+        on : (a b : ℕ) → to table s k ≡ Some a → to table t k ≡ Some b → WordDistinguishes table a b word → (k < 256) ⊎ (256 ≤ k) → ((s t : ℕ) → s < size table → t < size table → WordDistinguishes table s t word → Evidence (length word) s t) → Evidence (length (k ∷ word)) s t
         on a b e f q (inl l) ih =
             let x = ih a b (edge_within table s k a e).1 (edge_within table t k b f).1 q in (
               k ∷ x.0,
@@ -126,13 +126,13 @@ module _ (table : Table) (graph : List GraphState) (shows : Shows table graph) w
             let z : k ≡ 256 = omega arith in
             let e' = ap (to table s) (sym z) ∙ e in
             let f' = ap (to table t) (sym z) ∙ f in
-            both_end (length (k ∷ word)) s t a b hs ht e' f' (behind_end s a t b word e' f' q)
+            both_end (length (k ∷ word)) s t a b hs ht e' f' (after_end s a t b word e' f' q)
 
-        go : (o : Option ℕ) → to table s k ≡ o → (p : Option ℕ) → to table t k ≡ p → ((s t : ℕ) → s < size table → t < size table → Tells table s t word → Evidence (length word) s t) → Evidence (length (k ∷ word)) s t
+        go : (o : Option ℕ) → to table s k ≡ o → (p : Option ℕ) → to table t k ≡ p → ((s t : ℕ) → s < size table → t < size table → WordDistinguishes table s t word → Evidence (length word) s t) → Evidence (length (k ∷ word)) s t
         go None e None f ih = absurd (d (none_of (to table s k) e ∙ sym (none_of (to table t k) f)))
         go (Some a) e None f ih = by_place a e f (cases_lt k 256)
         go None e (Some b) f ih = other_place b e f (cases_lt k 256)
         go (Some a) e (Some b) f ih =
             on a b e f
-            (λ q. d (ap (λ (o : Option ℕ). option_map (mark table) (state_behind table o word)) e ∙ q ∙ sym (ap (λ (o : Option ℕ). option_map (mark table) (state_behind table o word)) f)))
+            (λ q. d (ap (λ (o : Option ℕ). option_map (mark table) (state_after table o word)) e ∙ q ∙ sym (ap (λ (o : Option ℕ). option_map (mark table) (state_after table o word)) f)))
             (cases_lt k 256) ih

@@ -17,7 +17,7 @@ pub mod FinishedLaws
 pub mod EdgeLemmas
 pub mod StateLemmas
 pub mod BackwardLemmas
-pub mod TellingLemmas
+pub mod EvidenceLemmas
 pub mod RawLemmas
 pub mod GraphMade
 pub mod ChartLemmas

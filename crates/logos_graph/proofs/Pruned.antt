@@ -21,7 +21,7 @@ module _ {S : Type 0} (g h : Edges S) where
     pub ends : (s : S) → IsKept IsUseful (g.at_end s) (h.at_end s)
 
 module _ {S : Type 0} (g h : Edges S) (p : IsPruned g h) where
-  -- behind a state that leads to no mark none is found
+  -- after a state that leads to no mark none is found
   nothing_on : (rest : List ℕ) → IsBytes rest → (s : S) (at : ℕ) (last : Option (ℕ × ℕ)) → (Leads g s → ⊥) → last_mark g s rest at last ≡ last
   nothing_on [] ok s at last dead = go (g.at_end s) refl
     where

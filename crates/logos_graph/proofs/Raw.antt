@@ -92,7 +92,7 @@ module _ (rules : List Rule) (free : IsFalse (some_leads rules)) {S : Type 0} (g
       let e : record { accept = type.accept; early = None } ≡ type = ap (λ x. record { accept = type.accept; early = x }) (sym late) in
       subst (λ (y : StateType). BestBelow rules bytes from (at + 1) (marked y at last)) e (best_grows rules bytes from at order type.accept last first best)
 
-  -- from a state behind bytes on
+  -- from a state to which bytes lead
   pub raw_marks : (bytes pre v u : List ℕ) (s : S) (at : ℕ) (last : Option (ℕ × ℕ)) → bytes ≡ pre ++ (u ++ v) → at ≡ length pre + length u → IsBytes u → IsBytes v →
       reach g root u ≡ Some s → BestBelow rules bytes (length pre) at last → BestBelow rules bytes (length pre) (length bytes + 1) (last_mark g s v at last)
   raw_marks bytes pre [] u s at last e p ok ok' r best =
@@ -205,7 +205,7 @@ module _ (rules : List Rule) (free : IsFalse (some_leads rules)) {S : Type 0} (g
   one_byte : (b : ℕ) → b < 256 → IsBytes (b ∷ [])
   one_byte b l = All-cons (λ b. b < 256) b [] l (All-nil (λ b. b < 256))
 
-  -- bytes behind which there is a way to a mark can still grow
+  -- bytes after which there is a way to a mark can still grow
   leads_grows : (u : List ℕ) (s : S) → IsBytes u → reach g root u ≡ Some s → Leads g s → Grows rules u
   leads_grows u s ok r (to_mark {t = t} b l e m) =
       let q = reads.by_byte u b (All-append (λ b. b < 256) u (b ∷ []) ok (one_byte b l)) in

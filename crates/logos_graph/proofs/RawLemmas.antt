@@ -30,7 +30,7 @@ use Rattle.logos_reduce.proofs.tables.PushLemmas.{pushed, length_pushed}
 use Rattle.logos_reduce.proofs.tables.RowLemmas.{symbol_below, source_below}
 
 module _ (rules : List Rule) where
-  -- the best leaf in front, with the one behind
+  -- the best leaf in front, with the one after it
   abbrev pub joined : Option ℕ → Option ℕ → Option ℕ
   joined None o = o
   joined (Some best) o = Some (higher rules best o)
@@ -177,7 +177,7 @@ module _ (leaves : List Leaf) (dfa : Automaton) (total : IsTotal dfa) (starts : 
       let q : t ≡ total.dead = same_Some t total.dead (sym e ∙ ap (λ (s : ℕ). to table s 256) d ∙ r.ends total.dead dead_inside ∙ total.dead_end) in
       dead_target t q m
 
-  -- behind the end there is only the dead state
+  -- after the end there is only the dead state
   quiet : {s : ℕ} → ((b t : ℕ) → b < 256 → to table s b ≡ Some t → t ≡ total.dead) → ((t : ℕ) → to table s 256 ≡ Some t → t ≡ total.dead) → Leads g s → ⊥
   quiet next last (to_mark {s} {t} b l e m) = dead_target t (next b t l e) m
   quiet next last (onward {s} {t} b l e h) = dead_leads h (next b t l e)

@@ -1,4 +1,4 @@
--- What a generator asks of a graph.
+-- What a generator requires of a graph.
 use Rattle.std.specs.Prelude.{◌≡◌, ◌≢◌, ℕ, ◌<◌, true, List, length, Option, None, Some, IsSome, IfSome, IsSomeAnd, option_map, find, slice_get}
 use Rattle.std.specs.List.{All, AllPairs}
 use Rattle.logos_byte_class.specs.Bytes.{AreSeparated}

@@ -30,8 +30,7 @@ module _ (graph : List GraphState) (utf8 : Bool) (bytes : List ℕ) (from : ℕ)
     pub end : to ≡ from + size
     pub last : (n : ℕ) → at < n → n ≤ length rest + 1 → mark_after n ≡ None
 
-  -- An error may end here: behind a byte, behind all bytes that can be followed, and in UTF-8 mode
-  -- between characters.
+  -- An error may end here: after a byte, after all bytes that can be followed, and in UTF-8 mode between characters.
   pub record CoversWalk (to : ℕ) : Type 0 where
     pub nonempty : from < to
     pub covers : (n : ℕ) → n ≤ length rest → IsSome (walk graph 0 (take n rest) false) → from + n ≤ to

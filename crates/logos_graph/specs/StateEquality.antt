@@ -1,4 +1,4 @@
--- What `==` says of states: nothing of what leads to them.
+-- When `==` holds between states: whatever leads to them.
 use Rattle.std.specs.Prelude.{Bool}
 use Rattle.std.specs.Cmp.{IsPartialEquivalence, on_per, and_per, partial_equiv_from_equiv}
 use Rattle.std.specs.Cmp.Lexicographic.{pointwise, lists_per, options_equiv}

@@ -29,7 +29,7 @@ pub struct Config {
 pub struct State(pub(crate) usize);
 
 impl State {
-    /// The number of the state. The root's is 0.
+    /// Returns the number of the state. The root's is 0.
     pub fn index(self) -> usize
         ensures { result ≡ self.0 }
     {

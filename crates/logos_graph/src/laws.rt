@@ -4,7 +4,7 @@ ghost use Rattle.std.specs.Prelude.{◌≡◌, ℕ, ◌≤◌, Bool, List, lengt
 ghost use Rattle.logos_automaton.specs.Munch.{Rule, Found, Finds};
 ghost use Rattle.logos_automaton.specs.Faults.{Fault, AreFaults};
 
-/// Maximal munch finds one thing at a place.
+/// At a place of an input, maximal munch finds one thing.
 pub fn one_is_found()
     ensures { (rules : List Rule) (utf8 : Bool) (bytes : List ℕ) (from : ℕ) (f g : Found) →
         from ≤ length bytes → Finds rules utf8 bytes from f →

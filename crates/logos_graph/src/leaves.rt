@@ -1,4 +1,4 @@
-//! What an automaton needs of leaves.
+//! Leaves as rules of an automaton.
 ghost use Rattle.std.specs.Prelude.{◌≡◌, ◌^◌, ◌≤◌, ◌↔◌, IsTrue, IfOk};
 ghost use Rattle.logos_automaton.specs.Measures.{size_of};
 ghost use Rattle.logos_automaton.specs.View as views;
@@ -9,7 +9,7 @@ use logos_automaton::rule::RuleView;
 use logos_pattern::leaf::{Leaf, VariantKind};
 use std::alloc::{AllocError, Global};
 
-/// Whether the size of all trees is at most 1,048,576. It takes no memory.
+/// Returns whether the size of all trees is at most 1,048,576. It takes no memory.
 pub(crate) fn is_size_within(leaves: &[Leaf<'_>]) -> bool
     ensures { IsTrue result ↔ (size_of (rules_of leaves.now) ≤ 2 ^ 20) }
 {
@@ -20,7 +20,7 @@ pub(crate) fn is_size_within(leaves: &[Leaf<'_>]) -> bool
     sum.is_some()
 }
 
-/// The rule that a leaf stands for.
+/// Returns the rule that a leaf stands for.
 fn rule_view<'l>(leaf: &'l Leaf<'_>) -> RuleView<'l>
     ensures { views.rule_of result ≡ rule_of leaf.now }
 {
@@ -32,7 +32,7 @@ fn rule_view<'l>(leaf: &'l Leaf<'_>) -> RuleView<'l>
     }
 }
 
-/// The rules that leaves stand for.
+/// Returns the rules that leaves stand for.
 pub(crate) fn rule_views<'l>(
     alloc: Global,
     leaves: &'l [Leaf<'_>],

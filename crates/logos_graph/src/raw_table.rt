@@ -1,4 +1,4 @@
-//! The automaton of leaves as a table, with late marks alone.
+//! Makes the table of an automaton, with late marks alone.
 ghost use Rattle.std.specs.Prelude.{◌≡◌, ℕ, ◌+◌, ◌<◌, ◌^◌, Some, IfOk, IfSome, List};
 ghost use Rattle.std.specs.Prelude.{[], length, vec_len, slice_index, slice_get};
 ghost use Rattle.std.specs.List.{All};
@@ -23,7 +23,7 @@ use logos_reduce::rows::{Row, Rows};
 use logos_reduce::table::{Mark, Table};
 use std::alloc::{AllocError, Global};
 
-/// The priority of a leaf, or 0 if there is no leaf with this number.
+/// Returns the priority of a leaf, or 0 if there is no leaf with this number.
 fn priority_at(leaves: &[Leaf<'_>], leaf: usize) -> usize
     ensures { result ≡ priority_of (rules_of leaves.now) leaf }
 {
@@ -33,7 +33,7 @@ fn priority_at(leaves: &[Leaf<'_>], leaf: usize) -> usize
     }
 }
 
-/// The leaf, if it has a higher priority than the best one before it, or else that one.
+/// Returns the leaf, if it has a higher priority than the best one before it, or else that one.
 fn best_with(leaves: &[Leaf<'_>], best: Option<usize>, leaf: usize) -> usize
     ensures { result ≡ best_with (rules_of leaves.now) (length leaves.now) best leaf }
 {
@@ -49,7 +49,7 @@ fn best_with(leaves: &[Leaf<'_>], best: Option<usize>, leaf: usize) -> usize
     }
 }
 
-/// The first leaf of highest priority among those listed.
+/// Returns the first leaf of highest priority among those listed.
 fn first_leaf(leaves: &[Leaf<'_>], listed: &[usize]) -> Option<usize>
     ensures { result ≡ first_of (rules_of leaves.now) listed.now }
 {
@@ -60,7 +60,7 @@ fn first_leaf(leaves: &[Leaf<'_>], listed: &[usize]) -> Option<usize>
     best
 }
 
-/// The mark of a state that lists these leaves.
+/// Returns the mark of a state that lists these leaves.
 fn raw_mark(leaves: &[Leaf<'_>], listed: &[usize]) -> Mark
     ensures { IsRawMark (rules_of leaves.now) (length leaves.now) listed.now result }
 {
@@ -74,7 +74,7 @@ fn raw_mark(leaves: &[Leaf<'_>], listed: &[usize]) -> Mark
     }
 }
 
-/// The marks of all states.
+/// Returns the marks of all states.
 fn raw_marks(alloc: Global, leaves: &[Leaf<'_>], dfa: &Dfa) -> Result<Vec<Mark>, AllocError>
     ensures len { IfOk result (λ marks. vec_len marks ≡ length (dfa_of dfa.now).matches) }
     ensures marks { IfOk result (λ marks. (s : ℕ) → s < length (dfa_of dfa.now).matches →
@@ -88,7 +88,7 @@ fn raw_marks(alloc: Global, leaves: &[Leaf<'_>], dfa: &Dfa) -> Result<Vec<Mark>,
     Ok(marks)
 }
 
-/// A row of a state: its targets by bytes, and by the end.
+/// Returns the row of a state: its targets by bytes, and by the end.
 fn raw_row(row: &ByteRow, end: u32) -> Row
     requires few { (k : ℕ) → k < 256 → slice_index row.now k + 1 < 2 ^ 32 }
     requires end { end + 1 < 2 ^ 32 }
@@ -102,7 +102,7 @@ fn raw_row(row: &ByteRow, end: u32) -> Row
     made
 }
 
-/// The rows of all states.
+/// Returns the rows of all states.
 fn raw_rows(alloc: Global, dfa: &Dfa) -> Result<Rows, AllocError>
     requires total { IsTotal (dfa_of dfa.now) }
     requires few { length (dfa_of dfa.now).matches + 1 < 2 ^ 32 }
@@ -116,8 +116,8 @@ fn raw_rows(alloc: Global, dfa: &Dfa) -> Result<Rows, AllocError>
     Ok(rows)
 }
 
-/// The table of the automaton: each state accepts the leaf of highest priority that it lists. Its states have
-/// their numbers, and the first is the start.
+/// Returns the table of the automaton: each state accepts the leaf of highest priority that it lists. Its states have their
+/// numbers, and the first is the start.
 pub(crate) fn raw_table(alloc: Global, leaves: &[Leaf<'_>], dfa: &Dfa) -> Result<Table, AllocError>
     requires total { IsTotal (dfa_of dfa.now) }
     requires few { length (dfa_of dfa.now).matches + 1 < 2 ^ 32 }

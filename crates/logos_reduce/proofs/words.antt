@@ -1,2 +1,2 @@
 pub mod WordLemmas
-pub mod TellingLemmas
+pub mod EvidenceLemmas

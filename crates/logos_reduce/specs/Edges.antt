@@ -17,7 +17,7 @@ pub record Edges (S : Type 0) : Type 0 where
   pub at_end : S → Option S
 
 module _ {S : Type 0} (g : Edges S) where
-  -- the state behind the bytes
+  -- the state to which the bytes lead
   abbrev pub reach : S → List ℕ → Option S
   reach s [] = Some s
   reach s (b ∷ bytes) = option_and_then (λ t. reach t bytes) (g.next s b)

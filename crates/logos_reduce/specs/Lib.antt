@@ -11,6 +11,6 @@ pub mod Words
 pub mod Merge
 pub mod Number
 pub mod Reduction
-pub mod Tellable
-pub mod Telling
+pub mod History
+pub mod Evidence
 pub mod inside

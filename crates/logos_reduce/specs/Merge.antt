@@ -1,4 +1,4 @@
--- States in blocks, and how blocks were split.
+-- States in blocks, and how the blocks were split.
 use Rattle.std.specs.Prelude.{◌≡◌, ◌≢◌, ◌+◌, ◌<◌, ◌≤◌, ◌⊎◌, ℕ, List, Option, Some, None, option_map, length, slice_index_or}
 use Rattle.logos_reduce.specs.Table.{size, to, mark}
 use Rattle.logos_reduce.specs.declared.merge.blocks.Split.{Split}
@@ -23,11 +23,11 @@ module _ (table : Table) (block : ℕ → ℕ) where
 abbrev pub IsWithin : ℕ → (ℕ → ℕ) → ℕ → Type 0
 IsWithin n block m = (s : ℕ) → s < n → block s < m
 
--- the split by which block j came
+-- the split that made block j
 abbrev pub split_at : List Split → ℕ → Split
 split_at splits j = slice_index_or splits j (record { parent = 0; symbol = None })
 
--- How the blocks came from one: block j was parted from its parent when there were j blocks.
+-- How the blocks were made from one: block j was parted from its parent when there were j blocks.
 pub record IsHistory (table : Table) (splits : List Split) (block : ℕ → ℕ) : Type 0 where
   -- the block of a state when there were j blocks
   pub at : ℕ → ℕ → ℕ
@@ -39,7 +39,7 @@ pub record IsHistory (table : Table) (splits : List Split) (block : ℕ → ℕ)
       at (j + 1) s ≡ j → at (j + 1) t ≡ (split_at splits j).parent →
       ArePartedBy table (at j) (split_at splits j).symbol s t
 
--- the blocks came by splits, and have one mark each
+-- the blocks were made by splits, and have one mark each
 pub record IsSound (table : Table) (splits : List Split) (block : ℕ → ℕ) : Type 0 where
   pub history : IsHistory table splits block
   pub marks : HaveMarks table block

@@ -12,7 +12,7 @@ IsReached table root s =
     × ((reach (edges table) root bytes ≡ Some s)
     ⊎ ((t : ℕ) × (reach (edges table) root bytes ≡ Some t) × (to table t 256 ≡ Some s)))
 
--- A table with late marks alone: each state can be reached, the root has no mark, and behind the end there is none.
+-- A table with late marks alone: each state can be reached, the root has no mark, and after the end there is none.
 pub record IsRaw (table : Table) (root : ℕ) : Type 0 where
   pub root_in : root < size table
   pub late_only : (s : ℕ) → (mark table s).early ≡ None

@@ -1,16 +1,15 @@
--- What the reduction makes of a table.
+-- What a table is reduced to.
 use Rattle.std.specs.Prelude.{◌≡◌, ◌≢◌, ◌<◌, ◌≤◌, ◌⊎◌, ℕ, List, Some, length}
 use Rattle.logos_reduce.specs.Merge.{IsMerged}
 use Rattle.logos_reduce.specs.Number.{IsNumbered}
 use Rattle.logos_reduce.specs.Prune.{IsOfUse, IsPrunedTable}
 use Rattle.logos_reduce.specs.Settle.{IsSettled}
 use Rattle.logos_reduce.specs.Table.{size, to, mark}
-use Rattle.logos_reduce.specs.Words.{Tells}
+use Rattle.logos_reduce.specs.Words.{WordDistinguishes}
 use Rattle.logos_reduce.specs.declared.reduction.Reduction.{Reduction}
 use Rattle.logos_reduce.specs.declared.table.Table.{Table}
 
--- The old table, with its marks settled, without its useless edges, and with its states merged, is
--- numbered from the root on.
+-- The old table, with its marks settled, without its useless edges, and with its states merged, is numbered from the root on.
 pub record IsReductionOf (old : Table) (root : ℕ) (r : Reduction) : Type 0 where
   -- the table with early marks, and without needless late ones
   pub marked : Table
@@ -26,10 +25,10 @@ pub record IsReductionOf (old : Table) (root : ℕ) (r : Reduction) : Type 0 whe
   pub numbered : IsNumbered useful block leader root r.blocks.items r.table
 
 module _ (table : Table) where
-  -- any two different states are told apart, by a word of fewer symbols than there are states
+  -- a word of fewer symbols than there are states distinguishes any two different states
   abbrev pub IsLeast : Type 0
   IsLeast = (s t : ℕ) → s < size table → t < size table → s ≢ t →
-      (word : List ℕ) × (length word < size table) × Tells table s t word
+      (word : List ℕ) × (length word < size table) × WordDistinguishes table s t word
 
   -- the first edge into a state, by source number, then bytes ascending, then the end
   pub record IsFirstEdge (t s k : ℕ) : Type 0 where

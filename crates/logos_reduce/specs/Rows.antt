@@ -10,9 +10,9 @@ target_of (suc t) = Some t
 abbrev pub target_by : List ℕ → ℕ → Option ℕ
 target_by row k = target_of (slice_index row k)
 
--- the rows at these places among the kept ones
+-- the rows at these places among the distinct ones
 abbrev pub rows_at : List ℕ → List (List ℕ) → List (List ℕ)
-rows_at places kept = map (λ place. slice_index_or kept place []) places
+rows_at places distinct = map (λ place. slice_index_or distinct place []) places
 
 -- where a state leads by a symbol
 abbrev pub target_in : List (List ℕ) → ℕ → ℕ → Option ℕ

@@ -4,4 +4,4 @@ use Rattle.logos_reduce.specs.Rows.{rows_at}
 use Rattle.logos_reduce.specs.declared.rows.Rows.{Rows}
 
 abbrev pub rows_of : Rows → List (List ℕ)
-rows_of rows = rows_at rows.places.items rows.kept.keys
+rows_of rows = rows_at rows.places.items rows.distinct.keys

@@ -24,9 +24,9 @@ IsNeeded table s early t = (k : ℕ) × (to table s k ≡ Some t) × ((mark tabl
 abbrev pub IsSpare : Table → ℕ → Option ℕ → ℕ → Type 0
 IsSpare table s early t = (k : ℕ) → to table s k ≡ Some t → (mark table t).accept ≡ early
 
--- The late mark of a state is kept as it is needed somewhere, or dropped as it is needed nowhere.
-abbrev pub IsKeptOrSpare : Table → Table → ℕ → Type 0
-IsKeptOrSpare old new t =
+-- The late mark of a state stays as it is needed somewhere, or is dropped as it is needed nowhere.
+abbrev pub IsNeededOrSpare : Table → Table → ℕ → Type 0
+IsNeededOrSpare old new t =
     (((mark new t).accept ≡ (mark old t).accept)
     × ((s : ℕ) × (s < size old) × IsNeeded old s (mark new s).early t))
     ⊎ (((mark new t).accept ≡ None) × ((s : ℕ) → s < size old → IsSpare old s (mark new s).early t))
@@ -36,4 +36,4 @@ pub record IsSettled (old new : Table) : Type 0 where
   pub rows : rows_of new.rows ≡ rows_of old.rows
   pub states : size new ≡ size old
   pub early : (s : ℕ) → s < size old → IsCommon old s (mark new s).early
-  pub late : (t : ℕ) → t < size old → IsKeptOrSpare old new t
+  pub late : (t : ℕ) → t < size old → IsNeededOrSpare old new t

@@ -4,4 +4,4 @@ pub mod Prune
 pub mod Lists
 pub mod Merge
 pub mod Count
-pub mod Telling
+pub mod Evidence

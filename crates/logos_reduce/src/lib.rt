@@ -1,5 +1,5 @@
-//! From a table of targets and marks to the least table, its states numbered by first visit, and how any two of them are
-//! told apart.
+//! Reduces a table of targets and marks to the least one, with its states numbered by first visit, and gives evidence that
+//! any two of them differ.
 
 #![tactic(auto)]
 
@@ -12,4 +12,4 @@ pub mod reduction;
 pub mod rows;
 mod settle;
 pub mod table;
-mod telling;
+mod evidence;

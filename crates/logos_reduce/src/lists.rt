@@ -1,4 +1,4 @@
-//! Lists of states, one for each state or block.
+//! A list of states for each state or block.
 ghost use Rattle.std.specs.Prelude.{true, ◌≡◌, ◌≢◌, ℕ, ◌+◌, ◌-◌, ◌<◌, ◌≤◌, ◌⊎◌, Some, OnOk, IfOk, IsTrue, IsFalse, length, slice_get, vec_len};
 ghost use Rattle.logos_reduce.specs.Lists.{has, has_in, Rises, AreRising, ArePredecessors};
 ghost use Rattle.logos_reduce.specs.Table.{size, to};
@@ -8,7 +8,7 @@ use crate::rows::{Row, target_at};
 use crate::table::Table;
 use std::alloc::{AllocError, Global};
 
-/// As many empty lists.
+/// Returns so many empty lists.
 pub fn empty_lists(alloc: Global, len: usize) -> Result<Vec<Vec<usize>>, AllocError>
     ensures len { IfOk result (λ v. vec_len v ≡ len) }
     ensures empty { IfOk result (λ v. (b s : ℕ) → has_in v.items b s ≡ true → ⊥) }
@@ -21,7 +21,7 @@ pub fn empty_lists(alloc: Global, len: usize) -> Result<Vec<Vec<usize>>, AllocEr
     Ok(lists)
 }
 
-/// Whether the last number of a list is this one.
+/// Returns whether the last number of a list is this one.
 fn ends_with(list: &Vec<usize>, s: usize) -> bool
     ensures hit { IsTrue result → has list.now.items s ≡ true }
     ensures miss { IsFalse result → slice_get list.now.items (vec_len list.now - 1) ≢ Some s }
@@ -35,7 +35,7 @@ fn ends_with(list: &Vec<usize>, s: usize) -> bool
 /// Adds a number to a list, unless it is the last one there.
 pub fn add(list: &mut Vec<usize>, s: usize) -> Result<(), AllocError>
     ensures has { OnOk result (has list.new.items s ≡ true) }
-    ensures kept { (t : ℕ) → has list.old.items t ≡ true → has list.new.items t ≡ true }
+    ensures stays { (t : ℕ) → has list.old.items t ≡ true → has list.new.items t ≡ true }
     ensures only { (t : ℕ) → has list.new.items t ≡ true → (has list.old.items t ≡ true) ⊎ (t ≡ s) }
     ensures rising { Rises (s + 1) list.old.items → Rises (s + 1) list.new.items }
 {
@@ -50,7 +50,7 @@ pub fn file(lists: &mut Vec<Vec<usize>>, b: usize, s: usize) -> Result<(), Alloc
     requires { b < vec_len lists.old }
     ensures len { vec_len lists.new ≡ vec_len lists.old }
     ensures has { OnOk result (has_in lists.new.items b s ≡ true) }
-    ensures kept { (c t : ℕ) → has_in lists.old.items c t ≡ true →
+    ensures stays { (c t : ℕ) → has_in lists.old.items c t ≡ true →
         has_in lists.new.items c t ≡ true }
     ensures only { (c t : ℕ) → has_in lists.new.items c t ≡ true →
         (has_in lists.old.items c t ≡ true) ⊎ ((c ≡ b) × (t ≡ s)) }
@@ -60,7 +60,7 @@ pub fn file(lists: &mut Vec<Vec<usize>>, b: usize, s: usize) -> Result<(), Alloc
     Ok(())
 }
 
-/// Adds a state to the list of each of its targets by the first symbols.
+/// Adds a state to the list of each of its targets by the first `width` symbols.
 fn file_row(
     lists: &mut Vec<Vec<usize>>,
     row: &Row,
@@ -70,7 +70,7 @@ fn file_row(
     requires width { width ≤ 257 }
     requires inside { (k t : ℕ) → target_by row.now k ≡ Some t → t < vec_len lists.old }
     ensures len { vec_len lists.new ≡ vec_len lists.old }
-    ensures kept { (t u : ℕ) → has_in lists.old.items t u ≡ true →
+    ensures stays { (t u : ℕ) → has_in lists.old.items t u ≡ true →
         has_in lists.new.items t u ≡ true }
     ensures filed { OnOk result ((k t : ℕ) → k < width → target_by row.now k ≡ Some t →
         has_in lists.new.items t s ≡ true) }
@@ -87,7 +87,7 @@ fn file_row(
     Ok(())
 }
 
-/// For each state, the states that lead to it by one of the first symbols, ascending and each once.
+/// Returns for each state the states that lead to it by one of the first `width` symbols, ascending and each once.
 pub fn predecessors(
     alloc: Global,
     table: &Table,

@@ -1,4 +1,4 @@
-//! Merging states that nothing tells apart.
+//! Merges states that no word distinguishes.
 ghost use Rattle.std.specs.Prelude.{◌≡◌, ◌≢◌, ℕ, ◌+◌, ◌<◌, ◌≤◌, Some, IfOk, MatchOption, length, vec_len, slice_index, option_map};
 ghost use Rattle.logos_reduce.specs.Merge.{target_block, IsSound, AreLeaders, IsMerged};
 ghost use Rattle.logos_reduce.specs.inside.Merge.{IsFiner, IsExtension, IsLanding};
@@ -16,7 +16,7 @@ use crate::rows::{Row, WIDTH, target_at};
 use crate::table::Table;
 use std::alloc::{AllocError, Global};
 
-/// For each block one of its states.
+/// Returns for each block one of its states.
 fn leaders_of(alloc: Global, blocks: &Blocks) -> Result<Vec<usize>, AllocError>
     ensures len { IfOk result (λ v. vec_len v ≡ vec_len blocks.now.splits) }
     ensures leaders { IfOk result
@@ -30,7 +30,7 @@ fn leaders_of(alloc: Global, blocks: &Blocks) -> Result<Vec<usize>, AllocError>
     Ok(leaders)
 }
 
-/// The first symbol by which two rows do not lead to one block.
+/// Returns the first symbol by which two rows do not lead to one block.
 fn first_difference(row: &Row, other: &Row, blocks: &Vec<usize>) -> Option<usize>
     requires row { (k t : ℕ) → target_by row.now k ≡ Some t → t < vec_len blocks.now }
     requires other { (k t : ℕ) → target_by other.now k ≡ Some t → t < vec_len blocks.now }
@@ -49,8 +49,20 @@ fn first_difference(row: &Row, other: &Row, blocks: &Vec<usize>) -> Option<usize
     None
 }
 
-/// A state and a symbol by which it does not lead where the leader of its block does.
-fn find_fault(table: &Table, blocks: &Vec<usize>, leaders: &Vec<usize>) -> Option<(usize, usize)>
+/// A state and a symbol by which it does not lead to the block to which the leader of its block does.
+#[derive(Clone, Copy, Drop)]
+struct Difference {
+    leader: usize,
+    state: usize,
+    symbol: usize,
+}
+
+/// Returns a state that does not lead where the leader of its block does, if there is one.
+fn find_difference(
+    table: &Table,
+    blocks: &Vec<usize>,
+    leaders: &Vec<usize>,
+) -> Option<Difference>
     requires len { vec_len blocks.now ≡ size table.now }
     requires within { (s : ℕ) → s < size table.now →
         slice_index blocks.now.items s < vec_len leaders.now }
@@ -61,15 +73,19 @@ fn find_fault(table: &Table, blocks: &Vec<usize>, leaders: &Vec<usize>) -> Optio
         target_block table.now (slice_index blocks.now.items) s k
         ≡ target_block table.now (slice_index blocks.now.items)
         (slice_index leaders.now.items (slice_index blocks.now.items s)) k)
-        (λ p. (p.0 < size table.now) × (p.1 < 257)
-        × (target_block table.now (slice_index blocks.now.items) p.0 p.1
-        ≢ target_block table.now (slice_index blocks.now.items)
-        (slice_index leaders.now.items (slice_index blocks.now.items p.0)) p.1)) }
+        (λ d. (d.state < size table.now) × (d.symbol < 257)
+        × (d.leader ≡ slice_index leaders.now.items (slice_index blocks.now.items d.state))
+        × (target_block table.now (slice_index blocks.now.items) d.state d.symbol
+        ≢ target_block table.now (slice_index blocks.now.items) d.leader d.symbol)) }
 {
     for s in 0..table.len() {
         let leader = leaders[blocks[s]];
-        if let Some(k) = first_difference(table.row(s), table.row(leader), blocks) {
-            return Some((s, k));
+        if let Some(symbol) = first_difference(table.row(s), table.row(leader), blocks) {
+            return Some(Difference {
+                leader,
+                state: s,
+                symbol,
+            });
         }
     }
     None
@@ -87,7 +103,7 @@ struct Cut {
     fresh: usize,
 }
 
-/// The block of a state after a cut.
+/// Returns the block of a state after a cut.
 fn part_of(table: &Table, blocks: &Vec<usize>, t: usize, cut: Cut) -> usize
     requires len { vec_len blocks.now ≡ size table.now }
     requires t_in { t < size table.now }
@@ -104,7 +120,7 @@ fn part_of(table: &Table, blocks: &Vec<usize>, t: usize, cut: Cut) -> usize
     block
 }
 
-/// The block of each state after a cut.
+/// Returns the block of each state after a cut.
 fn parts(
     alloc: Global,
     table: &Table,
@@ -126,44 +142,44 @@ fn parts(
     Ok(parts)
 }
 
-/// Parts a state and those like it from the leader of its block, who leads elsewhere.
+/// Moves a state, and those of its block that lead where it leads by the symbol, into a new block.
 fn split_off(
     alloc: Global,
     table: &Table,
     blocks: Blocks,
-    leader: usize,
-    s: usize,
-    k: usize,
+    found: Difference,
 ) -> Result<Blocks, AllocError>
     requires len { vec_len blocks.of ≡ size table.now }
-    requires s_in { s < size table.now }
-    requires leader_in { leader < size table.now }
-    requires k_in { k < 257 }
-    requires together { slice_index blocks.of.items leader ≡ slice_index blocks.of.items s }
-    requires fault { target_block table.now (slice_index blocks.of.items) s k
-        ≢ target_block table.now (slice_index blocks.of.items) leader k }
+    requires state_in { found.state < size table.now }
+    requires leader_in { found.leader < size table.now }
+    requires symbol_in { found.symbol < 257 }
+    requires together { slice_index blocks.of.items found.leader
+        ≡ slice_index blocks.of.items found.state }
+    requires different { target_block table.now (slice_index blocks.of.items) found.state found.symbol
+        ≢ target_block table.now (slice_index blocks.of.items) found.leader found.symbol }
     ensures len { IfOk result (λ b. vec_len b.of ≡ size table.now) }
     ensures extension { IfOk result (λ b. IsExtension table.now blocks.splits.items b.splits.items
         (slice_index blocks.of.items) (slice_index b.of.items)) }
-    ensures parted { IfOk result (λ b. slice_index b.of.items s ≢ slice_index b.of.items leader) }
+    ensures parted { IfOk result (λ b.
+        slice_index b.of.items found.state ≢ slice_index b.of.items found.leader) }
 {
     let Blocks { of, mut splits } = blocks;
-    let home = of[s];
+    let home = of[found.state];
     let cut = Cut {
         home,
-        symbol: k,
-        to: block_of(table.target(s, k), &of),
+        symbol: found.symbol,
+        to: block_of(table.target(found.state, found.symbol), &of),
         fresh: splits.len(),
     };
     let parts = parts(alloc, table, &of, cut)?;
     splits.push(Split {
         parent: home,
-        symbol: Some(k),
+        symbol: Some(found.symbol),
     })?;
     Ok(Blocks { of: parts, splits })
 }
 
-/// Blocks of states that nothing tells apart, and for each block one of its states.
+/// Blocks of states that no word distinguishes, and for each block one of its states.
 #[derive(Drop)]
 pub struct Partition {
     pub blocks: Blocks,
@@ -171,7 +187,7 @@ pub struct Partition {
     pub leaders: Vec<usize>,
 }
 
-/// Puts together the states that nothing tells apart.
+/// Returns the blocks of the states that no word distinguishes.
 pub fn merge(alloc: Global, table: &Table) -> Result<Partition, AllocError>
     ensures len { IfOk result (λ m. vec_len m.blocks.of ≡ size table.now) }
     ensures leaders_len { IfOk result (λ m. vec_len m.leaders ≡ vec_len m.blocks.splits) }
@@ -183,11 +199,10 @@ pub fn merge(alloc: Global, table: &Table) -> Result<Partition, AllocError>
     let mut blocks = refine(alloc, table, first)?;
     loop {
         let leaders = leaders_of(alloc, &blocks)?;
-        match find_fault(table, &blocks.of, &leaders) {
+        match find_difference(table, &blocks.of, &leaders) {
             None => return Ok(Partition { blocks, leaders }),
-            Some((s, k)) => {
-                let leader = leaders[blocks.of[s]];
-                let split = split_off(alloc, table, blocks, leader, s, k)?;
+            Some(found) => {
+                let split = split_off(alloc, table, blocks, found)?;
                 blocks = refine(alloc, table, split)?;
             }
         }

@@ -1,4 +1,4 @@
-//! Numbering states by first visit.
+//! Numbers states by first visit.
 ghost use Rattle.std.specs.Prelude.{◌≡◌, ℕ, ◌+◌, ◌-◌, ◌<◌, ◌≤◌, ◌++◌, ◌∷◌, ◌⊎◌, ◌^◌, [], Some, OnOk, IfOk, length, vec_len, slice_index, option_map, option_and_then};
 ghost use Rattle.logos_reduce.specs.Merge.{target_block, AreLeaders};
 ghost use Rattle.logos_reduce.specs.Table.{size, to, mark, mark_in};
@@ -8,13 +8,14 @@ ghost use Rattle.logos_reduce.specs.inside.Order.{Grows};
 ghost use Rattle.logos_reduce.specs.Rows.{target_by, target_in, target_of};
 ghost use Rattle.logos_reduce.specs.RowsView.{rows_of};
 
+use crate::merge::Partition;
 use crate::merge::refine::block_of;
 use crate::order::Order;
 use crate::rows::{Row, Rows, WIDTH, target_at};
 use crate::table::{Mark, Table};
 use std::alloc::{AllocError, Global};
 
-/// Meets a block, if there is one.
+/// Adds a block to the order, if there is one and it is not there yet.
 fn meet_target(order: &mut Order, target: Option<usize>) -> Result<(), AllocError>
     requires { (b : ℕ) → target ≡ Some b → b < vec_len order.old.numbers }
     ensures len { vec_len order.new.numbers ≡ vec_len order.old.numbers }
@@ -30,77 +31,75 @@ fn meet_target(order: &mut Order, target: Option<usize>) -> Result<(), AllocErro
     Ok(())
 }
 
-/// Meets the blocks to which a block leads.
+/// Adds the blocks to which the block at place `i` leads.
 fn meet_targets(
     order: &mut Order,
     table: &Table,
-    blocks: &Vec<usize>,
-    leaders: &Vec<usize>,
+    merged: &Partition,
     i: usize,
 ) -> Result<(), AllocError>
     requires place { i < vec_len order.old.states }
-    requires len { vec_len blocks.now ≡ size table.now }
-    requires room { vec_len leaders.now ≡ vec_len order.old.numbers }
+    requires len { vec_len merged.now.blocks.of ≡ size table.now }
+    requires room { vec_len merged.now.leaders ≡ vec_len order.old.numbers }
     requires within { (s : ℕ) → s < size table.now →
-        slice_index blocks.now.items s < vec_len leaders.now }
-    requires leaders { AreLeaders (size table.now) (slice_index blocks.now.items)
-        (slice_index leaders.now.items) }
-    requires used { AreUsed (size table.now) (slice_index blocks.now.items) order.old.states.items }
+        slice_index merged.now.blocks.of.items s < vec_len merged.now.leaders }
+    requires leaders { AreLeaders (size table.now) (slice_index merged.now.blocks.of.items)
+        (slice_index merged.now.leaders.items) }
+    requires used { AreUsed (size table.now) (slice_index merged.now.blocks.of.items) order.old.states.items }
     requires in_turn { IsInTurn (λ b k.
-        target_block table.now (slice_index blocks.now.items)
-        (slice_index leaders.now.items b) k) order.old.numbers.items order.old.states.items i 0 }
+        target_block table.now (slice_index merged.now.blocks.of.items)
+        (slice_index merged.now.leaders.items b) k) order.old.numbers.items order.old.states.items i 0 }
     ensures len { vec_len order.new.numbers ≡ vec_len order.old.numbers }
     ensures grows { Grows order.old.numbers.items order.new.numbers.items }
     ensures used { OnOk result (AreUsed (size table.now)
-        (slice_index blocks.now.items) order.new.states.items) }
+        (slice_index merged.now.blocks.of.items) order.new.states.items) }
     ensures in_turn { OnOk result
-        (IsInTurn (λ b k. target_block table.now (slice_index blocks.now.items)
-        (slice_index leaders.now.items b) k) order.new.numbers.items order.new.states.items
+        (IsInTurn (λ b k. target_block table.now (slice_index merged.now.blocks.of.items)
+        (slice_index merged.now.leaders.items b) k) order.new.numbers.items order.new.states.items
         (i + 1) 0) }
 {
-    let row = table.row(leaders[order.states[i]]);
+    let row = table.row(merged.leaders[order.states[i]]);
     for k in 0..WIDTH {
-        meet_target(order, block_of(target_at(row, k), blocks))?;
+        meet_target(order, block_of(target_at(row, k), &merged.blocks.of))?;
     }
     Ok(())
 }
 
-/// The blocks in the order of first visits, breadth first from the block of the root.
+/// Returns the blocks in the order of first visits, breadth first from the block of the root.
 fn breadth_first(
     alloc: Global,
     table: &Table,
-    blocks: &Vec<usize>,
-    leaders: &Vec<usize>,
+    merged: &Partition,
     root: usize,
 ) -> Result<Order, AllocError>
     requires root_in { root < size table.now }
-    requires len { vec_len blocks.now ≡ size table.now }
+    requires len { vec_len merged.now.blocks.of ≡ size table.now }
     requires within { (s : ℕ) → s < size table.now →
-        slice_index blocks.now.items s < vec_len leaders.now }
-    requires leaders { AreLeaders (size table.now) (slice_index blocks.now.items)
-        (slice_index leaders.now.items) }
-    ensures len { IfOk result (λ o. vec_len o.numbers ≡ vec_len leaders.now) }
+        slice_index merged.now.blocks.of.items s < vec_len merged.now.leaders }
+    requires leaders { AreLeaders (size table.now) (slice_index merged.now.blocks.of.items)
+        (slice_index merged.now.leaders.items) }
+    ensures len { IfOk result (λ o. vec_len o.numbers ≡ vec_len merged.now.leaders) }
     ensures some { IfOk result (λ o. 0 < vec_len o.states) }
     ensures start { IfOk result (λ o.
-        slice_index o.states.items 0 ≡ slice_index blocks.now.items root) }
+        slice_index o.states.items 0 ≡ slice_index merged.now.blocks.of.items root) }
     ensures used { IfOk result (λ o.
-        AreUsed (size table.now) (slice_index blocks.now.items) o.states.items) }
+        AreUsed (size table.now) (slice_index merged.now.blocks.of.items) o.states.items) }
     ensures in_turn { IfOk result
-        (λ o. IsInTurn (λ b k. target_block table.now (slice_index blocks.now.items)
-        (slice_index leaders.now.items b) k) o.numbers.items o.states.items
+        (λ o. IsInTurn (λ b k. target_block table.now (slice_index merged.now.blocks.of.items)
+        (slice_index merged.now.leaders.items b) k) o.numbers.items o.states.items
         (length o.states.items) 0) }
 {
-    let mut order = Order::new(alloc, leaders.len())?;
-    order.meet(blocks[root])?;
+    let mut order = Order::new(alloc, merged.leaders.len())?;
+    order.meet(merged.blocks.of[root])?;
     let mut i = 0;
     while i < order.states.len() {
-        meet_targets(&mut order, table, blocks, leaders, i)?;
+        meet_targets(&mut order, table, merged, i)?;
         i += 1;
     }
     Ok(order)
 }
 
-/// The row's targets, as numbers of blocks.
+/// Returns the row with the numbers of blocks as its targets.
 fn numbered_row(row: &Row, blocks: &Vec<usize>, numbers: &Vec<usize>) -> Row
     requires inside { (k t : ℕ) → target_by row.now k ≡ Some t → t < vec_len blocks.now }
     requires within { (s : ℕ) → s < vec_len blocks.now →
@@ -120,54 +119,53 @@ fn numbered_row(row: &Row, blocks: &Vec<usize>, numbers: &Vec<usize>) -> Row
     numbered
 }
 
-/// The rows of the blocks, in their order.
+/// Returns the rows of the blocks, in their order.
 fn numbered_rows(
     alloc: Global,
     table: &Table,
-    blocks: &Vec<usize>,
-    leaders: &Vec<usize>,
+    merged: &Partition,
     order: &Order,
 ) -> Result<Rows, AllocError>
-    requires len { vec_len blocks.now ≡ size table.now }
-    requires room { vec_len leaders.now ≡ vec_len order.now.numbers }
+    requires len { vec_len merged.now.blocks.of ≡ size table.now }
+    requires room { vec_len merged.now.leaders ≡ vec_len order.now.numbers }
     requires within { (s : ℕ) → s < size table.now →
-        slice_index blocks.now.items s < vec_len leaders.now }
+        slice_index merged.now.blocks.of.items s < vec_len merged.now.leaders }
     requires leaders { (i : ℕ) → i < vec_len order.now.states →
-        slice_index leaders.now.items (slice_index order.now.states.items i) < size table.now }
+        slice_index merged.now.leaders.items (slice_index order.now.states.items i) < size table.now }
     requires few { (b : ℕ) → slice_index order.now.numbers.items b < 2 ^ 32 }
     ensures len { IfOk result (λ r. length (rows_of r) ≡ vec_len order.now.states) }
     ensures rows { IfOk result (λ r. (i k : ℕ) → i < vec_len order.now.states →
         target_in (rows_of r) i k
         ≡ option_and_then (λ b. target_of (slice_index order.now.numbers.items b))
-        (target_block table.now (slice_index blocks.now.items)
-        (slice_index leaders.now.items (slice_index order.now.states.items i)) k)) }
+        (target_block table.now (slice_index merged.now.blocks.of.items)
+        (slice_index merged.now.leaders.items (slice_index order.now.states.items i)) k)) }
 {
     let mut rows = Rows::new(alloc);
     for block in &order.states {
-        let row = numbered_row(table.row(leaders[*block]), blocks, &order.numbers);
+        let row = numbered_row(table.row(merged.leaders[*block]), &merged.blocks.of, &order.numbers);
         rows.push(&row)?;
     }
     Ok(rows)
 }
 
-/// The marks of the blocks, in their order.
+/// Returns the marks of the blocks, in their order.
 fn numbered_marks(
     alloc: Global,
     table: &Table,
-    leaders: &Vec<usize>,
+    merged: &Partition,
     order: &Order,
 ) -> Result<Vec<Mark>, AllocError>
-    requires room { vec_len leaders.now ≡ vec_len order.now.numbers }
+    requires room { vec_len merged.now.leaders ≡ vec_len order.now.numbers }
     requires leaders { (i : ℕ) → i < vec_len order.now.states →
-        slice_index leaders.now.items (slice_index order.now.states.items i) < size table.now }
+        slice_index merged.now.leaders.items (slice_index order.now.states.items i) < size table.now }
     ensures len { IfOk result (λ v. vec_len v ≡ vec_len order.now.states) }
     ensures marks { IfOk result (λ v. (i : ℕ) → i < vec_len order.now.states →
         mark_in v.items i ≡ mark table.now
-        (slice_index leaders.now.items (slice_index order.now.states.items i))) }
+        (slice_index merged.now.leaders.items (slice_index order.now.states.items i))) }
 {
     let mut marks = Vec::new(alloc);
     for block in &order.states {
-        marks.push(table.mark(leaders[*block]))?;
+        marks.push(table.mark(merged.leaders[*block]))?;
     }
     Ok(marks)
 }
@@ -180,26 +178,25 @@ pub struct Numbering {
     pub states: Vec<usize>,
 }
 
-/// The blocks as the states of a table, in the order of first visits from the block of the root.
+/// Returns the blocks as the states of a table, in the order of first visits from the block of the root.
 pub fn number(
     alloc: Global,
     table: &Table,
-    blocks: &Vec<usize>,
-    leaders: &Vec<usize>,
+    merged: &Partition,
     root: usize,
 ) -> Result<Numbering, AllocError>
     requires root_in { root < size table.now }
-    requires len { vec_len blocks.now ≡ size table.now }
+    requires len { vec_len merged.now.blocks.of ≡ size table.now }
     requires within { (s : ℕ) → s < size table.now →
-        slice_index blocks.now.items s < vec_len leaders.now }
-    requires leaders { AreLeaders (size table.now) (slice_index blocks.now.items)
-        (slice_index leaders.now.items) }
-    ensures { IfOk result (λ r. IsNumbered table.now (slice_index blocks.now.items)
-        (slice_index leaders.now.items) root r.states.items r.table) }
+        slice_index merged.now.blocks.of.items s < vec_len merged.now.leaders }
+    requires leaders { AreLeaders (size table.now) (slice_index merged.now.blocks.of.items)
+        (slice_index merged.now.leaders.items) }
+    ensures { IfOk result (λ r. IsNumbered table.now (slice_index merged.now.blocks.of.items)
+        (slice_index merged.now.leaders.items) root r.states.items r.table) }
 {
-    let order = breadth_first(alloc, table, blocks, leaders, root)?;
-    let rows = numbered_rows(alloc, table, blocks, leaders, &order)?;
-    let marks = numbered_marks(alloc, table, leaders, &order)?;
+    let order = breadth_first(alloc, table, merged, root)?;
+    let rows = numbered_rows(alloc, table, merged, &order)?;
+    let marks = numbered_marks(alloc, table, merged, &order)?;
     let Order { numbers: _, states } = order;
     Ok(Numbering {
         table: Table { marks, rows },

@@ -16,7 +16,7 @@ pub struct Order {
 }
 
 impl Order {
-    /// No states of so many.
+    /// Returns an order without states, of so many that can be met.
     pub fn new(alloc: Global, len: usize) -> Result<Order, AllocError>
         ensures len { IfOk result (λ o. vec_len o.numbers ≡ len) }
         ensures empty { IfOk result (λ o. o.states.items ≡ []) }
@@ -29,7 +29,7 @@ impl Order {
         })
     }
 
-    /// Puts a state at the end of the order, if it is not there yet.
+    /// Adds a state at the end of the order, if it is not there yet.
     pub fn meet(&mut self, s: usize) -> Result<(), AllocError>
         requires { s < vec_len self.old.numbers }
         ensures len { vec_len self.new.numbers ≡ vec_len self.old.numbers }
@@ -49,7 +49,7 @@ impl Order {
         Ok(())
     }
 
-    /// Puts a state at the end of the order, if it is wanted and not there yet.
+    /// Adds a state at the end of the order, if it is wanted and not there yet.
     pub fn meet_if(&mut self, s: usize, wanted: bool) -> Result<(), AllocError>
         requires { s < vec_len self.old.numbers }
         ensures len { vec_len self.new.numbers ≡ vec_len self.old.numbers }

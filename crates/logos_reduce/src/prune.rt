@@ -1,8 +1,8 @@
-//! States that have no mark and lead to none are left out.
+//! Leaves out the edges to states that have no mark and lead to none.
 ghost use Rattle.std.specs.Prelude.{true, ◌≡◌, ℕ, ◌+◌, ◌<◌, ◌≤◌, ◌↔◌, ◌⊎◌, Some, OnOk, IfOk, IsTrue, IsSome, length, vec_len, slice_index};
 ghost use Rattle.logos_reduce.specs.Lists.{has};
 ghost use Rattle.logos_reduce.specs.Table.{size, to, mark, type_of};
-ghost use Rattle.logos_reduce.specs.inside.Prune.{IsSeed, AreUseful, kept_target};
+ghost use Rattle.logos_reduce.specs.inside.Prune.{IsSeed, AreUseful, met_target};
 ghost use Rattle.logos_reduce.specs.Prune.{IsPrunedTable};
 ghost use Rattle.logos_reduce.specs.Order.{IsMet};
 ghost use Rattle.logos_reduce.specs.inside.Order.{Grows};
@@ -16,14 +16,14 @@ use crate::rows::{END, Row, Rows, WIDTH, target_at};
 use crate::table::{Mark, Table};
 use std::alloc::{AllocError, Global};
 
-/// Whether there is a mark.
+/// Returns whether there is a mark.
 fn is_marked(mark: Mark) -> bool
     ensures { IsTrue result ↔ IsMarked (type_of mark) }
 {
     mark.early.is_some() || mark.accept.is_some()
 }
 
-/// Whether a state has a mark, or leads to one by the end.
+/// Returns whether a state has a mark, or leads to one by the end.
 fn is_seed(table: &Table, s: usize) -> bool
     requires { s < size table.now }
     ensures { IsTrue result ↔ IsSeed table.now s }
@@ -37,7 +37,7 @@ fn is_seed(table: &Table, s: usize) -> bool
     }
 }
 
-/// The states that have a mark, or lead to one by the end.
+/// Returns the states that have a mark, or lead to one by the end.
 fn seeds(alloc: Global, table: &Table) -> Result<Order, AllocError>
     ensures len { IfOk result (λ o. vec_len o.numbers ≡ size table.now) }
     ensures only { IfOk result (λ o. (s : ℕ) → IsMet o.numbers.items s → IsSeed table.now s) }
@@ -67,7 +67,7 @@ fn meet_all(order: &mut Order, list: &Vec<usize>) -> Result<(), AllocError>
     Ok(())
 }
 
-/// The states that have a mark or lead to one.
+/// Returns the states that have a mark or lead to one.
 fn useful_states(alloc: Global, table: &Table) -> Result<Order, AllocError>
     ensures len { IfOk result (λ o. vec_len o.numbers ≡ size table.now) }
     ensures useful { IfOk result (λ o. AreUseful table.now o.numbers.items) }
@@ -83,11 +83,11 @@ fn useful_states(alloc: Global, table: &Table) -> Result<Order, AllocError>
     Ok(order)
 }
 
-/// The row without the targets that are not in the order.
+/// Returns the row without the targets that are not in the order.
 fn pruned_row(row: &Row, order: &Order) -> Row
     requires { (k t : ℕ) → target_by row.now k ≡ Some t → t < vec_len order.now.numbers }
     ensures { (k : ℕ) → target_by result k
-        ≡ kept_target order.now.numbers.items (target_by row.now k) }
+        ≡ met_target order.now.numbers.items (target_by row.now k) }
 {
     let mut pruned = *row;
     for k in 0..WIDTH {
@@ -96,11 +96,11 @@ fn pruned_row(row: &Row, order: &Order) -> Row
     pruned
 }
 
-/// The entry of the row, or 0 where its target is not in the order.
+/// Returns the entry of the row, or 0 where its target is not in the order.
 fn pruned_entry(row: &Row, k: usize, order: &Order) -> u32
     requires symbol { k < 257 }
     requires inside { (t : ℕ) → target_by row.now k ≡ Some t → t < vec_len order.now.numbers }
-    ensures { target_of result ≡ kept_target order.now.numbers.items (target_by row.now k) }
+    ensures { target_of result ≡ met_target order.now.numbers.items (target_by row.now k) }
 {
     match target_at(row, k) {
         Some(t) => if order.numbers[t] == 0 { 0 } else { row[k] },
@@ -108,12 +108,12 @@ fn pruned_entry(row: &Row, k: usize, order: &Order) -> u32
     }
 }
 
-/// The rows without the targets that are not in the order.
+/// Returns the rows without the targets that are not in the order.
 fn pruned_rows(alloc: Global, table: &Table, order: &Order) -> Result<Rows, AllocError>
     requires { vec_len order.now.numbers ≡ size table.now }
     ensures len { IfOk result (λ r. length (rows_of r) ≡ size table.now) }
     ensures rows { IfOk result (λ r. (s k : ℕ) → s < size table.now →
-        target_in (rows_of r) s k ≡ kept_target order.now.numbers.items (to table.now s k)) }
+        target_in (rows_of r) s k ≡ met_target order.now.numbers.items (to table.now s k)) }
 {
     let mut rows = Rows::new(alloc);
     for s in 0..table.len() {
@@ -122,7 +122,7 @@ fn pruned_rows(alloc: Global, table: &Table, order: &Order) -> Result<Rows, Allo
     Ok(rows)
 }
 
-/// Takes away the edges to states that have no mark and lead to none.
+/// Returns the table without the edges to states that have no mark and lead to none.
 pub fn prune(alloc: Global, table: Table) -> Result<Table, AllocError>
     ensures { IfOk result (IsPrunedTable table) }
 {

@@ -1,4 +1,4 @@
-//! Early marks, and the late marks that they make needless.
+//! Sets early marks, and drops the late marks that they make needless.
 ghost use Rattle.std.specs.Prelude.{◌≡◌, ◌≢◌, ℕ, ◌+◌, ◌<◌, ◌↔◌, ◌⊎◌, None, Some, IfOk, length, vec_len, slice_index_or, if◌then◌else◌};
 ghost use Rattle.logos_reduce.specs.Table.{size, to, mark, mark_in};
 ghost use Rattle.logos_reduce.specs.Settle.{accepted, IsCommon, IsNeeded, IsSpare, IsSettled};
@@ -8,7 +8,7 @@ use crate::rows::{END, WIDTH};
 use crate::table::{Mark, Table};
 use std::alloc::{AllocError, Global};
 
-/// The leaf that is accepted where a symbol leads.
+/// Returns the leaf that is accepted where a symbol leads.
 fn accepted_by(table: &Table, s: usize, k: usize) -> Option<usize>
     requires state { s < size table.now }
     requires symbol { k < 257 }
@@ -17,7 +17,7 @@ fn accepted_by(table: &Table, s: usize, k: usize) -> Option<usize>
     table.mark(table.target(s, k)?).accept
 }
 
-/// The leaf that is accepted wherever a state leads, if every byte and the end lead somewhere.
+/// Returns the leaf that is accepted wherever a state leads, if every byte and the end lead somewhere.
 fn common_leaf(table: &Table, s: usize) -> Option<usize>
     requires { s < size table.now }
     ensures { IsCommon table.now s result }
@@ -31,7 +31,7 @@ fn common_leaf(table: &Table, s: usize) -> Option<usize>
     leaf
 }
 
-/// The early mark of each state.
+/// Returns the early mark of each state.
 fn early_marks(alloc: Global, table: &Table) -> Result<Vec<Option<usize>>, AllocError>
     ensures len { IfOk result (λ v. vec_len v ≡ size table.now) }
     ensures marks { IfOk result (λ v. AreCommon table.now (size table.now) v.items) }
@@ -43,12 +43,12 @@ fn early_marks(alloc: Global, table: &Table) -> Result<Vec<Option<usize>>, Alloc
     Ok(early)
 }
 
-/// Sets the flag of a target whose late mark is needed behind this early mark.
+/// Sets the flag of a target whose late mark is needed after this early mark.
 fn note_target(table: &Table, target: Option<usize>, early: Option<usize>, needed: &mut Vec<bool>)
     requires inside { (t : ℕ) → target ≡ Some t → t < size table.now }
     requires len { vec_len needed.old ≡ size table.now }
     ensures len { vec_len needed.new ≡ vec_len needed.old }
-    ensures kept { (t : ℕ) → IsSet needed.old.items t → IsSet needed.new.items t }
+    ensures stays { (t : ℕ) → IsSet needed.old.items t → IsSet needed.new.items t }
     ensures needed { (t : ℕ) → IsSet needed.new.items t →
         IsSet needed.old.items t ⊎ ((target ≡ Some t) × ((mark table.now t).accept ≢ early)) }
     ensures spare { (t : ℕ) → target ≡ Some t →
@@ -61,12 +61,12 @@ fn note_target(table: &Table, target: Option<usize>, early: Option<usize>, neede
     }
 }
 
-/// Sets the flags of those targets of a state whose late marks are needed behind this early mark.
+/// Sets the flags of those targets of a state whose late marks are needed after this early mark.
 fn note_targets(table: &Table, s: usize, early: Option<usize>, needed: &mut Vec<bool>)
     requires state { s < size table.now }
     requires len { vec_len needed.old ≡ size table.now }
     ensures len { vec_len needed.new ≡ vec_len needed.old }
-    ensures kept { (t : ℕ) → IsSet needed.old.items t → IsSet needed.new.items t }
+    ensures stays { (t : ℕ) → IsSet needed.old.items t → IsSet needed.new.items t }
     ensures needed { (t : ℕ) → IsSet needed.new.items t →
         IsSet needed.old.items t ⊎ IsNeeded table.now s early t }
     ensures spare { (t : ℕ) → IsSet needed.new.items t ⊎ IsSpare table.now s early t }
@@ -76,7 +76,7 @@ fn note_targets(table: &Table, s: usize, early: Option<usize>, needed: &mut Vec<
     }
 }
 
-/// For each state whether its late mark is needed.
+/// Returns for each state whether its late mark is needed.
 fn needed_marks(
     alloc: Global,
     table: &Table,
@@ -94,7 +94,7 @@ fn needed_marks(
     Ok(needed)
 }
 
-/// The mark of a state, once its early mark is known.
+/// Returns the mark of a state, once its early mark is known.
 fn settled_mark(mark: Mark, early: Option<usize>, needed: bool) -> Mark
     ensures early { result.early ≡ early }
     ensures accept { result.accept ≡ (if needed then mark.accept else None) }
@@ -105,7 +105,7 @@ fn settled_mark(mark: Mark, early: Option<usize>, needed: bool) -> Mark
     }
 }
 
-/// The marks of all states, once their early marks are known.
+/// Returns the marks of all states, once their early marks are known.
 fn settled_marks(
     alloc: Global,
     table: &Table,
@@ -125,7 +125,7 @@ fn settled_marks(
     Ok(marks)
 }
 
-/// Sets the early marks, and drops the late marks that are then needless.
+/// Returns the table with its early marks, and without the late marks that are then needless.
 pub fn settle(alloc: Global, table: Table) -> Result<Table, AllocError>
     ensures { IfOk result (IsSettled table) }
 {

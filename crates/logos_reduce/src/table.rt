@@ -1,4 +1,4 @@
-//! States with their marks, and rows of targets.
+//! Tables: states with their marks, and rows of targets.
 ghost use Rattle.std.specs.Prelude.{◌≡◌, ℕ, ◌+◌, ◌<◌, ◌^◌, Some, length, vec_len};
 ghost use Rattle.logos_reduce.specs.Rows.{IsClosed, target_by};
 ghost use Rattle.logos_reduce.specs.RowsView.{rows_of};
@@ -27,7 +27,7 @@ pub struct Table {
 impl Table {
     ghost use Rattle.logos_reduce.specs.Table.{mark_in, size, to, mark};
 
-    /// The table with these marks and rows: state `s` has mark `s` and row `s`.
+    /// Returns the table with these marks and rows: state `s` has mark `s` and row `s`.
     ///
     /// There is a mark for each row, each target is the number of a state, and there are fewer than 4,294,967,295 states.
     /// The rows are added one by one with `Rows::push`, in the order of the states.
@@ -41,14 +41,14 @@ impl Table {
         Table { marks, rows }
     }
 
-    /// How many states there are.
+    /// Returns how many states there are.
     pub fn len(&self) -> usize
         ensures { result ≡ size self.now }
     {
         self.marks.len()
     }
 
-    /// The mark of a state.
+    /// Returns the mark of a state.
     pub fn mark(&self, s: usize) -> Mark
         requires { s < size self.now }
         ensures { result ≡ mark self.now s }
@@ -56,7 +56,7 @@ impl Table {
         self.marks[s]
     }
 
-    /// The targets of a state.
+    /// Returns the row of a state: its targets.
     pub fn row(&self, s: usize) -> &Row
         requires { s < size self.now }
         ensures row { (k : ℕ) → target_by result.now k ≡ to self.now s k }
@@ -65,7 +65,7 @@ impl Table {
         self.rows.get(s)
     }
 
-    /// Where a state leads by a symbol.
+    /// Returns the state to which a state leads by a symbol.
     pub fn target(&self, s: usize, k: usize) -> Option<usize>
         requires state { s < size self.now }
         requires symbol { k < 257 }

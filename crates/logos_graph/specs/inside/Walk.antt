@@ -35,8 +35,7 @@ module _ {S : Type 0} (g : Edges S) where
   Covers s (b ∷ rest) at to = (t : S) → g.next s b ≡ Some t → Leads g t → (at + 1 ≤ to) × Covers t rest (at + 1) to
 
 module _ {S : Type 0} (g : Edges S) (root : S) (utf8 : Bool) (bytes : List ℕ) (from : ℕ) where
-  -- An error may end here: behind a byte, behind all bytes that can be followed, and in UTF-8 mode
-  -- between characters.
+  -- An error may end here: after a byte, after all bytes that can be followed, and in UTF-8 mode between characters.
   pub record MayEnd (to : ℕ) : Type 0 where
     pub nonempty : from < to
     pub covers : from + followed g root (drop from bytes) ≤ to
@@ -64,7 +63,7 @@ module _ (rules : List Rule) where
     pub late : type.early ≡ None
     pub first : MatchOption type.accept (NoneMatches bytes from to) (IsFirst rules bytes from to)
 
-  -- behind bytes and one more, and behind bytes and the end, there is the mark of all of the bytes
+  -- after bytes and one more, and after bytes and the end, there is the mark of all of the bytes
   pub record MarksOneByteLate {S : Type 0} (g : Edges S) (root : S) : Type 0 where
     pub by_byte : (bytes : List ℕ) (b : ℕ) → IsBytes (bytes ++ b ∷ []) →
         (t : S) × (reach g root (bytes ++ b ∷ []) ≡ Some t) × IsLateMark (g.type_of t) (bytes ++ b ∷ []) 0 (length bytes)

@@ -1,13 +1,13 @@
-//! What tells two states of a graph apart.
+//! Distinguishes two states of a graph by bytes.
 ghost use Rattle.std.specs.Prelude.{◌≡◌, ◌≢◌, ◌<◌, ◌↔◌, [], IsTrue, IfOk, length};
-ghost use Rattle.logos_graph.specs.Graph.{TellsApart};
+ghost use Rattle.logos_graph.specs.Graph.{Distinguishes};
 ghost use Rattle.logos_graph.specs.Least.{IsEvidence};
 
 use super::{Graph, State};
 use logos_token::error::Memory;
 use std::alloc::Global;
 
-/// Bytes that tell two states apart: they lead to states of different types, or can be followed from just one of the two.
+/// Bytes that distinguish two states: they lead to states of different types, or can be followed from just one of the two.
 #[derive(Debug, Drop)]
 pub struct Telling {
     pub bytes: Vec<u8>,
@@ -16,8 +16,8 @@ pub struct Telling {
 }
 
 impl Graph<'_> {
-    /// Fewer bytes than the graph has states, and whether the end follows them, that tell two different states of this
-    /// graph apart.
+    /// Returns bytes that distinguish two different states of this graph, fewer than it has states, and whether the end
+    /// follows them.
     ///
     /// # Errors
     ///
@@ -33,11 +33,11 @@ impl Graph<'_> {
         Ok(Telling { bytes, at_end })
     }
 
-    /// Whether the bytes, with the end after them or without, tell two states of this graph apart. No memory is taken.
+    /// Returns whether the bytes, with the end after them or without, distinguish two states of this graph. It takes no memory.
     pub fn checks(&self, s: State, t: State, bytes: &[u8], at_end: bool) -> bool
         requires s_in { s.0 < length self.now.states }
         requires t_in { t.0 < length self.now.states }
-        ensures { IsTrue result ↔ TellsApart self.now.states s.0 t.0 bytes.now at_end }
+        ensures { IsTrue result ↔ Distinguishes self.now.states s.0 t.0 bytes.now at_end }
     {
         self.reduced().checks(s.0, t.0, bytes, at_end)
     }

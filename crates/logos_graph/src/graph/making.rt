@@ -1,4 +1,4 @@
-//! From leaves to their graph.
+//! Makes the graph of leaves.
 ghost use Rattle.std.specs.Prelude.{◌≡◌, ◌^◌, ◌<◌, ◌≤◌, [], IfOk, IfErr, length, map};
 ghost use Rattle.logos_automaton.specs.DfaView.{dfa_of};
 ghost use Rattle.logos_automaton.specs.Faults.{AreFaults, AllStart};
@@ -21,7 +21,7 @@ use logos_automaton::rule::{RuleView, some_leads, some_passable};
 use logos_pattern::leaf::Leaf;
 use std::alloc::Global;
 
-/// The automaton of no rules.
+/// Returns the automaton of no rules.
 fn automaton_of_none(alloc: Global) -> Result<Dfa, BuildError>
     ensures total { IfOk result (λ dfa. IsTotal (dfa_of dfa)) }
     ensures few { IfOk result (λ dfa. length (dfa_of dfa).matches ≤ 65536) }
@@ -33,7 +33,7 @@ fn automaton_of_none(alloc: Global) -> Result<Dfa, BuildError>
     }
 }
 
-/// The automaton of the rules, if each of their trees takes a byte before it looks or matches, and else of no rules.
+/// Returns the automaton of the rules, if each of their trees takes a byte before it looks or matches, and else of no rules.
 fn automaton(alloc: Global, rules: &[RuleView<'_>]) -> Result<Dfa, BuildError>
     requires { size_of (views.rules_of rules.now) ≤ 2 ^ 20 }
     ensures late { IfOk result (λ dfa. AllStart (views.rules_of rules.now) →
@@ -58,7 +58,7 @@ struct Findings {
     errors: Vec<GraphError>,
 }
 
-/// The automaton and the faults of rules.
+/// Returns the automaton and the faults of rules.
 fn rule_findings(alloc: Global, rules: &[RuleView<'_>]) -> Result<Findings, BuildError>
     requires { size_of (views.rules_of rules.now) ≤ 2 ^ 20 }
     ensures found { IfOk result (λ made.
@@ -70,7 +70,7 @@ fn rule_findings(alloc: Global, rules: &[RuleView<'_>]) -> Result<Findings, Buil
     Ok(Findings { dfa, errors })
 }
 
-/// The automaton and the faults of leaves.
+/// Returns the automaton and the faults of leaves.
 fn leaf_findings(alloc: Global, leaves: &[Leaf<'_>]) -> Result<Findings, BuildError>
     requires { size_of (rules_of leaves.now) ≤ 2 ^ 20 }
     ensures found { IfOk result (λ made.
@@ -81,7 +81,7 @@ fn leaf_findings(alloc: Global, leaves: &[Leaf<'_>]) -> Result<Findings, BuildEr
     rule_findings(alloc, &rules)
 }
 
-/// The graph of leaves without faults.
+/// Returns the graph of leaves without faults.
 fn finished<'s>(
     alloc: Global,
     leaves: Vec<Leaf<'s>>,
@@ -101,10 +101,10 @@ fn finished<'s>(
 }
 
 impl<'s> Graph<'s> {
-    /// The graph of leaves, which are numbered in their order.
+    /// Returns the graph of leaves, which are numbered in their order.
     ///
     /// The faults of the leaves are in `errors`: a missing universal start alone; else the leaves that match nothing; else
-    /// all sets of leaves that can't be told apart, ascending. Where there is a fault, the graph has no states.
+    /// all sets of leaves that are ambiguous, ascending. Where there is a fault, the graph has no states.
     ///
     /// # Errors
     ///

@@ -1,4 +1,4 @@
-//! Charts of graphs in Mermaid's language.
+//! Draws charts of graphs in Mermaid's language.
 ghost use Rattle.std.specs.Prelude.{◌≡◌, ◌<◌, ◌++◌, IfOk, OnOk, map};
 ghost use Rattle.std.specs.Prelude.{option_map, codes, string_bytes};
 ghost use Rattle.std.specs.Fmt.{decimal};
@@ -107,7 +107,7 @@ fn push_mark(text: &mut String, mark: &str, leaf: LeafId) -> Result<(), AllocErr
     write!(text, "{mark}{leaf})")
 }
 
-/// Adds what the node of a state says.
+/// Adds the label of the node of a state.
 fn push_state_label(text: &mut String, s: usize, state_type: StateType) -> Result<(), AllocError>
     ensures { OnOk result (string_bytes text.new
         ≡ string_bytes text.old ++ state_label s (state_type_of state_type)) }
@@ -122,7 +122,7 @@ fn push_state_label(text: &mut String, s: usize, state_type: StateType) -> Resul
     Ok(())
 }
 
-/// The colour of a state.
+/// Returns the colour of a state.
 fn colour_of(state_type: StateType) -> &'static str
     ensures { result.now ≡ state_colour (state_type_of state_type) }
 {
@@ -132,7 +132,7 @@ fn colour_of(state_type: StateType) -> &'static str
     "#000000"
 }
 
-/// The name of the node of a state.
+/// Returns the name of the node of a state.
 fn name_of(alloc: Global, s: usize) -> Result<String, AllocError>
     ensures { IfOk result (λ name. string_bytes name ≡ node_name s) }
 {
@@ -253,7 +253,7 @@ fn push_state(
     push_end_edge(alloc, text, &name, state.eoi)
 }
 
-/// The chart of a graph with these states.
+/// Returns the chart of a graph with these states.
 pub(super) fn chart(alloc: Global, states: &[StateData]) -> Result<String, AllocError>
     ensures { IfOk result (λ text. string_bytes text ≡ mermaid_of (map graph_state_of states.now)) }
 {

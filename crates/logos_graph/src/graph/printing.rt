@@ -1,4 +1,4 @@
-//! How states and graphs print.
+//! Prints states and graphs.
 ghost use Rattle.std.specs.Prelude.{◌≡◌, ◌++◌, Some, IfOk, codes, string_bytes};
 ghost use Rattle.std.specs.Fmt.{decimal};
 
@@ -8,7 +8,7 @@ use std::alloc::Global;
 use std::fmt;
 
 impl State {
-    /// `State` and the number. `Memory` where there is no memory for the text.
+    /// Returns `State` and the number. `Memory` where there is no memory for the text.
     pub fn pascal_case(self, alloc: Global) -> Result<String, Memory>
         ensures { IfOk result (λ text. string_bytes text ≡ codes "State" ++ decimal self.0) }
     {
@@ -16,7 +16,7 @@ impl State {
         Ok(format!(in alloc; "State{number}")?)
     }
 
-    /// `state` and the number. `Memory` where there is no memory for the text.
+    /// Returns `state` and the number. `Memory` where there is no memory for the text.
     pub fn snake_case(self, alloc: Global) -> Result<String, Memory>
         ensures { IfOk result (λ text. string_bytes text ≡ codes "state" ++ decimal self.0) }
     {
@@ -34,7 +34,7 @@ impl fmt::Display for State {
     }
 }
 
-/// Each mark with a space behind it.
+/// Prints each mark with a space after it.
 impl fmt::Display for StateType {
     fn fmt<W: fmt::Write>(&self, f: &mut fmt::Formatter<W>) -> fmt::Result {
         if let Some(leaf) = self.accept {
@@ -74,7 +74,7 @@ impl fmt::Display for Lines<'_> {
     }
 }
 
-/// The marks; in the alternate form the edges too, one on each line.
+/// Prints the marks; in the alternate form the edges too, one on each line.
 impl fmt::Display for StateData {
     fn fmt<W: fmt::Write>(&self, f: &mut fmt::Formatter<W>) -> fmt::Result {
         if f.alternate() {

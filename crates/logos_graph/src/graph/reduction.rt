@@ -1,8 +1,8 @@
-//! The least table of an automaton.
+//! Reduces the table of an automaton, and states what that means for its graph.
 ghost use Rattle.std.specs.Prelude.{◌<◌, ℕ, IfOk, Bool, List};
 ghost use Rattle.logos_reduce.specs.Raw.{IsRaw};
 ghost use Rattle.logos_reduce.specs.Table.{size, mark, type_of, edges};
-ghost use Rattle.logos_reduce.specs.Tellable.{IsTellable};
+ghost use Rattle.logos_reduce.specs.History.{GivesEvidence};
 ghost use Rattle.logos_graph.specs.FinishedGraph.{NamesLeaves, IsFit};
 ghost use Rattle.logos_graph.specs.Found.{FindsTheLongest};
 ghost use Rattle.logos_graph.specs.Graph.{GraphState};
@@ -17,7 +17,7 @@ use logos_reduce::reduction::{Reduction, reduce};
 use logos_reduce::table::Table;
 use std::alloc::{AllocError, Global};
 
-/// The least table that finds what an automaton with late marks finds, from the root on.
+/// Reduces a table with late marks. The graph that shows the result finds what the table finds from the root on.
 pub(crate) fn least_table(alloc: Global, table: Table, root: usize) -> Result<Reduction, AllocError>
     requires { root < size table }
     ensures finds { IfOk result (λ r. (rules : List Rule) (graph : List GraphState) (utf8 : Bool) →
@@ -28,7 +28,7 @@ pub(crate) fn least_table(alloc: Global, table: Table, root: usize) -> Result<Re
         Shows r.table graph → IsReduced rules graph) }
     ensures least { IfOk result (λ r. (graph : List GraphState) →
         IsRaw table root → Shows r.table graph → IsLeast graph) }
-    ensures tellable { IfOk result (λ r. IsRaw table root → IsTellable r) }
+    ensures evidence { IfOk result (λ r. IsRaw table root → GivesEvidence r) }
     ensures fit { IfOk result (λ r. (rules : List Rule) (leaves : ℕ) →
         IsRaw table root → AllStart rules → MarksOneByteLate rules (edges table) root →
         ((s : ℕ) → s < size table → NamesLeaves leaves (type_of (mark table s))) →

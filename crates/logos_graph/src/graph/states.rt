@@ -1,4 +1,4 @@
-//! The states of a finished graph, from its table.
+//! Makes the states of a graph from its table.
 ghost use Rattle.std.specs.Prelude.{◌≡◌, ◌≢◌, ℕ, ◌<◌, ◌≤◌, ◌++◌, ◌∷◌, [], IsTrue, IsFalse};
 ghost use Rattle.std.specs.Prelude.{IfOk, OnOk, length, map, option_map, slice_index};
 ghost use Rattle.std.specs.List.{All};
@@ -25,7 +25,7 @@ use std::ops::RangeInclusive;
 /// The bytes that lead to a state, and the state.
 type Edge = (ByteClass, State);
 
-/// The place of the first edge to this state or a later one.
+/// Returns the index of the first edge whose target is `target` or greater.
 fn place_of(edges: &[Edge], target: usize) -> usize
     requires { IsRising (targets (map edge_of edges.now)) }
     ensures { IsFirstFrom (targets (map edge_of edges.now)) target result }
@@ -43,7 +43,7 @@ fn place_of(edges: &[Edge], target: usize) -> usize
     low
 }
 
-/// Whether the edge to a state is at a place.
+/// Returns whether the edge to a state is at an index.
 fn is_at(edges: &[Edge], place: usize, target: usize) -> bool
     ensures hit { IsTrue result → (place < length edges.now)
         × (slice_index (targets (map edge_of edges.now)) place ≡ target) }
@@ -65,7 +65,7 @@ fn push_range(edge: &mut Edge, range: RangeInclusive<u8>) -> Result<(), AllocErr
     Ok(())
 }
 
-/// An edge by a range of bytes.
+/// Returns an edge by a range of bytes.
 fn new_edge(alloc: Global, range: RangeInclusive<u8>, target: usize) -> Result<Edge, AllocError>
     ensures { IfOk result (λ edge. edge_of edge ≡ (bounds range ∷ [], target)) }
 {
@@ -74,7 +74,7 @@ fn new_edge(alloc: Global, range: RangeInclusive<u8>, target: usize) -> Result<E
     Ok((ByteClass { ranges }, State(target)))
 }
 
-/// Adds bytes that lead to a state, behind all bytes that lead there.
+/// Adds bytes that lead to a state, after all bytes that lead there.
 fn add_range(
     alloc: Global,
     edges: &mut Vec<Edge>,
@@ -94,7 +94,7 @@ fn add_range(
     Ok(())
 }
 
-/// The end of the run of equal entries that begins at a byte.
+/// Returns the end of the run of equal entries that begins at a byte.
 fn run_end(row: &Row, from: usize) -> usize
     requires { from < 256 }
     ensures after { from < result }
@@ -128,7 +128,7 @@ fn add_run(
     add_range(alloc, edges, range, target)
 }
 
-/// The edges of a state by bytes, ascending by target.
+/// Returns the edges of a state by bytes, ascending by target.
 fn edges_of(alloc: Global, row: &Row) -> Result<Vec<Edge>, AllocError>
     ensures { IfOk result (λ edges. AreEdgesOf (target_by row.now) 256 (map edge_of edges.items)) }
 {
@@ -143,14 +143,14 @@ fn edges_of(alloc: Global, row: &Row) -> Result<Vec<Edge>, AllocError>
     Ok(edges)
 }
 
-/// A leaf by its number.
+/// Returns a leaf by its number.
 fn leaf(number: Option<usize>) -> Option<LeafId>
     ensures { option_map leaf_number result ≡ number }
 {
     Some(LeafId(number?))
 }
 
-/// The type of a state with this mark.
+/// Returns the type of a state with this mark.
 fn type_of_mark(mark: Mark) -> StateType
     ensures { state_type_of result ≡ type_of mark }
 {
@@ -160,14 +160,14 @@ fn type_of_mark(mark: Mark) -> StateType
     }
 }
 
-/// A state by its number.
+/// Returns a state by its number.
 fn state(number: Option<usize>) -> Option<State>
     ensures { option_map state_number result ≡ number }
 {
     Some(State(number?))
 }
 
-/// States by their numbers.
+/// Returns states by their numbers.
 fn numbered(alloc: Global, numbers: &[usize]) -> Result<Vec<State>, AllocError>
     ensures { IfOk result (λ states. map state_number states.items ≡ numbers.now) }
 {
@@ -178,7 +178,7 @@ fn numbered(alloc: Global, numbers: &[usize]) -> Result<Vec<State>, AllocError>
     Ok(states)
 }
 
-/// A state of the table.
+/// Returns a state of the table, to which the states `before` lead.
 fn state_of(
     alloc: Global,
     table: &Table,
@@ -199,7 +199,7 @@ fn state_of(
     })
 }
 
-/// The states of the graph that the table stands for.
+/// Returns the states of the graph that the table stands for.
 pub(crate) fn states_of(alloc: Global, table: &Table) -> Result<Vec<StateData>, AllocError>
     ensures shows { IfOk result (λ states. Shows table.now (map graph_state_of states.items)) }
     ensures neat { IfOk result (λ states.

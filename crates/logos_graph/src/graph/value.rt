@@ -1,4 +1,4 @@
-//! A graph, and what it is asked for.
+//! Graphs, and the calls on them.
 ghost use Rattle.std.specs.Prelude.{◌≡◌, ◌≢◌, ℕ, ◌-◌, ◌<◌, ◌↔◌, [], IsTrue, IfOk};
 ghost use Rattle.std.specs.Prelude.{Some, length, map, slice_get, string_bytes};
 ghost use Rattle.std.specs.List.{range_with_len};
@@ -10,7 +10,7 @@ ghost use Rattle.logos_graph.specs.GraphView.{graph_state_of, state_number};
 ghost use Rattle.logos_graph.specs.Mermaid.{mermaid_of};
 ghost use Rattle.logos_graph.specs.ReduceShown.{Shows};
 ghost use Rattle.logos_graph.specs.StatesView.{states_left};
-ghost use Rattle.logos_reduce.specs.Tellable.{IsTellable};
+ghost use Rattle.logos_reduce.specs.History.{GivesEvidence};
 
 use super::mermaid::chart;
 use super::printing::Listing;
@@ -58,15 +58,15 @@ impl<'s> Model for Graph<'s> {
       (p.the_row (record { mir = named 1; lft = [] })).coded,
     ) };
 
-    ghost use Rattle.logos_graph.specs.GraphInside.{value_of, IsKept};
+    ghost use Rattle.logos_graph.specs.GraphInside.{value_of, IsConsistent};
 
     ghost view = { value_of };
 
-    ghost invariant = { IsKept };
+    ghost invariant = { IsConsistent };
 }
 
 impl<'s> Graph<'s> {
-    /// A graph without states, of leaves that have faults.
+    /// Returns a graph without states, of leaves that have faults.
     pub(crate) fn refused(
         alloc: Global,
         leaves: Vec<Leaf<'s>>,
@@ -93,7 +93,7 @@ impl<'s> Graph<'s> {
         }
     }
 
-    /// The graph that a table stands for, of leaves that have no faults.
+    /// Returns the graph that a table stands for, of leaves that have no faults.
     pub(crate) fn finished(
         alloc: Global,
         leaves: Vec<Leaf<'s>>,
@@ -102,7 +102,7 @@ impl<'s> Graph<'s> {
         reduced: Reduction,
     ) -> Result<Graph<'s>, AllocError>
         requires fit { IsFit reduced.table (length leaves.items) }
-        requires tellable { IsTellable reduced }
+        requires evidence { GivesEvidence reduced }
         ensures leaves { IfOk result (λ graph. graph.leaves ≡ leaves.entry.items) }
         ensures utf8 { IfOk result (λ graph. graph.utf8 ≡ config.utf8_mode) }
         ensures faults { IfOk result (λ graph. graph.faults ≡ []) }
@@ -120,7 +120,7 @@ impl<'s> Graph<'s> {
         })
     }
 
-    /// The leaves that the graph was made of.
+    /// Returns the leaves that the graph was made of.
     pub fn leaves(&self) -> &[Leaf<'s>]
         ensures { result.now ≡ self.now.leaves }
     {
@@ -129,7 +129,7 @@ impl<'s> Graph<'s> {
 }
 
 impl Graph<'_> {
-    /// The state in which each match begins. The graph must have states, as it has where there are no errors.
+    /// Returns the state in which each match begins. The graph must have states, as it has where there are no errors.
     pub fn root(&self) -> State
         requires { 0 < length self.now.states }
         ensures root { result.0 ≡ 0 }
@@ -140,7 +140,7 @@ impl Graph<'_> {
         State(0)
     }
 
-    /// All states, ascending. There are none where there are errors.
+    /// Returns all states, ascending. There are none where there are errors.
     pub fn iter_states(&self) -> States
         ensures states { states_left result ≡ range_with_len 0 (length self.now.states) }
         ensures finished { self.now.faults ≡ [] →
@@ -153,14 +153,14 @@ impl Graph<'_> {
         }
     }
 
-    /// Whether it is a state of this graph.
+    /// Returns whether it is a state of this graph.
     pub fn contains(&self, state: State) -> bool
         ensures { IsTrue result ↔ (state.0 < length self.now.states) }
     {
         state.0 < self.states.len()
     }
 
-    /// What the graph has of one of its states, as `contains` tests.
+    /// Returns the type and the edges of a state of this graph, as `contains` tests.
     pub fn get_state(&self, state: State) -> &StateData
         requires { state.0 < length self.now.states }
         ensures state { slice_get self.now.states state.0 ≡ Some (graph_state_of result.now) }
@@ -170,11 +170,11 @@ impl Graph<'_> {
         &self.states[state.0]
     }
 
-    /// The table that the graph shows.
+    /// Returns the table that the graph shows.
     pub(crate) fn reduced(&self) -> &Reduction
         requires { 0 < length self.now.states }
         ensures shows { Shows result.now.table self.now.states }
-        ensures tellable { IsTellable result.now }
+        ensures evidence { GivesEvidence result.now }
     {
         match &self.reduced {
             Some(reduced) => reduced,
@@ -182,29 +182,29 @@ impl Graph<'_> {
         }
     }
 
-    /// The automaton that the graph was made from.
+    /// Returns the automaton that the graph was made from.
     pub fn dfa(&self) -> &Dfa
         ensures { dfa_of result.now ≡ self.now.automaton }
     {
         &self.dfa
     }
 
-    /// The faults of the leaves. Where there are some, the graph has no states.
+    /// Returns the faults of the leaves. Where there are some, the graph has no states.
     pub fn errors(&self) -> &[GraphError]
         ensures { map fault_of result.now ≡ self.now.faults }
     {
         &self.errors
     }
 
-    /// The chart of the graph in Mermaid's language: a flow chart with a node for each state and for each edge. It fails
-    /// only where there is no memory.
+    /// Returns the chart of the graph in Mermaid's language: a flow chart with a node for each state and for each edge. It
+    /// fails only where there is no memory.
     pub fn get_mermaid(&self, alloc: Global) -> Result<String, Memory>
         ensures { IfOk result (λ text. string_bytes text ≡ mermaid_of self.now.states) }
     {
         Ok(chart(alloc, &self.states)?)
     }
 
-    /// Whether inputs are UTF-8, so that an error ends between characters.
+    /// Returns whether inputs are UTF-8, so that an error ends between characters.
     pub fn utf8_mode(&self) -> bool
         ensures { result ≡ self.now.utf8 }
     {

@@ -74,8 +74,8 @@ module _ (n : ℕ) (fine block : ℕ → ℕ) (finer : IsFiner n fine block) whe
   blocks_le = sum_le n _ _ one_each
 
   -- a state whose block has lost its first one
-  left_behind : (first s : ℕ) → s < n → first ≤ s → block first ≡ block s → is_repeated block first first ≡ false → fine first ≢ fine s → count_blocks n block < count_blocks n fine
-  left_behind first s l m e alone d =
+  lost_first : (first s : ℕ) → s < n → first ≤ s → block first ≡ block s → is_repeated block first first ≡ false → fine first ≢ fine s → count_blocks n block < count_blocks n fine
+  lost_first first s l m e alone d =
       let f = first_of fine s s (omega arith) in
       let k = f.1 in
       let same : block f.0 ≡ block first = finer f.0 s (omega arith) l f.2 ∙ sym e in
@@ -118,8 +118,8 @@ module _ (n : ℕ) (fine block : ℕ → ℕ) (finer : IsFiner n fine block) whe
           by (inr l) = l
 
       go : ((nat_eq (fine first) (fine s) ≡ true) × (fine first ≡ fine s)) ⊎ ((nat_eq (fine first) (fine s) ≡ false) × (fine first ≢ fine s)) → count_blocks n block < count_blocks n fine
-      go (inl q) = left_behind first t ht (before first t (together ∙ e) alone) (together ∙ e) alone (λ z. d (sym q.1 ∙ z))
-      go (inr q) = left_behind first s hs below together alone q.1
+      go (inl q) = lost_first first t ht (before first t (together ∙ e) alone) (together ∙ e) alone (λ z. d (sym q.1 ∙ z))
+      go (inr q) = lost_first first s hs below together alone q.1
 
 -- there are not more blocks than states
 pub blocks_few : (n : ℕ) (block : ℕ → ℕ) → count_blocks n block ≤ n

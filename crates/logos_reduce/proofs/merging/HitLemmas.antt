@@ -67,9 +67,9 @@ sources-found table block from sources b preds found s k hs e = go (to table s k
     go (Some t) q e = found t s (edge_within table s k t q).1 (let same : block t ≡ b = cc in same) (preds.all s k t hs (edge_symbol table s k t q) q)
 
 -- sources of a block are sources of what is left of it
-pub sources-kept : (table : Table) (splits more : List Split) (old new : ℕ → ℕ) (sources : List ℕ) (b : ℕ) → b < length splits → IsExtension table splits more old new →
+pub sources-stays : (table : Table) (splits more : List Split) (old new : ℕ → ℕ) (sources : List ℕ) (b : ℕ) → b < length splits → IsExtension table splits more old new →
     AreSources (size table) (target_block table old) sources b → AreSources (size table) (target_block table new) sources b
-sources-kept table splits more old new sources b l x from s k hs e = go (to table s k) refl e
+sources-stays table splits more old new sources b l x from s k hs e = go (to table s k) refl e
   where
     go : (o : Option ℕ) → to table s k ≡ o → option_map new o ≡ Some b → has sources s ≡ true
     go None q e = absurd (cc)
@@ -92,7 +92,7 @@ module _ (table : Table) (splits more : List Split) (old new twins hits sources 
 
   -- where a state was is known from where it is
   was : (s : ℕ) → s < size table → slice_index old s ≡ block_before more (length splits) (slice_index new s)
-  was s hs = elim (h.kept s hs) [
+  was s hs = elim (h.stays s hs) [
     | inl e ↦ sym (ap (block_before more (length splits)) e ∙ before_old more (length splits) (slice_index old s) (within_old s hs))
     | inr p ↦ elim (twin_cases twins (length splits) (slice_index old s)) [
       | inl q ↦ sym (ap (block_before more (length splits)) (p.1 ∙ q.1) ∙ before_new more (length splits) (slice_index twins (slice_index old s)) q.0 ∙ (tw.named (slice_index old s) q.0).1)
@@ -102,7 +102,7 @@ module _ (table : Table) (splits more : List Split) (old new twins hits sources 
 
   -- a state of a new block is hit
   is_hit : (j s : ℕ) → length splits ≤ j → s < size table → slice_index new s ≡ j → has hits s ≡ true
-  is_hit j s l hs e = elim (h.kept s hs) [
+  is_hit j s l hs e = elim (h.stays s hs) [
     | inl q ↦ absurd (let w = within_old s hs in omega (arith, q))
     | inr p ↦ p.0
   ]

@@ -101,7 +101,7 @@ landing-above twins fresh b l = grind (arith, nat_tests)
 pub moving-none : (n fresh : ℕ) (old twins hits : List ℕ) (lists : List (Vec ℕ Global)) → AreFiled n (slice_index old) lists → HaveMoved n 0 fresh old old twins hits lists
 moving-none n fresh old twins hits lists filed = record {
   moved = λ j l. absurd (omega arith);
-  kept = λ s l. inl refl;
+  stays = λ s l. inl refl;
   filed = filed;
 }
 
@@ -112,7 +112,7 @@ pub moving-step : (n i fresh : ℕ) (old blocks blocks' twins hits : List ℕ) (
     HaveMoved n (i + 1) fresh old blocks' twins hits lists'
 moving-step n i fresh old blocks blocks' twins hits lists lists' h within s_in below landed others filed =
     let s : ℕ = slice_index hits i in
-    let here : slice_index blocks' s ≡ twin_of twins fresh (slice_index old s) = landed ∙ (elim (h.kept s s_in) [
+    let here : slice_index blocks' s ≡ twin_of twins fresh (slice_index old s) = landed ∙ (elim (h.stays s s_in) [
       | inl e ↦ ap (landing twins fresh) e ∙ landing-below twins fresh (slice_index old s) (below s s_in)
       | inr p ↦ ap (landing twins fresh) p.1 ∙ (elim (twin_cases twins fresh (slice_index old s)) [
         | inl q ↦ landing-above twins fresh (twin_of twins fresh (slice_index old s)) (omega (arith, q.0, q.1))
@@ -124,9 +124,9 @@ moving-step n i fresh old blocks blocks' twins hits lists lists' h within s_in b
         | inl e ↦ ap (slice_index blocks') e.1 ∙ here ∙ sym (ap (λ (x : ℕ). twin_of twins fresh (slice_index old x)) e.1)
         | inr d ↦ let lt : j < i = elim (eqb_tells j i) [ inl x ↦ absurd (d.1 (ap (slice_index hits) x.1)) | inr x ↦ omega (arith, x.1) ] in others (slice_index hits j) d.1 ∙ h.moved j lt
       ];
-      kept = λ t l. elim (eqb_tells t s) [
+      stays = λ t l. elim (eqb_tells t s) [
         | inl e ↦ inr (ap (has hits) e.1 ∙ has-get hits i within, ap (slice_index blocks') e.1 ∙ here ∙ sym (ap (λ (x : ℕ). twin_of twins fresh (slice_index old x)) e.1))
-        | inr d ↦ elim (h.kept t l) [ inl x ↦ inl (others t d.1 ∙ x) | inr x ↦ inr (x.0, others t d.1 ∙ x.1) ]
+        | inr d ↦ elim (h.stays t l) [ inl x ↦ inl (others t d.1 ∙ x) | inr x ↦ inr (x.0, others t d.1 ∙ x.1) ]
       ];
       filed = filed;
     }

@@ -4,7 +4,7 @@ use Rattle.std.proofs.lemmas.Bool.{cases_lt}
 use Rattle.std.proofs.lemmas.Bool.Decides.{nat_tests}
 use Rattle.logos_reduce.specs.Lists.{has, has_in, ArePredecessors}
 use Rattle.logos_reduce.specs.Table.{size, to, edges}
-use Rattle.logos_reduce.specs.inside.Prune.{IsSeed, AreUseful, kept_target}
+use Rattle.logos_reduce.specs.inside.Prune.{IsSeed, AreUseful, met_target}
 use Rattle.logos_reduce.specs.Prune.{IsOfUse, IsPrunedTable}
 use Rattle.logos_reduce.specs.Order.{IsOrder, IsMet}
 use Rattle.logos_reduce.specs.inside.Order.{Grows}
@@ -107,19 +107,19 @@ module _ (table : Table) (from : List (Vec ℕ Global)) (preds : ArePredecessors
           let here : to table s b ≡ Some t = q ∙ ap Some (place ∙ ap (slice_index old_states) same ∙ e) in
           all s (sym (in_list s) ∙ preds.all s b t (edge_within table s b t here).0 n here)
 
-kept_met : (numbers : List ℕ) (t : ℕ) → IsMet numbers t → kept_target numbers (Some t) ≡ Some t
+kept_met : (numbers : List ℕ) (t : ℕ) → IsMet numbers t → met_target numbers (Some t) ≡ Some t
 kept_met numbers t m = let e : nat_eq (slice_index numbers t) 0 ≡ false = grind (arith, nat_tests) in rw e refl
 
-kept_unmet : (numbers : List ℕ) (t : ℕ) → (IsMet numbers t → ⊥) → kept_target numbers (Some t) ≡ None
+kept_unmet : (numbers : List ℕ) (t : ℕ) → (IsMet numbers t → ⊥) → met_target numbers (Some t) ≡ None
 kept_unmet numbers t m = go (cases_lt 0 (slice_index numbers t))
   where
-    go : (0 < slice_index numbers t) ⊎ (slice_index numbers t ≤ 0) → kept_target numbers (Some t) ≡ None
+    go : (0 < slice_index numbers t) ⊎ (slice_index numbers t ≤ 0) → met_target numbers (Some t) ≡ None
     go (inl l) = absurd (m l)
     go (inr l) = let e : nat_eq (slice_index numbers t) 0 ≡ true = grind (arith, nat_tests) in rw e refl
 
 -- rows without the targets that are not in the order
 pub pruned_by : (old new : Table) (numbers : List ℕ) → new.marks ≡ old.marks → AreUseful old numbers →
-    ((s k : ℕ) → s < size old → to new s k ≡ kept_target numbers (to old s k)) → IsPrunedTable old new
+    ((s k : ℕ) → s < size old → to new s k ≡ met_target numbers (to old s k)) → IsPrunedTable old new
 pruned_by old new numbers marks useful rows = record {
   marks = marks;
   some = λ s k t e. let w = edge_within old s k t e in kept s k t e w.0 w.1 (cases_lt 0 (slice_index numbers t));
@@ -128,9 +128,9 @@ pruned_by old new numbers marks useful rows = record {
   where
     kept : (s k t : ℕ) → to old s k ≡ Some t → s < size old → t < size old → (0 < slice_index numbers t) ⊎ (slice_index numbers t ≤ 0) →
         ((to new s k ≡ Some t) × IsOfUse old t) ⊎ ((to new s k ≡ None) × (IsOfUse old t → ⊥))
-    kept s k t e hs ht (inl m) = inl (rows s k hs ∙ ap (kept_target numbers) e ∙ kept_met numbers t m, (useful t ht).0 m)
-    kept s k t e hs ht (inr m) = inr (rows s k hs ∙ ap (kept_target numbers) e ∙ kept_unmet numbers t (λ l. omega arith), λ u. let l = (useful t ht).1 u in omega arith)
+    kept s k t e hs ht (inl m) = inl (rows s k hs ∙ ap (met_target numbers) e ∙ kept_met numbers t m, (useful t ht).0 m)
+    kept s k t e hs ht (inr m) = inr (rows s k hs ∙ ap (met_target numbers) e ∙ kept_unmet numbers t (λ l. omega arith), λ u. let l = (useful t ht).1 u in omega arith)
 
     go : (s k : ℕ) → to old s k ≡ None → (s < size old) ⊎ (size old ≤ s) → to new s k ≡ None
-    go s k e (inl l) = rows s k l ∙ ap (kept_target numbers) e
+    go s k e (inl l) = rows s k l ∙ ap (met_target numbers) e
     go s k e (inr l) = let n = ap (λ (v : Vec Mark Global). vec_len v) marks in no_edge new s k (omega arith)

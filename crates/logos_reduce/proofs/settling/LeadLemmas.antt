@@ -4,7 +4,7 @@ use Rattle.logos_reduce.specs.Edges.{Leads, to_mark, onward, to_end}
 use Rattle.logos_reduce.specs.Raw.{IsRaw}
 use Rattle.logos_reduce.specs.RowsView.{rows_of}
 use Rattle.logos_reduce.specs.Rows.{target_in}
-use Rattle.logos_reduce.specs.Settle.{AllAccepted, IsKeptOrSpare, IsSettled}
+use Rattle.logos_reduce.specs.Settle.{AllAccepted, IsNeededOrSpare, IsSettled}
 use Rattle.logos_reduce.specs.Table.{size, to, mark, edges}
 use Rattle.logos_reduce.specs.declared.table.Table.{Table}
 use Rattle.logos_reduce.proofs.tables.EdgeLemmas.{edge_within}
@@ -32,7 +32,7 @@ module _ (raw mid : Table) (root : ℕ) (is_raw : IsRaw raw root) (settled : IsS
   early_leads : (s leaf : ℕ) → s < size raw → (mark mid s).early ≡ Some leaf → Leads (edges raw) s
   early_leads s leaf l e = accepted_first raw s leaf ((settled.early s l leaf).0 e)
 
-  -- a state behind the end is not early
+  -- a state after the end is not early
   pub late_end : (s t : ℕ) → to raw s 256 ≡ Some t → (mark mid t).early ≡ None
   late_end s t e = go (mark mid t).early refl
     where
@@ -44,7 +44,7 @@ module _ (raw mid : Table) (root : ℕ) (is_raw : IsRaw raw root) (settled : IsS
   pub kept_accept : (s leaf : ℕ) → s < size raw → (mark mid s).accept ≡ Some leaf → (mark raw s).accept ≡ Some leaf
   kept_accept s leaf l e = go (settled.late s l)
     where
-      go : IsKeptOrSpare raw mid s → (mark raw s).accept ≡ Some leaf
+      go : IsNeededOrSpare raw mid s → (mark raw s).accept ≡ Some leaf
       go (inl x) = sym x.0 ∙ e
       go (inr x) = let z = x.0 in absurd (cc)
 
@@ -75,6 +75,6 @@ module _ (raw mid : Table) (root : ℕ) (is_raw : IsRaw raw root) (settled : IsS
       let q = sym (raw_edge s 256) ∙ e in
       to_end q (inr (was_late t (edge_within raw s 256 t q).1 m))
 
-  -- a state behind the end leads to no mark
+  -- a state after the end leads to no mark
   pub dead_end : (s t : ℕ) → to raw s 256 ≡ Some t → Leads (edges mid) t → ⊥
   dead_end s t e l = is_raw.ends s t e (leads_before t l)

@@ -3,7 +3,7 @@ use Rattle.std.proofs.Common.{◌≡◌, ℕ, ◌+◌, ◌<◌, ◌≤◌, ◌�
 use Rattle.std.proofs.lemmas.Bool.{cases_lt}
 use Rattle.logos_reduce.specs.Table.{size, mark}
 use Rattle.logos_reduce.specs.inside.Settle.{IsSet, AreNeeded, AreCommon, IsMarkedBy}
-use Rattle.logos_reduce.specs.Settle.{IsNeeded, IsSpare, IsCommon, IsKeptOrSpare, IsSettled}
+use Rattle.logos_reduce.specs.Settle.{IsNeeded, IsSpare, IsCommon, IsNeededOrSpare, IsSettled}
 use Rattle.logos_reduce.specs.RowsView.{rows_of}
 use Rattle.logos_reduce.specs.declared.table.Table.{Table}
 
@@ -48,7 +48,7 @@ settled_by old new early needed rows same common need marks = record {
     at : (s : ℕ) → s < size old → slice_index_or early s None ≡ (mark new s).early
     at s l = sym (marks s l).early_mark
 
-    go : (t : ℕ) → t < size old → (b : Bool) → slice_index_or needed t false ≡ b → IsKeptOrSpare old new t
+    go : (t : ℕ) → t < size old → (b : Bool) → slice_index_or needed t false ≡ b → IsNeededOrSpare old new t
     go t l true e =
         let n = need.only t e in
         inl ((marks t l).late_mark ∙ ap (λ b. if b then (mark old t).accept else None) e, (n.0, n.1, subst (λ x. IsNeeded old n.0 x t) (at n.0 n.1) n.2))

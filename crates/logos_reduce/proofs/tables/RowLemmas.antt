@@ -1,4 +1,4 @@
--- Rows that are kept once.
+-- Rows that are distinct once.
 use Rattle.std.proofs.Common.{◌≡◌, ℕ, zero, suc, ◌<◌, ◌≤◌, Bool, true, false, if◌then◌else◌, List, [], ◌∷◌, ◌++◌, length, Some, None, slice_get, slice_index, slice_index_or, nat_eq, refl, sym, ◌∙◌, ap, arith, ◌⊎◌, inl, inr, length-append}
 use Rattle.std.proofs.lemmas.List.{get_or_append_left, get_or_past}
 use Rattle.std.proofs.lemmas.Bool.{cases_lt}
@@ -6,54 +6,54 @@ use Rattle.logos_reduce.proofs.tables.PushLemmas.{pushed}
 use lib.Pointwise.{pointwise, bytes_decides}
 use Rattle.logos_reduce.specs.Rows.{rows_at, target_of, target_by, target_in, AreWide}
 
--- a longer list of kept rows has the old ones at their places
-same_rows : (places : List ℕ) (kept kept' : List (List ℕ)) → ((i : ℕ) → i < length places → slice_index places i < length kept) →
-    ((place : ℕ) → place < length kept → slice_index_or kept' place [] ≡ slice_index_or kept place []) → rows_at places kept' ≡ rows_at places kept
-same_rows [] kept kept' inside same = refl
-same_rows (place ∷ places) kept kept' inside same =
+-- a longer list of distinct rows has the old ones at their places
+same_rows : (places : List ℕ) (distinct distinct' : List (List ℕ)) → ((i : ℕ) → i < length places → slice_index places i < length distinct) →
+    ((place : ℕ) → place < length distinct → slice_index_or distinct' place [] ≡ slice_index_or distinct place []) → rows_at places distinct' ≡ rows_at places distinct
+same_rows [] distinct distinct' inside same = refl
+same_rows (place ∷ places) distinct distinct' inside same =
     let here = same place (inside 0 (omega arith)) in
-    let rest = same_rows places kept kept' (λ i l. inside (suc i) (omega arith)) same in
+    let rest = same_rows places distinct distinct' (λ i l. inside (suc i) (omega arith)) same in
     cc
 
-append_rows : (places : List ℕ) (place : ℕ) (kept : List (List ℕ)) → rows_at (places ++ place ∷ []) kept ≡ rows_at places kept ++ slice_index_or kept place [] ∷ []
-append_rows [] place kept = refl
-append_rows (p ∷ places) place kept = ap (λ xs. slice_index_or kept p [] ∷ xs) (append_rows places place kept)
+append_rows : (places : List ℕ) (place : ℕ) (distinct : List (List ℕ)) → rows_at (places ++ place ∷ []) distinct ≡ rows_at places distinct ++ slice_index_or distinct place [] ∷ []
+append_rows [] place distinct = refl
+append_rows (p ∷ places) place distinct = ap (λ xs. slice_index_or distinct p [] ∷ xs) (append_rows places place distinct)
 
 got : (xs : List (List ℕ)) (i : ℕ) (x : List ℕ) → slice_get xs i ≡ Some x → slice_index_or xs i [] ≡ x
 got [] i x e = absurd (cc)
 got (y ∷ xs) zero x e = cc
 got (y ∷ xs) (suc i) x e = got xs i x e
 
-pub rows_pushed : (places : List ℕ) (kept : List (List ℕ)) (row : List ℕ) (added : Bool) (kept' : List (List ℕ)) (place : ℕ) (stored : List ℕ) →
-    ((i : ℕ) → i < length places → slice_index places i < length kept) →
-    kept' ≡ (if added then kept else kept ++ row ∷ []) → slice_get kept' place ≡ Some stored → pointwise nat_eq row stored ≡ true →
-    rows_at (places ++ place ∷ []) kept' ≡ rows_at places kept ++ row ∷ []
-rows_pushed places kept row added kept' place stored inside grown at same =
+pub rows_pushed : (places : List ℕ) (distinct : List (List ℕ)) (row : List ℕ) (added : Bool) (distinct' : List (List ℕ)) (place : ℕ) (stored : List ℕ) →
+    ((i : ℕ) → i < length places → slice_index places i < length distinct) →
+    distinct' ≡ (if added then distinct else distinct ++ row ∷ []) → slice_get distinct' place ≡ Some stored → pointwise nat_eq row stored ≡ true →
+    rows_at (places ++ place ∷ []) distinct' ≡ rows_at places distinct ++ row ∷ []
+rows_pushed places distinct row added distinct' place stored inside grown at same =
     let one : row ≡ stored = (bytes_decides row stored).0 same in
-    let here : slice_index_or kept' place [] ≡ row = got kept' place stored at ∙ sym one in
-    append_rows places place kept'
-    ∙ ap (λ x. rows_at places kept' ++ x ∷ []) here
-    ∙ ap (λ xs. xs ++ row ∷ []) (same_rows places kept kept' inside (λ p l. ap (λ xs. slice_index_or xs p []) grown ∙ front added p l))
+    let here : slice_index_or distinct' place [] ≡ row = got distinct' place stored at ∙ sym one in
+    append_rows places place distinct'
+    ∙ ap (λ x. rows_at places distinct' ++ x ∷ []) here
+    ∙ ap (λ xs. xs ++ row ∷ []) (same_rows places distinct distinct' inside (λ p l. ap (λ xs. slice_index_or xs p []) grown ∙ front added p l))
   where
-    front : (added : Bool) (p : ℕ) → p < length kept → slice_index_or (if added then kept else kept ++ row ∷ []) p [] ≡ slice_index_or kept p []
+    front : (added : Bool) (p : ℕ) → p < length distinct → slice_index_or (if added then distinct else distinct ++ row ∷ []) p [] ≡ slice_index_or distinct p []
     front true p l = refl
-    front false p l = get_or_append_left kept (row ∷ []) [] p l
+    front false p l = get_or_append_left distinct (row ∷ []) [] p l
 
--- rows that are kept are wide
-pub wide_kept : (kept : List (List ℕ)) (row : List ℕ) (added : Bool) (kept' : List (List ℕ)) →
-    kept' ≡ (if added then kept else kept ++ row ∷ []) → length row ≡ 257 → AreWide kept → AreWide kept'
-wide_kept kept row true kept' e size wide = λ i l. ap (λ xs. length (slice_index_or xs i [])) e ∙ wide i (rw e at l)
-wide_kept kept row false kept' e size wide =
-    λ i l. pushed (λ i row. length row ≡ 257) kept kept' row [] (length kept) e refl wide size i (let n = ap length e in let m = length-append kept (row ∷ []) in omega arith)
+-- rows that are distinct are wide
+pub wide_distinct : (distinct : List (List ℕ)) (row : List ℕ) (added : Bool) (distinct' : List (List ℕ)) →
+    distinct' ≡ (if added then distinct else distinct ++ row ∷ []) → length row ≡ 257 → AreWide distinct → AreWide distinct'
+wide_distinct distinct row true distinct' e size wide = λ i l. ap (λ xs. length (slice_index_or xs i [])) e ∙ wide i (rw e at l)
+wide_distinct distinct row false distinct' e size wide =
+    λ i l. pushed (λ i row. length row ≡ 257) distinct distinct' row [] (length distinct) e refl wide size i (let n = ap length e in let m = length-append distinct (row ∷ []) in omega arith)
 
-pub rows_length : (places : List ℕ) (kept : List (List ℕ)) → length (rows_at places kept) ≡ length places
-rows_length [] kept = refl
-rows_length (place ∷ places) kept = let e = rows_length places kept in omega arith
+pub rows_length : (places : List ℕ) (distinct : List (List ℕ)) → length (rows_at places distinct) ≡ length places
+rows_length [] distinct = refl
+rows_length (place ∷ places) distinct = let e = rows_length places distinct in omega arith
 
-pub rows_wide : (places : List ℕ) (kept : List (List ℕ)) → ((i : ℕ) → i < length places → slice_index places i < length kept) → AreWide kept → AreWide (rows_at places kept)
-rows_wide [] kept inside wide i l = absurd (omega arith)
-rows_wide (place ∷ places) kept inside wide zero l = wide place (inside 0 (omega arith))
-rows_wide (place ∷ places) kept inside wide (suc i) l = rows_wide places kept (λ j m. inside (suc j) (omega arith)) wide i (omega arith)
+pub rows_wide : (places : List ℕ) (distinct : List (List ℕ)) → ((i : ℕ) → i < length places → slice_index places i < length distinct) → AreWide distinct → AreWide (rows_at places distinct)
+rows_wide [] distinct inside wide i l = absurd (omega arith)
+rows_wide (place ∷ places) distinct inside wide zero l = wide place (inside 0 (omega arith))
+rows_wide (place ∷ places) distinct inside wide (suc i) l = rows_wide places distinct (λ j m. inside (suc j) (omega arith)) wide i (omega arith)
 
 past : (row : List ℕ) (k : ℕ) → length row ≤ k → slice_index row k ≡ 0
 past row k l = get_or_past row k 0 l

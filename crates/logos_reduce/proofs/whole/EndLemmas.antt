@@ -1,4 +1,4 @@
--- The states of a reduced table, and those behind the end.
+-- The states of a reduced table, and those after the end.
 use Rattle.std.proofs.Common.{◌≡◌, ◌≢◌, ℕ, ◌<◌, ◌≤◌, ◌⊎◌, inl, inr, slice_index, List, length, Option, Some, None, option_map, vec_len, refl, sym, ◌∙◌, ap, arith}
 use Rattle.std.proofs.lemmas.Bool.{cases_lt}
 use Rattle.logos_reduce.specs.Edges.{Leads, to_mark, onward, to_end}
@@ -7,7 +7,7 @@ use Rattle.logos_reduce.specs.Prune.{IsOfUse}
 use Rattle.logos_reduce.specs.Raw.{IsRaw}
 use Rattle.logos_reduce.specs.Reduction.{IsReductionOf, IsLeast}
 use Rattle.logos_reduce.specs.Table.{size, to, mark, type_of, edges}
-use Rattle.logos_reduce.specs.Tellable.{IsTellable}
+use Rattle.logos_reduce.specs.History.{GivesEvidence}
 use Rattle.logos_reduce.specs.declared.reduction.Reduction.{Reduction}
 use Rattle.logos_reduce.specs.declared.table.Table.{Table}
 use Rattle.logos_reduce.proofs.numbering.StateLemmas as num
@@ -102,19 +102,19 @@ module _ (raw : Table) (root : ℕ) (reduction : Reduction) (made : IsReductionO
       let r = ap (slice_index made.numbered.numbers) e in
       d (omega arith)
 
-  -- any two states are told apart
+  -- any two states are distinguished
   pub least : root < size raw → IsLeast final
-  least l s t ls lt d = word.told_apart final reduction.splits.items (slice_index states) history s t ls lt (different s t ls lt d) (some_splits l)
+  least l s t ls lt d = word.distinguished final reduction.splits.items (slice_index states) history s t ls lt (different s t ls lt d) (some_splits l)
 
   module _ (is_raw : IsRaw raw root) where
     pub late_end : (s t : ℕ) → to raw s 256 ≡ Some t → (mark mid t).early ≡ None
     late_end = lead.late_end raw mid root is_raw made.settled
 
-    -- a state behind the end leads to no mark
+    -- a state after the end leads to no mark
     pub dead_end : (s t : ℕ) → to raw s 256 ≡ Some t → Leads (edges mid) t → ⊥
     dead_end = lead.dead_end raw mid root is_raw made.settled
 
-    -- a state behind the end has no edges
+    -- a state after the end has no edges
     pruned_end : (s t k : ℕ) → to pruned s 256 ≡ Some t → to pruned t k ≡ None
     pruned_end s t k e = go (to pruned t k) refl
       where
@@ -142,8 +142,8 @@ module _ (raw : Table) (root : ℕ) (reduction : Reduction) (made : IsReductionO
         let p = final_target i 256 t e in
         ap (λ (j : ℕ). to final j k) (sym p.3) ∙ same_edge p.0 k p.2 ∙ ap (option_map number) (pruned_end (leader_of i) p.0 k p.1)
 
-    pub tellable : IsTellable reduction
-    tellable = record {
+    pub evidence : GivesEvidence reduction
+    evidence = record {
       history = history;
       some = some_splits is_raw.root_in;
       states = let n = made.numbered.states_of in omega arith;

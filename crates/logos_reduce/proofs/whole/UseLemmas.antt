@@ -7,7 +7,7 @@ use Rattle.logos_reduce.specs.Edges.{StateType, IsMarked, reach, Leads, to_mark,
 use Rattle.logos_reduce.specs.Prune.{IsOfUse}
 use Rattle.logos_reduce.specs.Raw.{IsReached, IsRaw}
 use Rattle.logos_reduce.specs.Reduction.{IsReductionOf, IsSpareless}
-use Rattle.logos_reduce.specs.Settle.{IsKeptOrSpare}
+use Rattle.logos_reduce.specs.Settle.{IsNeededOrSpare}
 use Rattle.logos_reduce.specs.Table.{size, to, mark, type_of, edges}
 use Rattle.logos_reduce.specs.declared.reduction.Reduction.{Reduction}
 use Rattle.logos_reduce.specs.declared.table.Mark.{Mark}
@@ -132,7 +132,7 @@ module _ (raw : Table) (root : ℕ) (reduction : Reduction) (made : IsReductionO
             by_way (bytes, ok, inl way) = with_source (numbered_by bytes ok root s root_in way of_use_s)
             by_way (bytes, ok, inr x) = absurd (end.dead_end raw root reduction made is_raw x.0 s x.2 (leads (cases_lt k 256)))
 
-        by_need : (T : ℕ) → IsIn T → number T ≡ t → (mark mid T).accept ≡ Some leaf → IsKeptOrSpare raw mid T → HasNeed t leaf
+        by_need : (T : ℕ) → IsIn T → number T ≡ t → (mark mid T).accept ≡ Some leaf → IsNeededOrSpare raw mid T → HasNeed t leaf
         by_need T i e a (inl x) = let s = x.1 in found T s.0 s.2.0 i e a (sym x.0 ∙ a) s.1 s.2.1 s.2.2
         by_need T i e a (inr x) = let z = x.0 in absurd (cc)
 

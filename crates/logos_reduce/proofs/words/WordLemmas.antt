@@ -1,7 +1,7 @@
--- States in different blocks are told apart, by words shorter than there are blocks.
+-- States in different blocks are distinguished, by words shorter than there are blocks.
 use Rattle.std.proofs.Common.{◌≡◌, ◌≢◌, ℕ, zero, suc, ◌<◌, ◌≤◌, ◌+◌, ◌-◌, ◌⊎◌, inl, inr, true, false, nat_eq, slice_index, List, [], ◌∷◌, length, Option, Some, None, option_map, refl, sym, ◌∙◌, ap, subst, arith}
 use Rattle.std.proofs.lemmas.Bool.Decides.{eqb_tells}
-use Rattle.logos_reduce.specs.Words.{state_behind, Tells}
+use Rattle.logos_reduce.specs.Words.{state_after, WordDistinguishes}
 use Rattle.logos_reduce.specs.Merge.{target_block, ArePartedBy, split_at, IsHistory, IsMerged}
 use Rattle.logos_reduce.specs.inside.Merge.{IsFiner}
 use Rattle.logos_reduce.specs.inside.Count.{count_blocks}
@@ -15,12 +15,12 @@ use Rattle.logos_reduce.proofs.numbering.NumberLemmas.{used_leader}
 use Rattle.logos_reduce.proofs.numbering.StateLemmas as num
 
 module _ (table : Table) (splits : List Split) (block : ℕ → ℕ) (h : IsHistory table splits block) where
-  -- a word that tells two states apart, and is shorter than so many
-  abbrev pub ToldWithin : ℕ → ℕ → ℕ → Type 0
-  ToldWithin n s t = (word : List ℕ) × (length word < n) × Tells table s t word
+  -- a word that distinguishes two states, and is shorter than so many
+  abbrev pub DistinguishedWithin : ℕ → ℕ → ℕ → Type 0
+  DistinguishedWithin n s t = (word : List ℕ) × (length word < n) × WordDistinguishes table s t word
 
-  abbrev pub AllTold : ℕ → Type 0
-  AllTold j = (s t : ℕ) → s < size table → t < size table → h.at j s ≢ h.at j t → ToldWithin (count_blocks (size table) (h.at j)) s t
+  abbrev pub AllDistinguished : ℕ → Type 0
+  AllDistinguished j = (s t : ℕ) → s < size table → t < size table → h.at j s ≢ h.at j t → DistinguishedWithin (count_blocks (size table) (h.at j)) s t
 
   -- blocks get finer
   pub history_finer : (j : ℕ) → 0 < j → j < length splits → IsFiner (size table) (h.at (j + 1)) (h.at j)
@@ -34,8 +34,8 @@ module _ (table : Table) (splits : List Split) (block : ℕ → ℕ) (h : IsHist
       go (inr a) (inl b) = let w = h.below j t p (omega arith) ht in let z = a.0 in absurd (omega arith)
 
   -- what a step by a symbol needs
-  by_targets : (j n : ℕ) (o p : Option ℕ) → AllTold j → count_blocks (size table) (h.at j) < n → 0 < count_blocks (size table) (h.at j) → ((t : ℕ) → o ≡ Some t → t < size table) → ((t : ℕ) → p ≡ Some t → t < size table) →
-      option_map (h.at j) o ≢ option_map (h.at j) p → (word : List ℕ) × (length word + 1 < n) × (option_map (mark table) (state_behind table o word) ≢ option_map (mark table) (state_behind table p word))
+  by_targets : (j n : ℕ) (o p : Option ℕ) → AllDistinguished j → count_blocks (size table) (h.at j) < n → 0 < count_blocks (size table) (h.at j) → ((t : ℕ) → o ≡ Some t → t < size table) → ((t : ℕ) → p ≡ Some t → t < size table) →
+      option_map (h.at j) o ≢ option_map (h.at j) p → (word : List ℕ) × (length word + 1 < n) × (option_map (mark table) (state_after table o word) ≢ option_map (mark table) (state_after table p word))
   by_targets j n None None told l some ho hp d = absurd (d refl)
   by_targets j n None (Some b) told l some ho hp d = ([], omega arith, λ e. cc)
   by_targets j n (Some a) None told l some ho hp d = ([], omega arith, λ e. cc)
@@ -43,24 +43,24 @@ module _ (table : Table) (splits : List Split) (block : ℕ → ℕ) (h : IsHist
       let w = told a b (ho a refl) (hp b refl) (λ e. d (ap Some e)) in
       (w.0, let m = w.1 in omega arith, w.2)
 
-  by_symbol : (j n s t : ℕ) (k : Option ℕ) → AllTold j → count_blocks (size table) (h.at j) < n → 0 < count_blocks (size table) (h.at j) → s < size table → t < size table →
-      ArePartedBy table (h.at j) k s t → ToldWithin n s t
+  by_symbol : (j n s t : ℕ) (k : Option ℕ) → AllDistinguished j → count_blocks (size table) (h.at j) < n → 0 < count_blocks (size table) (h.at j) → s < size table → t < size table →
+      ArePartedBy table (h.at j) k s t → DistinguishedWithin n s t
   by_symbol j n s t None told l some hs ht d = ([], omega arith, λ e. d (cc))
   by_symbol j n s t (Some k) told l some hs ht d =
       let w = by_targets j n (to table s k) (to table t k) told l some (λ u e. (edge_within table s k u e).1) (λ u e. (edge_within table t k u e).1) d in
       (k ∷ w.0, let m = w.1 in omega arith, w.2)
 
-  turned : (n s t : ℕ) → ToldWithin n s t → ToldWithin n t s
+  turned : (n s t : ℕ) → DistinguishedWithin n s t → DistinguishedWithin n t s
   turned n s t w = (w.0, w.1, λ e. w.2 (sym e))
 
-  pub all_told : (j : ℕ) → 0 < j → j ≤ length splits → AllTold j
-  all_told zero p l = absurd (omega arith)
-  all_told (suc zero) p l = λ s t hs ht d.
+  pub all_distinguished : (j : ℕ) → 0 < j → j ≤ length splits → AllDistinguished j
+  all_distinguished zero p l = absurd (omega arith)
+  all_distinguished (suc zero) p l = λ s t hs ht d.
       let a = h.below 1 s (omega arith) l hs in
       let b = h.below 1 t (omega arith) l ht in
       let e : h.at 1 s ≡ h.at 1 t = omega arith in
       absurd (d e)
-  all_told (suc (suc j)) p l = step (all_told (suc j) (omega arith) (omega arith))
+  all_distinguished (suc (suc j)) p l = step (all_distinguished (suc j) (omega arith) (omega arith))
     where
       i : ℕ
       i = suc j
@@ -71,8 +71,8 @@ module _ (table : Table) (splits : List Split) (block : ℕ → ℕ) (h : IsHist
       next : suc (suc j) ≡ suc j + 1
       next = omega arith
 
-      step : AllTold (suc j) → AllTold (suc (suc j))
-      step told s t hs ht d' = subst (λ (n : ℕ). ToldWithin (count_blocks (size table) (h.at n)) s t) (sym next) (go (eqb_tells (h.at (suc j) s) (h.at (suc j) t)))
+      step : AllDistinguished (suc j) → AllDistinguished (suc (suc j))
+      step told s t hs ht d' = subst (λ (n : ℕ). DistinguishedWithin (count_blocks (size table) (h.at n)) s t) (sym next) (go (eqb_tells (h.at (suc j) s) (h.at (suc j) t)))
         where
           d : h.at (suc j + 1) s ≢ h.at (suc j + 1) t
           d = subst (λ (n : ℕ). h.at n s ≢ h.at n t) next d'
@@ -89,7 +89,7 @@ module _ (table : Table) (splits : List Split) (block : ℕ → ℕ) (h : IsHist
           apart : h.at (suc j) s ≡ h.at (suc j) t →
               (h.at (suc j + 1) s ≡ h.at (suc j) s) ⊎ ((h.at (suc j + 1) s ≡ suc j) × (h.at (suc j) s ≡ (split_at splits (suc j)).parent)) →
               (h.at (suc j + 1) t ≡ h.at (suc j) t) ⊎ ((h.at (suc j + 1) t ≡ suc j) × (h.at (suc j) t ≡ (split_at splits (suc j)).parent)) →
-              ToldWithin (count_blocks (size table) (h.at (suc j + 1))) s t
+              DistinguishedWithin (count_blocks (size table) (h.at (suc j + 1))) s t
           apart e (inl a) (inl b) = absurd (d (a ∙ e ∙ sym b))
           apart e (inr a) (inr b) = absurd (d (a.0 ∙ sym b.0))
           apart e (inr a) (inl b) =
@@ -98,7 +98,7 @@ module _ (table : Table) (splits : List Split) (block : ℕ → ℕ) (h : IsHist
               turned _ t s (by_symbol (suc j) _ t s (split_at splits (suc j)).symbol told (more e) some ht hs (h.parted (suc j) t s (omega arith) inside ht hs b.0 (a ∙ e ∙ b.1)))
 
           go : ((nat_eq (h.at (suc j) s) (h.at (suc j) t) ≡ true) × (h.at (suc j) s ≡ h.at (suc j) t)) ⊎ ((nat_eq (h.at (suc j) s) (h.at (suc j) t) ≡ false) × (h.at (suc j) s ≢ h.at (suc j) t)) →
-              ToldWithin (count_blocks (size table) (h.at (suc j + 1))) s t
+              DistinguishedWithin (count_blocks (size table) (h.at (suc j + 1))) s t
           go (inl e) = apart e.1 (h.step (suc j) s (omega arith) inside hs) (h.step (suc j) t (omega arith) inside ht)
           go (inr x) =
               let w = told s t hs ht x.1 in
@@ -106,9 +106,9 @@ module _ (table : Table) (splits : List Split) (block : ℕ → ℕ) (h : IsHist
               (w.0, let m = w.1 in omega arith, w.2)
 
   -- at the end: fewer symbols than states
-  pub told_apart : (s t : ℕ) → s < size table → t < size table → block s ≢ block t → 0 < length splits → ToldWithin (size table) s t
-  told_apart s t hs ht d some =
-      let w = all_told (length splits) some (omega arith) s t hs ht (λ e. d (sym (h.last s hs) ∙ e ∙ h.last t ht)) in
+  pub distinguished : (s t : ℕ) → s < size table → t < size table → block s ≢ block t → 0 < length splits → DistinguishedWithin (size table) s t
+  distinguished s t hs ht d some =
+      let w = all_distinguished (length splits) some (omega arith) s t hs ht (λ e. d (sym (h.last s hs) ∙ e ∙ h.last t ht)) in
       let few = blocks_few (size table) (h.at (length splits)) in
       (w.0, let m = w.1 in omega arith, w.2)
 

@@ -21,7 +21,7 @@ pub record HaveMoved (n i fresh : ℕ) (old blocks twins hits : List ℕ)
   pub moved : (j : ℕ) → j < i →
       slice_index blocks (slice_index hits j)
       ≡ twin_of twins fresh (slice_index old (slice_index hits j))
-  pub kept : (s : ℕ) → s < n →
+  pub stays : (s : ℕ) → s < n →
       (slice_index blocks s ≡ slice_index old s)
       ⊎ ((has hits s ≡ true) × (slice_index blocks s ≡ twin_of twins fresh (slice_index old s)))
   pub filed : AreFiled n (slice_index blocks) lists

@@ -25,7 +25,7 @@ pub record AreTwins (fresh k : ℕ) (twins : List ℕ) (splits : List Split) : T
   pub older : (j : ℕ) → fresh ≤ j → j < length splits → (split_at splits j).parent < fresh
   pub by : (j : ℕ) → fresh ≤ j → j < length splits → (split_at splits j).symbol ≡ Some k
 
--- a list of splits goes on
+-- the new list of splits begins with the old one
 pub record Continues (old new : List Split) : Type 0 where
   pub longer : length old ≤ length new
   pub same : (j : ℕ) → j < length old → split_at new j ≡ split_at old j
@@ -50,7 +50,7 @@ pub record AreKeyNumbers (table : Table) (n : ℕ) (blocks : List ℕ)
 abbrev pub block_before : List Split → ℕ → ℕ → ℕ
 block_before splits fresh c = if nat_lt c fresh then c else (split_at splits c).parent
 
--- The new blocks are the old ones, of which some states have left some, for reasons that are told.
+-- The new blocks are the old ones, of which some states have left some, each for the reason that its split gives.
 pub record IsExtension (table : Table) (splits more : List Split) (old new : ℕ → ℕ) : Type 0 where
   pub goes_on : Continues splits more
   pub within : IsWithin (size table) new (length more)

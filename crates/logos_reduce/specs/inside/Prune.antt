@@ -16,6 +16,6 @@ abbrev pub AreUseful : Table → List ℕ → Type 0
 AreUseful table numbers = (s : ℕ) → s < size table → IsMet numbers s ↔ IsOfUse table s
 
 -- the target, if it is in the order
-abbrev pub kept_target : List ℕ → Option ℕ → Option ℕ
-kept_target numbers None = None
-kept_target numbers (Some t) = if slice_index numbers t == 0 then None else Some t
+abbrev pub met_target : List ℕ → Option ℕ → Option ℕ
+met_target numbers None = None
+met_target numbers (Some t) = if slice_index numbers t == 0 then None else Some t

@@ -1,4 +1,4 @@
--- Lists of early marks, and flags of the late marks that are needed.
+-- The early marks of states, and flags of the late marks that are needed.
 use Rattle.std.specs.Prelude.{◌≡◌, ◌<◌, ◌⊎◌, ℕ, Bool, true, false, List, Option, None, slice_index_or, if◌then◌else◌}
 use Rattle.logos_reduce.specs.Settle.{IsCommon, IsNeeded, IsSpare}
 use Rattle.logos_reduce.specs.Table.{mark}

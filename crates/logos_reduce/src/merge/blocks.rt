@@ -1,4 +1,4 @@
-//! States in blocks.
+//! Blocks of states.
 ghost use Rattle.std.specs.Prelude.{None, ◌≡◌, ◌≢◌, ℕ, ◌+◌, ◌<◌, ◌≤◌, IfOk, length, vec_len, slice_index, slice_index_or};
 ghost use Rattle.logos_reduce.specs.Merge.{IsSound, split_at};
 ghost use Rattle.logos_reduce.specs.inside.Merge as inside;
@@ -8,7 +8,7 @@ use crate::table::{Mark, Table};
 use indexmap::IndexSet;
 use std::alloc::{AllocError, Global};
 
-/// How a block came to be: it was parted from another one, by a symbol or by the marks of states.
+/// How a block was made: it was parted from another one, by a symbol or by the marks of states.
 #[derive(Clone, Copy, Drop)]
 pub struct Split {
     /// The number of the other block, which is a lower one.
@@ -17,7 +17,7 @@ pub struct Split {
     pub symbol: Option<usize>,
 }
 
-/// The block of each state, and how each block came to be.
+/// The block of each state, and how each block was made.
 #[derive(Drop)]
 pub struct Blocks {
     /// For each state its block.
@@ -27,7 +27,7 @@ pub struct Blocks {
     ghost within: { (s : ℕ) → s < vec_len of → slice_index of.items s < vec_len splits },
 }
 
-/// A mark as a key.
+/// Returns the mark as a key.
 fn key_of(mark: Mark) -> [usize; 4]
     ensures { result ≡ inside.key_of mark }
 {
@@ -36,7 +36,7 @@ fn key_of(mark: Mark) -> [usize; 4]
     [accepts, accept, is_early, early]
 }
 
-/// Whether there is a leaf, and its number.
+/// Returns 1 and the number of the leaf, or zeros where there is none.
 fn tagged(leaf: Option<usize>) -> (usize, usize)
     ensures { result ≡ inside.tagged leaf }
 {
@@ -46,7 +46,7 @@ fn tagged(leaf: Option<usize>) -> (usize, usize)
     }
 }
 
-/// So many blocks, parted by the marks of states.
+/// Returns the splits of so many blocks that are parted by the marks of states.
 fn parted_by_marks(alloc: Global, count: usize) -> Result<Vec<Split>, AllocError>
     ensures len { IfOk result (λ v. vec_len v ≡ count) }
     ensures splits { IfOk result (λ v. (j : ℕ) →
@@ -60,7 +60,7 @@ fn parted_by_marks(alloc: Global, count: usize) -> Result<Vec<Split>, AllocError
     Ok(splits)
 }
 
-/// The states in blocks by their marks.
+/// Returns the states in blocks by their marks.
 pub fn by_marks(alloc: Global, table: &Table) -> Result<Blocks, AllocError>
     ensures len { IfOk result (λ b. vec_len b.of ≡ size table.now) }
     ensures sound { IfOk result (λ b. IsSound table.now b.splits.items (slice_index b.of.items)) }

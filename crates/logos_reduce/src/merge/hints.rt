@@ -1,4 +1,4 @@
-//! What the choice of parts goes by: nothing that is proved of blocks depends on it.
+//! Chooses which part of a block becomes the new one, and which blocks to look at: no proof about blocks depends on it.
 ghost use Rattle.std.specs.Prelude.{◌≡◌, ℕ, ◌+◌, ◌<◌, ◌≤◌, OnSome, IfOk, vec_len, slice_index};
 
 use std::alloc::{AllocError, Global};
@@ -6,9 +6,13 @@ use std::alloc::{AllocError, Global};
 /// The sizes of blocks, and the blocks that are still to be looked at.
 #[derive(Drop)]
 pub struct Hints {
+    /// For each block how many of its states are hit.
     counts: Vec<usize>,
+    /// For each block how many states it has.
     sizes: Vec<usize>,
+    /// For each block whether it is still to be looked at.
     pending: Vec<bool>,
+    /// The blocks that are still to be looked at.
     todo: Vec<usize>,
     ghost counts_len: { vec_len counts ≡ vec_len sizes },
     ghost pending_len: { vec_len pending ≡ vec_len sizes },
@@ -16,7 +20,7 @@ pub struct Hints {
 }
 
 impl Hints {
-    /// Each of the first `count` blocks is to be looked at.
+    /// Returns hints by which each of the first `count` blocks is to be looked at.
     pub fn new(
         alloc: Global,
         blocks: &Vec<usize>,
@@ -46,7 +50,7 @@ impl Hints {
         })
     }
 
-    /// One more hit of the block.
+    /// Counts one more hit of the block.
     pub fn count_hit(&mut self, block: usize)
         requires { block < vec_len self.old.sizes }
         ensures todo { vec_len self.new.todo ≡ vec_len self.old.todo }
@@ -55,7 +59,7 @@ impl Hints {
         self.counts[block] = self.counts[block].saturating_add(1);
     }
 
-    /// Whether some states of the block are hit and some are not.
+    /// Returns whether some states of the block are hit and some are not.
     pub fn is_cut(&self, block: usize) -> bool
         requires { block < vec_len self.now.sizes }
     {
@@ -93,7 +97,7 @@ impl Hints {
         self.counts[block] = 0;
     }
 
-    /// The next block to look at.
+    /// Takes the next block to look at.
     pub fn next(&mut self) -> Option<usize>
         ensures some { OnSome result (vec_len self.new.todo + 1 ≡ vec_len self.old.todo) }
         ensures sizes { vec_len self.new.sizes ≡ vec_len self.old.sizes }

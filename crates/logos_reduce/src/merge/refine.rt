@@ -1,4 +1,4 @@
-//! Splitting blocks by the blocks that their states lead to.
+//! Splits blocks by the blocks that their states lead to.
 ghost use Rattle.std.specs.Prelude.{true, ◌≡◌, ◌≢◌, ℕ, ◌+◌, ◌-◌, ◌*◌, ◌<◌, ◌≤◌, ◌↔◌, Some, OnSome, OnOk, IfOk, IsTrue, length, vec_len, slice_index, option_map};
 ghost use Rattle.logos_reduce.specs.Merge.{target_block, IsSound};
 ghost use Rattle.logos_reduce.specs.inside.Merge.{IsFiner};
@@ -10,12 +10,12 @@ ghost use Rattle.logos_reduce.specs.Rows.{target_by};
 use crate::lists::{add, empty_lists, file, predecessors};
 use crate::merge::blocks::Blocks;
 use crate::merge::hints::Hints;
-use crate::merge::twins::{Work, split_on};
+use crate::merge::twins::{Cuts, Filing, Refinement, split_on};
 use crate::rows::{Row, WIDTH, target_at};
 use crate::table::Table;
 use std::alloc::{AllocError, Global};
 
-/// The block of a target.
+/// Returns the block of a target.
 pub fn block_of(target: Option<usize>, blocks: &Vec<usize>) -> Option<usize>
     requires { (t : ℕ) → target ≡ Some t → t < vec_len blocks.now }
     ensures { result ≡ option_map (slice_index blocks.now.items) target }
@@ -23,10 +23,10 @@ pub fn block_of(target: Option<usize>, blocks: &Vec<usize>) -> Option<usize>
     Some(blocks[target?])
 }
 
-/// Adds a list.
+/// Adds the numbers of the list at index `t`.
 fn add_all(sources: &mut Vec<usize>, lists: &Vec<Vec<usize>>, t: usize) -> Result<(), AllocError>
     requires { t < vec_len lists.now }
-    ensures kept { (s : ℕ) → has sources.old.items s ≡ true → has sources.new.items s ≡ true }
+    ensures stays { (s : ℕ) → has sources.old.items s ≡ true → has sources.new.items s ≡ true }
     ensures added { OnOk result ((s : ℕ) → has_in lists.now.items t s ≡ true →
         has sources.new.items s ≡ true) }
 {
@@ -34,29 +34,29 @@ fn add_all(sources: &mut Vec<usize>, lists: &Vec<Vec<usize>>, t: usize) -> Resul
     Ok(())
 }
 
-/// The states with an edge into a block, perhaps with others, and perhaps more than once.
+/// Returns the states with an edge into a block, perhaps with others, and perhaps more than once.
 fn all_sources(
     alloc: Global,
-    work: &Work,
+    refinement: &Refinement,
     from: &Vec<Vec<usize>>,
     b: usize,
 ) -> Result<Vec<usize>, AllocError>
-    requires b_in { b < vec_len work.now.splits }
-    requires len { vec_len from.now ≡ vec_len work.now.blocks }
-    ensures { IfOk result (λ v. (t s : ℕ) → t < vec_len work.now.blocks →
-        slice_index work.now.blocks.items t ≡ b →
+    requires b_in { b < vec_len refinement.now.cuts.splits }
+    requires len { vec_len from.now ≡ vec_len refinement.now.filing.blocks }
+    ensures { IfOk result (λ v. (t s : ℕ) → t < vec_len refinement.now.filing.blocks →
+        slice_index refinement.now.filing.blocks.items t ≡ b →
         has_in from.now.items t s ≡ true → has v.items s ≡ true) }
 {
     let mut sources = Vec::new(alloc);
-    for t in &work.lists[b] {
-        if *t < work.blocks.len() && work.blocks[*t] == b {
+    for t in &refinement.filing.lists[b] {
+        if *t < refinement.filing.blocks.len() && refinement.filing.blocks[*t] == b {
             add_all(&mut sources, from, *t)?;
         }
     }
     Ok(sources)
 }
 
-/// The numbers of a list, without those that stand behind an equal one.
+/// Returns the numbers of a list, without those that follow an equal one.
 fn without_repeats(alloc: Global, list: &Vec<usize>) -> Result<Vec<usize>, AllocError>
     ensures { IfOk result (λ v. (s : ℕ) → has list.now.items s ≡ true → has v.items s ≡ true) }
 {
@@ -67,26 +67,26 @@ fn without_repeats(alloc: Global, list: &Vec<usize>) -> Result<Vec<usize>, Alloc
     Ok(once)
 }
 
-/// The states with an edge into a block, perhaps with others.
+/// Returns the states with an edge into a block, perhaps with others.
 fn sources_of(
     alloc: Global,
-    work: &Work,
+    refinement: &Refinement,
     from: &Vec<Vec<usize>>,
     b: usize,
 ) -> Result<Vec<usize>, AllocError>
-    requires b_in { b < vec_len work.now.splits }
-    requires len { vec_len from.now ≡ vec_len work.now.blocks }
-    ensures { IfOk result (λ v. (t s : ℕ) → t < vec_len work.now.blocks →
-        slice_index work.now.blocks.items t ≡ b →
+    requires b_in { b < vec_len refinement.now.cuts.splits }
+    requires len { vec_len from.now ≡ vec_len refinement.now.filing.blocks }
+    ensures { IfOk result (λ v. (t s : ℕ) → t < vec_len refinement.now.filing.blocks →
+        slice_index refinement.now.filing.blocks.items t ≡ b →
         has_in from.now.items t s ≡ true → has v.items s ≡ true) }
 {
-    let mut all = all_sources(alloc, work, from, b)?;
+    let mut all = all_sources(alloc, refinement, from, b)?;
     all.sort_unstable();
     let once = without_repeats(alloc, &all)?;
     Ok(once)
 }
 
-/// Whether a state leads into the block by the symbol.
+/// Returns whether a state leads into the block by the symbol.
 fn leads_into(table: &Table, blocks: &Vec<usize>, s: usize, b: usize, k: usize) -> bool
     requires len { vec_len blocks.now ≡ size table.now }
     requires k_in { k < 257 }
@@ -96,32 +96,8 @@ fn leads_into(table: &Table, blocks: &Vec<usize>, s: usize, b: usize, k: usize) 
     s < table.len() && block_of(table.target(s, k), blocks) == Some(b)
 }
 
-/// Those of the sources that lead into the block by the symbol.
-fn hits_of(
-    alloc: Global,
-    table: &Table,
-    blocks: &Vec<usize>,
-    sources: &Vec<usize>,
-    b: usize,
-    k: usize,
-) -> Result<Vec<usize>, AllocError>
-    requires len { vec_len blocks.now ≡ size table.now }
-    requires k_in { k < 257 }
-    ensures hits { IfOk result (λ v.
-        AreHits (size table.now) (target_block table.now (slice_index blocks.now.items))
-        sources.now.items v.items b k) }
-{
-    let mut hits = Vec::new(alloc);
-    for s in sources {
-        if leads_into(table, blocks, *s, b, k) {
-            hits.push(*s)?;
-        }
-    }
-    Ok(hits)
-}
-
-/// What blocks are split by: a block, the states with an edge into it, perhaps with others, and the
-/// symbols by which one of these leads into it. Nothing that is proved depends on the symbols.
+/// What blocks are split by: a block, the states with an edge into it, perhaps with others, and the symbols by which one of
+/// these leads into it. No proof depends on the symbols.
 #[derive(Drop)]
 struct Splitter {
     block: usize,
@@ -129,46 +105,69 @@ struct Splitter {
     used: [bool; 257],
 }
 
+/// Returns those of the sources that lead into the block by the symbol.
+fn hits_of(
+    alloc: Global,
+    table: &Table,
+    blocks: &Vec<usize>,
+    by: &Splitter,
+    k: usize,
+) -> Result<Vec<usize>, AllocError>
+    requires len { vec_len blocks.now ≡ size table.now }
+    requires k_in { k < 257 }
+    ensures hits { IfOk result (λ v.
+        AreHits (size table.now) (target_block table.now (slice_index blocks.now.items))
+        by.now.sources.items v.items by.now.block k) }
+{
+    let mut hits = Vec::new(alloc);
+    for s in &by.sources {
+        if leads_into(table, blocks, *s, by.block, k) {
+            hits.push(*s)?;
+        }
+    }
+    Ok(hits)
+}
+
 /// Splits the blocks by the states that lead into a block by one symbol, if it is used.
 fn split_by_symbol(
     alloc: Global,
     table: &Table,
-    work: Work,
+    refinement: Refinement,
     by: &Splitter,
     k: usize,
-) -> Result<Work, AllocError>
+) -> Result<Refinement, AllocError>
     requires k_in { k < 257 }
-    requires len { vec_len work.blocks ≡ size table.now }
-    requires block_in { by.now.block < vec_len work.splits }
+    requires len { vec_len refinement.filing.blocks ≡ size table.now }
+    requires block_in { by.now.block < vec_len refinement.cuts.splits }
     requires sources { AreSources (size table.now)
-        (target_block table.now (slice_index work.blocks.items)) by.now.sources.items by.now.block }
-    requires sound { IsSound table.now work.splits.items (slice_index work.blocks.items) }
-    ensures len { IfOk result (λ w. vec_len w.blocks ≡ vec_len work.blocks) }
-    ensures lists_len { IfOk result (λ w. vec_len w.lists ≡ vec_len work.lists) }
+        (target_block table.now (slice_index refinement.filing.blocks.items)) by.now.sources.items by.now.block }
+    requires sound { IsSound table.now refinement.cuts.splits.items (slice_index refinement.filing.blocks.items) }
+    ensures len { IfOk result (λ w. vec_len w.filing.blocks ≡ vec_len refinement.filing.blocks) }
+    ensures lists_len { IfOk result (λ w. vec_len w.filing.lists ≡ vec_len refinement.filing.lists) }
     ensures sound { IfOk result (λ w.
-        IsSound table.now w.splits.items (slice_index w.blocks.items)) }
+        IsSound table.now w.cuts.splits.items (slice_index w.filing.blocks.items)) }
     ensures finer { IfOk result (λ w.
-        IsFiner (size table.now) (slice_index w.blocks.items) (slice_index work.blocks.items)) }
+        IsFiner (size table.now) (slice_index w.filing.blocks.items) (slice_index refinement.filing.blocks.items)) }
     ensures falls { IfOk result (λ w.
-        2 * (vec_len w.lists - vec_len w.splits) + vec_len w.hints.todo
-        ≤ 2 * (vec_len work.lists - vec_len work.splits) + vec_len work.hints.todo) }
-    ensures block_in { IfOk result (λ w. by.now.block < vec_len w.splits) }
+        2 * (vec_len w.filing.lists - vec_len w.cuts.splits) + vec_len w.cuts.hints.todo
+        ≤ 2 * (vec_len refinement.filing.lists - vec_len refinement.cuts.splits) + vec_len refinement.cuts.hints.todo) }
+    ensures block_in { IfOk result (λ w. by.now.block < vec_len w.cuts.splits) }
     ensures sources { IfOk result
         (λ w. AreSources (size table.now)
-        (target_block table.now (slice_index w.blocks.items)) by.now.sources.items by.now.block) }
+        (target_block table.now (slice_index w.filing.blocks.items)) by.now.sources.items by.now.block) }
 {
     if !by.used[k] {
-        return Ok(work);
+        return Ok(refinement);
     }
-    let hits = hits_of(alloc, table, &work.blocks, &by.sources, by.block, k)?;
+    let hits = hits_of(alloc, table, &refinement.filing.blocks, by, k)?;
     if hits.is_empty() {
-        return Ok(work);
+        return Ok(refinement);
     }
-    let split = split_on(alloc, work, &hits, k)?;
+    let split = split_on(alloc, refinement, &hits, k)?;
     Ok(split)
 }
 
-/// Notes the symbols by which a row leads into a block.
+/// Sets the flags of the symbols by which a row leads into a block.
 fn note_symbols(used: &mut [bool; 257], row: &Row, blocks: &Vec<usize>, b: usize)
     requires { (k t : ℕ) → target_by row.now k ≡ Some t → t < vec_len blocks.now }
 {
@@ -181,7 +180,7 @@ fn note_symbols(used: &mut [bool; 257], row: &Row, blocks: &Vec<usize>, b: usize
     }
 }
 
-/// The symbols by which some source leads into a block. Nothing that is proved depends on it.
+/// Returns for each symbol whether some source leads into a block by it. No proof depends on it.
 fn symbols_into(table: &Table, blocks: &Vec<usize>, sources: &Vec<usize>, b: usize) -> [bool; 257]
     requires { vec_len blocks.now ≡ size table.now }
 {
@@ -198,70 +197,70 @@ fn symbols_into(table: &Table, blocks: &Vec<usize>, sources: &Vec<usize>, b: usi
 fn split_by_block(
     alloc: Global,
     table: &Table,
-    work: Work,
+    refinement: Refinement,
     by: &Splitter,
-) -> Result<Work, AllocError>
-    requires len { vec_len work.blocks ≡ size table.now }
-    requires block_in { by.now.block < vec_len work.splits }
+) -> Result<Refinement, AllocError>
+    requires len { vec_len refinement.filing.blocks ≡ size table.now }
+    requires block_in { by.now.block < vec_len refinement.cuts.splits }
     requires sources { AreSources (size table.now)
-        (target_block table.now (slice_index work.blocks.items)) by.now.sources.items by.now.block }
-    requires sound { IsSound table.now work.splits.items (slice_index work.blocks.items) }
-    ensures len { IfOk result (λ w. vec_len w.blocks ≡ vec_len work.blocks) }
-    ensures lists_len { IfOk result (λ w. vec_len w.lists ≡ vec_len work.lists) }
+        (target_block table.now (slice_index refinement.filing.blocks.items)) by.now.sources.items by.now.block }
+    requires sound { IsSound table.now refinement.cuts.splits.items (slice_index refinement.filing.blocks.items) }
+    ensures len { IfOk result (λ w. vec_len w.filing.blocks ≡ vec_len refinement.filing.blocks) }
+    ensures lists_len { IfOk result (λ w. vec_len w.filing.lists ≡ vec_len refinement.filing.lists) }
     ensures sound { IfOk result (λ w.
-        IsSound table.now w.splits.items (slice_index w.blocks.items)) }
+        IsSound table.now w.cuts.splits.items (slice_index w.filing.blocks.items)) }
     ensures finer { IfOk result (λ w.
-        IsFiner (size table.now) (slice_index w.blocks.items) (slice_index work.blocks.items)) }
+        IsFiner (size table.now) (slice_index w.filing.blocks.items) (slice_index refinement.filing.blocks.items)) }
     ensures falls { IfOk result (λ w.
-        2 * (vec_len w.lists - vec_len w.splits) + vec_len w.hints.todo
-        ≤ 2 * (vec_len work.lists - vec_len work.splits) + vec_len work.hints.todo) }
+        2 * (vec_len w.filing.lists - vec_len w.cuts.splits) + vec_len w.cuts.hints.todo
+        ≤ 2 * (vec_len refinement.filing.lists - vec_len refinement.cuts.splits) + vec_len refinement.cuts.hints.todo) }
 {
-    let mut split = work;
+    let mut split = refinement;
     for k in 0..WIDTH {
         split = split_by_symbol(alloc, table, split, by, k)?;
     }
     Ok(split)
 }
 
-impl Work {
-    /// The next block to look at.
+impl Refinement {
+    /// Takes the next block to look at.
     fn next(&mut self) -> Option<usize>
-        ensures some { OnSome result (vec_len self.new.hints.todo + 1
-            ≡ vec_len self.old.hints.todo) }
-        ensures blocks { self.new.blocks ≡ self.old.blocks }
-        ensures splits { self.new.splits ≡ self.old.splits }
-        ensures lists { self.new.lists ≡ self.old.lists }
+        ensures some { OnSome result (vec_len self.new.cuts.hints.todo + 1
+            ≡ vec_len self.old.cuts.hints.todo) }
+        ensures blocks { self.new.filing.blocks ≡ self.old.filing.blocks }
+        ensures splits { self.new.cuts.splits ≡ self.old.cuts.splits }
+        ensures lists { self.new.filing.lists ≡ self.old.filing.lists }
     {
-        self.hints.next()
+        self.cuts.hints.next()
     }
 
     /// Notes that a block was looked at.
     fn finish(&mut self, block: usize)
-        ensures todo { vec_len self.new.hints.todo ≡ vec_len self.old.hints.todo }
-        ensures blocks { self.new.blocks ≡ self.old.blocks }
-        ensures splits { self.new.splits ≡ self.old.splits }
-        ensures lists { self.new.lists ≡ self.old.lists }
+        ensures todo { vec_len self.new.cuts.hints.todo ≡ vec_len self.old.cuts.hints.todo }
+        ensures blocks { self.new.filing.blocks ≡ self.old.filing.blocks }
+        ensures splits { self.new.cuts.splits ≡ self.old.cuts.splits }
+        ensures lists { self.new.filing.lists ≡ self.old.filing.lists }
     {
-        self.hints.finish(block);
+        self.cuts.hints.finish(block);
     }
 
-    /// The blocks alone.
+    /// Returns the blocks alone.
     fn into_blocks(self) -> Blocks
-        ensures of { result.of ≡ self.blocks }
-        ensures splits { result.splits ≡ self.splits }
+        ensures of { result.of ≡ self.filing.blocks }
+        ensures splits { result.splits ≡ self.cuts.splits }
     {
-        let Work {
-            blocks,
-            lists: _,
+        let Refinement { filing, cuts } = self;
+        let Filing { blocks, lists: _ } = filing;
+        let Cuts {
             twins: _,
             splits,
             hints: _,
-        } = self;
+        } = cuts;
         Blocks { of: blocks, splits }
     }
 }
 
-/// Each state in the list of its block.
+/// Returns for each block a list of its states.
 fn filed_states(
     alloc: Global,
     blocks: &Vec<usize>,
@@ -279,88 +278,88 @@ fn filed_states(
     Ok(lists)
 }
 
-/// The blocks with all to do.
-fn start(alloc: Global, blocks: Blocks, room: usize) -> Result<Work, AllocError>
+/// Returns the blocks, each of which is still to be looked at.
+fn start(alloc: Global, blocks: Blocks, room: usize) -> Result<Refinement, AllocError>
     requires some { 0 < vec_len blocks.splits }
     requires room { vec_len blocks.splits ≤ room }
-    ensures blocks { IfOk result (λ w. w.blocks ≡ blocks.of) }
-    ensures splits { IfOk result (λ w. w.splits ≡ blocks.splits) }
+    ensures blocks { IfOk result (λ w. w.filing.blocks ≡ blocks.of) }
+    ensures splits { IfOk result (λ w. w.cuts.splits ≡ blocks.splits) }
 {
     let Blocks { of, splits } = blocks;
     let lists = filed_states(alloc, &of, room)?;
     let hints = Hints::new(alloc, &of, splits.len(), room)?;
     let twins = vec![in alloc; 0; room]?;
-    Ok(Work {
-        blocks: of,
-        lists,
-        twins,
-        splits,
-        hints,
+    Ok(Refinement {
+        filing: Filing { blocks: of, lists },
+        cuts: Cuts {
+            twins,
+            splits,
+            hints,
+        },
     })
 }
 
-/// Splits the blocks by the states that lead into a block, if there is such a block, and notes that
-/// it was looked at.
+/// Splits the blocks by the states that lead into a block, if there is such a block, and notes that it was looked at.
 fn look_at(
     alloc: Global,
     table: &Table,
     from: &Vec<Vec<usize>>,
-    work: Work,
+    refinement: Refinement,
     b: usize,
-) -> Result<Work, AllocError>
-    requires len { vec_len work.blocks ≡ size table.now }
+) -> Result<Refinement, AllocError>
+    requires len { vec_len refinement.filing.blocks ≡ size table.now }
     requires from_len { vec_len from.now ≡ size table.now }
     requires from { ArePredecessors (size table.now) 257 (to table.now) from.now.items }
-    requires sound { IsSound table.now work.splits.items (slice_index work.blocks.items) }
-    ensures len { IfOk result (λ w. vec_len w.blocks ≡ size table.now) }
+    requires sound { IsSound table.now refinement.cuts.splits.items (slice_index refinement.filing.blocks.items) }
+    ensures len { IfOk result (λ w. vec_len w.filing.blocks ≡ size table.now) }
     ensures sound { IfOk result (λ w.
-        IsSound table.now w.splits.items (slice_index w.blocks.items)) }
+        IsSound table.now w.cuts.splits.items (slice_index w.filing.blocks.items)) }
     ensures finer { IfOk result (λ w.
-        IsFiner (size table.now) (slice_index w.blocks.items) (slice_index work.blocks.items)) }
+        IsFiner (size table.now) (slice_index w.filing.blocks.items) (slice_index refinement.filing.blocks.items)) }
     ensures falls { IfOk result (λ w.
-        2 * (vec_len w.lists - vec_len w.splits) + vec_len w.hints.todo
-        ≤ 2 * (vec_len work.lists - vec_len work.splits) + vec_len work.hints.todo) }
+        2 * (vec_len w.filing.lists - vec_len w.cuts.splits) + vec_len w.cuts.hints.todo
+        ≤ 2 * (vec_len refinement.filing.lists - vec_len refinement.cuts.splits) + vec_len refinement.cuts.hints.todo) }
 {
-    if work.splits.len() <= b {
-        return Ok(work);
+    if refinement.cuts.splits.len() <= b {
+        return Ok(refinement);
     }
-    let sources = sources_of(alloc, &work, from, b)?;
-    let used = symbols_into(table, &work.blocks, &sources, b);
+    let sources = sources_of(alloc, &refinement, from, b)?;
+    let used = symbols_into(table, &refinement.filing.blocks, &sources, b);
     let by = Splitter {
         block: b,
         sources,
         used,
     };
-    let mut split = split_by_block(alloc, table, work, &by)?;
+    let mut split = split_by_block(alloc, table, refinement, &by)?;
     split.finish(b);
     Ok(split)
 }
 
-/// Splits the blocks as far as the list of what is to do goes.
+/// Splits the blocks by each block that is still to be looked at.
 fn look_at_all(
     alloc: Global,
     table: &Table,
     from: &Vec<Vec<usize>>,
-    work: Work,
-) -> Result<Work, AllocError>
-    requires len { vec_len work.blocks ≡ size table.now }
+    refinement: Refinement,
+) -> Result<Refinement, AllocError>
+    requires len { vec_len refinement.filing.blocks ≡ size table.now }
     requires from_len { vec_len from.now ≡ size table.now }
     requires from { ArePredecessors (size table.now) 257 (to table.now) from.now.items }
-    requires sound { IsSound table.now work.splits.items (slice_index work.blocks.items) }
-    ensures len { IfOk result (λ w. vec_len w.blocks ≡ size table.now) }
+    requires sound { IsSound table.now refinement.cuts.splits.items (slice_index refinement.filing.blocks.items) }
+    ensures len { IfOk result (λ w. vec_len w.filing.blocks ≡ size table.now) }
     ensures sound { IfOk result (λ w.
-        IsSound table.now w.splits.items (slice_index w.blocks.items)) }
+        IsSound table.now w.cuts.splits.items (slice_index w.filing.blocks.items)) }
     ensures finer { IfOk result (λ w.
-        IsFiner (size table.now) (slice_index w.blocks.items) (slice_index work.blocks.items)) }
+        IsFiner (size table.now) (slice_index w.filing.blocks.items) (slice_index refinement.filing.blocks.items)) }
 {
-    let mut split = work;
+    let mut split = refinement;
     while let Some(b) = split.next() {
         split = look_at(alloc, table, from, split, b)?;
     }
     Ok(split)
 }
 
-/// The blocks, split as far as the list of what is to do goes.
+/// Splits the blocks by the blocks to which their states lead, until no block is left to be looked at.
 pub fn refine(alloc: Global, table: &Table, blocks: Blocks) -> Result<Blocks, AllocError>
     requires len { vec_len blocks.of ≡ size table.now }
     requires sound { IsSound table.now blocks.splits.items (slice_index blocks.of.items) }
@@ -374,7 +373,7 @@ pub fn refine(alloc: Global, table: &Table, blocks: Blocks) -> Result<Blocks, Al
     }
     let from = predecessors(alloc, table, WIDTH)?;
     let room = blocks.splits.len().max(table.len());
-    let work = start(alloc, blocks, room)?;
-    let split = look_at_all(alloc, table, &from, work)?;
+    let refinement = start(alloc, blocks, room)?;
+    let split = look_at_all(alloc, table, &from, refinement)?;
     Ok(split.into_blocks())
 }

@@ -1,4 +1,4 @@
-//! Parting blocks by the states that are hit.
+//! Cuts blocks into the states that are hit and those that are not.
 ghost use Rattle.std.specs.Prelude.{true, ◌≡◌, ◌≢◌, ℕ, ◌+◌, ◌-◌, ◌*◌, ◌<◌, ◌≤◌, OnOk, IfOk, length, vec_len, slice_index};
 ghost use Rattle.logos_reduce.specs.inside.Merge.{AreTwins, Continues};
 ghost use Rattle.logos_reduce.specs.Lists.{has_in};
@@ -9,7 +9,26 @@ use crate::merge::blocks::Split;
 use crate::merge::hints::Hints;
 use std::alloc::{AllocError, Global};
 
-/// The blocks of the hit states.
+/// The block of each state, and for each block a list that has its states, and may have states that have left it.
+#[derive(Drop)]
+pub struct Filing {
+    /// For each state its block.
+    pub blocks: Vec<usize>,
+    /// For each block a list that has its states.
+    pub lists: Vec<Vec<usize>>,
+}
+
+/// How blocks are cut into two.
+#[derive(Drop)]
+pub struct Cuts {
+    /// For each block the block into which its hit states went last.
+    pub twins: Vec<usize>,
+    /// How each block was parted from one with a lower number.
+    pub splits: Vec<Split>,
+    pub hints: Hints,
+}
+
+/// Counts the hits of each block, and returns the blocks of the hit states.
 fn homes_of(
     alloc: Global,
     hints: &mut Hints,
@@ -35,68 +54,64 @@ fn homes_of(
     Ok(homes)
 }
 
-/// A new block for a block, if it is cut and has none yet.
-fn choose_twin(
-    hints: &mut Hints,
-    twins: &mut Vec<usize>,
-    splits: &mut Vec<Split>,
+/// Makes a new block for a block, if some but not all of its states are hit and it has none yet.
+fn add_twin(
+    cuts: &mut Cuts,
     fresh: usize,
     block: usize,
     symbol: usize,
 ) -> Result<(), AllocError>
-    requires room { vec_len twins.old ≡ vec_len hints.old.sizes }
-    requires fits { vec_len splits.old ≤ vec_len twins.old }
-    requires older { fresh ≤ vec_len splits.old }
+    requires room { vec_len cuts.old.twins ≡ vec_len cuts.old.hints.sizes }
+    requires fits { vec_len cuts.old.splits ≤ vec_len cuts.old.twins }
+    requires older { fresh ≤ vec_len cuts.old.splits }
     requires block_in { block < fresh }
-    requires below { (c : ℕ) → slice_index twins.old.items c < vec_len splits.old }
-    requires twins { AreTwins fresh symbol twins.old.items splits.old.items }
-    ensures len { vec_len twins.new ≡ vec_len twins.old }
-    ensures sizes { vec_len hints.new.sizes ≡ vec_len hints.old.sizes }
-    ensures fits { OnOk result (vec_len splits.new ≤ vec_len twins.old) }
-    ensures todo { OnOk result (vec_len hints.new.todo + vec_len splits.old
-        ≤ vec_len hints.old.todo + vec_len splits.new) }
-    ensures below { OnOk result ((c : ℕ) → slice_index twins.new.items c < vec_len splits.new) }
-    ensures twins { OnOk result (AreTwins fresh symbol twins.new.items splits.new.items) }
-    ensures goes_on { OnOk result (Continues splits.old.items splits.new.items) }
+    requires below { (c : ℕ) → slice_index cuts.old.twins.items c < vec_len cuts.old.splits }
+    requires twins { AreTwins fresh symbol cuts.old.twins.items cuts.old.splits.items }
+    ensures len { vec_len cuts.new.twins ≡ vec_len cuts.old.twins }
+    ensures sizes { vec_len cuts.new.hints.sizes ≡ vec_len cuts.old.hints.sizes }
+    ensures fits { OnOk result (vec_len cuts.new.splits ≤ vec_len cuts.old.twins) }
+    ensures todo { OnOk result (vec_len cuts.new.hints.todo + vec_len cuts.old.splits
+        ≤ vec_len cuts.old.hints.todo + vec_len cuts.new.splits) }
+    ensures below { OnOk result ((c : ℕ) → slice_index cuts.new.twins.items c < vec_len cuts.new.splits) }
+    ensures twins { OnOk result (AreTwins fresh symbol cuts.new.twins.items cuts.new.splits.items) }
+    ensures goes_on { OnOk result (Continues cuts.old.splits.items cuts.new.splits.items) }
 {
-    let twin = splits.len();
-    if twin < twins.len() && twins[block] < fresh && hints.is_cut(block) {
-        hints.part(block, twin)?;
-        splits.push(Split {
+    let twin = cuts.splits.len();
+    if twin < cuts.twins.len() && cuts.twins[block] < fresh && cuts.hints.is_cut(block) {
+        cuts.hints.part(block, twin)?;
+        cuts.splits.push(Split {
             parent: block,
             symbol: Some(symbol),
         })?;
-        twins[block] = twin;
+        cuts.twins[block] = twin;
     }
     Ok(())
 }
 
-/// New blocks for the blocks that are cut.
-fn choose_twins(
-    hints: &mut Hints,
-    twins: &mut Vec<usize>,
-    splits: &mut Vec<Split>,
+/// Makes a new block for each block of which some but not all states are hit.
+fn add_twins(
+    cuts: &mut Cuts,
     homes: &Vec<usize>,
     symbol: usize,
 ) -> Result<(), AllocError>
-    requires room { vec_len twins.old ≡ vec_len hints.old.sizes }
-    requires fits { vec_len splits.old ≤ vec_len twins.old }
+    requires room { vec_len cuts.old.twins ≡ vec_len cuts.old.hints.sizes }
+    requires fits { vec_len cuts.old.splits ≤ vec_len cuts.old.twins }
     requires homes_in { (i : ℕ) → i < vec_len homes.now →
-        slice_index homes.now.items i < vec_len splits.old }
-    requires below { (c : ℕ) → slice_index twins.old.items c < vec_len splits.old }
-    ensures len { vec_len twins.new ≡ vec_len twins.old }
-    ensures sizes { vec_len hints.new.sizes ≡ vec_len hints.old.sizes }
-    ensures fits { OnOk result (vec_len splits.new ≤ vec_len twins.old) }
-    ensures todo { OnOk result (vec_len hints.new.todo + vec_len splits.old
-        ≤ vec_len hints.old.todo + vec_len splits.new) }
-    ensures below { OnOk result ((c : ℕ) → slice_index twins.new.items c < vec_len splits.new) }
+        slice_index homes.now.items i < vec_len cuts.old.splits }
+    requires below { (c : ℕ) → slice_index cuts.old.twins.items c < vec_len cuts.old.splits }
+    ensures len { vec_len cuts.new.twins ≡ vec_len cuts.old.twins }
+    ensures sizes { vec_len cuts.new.hints.sizes ≡ vec_len cuts.old.hints.sizes }
+    ensures fits { OnOk result (vec_len cuts.new.splits ≤ vec_len cuts.old.twins) }
+    ensures todo { OnOk result (vec_len cuts.new.hints.todo + vec_len cuts.old.splits
+        ≤ vec_len cuts.old.hints.todo + vec_len cuts.new.splits) }
+    ensures below { OnOk result ((c : ℕ) → slice_index cuts.new.twins.items c < vec_len cuts.new.splits) }
     ensures twins { OnOk result
-        (AreTwins (vec_len splits.old) symbol twins.new.items splits.new.items) }
-    ensures goes_on { OnOk result (Continues splits.old.items splits.new.items) }
+        (AreTwins (vec_len cuts.old.splits) symbol cuts.new.twins.items cuts.new.splits.items) }
+    ensures goes_on { OnOk result (Continues cuts.old.splits.items cuts.new.splits.items) }
 {
-    let fresh = splits.len();
+    let fresh = cuts.splits.len();
     for home in homes {
-        choose_twin(hints, twins, splits, fresh, *home, symbol)?;
+        add_twin(cuts, fresh, *home, symbol)?;
     }
     Ok(())
 }
@@ -104,88 +119,58 @@ fn choose_twins(
 /// Forgets the hits of these blocks.
 fn forget_all(hints: &mut Hints, homes: &Vec<usize>)
     requires { (i : ℕ) → i < vec_len homes.now →
-        slice_index homes.now.items i < vec_len hints.old.sizes }
-    ensures todo { vec_len hints.new.todo ≡ vec_len hints.old.todo }
-    ensures sizes { vec_len hints.new.sizes ≡ vec_len hints.old.sizes }
+        slice_index homes.now.items i < vec_len cuts.old.hints.sizes }
+    ensures todo { vec_len cuts.new.hints.todo ≡ vec_len cuts.old.hints.todo }
+    ensures sizes { vec_len cuts.new.hints.sizes ≡ vec_len cuts.old.hints.sizes }
 {
     for home in homes {
         hints.forget(*home);
     }
 }
 
-/// New blocks for the blocks that are cut, whose hits are forgotten then.
-fn choose_once(
-    hints: &mut Hints,
-    twins: &mut Vec<usize>,
-    splits: &mut Vec<Split>,
-    homes: &Vec<usize>,
-    symbol: usize,
-) -> Result<(), AllocError>
-    requires room { vec_len twins.old ≡ vec_len hints.old.sizes }
-    requires fits { vec_len splits.old ≤ vec_len twins.old }
-    requires homes_in { (i : ℕ) → i < vec_len homes.now →
-        slice_index homes.now.items i < vec_len splits.old }
-    requires below { (c : ℕ) → slice_index twins.old.items c < vec_len splits.old }
-    ensures len { vec_len twins.new ≡ vec_len twins.old }
-    ensures sizes { vec_len hints.new.sizes ≡ vec_len hints.old.sizes }
-    ensures fits { OnOk result (vec_len splits.new ≤ vec_len twins.old) }
-    ensures todo { OnOk result (vec_len hints.new.todo + vec_len splits.old
-        ≤ vec_len hints.old.todo + vec_len splits.new) }
-    ensures below { OnOk result ((c : ℕ) → slice_index twins.new.items c < vec_len splits.new) }
-    ensures twins { OnOk result
-        (AreTwins (vec_len splits.old) symbol twins.new.items splits.new.items) }
-    ensures goes_on { OnOk result (Continues splits.old.items splits.new.items) }
-{
-    choose_twins(hints, twins, splits, homes, symbol)?;
-    forget_all(hints, homes);
-    Ok(())
-}
-
 /// Moves a state to a block.
 fn move_to(
-    blocks: &mut Vec<usize>,
-    lists: &mut Vec<Vec<usize>>,
+    filing: &mut Filing,
     s: usize,
     block: usize,
 ) -> Result<(), AllocError>
-    requires s_in { s < vec_len blocks.old }
-    requires block_in { block < vec_len lists.old }
-    requires filed { AreFiled (vec_len blocks.old) (slice_index blocks.old.items) lists.old.items }
-    ensures len { vec_len blocks.new ≡ vec_len blocks.old }
-    ensures lists_len { vec_len lists.new ≡ vec_len lists.old }
-    ensures moved { OnOk result (slice_index blocks.new.items s ≡ block) }
+    requires s_in { s < vec_len filing.old.blocks }
+    requires block_in { block < vec_len filing.old.lists }
+    requires filed { AreFiled (vec_len filing.old.blocks) (slice_index filing.old.blocks.items) filing.old.lists.items }
+    ensures len { vec_len filing.new.blocks ≡ vec_len filing.old.blocks }
+    ensures lists_len { vec_len filing.new.lists ≡ vec_len filing.old.lists }
+    ensures moved { OnOk result (slice_index filing.new.blocks.items s ≡ block) }
     ensures others { (t : ℕ) → t ≢ s →
-        slice_index blocks.new.items t ≡ slice_index blocks.old.items t }
-    ensures filed { OnOk result (AreFiled (vec_len blocks.old)
-        (slice_index blocks.new.items) lists.new.items) }
+        slice_index filing.new.blocks.items t ≡ slice_index filing.old.blocks.items t }
+    ensures filed { OnOk result (AreFiled (vec_len filing.old.blocks)
+        (slice_index filing.new.blocks.items) filing.new.lists.items) }
 {
-    file(lists, block, s)?;
-    blocks[s] = block;
+    file(&mut filing.lists, block, s)?;
+    filing.blocks[s] = block;
     Ok(())
 }
 
-/// Moves a hit to the block that it goes to.
+/// Moves a hit state to the new block of its block, if there is one.
 fn move_hit(
-    blocks: &mut Vec<usize>,
-    lists: &mut Vec<Vec<usize>>,
+    filing: &mut Filing,
     twins: &Vec<usize>,
     fresh: usize,
     s: usize,
 ) -> Result<(), AllocError>
-    requires s_in { s < vec_len blocks.old }
+    requires s_in { s < vec_len filing.old.blocks }
     requires room { fresh ≤ vec_len twins.now }
-    requires twins_in { (c : ℕ) → slice_index twins.now.items c < vec_len lists.old }
-    requires filed { AreFiled (vec_len blocks.old) (slice_index blocks.old.items) lists.old.items }
-    ensures len { vec_len blocks.new ≡ vec_len blocks.old }
-    ensures lists_len { vec_len lists.new ≡ vec_len lists.old }
-    ensures landed { OnOk result (slice_index blocks.new.items s
-        ≡ landing twins.now.items fresh (slice_index blocks.old.items s)) }
+    requires twins_in { (c : ℕ) → slice_index twins.now.items c < vec_len filing.old.lists }
+    requires filed { AreFiled (vec_len filing.old.blocks) (slice_index filing.old.blocks.items) filing.old.lists.items }
+    ensures len { vec_len filing.new.blocks ≡ vec_len filing.old.blocks }
+    ensures lists_len { vec_len filing.new.lists ≡ vec_len filing.old.lists }
+    ensures landed { OnOk result (slice_index filing.new.blocks.items s
+        ≡ landing twins.now.items fresh (slice_index filing.old.blocks.items s)) }
     ensures others { (t : ℕ) → t ≢ s →
-        slice_index blocks.new.items t ≡ slice_index blocks.old.items t }
-    ensures filed { OnOk result (AreFiled (vec_len blocks.old)
-        (slice_index blocks.new.items) lists.new.items) }
+        slice_index filing.new.blocks.items t ≡ slice_index filing.old.blocks.items t }
+    ensures filed { OnOk result (AreFiled (vec_len filing.old.blocks)
+        (slice_index filing.new.blocks.items) filing.new.lists.items) }
 {
-    let home = blocks[s];
+    let home = filing.blocks[s];
     if fresh <= home {
         return Ok(());
     }
@@ -193,89 +178,79 @@ fn move_hit(
     if twin < fresh {
         return Ok(());
     }
-    move_to(blocks, lists, s, twin)
+    move_to(filing, s, twin)
 }
 
-/// Moves the hits to the blocks that they go to.
+/// Moves the hit states to the new blocks of their blocks.
 fn move_hits(
-    blocks: &mut Vec<usize>,
-    lists: &mut Vec<Vec<usize>>,
+    filing: &mut Filing,
     twins: &Vec<usize>,
     fresh: usize,
     hits: &Vec<usize>,
 ) -> Result<(), AllocError>
     requires hits_in { (i : ℕ) → i < vec_len hits.now →
-        slice_index hits.now.items i < vec_len blocks.old }
-    requires homes_in { (s : ℕ) → s < vec_len blocks.old → slice_index blocks.old.items s < fresh }
+        slice_index hits.now.items i < vec_len filing.old.blocks }
+    requires homes_in { (s : ℕ) → s < vec_len filing.old.blocks → slice_index filing.old.blocks.items s < fresh }
     requires room { fresh ≤ vec_len twins.now }
-    requires twins_in { (c : ℕ) → slice_index twins.now.items c < vec_len lists.old }
-    requires filed { AreFiled (vec_len blocks.old) (slice_index blocks.old.items) lists.old.items }
-    ensures len { vec_len blocks.new ≡ vec_len blocks.old }
-    ensures lists_len { vec_len lists.new ≡ vec_len lists.old }
-    ensures moved { OnOk result (HaveMoved (vec_len blocks.old)
-        (vec_len hits.now) fresh blocks.old.items blocks.new.items
-        twins.now.items hits.now.items lists.new.items) }
+    requires twins_in { (c : ℕ) → slice_index twins.now.items c < vec_len filing.old.lists }
+    requires filed { AreFiled (vec_len filing.old.blocks) (slice_index filing.old.blocks.items) filing.old.lists.items }
+    ensures len { vec_len filing.new.blocks ≡ vec_len filing.old.blocks }
+    ensures lists_len { vec_len filing.new.lists ≡ vec_len filing.old.lists }
+    ensures moved { OnOk result (HaveMoved (vec_len filing.old.blocks)
+        (vec_len hits.now) fresh filing.old.blocks.items filing.new.blocks.items
+        twins.now.items hits.now.items filing.new.lists.items) }
 {
     for s in hits {
-        move_hit(blocks, lists, twins, fresh, *s)?;
+        move_hit(filing, twins, fresh, *s)?;
     }
     Ok(())
 }
 
-/// Blocks, each with a list that has its states, and may have states that have left it.
+/// Blocks while they are cut: the states in them, and how they were made.
 #[derive(Drop)]
-pub struct Work {
-    pub blocks: Vec<usize>,
-    pub lists: Vec<Vec<usize>>,
-    pub twins: Vec<usize>,
-    pub splits: Vec<Split>,
-    pub hints: Hints,
-    ghost within: { (s : ℕ) → s < vec_len blocks → slice_index blocks.items s < vec_len splits },
-    ghost below: { (c : ℕ) → slice_index twins.items c < vec_len splits },
-    ghost room: { vec_len splits ≤ vec_len lists },
-    ghost twins_len: { vec_len twins ≡ vec_len lists },
-    ghost hints_len: { vec_len hints.sizes ≡ vec_len lists },
-    ghost filed: { AreFiled (vec_len blocks) (slice_index blocks.items) lists.items },
+pub struct Refinement {
+    pub filing: Filing,
+    pub cuts: Cuts,
+    ghost within: { (s : ℕ) → s < vec_len filing.blocks →
+        slice_index filing.blocks.items s < vec_len cuts.splits },
+    ghost below: { (c : ℕ) → slice_index cuts.twins.items c < vec_len cuts.splits },
+    ghost room: { vec_len cuts.splits ≤ vec_len filing.lists },
+    ghost twins_len: { vec_len cuts.twins ≡ vec_len filing.lists },
+    ghost hints_len: { vec_len cuts.hints.sizes ≡ vec_len filing.lists },
+    ghost filed: { AreFiled (vec_len filing.blocks) (slice_index filing.blocks.items)
+        filing.lists.items },
 }
 
-/// Splits the blocks by the hits, which are told by the symbol.
+/// Cuts the blocks by the hit states, which lead into one block by the symbol.
 pub fn split_on(
     alloc: Global,
-    work: Work,
+    refinement: Refinement,
     hits: &Vec<usize>,
     symbol: usize,
-) -> Result<Work, AllocError>
+) -> Result<Refinement, AllocError>
     requires hits_in { (i : ℕ) → i < vec_len hits.now →
-        slice_index hits.now.items i < vec_len work.blocks }
-    ensures len { IfOk result (λ w. vec_len w.blocks ≡ vec_len work.blocks) }
-    ensures lists_len { IfOk result (λ w. vec_len w.lists ≡ vec_len work.lists) }
+        slice_index hits.now.items i < vec_len refinement.filing.blocks }
+    ensures len { IfOk result (λ w. vec_len w.filing.blocks ≡ vec_len refinement.filing.blocks) }
+    ensures lists_len { IfOk result (λ w. vec_len w.filing.lists ≡ vec_len refinement.filing.lists) }
     ensures moved { IfOk result (λ w.
-        HaveMoved (vec_len work.blocks) (vec_len hits.now)
-        (vec_len work.splits) work.blocks.items w.blocks.items
-        w.twins.items hits.now.items w.lists.items) }
+        HaveMoved (vec_len refinement.filing.blocks) (vec_len hits.now)
+        (vec_len refinement.cuts.splits) refinement.filing.blocks.items w.filing.blocks.items
+        w.cuts.twins.items hits.now.items w.filing.lists.items) }
     ensures twins { IfOk result (λ w.
-        AreTwins (vec_len work.splits) symbol w.twins.items w.splits.items) }
-    ensures goes_on { IfOk result (λ w. Continues work.splits.items w.splits.items) }
+        AreTwins (vec_len refinement.cuts.splits) symbol w.cuts.twins.items w.cuts.splits.items) }
+    ensures goes_on { IfOk result (λ w. Continues refinement.cuts.splits.items w.cuts.splits.items) }
     ensures falls { IfOk result (λ w.
-        2 * (vec_len w.lists - vec_len w.splits) + vec_len w.hints.todo
-        ≤ 2 * (vec_len work.lists - vec_len work.splits) + vec_len work.hints.todo) }
+        2 * (vec_len w.filing.lists - vec_len w.cuts.splits) + vec_len w.cuts.hints.todo
+        ≤ 2 * (vec_len refinement.filing.lists - vec_len refinement.cuts.splits) + vec_len refinement.cuts.hints.todo) }
 {
-    let Work {
-        mut blocks,
-        mut lists,
-        mut twins,
-        mut splits,
-        mut hints,
-    } = work;
-    let fresh = splits.len();
-    let homes = homes_of(alloc, &mut hints, &blocks, hits)?;
-    choose_once(&mut hints, &mut twins, &mut splits, &homes, symbol)?;
-    move_hits(&mut blocks, &mut lists, &twins, fresh, hits)?;
-    Ok(Work {
-        blocks,
-        lists,
-        twins,
-        splits,
-        hints,
-    })
+    let Refinement {
+        mut filing,
+        mut cuts,
+    } = refinement;
+    let fresh = cuts.splits.len();
+    let homes = homes_of(alloc, &mut cuts.hints, &filing.blocks, hits)?;
+    add_twins(&mut cuts, &homes, symbol)?;
+    forget_all(&mut cuts.hints, &homes);
+    move_hits(&mut filing, &cuts.twins, fresh, hits)?;
+    Ok(Refinement { filing, cuts })
 }

@@ -3,8 +3,8 @@ use Rattle.logos_reduce.proofs.listings.ListLemmas.{has_in-set, has_in-set_at, h
 use Rattle.logos_reduce.proofs.listings.RisingLemmas.{rising-set}
 use Rattle.logos_reduce.proofs.lists.file.Goals as goal
 
-pub returns-in_err-add-clause-kept : goal.returns-in_err-add-clause-kept
-returns-in_err-add-clause-kept c = has_in-set c.args.lists.now.items c.args.b c.index_mut.result.now c.add.new.list (omega arith) c.index_mut.ensures.value c.add.ensures.kept
+pub returns-in_err-add-clause-stays : goal.returns-in_err-add-clause-stays
+returns-in_err-add-clause-stays c = has_in-set c.args.lists.now.items c.args.b c.index_mut.result.now c.add.new.list (omega arith) c.index_mut.ensures.value c.add.ensures.stays
 
 pub returns-in_err-add-clause-only : goal.returns-in_err-add-clause-only
 returns-in_err-add-clause-only c = has_in-set_only c.args.lists.now.items c.args.b c.args.s c.index_mut.result.now c.add.new.list (omega arith) c.index_mut.ensures.value c.add.ensures.only
@@ -12,8 +12,8 @@ returns-in_err-add-clause-only c = has_in-set_only c.args.lists.now.items c.args
 pub returns-clause-has : goal.returns-clause-has
 returns-clause-has c = has_in-set_at c.args.lists.now.items c.args.b c.add.new.list c.args.s (omega arith) c.in_ok-add.ensures.has
 
-pub returns-clause-kept : goal.returns-clause-kept
-returns-clause-kept c = has_in-set c.args.lists.now.items c.args.b c.index_mut.result.now c.add.new.list (omega arith) c.index_mut.ensures.value c.add.ensures.kept
+pub returns-clause-stays : goal.returns-clause-stays
+returns-clause-stays c = has_in-set c.args.lists.now.items c.args.b c.index_mut.result.now c.add.new.list (omega arith) c.index_mut.ensures.value c.add.ensures.stays
 
 pub returns-clause-only : goal.returns-clause-only
 returns-clause-only c = has_in-set_only c.args.lists.now.items c.args.b c.args.s c.index_mut.result.now c.add.new.list (omega arith) c.index_mut.ensures.value c.add.ensures.only

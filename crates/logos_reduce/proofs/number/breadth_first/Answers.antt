@@ -8,8 +8,8 @@ use Rattle.logos_reduce.proofs.number.breadth_first.Goals as goal
 pub loop-i-init : goal.loop-i-init
 loop-i-init c =
     let table = c.args.table.now in
-    let block = slice_index c.args.blocks.now.items in
-    let b : c.index.result.now ≡ block c.args.root = c.index.ensures ∙ get_or_default_zero c.args.blocks.now.items c.args.root c.index.result.now (omega arith) in
+    let block = slice_index c.args.merged.now.blocks.of.items in
+    let b : c.index.result.now ≡ block c.args.root = c.index.ensures ∙ get_or_default_zero c.args.merged.now.blocks.of.items c.args.root c.index.result.now (omega arith) in
     let none = c.in_ok-order.ensures.none in
     let free = not_met c.in_ok-order.order.numbers.items c.index.result.now (none c.index.result.now) in
     let states : c.meet.new.self.states.items ≡ c.index.result.now ∷ [] =
@@ -23,7 +23,7 @@ loop-i-init c =
       start = start;
       used = λ i l. let zero : 0 ≡ i = omega (arith, size_of, one) in (c.args.root, c.requires.root_in, sym start ∙ ap (slice_index c.meet.new.self.states.items) zero);
       passed = omega arith;
-      in_turn = turn_first (λ b k. target_block table block (slice_index c.args.leaders.now.items b) k) c.meet.new.self.numbers.items c.meet.new.self.states.items (omega (arith, size_of, one));
+      in_turn = turn_first (λ b k. target_block table block (slice_index c.args.merged.now.leaders.items b) k) c.meet.new.self.numbers.items c.meet.new.self.states.items (omega (arith, size_of, one));
     }
 
 pub loop-i-smaller : goal.loop-i-smaller

@@ -9,10 +9,10 @@ use Rattle.logos_reduce.proofs.number.meet_targets.Goals as goal
 pub row-row-requires : goal.row-row-requires
 row-row-requires c =
     let o = c.args.order.now in
-    let p = used_leader (size c.args.table.now) (slice_index c.args.blocks.now.items) (slice_index c.args.leaders.now.items) o.states.items c.requires.used c.requires.leaders c.args.i (omega arith) in
+    let p = used_leader (size c.args.table.now) (slice_index c.args.merged.now.blocks.of.items) (slice_index c.args.merged.now.leaders.items) o.states.items c.requires.used c.requires.leaders c.args.i (omega arith) in
     let u = c.requires.used c.args.i (omega arith) in
     let w = c.requires.within u.0 u.1 in
-    let e = leader_read o.states.items c.args.leaders.now.items c.args.i c.index.result.now c.index-2.result.now c.index.ensures (omega arith) c.index-2.ensures (omega (arith, w, u.2)) in
+    let e = leader_read o.states.items c.args.merged.now.leaders.items c.args.i c.index.result.now c.index-2.result.now c.index.ensures (omega arith) c.index-2.ensures (omega (arith, w, u.2)) in
     omega (arith, p.0, e)
 
 pub returns-in_err-meet_target-clause-grows : goal.returns-in_err-meet_target-clause-grows
@@ -21,8 +21,8 @@ returns-in_err-meet_target-clause-grows c = grows_on _ _ _ c.loop-k.invariant.gr
 pub loop-k-preserved : goal.loop-k-preserved
 loop-k-preserved c =
     let table = c.args.table.now in
-    let block = slice_index c.args.blocks.now.items in
-    let leader = slice_index c.args.leaders.now.items in
+    let block = slice_index c.args.merged.now.blocks.of.items in
+    let leader = slice_index c.args.merged.now.leaders.items in
     let i = c.args.i in
     let k = c.loop-k.k in
     let first = c.args.order.now in
@@ -30,7 +30,7 @@ loop-k-preserved c =
     let new = c.meet_target.new.order in
     let u = c.requires.used i (omega arith) in
     let w = c.requires.within u.0 u.1 in
-    let read = leader_read first.states.items c.args.leaders.now.items i c.index.result.now c.index-2.result.now c.index.ensures (omega arith) c.index-2.ensures (omega (arith, w, u.2)) in
+    let read = leader_read first.states.items c.args.merged.now.leaders.items i c.index.result.now c.index-2.result.now c.index.ensures (omega arith) c.index-2.ensures (omega (arith, w, u.2)) in
     let place = place_kept first.numbers.items first.states.items old.numbers.items old.states.items first.in_order old.in_order c.loop-k.invariant.grows i (omega arith) in
     let at : c.index-2.result.now ≡ leader (slice_index old.states.items i) = read ∙ ap leader (sym place.1) in
     let goes : c.block_of.result ≡ target_block table block (leader (slice_index old.states.items i)) k =
@@ -47,6 +47,6 @@ loop-k-preserved c =
 pub returns-clause-in_turn : goal.returns-clause-in_turn
 returns-clause-in_turn c =
     let e : c.loop-k.k ≡ 257 = omega arith in
-    turn_next (λ b k. target_block c.args.table.now (slice_index c.args.blocks.now.items) (slice_index c.args.leaders.now.items b) k)
-    (λ b k x q. led_symbol c.args.table.now (slice_index c.args.blocks.now.items) (slice_index c.args.leaders.now.items b) k x q)
+    turn_next (λ b k. target_block c.args.table.now (slice_index c.args.merged.now.blocks.of.items) (slice_index c.args.merged.now.leaders.items b) k)
+    (λ b k x q. led_symbol c.args.table.now (slice_index c.args.merged.now.blocks.of.items) (slice_index c.args.merged.now.leaders.items b) k x q)
     c.loop-k.order.numbers.items c.loop-k.order.states.items c.args.i (rw e at c.loop-k.invariant.in_turn)

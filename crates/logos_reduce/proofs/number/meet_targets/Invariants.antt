@@ -9,6 +9,6 @@ abbrev pub invariant-loop-k : goal.invariant-loop-k
 invariant-loop-k l = record {
   len : vec_len l.order.numbers ≡ vec_len l.initial.order.numbers;
   grows : Grows l.initial.order.numbers.items l.order.numbers.items;
-  used : AreUsed (size l.table) (slice_index l.blocks.items) l.order.states.items;
-  in_turn : IsInTurn (λ b k. target_block l.table (slice_index l.blocks.items) (slice_index l.leaders.items b) k) l.order.numbers.items l.order.states.items l.i l.k;
+  used : AreUsed (size l.table) (slice_index l.merged.blocks.of.items) l.order.states.items;
+  in_turn : IsInTurn (λ b k. target_block l.table (slice_index l.merged.blocks.of.items) (slice_index l.merged.leaders.items b) k) l.order.numbers.items l.order.states.items l.i l.k;
 }

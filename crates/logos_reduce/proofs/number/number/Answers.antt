@@ -6,19 +6,19 @@ use Rattle.logos_reduce.proofs.number.number.Goals as goal
 
 pub numbered_rows-requires-clause-leaders : goal.numbered_rows-requires-clause-leaders
 numbered_rows-requires-clause-leaders c =
-    λ i l. (used_leader (size c.args.table.now) (slice_index c.args.blocks.now.items) (slice_index c.args.leaders.now.items) c.in_ok-order.order.states.items c.in_ok-order.ensures.used c.requires.leaders i (omega arith)).0
+    λ i l. (used_leader (size c.args.table.now) (slice_index c.args.merged.now.blocks.of.items) (slice_index c.args.merged.now.leaders.items) c.in_ok-order.order.states.items c.in_ok-order.ensures.used c.requires.leaders i (omega arith)).0
 
 pub numbered_rows-requires-clause-few : goal.numbered_rows-requires-clause-few
 numbered_rows-requires-clause-few c = λ b.
     let o = c.in_ok-order.order in
-    let few = used_few (size c.args.table.now) (slice_index c.args.blocks.now.items) (slice_index c.args.leaders.now.items) o.numbers.items o.states.items o.in_order c.in_ok-order.ensures.used c.requires.leaders in
+    let few = used_few (size c.args.table.now) (slice_index c.args.merged.now.blocks.of.items) (slice_index c.args.merged.now.leaders.items) o.numbers.items o.states.items o.in_order c.in_ok-order.ensures.used c.requires.leaders in
     let n = number_few o.numbers.items o.states.items o.in_order b in
     let small = c.args.table.now.few in
     omega (arith, few, n, small)
 
 pub numbered_marks-requires-clause-leaders : goal.numbered_marks-requires-clause-leaders
 numbered_marks-requires-clause-leaders c =
-    λ i l. (used_leader (size c.args.table.now) (slice_index c.args.blocks.now.items) (slice_index c.args.leaders.now.items) c.in_ok-order.order.states.items c.in_ok-order.ensures.used c.requires.leaders i (omega arith)).0
+    λ i l. (used_leader (size c.args.table.now) (slice_index c.args.merged.now.blocks.of.items) (slice_index c.args.merged.now.leaders.items) c.in_ok-order.order.states.items c.in_ok-order.ensures.used c.requires.leaders i (omega arith)).0
 
 pub invariant_of-result : goal.invariant_of-result
 invariant_of-result c =
@@ -26,11 +26,11 @@ invariant_of-result c =
     record {
       same_len = omega (arith, c.in_ok-rows.ensures.len, c.in_ok-marks.ensures.len);
       closed = λ s k t l e.
-          let p = target_numbered o.numbers.items o.states.items o.in_order (target_block c.args.table.now (slice_index c.args.blocks.now.items) (slice_index c.args.leaders.now.items (slice_index o.states.items s)) k) t
+          let p = target_numbered o.numbers.items o.states.items o.in_order (target_block c.args.table.now (slice_index c.args.merged.now.blocks.of.items) (slice_index c.args.merged.now.leaders.items (slice_index o.states.items s)) k) t
           (sym (c.in_ok-rows.ensures.rows s k (omega (arith, c.in_ok-marks.ensures.len))) ∙ e) in
           omega (arith, p.2, c.in_ok-marks.ensures.len);
       few =
-          let few = used_few (size c.args.table.now) (slice_index c.args.blocks.now.items) (slice_index c.args.leaders.now.items) o.numbers.items o.states.items o.in_order c.in_ok-order.ensures.used c.requires.leaders in
+          let few = used_few (size c.args.table.now) (slice_index c.args.merged.now.blocks.of.items) (slice_index c.args.merged.now.leaders.items) o.numbers.items o.states.items o.in_order c.in_ok-order.ensures.used c.requires.leaders in
           let small = c.args.table.now.few in
           omega (arith, few, small, c.in_ok-marks.ensures.len);
     }

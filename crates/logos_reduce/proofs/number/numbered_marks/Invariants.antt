@@ -5,4 +5,4 @@ use Rattle.logos_reduce.proofs.number.numbered_marks.Given as goal
 abbrev pub invariant-loop-block : goal.invariant-loop-block
 invariant-loop-block l =
     (vec_len l.marks ≡ l.block-index)
-    × ((i : ℕ) → i < l.block-index → mark_in l.marks.items i ≡ mark l.table (slice_index l.leaders.items (slice_index l.order.states.items i)))
+    × ((i : ℕ) → i < l.block-index → mark_in l.marks.items i ≡ mark l.table (slice_index l.merged.leaders.items (slice_index l.order.states.items i)))

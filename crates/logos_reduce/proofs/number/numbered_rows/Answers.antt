@@ -10,8 +10,8 @@ use Rattle.logos_reduce.proofs.number.numbered_rows.Goals as goal
 pub loop-block-preserved : goal.loop-block-preserved
 loop-block-preserved c =
     let table = c.args.table.now in
-    let block = slice_index c.args.blocks.now.items in
-    let leaders = c.args.leaders.now.items in
+    let block = slice_index c.args.merged.now.blocks.of.items in
+    let leaders = c.args.merged.now.leaders.items in
     let states = c.args.order.now.states.items in
     let numbers = c.args.order.now.numbers.items in
     let i = c.loop-block.block-index in

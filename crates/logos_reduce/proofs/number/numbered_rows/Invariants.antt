@@ -8,4 +8,4 @@ abbrev pub invariant-loop-block : goal.invariant-loop-block
 invariant-loop-block l =
     (length (rows_of l.rows) ≡ l.block-index)
     × ((i k : ℕ) → i < l.block-index → target_in (rows_of l.rows) i k
-    ≡ option_and_then (λ b. target_of (slice_index l.order.numbers.items b)) (target_block l.table (slice_index l.blocks.items) (slice_index l.leaders.items (slice_index l.order.states.items i)) k))
+    ≡ option_and_then (λ b. target_of (slice_index l.order.numbers.items b)) (target_block l.table (slice_index l.merged.blocks.of.items) (slice_index l.merged.leaders.items (slice_index l.order.states.items i)) k))

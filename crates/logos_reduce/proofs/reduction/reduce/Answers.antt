@@ -1,7 +1,7 @@
 use Rattle.std.proofs.Common.{Vec, Global, vec_len, slice_index, ap, arith}
 use Rattle.logos_reduce.specs.declared.table.Mark.{Mark}
 use Rattle.logos_reduce.proofs.numbering.VisitLemmas.{in_order}
-use Rattle.logos_reduce.proofs.whole.EndLemmas.{least, tellable}
+use Rattle.logos_reduce.proofs.whole.EndLemmas.{least, evidence}
 use Rattle.logos_reduce.proofs.whole.UseLemmas.{spareless}
 use Rattle.logos_reduce.proofs.reduction.reduce.Goals as goal
 
@@ -33,5 +33,5 @@ returns-clause-in_order c =
 pub returns-clause-spareless : goal.returns-clause-spareless
 returns-clause-spareless c = spareless c.args.table c.args.root _ (returns-clause-made c)
 
-pub returns-clause-tellable : goal.returns-clause-tellable
-returns-clause-tellable c = tellable c.args.table c.args.root _ (returns-clause-made c)
+pub returns-clause-evidence : goal.returns-clause-evidence
+returns-clause-evidence c = evidence c.args.table c.args.root _ (returns-clause-made c)

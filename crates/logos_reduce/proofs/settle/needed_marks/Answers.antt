@@ -15,7 +15,7 @@ loop-s-preserved c =
     let e : c.index.result.now ≡ slice_index_or c.args.early.now.items c.loop-s.s None = grind (arith, common_steps) in (
       omega arith,
       needed_more c.args.table.now c.args.early.now.items c.loop-s.s c.loop-s.needed.items c.note_targets.new.needed.items c.loop-s.invariant.1
-          c.note_targets.ensures.kept (rw e at c.note_targets.ensures.needed) (rw e at c.note_targets.ensures.spare),
+          c.note_targets.ensures.stays (rw e at c.note_targets.ensures.needed) (rw e at c.note_targets.ensures.spare),
     )
 
 pub returns-clause-needed : goal.returns-clause-needed

@@ -9,12 +9,12 @@ returns-clause-finds c = λ rules graph utf8 raw start reads shows.
 pub returns-clause-reduced : goal.returns-clause-reduced
 returns-clause-reduced c = λ rules graph raw reads shows.
     let e = c.in_ok-reduced.ensures in
-    laws.is_reduced c.args.table c.args.root c.in_ok-reduced.reduced e.made raw e.least e.in_order (e.spareless raw) (e.tellable raw) graph shows rules reads
+    laws.is_reduced c.args.table c.args.root c.in_ok-reduced.reduced e.made raw e.least e.in_order (e.spareless raw) (e.evidence raw) graph shows rules reads
 
 pub returns-clause-least : goal.returns-clause-least
 returns-clause-least c = λ graph raw shows.
     let e = c.in_ok-reduced.ensures in
-    laws.least c.in_ok-reduced.reduced.table e.least (e.tellable raw).ends graph shows
+    laws.least c.in_ok-reduced.reduced.table e.least (e.evidence raw).ends graph shows
 
 pub returns-clause-fit : goal.returns-clause-fit
 returns-clause-fit c = λ rules leaves raw start reads named.

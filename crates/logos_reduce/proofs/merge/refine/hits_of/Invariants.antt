@@ -5,4 +5,4 @@ use Rattle.logos_reduce.proofs.merging.HitLemmas.{HitsSoFar}
 use Rattle.logos_reduce.proofs.merge.refine.hits_of.Given as goal
 
 abbrev pub invariant-loop-s : goal.invariant-loop-s
-invariant-loop-s l = HitsSoFar (size l.table) l.s-index (target_block l.table (slice_index l.blocks.items)) l.sources.items l.hits.items l.b l.k
+invariant-loop-s l = HitsSoFar (size l.table) l.s-index (target_block l.table (slice_index l.blocks.items)) l.by.sources.items l.hits.items l.by.block l.k

@@ -6,9 +6,9 @@ use Rattle.logos_reduce.proofs.merge.refine.look_at_all.Given as goal
 
 abbrev pub invariant-loop-b : goal.invariant-loop-b
 invariant-loop-b l =
-    (vec_len l.split.blocks ≡ size l.table)
-    × IsSound l.table l.split.splits.items (slice_index l.split.blocks.items)
-    × IsFiner (size l.table) (slice_index l.split.blocks.items) (slice_index l.initial.split.blocks.items)
+    (vec_len l.split.filing.blocks ≡ size l.table)
+    × IsSound l.table l.split.cuts.splits.items (slice_index l.split.filing.blocks.items)
+    × IsFiner (size l.table) (slice_index l.split.filing.blocks.items) (slice_index l.initial.split.filing.blocks.items)
 
 abbrev pub decreases-loop-b : goal.decreases-loop-b
-decreases-loop-b l = 2 * (vec_len l.split.lists - vec_len l.split.splits) + vec_len l.split.hints.todo
+decreases-loop-b l = 2 * (vec_len l.split.filing.lists - vec_len l.split.cuts.splits) + vec_len l.split.cuts.hints.todo

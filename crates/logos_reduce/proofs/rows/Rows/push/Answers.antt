@@ -1,18 +1,18 @@
 use Rattle.std.proofs.Common.{◌∙◌, List, ℕ, ap, arith, rules}
 use Rattle.logos_reduce.specs.Rows.{rows_at}
-use Rattle.logos_reduce.proofs.tables.RowLemmas.{rows_pushed, wide_kept}
+use Rattle.logos_reduce.proofs.tables.RowLemmas.{rows_pushed, wide_distinct}
 use Rattle.logos_reduce.proofs.rows.Rows.push.Goals as goal
 
 pub returns : goal.returns
 returns c =
     let h = c.in_ok-place.ensures in
     ap (λ (xs : List ℕ). rows_at xs c.insert_full.new.self.keys) c.in_ok-push.ensures.items
-    ∙ rows_pushed c.args.self.now.places.items c.args.self.now.kept.keys c.args.row.now _ _ c.in_ok-place.place h.stored.0 (λ i l. c.args.self.now.placed i (omega arith)) h.keys h.stored.1 h.stored.2
+    ∙ rows_pushed c.args.self.now.places.items c.args.self.now.distinct.keys c.args.row.now _ _ c.in_ok-place.place h.stored.0 (λ i l. c.args.self.now.placed i (omega arith)) h.keys h.stored.1 h.stored.2
 
 pub invariant_of-self-2 : goal.invariant_of-self-2
 invariant_of-self-2 c =
     let h = c.in_ok-place.ensures in
     record {
-      wide = wide_kept c.args.self.now.kept.keys c.args.row.now _ _ h.keys (omega arith) c.args.self.now.wide;
+      wide = wide_distinct c.args.self.now.distinct.keys c.args.row.now _ _ h.keys (omega arith) c.args.self.now.wide;
       placed = search rules;
     }

@@ -1,5 +1,5 @@
 use Rattle.std.proofs.Common.{arith}
-use Rattle.logos_graph.proofs.TellingLemmas.{evidence_shown}
+use Rattle.logos_graph.proofs.EvidenceLemmas.{evidence_shown}
 use Rattle.logos_graph.proofs.graph.value.Graph.telling.Goals as goal
 
 pub returns : goal.returns

@@ -1,15 +1,15 @@
--- What it takes to tell the states of a reduced table apart.
+-- The history of the blocks of a reduced table, which gives evidence that its states differ.
 use Rattle.std.specs.Prelude.{◌≡◌, ◌≢◌, ◌<◌, ℕ, None, Some, length, vec_len, slice_index}
 use Rattle.logos_reduce.specs.Merge.{IsHistory}
 use Rattle.logos_reduce.specs.Table.{size, to}
 use Rattle.logos_reduce.specs.declared.reduction.Reduction.{Reduction}
 
--- how the blocks of the states of the graph came to be
+-- how the blocks that the states stand for were made
 abbrev pub HistoryOf : Reduction → Type 0
 HistoryOf r = IsHistory r.table r.splits.items (slice_index r.blocks.items)
 
--- Different states are in blocks that were parted, and a state that is entered by the end leads nowhere.
-pub record IsTellable (r : Reduction) : Type 0 where
+-- Different states stand for blocks that were parted, and a state that is entered by the end leads nowhere.
+pub record GivesEvidence (r : Reduction) : Type 0 where
   pub history : HistoryOf r
   pub some : 0 < length r.splits.items
   pub states : vec_len r.blocks ≡ size r.table

@@ -1,20 +1,20 @@
-//! What tells two states of a reduced table apart.
+//! Distinguishes two states of a reduced table by bytes.
 ghost use Rattle.std.specs.Prelude.{◌≡◌, ◌≢◌, ◌⊎◌, ◌↔◌, ◌<◌, ℕ, IsTrue, IfOk, IfSome, MatchOption, Some, None};
 ghost use Rattle.logos_reduce.specs.Table.{size, to};
-ghost use Rattle.logos_reduce.specs.Tellable.{IsTellable};
-ghost use Rattle.logos_reduce.specs.Telling.{mark_behind, mark_after, TellsApart, IsEvidence};
-ghost use Rattle.logos_reduce.specs.Words.{state_behind};
-ghost use Rattle.logos_reduce.specs.inside.Telling.{ArePartedAt};
+ghost use Rattle.logos_reduce.specs.History.{GivesEvidence};
+ghost use Rattle.logos_reduce.specs.Evidence.{mark_with_end, mark_after, Distinguishes, IsEvidence};
+ghost use Rattle.logos_reduce.specs.Words.{state_after};
+ghost use Rattle.logos_reduce.specs.inside.Evidence.{ArePartedAt};
 
 use crate::reduction::Reduction;
 use crate::rows::END;
 use crate::table::{Mark, Table};
 use std::alloc::{AllocError, Global};
 
-/// Where bytes lead from a state.
-fn state_behind(table: &Table, s: usize, bytes: &[u8]) -> Option<usize>
+/// Returns the state to which bytes lead from a state.
+fn state_after(table: &Table, s: usize, bytes: &[u8]) -> Option<usize>
     requires { s < size table.now }
-    ensures state { result ≡ state_behind table.now (Some s) bytes.now }
+    ensures state { result ≡ state_after table.now (Some s) bytes.now }
     ensures within { IfSome result (λ t. t < size table.now) }
 {
     let mut at = s;
@@ -24,10 +24,10 @@ fn state_behind(table: &Table, s: usize, bytes: &[u8]) -> Option<usize>
     Some(at)
 }
 
-/// The mark of a state, or of the one to which the end leads from it.
-fn mark_behind(table: &Table, s: usize, at_end: bool) -> Option<Mark>
+/// Returns the mark of a state, or of the one to which the end leads from it.
+fn mark_with_end(table: &Table, s: usize, at_end: bool) -> Option<Mark>
     requires { s < size table.now }
-    ensures { result ≡ mark_behind table.now s at_end }
+    ensures { result ≡ mark_with_end table.now s at_end }
 {
     if !at_end {
         return Some(table.mark(s));
@@ -36,23 +36,23 @@ fn mark_behind(table: &Table, s: usize, at_end: bool) -> Option<Mark>
     Some(table.mark(t))
 }
 
-/// The mark to which bytes lead from a state, with the end after them or without.
+/// Returns the mark to which bytes lead from a state, with the end after them or without.
 fn mark_after(table: &Table, s: usize, bytes: &[u8], at_end: bool) -> Option<Mark>
     requires { s < size table.now }
     ensures { result ≡ mark_after table.now s bytes.now at_end }
 {
-    let t = state_behind(table, s, bytes)?;
-    mark_behind(table, t, at_end)
+    let t = state_after(table, s, bytes)?;
+    mark_with_end(table, t, at_end)
 }
 
-/// Whether two marks differ, or there is just one.
+/// Returns whether two marks differ, or there is just one.
 fn differ(one: Option<Mark>, other: Option<Mark>) -> bool
     ensures { IsTrue result ↔ (one ≢ other) }
 {
     one != other
 }
 
-/// Where two states lead by a symbol, if both lead somewhere.
+/// Returns the states to which two states lead by a symbol, if both lead somewhere.
 fn both_targets(table: &Table, s: usize, t: usize, k: usize) -> Option<(usize, usize)>
     requires s_in { s < size table.now }
     requires t_in { t < size table.now }
@@ -64,7 +64,7 @@ fn both_targets(table: &Table, s: usize, t: usize, k: usize) -> Option<(usize, u
     Some((table.target(s, k)?, table.target(t, k)?))
 }
 
-/// The two numbers, the lower one first.
+/// Returns the two numbers, the lower one first.
 fn ordered(a: usize, b: usize) -> (usize, usize)
     requires { a ≢ b }
     ensures order { result.0 < result.1 }
@@ -73,9 +73,9 @@ fn ordered(a: usize, b: usize) -> (usize, usize)
     if a < b { (a, b) } else { (b, a) }
 }
 
-/// The block whose split parted two states.
+/// Returns the block whose split parted two states.
 fn parted_at(reduced: &Reduction, s: usize, t: usize) -> usize
-    requires tellable { IsTellable reduced.now }
+    requires evidence { GivesEvidence reduced.now }
     requires s_in { s < size reduced.now.table }
     requires t_in { t < size reduced.now.table }
     requires different { s ≢ t }
@@ -92,24 +92,24 @@ fn parted_at(reduced: &Reduction, s: usize, t: usize) -> usize
 }
 
 impl Reduction {
-    /// Whether the bytes, with the end after them or without, tell the two states apart. No memory is taken.
+    /// Returns whether the bytes, with the end after them or without, distinguish the two states. It takes no memory.
     pub fn checks(&self, s: usize, t: usize, bytes: &[u8], at_end: bool) -> bool
         requires s_in { s < size self.now.table }
         requires t_in { t < size self.now.table }
-        ensures { IsTrue result ↔ TellsApart self.now.table s t bytes.now at_end }
+        ensures { IsTrue result ↔ Distinguishes self.now.table s t bytes.now at_end }
     {
         let one = mark_after(&self.table, s, bytes, at_end);
         let other = mark_after(&self.table, t, bytes, at_end);
         differ(one, other)
     }
 
-    /// Fewer bytes than there are states, and whether the end follows them, that tell two different states apart.
+    /// Returns bytes that distinguish two different states, fewer than there are states, and whether the end follows them.
     ///
     /// # Errors
     ///
-    /// There is no memory for the bytes.
-    pub fn telling(&self, alloc: Global, s: usize, t: usize) -> Result<(Vec<u8>, bool), AllocError>
-        requires tellable { IsTellable self.now }
+    /// `AllocError` where there is no memory for the bytes.
+    pub fn evidence(&self, alloc: Global, s: usize, t: usize) -> Result<(Vec<u8>, bool), AllocError>
+        requires evidence { GivesEvidence self.now }
         requires s_in { s < size self.now.table }
         requires t_in { t < size self.now.table }
         requires different { s ≢ t }

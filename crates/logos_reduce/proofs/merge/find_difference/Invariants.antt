@@ -1,6 +1,6 @@
 use Rattle.std.proofs.Common.{◌≡◌, ℕ, ◌<◌, slice_index}
 use Rattle.logos_reduce.specs.Merge.{target_block}
-use Rattle.logos_reduce.proofs.merge.find_fault.Given as goal
+use Rattle.logos_reduce.proofs.merge.find_difference.Given as goal
 
 abbrev pub invariant-loop-s : goal.invariant-loop-s
 invariant-loop-s l =

@@ -1,4 +1,4 @@
--- How two states of a reduced table are told apart: step by step, by the splits that parted them.
+-- How two states of a reduced table are distinguished: step by step, by the splits that parted them.
 use Rattle.std.proofs.Common.{◌≡◌, ◌≢◌, ℕ, zero, suc, ◌<◌, ◌≤◌, ◌+◌, ◌-◌, ◌⊎◌, inl, inr, true, false, List, [], ◌∷◌, ◌++◌, length, slice_index, Option, Some, None, option_map, option_and_then, refl, sym, ◌∙◌, ap, subst, arith}
 use Rattle.std.specs.List.{All}
 use Rattle.std.proofs.lemmas.Bool.{cases_lt}
@@ -6,22 +6,22 @@ use Rattle.std.proofs.lemmas.List.{length-append}
 use Rattle.std.proofs.lemmas.List.Elements.{All-nil, All-push}
 use Rattle.logos_reduce.specs.Merge.{target_block, ArePartedBy, split_at}
 use Rattle.logos_reduce.specs.Table.{size, to, mark}
-use Rattle.logos_reduce.specs.Tellable.{HistoryOf, IsTellable}
-use Rattle.logos_reduce.specs.Telling.{mark_behind, mark_after, IsEvidence}
-use Rattle.logos_reduce.specs.Words.{state_behind, Tells}
+use Rattle.logos_reduce.specs.History.{HistoryOf, GivesEvidence}
+use Rattle.logos_reduce.specs.Evidence.{mark_with_end, mark_after, IsEvidence}
+use Rattle.logos_reduce.specs.Words.{state_after, WordDistinguishes}
 use Rattle.logos_reduce.specs.inside.Count.{count_blocks}
-use Rattle.logos_reduce.specs.inside.Telling.{ArePartedAt}
+use Rattle.logos_reduce.specs.inside.Evidence.{ArePartedAt}
 use Rattle.logos_reduce.specs.declared.reduction.Reduction.{Reduction}
 use Rattle.logos_reduce.specs.declared.table.Mark.{Mark}
 use Rattle.logos_reduce.specs.declared.table.Table.{Table}
 use Rattle.logos_reduce.proofs.merging.CountLemmas.{blocks_le, blocks_lt, blocks_few, blocks_some}
 use Rattle.logos_reduce.proofs.tables.EdgeLemmas.{edge_within, edge_symbol}
-use Rattle.logos_reduce.proofs.words.WordLemmas.{all_told, history_finer}
+use Rattle.logos_reduce.proofs.words.WordLemmas.{all_distinguished, history_finer}
 
 abbrev AreBytes : List ℕ → Type 0
 AreBytes bytes = All (λ b. b < 256) bytes
 
-pub reached_append : (table : Table) (xs ys : List ℕ) (o : Option ℕ) → state_behind table o (xs ++ ys) ≡ state_behind table (state_behind table o xs) ys
+pub reached_append : (table : Table) (xs ys : List ℕ) (o : Option ℕ) → state_after table o (xs ++ ys) ≡ state_after table (state_after table o xs) ys
 reached_append table xs ys None = refl
 reached_append table [] ys (Some s) = refl
 reached_append table (k ∷ xs) ys (Some s) = reached_append table xs ys (to table s k)
@@ -36,34 +36,34 @@ parting_symbol table f k s t d = go (to table s k) refl (to table t k) refl
     go None e (Some b) q = edge_symbol table t k b q
 
 -- what one step more reaches
-reached_on : (table : Table) (s left k : ℕ) (bytes : List ℕ) (o : Option ℕ) → state_behind table (Some s) bytes ≡ Some left → to table left k ≡ o → state_behind table (Some s) (bytes ++ k ∷ []) ≡ o
+reached_on : (table : Table) (s left k : ℕ) (bytes : List ℕ) (o : Option ℕ) → state_after table (Some s) bytes ≡ Some left → to table left k ≡ o → state_after table (Some s) (bytes ++ k ∷ []) ≡ o
 reached_on table s left k bytes o way e =
-    reached_append table bytes (k ∷ []) (Some s) ∙ ap (λ (o : Option ℕ). state_behind table o (k ∷ [])) way ∙ ap (λ (o : Option ℕ). state_behind table o []) e ∙ same o
+    reached_append table bytes (k ∷ []) (Some s) ∙ ap (λ (o : Option ℕ). state_after table o (k ∷ [])) way ∙ ap (λ (o : Option ℕ). state_after table o []) e ∙ same o
   where
-    same : (o : Option ℕ) → state_behind table o [] ≡ o
+    same : (o : Option ℕ) → state_after table o [] ≡ o
     same None = refl
     same (Some a) = refl
 
--- what is known once bytes lead from two states to others that are still to be told apart
+-- what is known once bytes lead from two states to others that are still to be distinguished
 pub record IsStage (r : Reduction) (h : HistoryOf r) (s t : ℕ) (bytes : List ℕ) (left right : ℕ) : Type 0 where
   pub ok : AreBytes bytes
   pub left_in : left < size r.table
   pub right_in : right < size r.table
-  pub left_way : state_behind r.table (Some s) bytes ≡ Some left
-  pub right_way : state_behind r.table (Some t) bytes ≡ Some right
+  pub left_way : state_after r.table (Some s) bytes ≡ Some left
+  pub right_way : state_after r.table (Some t) bytes ≡ Some right
   pub time : ℕ
   pub late : time ≤ length r.splits.items
   pub early : 0 < time
   pub apart : h.at time left ≢ h.at time right
   pub short : length bytes + count_blocks (size r.table) (h.at time) ≤ size r.table
 
--- the same with another telling of the history
-abbrev pub with_history : (r : Reduction) → IsTellable r → HistoryOf r → IsTellable r
+-- the same with another history
+abbrev pub with_history : (r : Reduction) → GivesEvidence r → HistoryOf r → GivesEvidence r
 with_history r x h = record { history = h; some = x.some; states = x.states; different = x.different; ends = x.ends }
 
-module _ (r : Reduction) (tellable : IsTellable r) where
+module _ (r : Reduction) (evidence : GivesEvidence r) where
   abbrev h : HistoryOf r
-  h = tellable.history
+  h = evidence.history
 
   -- blocks stay apart
   stays_apart : (d j s t : ℕ) → 0 < j → j + d ≤ length r.splits.items → s < size r.table → t < size r.table → h.at j s ≢ h.at j t → h.at (j + d) s ≢ h.at (j + d) t
@@ -92,8 +92,8 @@ module _ (r : Reduction) (tellable : IsTellable r) where
     right_way = refl;
     time = length r.splits.items;
     late = omega arith;
-    early = tellable.some;
-    apart = λ e. tellable.different s t ls lt d (sym (h.last s ls) ∙ e ∙ h.last t lt);
+    early = evidence.some;
+    apart = λ e. evidence.different s t ls lt d (sym (h.last s ls) ∙ e ∙ h.last t lt);
     short = let w = blocks_few (size r.table) (h.at (length r.splits.items)) in omega arith;
   }
 
@@ -125,12 +125,12 @@ module _ (r : Reduction) (tellable : IsTellable r) where
     few : length bytes + 1 < size r.table
     few = let a = room in let l = x.left_in in let b = blocks_some (size r.table) (h.at j) (omega arith) in omega arith
 
-    pub told_by_marks : (split_at r.splits.items j).symbol ≡ None → IsEvidence r.table s t bytes false
-    told_by_marks e = record {
+    pub shown_by_marks : (split_at r.splits.items j).symbol ≡ None → IsEvidence r.table s t bytes false
+    shown_by_marks e = record {
       are_bytes = x.ok;
-      tells = λ q.
+      distinguishes = λ q.
           let z : Some (mark r.table left) ≡ Some (mark r.table right) =
-          sym (ap (option_and_then (λ t. mark_behind r.table t false)) x.left_way) ∙ q ∙ ap (option_and_then (λ t. mark_behind r.table t false)) x.right_way in
+          sym (ap (option_and_then (λ t. mark_with_end r.table t false)) x.left_way) ∙ q ∙ ap (option_and_then (λ t. mark_with_end r.table t false)) x.right_way in
           subst (λ (o : Option ℕ). ArePartedBy r.table (h.at j) o left right) e (p.parted h) (cc);
       short = let w = few in omega arith;
     }
@@ -141,15 +141,15 @@ module _ (r : Reduction) (tellable : IsTellable r) where
     pub symbol_in : (k : ℕ) → (split_at r.splits.items j).symbol ≡ Some k → k < 257
     symbol_in k e = parting_symbol r.table (h.at j) k left right (by_symbol k e)
 
-    -- behind the end there are only marks
-    nothing_on : (u a : ℕ) (word : List ℕ) (k : ℕ) → to r.table u 256 ≡ Some a → option_map (mark r.table) (state_behind r.table (Some a) (k ∷ word)) ≡ None
-    nothing_on u a word k e = ap (λ (o : Option ℕ). option_map (mark r.table) (state_behind r.table o word)) (tellable.ends u a k e)
+    -- after the end there are only marks
+    nothing_on : (u a : ℕ) (word : List ℕ) (k : ℕ) → to r.table u 256 ≡ Some a → option_map (mark r.table) (state_after r.table (Some a) (k ∷ word)) ≡ None
+    nothing_on u a word k e = ap (λ (o : Option ℕ). option_map (mark r.table) (state_after r.table o word)) (evidence.ends u a k e)
 
-    marks_told : (u v a b : ℕ) (word : List ℕ) → to r.table u 256 ≡ Some a → to r.table v 256 ≡ Some b → Tells r.table a b word → mark r.table a ≢ mark r.table b
-    marks_told u v a b [] e f d = λ q. d (ap Some q)
-    marks_told u v a b (k ∷ word) e f d = absurd (d (nothing_on u a word k e ∙ sym (nothing_on v b word k f)))
+    marks_differ : (u v a b : ℕ) (word : List ℕ) → to r.table u 256 ≡ Some a → to r.table v 256 ≡ Some b → WordDistinguishes r.table a b word → mark r.table a ≢ mark r.table b
+    marks_differ u v a b [] e f d = λ q. d (ap Some q)
+    marks_differ u v a b (k ∷ word) e f d = absurd (d (nothing_on u a word k e ∙ sym (nothing_on v b word k f)))
 
-    end_differs : target_block r.table (h.at j) left 256 ≢ target_block r.table (h.at j) right 256 → mark_behind r.table left true ≢ mark_behind r.table right true
+    end_differs : target_block r.table (h.at j) left 256 ≢ target_block r.table (h.at j) right 256 → mark_with_end r.table left true ≢ mark_with_end r.table right true
     end_differs d q = go (to r.table left 256) refl (to r.table right 256) refl
       where
         go : (o : Option ℕ) → to r.table left 256 ≡ o → (p : Option ℕ) → to r.table right 256 ≡ p → ⊥
@@ -159,16 +159,16 @@ module _ (r : Reduction) (tellable : IsTellable r) where
         go (Some a) e (Some b) f =
             let z : Some (mark r.table a) ≡ Some (mark r.table b) = sym (ap (option_map (mark r.table)) e) ∙ q ∙ ap (option_map (mark r.table)) f in
             let i = p.inside in
-            let w = all_told r.table r.splits.items (slice_index r.blocks.items) h j p.some (omega arith) a b (edge_within r.table left 256 a e).1 (edge_within r.table right 256 b f).1
+            let w = all_distinguished r.table r.splits.items (slice_index r.blocks.items) h j p.some (omega arith) a b (edge_within r.table left 256 a e).1 (edge_within r.table right 256 b f).1
             (λ same. d (ap (option_map (h.at j)) e ∙ ap Some same ∙ sym (ap (option_map (h.at j)) f))) in
-            marks_told left right a b w.0 e f w.2 (cc)
+            marks_differ left right a b w.0 e f w.2 (cc)
 
-    pub told_by_end : (k : ℕ) → (split_at r.splits.items j).symbol ≡ Some k → k ≡ 256 → IsEvidence r.table s t bytes true
-    told_by_end k e same = record {
+    pub shown_by_end : (k : ℕ) → (split_at r.splits.items j).symbol ≡ Some k → k ≡ 256 → IsEvidence r.table s t bytes true
+    shown_by_end k e same = record {
       are_bytes = x.ok;
-      tells = λ q.
+      distinguishes = λ q.
           end_differs (subst (λ (k : ℕ). target_block r.table (h.at j) left k ≢ target_block r.table (h.at j) right k) same (by_symbol k e))
-          (sym (ap (option_and_then (λ t. mark_behind r.table t true)) x.left_way) ∙ q ∙ ap (option_and_then (λ t. mark_behind r.table t true)) x.right_way);
+          (sym (ap (option_and_then (λ t. mark_with_end r.table t true)) x.left_way) ∙ q ∙ ap (option_and_then (λ t. mark_with_end r.table t true)) x.right_way);
       short = let w = few in omega arith;
     }
 
@@ -178,15 +178,15 @@ module _ (r : Reduction) (tellable : IsTellable r) where
     longer : (k : ℕ) → length (bytes ++ k ∷ []) ≡ length bytes + 1
     longer k = omega (arith, length-append bytes (k ∷ []))
 
-    pub told_by_byte : (k : ℕ) → (split_at r.splits.items j).symbol ≡ Some k → k < 256 → (to r.table left k ≡ None) ⊎ (to r.table right k ≡ None) → IsEvidence r.table s t (bytes ++ k ∷ []) false
-    told_by_byte k e l none = record {
+    pub shown_by_byte : (k : ℕ) → (split_at r.splits.items j).symbol ≡ Some k → k < 256 → (to r.table left k ≡ None) ⊎ (to r.table right k ≡ None) → IsEvidence r.table s t (bytes ++ k ∷ []) false
+    shown_by_byte k e l none = record {
       are_bytes = ok_on k l;
-      tells = differ (to r.table left k) refl (to r.table right k) refl none;
+      distinguishes = differ (to r.table left k) refl (to r.table right k) refl none;
       short = let w = few in let n = longer k in omega arith;
     }
       where
-        after : (u v : ℕ) (o : Option ℕ) → state_behind r.table (Some u) bytes ≡ Some v → to r.table v k ≡ o → mark_after r.table u (bytes ++ k ∷ []) false ≡ option_and_then (λ t. mark_behind r.table t false) o
-        after u v o way q = ap (option_and_then (λ t. mark_behind r.table t false)) (reached_on r.table u v k bytes o way q)
+        after : (u v : ℕ) (o : Option ℕ) → state_after r.table (Some u) bytes ≡ Some v → to r.table v k ≡ o → mark_after r.table u (bytes ++ k ∷ []) false ≡ option_and_then (λ t. mark_with_end r.table t false) o
+        after u v o way q = ap (option_and_then (λ t. mark_with_end r.table t false)) (reached_on r.table u v k bytes o way q)
 
         clash : (m : Mark) (o : Option Mark) → o ≡ None → o ≡ Some m → ⊥
         clash m o a b = cc
@@ -365,12 +365,12 @@ renamed a b x y p q e f (inl h) = inl (h.0 ∙ e, h.1 ∙ f)
 renamed a b x y p q e f (inr h) = inr (h.0 ∙ f, h.1 ∙ e)
 
 -- the climb begins at the last blocks
-pub placed_last : (r : Reduction) (tellable : IsTellable r) (s t low high : ℕ) → s < size r.table → t < size r.table → low < high →
+pub placed_last : (r : Reduction) (evidence : GivesEvidence r) (s t low high : ℕ) → s < size r.table → t < size r.table → low < high →
     ((low ≡ slice_index r.blocks.items s) × (high ≡ slice_index r.blocks.items t)) ⊎ ((low ≡ slice_index r.blocks.items t) × (high ≡ slice_index r.blocks.items s)) →
     (h : HistoryOf r) → ArePlaced r h s t low high
-placed_last r tellable s t low high hs ht o same h =
+placed_last r evidence s t low high hs ht o same h =
     let a = h.last s hs in
     let b = h.last t ht in
-    let c = h.below (length r.splits.items) s tellable.some (omega arith) hs in
-    let d = h.below (length r.splits.items) t tellable.some (omega arith) ht in
+    let c = h.below (length r.splits.items) s evidence.some (omega arith) hs in
+    let d = h.below (length r.splits.items) t evidence.some (omega arith) ht in
     placed_at r h (length r.splits.items) s t (slice_index r.blocks.items s) (slice_index r.blocks.items t) low high (omega arith) hs ht a b (omega arith) (omega arith) o same

@@ -1,10 +1,10 @@
--- Where two states of a reduced table fell apart.
+-- The split that parted two states of a reduced table.
 use Rattle.std.specs.Prelude.{◌≡◌, ◌≢◌, ◌+◌, ◌<◌, ℕ, length}
 use Rattle.logos_reduce.specs.Merge.{ArePartedBy, split_at}
-use Rattle.logos_reduce.specs.Tellable.{HistoryOf}
+use Rattle.logos_reduce.specs.History.{HistoryOf}
 use Rattle.logos_reduce.specs.declared.reduction.Reduction.{Reduction}
 
--- the two states fell apart when block j was parted from its parent
+-- the two states were parted when block j was parted from its parent
 pub record ArePartedAt (r : Reduction) (s t j : ℕ) : Type 0 where
   pub some : 0 < j
   pub inside : j < length r.splits.items

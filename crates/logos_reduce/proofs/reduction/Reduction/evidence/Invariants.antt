@@ -1,8 +1,8 @@
 use Rattle.std.proofs.Common.{◌-◌, vec_len}
 use Rattle.logos_reduce.specs.Table.{size}
-use Rattle.logos_reduce.specs.Tellable.{HistoryOf}
-use Rattle.logos_reduce.proofs.words.TellingLemmas.{IsStage}
-use Rattle.logos_reduce.proofs.reduction.Reduction.telling.Given as goal
+use Rattle.logos_reduce.specs.History.{HistoryOf}
+use Rattle.logos_reduce.proofs.words.EvidenceLemmas.{IsStage}
+use Rattle.logos_reduce.proofs.reduction.Reduction.evidence.Given as goal
 
 abbrev pub invariant-loop-k : goal.invariant-loop-k
 invariant-loop-k l = (h : HistoryOf l.self) → IsStage l.self h l.s l.t l.bytes.items l.left l.right
