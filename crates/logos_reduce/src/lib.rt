@@ -3,6 +3,7 @@
 
 #![tactic(auto)]
 
+mod evidence;
 pub mod lists;
 pub mod merge;
 mod number;
@@ -12,4 +13,3 @@ pub mod reduction;
 pub mod rows;
 mod settle;
 pub mod table;
-mod evidence;

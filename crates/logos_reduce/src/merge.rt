@@ -58,11 +58,7 @@ struct Difference {
 }
 
 /// Returns a state that does not lead where the leader of its block does, if there is one.
-fn find_difference(
-    table: &Table,
-    blocks: &Vec<usize>,
-    leaders: &Vec<usize>,
-) -> Option<Difference>
+fn find_difference(table: &Table, blocks: &Vec<usize>, leaders: &Vec<usize>) -> Option<Difference>
     requires len { vec_len blocks.now ≡ size table.now }
     requires within { (s : ℕ) → s < size table.now →
         slice_index blocks.now.items s < vec_len leaders.now }

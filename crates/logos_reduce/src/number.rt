@@ -45,10 +45,12 @@ fn meet_targets(
         slice_index merged.now.blocks.of.items s < vec_len merged.now.leaders }
     requires leaders { AreLeaders (size table.now) (slice_index merged.now.blocks.of.items)
         (slice_index merged.now.leaders.items) }
-    requires used { AreUsed (size table.now) (slice_index merged.now.blocks.of.items) order.old.states.items }
+    requires used { AreUsed (size table.now) (slice_index merged.now.blocks.of.items)
+        order.old.states.items }
     requires in_turn { IsInTurn (λ b k.
         target_block table.now (slice_index merged.now.blocks.of.items)
-        (slice_index merged.now.leaders.items b) k) order.old.numbers.items order.old.states.items i 0 }
+        (slice_index merged.now.leaders.items b) k)
+        order.old.numbers.items order.old.states.items i 0 }
     ensures len { vec_len order.new.numbers ≡ vec_len order.old.numbers }
     ensures grows { Grows order.old.numbers.items order.new.numbers.items }
     ensures used { OnOk result (AreUsed (size table.now)
@@ -131,7 +133,8 @@ fn numbered_rows(
     requires within { (s : ℕ) → s < size table.now →
         slice_index merged.now.blocks.of.items s < vec_len merged.now.leaders }
     requires leaders { (i : ℕ) → i < vec_len order.now.states →
-        slice_index merged.now.leaders.items (slice_index order.now.states.items i) < size table.now }
+        slice_index merged.now.leaders.items (slice_index order.now.states.items i)
+        < size table.now }
     requires few { (b : ℕ) → slice_index order.now.numbers.items b < 2 ^ 32 }
     ensures len { IfOk result (λ r. length (rows_of r) ≡ vec_len order.now.states) }
     ensures rows { IfOk result (λ r. (i k : ℕ) → i < vec_len order.now.states →
@@ -142,7 +145,11 @@ fn numbered_rows(
 {
     let mut rows = Rows::new(alloc);
     for block in &order.states {
-        let row = numbered_row(table.row(merged.leaders[*block]), &merged.blocks.of, &order.numbers);
+        let row = numbered_row(
+            table.row(merged.leaders[*block]),
+            &merged.blocks.of,
+            &order.numbers,
+        );
         rows.push(&row)?;
     }
     Ok(rows)
@@ -157,7 +164,8 @@ fn numbered_marks(
 ) -> Result<Vec<Mark>, AllocError>
     requires room { vec_len merged.now.leaders ≡ vec_len order.now.numbers }
     requires leaders { (i : ℕ) → i < vec_len order.now.states →
-        slice_index merged.now.leaders.items (slice_index order.now.states.items i) < size table.now }
+        slice_index merged.now.leaders.items (slice_index order.now.states.items i)
+        < size table.now }
     ensures len { IfOk result (λ v. vec_len v ≡ vec_len order.now.states) }
     ensures marks { IfOk result (λ v. (i : ℕ) → i < vec_len order.now.states →
         mark_in v.items i ≡ mark table.now

@@ -23,7 +23,8 @@ pub struct Rows {
     /// The rows of the list, each once.
     distinct: IndexSet<Row>,
     ghost wide: { AreWide distinct.keys },
-    ghost placed: { (i : ℕ) → i < vec_len places → slice_index places.items i < length distinct.keys },
+    ghost placed: { (i : ℕ) → i < vec_len places →
+        slice_index places.items i < length distinct.keys },
 }
 
 impl Rows {

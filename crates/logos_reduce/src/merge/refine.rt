@@ -37,19 +37,19 @@ fn add_all(sources: &mut Vec<usize>, lists: &Vec<Vec<usize>>, t: usize) -> Resul
 /// Returns the states with an edge into a block, perhaps with others, and perhaps more than once.
 fn all_sources(
     alloc: Global,
-    refinement: &Refinement,
+    parts: &Refinement,
     from: &Vec<Vec<usize>>,
     b: usize,
 ) -> Result<Vec<usize>, AllocError>
-    requires b_in { b < vec_len refinement.now.cuts.splits }
-    requires len { vec_len from.now ≡ vec_len refinement.now.filing.blocks }
-    ensures { IfOk result (λ v. (t s : ℕ) → t < vec_len refinement.now.filing.blocks →
-        slice_index refinement.now.filing.blocks.items t ≡ b →
+    requires b_in { b < vec_len parts.now.cuts.splits }
+    requires len { vec_len from.now ≡ vec_len parts.now.filing.blocks }
+    ensures { IfOk result (λ v. (t s : ℕ) → t < vec_len parts.now.filing.blocks →
+        slice_index parts.now.filing.blocks.items t ≡ b →
         has_in from.now.items t s ≡ true → has v.items s ≡ true) }
 {
     let mut sources = Vec::new(alloc);
-    for t in &refinement.filing.lists[b] {
-        if *t < refinement.filing.blocks.len() && refinement.filing.blocks[*t] == b {
+    for t in &parts.filing.lists[b] {
+        if *t < parts.filing.blocks.len() && parts.filing.blocks[*t] == b {
             add_all(&mut sources, from, *t)?;
         }
     }
@@ -70,17 +70,17 @@ fn without_repeats(alloc: Global, list: &Vec<usize>) -> Result<Vec<usize>, Alloc
 /// Returns the states with an edge into a block, perhaps with others.
 fn sources_of(
     alloc: Global,
-    refinement: &Refinement,
+    parts: &Refinement,
     from: &Vec<Vec<usize>>,
     b: usize,
 ) -> Result<Vec<usize>, AllocError>
-    requires b_in { b < vec_len refinement.now.cuts.splits }
-    requires len { vec_len from.now ≡ vec_len refinement.now.filing.blocks }
-    ensures { IfOk result (λ v. (t s : ℕ) → t < vec_len refinement.now.filing.blocks →
-        slice_index refinement.now.filing.blocks.items t ≡ b →
+    requires b_in { b < vec_len parts.now.cuts.splits }
+    requires len { vec_len from.now ≡ vec_len parts.now.filing.blocks }
+    ensures { IfOk result (λ v. (t s : ℕ) → t < vec_len parts.now.filing.blocks →
+        slice_index parts.now.filing.blocks.items t ≡ b →
         has_in from.now.items t s ≡ true → has v.items s ≡ true) }
 {
-    let mut all = all_sources(alloc, refinement, from, b)?;
+    let mut all = all_sources(alloc, parts, from, b)?;
     all.sort_unstable();
     let once = without_repeats(alloc, &all)?;
     Ok(once)
@@ -132,38 +132,43 @@ fn hits_of(
 fn split_by_symbol(
     alloc: Global,
     table: &Table,
-    refinement: Refinement,
+    parts: Refinement,
     by: &Splitter,
     k: usize,
 ) -> Result<Refinement, AllocError>
     requires k_in { k < 257 }
-    requires len { vec_len refinement.filing.blocks ≡ size table.now }
-    requires block_in { by.now.block < vec_len refinement.cuts.splits }
+    requires len { vec_len parts.filing.blocks ≡ size table.now }
+    requires block_in { by.now.block < vec_len parts.cuts.splits }
     requires sources { AreSources (size table.now)
-        (target_block table.now (slice_index refinement.filing.blocks.items)) by.now.sources.items by.now.block }
-    requires sound { IsSound table.now refinement.cuts.splits.items (slice_index refinement.filing.blocks.items) }
-    ensures len { IfOk result (λ w. vec_len w.filing.blocks ≡ vec_len refinement.filing.blocks) }
-    ensures lists_len { IfOk result (λ w. vec_len w.filing.lists ≡ vec_len refinement.filing.lists) }
+        (target_block table.now (slice_index parts.filing.blocks.items))
+        by.now.sources.items by.now.block }
+    requires sound { IsSound table.now parts.cuts.splits.items
+        (slice_index parts.filing.blocks.items) }
+    ensures len { IfOk result (λ w. vec_len w.filing.blocks ≡ vec_len parts.filing.blocks) }
+    ensures lists_len { IfOk result (λ w. vec_len w.filing.lists ≡ vec_len parts.filing.lists) }
     ensures sound { IfOk result (λ w.
         IsSound table.now w.cuts.splits.items (slice_index w.filing.blocks.items)) }
     ensures finer { IfOk result (λ w.
-        IsFiner (size table.now) (slice_index w.filing.blocks.items) (slice_index refinement.filing.blocks.items)) }
+        IsFiner (size table.now) (slice_index w.filing.blocks.items)
+        (slice_index parts.filing.blocks.items)) }
     ensures falls { IfOk result (λ w.
         2 * (vec_len w.filing.lists - vec_len w.cuts.splits) + vec_len w.cuts.hints.todo
-        ≤ 2 * (vec_len refinement.filing.lists - vec_len refinement.cuts.splits) + vec_len refinement.cuts.hints.todo) }
+        ≤ 2 * (vec_len parts.filing.lists - vec_len parts.cuts.splits)
+        + vec_len parts.cuts.hints.todo) }
     ensures block_in { IfOk result (λ w. by.now.block < vec_len w.cuts.splits) }
     ensures sources { IfOk result
         (λ w. AreSources (size table.now)
-        (target_block table.now (slice_index w.filing.blocks.items)) by.now.sources.items by.now.block) }
+        (target_block table.now (slice_index w.filing.blocks.items))
+        by.now.sources.items by.now.block) }
 {
     if !by.used[k] {
-        return Ok(refinement);
+        return Ok(parts);
     }
-    let hits = hits_of(alloc, table, &refinement.filing.blocks, by, k)?;
+    let hits = hits_of(alloc, table, &parts.filing.blocks, by, k)?;
     if hits.is_empty() {
-        return Ok(refinement);
+        return Ok(parts);
     }
-    let split = split_on(alloc, refinement, &hits, k)?;
+    let split = split_on(alloc, parts, &hits, k)?;
     Ok(split)
 }
 
@@ -197,25 +202,29 @@ fn symbols_into(table: &Table, blocks: &Vec<usize>, sources: &Vec<usize>, b: usi
 fn split_by_block(
     alloc: Global,
     table: &Table,
-    refinement: Refinement,
+    parts: Refinement,
     by: &Splitter,
 ) -> Result<Refinement, AllocError>
-    requires len { vec_len refinement.filing.blocks ≡ size table.now }
-    requires block_in { by.now.block < vec_len refinement.cuts.splits }
+    requires len { vec_len parts.filing.blocks ≡ size table.now }
+    requires block_in { by.now.block < vec_len parts.cuts.splits }
     requires sources { AreSources (size table.now)
-        (target_block table.now (slice_index refinement.filing.blocks.items)) by.now.sources.items by.now.block }
-    requires sound { IsSound table.now refinement.cuts.splits.items (slice_index refinement.filing.blocks.items) }
-    ensures len { IfOk result (λ w. vec_len w.filing.blocks ≡ vec_len refinement.filing.blocks) }
-    ensures lists_len { IfOk result (λ w. vec_len w.filing.lists ≡ vec_len refinement.filing.lists) }
+        (target_block table.now (slice_index parts.filing.blocks.items))
+        by.now.sources.items by.now.block }
+    requires sound { IsSound table.now parts.cuts.splits.items
+        (slice_index parts.filing.blocks.items) }
+    ensures len { IfOk result (λ w. vec_len w.filing.blocks ≡ vec_len parts.filing.blocks) }
+    ensures lists_len { IfOk result (λ w. vec_len w.filing.lists ≡ vec_len parts.filing.lists) }
     ensures sound { IfOk result (λ w.
         IsSound table.now w.cuts.splits.items (slice_index w.filing.blocks.items)) }
     ensures finer { IfOk result (λ w.
-        IsFiner (size table.now) (slice_index w.filing.blocks.items) (slice_index refinement.filing.blocks.items)) }
+        IsFiner (size table.now) (slice_index w.filing.blocks.items)
+        (slice_index parts.filing.blocks.items)) }
     ensures falls { IfOk result (λ w.
         2 * (vec_len w.filing.lists - vec_len w.cuts.splits) + vec_len w.cuts.hints.todo
-        ≤ 2 * (vec_len refinement.filing.lists - vec_len refinement.cuts.splits) + vec_len refinement.cuts.hints.todo) }
+        ≤ 2 * (vec_len parts.filing.lists - vec_len parts.cuts.splits)
+        + vec_len parts.cuts.hints.todo) }
 {
-    let mut split = refinement;
+    let mut split = parts;
     for k in 0..WIDTH {
         split = split_by_symbol(alloc, table, split, by, k)?;
     }
@@ -304,33 +313,36 @@ fn look_at(
     alloc: Global,
     table: &Table,
     from: &Vec<Vec<usize>>,
-    refinement: Refinement,
+    parts: Refinement,
     b: usize,
 ) -> Result<Refinement, AllocError>
-    requires len { vec_len refinement.filing.blocks ≡ size table.now }
+    requires len { vec_len parts.filing.blocks ≡ size table.now }
     requires from_len { vec_len from.now ≡ size table.now }
     requires from { ArePredecessors (size table.now) 257 (to table.now) from.now.items }
-    requires sound { IsSound table.now refinement.cuts.splits.items (slice_index refinement.filing.blocks.items) }
+    requires sound { IsSound table.now parts.cuts.splits.items
+        (slice_index parts.filing.blocks.items) }
     ensures len { IfOk result (λ w. vec_len w.filing.blocks ≡ size table.now) }
     ensures sound { IfOk result (λ w.
         IsSound table.now w.cuts.splits.items (slice_index w.filing.blocks.items)) }
     ensures finer { IfOk result (λ w.
-        IsFiner (size table.now) (slice_index w.filing.blocks.items) (slice_index refinement.filing.blocks.items)) }
+        IsFiner (size table.now) (slice_index w.filing.blocks.items)
+        (slice_index parts.filing.blocks.items)) }
     ensures falls { IfOk result (λ w.
         2 * (vec_len w.filing.lists - vec_len w.cuts.splits) + vec_len w.cuts.hints.todo
-        ≤ 2 * (vec_len refinement.filing.lists - vec_len refinement.cuts.splits) + vec_len refinement.cuts.hints.todo) }
+        ≤ 2 * (vec_len parts.filing.lists - vec_len parts.cuts.splits)
+        + vec_len parts.cuts.hints.todo) }
 {
-    if refinement.cuts.splits.len() <= b {
-        return Ok(refinement);
+    if parts.cuts.splits.len() <= b {
+        return Ok(parts);
     }
-    let sources = sources_of(alloc, &refinement, from, b)?;
-    let used = symbols_into(table, &refinement.filing.blocks, &sources, b);
+    let sources = sources_of(alloc, &parts, from, b)?;
+    let used = symbols_into(table, &parts.filing.blocks, &sources, b);
     let by = Splitter {
         block: b,
         sources,
         used,
     };
-    let mut split = split_by_block(alloc, table, refinement, &by)?;
+    let mut split = split_by_block(alloc, table, parts, &by)?;
     split.finish(b);
     Ok(split)
 }
@@ -340,19 +352,21 @@ fn look_at_all(
     alloc: Global,
     table: &Table,
     from: &Vec<Vec<usize>>,
-    refinement: Refinement,
+    parts: Refinement,
 ) -> Result<Refinement, AllocError>
-    requires len { vec_len refinement.filing.blocks ≡ size table.now }
+    requires len { vec_len parts.filing.blocks ≡ size table.now }
     requires from_len { vec_len from.now ≡ size table.now }
     requires from { ArePredecessors (size table.now) 257 (to table.now) from.now.items }
-    requires sound { IsSound table.now refinement.cuts.splits.items (slice_index refinement.filing.blocks.items) }
+    requires sound { IsSound table.now parts.cuts.splits.items
+        (slice_index parts.filing.blocks.items) }
     ensures len { IfOk result (λ w. vec_len w.filing.blocks ≡ size table.now) }
     ensures sound { IfOk result (λ w.
         IsSound table.now w.cuts.splits.items (slice_index w.filing.blocks.items)) }
     ensures finer { IfOk result (λ w.
-        IsFiner (size table.now) (slice_index w.filing.blocks.items) (slice_index refinement.filing.blocks.items)) }
+        IsFiner (size table.now) (slice_index w.filing.blocks.items)
+        (slice_index parts.filing.blocks.items)) }
 {
-    let mut split = refinement;
+    let mut split = parts;
     while let Some(b) = split.next() {
         split = look_at(alloc, table, from, split, b)?;
     }
@@ -373,7 +387,7 @@ pub fn refine(alloc: Global, table: &Table, blocks: Blocks) -> Result<Blocks, Al
     }
     let from = predecessors(alloc, table, WIDTH)?;
     let room = blocks.splits.len().max(table.len());
-    let refinement = start(alloc, blocks, room)?;
-    let split = look_at_all(alloc, table, &from, refinement)?;
+    let parts = start(alloc, blocks, room)?;
+    let split = look_at_all(alloc, table, &from, parts)?;
     Ok(split.into_blocks())
 }

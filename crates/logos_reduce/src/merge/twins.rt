@@ -55,12 +55,7 @@ fn homes_of(
 }
 
 /// Makes a new block for a block, if some but not all of its states are hit and it has none yet.
-fn add_twin(
-    cuts: &mut Cuts,
-    fresh: usize,
-    block: usize,
-    symbol: usize,
-) -> Result<(), AllocError>
+fn add_twin(cuts: &mut Cuts, fresh: usize, block: usize, symbol: usize) -> Result<(), AllocError>
     requires room { vec_len cuts.old.twins ≡ vec_len cuts.old.hints.sizes }
     requires fits { vec_len cuts.old.splits ≤ vec_len cuts.old.twins }
     requires older { fresh ≤ vec_len cuts.old.splits }
@@ -72,7 +67,8 @@ fn add_twin(
     ensures fits { OnOk result (vec_len cuts.new.splits ≤ vec_len cuts.old.twins) }
     ensures todo { OnOk result (vec_len cuts.new.hints.todo + vec_len cuts.old.splits
         ≤ vec_len cuts.old.hints.todo + vec_len cuts.new.splits) }
-    ensures below { OnOk result ((c : ℕ) → slice_index cuts.new.twins.items c < vec_len cuts.new.splits) }
+    ensures below { OnOk result ((c : ℕ) →
+        slice_index cuts.new.twins.items c < vec_len cuts.new.splits) }
     ensures twins { OnOk result (AreTwins fresh symbol cuts.new.twins.items cuts.new.splits.items) }
     ensures goes_on { OnOk result (Continues cuts.old.splits.items cuts.new.splits.items) }
 {
@@ -89,11 +85,7 @@ fn add_twin(
 }
 
 /// Makes a new block for each block of which some but not all states are hit.
-fn add_twins(
-    cuts: &mut Cuts,
-    homes: &Vec<usize>,
-    symbol: usize,
-) -> Result<(), AllocError>
+fn add_twins(cuts: &mut Cuts, homes: &Vec<usize>, symbol: usize) -> Result<(), AllocError>
     requires room { vec_len cuts.old.twins ≡ vec_len cuts.old.hints.sizes }
     requires fits { vec_len cuts.old.splits ≤ vec_len cuts.old.twins }
     requires homes_in { (i : ℕ) → i < vec_len homes.now →
@@ -104,7 +96,8 @@ fn add_twins(
     ensures fits { OnOk result (vec_len cuts.new.splits ≤ vec_len cuts.old.twins) }
     ensures todo { OnOk result (vec_len cuts.new.hints.todo + vec_len cuts.old.splits
         ≤ vec_len cuts.old.hints.todo + vec_len cuts.new.splits) }
-    ensures below { OnOk result ((c : ℕ) → slice_index cuts.new.twins.items c < vec_len cuts.new.splits) }
+    ensures below { OnOk result ((c : ℕ) →
+        slice_index cuts.new.twins.items c < vec_len cuts.new.splits) }
     ensures twins { OnOk result
         (AreTwins (vec_len cuts.old.splits) symbol cuts.new.twins.items cuts.new.splits.items) }
     ensures goes_on { OnOk result (Continues cuts.old.splits.items cuts.new.splits.items) }
@@ -119,9 +112,9 @@ fn add_twins(
 /// Forgets the hits of these blocks.
 fn forget_all(hints: &mut Hints, homes: &Vec<usize>)
     requires { (i : ℕ) → i < vec_len homes.now →
-        slice_index homes.now.items i < vec_len cuts.old.hints.sizes }
-    ensures todo { vec_len cuts.new.hints.todo ≡ vec_len cuts.old.hints.todo }
-    ensures sizes { vec_len cuts.new.hints.sizes ≡ vec_len cuts.old.hints.sizes }
+        slice_index homes.now.items i < vec_len hints.old.sizes }
+    ensures todo { vec_len hints.new.todo ≡ vec_len hints.old.todo }
+    ensures sizes { vec_len hints.new.sizes ≡ vec_len hints.old.sizes }
 {
     for home in homes {
         hints.forget(*home);
@@ -129,14 +122,11 @@ fn forget_all(hints: &mut Hints, homes: &Vec<usize>)
 }
 
 /// Moves a state to a block.
-fn move_to(
-    filing: &mut Filing,
-    s: usize,
-    block: usize,
-) -> Result<(), AllocError>
+fn move_to(filing: &mut Filing, s: usize, block: usize) -> Result<(), AllocError>
     requires s_in { s < vec_len filing.old.blocks }
     requires block_in { block < vec_len filing.old.lists }
-    requires filed { AreFiled (vec_len filing.old.blocks) (slice_index filing.old.blocks.items) filing.old.lists.items }
+    requires filed { AreFiled (vec_len filing.old.blocks)
+        (slice_index filing.old.blocks.items) filing.old.lists.items }
     ensures len { vec_len filing.new.blocks ≡ vec_len filing.old.blocks }
     ensures lists_len { vec_len filing.new.lists ≡ vec_len filing.old.lists }
     ensures moved { OnOk result (slice_index filing.new.blocks.items s ≡ block) }
@@ -160,7 +150,8 @@ fn move_hit(
     requires s_in { s < vec_len filing.old.blocks }
     requires room { fresh ≤ vec_len twins.now }
     requires twins_in { (c : ℕ) → slice_index twins.now.items c < vec_len filing.old.lists }
-    requires filed { AreFiled (vec_len filing.old.blocks) (slice_index filing.old.blocks.items) filing.old.lists.items }
+    requires filed { AreFiled (vec_len filing.old.blocks)
+        (slice_index filing.old.blocks.items) filing.old.lists.items }
     ensures len { vec_len filing.new.blocks ≡ vec_len filing.old.blocks }
     ensures lists_len { vec_len filing.new.lists ≡ vec_len filing.old.lists }
     ensures landed { OnOk result (slice_index filing.new.blocks.items s
@@ -190,10 +181,12 @@ fn move_hits(
 ) -> Result<(), AllocError>
     requires hits_in { (i : ℕ) → i < vec_len hits.now →
         slice_index hits.now.items i < vec_len filing.old.blocks }
-    requires homes_in { (s : ℕ) → s < vec_len filing.old.blocks → slice_index filing.old.blocks.items s < fresh }
+    requires homes_in { (s : ℕ) → s < vec_len filing.old.blocks →
+        slice_index filing.old.blocks.items s < fresh }
     requires room { fresh ≤ vec_len twins.now }
     requires twins_in { (c : ℕ) → slice_index twins.now.items c < vec_len filing.old.lists }
-    requires filed { AreFiled (vec_len filing.old.blocks) (slice_index filing.old.blocks.items) filing.old.lists.items }
+    requires filed { AreFiled (vec_len filing.old.blocks)
+        (slice_index filing.old.blocks.items) filing.old.lists.items }
     ensures len { vec_len filing.new.blocks ≡ vec_len filing.old.blocks }
     ensures lists_len { vec_len filing.new.lists ≡ vec_len filing.old.lists }
     ensures moved { OnOk result (HaveMoved (vec_len filing.old.blocks)
@@ -224,29 +217,30 @@ pub struct Refinement {
 /// Cuts the blocks by the hit states, which lead into one block by the symbol.
 pub fn split_on(
     alloc: Global,
-    refinement: Refinement,
+    parts: Refinement,
     hits: &Vec<usize>,
     symbol: usize,
 ) -> Result<Refinement, AllocError>
     requires hits_in { (i : ℕ) → i < vec_len hits.now →
-        slice_index hits.now.items i < vec_len refinement.filing.blocks }
-    ensures len { IfOk result (λ w. vec_len w.filing.blocks ≡ vec_len refinement.filing.blocks) }
-    ensures lists_len { IfOk result (λ w. vec_len w.filing.lists ≡ vec_len refinement.filing.lists) }
+        slice_index hits.now.items i < vec_len parts.filing.blocks }
+    ensures len { IfOk result (λ w. vec_len w.filing.blocks ≡ vec_len parts.filing.blocks) }
+    ensures lists_len { IfOk result (λ w. vec_len w.filing.lists ≡ vec_len parts.filing.lists) }
     ensures moved { IfOk result (λ w.
-        HaveMoved (vec_len refinement.filing.blocks) (vec_len hits.now)
-        (vec_len refinement.cuts.splits) refinement.filing.blocks.items w.filing.blocks.items
+        HaveMoved (vec_len parts.filing.blocks) (vec_len hits.now)
+        (vec_len parts.cuts.splits) parts.filing.blocks.items w.filing.blocks.items
         w.cuts.twins.items hits.now.items w.filing.lists.items) }
     ensures twins { IfOk result (λ w.
-        AreTwins (vec_len refinement.cuts.splits) symbol w.cuts.twins.items w.cuts.splits.items) }
-    ensures goes_on { IfOk result (λ w. Continues refinement.cuts.splits.items w.cuts.splits.items) }
+        AreTwins (vec_len parts.cuts.splits) symbol w.cuts.twins.items w.cuts.splits.items) }
+    ensures goes_on { IfOk result (λ w. Continues parts.cuts.splits.items w.cuts.splits.items) }
     ensures falls { IfOk result (λ w.
         2 * (vec_len w.filing.lists - vec_len w.cuts.splits) + vec_len w.cuts.hints.todo
-        ≤ 2 * (vec_len refinement.filing.lists - vec_len refinement.cuts.splits) + vec_len refinement.cuts.hints.todo) }
+        ≤ 2 * (vec_len parts.filing.lists - vec_len parts.cuts.splits)
+        + vec_len parts.cuts.hints.todo) }
 {
     let Refinement {
         mut filing,
         mut cuts,
-    } = refinement;
+    } = parts;
     let fresh = cuts.splits.len();
     let homes = homes_of(alloc, &mut cuts.hints, &filing.blocks, hits)?;
     add_twins(&mut cuts, &homes, symbol)?;

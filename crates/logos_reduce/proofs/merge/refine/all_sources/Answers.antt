@@ -5,7 +5,7 @@ use Rattle.logos_reduce.proofs.merge.refine.all_sources.Goals as goal
 
 pub returns : goal.returns
 returns c = λ t s l e h.
-    let w = c.args.refinement.now in
+    let w = c.args.parts.now in
     let filed = ap (λ (b : ℕ). has_in w.filing.lists.items b t) (sym e) ∙ w.filed t l in
     let at = sym (has_in-get w.filing.lists.items c.args.b c.index.result.now t (omega arith) c.index.ensures) ∙ filed in
     let p = has_index c.index.result.now.items t at in

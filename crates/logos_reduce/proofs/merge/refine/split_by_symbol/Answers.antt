@@ -7,9 +7,9 @@ use Rattle.logos_reduce.proofs.merging.HistoryLemmas.{sound-extended, finer-exte
 use Rattle.logos_reduce.proofs.merge.refine.split_by_symbol.Goals as goal
 
 extension : (c : goal.After-drop-hits-2) →
-    IsExtension c.args.table.now c.args.refinement.cuts.splits.items c.in_ok-split.split.cuts.splits.items (slice_index c.args.refinement.filing.blocks.items) (slice_index c.in_ok-split.split.filing.blocks.items)
+    IsExtension c.args.table.now c.args.parts.cuts.splits.items c.in_ok-split.split.cuts.splits.items (slice_index c.args.parts.filing.blocks.items) (slice_index c.in_ok-split.split.filing.blocks.items)
 extension c =
-    let w = c.args.refinement in
+    let w = c.args.parts in
     let x = c.in_ok-split.split in
     let hits = c.in_ok-hits.hits in
     let states : vec_len w.filing.blocks ≡ size c.args.table.now = c.requires.len in
