@@ -29,7 +29,7 @@ impl Graph<'_> {
         ensures { IfOk result (λ telling.
             IsEvidence self.now.states s.0 t.0 telling.bytes.items telling.at_end) }
     {
-        let (bytes, at_end) = self.reduced().telling(alloc, s.0, t.0)?;
+        let (bytes, at_end) = self.reduced().evidence(alloc, s.0, t.0)?;
         Ok(Telling { bytes, at_end })
     }
 
