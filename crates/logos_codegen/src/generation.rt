@@ -12,6 +12,7 @@ ghost use Rattle.logos_pattern.specs.Leaf.{kind_value};
 ghost use Rattle.logos_leaf.specs.Sources.{utf8_mode};
 ghost use Rattle.logos_graph.specs.GraphOf.{IsGraphOf};
 ghost use Rattle.logos_graph.specs.View.{rules_of};
+ghost use Rattle.logos_generator.specs.GeneratorValue.{KeepsGiven};
 ghost use Rattle.logos_code.specs.Headline.{IsLexer};
 ghost use Rattle.logos_source.specs.Analyses.{HasItsType};
 ghost use Rattle.logos_source.specs.AnalysisViews.{analysis_view};
@@ -43,6 +44,7 @@ use logos_text::{Around, gap_after, text_in};
 use logos_token::error::{Errors, FaultCode, Memory};
 use logos_token::token::{Ident, Span, TokenStream, print};
 use logos_token::util::MaybeVoid;
+use logos_type::TypeExpr;
 use std::alloc::Global;
 use std::mem;
 
@@ -262,6 +264,29 @@ fn callback_in<'p, 's>(parser: &'p Parser<'s>) -> Option<&'p Callback<'s>>
     }
 }
 
+/// Makes the code of a graph that finds the longest matches, for the enum with this name and type.
+fn code_for<'g, 's>(
+    alloc: Global,
+    config: Config,
+    name: Ident<'s>,
+    this: &'g TypeExpr<'s>,
+    graph: &'g Graph<'s>,
+    callback: Option<&'g Callback<'s>>,
+) -> Result<Code<'s>, Memory>
+    requires of_leaves { IsGraphOf graph.now.leaves graph.now.utf8 graph.now }
+    requires faultless { graph.now.faults ≡ [] }
+    ensures lexer { IfOk result (IsLexer (rules_of graph.now.leaves) graph.now.utf8) }
+    ensures keeps { IfOk result (KeepsGiven (record {
+      shape = config;
+      name = name.entry;
+      this = this.now;
+      error_callback = option_copied callback.entry;
+    }) graph.now) }
+{
+    let mut generator = Generator::new(alloc, config, name, this, graph, callback);
+    generator.generate(alloc)
+}
+
 /// Makes the code of a graph that finds the longest matches, for the enum of an analysis.
 fn code_of<'s>(
     alloc: Global,
@@ -278,8 +303,7 @@ fn code_of<'s>(
 {
     let callback = callback_in(&analysis.parser);
     let name = analysis.name;
-    let mut generator = Generator::new(alloc, config, name, &analysis.this, graph, callback);
-    generator.generate(alloc)
+    code_for(alloc, config, name, &analysis.this, graph, callback)
 }
 
 /// Analyzes a source, and builds the graph of its leaves, which are taken out of the analysis. Fails
