@@ -73,12 +73,8 @@ fn carry_out<'w, F: Files, O: Write>(
         Command::Text { file, config } => {
             write_lexer(alloc, file, Asked::Text(config), files, out)
         }
-        Command::Chart { file } => {
-            write_lexer(alloc, file, Asked::Chart, files, out)
-        }
-        Command::Export { file } => {
-            write_lexer(alloc, file, Asked::Export, files, out)
-        }
+        Command::Chart { file } => { write_lexer(alloc, file, Asked::Chart, files, out) }
+        Command::Export { file } => { write_lexer(alloc, file, Asked::Export, files, out) }
         Command::Strip { file } => write_stripped(alloc, file, files, out),
     }
 }

@@ -93,11 +93,7 @@ fn placed<'f, 's>(
 }
 
 /// Adds what is shown of an enum.
-fn push_enum(
-    alloc: Global,
-    pages: &mut Pages,
-    one: PlacedEnum<'_, '_>,
-) -> Result<(), Stop<'static>>
+fn push_enum(alloc: Global, pages: &mut Pages, one: PlacedEnum<'_, '_>) -> Result<(), Stop<'static>>
     ensures { IfErr result IsNoMisuse }
 {
     push_warnings(alloc, &mut pages.warnings, one)?;

@@ -7,7 +7,7 @@ pub returns-then-is_empty-clause-done : goal.returns-then-is_empty-clause-done
 returns-then-is_empty-clause-done c =
     let gathered = c.in_ok-gathered.gathered in
     let none : gathered.refused.items ≡ [] =
-        nil_from_length gathered.refused.items (omega (arith, gathered.refused.ok.0, eqb-true _ _ (sym c.is_empty.ensures ∙ c.if-is_empty.true))) in
+    nil_from_length gathered.refused.items (omega (arith, gathered.refused.ok.0, eqb-true _ _ (sym c.is_empty.ensures ∙ c.if-is_empty.true))) in
     expanded_all c.args.config c.args.file.text.now _ c.args.found.now gathered c.requires.enums c.in_ok-gathered.ensures.gathers none
     (rw c.deref.ensures.value at c.in_ok-replace.ensures)
 
