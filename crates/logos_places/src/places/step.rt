@@ -62,7 +62,10 @@ fn step_byte(
         next.old.items next.new.items spot.base spot.entered left) }
 {
     let left = has_mark(by.marks, spot.base);
-    if !(spot.entered & fits) {
+    if !spot.entered {
+        return Ok(left);
+    }
+    if !fits {
         return Ok(left);
     }
     next.push(spot.base)?;

@@ -14,7 +14,7 @@ use Rattle.logos_places.proofs.places.exits.+exits.Goals as goal
 
 pub exits-returns-then-not-any_mark : goal.exits-returns-then-not-any_mark
 exits-returns-then-not-any_mark t c =
-    rw c.if-not-entered.true
+    rw c.if-not-spot.true
     (exits_nothing (core_of c.args.node.now) (test_at c.args.at) _
     (λ q lt has. true≢false (sym (c.any_mark.ensures.1 (q, omega (arith, lt, c.width.ensures), has)) ∙ c.if-not-any_mark.true)))
 
@@ -79,7 +79,7 @@ exits-returns-in-Alt t c =
 
 pub exits-returns-in-Repeat : goal.exits-returns-in-Repeat
 exits-returns-in-Repeat t c =
-    rw (ap core_of c.in-Repeat.is ∙ core-Repeat _ _ _ _) (rw (c.new-copies.ensures.base, c.new-copies.ensures.count) at (rw c.deref-in-Repeat.ensures at c.exits_repeat.ensures))
+    rw (ap core_of c.in-Repeat.is ∙ core-Repeat _ _ _ _) (rw (c.new-copies.ensures.base, c.new-copies.ensures.count, c.new-copies.ensures.entered) at (rw c.deref-in-Repeat.ensures at c.exits_repeat.ensures))
 
 pub exits_copies-loop-done-init : goal.exits_copies-loop-done-init
 exits_copies-loop-done-init t c =
@@ -162,8 +162,8 @@ exits-exits-left-requires t c =
       (rw c.deref-in-Cat.ensures (omega (arith, fits, w, p.split_is, p.whole_is)), (rw c.deref-in-Cat.ensures p.first, c.requires.rising)),
     )
 
-pub exits-overflow_add-base : goal.exits-overflow_add-base
-exits-overflow_add-base t c =
+pub exits-overflow_add-after : goal.exits-overflow_add-after
+exits-overflow_add-after t c =
     let h = rw c.in-Cat.is at c.requires.measured in
     let p = pair-Cat _ _ c.in-Cat.first c.in-Cat.second h in
     let fits = rw c.in-Cat.is at c.requires.fits in
@@ -180,8 +180,8 @@ exits-exits-one-requires t c =
       (rw c.deref-in-Alt.ensures (omega (arith, fits, w, p.split_is, p.whole_is)), (rw c.deref-in-Alt.ensures p.first, c.requires.rising)),
     )
 
-pub exits-overflow_add-base-in-Alt : goal.exits-overflow_add-base-in-Alt
-exits-overflow_add-base-in-Alt t c =
+pub exits-overflow_add-beside : goal.exits-overflow_add-beside
+exits-overflow_add-beside t c =
     let h = rw c.in-Alt.is at c.requires.measured in
     let p = pair-Alt _ _ c.in-Alt.first c.in-Alt.second h in
     let fits = rw c.in-Alt.is at c.requires.fits in
@@ -200,11 +200,11 @@ exits-returns-in-Bytes t c = rw (ap core_of c.in-Bytes.is ∙ core-Bytes _) (sea
 pub exits-returns-in-Characters : goal.exits-returns-in-Characters
 exits-returns-in-Characters t c = rw (ap core_of c.in-Characters.is ∙ core-Characters _) (search rules)
 
-pub exits-returns-then-entered : goal.exits-returns-then-entered
-exits-returns-then-entered t c = rw (ap core_of c.in-Look.is ∙ core-Look _) (search rules)
+pub exits-returns-then-spot : goal.exits-returns-then-spot
+exits-returns-then-spot t c = rw (ap core_of c.in-Look.is ∙ core-Look _) (search rules)
 
-pub exits-returns-else-entered : goal.exits-returns-else-entered
-exits-returns-else-entered t c = rw (ap core_of c.in-Look.is ∙ core-Look _) (search rules)
+pub exits-returns-else-spot : goal.exits-returns-else-spot
+exits-returns-else-spot t c = rw (ap core_of c.in-Look.is ∙ core-Look _) (search rules)
 
 pub exits_repeat-overflow_mul-rest : goal.exits_repeat-overflow_mul-rest
 exits_repeat-overflow_mul-rest t c =
@@ -218,14 +218,14 @@ exits_repeat-overflow_add-rest t c =
     let order = rw c.in-Some.is at c.requires.count in
     omega (arith, fits, mul-le-mul_left c.args.copies.each order.0)
 
-pub exits_repeat-overflow_mul-copies : goal.exits_repeat-overflow_mul-copies
-exits_repeat-overflow_mul-copies t c =
+pub exits_repeat-overflow_mul-last : goal.exits_repeat-overflow_mul-last
+exits_repeat-overflow_mul-last t c =
     let fits = rw c.in-None.is at c.requires.fits in
     let fewer : c.args.copies.count - 1 ≤ max c.args.copies.count 1 = omega arith in
     omega (arith, fits, mul-le-mul_left c.args.copies.each fewer)
 
-pub exits_repeat-overflow_add-copies : goal.exits_repeat-overflow_add-copies
-exits_repeat-overflow_add-copies t c =
+pub exits_repeat-overflow_add-last : goal.exits_repeat-overflow_add-last
+exits_repeat-overflow_add-last t c =
     let fits = rw c.in-None.is at c.requires.fits in
     let fewer : c.args.copies.count - 1 ≤ max c.args.copies.count 1 = omega arith in
     omega (arith, fits, mul-le-mul_left c.args.copies.each fewer)

@@ -20,7 +20,7 @@ use Rattle.logos_places.proofs.places.step.+step.Goals as goal
 
 pub step-returns-then-not-any_mark : goal.step-returns-then-not-any_mark
 step-returns-then-not-any_mark t c =
-    rw c.if-not-entered.true
+    rw c.if-not-spot.true
     (stepped_nothing (test_at c.args.by.at) c.args.by.byte c.args.by.marks.now (core_of c.args.node.now) _ c.args.spot.base c.requires.set
     (λ q lt has. true≢false (sym (c.any_mark.ensures.1 (q, omega (arith, lt, c.width.ensures), has)) ∙ c.if-not-any_mark.true)))
 
@@ -184,8 +184,8 @@ step-step-requires t c =
       (rw c.deref-in-Cat.ensures (omega (arith, fits, w, p.split_is, p.whole_is)), (rw c.deref-in-Cat.ensures p.first, (c.requires.rising, c.requires.set))),
     )
 
-pub step-overflow_add-base : goal.step-overflow_add-base
-step-overflow_add-base t c =
+pub step-overflow_add-after : goal.step-overflow_add-after
+step-overflow_add-after t c =
     let h = rw c.in-Cat.is at c.requires.measured in
     let p = pair-Cat _ _ c.in-Cat.first c.in-Cat.second h in
     let fits = rw c.in-Cat.is at c.requires.fits in
@@ -213,8 +213,8 @@ step-step-requires-in-Alt t c =
       (rw c.deref-in-Alt.ensures (omega (arith, fits, w, p.split_is, p.whole_is)), (rw c.deref-in-Alt.ensures p.first, (c.requires.rising, c.requires.set))),
     )
 
-pub step-overflow_add-base-in-Alt : goal.step-overflow_add-base-in-Alt
-step-overflow_add-base-in-Alt t c =
+pub step-overflow_add-beside : goal.step-overflow_add-beside
+step-overflow_add-beside t c =
     let h = rw c.in-Alt.is at c.requires.measured in
     let p = pair-Alt _ _ c.in-Alt.first c.in-Alt.second h in
     let fits = rw c.in-Alt.is at c.requires.fits in
@@ -243,11 +243,11 @@ step-returns-in-Void t c = rw (ap core_of c.in-Void.is ∙ core-Void) (search ru
 pub step-returns-in-Empty : goal.step-returns-in-Empty
 step-returns-in-Empty t c = rw (ap core_of c.in-Empty.is ∙ core-Empty) (search rules)
 
-pub step-returns-then-entered : goal.step-returns-then-entered
-step-returns-then-entered t c = rw (ap core_of c.in-Look.is ∙ core-Look _) (search rules)
+pub step-returns-then-spot : goal.step-returns-then-spot
+step-returns-then-spot t c = rw (ap core_of c.in-Look.is ∙ core-Look _) (search rules)
 
-pub step-returns-else-entered : goal.step-returns-else-entered
-step-returns-else-entered t c = rw (ap core_of c.in-Look.is ∙ core-Look _) (search rules)
+pub step-returns-else-spot : goal.step-returns-else-spot
+step-returns-else-spot t c = rw (ap core_of c.in-Look.is ∙ core-Look _) (search rules)
 
 pub step-returns-in-Literal : goal.step-returns-in-Literal
 step-returns-in-Literal t c =
@@ -259,7 +259,7 @@ step-returns-in-Literal t c =
 
 pub step-returns-in-Repeat : goal.step-returns-in-Repeat
 step-returns-in-Repeat t c =
-    rw (ap core_of c.in-Repeat.is ∙ core-Repeat _ _ _ _) (rw (c.new-copies.ensures.base, c.new-copies.ensures.count) at (rw c.deref-in-Repeat.ensures at c.step_repeat.ensures))
+    rw (ap core_of c.in-Repeat.is ∙ core-Repeat _ _ _ _) (rw (c.new-copies.ensures.base, c.new-copies.ensures.count, c.new-copies.ensures.entered) at (rw c.deref-in-Repeat.ensures at c.step_repeat.ensures))
 
 pub step_repeat-overflow_mul-rest : goal.step_repeat-overflow_mul-rest
 step_repeat-overflow_mul-rest t c =
@@ -273,14 +273,14 @@ step_repeat-overflow_add-rest t c =
     let order = rw c.in-Some.is at c.requires.count in
     omega (arith, fits, mul-le-mul_left c.args.copies.each order.0)
 
-pub step_repeat-overflow_mul-copies : goal.step_repeat-overflow_mul-copies
-step_repeat-overflow_mul-copies t c =
+pub step_repeat-overflow_mul-last : goal.step_repeat-overflow_mul-last
+step_repeat-overflow_mul-last t c =
     let fits = rw c.in-None.is at c.requires.fits in
     let fewer : c.args.copies.count - 1 ≤ max c.args.copies.count 1 = omega arith in
     omega (arith, fits, mul-le-mul_left c.args.copies.each fewer)
 
-pub step_repeat-overflow_add-copies : goal.step_repeat-overflow_add-copies
-step_repeat-overflow_add-copies t c =
+pub step_repeat-overflow_add-last : goal.step_repeat-overflow_add-last
+step_repeat-overflow_add-last t c =
     let fits = rw c.in-None.is at c.requires.fits in
     let fewer : c.args.copies.count - 1 ≤ max c.args.copies.count 1 = omega arith in
     omega (arith, fits, mul-le-mul_left c.args.copies.each fewer)

@@ -6,9 +6,9 @@ use Rattle.logos_places.proofs.places.step.step_characters.Given as goal
 
 abbrev pub invariant-loop-i : goal.invariant-loop-i
 invariant-loop-i l = record {
-  starts : StartsFrom l.by.marks.now l.spot.base l.i;
-  set : IsSet l.next.items (l.spot.base + l.table.rows);
-  followed : FollowedTo (reader_of l.table) l.by.byte l.by.marks.now l.fn.next.items l.next.items l.spot.base l.spot.entered l.i;
+  starts : StartsFrom l.by.marks.now l.fn.spot.base l.i;
+  set : IsSet l.next.items (l.fn.spot.base + l.table.rows);
+  followed : FollowedTo (reader_of l.table) l.by.byte l.by.marks.now l.fn.next.items l.next.items l.fn.spot.base l.fn.spot.entered l.i;
 }
 
 abbrev pub decreases-loop-i : goal.decreases-loop-i
