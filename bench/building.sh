@@ -1,7 +1,8 @@
 #!/usr/bin/env bash
 # Measures `generate` on sources that a script makes, and prints a table: the seconds of the call alone, the states of the
-# code, or the fault where there is none, and the most memory that the program used, its source included. Of three runs
-# the fastest counts.
+# code, or the fault where there is none, the most memory that the program used, its source included, and how many times as
+# long it took as the row of 4000 keywords, which grows with its keywords. Of three runs the fastest counts. Rows of long
+# times have a number that they may not pass there: each one that passes it is named at the end, and the status is 1.
 #
 # It needs python3. The program of bench/building is built in a copy of the repository as `rt run` builds it, so the crates are
 # proved first, where they are not already. Its source does not end in .rt here, since the gate refuses such files
@@ -28,20 +29,27 @@ if ! (cd "$crate" && rt run -- "$copy/source") > "$copy/log" 2>&1; then
     exit 1
 fi
 
-# NAME KIND SIZE: a row of the table.
-measure() {
-    python3 "$bench/building/source.py" "$2" "$3" > "$copy/source"
+# KIND SIZE: the fastest of three runs on a source.
+fastest() {
+    python3 "$bench/building/source.py" "$1" "$2" > "$copy/source"
     for _ in 1 2 3; do
         "$crate/out/building_bench" "$copy/source"
-    done | sort -n | head -n 1 | awk -v name="$1" '{
-        printf "| %s | %.3f | %s | %.0f |\n", name, $1, $2, $3 / 1024
+    done | sort -n | head -n 1
+}
+
+# NAME KIND SIZE [MOST]: a row of the table, which may take at most MOST times as long as the row of 4000 keywords.
+measure() {
+    fastest "$2" "$3" | awk -v name="$1" -v linear="$linear" -v most="${4:-0}" -v slow="$copy/slow" '{
+        printf "| %s | %.3f | %s | %.0f | %.2f |\n", name, $1, $2, $3 / 1024, $1 / linear
+        if (most > 0 && $1 > most * linear) print name ": more than " most " times 4000 keywords" > slow
     }'
 }
 
 echo "$(nproc) cores, $(sed -n 's/^model name[^:]*: //p' /proc/cpuinfo | head -n 1)"
 echo
-echo "| Source | Seconds | States | Memory in MiB |"
-echo "|---|---|---|---|"
+linear=$(fastest keywords 4000 | cut -d " " -f 1)
+echo "| Source | Seconds | States | Memory in MiB | Times 4000 keywords |"
+echo "|---|---|---|---|---|"
 for count in 1000 2000 4000 8000; do
     measure "$count keywords" keywords "$count"
 done
@@ -52,3 +60,16 @@ measure "4000 words in one regex" one_regex 4000
 measure "\`a{65000}\`" repeated 65000
 measure "100000 variants, one with a token" plain 100000
 measure "100000 variants with a token each" short 100000
+measure "1000 keywords, names of all scripts" unicode_names 1000 2.5
+measure "SQL: 400 keywords in any case, names in ASCII" sql 400 1
+measure "SQL: 400 keywords in any case, names of all scripts" sql_unicode 400 2
+measure "a language like Rust, names of all scripts" rust_like 0 1
+measure "20 rules of class sets" class_sets 20 7.5
+measure "80 rules of class sets" class_sets 80 7.5
+measure "200 regexes that begin alike" beginnings 200 0.5
+measure "what stands in log lines" log_lines 0 0.2
+measure "249 groups around 520000 branches" groups 520000 1.2
+if [ -e "$copy/slow" ]; then
+    cat "$copy/slow" >&2
+    exit 1
+fi

@@ -52,7 +52,8 @@ def plain(rng, count):
 
 
 def regexes(patterns):
-    return [f'    #[regex(r#"{pattern}"#)]\n    R{number},\n' for number, pattern in enumerate(patterns)]
+    greedy = {pattern: ", allow_greedy = true" if "[^\\n]*" in pattern else "" for pattern in patterns}
+    return [f'    #[regex(r#"{pattern}"#{greedy[pattern]})]\n    R{number},\n' for number, pattern in enumerate(patterns)]
 
 
 def unicode_names(rng, count):
@@ -80,7 +81,7 @@ def sql_unicode(rng, count):
 RUST_WORDS = """abstract as async await become box break const continue crate do dyn else enum extern false final fn for gen if impl in let loop
 macro macro_rules match mod move mut override priv pub raw ref return safe self Self static struct super trait true try type typeof union unsafe
 unsized use virtual where while yield""".split()
-RUST_SIGNS = """+ - * / % ^ ! & | && || << >> += -= *= /= %= ^= &= |= <<= >>= = == != > < >= <= @ _ . .. ... ..= , ; : :: -> <- => # $ ? ~
+RUST_SIGNS = """+ - * / % ^ ! & | && || << >> += -= *= /= %= ^= &= |= <<= >>= = == != > < >= <= @ . .. ... ..= , ; : :: -> <- => # $ ? ~
 ( ) [ ] { }""".split()
 
 
