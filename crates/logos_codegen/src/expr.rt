@@ -77,7 +77,7 @@ pub struct ExprToken<'i> {
 pub enum ExprError {
     /// The enum of the tokenizer is refused. This never happens: a test makes the tokenizer.
     Refused,
-    /// No token begins at the start of the span, and this is the first such place.
+    /// No token begins at the start of the span, and this is the first such offset.
     Bad { span: Span },
     /// Memory ran out.
     Memory,
