@@ -36,7 +36,7 @@ struct Pages {
 
 /// An enum of a file: where it begins there, the lines of the file, its own text, and whether it derives `Logos`.
 #[derive(Clone, Copy)]
-pub(crate) struct PlacedEnum<'f, 's> {
+pub(crate) struct EnumInFile<'f, 's> {
     pub(crate) part: Part<'f, 's>,
     pub(crate) lines: &'f LineIndex<'s>,
     pub(crate) text: &'s str,
@@ -67,7 +67,7 @@ pub(crate) fn shown_of(
         is_colored,
     };
     for one in &found {
-        push_enum(alloc, &mut pages, placed(source, &lines, *one))?;
+        push_enum(alloc, &mut pages, enum_in(source, &lines, *one))?;
     }
     Ok(Shown {
         tables: pages.tables.finish()?,
@@ -75,13 +75,13 @@ pub(crate) fn shown_of(
     })
 }
 
-/// Returns an enum with its place in a file.
-fn placed<'f, 's>(
+/// Returns an enum with its position in a file.
+fn enum_in<'f, 's>(
     source: &'f Source<'s>,
     lines: &'f LineIndex<'s>,
     found: FoundEnum,
-) -> PlacedEnum<'f, 's> {
-    PlacedEnum {
+) -> EnumInFile<'f, 's> {
+    EnumInFile {
         part: Part {
             source,
             offset: found.span.from,
@@ -93,7 +93,7 @@ fn placed<'f, 's>(
 }
 
 /// Adds what is shown of an enum.
-fn push_enum(alloc: Global, pages: &mut Pages, one: PlacedEnum<'_, '_>) -> Result<(), Stop<'static>>
+fn push_enum(alloc: Global, pages: &mut Pages, one: EnumInFile<'_, '_>) -> Result<(), Stop<'static>>
     ensures { IfErr result IsNoMisuse }
 {
     push_warnings(alloc, &mut pages.warnings, one)?;
@@ -107,7 +107,7 @@ fn push_enum(alloc: Global, pages: &mut Pages, one: PlacedEnum<'_, '_>) -> Resul
 fn push_lexer(
     alloc: Global,
     pages: &mut Pages,
-    one: PlacedEnum<'_, '_>,
+    one: EnumInFile<'_, '_>,
 ) -> Result<(), Stop<'static>>
     ensures { IfErr result IsNoMisuse }
 {
@@ -121,7 +121,7 @@ fn push_lexer(
 fn push_made(
     alloc: Global,
     pages: &mut Pages,
-    one: PlacedEnum<'_, '_>,
+    one: EnumInFile<'_, '_>,
     made: &Generated<'_>,
 ) -> Result<(), Stop<'static>>
     ensures { IfErr result IsNoMisuse }

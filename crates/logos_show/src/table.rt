@@ -1,6 +1,6 @@
 //! The leaves of a lexer as a table.
 
-use crate::showing::PlacedEnum;
+use crate::showing::EnumInFile;
 use logos_codegen::Generated;
 use logos_codegen::error::Memory;
 use logos_codegen::leaf::Leaf;
@@ -21,7 +21,7 @@ struct Widths {
 pub(crate) fn push_table(
     alloc: Global,
     page: &mut Page,
-    one: PlacedEnum<'_, '_>,
+    one: EnumInFile<'_, '_>,
     made: &Generated<'_>,
 ) -> Result<(), Memory> {
     let rows = rows_of(alloc, one, made.graph.leaves())?;
@@ -34,7 +34,7 @@ pub(crate) fn push_table(
 /// Returns the rows of the leaves of an enum.
 fn rows_of<'l>(
     alloc: Global,
-    one: PlacedEnum<'_, 'l>,
+    one: EnumInFile<'_, 'l>,
     leaves: &'l [Leaf<'_>],
 ) -> Result<Vec<LeafRow<'l>>, Memory> {
     let mut rows = Vec::new(alloc);
@@ -44,7 +44,7 @@ fn rows_of<'l>(
     Ok(rows)
 }
 
-/// Adds the name of the enum and its place.
+/// Adds the name of the enum and its position.
 fn push_title(page: &mut Page, part: Part<'_, '_>, made: &Generated<'_>) {
     page.push("enum ");
     page.push(made.name.text);

@@ -1,6 +1,6 @@
-//! Warnings, with their places.
+//! Warnings, with the lines of the source that they are about.
 
-use crate::showing::PlacedEnum;
+use crate::showing::EnumInFile;
 use logos_codegen::error::Memory;
 use logos_codegen::graph::Graph;
 use logos_codegen::item::{ItemEnum, ReadError, read_enum};
@@ -14,7 +14,7 @@ use std::alloc::{AllocError, Global};
 pub(crate) fn push_warnings(
     alloc: Global,
     page: &mut Page,
-    one: PlacedEnum<'_, '_>,
+    one: EnumInFile<'_, '_>,
 ) -> Result<(), Memory> {
     let stream = match tokenize(alloc, one.text) {
         Ok(stream) => stream,
@@ -32,7 +32,7 @@ pub(crate) fn push_warnings(
 fn push_item(
     alloc: Global,
     page: &mut Page,
-    one: PlacedEnum<'_, '_>,
+    one: EnumInFile<'_, '_>,
     item: &ItemEnum<'_, '_>,
 ) -> Result<(), Memory> {
     let warnings = warnings_of(alloc, item, one.derives)?;
@@ -51,11 +51,11 @@ fn push_warning(page: &mut Page, part: Part<'_, '_>, name: &str, warning: Warnin
             span,
         } => {
             push_misspelled(page, name, intended);
-            push_place(page, part, span);
+            push_span(page, part, span);
         }
         Warning::Useless { span } => {
             push_message(page, "`logos` has no effect on a variant", "", "");
-            push_place(page, part, span);
+            push_span(page, part, span);
         }
         Warning::NoDerive { span } => {
             push_message(
@@ -64,7 +64,7 @@ fn push_warning(page: &mut Page, part: Part<'_, '_>, name: &str, warning: Warnin
                 name,
                 "` has attributes of a lexer and does not derive `Logos`",
             );
-            push_place(page, part, span);
+            push_span(page, part, span);
         }
     }
 }
@@ -105,7 +105,7 @@ fn push_leaf(page: &mut Page, part: Part<'_, '_>, leaf: &Leaf<'_>) {
         variant_of(&leaf.kind),
         "` is never found: where it matches, others match more or have a higher priority",
     );
-    push_place(page, part, leaf.span);
+    push_span(page, part, leaf.span);
 }
 
 /// Returns the name of the variant of a leaf, or `skip`.
@@ -139,8 +139,8 @@ fn end(page: &mut Page) {
     page.push("\n");
 }
 
-/// Adds the place of a warning, and an empty line.
-fn push_place(page: &mut Page, part: Part<'_, '_>, span: Span) {
+/// Adds the lines of the source at the span of a warning, and an empty line.
+fn push_span(page: &mut Page, part: Part<'_, '_>, span: Span) {
     push_frame(page, part, span, Style::Warning);
     page.push("\n");
 }
