@@ -43,7 +43,7 @@ impl Counts {
         leaves: &[CodeLeaf<'_>],
     ) -> Result<(), AllocError> {
         block.push(b'\n')?;
-        let mut sum = 0;
+        let mut sum: usize = 0;
         for number in 0..leaves.len() {
             sum = push_sum(
                 block,
