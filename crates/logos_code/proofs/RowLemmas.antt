@@ -1,7 +1,7 @@
 -- Rows, and what a state does by its row.
-use Rattle.std.proofs.Common.{◌≡◌, ℕ, zero, suc, ◌+◌, ◌-◌, ◌/◌, ◌%◌, ◌<◌, ◌≤◌, ◌⊎◌, inl, inr, ⊎_elim, ◌++◌, true, false, IfSome, List, [], ◌∷◌, length, drop, get_or, slice_index, slice_index_or, slice_get, Option, Some, None, refl, sym, ap, subst, ◌∙◌, arith, length-drop, Fits, w8}
+use Rattle.std.proofs.Common.{◌≡◌, ℕ, zero, suc, ◌+◌, ◌*◌, ◌-◌, ◌/◌, ◌%◌, ◌<◌, ◌≤◌, ◌⊎◌, inl, inr, ⊎_elim, ◌++◌, true, false, IfSome, List, length, drop, get_or, slice_index, slice_get, set, Option, Some, None, refl, sym, ap, subst, ◌∙◌, arith, length-drop, Fits, w8}
 use Rattle.std.proofs.Math.Facts.{Fits-lt-pow}
-use Rattle.std.proofs.lemmas.List.{length-map, get_or-map, get_or-drop, get_or_append_left, get_or_push}
+use Rattle.std.proofs.lemmas.List.{length-map, get_or-map, get_or-drop, get_or_append_left, get_or-append-add, length-set, get_or-set_same, get_or-set_other}
 use Rattle.std.proofs.lemmas.List.Folds.{length-prefix_len}
 use Rattle.std.proofs.lemmas.List.Sums.{prefix_len_stops}
 use Rattle.std.proofs.lemmas.Option.{get_or_from_slice_get, slice_get-get_or}
@@ -13,11 +13,12 @@ use Rattle.logos_code.specs.Code.{CodeValue, CodeState, Fork}
 use Rattle.logos_code.specs.Headline.{NamesFork, NamesState}
 use Rattle.logos_code.specs.CodeView.{state_at, state_of, code_of, no_state}
 use Rattle.logos_code.specs.Runs.{stays, looped, target}
-use Rattle.logos_code.specs.Rows.{IsStepOf, Says, SaysAtEnd, IsHalting, IsEntry, IsLastEntry, IsRow, AreRows, IsFirstOf, IsFirstRow}
+use Rattle.logos_code.specs.Rows.{IsStepOf, Says, SaysAtEnd, IsHalting, IsEntry, IsLastEntry, IsRow, AreRows, IsFirstOf, IsFirstRow, LeadsToPlace}
 use Rattle.logos_code.proofs.TargetLemmas.{target_there}
+use Rattle.logos_code.specs.declared.code.rows.MatchUse.{MatchUse}
 use Rattle.logos_code.specs.declared.code.rows.MatchUse.TheVariants.{Emits, Skips, Asks}
 use Rattle.logos_code.specs.declared.code.rows.Step.{Step}
-use Rattle.logos_code.specs.declared.code.rows.Step.TheVariants.{Leads, Stays, Closes, Halts, Unsaid}
+use Rattle.logos_code.specs.declared.code.rows.Step.TheVariants.{Leads, Stays, Halts, Looks, Closes, Stuck, Unsaid}
 use Rattle.logos_code.specs.declared.code.CodeParts.{CodeParts}
 use Rattle.logos_code.specs.declared.code.CodeState.{CodeState as TheState}
 
@@ -28,31 +29,54 @@ state_there parts s state h is =
     get_or-map (state_of parts.jump_tables.items) parts.states.items s state no_state h ∙ ap (state_of parts.jump_tables.items) (sym is)
 
 -- one more row
-pub rows_turn : (parts : CodeParts) (rows new : List (List ℕ)) (row : List ℕ) (s : ℕ) (state : TheState) → length rows ≡ s → new ≡ rows ++ row ∷ [] →
+pub rows_turn : (parts : CodeParts) (rows new row : List ℕ) (s : ℕ) (state : TheState) → length rows ≡ 256 * s → new ≡ rows ++ row →
     s < length parts.states.items → state ≡ get_or parts.states.items s state → IsRow (code_of parts) (state_of parts.jump_tables.items state) row →
-    ((k : ℕ) → k < s → IsRow (code_of parts) (state_at (code_of parts) k) (slice_index_or rows k [])) →
-    (k : ℕ) → k < s + 1 → IsRow (code_of parts) (state_at (code_of parts) k) (slice_index_or new k [])
-rows_turn parts rows new row s state long is there here last before k h = ⊎_elim old now (either k s h)
+    ((k b : ℕ) → k < s → b < 256 → IsEntry (code_of parts) (state_at (code_of parts) k) b (slice_index rows (256 * k + b))) →
+    (k b : ℕ) → k < s + 1 → b < 256 → IsEntry (code_of parts) (state_at (code_of parts) k) b (slice_index new (256 * k + b))
+rows_turn parts rows new row s state long is there here last before k b h within = ⊎_elim old now (either k s h)
   where
     either : (a b : ℕ) → a < b + 1 → (a < b) ⊎ (b ≡ a)
     either a b h = grind arith
 
-    old : k < s → IsRow (code_of parts) (state_at (code_of parts) k) (slice_index_or new k [])
-    old l = rw (is, get_or_append_left rows (row ∷ []) [] k (omega (arith, l, long))) (before k l)
+    old : k < s → IsEntry (code_of parts) (state_at (code_of parts) k) b (slice_index new (256 * k + b))
+    old l = rw (is, get_or_append_left rows row 0 (256 * k + b) (omega (arith, l, long, within))) (before k b l within)
 
-    now : s ≡ k → IsRow (code_of parts) (state_at (code_of parts) k) (slice_index_or new k [])
-    now e = subst (λ n. IsRow (code_of parts) (state_at (code_of parts) n) (slice_index_or new n [])) e
-        (rw (state_there parts s state there here, is, get_or_push rows row [] s long) last)
+    added : slice_index new (256 * s + b) ≡ slice_index row b
+    added = rw (is, ← long) (get_or-append-add rows row b 0)
 
--- the row of a state, as it is looked up
-pub row_at : (rows : List (List ℕ)) (s : ℕ) (row : List ℕ) → s < length rows → row ≡ get_or rows s row → slice_index_or rows s [] ≡ row
-row_at rows s row h is = get_or_from_slice_get rows s row [] (slice_get-get_or rows s row h ∙ ap Some (sym is))
+    now : s ≡ k → IsEntry (code_of parts) (state_at (code_of parts) k) b (slice_index new (256 * k + b))
+    now e = subst (λ n. IsEntry (code_of parts) (state_at (code_of parts) n) b (slice_index new (256 * n + b))) e
+        (rw (state_there parts s state there here, added) (last b within))
 
 -- the bytes of an input are bytes
 pub are_bytes : (bytes : List ℕ) → ((i : ℕ) → Fits w8 (get_or bytes i 0)) → IsBytes bytes
 are_bytes bytes h = λ k d l. rw (get_or_default_zero bytes k d l) (Fits-lt-pow (h k))
 
--- the byte behind the fast loop does not stay
+-- an entry as it is read
+pub read_entry : (code : CodeValue) (rows : List ℕ) (s b entry : ℕ) → AreRows code rows → s < length code.states → b < 256 → entry ≡ get_or rows (256 * s + b) entry →
+    IsEntry code (state_at code s) b entry
+read_entry code rows s b entry all there within is =
+    let count = all.count in
+    let got : slice_get rows (256 * s + b) ≡ Some entry = slice_get-get_or rows (256 * s + b) entry (omega (arith, count, there, within)) ∙ ap Some (sym is) in
+    let same : slice_index rows (256 * s + b) ≡ entry = get_or_from_slice_get rows (256 * s + b) entry 0 got in
+    rw same at (all.each s b there within)
+
+-- one more entry of a row
+pub row_turn : (code : CodeValue) (state : CodeState) (row : List ℕ) (b entry : ℕ) → length row ≡ 256 → b < 256 → IsEntry code state b entry →
+    ((k : ℕ) → k < b → IsEntry code state k (slice_index row k)) →
+    (length (set row b entry) ≡ 256) × ((k : ℕ) → k < b + 1 → IsEntry code state k (slice_index (set row b entry) k))
+row_turn code state row b entry long within is before = (length-set row b entry ∙ long, λ k h. ⊎_elim (old k) (now k) (either k b h))
+  where
+    either : (a b : ℕ) → a < b + 1 → (a < b) ⊎ (b ≡ a)
+    either a b h = grind arith
+
+    old : (k : ℕ) → k < b → IsEntry code state k (slice_index (set row b entry) k)
+    old k l = rw (get_or-set_other row b k entry 0 (λ e. omega (arith, e, l))) (before k l)
+
+    now : (k : ℕ) → b ≡ k → IsEntry code state k (slice_index (set row b entry) k)
+    now k e = subst (λ n. IsEntry code state n (slice_index (set row b entry) n)) e (rw (get_or-set_same row b entry 0 (omega (arith, within, long))) is)
+
+-- the byte after the fast loop does not stay
 pub loop_stops : (code : CodeValue) (loop : Option ℕ) (bytes : List ℕ) (at d : ℕ) → at + looped code loop (drop at bytes) < length bytes →
     stays code loop (get_or bytes (at + looped code loop (drop at bytes)) d) ≡ false
 loop_stops code None bytes at d h = refl
@@ -76,32 +100,66 @@ pub state_got : (parts : CodeParts) (s : ℕ) (state : TheState) → s < length 
 state_got parts s state h is =
     slice_get-get_or (code_of parts).states s no_state (rw length-map h) ∙ ap Some (state_there parts s state h is)
 
+-- the step of a match that ends before the byte
+abbrev before_byte : (used : MatchUse) (late leaf : ℕ) → Step
+before_byte used zero n = Halts (record { 0 = n }) used
+before_byte used (suc k) n = Looks (record { 0 = n }) used
+
 -- the step that an entry of this kind stands for
 abbrev decoded : (kind named : ℕ) → Step
-decoded zero n = Leads n
+decoded zero n = Leads (n / 256)
 decoded (suc zero) n = Stays n
-decoded (suc (suc zero)) n = Halts (record { 0 = n }) Skips
-decoded (suc (suc (suc zero))) n = Halts (record { 0 = n }) Emits
+decoded (suc (suc zero)) n = before_byte Skips (n / 134217728) (n % 134217728)
+decoded (suc (suc (suc zero))) n = before_byte Emits (n / 134217728) (n % 134217728)
 decoded (suc (suc (suc (suc zero)))) n = Closes (record { 0 = n }) Emits
 decoded (suc (suc (suc (suc (suc zero))))) n = Closes (record { 0 = n }) Skips
-decoded (suc (suc (suc (suc (suc (suc zero)))))) n = Halts (record { 0 = n }) Asks
+decoded (suc (suc (suc (suc (suc (suc zero)))))) n = before_byte Asks (n / 134217728) (n % 134217728)
 decoded (suc (suc (suc (suc (suc (suc (suc zero))))))) n = Closes (record { 0 = n }) Asks
-decoded (suc (suc (suc (suc (suc (suc (suc (suc k)))))))) n = Unsaid
+decoded (suc (suc (suc (suc (suc (suc (suc (suc zero)))))))) n = Stuck
+decoded (suc (suc (suc (suc (suc (suc (suc (suc (suc k))))))))) n = Unsaid
 
 decodes : (entry : ℕ) (step : Step) → IsStepOf entry step → step ≡ decoded (entry / 268435456) (entry % 268435456)
-decodes entry (Leads s) f = let k : entry / 268435456 ≡ 0 = omega (arith, f.0, f.1) in let n : entry % 268435456 ≡ s = omega (arith, f.0, f.1) in rw (k, n) refl
+decodes entry (Leads s) f = let k : entry / 268435456 ≡ 0 = omega (arith, f.0, f.1) in let n : entry % 268435456 / 256 ≡ s = omega (arith, f.0, f.1) in rw (k, n) refl
 decodes entry (Stays s) f = let k : entry / 268435456 ≡ 1 = omega (arith, f.0, f.1) in let n : entry % 268435456 ≡ s = omega (arith, f.0, f.1) in rw (k, n) refl
-decodes entry (Halts s Skips) f = let k : entry / 268435456 ≡ 2 = omega (arith, f.0, f.1) in let n : entry % 268435456 ≡ s.0 = omega (arith, f.0, f.1) in rw (k, n) refl
-decodes entry (Halts s Emits) f = let k : entry / 268435456 ≡ 3 = omega (arith, f.0, f.1) in let n : entry % 268435456 ≡ s.0 = omega (arith, f.0, f.1) in rw (k, n) refl
+decodes entry (Halts s Skips) f =
+    let k : entry / 268435456 ≡ 2 = omega (arith, f.0, f.1) in
+    let l : entry % 268435456 / 134217728 ≡ 0 = omega (arith, f.0, f.1) in
+    let n : entry % 268435456 % 134217728 ≡ s.0 = omega (arith, f.0, f.1) in
+    rw (k, l, n) refl
+decodes entry (Looks s Skips) f =
+    let k : entry / 268435456 ≡ 2 = omega (arith, f.0, f.1) in
+    let l : entry % 268435456 / 134217728 ≡ 1 = omega (arith, f.0, f.1) in
+    let n : entry % 268435456 % 134217728 ≡ s.0 = omega (arith, f.0, f.1) in
+    rw (k, l, n) refl
+decodes entry (Halts s Emits) f =
+    let k : entry / 268435456 ≡ 3 = omega (arith, f.0, f.1) in
+    let l : entry % 268435456 / 134217728 ≡ 0 = omega (arith, f.0, f.1) in
+    let n : entry % 268435456 % 134217728 ≡ s.0 = omega (arith, f.0, f.1) in
+    rw (k, l, n) refl
+decodes entry (Looks s Emits) f =
+    let k : entry / 268435456 ≡ 3 = omega (arith, f.0, f.1) in
+    let l : entry % 268435456 / 134217728 ≡ 1 = omega (arith, f.0, f.1) in
+    let n : entry % 268435456 % 134217728 ≡ s.0 = omega (arith, f.0, f.1) in
+    rw (k, l, n) refl
 decodes entry (Closes s Emits) f = let k : entry / 268435456 ≡ 4 = omega (arith, f.0, f.1) in let n : entry % 268435456 ≡ s.0 = omega (arith, f.0, f.1) in rw (k, n) refl
 decodes entry (Closes s Skips) f = let k : entry / 268435456 ≡ 5 = omega (arith, f.0, f.1) in let n : entry % 268435456 ≡ s.0 = omega (arith, f.0, f.1) in rw (k, n) refl
-decodes entry (Halts s Asks) f = let k : entry / 268435456 ≡ 6 = omega (arith, f.0, f.1) in let n : entry % 268435456 ≡ s.0 = omega (arith, f.0, f.1) in rw (k, n) refl
+decodes entry (Halts s Asks) f =
+    let k : entry / 268435456 ≡ 6 = omega (arith, f.0, f.1) in
+    let l : entry % 268435456 / 134217728 ≡ 0 = omega (arith, f.0, f.1) in
+    let n : entry % 268435456 % 134217728 ≡ s.0 = omega (arith, f.0, f.1) in
+    rw (k, l, n) refl
+decodes entry (Looks s Asks) f =
+    let k : entry / 268435456 ≡ 6 = omega (arith, f.0, f.1) in
+    let l : entry % 268435456 / 134217728 ≡ 1 = omega (arith, f.0, f.1) in
+    let n : entry % 268435456 % 134217728 ≡ s.0 = omega (arith, f.0, f.1) in
+    rw (k, l, n) refl
 decodes entry (Closes s Asks) f = let k : entry / 268435456 ≡ 7 = omega (arith, f.0, f.1) in let n : entry % 268435456 ≡ s.0 = omega (arith, f.0, f.1) in rw (k, n) refl
+decodes entry Stuck f = let k : entry / 268435456 ≡ 8 = omega (arith, f.0, f.1) in rw k refl
 decodes entry Unsaid f = past (entry / 268435456) (omega (arith, f))
   where
-    past : (k : ℕ) → 8 ≤ k → Unsaid ≡ decoded k (entry % 268435456)
+    past : (k : ℕ) → 9 ≤ k → Unsaid ≡ decoded k (entry % 268435456)
     past k h =
-        let e : k ≡ suc (suc (suc (suc (suc (suc (suc (suc (k - 8)))))))) = omega (arith, h) in
+        let e : k ≡ suc (suc (suc (suc (suc (suc (suc (suc (suc (k - 9))))))))) = omega (arith, h) in
         subst (λ j. Unsaid ≡ decoded j (entry % 268435456)) (sym e) refl
 
 -- an entry stands for one step
@@ -113,30 +171,53 @@ only_step : (P : Step → Type 0) (entry : ℕ) (step : Step) → (IsStepOf entr
 only_step P entry step (inl f) said none other g = subst P (sym (same_step entry step other f g)) said
 only_step P entry step (inr f) said none other g = subst P (sym (same_step entry Unsaid other f g)) none
 
+-- an entry that leads is a place
+step_place : (entry : ℕ) (step : Step) → IsStepOf entry step → LeadsToPlace entry
+step_place entry (Leads s) f h = omega (arith, f.0)
+step_place entry (Stays s) f h = absurd (omega (arith, f.0, h))
+step_place entry (Halts s Emits) f h = absurd (omega (arith, f.0, h))
+step_place entry (Halts s Skips) f h = absurd (omega (arith, f.0, h))
+step_place entry (Halts s Asks) f h = absurd (omega (arith, f.0, h))
+step_place entry (Looks s Emits) f h = absurd (omega (arith, f.0, h))
+step_place entry (Looks s Skips) f h = absurd (omega (arith, f.0, h))
+step_place entry (Looks s Asks) f h = absurd (omega (arith, f.0, h))
+step_place entry (Closes s Emits) f h = absurd (omega (arith, f.0, h))
+step_place entry (Closes s Skips) f h = absurd (omega (arith, f.0, h))
+step_place entry (Closes s Asks) f h = absurd (omega (arith, f.0, h))
+step_place entry Stuck f h = absurd (omega (arith, f.0, h))
+step_place entry Unsaid f h = absurd (omega (arith, f, h))
+
 module _ (code : CodeValue) (state : CodeState) where
   -- the entry of a step
   pub entry_says : (b entry : ℕ) (step : Step) → (IsStepOf entry step ⊎ IsStepOf entry Unsaid) → Says code state b step → IsEntry code state b entry
-  entry_says b entry step is said = only_step (Says code state b) entry step is said tt
+  entry_says b entry step is said = record {
+    says = only_step (Says code state b) entry step is said tt;
+    place = ⊎_elim (step_place entry step) (step_place entry Unsaid) is;
+  }
 
   -- the entry of a first byte
-  first_says : (b entry first : ℕ) → IsEntry code state b entry → ((first ≡ entry) ⊎ (2147483648 ≤ first)) → IsEntry code state b first
+  first_says : (b entry first : ℕ) → IsEntry code state b entry → ((first ≡ entry) ⊎ (2415919104 ≤ first)) → IsEntry code state b first
   first_says b entry first is (inl e) = subst (IsEntry code state b) (sym e) is
-  first_says b entry first is (inr h) = only_step (Says code state b) first Unsaid (inl h) tt tt
+  first_says b entry first is (inr h) = entry_says b first Unsaid (inl h) tt
 
   -- what a state does where no byte leads on
   pub halting_says : (b : ℕ) (step : Step) → stays code state.fast_loop b ≡ false → target code state.fork b ≡ None → IsHalting code state.mark step → Says code state b step
   halting_says b (Leads s) out none is = absurd is
   halting_says b (Stays s) out none is = absurd is
   halting_says b (Halts leaf used) out none is = (out, none, is.0, is.1)
+  halting_says b (Looks leaf used) out none is = absurd is
   halting_says b (Closes leaf used) out none is = absurd is
-  halting_says b Unsaid out none is = tt
+  halting_says b Stuck out none is = (out, none)
+  halting_says b Unsaid out none is = absurd is
 
   ends_say : (step : Step) → state.at_end ≡ None → IsHalting code state.mark step → SaysAtEnd code state step
   ends_say (Leads s) none is = absurd is
   ends_say (Stays s) none is = absurd is
   ends_say (Halts leaf used) none is = (none, is.0, is.1)
+  ends_say (Looks leaf used) none is = absurd is
   ends_say (Closes leaf used) none is = absurd is
-  ends_say Unsaid none is = tt
+  ends_say Stuck none is = tt
+  ends_say Unsaid none is = absurd is
 
   last_named : (entry : ℕ) (step : Step) → IsHalting code state.mark step → IsStepOf entry step → 536870912 ≤ entry
   last_named entry (Leads s) is f = absurd is
@@ -144,8 +225,10 @@ module _ (code : CodeValue) (state : CodeState) where
   last_named entry (Halts leaf Emits) is f = omega (arith, f.0)
   last_named entry (Halts leaf Skips) is f = omega (arith, f.0)
   last_named entry (Halts leaf Asks) is f = omega (arith, f.0)
+  last_named entry (Looks leaf used) is f = absurd is
   last_named entry (Closes leaf used) is f = absurd is
-  last_named entry Unsaid is f = omega (arith, f)
+  last_named entry Stuck is f = omega (arith, f.0)
+  last_named entry Unsaid is f = absurd is
 
   -- the entry of the end of the input
   pub last_says : (entry : ℕ) (step : Step) → (IsStepOf entry step ⊎ IsStepOf entry Unsaid) → state.at_end ≡ None → IsHalting code state.mark step → IsLastEntry code state entry
@@ -155,8 +238,8 @@ module _ (code : CodeValue) (state : CodeState) where
   }
 
   -- where the end leads on, the entry says nothing
-  pub last_unsaid : IsLastEntry code state 2147483648
-  last_unsaid = record { says = only_step (SaysAtEnd code state) 2147483648 Unsaid (inl (omega arith)) tt tt; last = omega arith }
+  pub last_unsaid : IsLastEntry code state 2415919104
+  last_unsaid = record { says = only_step (SaysAtEnd code state) 2415919104 Unsaid (inl (omega arith)) tt tt; last = omega arith }
 
   -- the entry of a byte that does not stay leads on or ends the try
   pub entry_moves : (b entry : ℕ) → IsEntry code state b entry → stays code state.fast_loop b ≡ false → (entry < 268435456) ⊎ (536870912 ≤ entry)
@@ -167,15 +250,23 @@ module _ (code : CodeValue) (state : CodeState) where
 
       clash : (268435456 ≤ entry) × (entry < 536870912) → ⊥
       clash h =
-          let said : Says code state b (Stays (entry - 268435456)) = is (Stays (entry - 268435456)) (omega (arith, h.0), omega (arith, h.0, h.1)) in
+          let said : Says code state b (Stays (entry - 268435456)) = is.says (Stays (entry - 268435456)) (omega (arith, h.0), omega (arith, h.0, h.1)) in
           let e : true ≡ false = sym said.0 ∙ out in
           cc
 
+  -- what an entry that leads says of its byte
+  pub entry_leads : (b entry : ℕ) → IsEntry code state b entry → entry < 268435456 → target code state.fork b ≡ Some (entry / 256)
+  entry_leads b entry is h =
+      let place = is.place h in
+      let said : Says code state b (Leads (entry / 256)) = is.says (Leads (entry / 256)) (sym place, omega (arith, h)) in
+      said.1
+
+  -- and one of a byte that leads nowhere
+  pub entry_stuck : (b entry : ℕ) → IsEntry code state b entry → 2147483648 ≤ entry → entry < 2415919104 → target code state.fork b ≡ None
+  entry_stuck b entry is low high = let said : Says code state b Stuck = is.says Stuck (low, high) in said.1
+
 -- the row for first bytes, from that of the root
-pub first_row_says : (code : CodeValue) (rows : List (List ℕ)) (row first : List ℕ) → AreRows code rows → code.root < length code.states → row ≡ get_or rows code.root row →
-    IsFirstOf row first → IsFirstRow code first
-first_row_says code rows row first are there is firsts b h =
-    let same : slice_index_or rows code.root [] ≡ row = row_at rows code.root row (let n = are.count in omega (arith, there, n)) is in
-    let said : IsEntry code (state_at code code.root) b (slice_index row b) = rw same at (are.each code.root there b h) in
+pub first_row_says : (code : CodeValue) (rows first : List ℕ) → AreRows code rows → code.root < length code.states → IsFirstOf rows code.root first → IsFirstRow code first
+first_row_says code rows first are there firsts b h =
     let one = firsts.1 b h in
-    (first_says code (state_at code code.root) b (slice_index row b) (slice_index first b) said one.0, one.1)
+    (first_says code (state_at code code.root) b (slice_index rows (256 * code.root + b)) (slice_index first b) (are.each code.root b there h) one.0, one.1)

@@ -1,5 +1,5 @@
 -- What contracts see of the rows of a code.
-use Rattle.std.specs.Prelude.{◌≡◌, ℕ, ◌+◌, ◌<◌, ◌≤◌, ◌⊎◌, true, false, List, [], length, Option, Some, None, slice_index, slice_index_or, slice_get}
+use Rattle.std.specs.Prelude.{◌≡◌, ℕ, ◌+◌, ◌*◌, ◌/◌, ◌<◌, ◌≤◌, ◌⊎◌, true, false, List, [], length, Option, Some, None, slice_index, slice_get}
 use Rattle.logos_automaton.specs.Munch.{Use}
 use Rattle.logos_code.specs.Code.{CodeValue, CodeState, Mark, by_conditions}
 use Rattle.logos_code.specs.CodeView.{state_at}
@@ -7,11 +7,11 @@ use Rattle.logos_code.specs.Runs.{stays, target}
 use Rattle.logos_code.specs.declared.code.rows.MatchUse.{MatchUse}
 use Rattle.logos_code.specs.declared.code.rows.MatchUse.TheVariants.{Emits, Skips, Asks}
 use Rattle.logos_code.specs.declared.code.rows.Step.{Step}
-use Rattle.logos_code.specs.declared.code.rows.Step.TheVariants.{Leads, Stays, Closes, Halts, Unsaid}
+use Rattle.logos_code.specs.declared.code.rows.Step.TheVariants.{Leads, Stays, Halts, Looks, Closes, Stuck, Unsaid}
 
--- a state that marks a match of this leaf, and does nothing else
-abbrev pub closing : ℕ → CodeState
-closing leaf = record { fast_loop = None; mark = Some (record { leaf = leaf; late = false }); fork = by_conditions []; at_end = None }
+-- a state that has this mark, and does nothing else
+abbrev pub closing : Mark → CodeState
+closing mark = record { fast_loop = None; mark = Some mark; fork = by_conditions []; at_end = None }
 
 -- the first entry of those for matches that end before the byte
 abbrev pub first_halting : MatchUse → ℕ
@@ -27,11 +27,17 @@ first_closing Asks = 1879048192
 
 -- the entry stands for this step
 abbrev pub IsStepOf : ℕ → Step → Type 0
-IsStepOf entry (Leads state) = (entry ≡ state) × (state < 268435456)
+IsStepOf entry (Leads state) = (entry ≡ 256 * state) × (state < 1048576)
 IsStepOf entry (Stays test) = (entry ≡ 268435456 + test) × (test < 268435456)
-IsStepOf entry (Halts leaf used) = (entry ≡ first_halting used + leaf.0) × (leaf.0 < 268435456)
+IsStepOf entry (Halts leaf used) = (entry ≡ first_halting used + leaf.0) × (leaf.0 < 134217728)
+IsStepOf entry (Looks leaf used) = (entry ≡ first_halting used + 134217728 + leaf.0) × (leaf.0 < 134217728)
 IsStepOf entry (Closes leaf used) = (entry ≡ first_closing used + leaf.0) × (leaf.0 < 268435456)
-IsStepOf entry Unsaid = 2147483648 ≤ entry
+IsStepOf entry Stuck = (2147483648 ≤ entry) × (entry < 2415919104)
+IsStepOf entry Unsaid = 2415919104 ≤ entry
+
+-- the place of a state: 256 times its number
+abbrev pub IsPlace : CodeValue → ℕ → Type 0
+IsPlace code place = (256 * (place / 256) ≡ place) × (place / 256 < length code.states)
 
 -- what becomes of matches without a callback
 abbrev pub IsPlainUse : Use → MatchUse → Type 0
@@ -45,11 +51,11 @@ IsUse code leaf Emits = slice_get code.leaves leaf ≡ Some (record { skips = fa
 IsUse code leaf Skips = slice_get code.leaves leaf ≡ Some (record { skips = true; asks = false })
 IsUse code leaf Asks = Unit {0}
 
--- the byte leads to a state that marks a match of this leaf, and does nothing else
-pub record LeadsToClosing (code : CodeValue) (state : CodeState) (b leaf : ℕ) : Type 0 where
+-- the byte leads to a state that has this mark, and does nothing else
+pub record LeadsToClosing (code : CodeValue) (state : CodeState) (b : ℕ) (mark : Mark) : Type 0 where
   pub next : ℕ
   pub leads : target code state.fork b ≡ Some next
-  pub closes : slice_get code.states next ≡ Some (closing leaf)
+  pub closes : slice_get code.states next ≡ Some (closing mark)
 
 -- what a step says of a byte
 abbrev pub Says : CodeValue → CodeState → ℕ → Step → Type 0
@@ -57,7 +63,9 @@ Says code state b (Leads next) = (stays code state.fast_loop b ≡ false) × (ta
 Says code state b (Stays test) = (stays code state.fast_loop b ≡ true) × (state.fast_loop ≡ Some test)
 Says code state b (Halts leaf used) =
     (stays code state.fast_loop b ≡ false) × (target code state.fork b ≡ None) × (state.mark ≡ Some (record { leaf = leaf.0; late = false })) × IsUse code leaf.0 used
-Says code state b (Closes leaf used) = (stays code state.fast_loop b ≡ false) × LeadsToClosing code state b leaf.0 × IsUse code leaf.0 used
+Says code state b (Looks leaf used) = (stays code state.fast_loop b ≡ false) × LeadsToClosing code state b (record { leaf = leaf.0; late = true }) × IsUse code leaf.0 used
+Says code state b (Closes leaf used) = (stays code state.fast_loop b ≡ false) × LeadsToClosing code state b (record { leaf = leaf.0; late = false }) × IsUse code leaf.0 used
+Says code state b Stuck = (stays code state.fast_loop b ≡ false) × (target code state.fork b ≡ None)
 Says code state b Unsaid = Unit {0}
 
 -- a step of a state with this mark, where nothing leads on
@@ -65,20 +73,29 @@ abbrev pub IsHalting : CodeValue → Option Mark → Step → Type 0
 IsHalting code mark (Leads next) = ⊥
 IsHalting code mark (Stays test) = ⊥
 IsHalting code mark (Halts leaf used) = (mark ≡ Some (record { leaf = leaf.0; late = false })) × IsUse code leaf.0 used
+IsHalting code mark (Looks leaf used) = ⊥
 IsHalting code mark (Closes leaf used) = ⊥
-IsHalting code mark Unsaid = Unit {0}
+IsHalting code mark Stuck = Unit {0}
+IsHalting code mark Unsaid = ⊥
 
 -- what a step says of the end of the input
 abbrev pub SaysAtEnd : CodeValue → CodeState → Step → Type 0
 SaysAtEnd code state (Leads next) = ⊥
 SaysAtEnd code state (Stays test) = ⊥
 SaysAtEnd code state (Halts leaf used) = (state.at_end ≡ None) × (state.mark ≡ Some (record { leaf = leaf.0; late = false })) × IsUse code leaf.0 used
+SaysAtEnd code state (Looks leaf used) = ⊥
 SaysAtEnd code state (Closes leaf used) = ⊥
+SaysAtEnd code state Stuck = Unit {0}
 SaysAtEnd code state Unsaid = Unit {0}
 
+-- an entry that leads is a multiple of 256
+abbrev pub LeadsToPlace : ℕ → Type 0
+LeadsToPlace entry = entry < 268435456 → 256 * (entry / 256) ≡ entry
+
 -- the entry of a byte: what it stands for is so
-abbrev pub IsEntry : CodeValue → CodeState → ℕ → ℕ → Type 0
-IsEntry code state b entry = (step : Step) → IsStepOf entry step → Says code state b step
+pub record IsEntry (code : CodeValue) (state : CodeState) (b entry : ℕ) : Type 0 where
+  pub says : (step : Step) → IsStepOf entry step → Says code state b step
+  pub place : LeadsToPlace entry
 
 -- the entry of the end of the input; it leads nowhere
 pub record IsLastEntry (code : CodeValue) (state : CodeState) (entry : ℕ) : Type 0 where
@@ -89,10 +106,10 @@ pub record IsLastEntry (code : CodeValue) (state : CodeState) (entry : ℕ) : Ty
 abbrev pub IsRow : CodeValue → CodeState → List ℕ → Type 0
 IsRow code state row = (b : ℕ) → b < 256 → IsEntry code state b (slice_index row b)
 
--- a row for each state
-pub record AreRows (code : CodeValue) (rows : List (List ℕ)) : Type 0 where
-  pub count : length rows ≡ length code.states
-  pub each : (s : ℕ) → s < length code.states → IsRow code (state_at code s) (slice_index_or rows s [])
+-- the rows of all states, one after another
+pub record AreRows (code : CodeValue) (rows : List ℕ) : Type 0 where
+  pub count : length rows ≡ 256 * length code.states
+  pub each : (s b : ℕ) → s < length code.states → b < 256 → IsEntry code (state_at code s) b (slice_index rows (256 * s + b))
 
 -- an entry that leads to a state, or comes after those of halting states
 abbrev pub BeginsTry : ℕ → Type 0
@@ -100,10 +117,10 @@ BeginsTry entry = (entry < 268435456) ⊎ (1073741824 ≤ entry)
 
 -- the entry where it begins a try, or one that says nothing
 abbrev pub IsFirstEntry : ℕ → ℕ → Type 0
-IsFirstEntry entry first = ((first ≡ entry) ⊎ (2147483648 ≤ first)) × BeginsTry first
+IsFirstEntry entry first = ((first ≡ entry) ⊎ (2415919104 ≤ first)) × BeginsTry first
 
-abbrev pub IsFirstOf : List ℕ → List ℕ → Type 0
-IsFirstOf row first = (length first ≡ 256) × ((b : ℕ) → b < 256 → IsFirstEntry (slice_index row b) (slice_index first b))
+abbrev pub IsFirstOf : List ℕ → ℕ → List ℕ → Type 0
+IsFirstOf rows root first = (length first ≡ 256) × ((b : ℕ) → b < 256 → IsFirstEntry (slice_index rows (256 * root + b)) (slice_index first b))
 
 -- the entry of the first byte of a try
 abbrev pub IsFirst : CodeValue → ℕ → ℕ → Type 0

@@ -13,7 +13,7 @@ abbrev pub use_by : LeafUse → Use
 use_by flags = record { skips = flags.skips; asks = flags.asks }
 
 -- the parts are valid, and the tables beside them agree with them
-pub record IsWhole (parts : CodeParts) (first : List ℕ) (rows masks : List (List ℕ)) (signs : List Sign) (uses : List LeafUse) : Type 0 where
+pub record IsWhole (parts : CodeParts) (first rows : List ℕ) (masks : List (List ℕ)) (signs : List Sign) (uses : List LeafUse) : Type 0 where
   pub valid : IsValid parts
   pub first_row : IsFirstRow (code_of parts) first
   pub all_rows : AreRows (code_of parts) rows

@@ -1,11 +1,11 @@
-//! What callbacks answer.
+//! The answers of callbacks.
 
-/// What a callback answers to a match.
+/// The answer of a callback to a match.
 #[derive(Clone, Copy, Debug, PartialEq, Eq)]
 pub enum Action {
-    /// The match is a token. On a leaf that skips it reads as `Skip`.
+    /// The match is a token. For a leaf that skips, this means the same as `Skip`.
     Emit,
-    /// The match is left out.
+    /// The match is skipped.
     Skip,
     /// The match is an error of its leaf.
     Error,

@@ -1,12 +1,12 @@
 //! Code values: what a lexer does in each state.
-ghost use Rattle.std.specs.Prelude.{◌≡◌, ◌<◌, length, option_map, option_copied, IfSome};
+ghost use Rattle.std.specs.Prelude.{◌≡◌, ◌<◌, ◌/◌, length, option_map, option_copied, IfSome};
 ghost use Rattle.logos_code.specs.Bytes.{passes_test};
 ghost use Rattle.logos_code.specs.Headline.{IsSound, NamesTest};
 ghost use Rattle.logos_code.specs.CodeView.{entry_of, state_at, asks_for};
 ghost use Rattle.logos_code.specs.CodeView.{skips_over, code_of, IsValid};
 ghost use Rattle.logos_code.specs.Runs.{target};
 ghost use Rattle.logos_code.specs.Masks.{IsMask};
-ghost use Rattle.logos_code.specs.Rows.{IsEntry, IsFirst, IsLastEntry};
+ghost use Rattle.logos_code.specs.Rows.{IsEntry, IsFirst, IsLastEntry, IsPlace};
 ghost use Rattle.logos_code.specs.Signs.{mark_by};
 
 pub(crate) mod making;
@@ -20,28 +20,28 @@ use logos_hir::leaf::LeafId;
 use logos_pattern::leaf::{Callback, VariantKind};
 use logos_token::token::Ident;
 use logos_type::TypeExpr;
-use rows::{UNSAID, entry_of_step};
+use rows::{STAYS, STUCK, UNSAID, entry_of_step};
 use signs::Sign;
 use std::marker::Model;
 use uses::LeafUse;
 
-/// A match of this leaf ends where the state is, or one byte before where it is late.
+/// A match of this leaf ends where the state is entered, or one byte before if the mark is late.
 #[derive(Clone, Copy, Debug, PartialEq, Eq)]
 pub struct Mark {
     pub leaf: LeafId,
     pub late: bool,
 }
 
-/// What a byte is tested by.
+/// A test of a byte.
 #[derive(Drop)]
 pub enum Condition {
-    /// One of these holds.
+    /// One of these comparisons holds.
     Comparisons(Vec<Comparisons>),
-    /// The test with this number.
+    /// The byte passes the test with this number.
     Test(usize),
 }
 
-/// Where a byte leads.
+/// Where each byte leads from a state.
 #[derive(Drop)]
 pub enum Fork {
     /// To the state of the first condition that holds.
@@ -69,7 +69,7 @@ pub struct CodeState {
 #[derive(Drop)]
 pub struct CodeLeaf<'s> {
     pub kind: VariantKind<'s>,
-    /// What is called on a match, if anything is.
+    /// The callback for matches, if there is one.
     pub callback: Option<Callback<'s>>,
 }
 
@@ -80,20 +80,20 @@ pub struct Config {
     pub use_state_machine_codegen: bool,
 }
 
-/// What a generator is given beside the graph, which the code has unchanged.
+/// The header of a code's text. The generator copies it from what it is given beside the graph.
 #[derive(Drop)]
 pub struct Header<'s> {
     /// The shape of its text.
     pub shape: Config,
     /// The name of the enum.
     pub name: Ident<'s>,
-    /// The type that the enum is: its name, and what it is given.
+    /// The type of the enum: its name with its generic arguments.
     pub this: TypeExpr<'s>,
-    /// What is called on an error, if anything is.
+    /// The callback for errors, if there is one.
     pub error_callback: Option<Callback<'s>>,
 }
 
-/// What a code value is made of: its nodes, and the tables that they name by number.
+/// The parts of a code value: its nodes, and the tables that they name by number.
 #[derive(Drop)]
 pub struct CodeParts<'s> {
     pub header: Header<'s>,
@@ -117,11 +117,11 @@ pub struct Code<'s> {
     parts: CodeParts<'s>,
     /// What each byte does at the start of a try.
     first: [u32; 256],
-    /// What each byte does in each state, so that running the code takes one look a byte.
-    rows: Vec<[u32; 256]>,
+    /// What each byte does in each state, so that running the code takes one look a byte. `rows` describes the layout.
+    rows: Vec<u32>,
     /// The tests, for eight bytes at once.
     masks: Vec<[u8; 2048]>,
-    /// What the mark of each state says.
+    /// The mark of each state.
     signs: Vec<Sign>,
     /// What becomes of the matches of each leaf.
     uses: Vec<LeafUse>,
@@ -162,7 +162,7 @@ impl<'s> Code<'s> {
         self.parts.header.name
     }
 
-    /// Returns the type that the enum is: its name with its generic arguments.
+    /// Returns the type of the enum: its name with its generic arguments.
     pub fn this(&self) -> &TypeExpr<'s>
         ensures { result.now ≡ self.now.header.this }
     {
@@ -219,13 +219,13 @@ impl Code<'_> {
         self.first[byte as usize]
     }
 
-    /// Returns the entry of the byte in the state.
+    /// Returns the entry of the byte in the state at the place, which is 256 times the number of the state.
     #[inline(always)]
-    pub fn entry(&self, state: usize, byte: u8) -> u32
-        requires { state < length self.now.states }
-        ensures { IsEntry self.now (state_at self.now state) byte result }
+    pub fn entry(&self, place: usize, byte: u8) -> u32
+        requires { IsPlace self.now place }
+        ensures { IsEntry self.now (state_at self.now (place / 256)) byte result }
     {
-        self.rows[state][byte as usize]
+        self.rows[place + byte as usize]
     }
 
     /// Returns the mask of the test. Entry `8 * b + k` is 0 where byte `b` passes the test, and else has bit `k` alone.
@@ -237,22 +237,29 @@ impl Code<'_> {
         &self.masks[test]
     }
 
-    /// Returns the state that the byte leads to from this state, if it leads anywhere.
+    /// Returns the state to which the byte leads from this state, if it leads anywhere.
     pub fn target(&self, state: usize, byte: u8) -> Option<usize>
         requires { state < length self.now.states }
         ensures { result ≡ target self.now (state_at self.now state).fork byte }
     {
+        let entry = self.rows[256 * state + byte as usize];
+        if entry < STAYS {
+            return Some(entry as usize / 256);
+        }
+        if entry >= STUCK && entry < UNSAID {
+            return None;
+        }
         self.parts.target(&self.parts.states[state].fork, byte)
     }
 
-    /// Returns the entry of the end of the input in the state.
+    /// Returns the entry of the end of the input in the state at the place.
     #[cold]
     #[inline(never)]
-    pub fn last_entry(&self, state: usize) -> u32
-        requires { state < length self.now.states }
-        ensures { IsLastEntry self.now (state_at self.now state) result }
+    pub fn last_entry(&self, place: usize) -> u32
+        requires { IsPlace self.now place }
+        ensures { IsLastEntry self.now (state_at self.now (place / 256)) result }
     {
-        let state = &self.parts.states[state];
+        let state = &self.parts.states[place / 256];
         if state.at_end.is_some() {
             return UNSAID;
         }
@@ -268,7 +275,7 @@ impl Code<'_> {
         self.parts.states[state].fast_loop
     }
 
-    /// Returns the sign of the state: what its mark says.
+    /// Returns the sign of the state: its mark.
     #[inline(always)]
     pub fn sign(&self, state: usize) -> Sign
         requires { state < length self.now.states }
@@ -277,7 +284,7 @@ impl Code<'_> {
         self.signs[state]
     }
 
-    /// Returns the state that the end of the input leads to from this state, if it leads anywhere.
+    /// Returns the state to which the end of the input leads from this state, if it leads anywhere.
     #[inline(always)]
     pub fn at_end(&self, state: usize) -> Option<usize>
         requires { state < length self.now.states }

@@ -1,18 +1,18 @@
 -- What a state does, by the step that is seen.
-use Rattle.std.proofs.Common.{◌≡◌, ◌≢◌, ℕ, ◌+◌, ◌<◌, ◌≤◌, Bool, true, false, ◌&&◌, ◌==◌, List, length, drop, get_or, Option, Some, None, slice_get, refl, sym, ap, ◌∙◌, arith}
+use Rattle.std.proofs.Common.{◌≡◌, ◌≢◌, ℕ, ◌+◌, ◌-◌, ◌<◌, ◌≤◌, Bool, true, false, ◌&&◌, ◌==◌, List, length, drop, get_or, Option, Some, None, slice_get, refl, sym, ap, subst, ◌∙◌, arith}
 use Rattle.std.proofs.lemmas.Bool.{ne_eqb}
 use Rattle.std.proofs.lemmas.List.Folds.{length-prefix_len}
 use Rattle.std.proofs.lemmas.List.Sums.{prefix_len-drop_yes, prefix_len-drop_no}
 use Rattle.std.proofs.lemmas.Option.{slice_get-get_or}
 use Rattle.logos_code.specs.Bytes.{passes_test}
-use Rattle.logos_code.specs.Code.{CodeValue}
+use Rattle.logos_code.specs.Code.{CodeValue, Mark}
 use Rattle.logos_code.specs.CodeView.{state_at, no_state}
 use Rattle.logos_code.specs.Headline.{IsSound}
 use Rattle.logos_code.specs.Rows.{closing, Says, SaysAtEnd, IsEntry, IsStepOf}
 use Rattle.logos_code.specs.Runs.{acts, looped, stays, marked, turn, Does}
 use Rattle.logos_machine.specs.inside.Looks.{Sees}
 use Rattle.logos_code.specs.declared.code.rows.Step.{Step}
-use Rattle.logos_code.specs.declared.code.rows.Step.TheVariants.{Leads, Stays, Closes, Halts, Unsaid}
+use Rattle.logos_code.specs.declared.code.rows.Step.TheVariants.{Leads, Stays, Halts, Looks, Closes, Stuck, Unsaid}
 use Rattle.logos_machine.proofs.StandLemmas.{unmarked_root}
 
 and_false : (b : Bool) → (b && false) ≡ false
@@ -37,9 +37,9 @@ module _ (code : CodeValue) (bytes : List ℕ) (start : ℕ) (s : ℕ) (there : 
   got = slice_get-get_or code.states s no_state there
 
   -- a closing state acts at once
-  closes : (t leaf at : ℕ) (passed : Option (ℕ × ℕ)) → slice_get code.states t ≡ Some (closing leaf) → start < at →
-      Does code bytes start (record { state = t; offset = at; context = passed }) (acts (Some (leaf, at)) at)
-  closes t leaf at passed is h = (closing leaf, is, turns (slice_get bytes (at + 0)) refl)
+  closes : (t at : ℕ) (mark : Mark) (passed : Option (ℕ × ℕ)) → slice_get code.states t ≡ Some (closing mark) → start < at →
+      Does code bytes start (record { state = t; offset = at; context = passed }) (acts (marked (Some mark) at passed) at)
+  closes t at mark passed is h = (closing mark, is, turns (slice_get bytes (at + 0)) refl)
     where
       none : at + 0 ≡ at
       none = omega arith
@@ -47,7 +47,7 @@ module _ (code : CodeValue) (bytes : List ℕ) (start : ℕ) (s : ℕ) (there : 
       stale : (t == code.root && (at == start)) ≡ false
       stale = let e : (at == start) ≡ false = ne_eqb at start (λ g. omega (arith, g, h)) in rw e (and_false (t == code.root))
 
-      turns : (o : Option ℕ) → slice_get bytes (at + 0) ≡ o → turn code bytes start (closing leaf) (record { state = t; offset = at; context = passed }) ≡ acts (Some (leaf, at)) at
+      turns : (o : Option ℕ) → slice_get bytes (at + 0) ≡ o → turn code bytes start (closing mark) (record { state = t; offset = at; context = passed }) ≡ acts (marked (Some mark) at passed) at
       turns None e = rw (e, none, stale) refl
       turns (Some b) e = rw (e, none) refl
 
@@ -56,16 +56,30 @@ module _ (code : CodeValue) (bytes : List ℕ) (start : ℕ) (s : ℕ) (there : 
       Says code (state_at code s) b step → Sees code bytes start s offset stop step
   sees_byte b (Leads next) h is at says = λ context. (marked (state_at code s).mark stop context, (state_at code s, got, rw (← is, at, says.1) refl))
   sees_byte b (Stays test) h is at says = tt
+  sees_byte b (Looks leaf used) h is at says = (
+    λ context.
+        let passed = marked (state_at code s).mark stop context in
+        let before : stop + 1 - 1 ≡ stop = omega arith in
+        let does : Does code bytes start (record { state = says.1.next; offset = stop + 1; context = passed }) (acts (Some (leaf.0, stop + 1 - 1)) (stop + 1)) =
+        closes says.1.next (stop + 1) (record { leaf = leaf.0; late = true }) passed says.1.closes (omega (arith, h, is)) in (
+          says.1.next,
+          passed,
+          (state_at code s, got, rw (← is, at, says.1.leads) refl),
+          subst (λ end. Does code bytes start (record { state = says.1.next; offset = stop + 1; context = passed }) (acts (Some (leaf.0, end)) (stop + 1))) before does,
+        ),
+    says.2,
+  )
   sees_byte b (Closes leaf used) h is at says = (
     λ context. (
       says.1.next,
       marked (state_at code s).mark stop context,
       (state_at code s, got, rw (← is, at, says.1.leads) refl),
-      closes says.1.next leaf.0 (stop + 1) _ says.1.closes (omega (arith, h, is)),
+      closes says.1.next (stop + 1) (record { leaf = leaf.0; late = false }) _ says.1.closes (omega (arith, h, is)),
     ),
     says.2,
   )
   sees_byte b (Halts leaf used) h is at says = (λ context. (state_at code s, got, rw (← is, at, says.1, says.2) refl), says.3)
+  sees_byte b Stuck h is at says = tt
   sees_byte b Unsaid h is at says = tt
 
   -- what is seen at the end of the input
@@ -73,6 +87,7 @@ module _ (code : CodeValue) (bytes : List ℕ) (start : ℕ) (s : ℕ) (there : 
       SaysAtEnd code (state_at code s) step → Sees code bytes start s offset stop step
   sees_end sound (Leads next) is at says = absurd says
   sees_end sound (Stays test) is at says = absurd says
+  sees_end sound (Looks leaf used) is at says = absurd says
   sees_end sound (Closes leaf used) is at says = absurd says
   sees_end sound (Halts leaf used) is at says = (λ context. (state_at code s, got, rw (← is, at, stale, says.0, says.1) refl), says.2)
     where
@@ -81,12 +96,13 @@ module _ (code : CodeValue) (bytes : List ℕ) (start : ℕ) (s : ℕ) (there : 
 
       stale : (s == code.root && (stop == start)) ≡ false
       stale = let e : (s == code.root) ≡ false = ne_eqb s code.root other in rw e refl
+  sees_end sound Stuck is at says = tt
   sees_end sound Unsaid is at says = tt
 
 -- what the entry of a byte says, where the byte does not stay: no bytes are looped over
 pub sees_entry : (code : CodeValue) (bytes : List ℕ) (start s : ℕ) → s < length code.states → (at entry : ℕ) → start ≤ at → at < length bytes →
     IsEntry code (state_at code s) (get_or bytes at 0) entry → (step : Step) → IsStepOf entry step → Sees code bytes start s at at step
-sees_entry code bytes start s there at entry h within is step f = go step (is step f)
+sees_entry code bytes start s there at entry h within is step f = go step (is.says step f)
   where
     by_step : (step : Step) → stays code (state_at code s).fast_loop (get_or bytes at 0) ≡ false → Says code (state_at code s) (get_or bytes at 0) step → Sees code bytes start s at at step
     by_step step out said =
@@ -96,6 +112,8 @@ sees_entry code bytes start s there at entry h within is step f = go step (is st
     go : (step : Step) → Says code (state_at code s) (get_or bytes at 0) step → Sees code bytes start s at at step
     go (Leads next) said = by_step (Leads next) said.0 said
     go (Stays test) said = tt
+    go (Looks leaf used) said = by_step (Looks leaf used) said.0 said
     go (Closes leaf used) said = by_step (Closes leaf used) said.0 said
+    go Stuck said = tt
     go (Halts leaf used) said = by_step (Halts leaf used) said.0 said
     go Unsaid said = tt

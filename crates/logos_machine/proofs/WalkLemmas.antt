@@ -1,5 +1,5 @@
 -- Tries by entries.
-use Rattle.std.proofs.Common.{◌≡◌, ℕ, suc, ◌+◌, ◌-◌, ◌<◌, ◌≤◌, inl, inr, ⊎_elim, true, false, List, length, drop, get_or, Some, None, refl, arith, length-drop}
+use Rattle.std.proofs.Common.{◌≡◌, ℕ, zero, suc, ◌+◌, ◌-◌, ◌*◌, ◌/◌, ◌%◌, ◌<◌, ◌≤◌, ◌⊎◌, inl, inr, ⊎_elim, true, false, List, length, drop, get_or, Some, None, refl, sym, subst, arith, length-drop}
 use Rattle.std.proofs.lemmas.Option.{slice_get-get_or, slice_get_past}
 use Rattle.logos_automaton.specs.Munch.{matched}
 use Rattle.logos_code.specs.Code.{CodeValue, CodeState}
@@ -11,7 +11,7 @@ use Rattle.logos_code.proofs.RowLemmas.{loop_stops, entry_moves}
 use Rattle.logos_code.proofs.TargetLemmas.{All-slice_get}
 use Rattle.logos_machine.specs.inside.Looks.{Sees, Comes, Reaches, Tried, LooksAhead, StopsAt}
 use Rattle.logos_code.specs.declared.code.rows.MatchUse.{MatchUse}
-use Rattle.logos_code.specs.declared.code.rows.Step.TheVariants.{Leads, Stays, Closes, Halts}
+use Rattle.logos_code.specs.declared.code.rows.Step.TheVariants.{Leads, Stays, Halts, Looks, Closes}
 use Rattle.logos_machine.proofs.StandLemmas.{looped-fits, stands_first, stands_next, stands_match}
 use Rattle.logos_machine.proofs.StopLemmas.{stop_looped, stop_within}
 use Rattle.logos_machine.proofs.LookLemmas.{loops_on, sees_byte, sees_end, sees_entry}
@@ -26,7 +26,7 @@ loop_named code s test sound there is =
 -- the entry of a byte that stays names the test of its state
 pub stays_test : (code : CodeValue) (state : CodeState) (b entry : ℕ) → IsEntry code state b entry → (268435456 ≤ entry) × (entry < 536870912) →
     (stays code state.fast_loop b ≡ true) × (state.fast_loop ≡ Some (entry - 268435456))
-stays_test code state b entry is h = is (Stays (entry - 268435456)) (omega (arith, h.0), omega (arith, h.0, h.1))
+stays_test code state b entry is h = is.says (Stays (entry - 268435456)) (omega (arith, h.0), omega (arith, h.0, h.1))
 
 module _ (code : CodeValue) (sound : IsSound code) (bytes : List ℕ) (s : ℕ) (there : s < length code.states) (at entry stop : ℕ) (within : at < length bytes)
     (is : IsEntry code (state_at code s) (get_or bytes at 0) entry) (kind : (268435456 ≤ entry) × (entry < 536870912)) (stops : StopsAt code (entry - 268435456) bytes (at + 1) stop) where
@@ -49,6 +49,7 @@ module _ (code : CodeValue) (sound : IsSound code) (bytes : List ℕ) (s : ℕ) 
     within = fits.1;
     moves = inr says.last;
     sees = λ start h step f. sees_end code bytes start s there at stop sound step loop_ends (slice_get_past bytes stop past) (says.says step f);
+    place = λ h. absurd (omega (arith, h, says.last));
   }
 
   -- it ends at a byte
@@ -61,7 +62,8 @@ module _ (code : CodeValue) (sound : IsSound code) (bytes : List ℕ) (s : ℕ) 
         past = omega (arith, fits.0);
         within = fits.1;
         moves = ⊎_elim (λ h. inl (h, inside)) (λ h. inr h) (entry_moves code (state_at code s) (get_or bytes stop 0) later says out);
-        sees = λ start h step f. sees_byte code bytes start s there at stop (get_or bytes stop 0) step h e (slice_get-get_or bytes stop 0 inside) (says step f);
+        sees = λ start h step f. sees_byte code bytes start s there at stop (get_or bytes stop 0) step h e (slice_get-get_or bytes stop 0 inside) (says.says step f);
+        place = says.place;
       }
 
 module _ (code : CodeValue) (sound : IsSound code) (bytes : List ℕ) (start : ℕ) (starts : start ≤ length bytes) where
@@ -83,6 +85,7 @@ module _ (code : CodeValue) (sound : IsSound code) (bytes : List ℕ) (start : �
     past = looks.past;
     within = looks.within;
     sees = looks.sees start (let s = comes.stands in s.begun);
+    place = looks.place;
   }
 
   -- the end of the input
@@ -97,6 +100,7 @@ module _ (code : CodeValue) (sound : IsSound code) (bytes : List ℕ) (start : �
         past = omega arith;
         within = omega (arith, end);
         sees = λ step f. sees_end code bytes start state stands.state at at sound step (omega (arith, none)) (slice_get_past bytes at (omega (arith, end))) (says.says step f);
+        place = λ h. absurd (omega (arith, h, says.last));
       }
 
   -- the entry of the byte there
@@ -109,6 +113,7 @@ module _ (code : CodeValue) (sound : IsSound code) (bytes : List ℕ) (start : �
     past = omega arith;
     within = omega (arith, within);
     sees = let s = comes.stands in sees_entry code bytes start state s.state at entry s.begun within is;
+    place = is.place;
   }
 
   module _ (entry stop before : ℕ) (r : Reaches code bytes start entry stop before) where
@@ -116,11 +121,12 @@ module _ (code : CodeValue) (sound : IsSound code) (bytes : List ℕ) (start : �
     at = record { state = r.state; offset = r.offset; context = r.comes.context }
 
     -- an entry that leads
-    pub leads_on : entry < 268435456 → Comes code bytes start entry (stop + 1) (before + 1)
+    pub leads_on : entry < 268435456 → Comes code bytes start (entry / 256) (stop + 1) (before + 1)
     leads_on h =
-        let sees : Sees code bytes start r.state r.offset stop (Leads entry) = r.sees (Leads entry) (refl, h) in
+        let place = r.place h in
+        let sees : Sees code bytes start r.state r.offset stop (Leads (entry / 256)) = r.sees (Leads (entry / 256)) (sym place, omega (arith, h)) in
         let does = sees r.comes.context in
-        let next : Stand = record { state = entry; offset = stop + 1; context = does.0 } in
+        let next : Stand = record { state = entry / 256; offset = stop + 1; context = does.0 } in
         let n = stands_next code sound bytes start starts at next r.comes.stands does.1 in
         let few = r.comes.few in
         let moves = n.1 in
@@ -134,7 +140,7 @@ module _ (code : CodeValue) (sound : IsSound code) (bytes : List ℕ) (start : �
         }
 
     -- an entry that halts
-    pub halts_soon : (leaf : ℕ) (used : MatchUse) → entry ≡ first_halting used + leaf → leaf < 268435456 → Tried code bytes start (matched leaf stop) (before + 1) × IsUse code leaf used
+    halts_soon : (leaf : ℕ) (used : MatchUse) → entry ≡ first_halting used + leaf → leaf < 134217728 → Tried code bytes start (matched leaf stop) (before + 1) × IsUse code leaf used
     halts_soon leaf used is small =
         let sees : Sees code bytes start r.state r.offset stop (Halts (record { 0 = leaf }) used) = r.sees (Halts (record { 0 = leaf }) used) (is, small) in
         let does = sees.0 r.comes.context in
@@ -148,6 +154,40 @@ module _ (code : CodeValue) (sound : IsSound code) (bytes : List ℕ) (start : �
           },
           sees.1,
         )
+
+    -- an entry that looks ahead
+    looks_soon : (leaf : ℕ) (used : MatchUse) → entry ≡ first_halting used + 134217728 + leaf → leaf < 134217728 → Tried code bytes start (matched leaf stop) (before + 2) × IsUse code leaf used
+    looks_soon leaf used is small =
+        let sees : Sees code bytes start r.state r.offset stop (Looks (record { 0 = leaf }) used) = r.sees (Looks (record { 0 = leaf }) used) (is, small) in
+        let does = sees.0 r.comes.context in
+        let next : Stand = record { state = does.0; offset = stop + 1; context = does.1 } in
+        let n = stands_next code sound bytes start starts at next r.comes.stands does.2 in
+        let few = r.comes.few in
+        let past = r.past in
+        let m = stands_match code sound bytes start starts next (Some (leaf, stop)) (stop + 1) n.0 does.3 in
+        let within = m.2 in (
+          record {
+            tries = r.comes.goes_on (matched leaf stop) 2
+                (goes_on at next (matched leaf stop) 1 does.2 (acts_on next (Some (leaf, stop)) (stop + 1) (matched leaf stop) does.3 refl));
+            within = m;
+            few = omega (arith, few, past, within);
+          },
+          sees.1,
+        )
+
+    -- an entry of a match that ends before its byte
+    pub ends_before : (named : ℕ) (used : MatchUse) → entry ≡ first_halting used + named → named < 268435456 →
+        Tried code bytes start (matched (named % 134217728) stop) (before + 1 + named / 134217728) × IsUse code (named % 134217728) used
+    ends_before named used is small = go (named / 134217728) (named % 134217728) (omega arith) (omega arith) (omega (arith, small))
+      where
+        go : (late leaf : ℕ) → named ≡ 134217728 * late + leaf → leaf < 134217728 → late < 2 → Tried code bytes start (matched leaf stop) (before + 1 + late) × IsUse code leaf used
+        go zero leaf e l h =
+            let n : before + 1 ≡ before + 1 + 0 = omega arith in
+            subst (λ steps. Tried code bytes start (matched leaf stop) steps × IsUse code leaf used) n (halts_soon leaf used (omega (arith, is, e)) l)
+        go (suc zero) leaf e l h =
+            let n : before + 2 ≡ before + 1 + 1 = omega arith in
+            subst (λ steps. Tried code bytes start (matched leaf stop) steps × IsUse code leaf used) n (looks_soon leaf used (omega (arith, is, e)) l)
+        go (suc (suc late)) leaf e l h = absurd (omega (arith, h))
 
     -- an entry that closes
     pub closes_soon : (leaf : ℕ) (used : MatchUse) → entry ≡ first_closing used + leaf → leaf < 268435456 → Tried code bytes start (matched leaf (stop + 1)) (before + 2) × IsUse code leaf used

@@ -1,4 +1,4 @@
-//! What a run of a lexer gives.
+//! Lexers: runs of a code value on an input.
 
 ghost use Rattle.std.specs.Prelude.{◌≡◌, ◌<◌, ◌≤◌, length, option_map, slice_range, MatchBool};
 ghost use Rattle.std.specs.Prelude.{MatchOption, IfOk, IfErr, IsTrue, IsUtf8, drop, None};
@@ -19,7 +19,7 @@ use logos_token::token::Span;
 use std::marker::Model;
 use walk::{Outcome, attempt};
 
-/// A part of the input. Spans are byte offsets, and the slice is the input at the span.
+/// A part of the input. Spans are byte offsets, and `slice` is the input at the span.
 #[derive(Clone, Copy, Debug)]
 pub enum Item<'i> {
     /// A match.
@@ -28,7 +28,7 @@ pub enum Item<'i> {
         span: Span,
         slice: &'i [u8],
     },
-    /// Bytes that no leaf matches, without a leaf, or a match that the callback of its leaf refused.
+    /// Bytes that no leaf matches, if `leaf` is `None`, or a match that the callback of its leaf refused.
     Error {
         leaf: Option<LeafId>,
         span: Span,
@@ -36,10 +36,10 @@ pub enum Item<'i> {
     },
 }
 
-/// The input of a lexer in UTF-8 mode is not UTF-8.
+/// The error of an input that is not UTF-8, for a lexer in UTF-8 mode.
 #[derive(Clone, Copy, Debug, PartialEq, Eq)]
 pub struct NotUtf8 {
-    /// The length in bytes of the longest beginning that is UTF-8.
+    /// The length in bytes of the longest beginning of the input that is UTF-8.
     pub valid_up_to: usize,
 }
 
@@ -78,7 +78,7 @@ impl<'c, 's, 'i, C> Model for Lexer<'c, 's, 'i, C> {
 }
 
 impl<'c, 's, 'i, C: Fn(LeafId, &[u8]) -> Action> Lexer<'c, 's, 'i, C> {
-    /// A lexer at the start of a text. The callback is asked for the matches of the leaves that have one.
+    /// Makes a lexer at the start of a text. It calls the callback for each match of a leaf that has one.
     pub fn new_str(code: &'c Code<'s>, input: &'i str, callback: C) -> Lexer<'c, 's, 'i, C>
         requires { C.IsAlwaysCallable callback }
         ensures { result ≡ begun code.now input.now callback }
@@ -86,7 +86,10 @@ impl<'c, 's, 'i, C: Fn(LeafId, &[u8]) -> Action> Lexer<'c, 's, 'i, C> {
         Lexer::start(code, input.as_bytes(), callback)
     }
 
-    /// A lexer at the start of some bytes. In UTF-8 mode, and only there, they are refused if they are not UTF-8.
+    /// Makes a lexer at the start of some bytes.
+    ///
+    /// # Errors
+    /// Returns `NotUtf8` if the code is in UTF-8 mode and the bytes are not UTF-8.
     pub fn new_bytes(
         code: &'c Code<'s>,
         input: &'i [u8],
@@ -104,7 +107,7 @@ impl<'c, 's, 'i, C: Fn(LeafId, &[u8]) -> Action> Lexer<'c, 's, 'i, C> {
         Ok(Lexer::start(code, input, callback))
     }
 
-    /// A lexer in front of the first byte, which has made no step yet.
+    /// Makes a lexer before the first byte, which has made no step yet.
     fn start(code: &'c Code<'s>, input: &'i [u8], callback: C) -> Lexer<'c, 's, 'i, C>
         ensures { result ≡ begun code.now input.now callback }
     {
@@ -118,7 +121,7 @@ impl<'c, 's, 'i, C: Fn(LeafId, &[u8]) -> Action> Lexer<'c, 's, 'i, C> {
         }
     }
 
-    /// The next item, or `None` at the end of the input, and ever after.
+    /// Returns the next item, or `None` at the end of the input, and on every later call.
     #[inline(always)]
     pub fn next(&mut self) -> Option<Item<'i>>
         requires { C.IsAlwaysCallable self.old.callback }
@@ -176,7 +179,7 @@ impl<'c, 's, 'i, C: Fn(LeafId, &[u8]) -> Action> Lexer<'c, 's, 'i, C> {
         self.steps = steps;
     }
 
-    /// The span of the last item: 0..0 before the first, and the empty span at the input's end after `None`.
+    /// Returns the span of the last item: 0..0 before the first, and the empty span at the end of the input after `None`.
     pub fn span(&self) -> Span
         ensures { result ≡ record { from = self.now.from; to = self.now.to } }
     {
@@ -186,7 +189,7 @@ impl<'c, 's, 'i, C: Fn(LeafId, &[u8]) -> Action> Lexer<'c, 's, 'i, C> {
         }
     }
 
-    /// The input at the span of the last item.
+    /// Returns the input at the span of the last item.
     pub fn slice(&self) -> &'i [u8]
         ensures { result.now ≡ slice_range self.now.input self.now.from self.now.to }
     {
@@ -200,7 +203,7 @@ impl<'c, 's, 'i, C: Fn(LeafId, &[u8]) -> Action> Lexer<'c, 's, 'i, C> {
         &self.input[self.to..]
     }
 
-    /// How many states the last try entered, 0 before the first.
+    /// Returns how many states the last try entered, 0 before the first.
     pub fn steps(&self) -> usize
         ensures { result ≡ self.now.steps }
     {
@@ -208,7 +211,10 @@ impl<'c, 's, 'i, C: Fn(LeafId, &[u8]) -> Action> Lexer<'c, 's, 'i, C> {
     }
 }
 
-/// Whether the bytes are UTF-8, and else how long their longest beginning is that is.
+/// Checks that the bytes are UTF-8.
+///
+/// # Errors
+/// Returns the length of the longest beginning that is UTF-8.
 fn check_utf8(input: &[u8]) -> Result<(), NotUtf8>
     ensures accepted { IfOk result (λ _. IsUtf8 input.now) }
     ensures refused { IfErr result
@@ -251,7 +257,7 @@ fn error<'i>(input: &'i [u8], span: Span) -> Item<'i>
     }
 }
 
-/// The item that a match gives, if it is not skipped.
+/// Returns the item of a match, if it is not skipped.
 #[inline(always)]
 fn matched_item<'i, C: Fn(LeafId, &[u8]) -> Action>(
     code: &Code,
@@ -279,7 +285,7 @@ fn matched_item<'i, C: Fn(LeafId, &[u8]) -> Action>(
     }
 }
 
-/// What is answered to a match.
+/// Returns the answer to a match. A leaf without a callback answers `Emit`.
 #[inline(always)]
 fn answer<C: Fn(LeafId, &[u8]) -> Action>(
     code: &Code,

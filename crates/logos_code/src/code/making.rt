@@ -1,4 +1,4 @@
-//! Making code values. This module is for the generator of codes alone: it is not handed on with `code`.
+//! Makes code values. This module is for the generator of codes alone, so `code` does not export it.
 ghost use Rattle.std.specs.Prelude.{◌≡◌, IfOk};
 ghost use Rattle.logos_code.specs.CodeView.{code_of, IsValid};
 
@@ -21,7 +21,7 @@ pub fn make_code<'s>(alloc: Global, parts: CodeParts<'s>) -> Result<Code<'s>, Al
     let masks = masks_of(alloc, &parts)?;
     let signs = signs_of(alloc, &parts)?;
     let uses = uses_of(alloc, &parts)?;
-    let first = first_row(&rows[parts.root]);
+    let first = first_row(&rows, parts.root);
     Ok(Code {
         parts,
         first,

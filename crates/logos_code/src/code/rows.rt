@@ -1,5 +1,27 @@
 //! Rows: what each byte does in each state, as one number.
-ghost use Rattle.std.specs.Prelude.{◌≡◌, ◌<◌, ◌⊎◌, false, ℕ, List, length, map};
+//!
+//! The rows of all states lie in one table, one after another, 256 entries each: what byte `b` does in state `s` is entry
+//! `256 * s + b`. The place of a state is the index of the first entry of its row. An entry has its kind in the upper
+//! four bits, and below them what it names. The kinds are numbered in the order in which a lexer asks for them:
+//!
+//! | Kind | It names | The byte |
+//! |---|---|---|
+//! | 0 | the place of a state | leads to this state |
+//! | 1, `STAYS` | a test | stays in the state, whose fast loop has this test |
+//! | 2, `LEAVES` | a leaf, `LATE` | ends a match before it, which is skipped without a callback |
+//! | 3, `HALTS` | a leaf, `LATE` | ends a match before it, which is a token without a callback |
+//! | 4, `CLOSES` | a leaf | ends a match after it, which is a token without a callback |
+//! | 5, `SHUTS` | a leaf | ends a match after it, which is skipped without a callback |
+//! | 6, `ASKS` | a leaf, `LATE` | ends a match before it, which is up to a callback |
+//! | 7, `ASKS_AFTER` | a leaf | ends a match after it, which is up to a callback |
+//! | 8, `STUCK` | nothing | leads nowhere, and the state marks no match there |
+//! | 9, `UNSAID` | nothing | does something that entries do not name |
+//!
+//! A match that ends after the byte is marked by the state to which the byte leads, and that state does nothing else.
+//! Where the match ends before the byte, bit `LATE` says whether the state itself marks it and the byte leads nowhere
+//! (0), or the byte leads to a state that marks it late and does nothing else (1). What is too large for an entry is
+//! `UNSAID`.
+ghost use Rattle.std.specs.Prelude.{◌≡◌, ◌+◌, ◌*◌, ◌<◌, ◌≤◌, ◌⊎◌, false, ℕ, List, length, map};
 ghost use Rattle.std.specs.Prelude.{None, Some, option_map, IfOk, IfSome, slice_index_or};
 ghost use Rattle.logos_byte_class.specs.Bytes.{comparison_of, some_compares};
 ghost use Rattle.logos_code.specs.Bytes.{passes_test};
@@ -19,11 +41,17 @@ use logos_hir::leaf::LeafId;
 use logos_pattern::leaf::VariantKind;
 use std::alloc::{AllocError, Global};
 
-/// How many states, tests and leaves entries can name.
+/// How many entries a kind has.
 const NAMED: u32 = 1 << 28;
 
-/// An entry below `STAYS` leads to the state with its number. Any other entry is the first of its kind plus the number of
-/// what it names. An entry of this kind names a test: the byte stays in the state, whose fast loop has this test.
+/// How many states entries can name.
+const STATES: usize = 1 << 20;
+
+/// Added to an entry of a match that ends before the byte, where the byte leads to a state that marks the match late.
+pub const LATE: u32 = 1 << 27;
+
+/// The first entry that names a test: the byte stays in the state, whose fast loop has this test. An entry below it is
+/// the place of the state to which the byte leads.
 pub const STAYS: u32 = NAMED;
 
 /// The first entry that names a leaf whose match ends before the byte, and is skipped without a callback.
@@ -44,8 +72,11 @@ pub const ASKS: u32 = 6 * NAMED;
 /// The first entry that names a leaf whose match ends after the byte, and is up to a callback.
 pub const ASKS_AFTER: u32 = 7 * NAMED;
 
+/// The first entry of a byte that leads nowhere from a state without an early mark.
+pub const STUCK: u32 = 8 * NAMED;
+
 /// The first entry that says nothing of its byte.
-pub const UNSAID: u32 = 8 * NAMED;
+pub const UNSAID: u32 = 9 * NAMED;
 
 /// What becomes of the matches of a leaf, as far as entries say it.
 #[derive(Clone, Copy)]
@@ -67,8 +98,12 @@ pub enum Step {
     Stays(usize),
     /// It leads nowhere, and a match of this leaf ends before it.
     Halts(LeafId, MatchUse),
+    /// It leads to a state that marks a match of this leaf late, one that ends before it, and does nothing else.
+    Looks(LeafId, MatchUse),
     /// It leads to a state that marks a match of this leaf, and does nothing else.
     Closes(LeafId, MatchUse),
+    /// It leads nowhere.
+    Stuck,
     /// It does something that entries do not name.
     Unsaid,
 }
@@ -78,10 +113,14 @@ pub(super) fn entry_of_step(step: Step) -> u32
     ensures { IsStepOf result step ⊎ IsStepOf result Step.Unsaid }
 {
     match step {
-        Step::Leads(state) if state < NAMED as usize => state as u32,
+        Step::Leads(state) if state < STATES => 256 * state as u32,
         Step::Stays(test) if test < NAMED as usize => STAYS + test as u32,
-        Step::Halts(leaf, used) if leaf.0 < NAMED as usize => first_halting(used) + leaf.0 as u32,
+        Step::Halts(leaf, used) if leaf.0 < LATE as usize => first_halting(used) + leaf.0 as u32,
+        Step::Looks(leaf, used) if leaf.0 < LATE as usize => {
+            first_halting(used) + LATE + leaf.0 as u32
+        }
         Step::Closes(leaf, used) if leaf.0 < NAMED as usize => first_closing(used) + leaf.0 as u32,
+        Step::Stuck => STUCK,
         _ => UNSAID,
     }
 }
@@ -112,13 +151,13 @@ fn first_closing(used: MatchUse) -> u32
 ///
 /// # Errors
 /// Returns an error when memory runs out.
-pub(super) fn rows_of(alloc: Global, parts: &CodeParts) -> Result<Vec<[u32; 256]>, AllocError>
+pub(super) fn rows_of(alloc: Global, parts: &CodeParts) -> Result<Vec<u32>, AllocError>
     requires { IsSound (code_of parts.now) }
     ensures { IfOk result (λ rows. AreRows (code_of parts.now) rows.items) }
 {
     let mut rows = Vec::new(alloc);
     for state in &parts.states {
-        rows.push(row_of(parts, state))?;
+        rows.extend_from_slice(&row_of(parts, state))?;
     }
     Ok(rows)
 }
@@ -146,14 +185,15 @@ fn entry_at(parts: &CodeParts, state: &CodeState, byte: u8) -> u32
     entry_of_step(parts.step(state, byte))
 }
 
-/// Returns the row for the first byte of a try, from the row of the state in which tries begin. An entry of it leads to a
-/// state, closes a match or says nothing.
-pub(super) fn first_row(row: &[u32; 256]) -> [u32; 256]
-    ensures { IsFirstOf row.now result }
+/// Returns the row for the first byte of a try, from the rows of all states and the state in which tries begin. An
+/// entry of it leads to a state, closes a match or says nothing.
+pub(super) fn first_row(rows: &[u32], root: usize) -> [u32; 256]
+    requires { 256 * root + 256 ≤ length rows.now }
+    ensures { IsFirstOf rows.now root result }
 {
     let mut first = [UNSAID; 256];
     for b in 0..256 {
-        first[b] = first_entry(row[b]);
+        first[b] = first_entry(rows[256 * root + b]);
     }
     first
 }
@@ -169,10 +209,10 @@ fn first_entry(entry: u32) -> u32
     }
 }
 
-/// Returns the leaf of the match that the state marks, if it does nothing else.
-fn closing_leaf(state: &CodeState) -> Option<LeafId>
-    ensures { IfSome result (λ leaf. (tables : List (List ℕ)) →
-        state_of tables state.now ≡ closing leaf.0) }
+/// Returns the mark of the state, if the state does nothing else.
+fn closing_mark(state: &CodeState) -> Option<Mark>
+    ensures { IfSome result (λ mark. (tables : List (List ℕ)) →
+        state_of tables state.now ≡ closing (mark_of mark)) }
 {
     let Fork::Conditions(branches) = &state.fork else {
         return None;
@@ -180,7 +220,7 @@ fn closing_leaf(state: &CodeState) -> Option<LeafId>
     if !branches.is_empty() || state.fast_loop.is_some() || state.at_end.is_some() {
         return None;
     }
-    early_leaf(state.mark)
+    state.mark
 }
 
 /// Returns the leaf of a mark that is not late.
@@ -233,8 +273,9 @@ impl CodeParts<'_> {
         let Some(target) = self.target(&state.fork, byte) else {
             return self.halting_step(state.mark);
         };
-        match closing_leaf(&self.states[target]) {
-            Some(leaf) => Step::Closes(leaf, self.match_use(leaf)),
+        match closing_mark(&self.states[target]) {
+            Some(mark) if mark.late => Step::Looks(mark.leaf, self.match_use(mark.leaf)),
+            Some(mark) => Step::Closes(mark.leaf, self.match_use(mark.leaf)),
             None => Step::Leads(target),
         }
     }
@@ -245,7 +286,7 @@ impl CodeParts<'_> {
     {
         match early_leaf(mark) {
             Some(leaf) => Step::Halts(leaf, self.match_use(leaf)),
-            None => Step::Unsaid,
+            None => Step::Stuck,
         }
     }
 

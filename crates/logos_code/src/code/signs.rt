@@ -1,4 +1,4 @@
-//! Signs: what the mark of a state says, found by one look.
+//! Signs: the marks of states, found by one look.
 ghost use Rattle.std.specs.Prelude.{◌≡◌, IfOk, map, option_map};
 ghost use Rattle.logos_code.specs.CodeView.{mark_of, code_of};
 ghost use Rattle.logos_code.specs.Signs.{mark_by, AreSigns};
@@ -7,10 +7,10 @@ use super::{CodeParts, Mark};
 use logos_hir::leaf::LeafId;
 use std::alloc::{AllocError, Global};
 
-/// What the mark of a state says. Which of the three it is, a lexer finds by a branch, so it need not wait for the leaf.
+/// The mark of a state. A lexer distinguishes the three by a branch, so it need not wait for the leaf.
 #[derive(Clone, Copy)]
 pub enum Sign {
-    /// There is none.
+    /// The state has no mark.
     Nothing,
     /// A match of this leaf ends where the state is.
     Here(LeafId),
@@ -18,7 +18,10 @@ pub enum Sign {
     Before(LeafId),
 }
 
-/// The signs of all states.
+/// Returns the signs of all states.
+///
+/// # Errors
+/// Returns an error when memory runs out.
 pub(super) fn signs_of(alloc: Global, parts: &CodeParts) -> Result<Vec<Sign>, AllocError>
     ensures { IfOk result (λ signs. AreSigns (code_of parts.now) (map mark_by signs.items)) }
 {
@@ -29,7 +32,7 @@ pub(super) fn signs_of(alloc: Global, parts: &CodeParts) -> Result<Vec<Sign>, Al
     Ok(signs)
 }
 
-/// What the mark says.
+/// Returns the sign of a mark.
 fn sign_of(mark: Option<Mark>) -> Sign
     ensures { mark_by result ≡ option_map mark_of mark }
 {

@@ -7,16 +7,19 @@ use super::{CodeLeaf, CodeParts};
 use logos_pattern::leaf::VariantKind;
 use std::alloc::{AllocError, Global};
 
-/// What becomes of the matches of a leaf, in two bytes. A lexer looks at these, so it need not wait for the leaves, which are far larger.
+/// What becomes of the matches of a leaf, in two bytes. A lexer reads these in place of the leaves, which are far larger.
 #[derive(Clone, Copy)]
 pub(crate) struct LeafUse {
-    /// They are left out.
+    /// The matches are skipped.
     pub skips: bool,
-    /// A callback is asked for them.
+    /// A callback is called for each match.
     pub asks: bool,
 }
 
-/// The uses of all leaves.
+/// Returns the uses of all leaves, in the order of their numbers.
+///
+/// # Errors
+/// Returns an error when memory runs out.
 pub(super) fn uses_of(alloc: Global, parts: &CodeParts) -> Result<Vec<LeafUse>, AllocError>
     ensures { IfOk result (λ uses. map use_by uses.items ≡ map use_of parts.now.leaves.items) }
 {
@@ -27,7 +30,7 @@ pub(super) fn uses_of(alloc: Global, parts: &CodeParts) -> Result<Vec<LeafUse>, 
     Ok(uses)
 }
 
-/// The use of a leaf.
+/// Returns the use of a leaf.
 fn leaf_use(leaf: &CodeLeaf) -> LeafUse
     ensures { use_by result ≡ use_of leaf.now }
 {

@@ -4,12 +4,12 @@ use Rattle.std.specs.List.{prefix_len}
 use Rattle.logos_automaton.specs.Munch.{Found, ended, matched, failed}
 use Rattle.logos_code.specs.Bytes.{passes_test}
 use Rattle.logos_code.specs.Code.{CodeValue}
-use Rattle.logos_code.specs.Rows.{IsStepOf, IsUse}
+use Rattle.logos_code.specs.Rows.{IsStepOf, IsUse, LeadsToPlace}
 use Rattle.logos_code.specs.Runs.{enters, acts, Does, Goes, Tries}
 use Rattle.logos_machine.specs.inside.Stands.{IsStand, StaysWithin}
 use Rattle.logos_code.specs.declared.code.rows.MatchUse.TheVariants.{Emits, Skips}
 use Rattle.logos_code.specs.declared.code.rows.Step.{Step}
-use Rattle.logos_code.specs.declared.code.rows.Step.TheVariants.{Leads, Stays, Closes, Halts, Unsaid}
+use Rattle.logos_code.specs.declared.code.rows.Step.TheVariants.{Leads, Stays, Halts, Looks, Closes, Stuck, Unsaid}
 use Rattle.logos_machine.specs.declared.machine.walk.Outcome.{Outcome}
 use Rattle.logos_machine.specs.declared.machine.walk.Outcome.TheVariants.{Skips as SkipsTo, Emits as EmitsTo, Asks as AsksTo, Fails, Ends}
 
@@ -28,18 +28,20 @@ module _ (code : CodeValue) (bytes : List ℕ) (start : ℕ) where
   EndsHere state offset stop leaf = (context : Option (ℕ × ℕ)) →
       Does code bytes start (record { state = state; offset = offset; context = context }) (acts (Some (leaf, stop)) stop)
 
-  -- or in the next one, one byte later
-  abbrev pub EndsNext : (state offset stop leaf : ℕ) → Type 0
-  EndsNext state offset stop leaf = (context : Option (ℕ × ℕ)) → (next : ℕ) × (passed : Option (ℕ × ℕ)) ×
+  -- or in the next one, one byte later, with a match up to the end
+  abbrev pub EndsNext : (state offset stop leaf end : ℕ) → Type 0
+  EndsNext state offset stop leaf end = (context : Option (ℕ × ℕ)) → (next : ℕ) × (passed : Option (ℕ × ℕ)) ×
       Does code bytes start (record { state = state; offset = offset; context = context }) (enters (record { state = next; offset = stop + 1; context = passed })) ×
-      Does code bytes start (record { state = next; offset = stop + 1; context = passed }) (acts (Some (leaf, stop + 1)) (stop + 1))
+      Does code bytes start (record { state = next; offset = stop + 1; context = passed }) (acts (Some (leaf, end)) (stop + 1))
 
   -- A step that is seen from a state on is what the state does. Its fast loop ends at the stop.
   abbrev pub Sees : (state offset stop : ℕ) → Step → Type 0
   Sees state offset stop (Leads next) = LeadsOn state offset stop next
   Sees state offset stop (Stays test) = Unit {0}
   Sees state offset stop (Halts leaf used) = EndsHere state offset stop leaf.0 × IsUse code leaf.0 used
-  Sees state offset stop (Closes leaf used) = EndsNext state offset stop leaf.0 × IsUse code leaf.0 used
+  Sees state offset stop (Looks leaf used) = EndsNext state offset stop leaf.0 stop × IsUse code leaf.0 used
+  Sees state offset stop (Closes leaf used) = EndsNext state offset stop leaf.0 (stop + 1) × IsUse code leaf.0 used
+  Sees state offset stop Stuck = Unit {0}
   Sees state offset stop Unsaid = Unit {0}
 
   -- The try enters the state after so many others, and what goes on from there is the whole try.
@@ -57,6 +59,7 @@ module _ (code : CodeValue) (bytes : List ℕ) (start : ℕ) where
     pub past : offset ≤ stop
     pub within : stop ≤ length bytes
     pub sees : (step : Step) → IsStepOf entry step → Sees state offset stop step
+    pub place : LeadsToPlace entry
 
   -- a try finds this in so many states
   pub record Tried (found : Found) (steps : ℕ) : Type 0 where
@@ -82,3 +85,4 @@ pub record LooksAhead (code : CodeValue) (bytes : List ℕ) (state offset entry 
   pub within : stop ≤ length bytes
   pub moves : GoesOnOrEnds bytes entry stop
   pub sees : (start : ℕ) → start ≤ offset → (step : Step) → IsStepOf entry step → Sees code bytes start state offset stop step
+  pub place : LeadsToPlace entry

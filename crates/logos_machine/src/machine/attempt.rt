@@ -1,4 +1,4 @@
-//! The slow way of a try: state by state, with the marks that it passes.
+//! The slow way of a try: state by state, with a note of the last mark passed.
 ghost use Rattle.std.specs.Prelude.{◌≡◌, ◌+◌, ◌-◌, ◌<◌, ◌≤◌, ℕ, max, length, slice_get, drop};
 ghost use Rattle.std.specs.Prelude.{option_map, IfSome, IsTrue, IsCharBoundary, ◌^◌, ◌↔◌};
 ghost use Rattle.logos_code.specs.CodeView.{state_at};
@@ -25,7 +25,7 @@ pub(super) struct Stand {
 #[derive(Clone, Copy)]
 pub(super) enum Turn {
     Enters(Stand),
-    /// The try is over at this offset.
+    /// The try is over at this offset, with this last mark.
     Acts(Option<(LeafId, usize)>, usize),
     /// The input is over, and nothing was read in this try.
     Returns,
@@ -49,7 +49,7 @@ struct Stop {
     target: Option<Option<usize>>,
 }
 
-/// What the state does that is entered there.
+/// Does what the entered state does.
 #[inline]
 fn run_state(code: &Code, input: &[u8], start: usize, at: Stand) -> Turn
     requires { IsStand code.now input.now start (stand_of at) }
@@ -72,7 +72,7 @@ fn run_state(code: &Code, input: &[u8], start: usize, at: Stand) -> Turn
     }
 }
 
-/// Where the state's fast loop ends.
+/// Returns where the state's fast loop ends, and where the byte there leads.
 #[inline]
 fn stop_of(code: &Code, input: &[u8], state: usize, offset: usize) -> Stop
     requires { state < length code.now.states }
@@ -144,7 +144,7 @@ fn error_end(code: &Code, input: &[u8], start: usize, offset: usize) -> usize
     }
 }
 
-/// The first boundary of characters from the offset on.
+/// Returns the first boundary between characters from the offset on.
 fn boundary_from(input: &[u8], from: usize) -> usize
     requires { from ≤ length input.now }
     ensures past { from ≤ result }
@@ -158,14 +158,14 @@ fn boundary_from(input: &[u8], from: usize) -> usize
     to
 }
 
-/// Whether the byte goes on with a character.
+/// Returns whether the byte continues a character.
 fn is_continuation(byte: u8) -> bool
     ensures { IsTrue result ↔ (128 ≤ byte) × (byte < 192) }
 {
     matches!(byte, 0x80..=0xBF)
 }
 
-/// What is found from a place on, and the number of states entered, by a try that keeps the marks passed.
+/// Returns what is found from a place on, and how many states were entered, by a try that notes the marks passed.
 #[cold]
 #[inline(never)]
 pub(super) fn attempt_with_marks(code: &Code, input: &[u8], start: usize) -> (Found, usize)

@@ -1,14 +1,14 @@
 //! The fast way of a try: a look at an entry for each byte.
-ghost use Rattle.std.specs.Prelude.{◌<◌, ◌≤◌, length, slice_index_or};
+ghost use Rattle.std.specs.Prelude.{◌≡◌, ◌<◌, ◌≤◌, ◌/◌, ◌%◌, length, slice_index_or};
 ghost use Rattle.logos_code.specs.CodeView.{state_at};
 ghost use Rattle.logos_code.specs.Headline.{IsSound};
-ghost use Rattle.logos_code.specs.Rows.{IsEntry};
+ghost use Rattle.logos_code.specs.Rows.{IsEntry, IsPlace};
 ghost use Rattle.logos_machine.specs.inside.Looks.{Reaches, LooksAhead, IsOutcome};
 
 use super::attempt::{Found, attempt_with_marks};
 use super::fast_loop::stop;
 use logos_code::code::Code;
-use logos_code::code::rows::{ASKS, ASKS_AFTER, CLOSES, HALTS, LEAVES, SHUTS, STAYS, UNSAID};
+use logos_code::code::rows::{ASKS, ASKS_AFTER, CLOSES, HALTS, LATE, LEAVES, SHUTS, STAYS, STUCK};
 use logos_hir::leaf::LeafId;
 
 /// What a try finds. The numbers after leaves are the end of the match and how many states were entered.
@@ -46,8 +46,8 @@ pub(super) fn attempt(code: &Code, input: &[u8], start: usize) -> Outcome
     end_of(code, input, start, last)
 }
 
-/// Returns what is found from a place on by a try that keeps the marks passed. Only that try is called out of line: its
-/// result is in memory, and this one is made anew from it, so that the compiler can keep it in registers.
+/// Returns what is found from a place on by a try that notes the marks passed. Only that try is called out of line: its
+/// result is in memory, and this one is made anew from it, so that the compiler can hold it in registers.
 #[inline(always)]
 fn attempt_slowly(code: &Code, input: &[u8], start: usize) -> Outcome
     requires { start ≤ length input.now }
@@ -74,7 +74,8 @@ fn end_of(code: &Code, input: &[u8], start: usize, last: (u32, usize, usize)) ->
         return Outcome::Skips(stop);
     }
     if entry < CLOSES {
-        return Outcome::Emits(LeafId((entry - HALTS) as usize), stop, before + 1);
+        let (leaf, late) = halted(entry - HALTS);
+        return Outcome::Emits(leaf, stop, before + 1 + late);
     }
     if entry < SHUTS {
         return Outcome::Emits(LeafId((entry - CLOSES) as usize), stop + 1, before + 2);
@@ -83,12 +84,23 @@ fn end_of(code: &Code, input: &[u8], start: usize, last: (u32, usize, usize)) ->
         return Outcome::Skips(stop + 1);
     }
     if entry < ASKS_AFTER {
-        return Outcome::Asks(LeafId((entry - ASKS) as usize), stop, before + 1);
+        let (leaf, late) = halted(entry - ASKS);
+        return Outcome::Asks(leaf, stop, before + 1 + late);
     }
-    if entry < UNSAID {
+    if entry < STUCK {
         return Outcome::Asks(LeafId((entry - ASKS_AFTER) as usize), stop + 1, before + 2);
     }
     attempt_slowly(code, input, start)
+}
+
+/// Returns the leaf of a match that ends before the byte, and how many states were entered after the one that has the
+/// entry, from the entry without its kind.
+#[inline(always)]
+fn halted(entry: u32) -> (LeafId, usize)
+    ensures leaf { result.0.0 ≡ entry % 134217728 }
+    ensures late { result.1 ≡ entry / 134217728 }
+{
+    (LeafId((entry % LATE) as usize), (entry / LATE) as usize)
 }
 
 /// Returns the last entry of a try, where its byte is, and how many states were entered before the one that has it.
@@ -101,13 +113,13 @@ fn walk(code: &Code, input: &[u8], start: usize, first: u32) -> (u32, usize, usi
     ensures reaches { Reaches code.now input.now start result.0 result.1 result.2 }
     ensures ends { 536870912 ≤ result.0 }
 {
-    let mut state = first as usize;
+    let mut place = first as usize;
     let mut at = start + 1;
     let mut before = 1;
     while at < input.len() {
-        let entry = code.entry(state, input[at]);
+        let entry = code.entry(place, input[at]);
         if entry < STAYS {
-            state = entry as usize;
+            place = entry as usize;
             at += 1;
             before += 1;
             continue;
@@ -115,31 +127,31 @@ fn walk(code: &Code, input: &[u8], start: usize, first: u32) -> (u32, usize, usi
         if entry >= LEAVES {
             return (entry, at, before);
         }
-        let (later, stop) = look_far(code, input, state, at, entry);
+        let (later, stop) = look_far(code, input, place, at, entry);
         if later >= STAYS {
             return (later, stop, before);
         }
-        state = later as usize;
+        place = later as usize;
         at = stop + 1;
         before += 1;
     }
-    (code.last_entry(state), at, before)
+    (code.last_entry(place), at, before)
 }
 
 /// Returns the entry after a fast loop, and where its byte is.
 #[inline(always)]
-fn look_far(code: &Code, input: &[u8], state: usize, at: usize, entry: u32) -> (u32, usize)
+fn look_far(code: &Code, input: &[u8], place: usize, at: usize, entry: u32) -> (u32, usize)
     requires sound { IsSound code.now }
-    requires state { state < length code.now.states }
+    requires place { IsPlace code.now place }
     requires at { at < length input.now }
     requires stays { (268435456 ≤ entry) × (entry < 536870912) }
-    requires entry { IsEntry code.now (state_at code.now state)
+    requires entry { IsEntry code.now (state_at code.now (place / 256))
         (slice_index_or input.now at 0) entry }
-    ensures { LooksAhead code.now input.now state at result.0 result.1 }
+    ensures { LooksAhead code.now input.now (place / 256) at result.0 result.1 }
 {
     let stop = stop(code, (entry - STAYS) as usize, input, at + 1);
     if stop >= input.len() {
-        return (code.last_entry(state), stop);
+        return (code.last_entry(place), stop);
     }
-    (code.entry(state, input[stop]), stop)
+    (code.entry(place, input[stop]), stop)
 }

@@ -6,8 +6,8 @@ use Rattle.logos_code.proofs.code.making.make_code.Goals as goal
 pub invariant_of-result : goal.invariant_of-result
 invariant_of-result c = record {
   valid = c.requires;
-  first_row = first_row_says (code_of c.args.parts) c.in_ok-rows.rows.items c.index.result.now c.first_row-first.result c.in_ok-rows.ensures
-      (root_there (code_of c.args.parts) c.requires.sound) c.index.ensures c.first_row-first.ensures;
+  first_row = first_row_says (code_of c.args.parts) c.in_ok-rows.rows.items c.first_row-first.result c.in_ok-rows.ensures
+      (root_there (code_of c.args.parts) c.requires.sound) (rw c.deref.ensures.value at c.first_row-first.ensures);
   all_rows = c.in_ok-rows.ensures;
   all_masks = c.in_ok-masks.ensures;
   all_signs = c.in_ok-signs.ensures;

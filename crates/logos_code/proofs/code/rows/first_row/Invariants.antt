@@ -1,7 +1,7 @@
-use Rattle.std.proofs.Common.{◌≡◌, ℕ, ◌<◌, length, slice_index}
+use Rattle.std.proofs.Common.{◌≡◌, ℕ, ◌+◌, ◌*◌, ◌<◌, length, slice_index}
 use Rattle.logos_code.specs.Rows.{IsFirstEntry}
 use Rattle.logos_code.proofs.code.rows.first_row.Given as goal
 
 -- the bytes so far have their entries
 abbrev pub invariant-loop-b : goal.invariant-loop-b
-invariant-loop-b l = (length l.first ≡ 256) × ((k : ℕ) → k < l.b → IsFirstEntry (slice_index l.row k) (slice_index l.first k))
+invariant-loop-b l = (length l.first ≡ 256) × ((k : ℕ) → k < l.b → IsFirstEntry (slice_index l.rows (256 * l.root + k)) (slice_index l.first k))

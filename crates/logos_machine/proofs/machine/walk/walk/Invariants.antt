@@ -1,11 +1,12 @@
-use Rattle.std.proofs.Common.{◌-◌, ◌≤◌, length}
+use Rattle.std.proofs.Common.{◌≡◌, ◌-◌, ◌*◌, ◌/◌, ◌≤◌, length}
 use Rattle.logos_machine.specs.inside.Looks.{Comes}
 use Rattle.logos_machine.proofs.machine.walk.walk.Given as goal
 
 -- what goes on from here is the whole try
 abbrev pub invariant-loop-at : goal.invariant-loop-at
 invariant-loop-at l = record {
-  comes : Comes l.code l.input l.start l.state l.at l.before;
+  comes : Comes l.code l.input l.start (l.place / 256) l.at l.before;
+  place : 256 * (l.place / 256) ≡ l.place;
   within : l.at ≤ length l.input;
 }
 
