@@ -1,5 +1,5 @@
 //! Bytes that no pattern distinguishes.
-ghost use Rattle.std.specs.Prelude.{◌≡◌, ◌∷◌, ◌++◌, ◌<◌, ℕ, [], IsTrue, IsFalse, IfOk, OnOk, false, length, map, slice_index_or, if◌then◌else◌};
+ghost use Rattle.std.specs.Prelude.{◌≡◌, ◌∷◌, ◌++◌, ◌<◌, ℕ, [], IsTrue, IsFalse, IfOk, OnOk, false, length, slice_index_or, if◌then◌else◌};
 ghost use Rattle.logos_automaton.specs.inside.Alike.{IsAlike, AreStartsOf, AreClassStarts, AreKindBytes, AreFirstBytes};
 ghost use Rattle.logos_automaton.specs.inside.Prepared.{IsPrepared, cores_of};
 ghost use Rattle.logos_places.specs.Core as core;
