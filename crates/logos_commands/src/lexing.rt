@@ -26,7 +26,7 @@ const BLOCK: usize = 65_536;
 
 /// What the command `lex` is given: the paths of the source and of the input, and the shape of the lexer's code.
 #[derive(Clone, Copy)]
-pub(super) struct Lexing<'w> {
+pub(super) struct LexRequest<'w> {
     pub(super) source: &'w str,
     pub(super) input: &'w str,
     pub(super) config: Config,
@@ -37,19 +37,25 @@ pub(super) struct Lexing<'w> {
 /// All refusals come before the first item. After it only writing can fail.
 pub(super) fn lex<'w, F: Files, O: Write>(
     alloc: Global,
-    order: Lexing<'w>,
+    request: LexRequest<'w>,
     files: &mut F,
     out: &mut O,
 ) -> Result<(), Failure<'w>>
     ensures done { OnOk result
-        (ReadsBoth F.read_gives files.old order.entry.source.now order.entry.input.now IsLexed) }
+        (ReadsBoth F.read_gives files.old request.entry.source.now request.entry.input.now IsLexed) }
     ensures denied { IfErr result (λ failure. status_of failure ≡ 1 →
-        ReadsBoth F.read_gives files.old order.entry.source.now order.entry.input.now (λ source bytes.
+        ReadsBoth F.read_gives files.old request.entry.source.now request.entry.input.now (λ source bytes.
         RefusesInput source bytes failure)) }
 {
-    let source = read_text(order.source, files)?;
-    let bytes = read(order.input, files)?;
-    lex_by_source(alloc, source.as_str(), bytes.as_slice(), order.config, out)
+    let source = read_text(request.source, files)?;
+    let bytes = read(request.input, files)?;
+    lex_by_source(
+        alloc,
+        source.as_str(),
+        bytes.as_slice(),
+        request.config,
+        out,
+    )
 }
 
 /// Writes a line for each item of an input, found by the lexer of a source.

@@ -10,7 +10,7 @@ ghost use Rattle.logos_commands.specs.declared.failure.Failure.{Failure as Why};
 
 use crate::command::{Command, command_of};
 use crate::failure::{Failure, report};
-use crate::lexing::{Lexing, lex};
+use crate::lexing::{LexRequest, lex};
 use crate::outcome::{Asked, Outcome, of_file, stripped};
 use logos_disk::{FileError, Files};
 use std::alloc::Global;
@@ -63,12 +63,12 @@ fn carry_out<'w, F: Files, O: Write>(
             input,
             config,
         } => {
-            let order = Lexing {
+            let request = LexRequest {
                 source: file,
                 input,
                 config,
             };
-            lex(alloc, order, files, out)
+            lex(alloc, request, files, out)
         }
         Command::Text { file, config } => {
             write_lexer(alloc, file, Asked::Text(config), files, out)
