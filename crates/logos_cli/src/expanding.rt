@@ -183,7 +183,8 @@ fn expanded(alloc: Global, source: &str, config: Config) -> Result<String, Refus
 
 /// Returns an enum without what belongs to the derive, and the text of its lexer.
 fn expansion_by(alloc: Global, source: &str, made: &Generated<'_>) -> Result<String, Refusal>
-    ensures done { IfOk result (λ text. IsExpansionBy made.now.code source.now (string_bytes text)) }
+    ensures done { IfOk result (λ text.
+        IsExpansionBy made.now.code source.now (string_bytes text)) }
     ensures refused { IfErr result (Refuses (IsRefused source.now)) }
 {
     match strip_attributes(alloc, source) {
@@ -231,8 +232,8 @@ fn refusal_text(
     is_colored: bool,
     refused: &[Refused],
 ) -> Result<String, AllocError>
-    ensures { IfOk result (λ text. StandInOrder
-        (refused_texts (record { path = file.entry.path.now; text = file.entry.text.now }) refused.now)
+    ensures { IfOk result (λ text. StandInOrder (refused_texts
+        (record { path = file.entry.path.now; text = file.entry.text.now }) refused.now)
         (string_bytes text)) }
 {
     let source = Source::new(alloc, file.path, file.text)?;

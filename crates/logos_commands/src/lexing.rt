@@ -41,11 +41,11 @@ pub(super) fn lex<'w, F: Files, O: Write>(
     files: &mut F,
     out: &mut O,
 ) -> Result<(), Failure<'w>>
-    ensures done { OnOk result
-        (ReadsBoth F.read_gives files.old request.entry.source.now request.entry.input.now IsLexed) }
+    ensures done { OnOk result (ReadsBoth F.read_gives files.old
+        request.entry.source.now request.entry.input.now IsLexed) }
     ensures denied { IfErr result (λ failure. status_of failure ≡ 1 →
-        ReadsBoth F.read_gives files.old request.entry.source.now request.entry.input.now (λ source bytes.
-        RefusesInput source bytes failure)) }
+        ReadsBoth F.read_gives files.old request.entry.source.now request.entry.input.now
+        (λ source bytes. RefusesInput source bytes failure)) }
 {
     let source = read_text(request.source, files)?;
     let bytes = read(request.input, files)?;

@@ -129,8 +129,8 @@ fn stripped_source(alloc: Global, source: &str) -> Result<String, Failure<'stati
 
 /// Makes the chart of the graph of a lexer, for the file that its source names.
 fn export_of_lexer(alloc: Global, made: &Generated<'_>) -> Result<Outcome, Failure<'static>>
-    ensures chart { IfOk result (IsChartAt
-        (export_destination (option_map string_bytes made.now.export_path) made.now.name.text.now)) }
+    ensures chart { IfOk result (IsChartAt (export_destination
+        (option_map string_bytes made.now.export_path) made.now.name.text.now)) }
     ensures denied { IfErr result (λ failure. status_of failure ≡ 1 → RefusesExport
         (export_destination (option_map string_bytes made.now.export_path) made.now.name.text.now)
         failure) }
@@ -142,10 +142,10 @@ fn export_of_lexer(alloc: Global, made: &Generated<'_>) -> Result<Outcome, Failu
 
 /// Returns the path of the file that a source names for its chart.
 fn path_of_chart(alloc: Global, made: &Generated<'_>) -> Result<String, Failure<'static>>
-    ensures file { IfOk result (λ chart. file_at (string_bytes chart)
-        ≡ export_destination (option_map string_bytes made.now.export_path) made.now.name.text.now) }
-    ensures failure { IfErr result (FailsAt
-        (export_destination (option_map string_bytes made.now.export_path) made.now.name.text.now)) }
+    ensures file { IfOk result (λ chart. file_at (string_bytes chart) ≡ export_destination
+        (option_map string_bytes made.now.export_path) made.now.name.text.now) }
+    ensures failure { IfErr result (FailsAt (export_destination
+        (option_map string_bytes made.now.export_path) made.now.name.text.now)) }
 {
     match &made.export_path {
         Some(path) => chart_path(alloc, path.as_str(), made.name.text),
