@@ -27,14 +27,14 @@ pub(crate) struct Expansion {
     pub(crate) count: usize,
 }
 
-/// What begins at an offset of a file, and its faults.
+/// The faults of an enum or of a whole file, and where that begins in the file.
 #[derive(Drop)]
 struct Refused {
     offset: usize,
     errors: Errors,
 }
 
-/// What the enums of a file give.
+/// The replacements of the enums of a file, and the faults of those that are refused.
 #[derive(Drop)]
 struct Gathered {
     parts: Vec<Replacement>,
@@ -72,7 +72,7 @@ pub(crate) fn expand<'w>(
     expand_enums(alloc, file, config, is_colored, &found)
 }
 
-/// Returns why a file is refused that cannot be read into tokens.
+/// Returns the refusal of a file that cannot be read into tokens.
 fn refused_whole<'w>(alloc: Global, file: File<'_>, is_colored: bool, refusal: Refusal) -> Stop<'w>
     requires { Refuses (IsUnreadable file.text.now) refusal }
     ensures { FailsBy (HasFaults file.entry.text.now) result }
@@ -108,7 +108,7 @@ fn expand_enums<'w>(
     Err(refused_file(alloc, file, is_colored, &gathered.refused))
 }
 
-/// Returns what these enums of a file give.
+/// Returns the replacements of these enums of a file, and the faults of those that are refused.
 fn gather(
     alloc: Global,
     text: &str,
@@ -131,7 +131,7 @@ fn gather(
     Ok(gathered)
 }
 
-/// Pushes what an enum gives, if it derives `Logos`.
+/// Adds the replacement or the faults of an enum, if it derives `Logos`.
 fn gather_enum(
     alloc: Global,
     text: &str,
@@ -183,7 +183,8 @@ fn expanded(alloc: Global, source: &str, config: Config) -> Result<String, Refus
 
 /// Returns an enum without what belongs to the derive, and the text of its lexer.
 fn expansion_by(alloc: Global, source: &str, made: &Generated<'_>) -> Result<String, Refusal>
-    ensures done { IfOk result (λ text. IsExpansionBy made.now.code source.now (string_bytes text)) }
+    ensures done { IfOk result (λ text.
+        IsExpansionBy made.now.code source.now (string_bytes text)) }
     ensures refused { IfErr result (Refuses (IsRefused source.now)) }
 {
     match strip_attributes(alloc, source) {
@@ -207,7 +208,7 @@ fn printed_with(alloc: Global, left: Tokens<'_, '_>, made: &Generated<'_>) -> Re
     Ok(text)
 }
 
-/// Returns why a file is refused: the text of all its faults.
+/// Returns the refusal of a file, with the text of all its faults.
 fn refused_file<'w>(
     alloc: Global,
     file: File<'_>,
@@ -231,8 +232,8 @@ fn refusal_text(
     is_colored: bool,
     refused: &[Refused],
 ) -> Result<String, AllocError>
-    ensures { IfOk result (λ text. StandInOrder
-        (refused_texts (record { path = file.entry.path.now; text = file.entry.text.now }) refused.now)
+    ensures { IfOk result (λ text. StandInOrder (refused_texts
+        (record { path = file.entry.path.now; text = file.entry.text.now }) refused.now)
         (string_bytes text)) }
 {
     let source = Source::new(alloc, file.path, file.text)?;

@@ -7,21 +7,19 @@ mod options;
 mod running;
 
 use logos_disk::{Disk, words};
-use running::{refuse_words, run};
+use running::{Streams, refuse_words, run};
 use std::io;
 use std::process::ExitCode;
 
 fn main(rt: HostRuntime) -> io::Result<ExitCode> {
     let mut files = Disk { rt: &rt };
+    let mut streams = Streams {
+        out: &mut rt.stdout(),
+        err: &mut rt.stderr(),
+    };
     let status = match words(&rt) {
-        Ok(words) => run(
-            rt.alloc(),
-            words.as_slice(),
-            &mut files,
-            &mut rt.stdout(),
-            &mut rt.stderr(),
-        ),
-        Err(error) => refuse_words(error.kind(), &mut rt.stderr()),
+        Ok(words) => run(rt.alloc(), words.as_slice(), &mut files, &mut streams),
+        Err(error) => refuse_words(error.kind(), streams.err),
     };
     Ok(ExitCode::from(status))
 }

@@ -39,14 +39,20 @@ options:
 
 const VERSION: &str = "logos_cli 0.16.1\n";
 
+/// The streams that the program writes to: standard output and standard error.
+#[derive(Drop)]
+pub(crate) struct Streams<'s, O, E> {
+    pub(crate) out: &'s mut O,
+    pub(crate) err: &'s mut E,
+}
+
 /// Does what the words ask for, and returns the exit status: 0 done, 1 refused, 2 for words that are
-/// no command, 3 if a file or memory fails. What is wrong is written to `err`.
-pub fn run<F: ComparableFiles, O: Write, E: Write + IsTerminal>(
+/// not a command, 3 if a file or memory fails. What is wrong is written to standard error.
+pub(crate) fn run<F: ComparableFiles, O: Write, E: Write + IsTerminal>(
     alloc: Global,
     words: &[String],
     files: &mut F,
-    out: &mut O,
-    err: &mut E,
+    streams: &mut Streams<'_, O, E>,
 ) -> u8
     ensures usage { (result ≡ 2) ↔ (asked (map string_bytes words.now) ≡ None) }
     // The files gave what was asked for, and the result is there.
@@ -59,17 +65,17 @@ pub fn run<F: ComparableFiles, O: Write, E: Write + IsTerminal>(
 {
     let request = match request_of(words) {
         Ok(request) => request,
-        Err(stop) => return report(&stop, USAGE, err),
+        Err(stop) => return report(&stop, USAGE, streams.err),
     };
-    match carry_out(alloc, request, files, out, err) {
+    match carry_out(alloc, request, files, streams) {
         Ok(()) => 0,
-        Err(stop) => report(&stop, USAGE, err),
+        Err(stop) => report(&stop, USAGE, streams.err),
     }
 }
 
-/// Writes why there are no words, and returns the exit status: 3 if memory ran out, and else 2, since
+/// Writes why the words cannot be read, and returns the exit status: 3 if memory ran out, and else 2, since
 /// a word is not UTF-8.
-pub fn refuse_words<E: Write>(why: ErrorKind, err: &mut E) -> u8
+pub(crate) fn refuse_words<E: Write>(why: ErrorKind, err: &mut E) -> u8
     ensures memory { (result ≡ 3) ↔ (why ≡ ErrorKind.OutOfMemory) }
     ensures known { (result ≡ 2) ⊎ (result ≡ 3) }
 {
@@ -90,8 +96,7 @@ fn carry_out<'w, F: ComparableFiles, O: Write, E: Write + IsTerminal>(
     alloc: Global,
     request: Request<'w>,
     files: &mut F,
-    out: &mut O,
-    err: &mut E,
+    streams: &mut Streams<'_, O, E>,
 ) -> Result<(), Stop<'w>>
     ensures done { OnOk result (IsDone F.read_gives F.write_makes
         (request_value request.entry) files.old files.new) }
@@ -99,9 +104,9 @@ fn carry_out<'w, F: ComparableFiles, O: Write, E: Write + IsTerminal>(
         (IsDenied F.read_gives (request_value request.entry) files.old)) }
 {
     match request {
-        Request::Help => write_out(HELP.as_bytes(), out),
-        Request::Version => write_out(VERSION.as_bytes(), out),
-        Request::Expand(order) => carry_out_order(alloc, order, files, out, err),
+        Request::Help => write_out(HELP.as_bytes(), streams.out),
+        Request::Version => write_out(VERSION.as_bytes(), streams.out),
+        Request::Expand(order) => carry_out_order(alloc, order, files, streams),
     }
 }
 
@@ -110,8 +115,7 @@ fn carry_out_order<'w, F: ComparableFiles, O: Write, E: Write + IsTerminal>(
     alloc: Global,
     order: Order<'w>,
     files: &mut F,
-    out: &mut O,
-    err: &mut E,
+    streams: &mut Streams<'_, O, E>,
 ) -> Result<(), Stop<'w>>
     ensures done { OnOk result (IsCarriedOut F.read_gives F.write_makes
         (order_value order.entry) files.old files.new) }
@@ -123,13 +127,13 @@ fn carry_out_order<'w, F: ComparableFiles, O: Write, E: Write + IsTerminal>(
         path: order.input,
         text: text.as_str(),
     };
-    let is_colored = order.color.is_on(err.is_terminal());
+    let is_colored = order.color.is_on(streams.err.is_terminal());
     let expansion = match expand(alloc, file, order.config, is_colored) {
         Ok(expansion) => expansion,
         Err(stop) => return Err(stop),
     };
-    warn(order.input, &expansion, err);
-    deliver(alloc, order, &expansion.bytes, files, out)
+    warn(order.input, &expansion, streams.err);
+    deliver(alloc, order, &expansion.bytes, files, streams.out)
 }
 
 /// Warns if nothing was expanded.

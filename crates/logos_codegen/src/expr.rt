@@ -77,7 +77,7 @@ pub struct ExprToken<'i> {
 pub enum ExprError {
     /// The enum of the tokenizer is refused. This never happens: a test makes the tokenizer.
     Refused,
-    /// No token begins at the start of the span, and this is the first such place.
+    /// No token begins at the start of the span, and this is the first such offset.
     Bad { span: Span },
     /// Memory ran out.
     Memory,
@@ -167,7 +167,7 @@ impl Language {
     /// Returns the tokens of a text, in order, without the blanks between them.
     ///
     /// # Errors
-    /// Returns `Bad` with the span of the first error when something in the text is no token: the span
+    /// Returns `Bad` with the span of the first error where no token begins: the span
     /// reaches over the longest beginning of a token, or over one character. Returns `Memory` when
     /// memory runs out.
     pub fn tokens<'i>(&self, alloc: Global, input: &'i str) -> Result<Vec<ExprToken<'i>>, ExprError>

@@ -46,6 +46,6 @@ pub lexer_refused : {T : Type 0} (source : List ℕ) (part : Part) (config : Con
     IfErr r (λ failure. status_of failure ≡ 1 → RefusesExport (export_destination export name.text) failure) →
     IfErr r (λ failure. status_of failure ≡ 1 → RefusesLexer source part failure)
 lexer_refused source part config graph code name export g (Ok x) plain exported = tt
-lexer_refused source Text config graph code name export g (Err f) plain exported = λ s. absurd (one_status _ (plain (λ e. cc)) s)
+lexer_refused source (Text shape) config graph code name export g (Err f) plain exported = λ s. absurd (one_status _ (plain (λ e. cc)) s)
 lexer_refused source Chart config graph code name export g (Err f) plain exported = λ s. absurd (one_status _ (plain (λ e. cc)) s)
 lexer_refused source Export config graph code name export g (Err f) plain exported = λ s. export_refused source config graph code name export g f (exported s)

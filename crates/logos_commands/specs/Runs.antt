@@ -65,7 +65,7 @@ abbrev pub IsTornBy : CodeValue → List ℕ → Failure → Type 0
 IsTornBy code input (NotUtf8 valid_up_to) = IsTrue code.utf8 × (¬ IsUtf8 input) × IsValidUpTo input valid_up_to
 IsTornBy code input failure = ⊥
 
--- the source is no enum, and this fault ends its reading
+-- The source cannot be read as an enum, and this fault ends its reading.
 pub record IsUnread (source : List ℕ) (faults : List Fault) : Type 0 where
   pub ending : Fault
   pub ends : EndsReading source ending
@@ -77,7 +77,7 @@ RefusesLexer source part (Refused faults) = IsRefused source faults
 RefusesLexer source Export (NotExported why) = IsUnexported source why
 RefusesLexer source part failure = ⊥
 
--- why the items of an input are refused: the faults of the source, or that the input is no text
+-- why the items of an input are refused: the faults of the source, or that the input is not a text
 abbrev pub RefusesInput : List ℕ → List ℕ → Failure → Type 0
 RefusesInput source input (Refused faults) = IsRefused source faults
 RefusesInput source input (NotUtf8 valid_up_to) = IsTorn source input valid_up_to
@@ -106,7 +106,7 @@ module _ {F : Type 0} (gives : F → List ℕ → List ℕ → F → Type 0) whe
 
   -- what is asked for cannot be had: the files give what is refused so
   abbrev pub IsDenied : Asked → F → Failure → Type 0
-  IsDenied (asks_text file shape) files failure = ReadsSome gives files file (λ source. RefusesLexer source Text failure)
+  IsDenied (asks_text file shape) files failure = ReadsSome gives files file (λ source. RefusesLexer source (Text shape) failure)
   IsDenied (asks_items file input shape) files failure = ReadsBoth gives files file input (λ source bytes. RefusesInput source bytes failure)
   IsDenied (asks_chart file) files failure = ReadsSome gives files file (λ source. RefusesLexer source Chart failure)
   IsDenied (asks_export file) files failure = ReadsSome gives files file (λ source. RefusesLexer source Export failure)

@@ -24,25 +24,38 @@ use std::io::Write;
 /// The length in bytes from which a block is written.
 const BLOCK: usize = 65_536;
 
-/// Writes a line for each item of the input at the second path, found by the lexer of the enum at the first path.
+/// What the command `lex` is given: the paths of the source and of the input, and the shape of the lexer's code.
+#[derive(Clone, Copy)]
+pub(super) struct LexRequest<'w> {
+    pub(super) source: &'w str,
+    pub(super) input: &'w str,
+    pub(super) config: Config,
+}
+
+/// Writes a line for each item of an input, found by the lexer of the enum in a file.
 ///
 /// All refusals come before the first item. After it only writing can fail.
 pub(super) fn lex<'w, F: Files, O: Write>(
     alloc: Global,
-    paths: (&'w str, &'w str),
-    config: Config,
+    request: LexRequest<'w>,
     files: &mut F,
     out: &mut O,
 ) -> Result<(), Failure<'w>>
-    ensures done { OnOk result
-        (ReadsBoth F.read_gives files.old paths.entry.0.now paths.entry.1.now IsLexed) }
+    ensures done { OnOk result (ReadsBoth F.read_gives files.old
+        request.entry.source.now request.entry.input.now IsLexed) }
     ensures denied { IfErr result (λ failure. status_of failure ≡ 1 →
-        ReadsBoth F.read_gives files.old paths.entry.0.now paths.entry.1.now (λ source bytes.
-        RefusesInput source bytes failure)) }
+        ReadsBoth F.read_gives files.old request.entry.source.now request.entry.input.now
+        (λ source bytes. RefusesInput source bytes failure)) }
 {
-    let source = read_text(paths.0, files)?;
-    let bytes = read(paths.1, files)?;
-    lex_by_source(alloc, source.as_str(), bytes.as_slice(), config, out)
+    let source = read_text(request.source, files)?;
+    let bytes = read(request.input, files)?;
+    lex_by_source(
+        alloc,
+        source.as_str(),
+        bytes.as_slice(),
+        request.config,
+        out,
+    )
 }
 
 /// Writes a line for each item of an input, found by the lexer of a source.

@@ -30,16 +30,16 @@ pub(super) enum Outcome {
 /// What a command makes of a lexer.
 #[derive(Clone, Copy)]
 pub(super) enum Asked {
-    /// Its Rust text.
-    Text,
+    /// Its Rust text, in this shape.
+    Text(Config),
     /// The chart of its graph.
     Chart,
     /// The same chart, for the file that its source names.
     Export,
 }
 
-/// A shape for charts, which are the same in both.
-pub(super) const ANY_SHAPE: Config = Config {
+/// The shape of the codes that charts are made with. A chart is the same in both shapes.
+const ANY_SHAPE: Config = Config {
     use_state_machine_codegen: true,
 };
 
@@ -47,7 +47,6 @@ pub(super) const ANY_SHAPE: Config = Config {
 pub(super) fn of_file<'w, F: Files>(
     alloc: Global,
     file: &'w str,
-    config: Config,
     asked: Asked,
     files: &mut F,
 ) -> Result<Outcome, Failure<'w>>
@@ -56,23 +55,26 @@ pub(super) fn of_file<'w, F: Files>(
         ReadsSome F.read_gives files.old file.now (λ source. RefusesLexer source asked failure)) }
 {
     let source = read_text(file, files)?;
-    of_source(alloc, source.as_str(), config, asked)
+    of_source(alloc, source.as_str(), asked)
 }
 
 /// Makes the outcome of a command on a source.
-fn of_source(
-    alloc: Global,
-    source: &str,
-    config: Config,
-    asked: Asked,
-) -> Result<Outcome, Failure<'static>>
+fn of_source(alloc: Global, source: &str, asked: Asked) -> Result<Outcome, Failure<'static>>
     ensures done { IfOk result (λ outcome. IsFaultless source.now) }
     ensures denied { IfErr result (λ failure. status_of failure ≡ 1 →
         RefusesLexer source.now asked failure) }
 {
-    match generate(alloc, source, config) {
+    match generate(alloc, source, shape_of(asked)) {
         Ok(made) => of_lexer(alloc, &made, asked),
         Err(refusal) => Err(Failure::from(refusal)),
+    }
+}
+
+/// Returns the shape of the code that a command needs.
+fn shape_of(asked: Asked) -> Config {
+    match asked {
+        Asked::Text(config) => config,
+        _ => ANY_SHAPE,
     }
 }
 
@@ -84,7 +86,7 @@ fn of_lexer(alloc: Global, made: &Generated<'_>, asked: Asked) -> Result<Outcome
         failure) }
 {
     match asked {
-        Asked::Text => Ok(Outcome::Text(text_of_lexer(alloc, made)?)),
+        Asked::Text(_) => Ok(Outcome::Text(text_of_lexer(alloc, made)?)),
         Asked::Chart => Ok(Outcome::Text(tested_chart(alloc, &made.graph)?)),
         Asked::Export => export_of_lexer(alloc, made),
     }
@@ -127,8 +129,8 @@ fn stripped_source(alloc: Global, source: &str) -> Result<String, Failure<'stati
 
 /// Makes the chart of the graph of a lexer, for the file that its source names.
 fn export_of_lexer(alloc: Global, made: &Generated<'_>) -> Result<Outcome, Failure<'static>>
-    ensures chart { IfOk result (IsChartAt
-        (export_destination (option_map string_bytes made.now.export_path) made.now.name.text.now)) }
+    ensures chart { IfOk result (IsChartAt (export_destination
+        (option_map string_bytes made.now.export_path) made.now.name.text.now)) }
     ensures denied { IfErr result (λ failure. status_of failure ≡ 1 → RefusesExport
         (export_destination (option_map string_bytes made.now.export_path) made.now.name.text.now)
         failure) }
@@ -140,10 +142,10 @@ fn export_of_lexer(alloc: Global, made: &Generated<'_>) -> Result<Outcome, Failu
 
 /// Returns the path of the file that a source names for its chart.
 fn path_of_chart(alloc: Global, made: &Generated<'_>) -> Result<String, Failure<'static>>
-    ensures file { IfOk result (λ chart. file_at (string_bytes chart)
-        ≡ export_destination (option_map string_bytes made.now.export_path) made.now.name.text.now) }
-    ensures failure { IfErr result (FailsAt
-        (export_destination (option_map string_bytes made.now.export_path) made.now.name.text.now)) }
+    ensures file { IfOk result (λ chart. file_at (string_bytes chart) ≡ export_destination
+        (option_map string_bytes made.now.export_path) made.now.name.text.now) }
+    ensures failure { IfErr result (FailsAt (export_destination
+        (option_map string_bytes made.now.export_path) made.now.name.text.now)) }
 {
     match &made.export_path {
         Some(path) => chart_path(alloc, path.as_str(), made.name.text),

@@ -10,16 +10,15 @@ ghost use Rattle.logos_commands.specs.declared.failure.Failure.{Failure as Why};
 
 use crate::command::{Command, command_of};
 use crate::failure::{Failure, report};
-use crate::lexing::lex;
-use crate::outcome::{ANY_SHAPE, Asked, Outcome, of_file, stripped};
-use logos_codegen::generator::Config;
+use crate::lexing::{LexRequest, lex};
+use crate::outcome::{Asked, Outcome, of_file, stripped};
 use logos_disk::{FileError, Files};
 use std::alloc::Global;
 use std::io;
 use std::io::{ErrorKind, Write};
 
 /// Runs the command that the words name, and returns the exit status: 0 if it was carried out, 1 if the source or the input was
-/// refused, 2 if the words are no command, 3 if a file, the output or the memory failed.
+/// refused, 2 if the words are not a command, 3 if a file, the output or the memory failed.
 ///
 /// Where the status is not 0, a message goes to `err`. Then nothing was written to `out`, unless writing to it failed.
 pub fn run<F: Files, O: Write, E: Write>(
@@ -63,34 +62,37 @@ fn carry_out<'w, F: Files, O: Write>(
             file,
             input,
             config,
-        } => lex(alloc, (file, input), config, files, out),
+        } => {
+            let request = LexRequest {
+                source: file,
+                input,
+                config,
+            };
+            lex(alloc, request, files, out)
+        }
         Command::Text { file, config } => {
-            write_lexer(alloc, file, (config, Asked::Text), files, out)
+            write_lexer(alloc, file, Asked::Text(config), files, out)
         }
-        Command::Chart { file } => {
-            write_lexer(alloc, file, (ANY_SHAPE, Asked::Chart), files, out)
-        }
-        Command::Export { file } => {
-            write_lexer(alloc, file, (ANY_SHAPE, Asked::Export), files, out)
-        }
+        Command::Chart { file } => { write_lexer(alloc, file, Asked::Chart, files, out) }
+        Command::Export { file } => { write_lexer(alloc, file, Asked::Export, files, out) }
         Command::Strip { file } => write_stripped(alloc, file, files, out),
     }
 }
 
-/// Writes what a command makes of the lexer of the source in a file, in a shape.
+/// Writes what a command makes of the lexer of the source in a file.
 fn write_lexer<'w, F: Files, O: Write>(
     alloc: Global,
     file: &'w str,
-    asked: (Config, Asked),
+    asked: Asked,
     files: &mut F,
     out: &mut O,
 ) -> Result<(), Failure<'w>>
     ensures done { OnOk result (ReadsSome F.read_gives files.old file.now IsFaultless) }
     ensures denied { IfErr result (λ failure. status_of failure ≡ 1 →
         ReadsSome F.read_gives files.old file.now
-        (λ source. RefusesLexer source asked.1 failure)) }
+        (λ source. RefusesLexer source asked failure)) }
 {
-    match of_file(alloc, file, asked.0, asked.1, files) {
+    match of_file(alloc, file, asked, files) {
         Ok(outcome) => deliver(outcome, files, out),
         Err(failure) => Err(failure),
     }

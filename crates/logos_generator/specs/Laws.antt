@@ -25,7 +25,7 @@ RunsAreItems callback = (rules : List Rule) (utf8 : Bool) (code : CodeValue) (by
     IsLexer rules utf8 code → IsInput utf8 bytes →
     Runs code callback bytes from items ↔ Items rules callback utf8 bytes from items
 
--- The next item of a lexer's code, and the place after it, are those of maximal munch.
+-- The next item of a lexer's code, and the point after it, are those of maximal munch.
 abbrev pub NextIsTheNext : Callback → Type 0
 NextIsTheNext callback = (rules : List Rule) (utf8 : Bool) (code : CodeValue) (bytes : List ℕ) (from : ℕ) (item : Item) (end : ℕ) →
     IsLexer rules utf8 code → IsInput utf8 bytes →

@@ -29,23 +29,23 @@ numbered tests uses = fold with_use tests uses
 abbrev pub loop_uses : ℕ → List Edge → List (List (ℕ × ℕ))
 loop_uses s edges = option_to_list (option_map (λ e. e.0) (find (λ e. e.1 == s) edges))
 
--- a condition uses one where comparisons cost more than two operations
+-- A condition uses a test where its comparisons cost more than two operations.
 abbrev pub condition_uses : List (ℕ × ℕ) → List (List (ℕ × ℕ))
 condition_uses ranges = if nat_le (cost (joined ranges)) 2 then [] else ranges ∷ []
 
--- the edge back to s has no condition
+-- An edge back to s has no condition, and uses no test.
 abbrev pub branch_uses : ℕ → Edge → List (List (ℕ × ℕ))
 branch_uses s edge = if edge.1 == s then [] else condition_uses edge.0
 
--- a fork of more than two edges is a table, which uses none
+-- A fork of more than two edges is a jump table, and uses no test.
 abbrev pub fork_uses : ℕ → List Edge → List (List (ℕ × ℕ))
 fork_uses s edges = if nat_le (length edges) 2 then flat_map (branch_uses s) edges else []
 
--- the fast loop before the fork
+-- A state uses the tests of its fast loop before those of its fork.
 abbrev pub state_uses : ℕ → List Edge → List (List (ℕ × ℕ))
 state_uses s edges = loop_uses s edges ++ fork_uses s edges
 
--- states ascending, from number s on
+-- The tests that states use, ascending from number s on.
 abbrev pub uses_from : ℕ → List GraphState → List (List (ℕ × ℕ))
 uses_from s [] = []
 uses_from s (state ∷ states) = state_uses s state.normal ++ uses_from (s + 1) states
@@ -63,7 +63,7 @@ jump_entry (Some target) = target
 abbrev pub jump_table : ℕ → List Edge → List ℕ
 jump_table s edges = map (λ b. jump_entry (leads_beside s edges b)) (range_with_len 0 256)
 
--- a fork of more than two edges uses one jump table
+-- A fork of more than two edges uses one jump table, and another fork none.
 abbrev pub fork_tables : ℕ → List Edge → List (List ℕ)
 fork_tables s edges = if nat_le (length edges) 2 then [] else jump_table s edges ∷ []
 

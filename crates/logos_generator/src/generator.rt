@@ -28,7 +28,7 @@ use states::code_of;
 use std::alloc::{AllocError, Global};
 use std::marker::Model;
 
-/// A generator of codes: makes the code of a graph without errors, as a whole or node by node.
+/// A generator: makes the code value of a graph without faults, as a whole or node by node.
 #[derive(Drop)]
 pub struct Generator<'g, 's> {
     config: Config,
@@ -72,9 +72,9 @@ impl<'g, 's> Model for Generator<'g, 's> {
 }
 
 impl<'g, 's> Generator<'g, 's> {
-    /// Returns a generator for a graph without errors, of the enum with this name, which is this type. The error callback is called on
-    /// what no leaf matches. The generator has made no node yet. It takes no memory here, and keeps `alloc` for the sets of tests and
-    /// jump tables.
+    /// Returns a generator for a graph without faults, of the enum with this name and type. Where no leaf matches, the code calls the
+    /// error callback. The generator has made no node yet. This call takes no memory; the tests and jump tables take theirs from `alloc`
+    /// when nodes are made.
     pub fn new(
         alloc: Global,
         config: Config,
@@ -101,7 +101,7 @@ impl<'g, 's> Generator<'g, 's> {
         }
     }
 
-    /// Makes the code: from each place of each input it finds what the graph finds, and each try enters at
+    /// Makes the code: from each point of each input it finds what the graph finds, and each try enters at
     /// most two states more than there are bytes left. It keeps copies of what the generator was given,
     /// and of the kinds and callbacks of the graph's leaves. Its tests and its jump tables are numbered by
     /// first use, states ascending and the fast loop before the fork; equal ones share a number. The

@@ -20,7 +20,7 @@ pub fn items_are_in_order<C: Fn(LeafId, &[u8]) -> Action>(callback: &C)
 {}
 
 /// The spans of the items of maximal munch, together with those of the matches that a skip or an answer leaves
-/// out, part the input in order, and none is empty.
+/// out, divide the input in order, and none is empty.
 pub fn items_part_the_input<C: Fn(LeafId, &[u8]) -> Action>(callback: &C)
     ensures { (rules : List Rule) (utf8 : Bool) (bytes : List ℕ) (from : ℕ) (items : List Item) →
         from ≤ length bytes → Items rules (answers_of C.Fn callback.now) utf8 bytes from items →
@@ -38,7 +38,7 @@ pub fn runs_are_the_items<C: Fn(LeafId, &[u8]) -> Action>(callback: &C)
     ensures { RunsAreItems (answers_of C.Fn callback.now) }
 {}
 
-/// The next item of a lexer's code from a place on is the next one of maximal munch, and ends where that does.
+/// The next item of a lexer's code from a point on is the next one of maximal munch, and ends where that does.
 pub fn next_items_are_the_next<C: Fn(LeafId, &[u8]) -> Action>(callback: &C)
     ensures { NextIsTheNext (answers_of C.Fn callback.now) }
 {}

@@ -80,7 +80,7 @@ with_path given word =
     else (if is_some given.file then with_input given word
     else Some (record given { file = Some word }))
 
--- a word that is no option with a value
+-- a word that is not an option with a value
 abbrev pub with_answer : GivenValue → Option Answer → List ℕ → Option GivenValue
 with_answer given (Some answer) word = Some (record given { answer = first_answer given.answer answer })
 with_answer given None word = with_path given word

@@ -13,7 +13,7 @@ pub(crate) struct Counts {
 }
 
 impl Counts {
-    /// No items of so many leaves.
+    /// Returns counts of no item, for this many leaves.
     pub(crate) fn new(alloc: Global, leaves: usize) -> Result<Counts, AllocError> {
         let mut by_leaf = Vec::new(alloc);
         for _ in 0..leaves {
@@ -43,31 +43,16 @@ impl Counts {
         leaves: &[CodeLeaf<'_>],
     ) -> Result<(), AllocError> {
         block.push(b'\n')?;
-        let mut sum = 0;
+        let mut sum: usize = 0;
         for number in 0..leaves.len() {
-            sum = self.push_leaf(block, leaves, number, sum)?;
+            sum = push_sum(
+                block,
+                leaves,
+                number,
+                sum.saturating_add(self.of_leaf(number)),
+            )?;
         }
         push_count(block, "errors", self.errors)
-    }
-
-    /// Adds the items of a leaf to those of the leaves of its variant before it, and returns the sum.
-    /// At the last leaf of a variant it adds the line of the variant instead, and returns 0.
-    fn push_leaf(
-        &self,
-        block: &mut Vec<u8>,
-        leaves: &[CodeLeaf<'_>],
-        number: usize,
-        before: usize,
-    ) -> Result<usize, AllocError> {
-        let Some(name) = name_at(leaves, number) else {
-            return Ok(0);
-        };
-        let sum = before.saturating_add(self.of_leaf(number));
-        if name_at(leaves, number.saturating_add(1)) == Some(name) {
-            return Ok(sum);
-        }
-        push_count(block, name, sum)?;
-        Ok(0)
     }
 
     /// Returns how many items there were of a leaf.
@@ -77,6 +62,24 @@ impl Counts {
             None => 0,
         }
     }
+}
+
+/// Adds the line of a variant at its last leaf. `sum` is the number of the items of the leaves of the
+/// variant up to this one. Returns what the next leaf adds to: the sum, or 0 where a variant ends.
+fn push_sum(
+    block: &mut Vec<u8>,
+    leaves: &[CodeLeaf<'_>],
+    number: usize,
+    sum: usize,
+) -> Result<usize, AllocError> {
+    let Some(name) = name_at(leaves, number) else {
+        return Ok(0);
+    };
+    if name_at(leaves, number.saturating_add(1)) == Some(name) {
+        return Ok(sum);
+    }
+    push_count(block, name, sum)?;
+    Ok(0)
 }
 
 /// Returns the name of the variant of a leaf; `None` for a skip, and where there is no such leaf.

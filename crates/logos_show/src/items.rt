@@ -28,7 +28,7 @@ struct Lines {
     /// Where a short line is put together.
     line: [u8; LINE],
     counts: Counts,
-    /// For each leaf the part of a line between the place and the text: its variant, with what
+    /// For each leaf the part of a line between the position and the text: its variant, with what
     /// stands around it.
     heads: Vec<Vec<u8>>,
 }

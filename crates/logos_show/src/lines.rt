@@ -11,48 +11,48 @@ use std::str;
 const SHOWN: usize = 60;
 
 /// The length in bytes of two numbers of 20 digits and a colon between them.
-const PLACE: usize = 41;
+const POSITION: usize = 41;
 
 /// The length in bytes of the longest head for which a line is put together at once.
 const HEAD: usize = 64;
 
-/// The length in bytes of the longest line that is put together at once: a place, a head, an escape
+/// The length in bytes of the longest line that is put together at once: a position, a head, an escape
 /// of four bytes for each byte that is shown, a quote and a line end.
 pub(crate) const LINE: usize = 347;
 
-/// Adds the line of an item: its place, its head, which names it, and its text in quotes. A short
+/// Adds the line of an item: its position, its head, which names it, and its text in quotes. A short
 /// line is put together in `line` first.
 #[inline(always)]
 pub(crate) fn push_item(
     block: &mut Vec<u8>,
     line: &mut [u8; LINE],
-    place: Position,
+    position: Position,
     head: &[u8],
     slice: &[u8],
 ) -> Result<(), AllocError> {
-    let from = write_place(line, place);
+    let from = write_position(line, position);
     if head.len() <= HEAD && slice.len() <= SHOWN && slice.is_ascii() {
         let to = write_short(line, head, slice);
         return block.extend_from_slice(&line[from..to]);
     }
-    block.extend_from_slice(&line[from..PLACE])?;
+    block.extend_from_slice(&line[from..POSITION])?;
     block.extend_from_slice(head)?;
     push_quoted(block, slice)?;
     block.extend_from_slice(b"\n")
 }
 
-/// Writes a place as `line:column` so that it ends at `PLACE`, and returns where it begins.
+/// Writes a position as `line:column` so that it ends at `POSITION`, and returns where it begins.
 #[inline(always)]
-fn write_place(line: &mut [u8; LINE], place: Position) -> usize
+fn write_position(line: &mut [u8; LINE], position: Position) -> usize
     ensures { result ≤ 41 }
 {
-    let end = write_digits(place.column as u64, line, PLACE);
+    let end = write_digits(position.column as u64, line, POSITION);
     let colon = end - 1;
     line[colon] = b':';
-    write_digits(place.line as u64, line, colon)
+    write_digits(position.line as u64, line, colon)
 }
 
-/// Writes what follows the place of an item whose text is short and ASCII, and returns where it
+/// Writes what follows the position of an item whose text is short and ASCII, and returns where it
 /// ends.
 #[inline(always)]
 fn write_short(line: &mut [u8; LINE], head: &[u8], slice: &[u8]) -> usize
@@ -61,7 +61,7 @@ fn write_short(line: &mut [u8; LINE], head: &[u8], slice: &[u8]) -> usize
     ensures after { 41 ≤ result }
     ensures within { result ≤ 347 }
 {
-    let mut at = write_text(line, PLACE, head);
+    let mut at = write_text(line, POSITION, head);
     for byte in slice {
         at = write_byte(line, at, *byte);
     }

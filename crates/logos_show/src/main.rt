@@ -13,22 +13,20 @@ mod table;
 mod warnings;
 
 use logos_disk::{Disk, words};
-use running::{refuse_words, run};
+use running::{Host, refuse_words, run};
 use std::io;
 use std::process::ExitCode;
 
 fn main(rt: HostRuntime) -> io::Result<ExitCode> {
-    let mut files = Disk { rt: &rt };
+    let mut host = Host {
+        files: &mut Disk { rt: &rt },
+        clock: &rt,
+        out: &mut rt.stdout(),
+        err: &mut rt.stderr(),
+    };
     let status = match words(&rt) {
-        Ok(words) => run(
-            rt.alloc(),
-            words.as_slice(),
-            &mut files,
-            &rt,
-            &mut rt.stdout(),
-            &mut rt.stderr(),
-        ),
-        Err(error) => refuse_words(error.kind(), &mut rt.stderr()),
+        Ok(words) => run(rt.alloc(), words.as_slice(), &mut host),
+        Err(error) => refuse_words(error.kind(), host.err),
     };
     Ok(ExitCode::from(status))
 }

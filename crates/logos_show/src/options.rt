@@ -58,7 +58,7 @@ struct Given<'w> {
 /// Returns what the words ask for.
 ///
 /// # Errors
-/// Returns `Misuse` if they are no command.
+/// Returns `Misuse` if they are not a command.
 pub(crate) fn request_of(words: &[String]) -> Result<Request<'_>, Stop<'_>>
     ensures asked { IfOk result (λ request.
         asked (map string_bytes words.now) ≡ Some (request_value request)) }
@@ -131,7 +131,7 @@ fn order_given(given: Given<'_>) -> Result<Request<'_>, Stop<'_>>
     }))
 }
 
-/// Returns the error of words that are no command.
+/// Returns the error of words that are not a command.
 fn misuse<'w>(what: &'static str, word: &'w str) -> Stop<'w>
     ensures { status_of result ≡ 2 }
 {
@@ -190,7 +190,7 @@ fn read_option<'w>(given: Given<'w>, word: &'w str) -> Result<Given<'w>, Stop<'w
     }
 }
 
-/// Reads a word that is no option with a value.
+/// Reads a word that is not an option with a value.
 fn read_answer<'w>(given: Given<'w>, word: &'w str) -> Result<Given<'w>, Stop<'w>>
     ensures given { IfOk result (λ next. with_answer (given_value given.entry)
         (answer_named word.now) word.now ≡ Some (given_value next)) }

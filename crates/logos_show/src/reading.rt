@@ -45,7 +45,7 @@ pub(crate) fn text_of<'t>(source: &Source<'t>, found: FoundEnum) -> &'t str {
     slice(source.text(), found.span)
 }
 
-/// Returns why a part of a file is refused.
+/// Returns the refusal of a part of a file, with the text of its faults.
 pub(crate) fn refused(
     alloc: Global,
     part: Part<'_, '_>,

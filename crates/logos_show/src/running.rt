@@ -35,27 +35,33 @@ options:
 
 const VERSION: &str = "logos_show 0.16.1\n";
 
+/// What the program reads and writes: files, a clock, standard output and standard error.
+#[derive(Drop)]
+pub(crate) struct Host<'h, F, C, O, E> {
+    pub(crate) files: &'h mut F,
+    pub(crate) clock: &'h C,
+    pub(crate) out: &'h mut O,
+    pub(crate) err: &'h mut E,
+}
+
 /// Carries out what the words ask for, and returns the exit status: 0 done, 1 refused, 2 for words
-/// that are no command, 3 for files, outputs and memory. A status above 0 comes with a message in
-/// `err`, and so do warnings.
+/// that are not a command, 3 for files, outputs and memory. With a status above 0 a message goes to
+/// standard error, and so do warnings.
 pub(crate) fn run<F: Files, C: Clock, O: Write, E: Write + IsTerminal>(
     alloc: Global,
     words: &[String],
-    files: &mut F,
-    clock: &C,
-    out: &mut O,
-    err: &mut E,
+    host: &mut Host<'_, F, C, O, E>,
 ) -> u8
     ensures usage { (result ≡ 2) ↔ (asked (map string_bytes words.now) ≡ None) }
     ensures known { result ≤ 3 }
 {
     let request = match request_of(words) {
         Ok(request) => request,
-        Err(stop) => return report(&stop, USAGE, err),
+        Err(stop) => return report(&stop, USAGE, host.err),
     };
-    match carry_out(alloc, request, files, clock, out, err) {
+    match carry_out(alloc, request, host) {
         Ok(()) => 0,
-        Err(stop) => report(&stop, USAGE, err),
+        Err(stop) => report(&stop, USAGE, host.err),
     }
 }
 
@@ -81,7 +87,7 @@ const NOT_TEXT: Stop<'static> = Stop::Misuse {
 #[derive(Clone, Copy)]
 struct Task<'w> {
     order: Order<'w>,
-    /// Messages have colors.
+    /// Whether messages have colors.
     is_colored: bool,
 }
 
@@ -89,73 +95,65 @@ struct Task<'w> {
 fn carry_out<'w, F: Files, C: Clock, O: Write, E: Write + IsTerminal>(
     alloc: Global,
     request: Request<'w>,
-    files: &mut F,
-    clock: &C,
-    out: &mut O,
-    err: &mut E,
+    host: &mut Host<'_, F, C, O, E>,
 ) -> Result<(), Stop<'w>>
     ensures { IfErr result IsNoMisuse }
 {
     let order = match request {
-        Request::Help => return write_out(HELP, out),
-        Request::Version => return write_out(VERSION, out),
+        Request::Help => return write_out(HELP, host.out),
+        Request::Version => return write_out(VERSION, host.out),
         Request::Show(order) => order,
     };
     let task = Task {
         order,
-        is_colored: order.color.is_on(err.is_terminal()),
+        is_colored: order.color.is_on(host.err.is_terminal()),
     };
     match order.input {
-        Some(input) => lex(alloc, task, input, files, clock, out),
-        None => show(alloc, task, files, out, err),
+        Some(input) => lex(alloc, task, input, host),
+        None => show(alloc, task, host),
     }
 }
 
 /// Writes the tables of a file, and its warnings.
-fn show<'w, F: Files, O: Write, E: Write>(
+fn show<'w, F: Files, C: Clock, O: Write, E: Write + IsTerminal>(
     alloc: Global,
     task: Task<'w>,
-    files: &mut F,
-    out: &mut O,
-    err: &mut E,
+    host: &mut Host<'_, F, C, O, E>,
 ) -> Result<(), Stop<'w>>
     ensures { IfErr result IsNoMisuse }
 {
     let path = task.order.file;
-    let text = read_text(path, files)?;
+    let text = read_text(path, host.files)?;
     let source = Source::new(alloc, path, text.as_str())?;
     let Shown { tables, warnings } = shown_of(alloc, &source, task.is_colored)?;
-    let _ = err.write_all(warnings.as_bytes());
-    let _ = err.flush();
-    write_out(tables.as_str(), out)
+    let _ = host.err.write_all(warnings.as_bytes());
+    let _ = host.err.flush();
+    write_out(tables.as_str(), host.out)
 }
 
 /// Writes the items of an input.
-fn lex<'w, F: Files, C: Clock, O: Write>(
+fn lex<'w, F: Files, C: Clock, O: Write, E: Write + IsTerminal>(
     alloc: Global,
     task: Task<'w>,
     input: &'w str,
-    files: &mut F,
-    clock: &C,
-    out: &mut O,
+    host: &mut Host<'_, F, C, O, E>,
 ) -> Result<(), Stop<'w>>
     ensures { IfErr result IsNoMisuse }
 {
     let path = task.order.file;
-    let text = read_text(path, files)?;
-    let bytes = read_bytes(input, files)?;
+    let text = read_text(path, host.files)?;
+    let bytes = read_bytes(input, host.files)?;
     let source = Source::new(alloc, path, text.as_str())?;
-    lex_by_file(alloc, task, &source, bytes.as_slice(), clock, out)
+    lex_by_file(alloc, task, &source, bytes.as_slice(), host)
 }
 
 /// Writes the items of an input, by the lexer of a file that is asked for.
-fn lex_by_file<'w, C: Clock, O: Write>(
+fn lex_by_file<'w, F: Files, C: Clock, O: Write, E: Write + IsTerminal>(
     alloc: Global,
     task: Task<'w>,
     source: &Source<'_>,
     input: &[u8],
-    clock: &C,
-    out: &mut O,
+    host: &mut Host<'_, F, C, O, E>,
 ) -> Result<(), Stop<'w>>
     ensures { IfErr result IsNoMisuse }
 {
@@ -165,7 +163,7 @@ fn lex_by_file<'w, C: Clock, O: Write>(
         offset: one.span.from,
     };
     match generate(alloc, text_of(source, one), SHAPE) {
-        Ok(made) => write_items(alloc, &made.code, input, clock, out),
+        Ok(made) => write_items(alloc, &made.code, input, host.clock, host.out),
         Err(refusal) => Err(refused(alloc, part, task.is_colored, refusal)),
     }
 }
@@ -187,7 +185,7 @@ fn lexer_in<'w>(alloc: Global, task: Task<'w>, source: &Source<'_>) -> Result<Fo
     }
 }
 
-/// Returns why a file is refused that has no such lexer.
+/// Returns the refusal of a file that has no such lexer.
 fn no_lexer<'w>(alloc: Global, order: Order<'w>) -> Stop<'w>
     ensures { IsNoMisuse result }
 {

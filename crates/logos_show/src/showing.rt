@@ -30,8 +30,17 @@ pub(crate) struct Shown {
 struct Pages {
     tables: Page,
     warnings: Page,
-    /// Faults are shown in colors.
+    /// Whether faults are shown in colors.
     is_colored: bool,
+}
+
+/// An enum of a file: where it begins there, the lines of the file, its own text, and whether it derives `Logos`.
+#[derive(Clone, Copy)]
+pub(crate) struct EnumInFile<'f, 's> {
+    pub(crate) part: Part<'f, 's>,
+    pub(crate) lines: &'f LineIndex<'s>,
+    pub(crate) text: &'s str,
+    pub(crate) derives: bool,
 }
 
 /// Returns what is shown of a file.
@@ -58,7 +67,7 @@ pub(crate) fn shown_of(
         is_colored,
     };
     for one in &found {
-        push_enum(alloc, &mut pages, source, &lines, *one)?;
+        push_enum(alloc, &mut pages, enum_in(source, &lines, *one))?;
     }
     Ok(Shown {
         tables: pages.tables.finish()?,
@@ -66,24 +75,30 @@ pub(crate) fn shown_of(
     })
 }
 
+/// Returns an enum with its position in a file.
+fn enum_in<'f, 's>(
+    source: &'f Source<'s>,
+    lines: &'f LineIndex<'s>,
+    found: FoundEnum,
+) -> EnumInFile<'f, 's> {
+    EnumInFile {
+        part: Part {
+            source,
+            offset: found.span.from,
+        },
+        lines,
+        text: text_of(source, found),
+        derives: found.derives,
+    }
+}
+
 /// Adds what is shown of an enum.
-fn push_enum(
-    alloc: Global,
-    pages: &mut Pages,
-    source: &Source<'_>,
-    lines: &LineIndex<'_>,
-    one: FoundEnum,
-) -> Result<(), Stop<'static>>
+fn push_enum(alloc: Global, pages: &mut Pages, one: EnumInFile<'_, '_>) -> Result<(), Stop<'static>>
     ensures { IfErr result IsNoMisuse }
 {
-    let text = text_of(source, one);
-    let part = Part {
-        source,
-        offset: one.span.from,
-    };
-    push_warnings(alloc, &mut pages.warnings, part, text, one.derives)?;
+    push_warnings(alloc, &mut pages.warnings, one)?;
     if one.derives {
-        push_lexer(alloc, pages, part, lines, text)?;
+        push_lexer(alloc, pages, one)?;
     }
     Ok(())
 }
@@ -92,15 +107,13 @@ fn push_enum(
 fn push_lexer(
     alloc: Global,
     pages: &mut Pages,
-    part: Part<'_, '_>,
-    lines: &LineIndex<'_>,
-    text: &str,
+    one: EnumInFile<'_, '_>,
 ) -> Result<(), Stop<'static>>
     ensures { IfErr result IsNoMisuse }
 {
-    match generate(alloc, text, SHAPE) {
-        Ok(made) => push_made(alloc, pages, part, lines, text, &made),
-        Err(refusal) => Err(refused(alloc, part, pages.is_colored, refusal)),
+    match generate(alloc, one.text, SHAPE) {
+        Ok(made) => push_made(alloc, pages, one, &made),
+        Err(refusal) => Err(refused(alloc, one.part, pages.is_colored, refusal)),
     }
 }
 
@@ -108,14 +121,12 @@ fn push_lexer(
 fn push_made(
     alloc: Global,
     pages: &mut Pages,
-    part: Part<'_, '_>,
-    lines: &LineIndex<'_>,
-    text: &str,
+    one: EnumInFile<'_, '_>,
     made: &Generated<'_>,
 ) -> Result<(), Stop<'static>>
     ensures { IfErr result IsNoMisuse }
 {
-    push_table(alloc, &mut pages.tables, part, lines, text, made)?;
-    push_unmarked(alloc, &mut pages.warnings, part, &made.graph)?;
+    push_table(alloc, &mut pages.tables, one, made)?;
+    push_unmarked(alloc, &mut pages.warnings, one.part, &made.graph)?;
     Ok(())
 }

@@ -1,9 +1,9 @@
 //! The leaves of a lexer as a table.
 
+use crate::showing::EnumInFile;
 use logos_codegen::Generated;
 use logos_codegen::error::Memory;
 use logos_codegen::leaf::Leaf;
-use logos_lines::LineIndex;
 use logos_report::{Page, Part, digits};
 use logos_survey::{Costs, LeafRow, costs_of, row_of};
 use std::alloc::Global;
@@ -17,38 +17,34 @@ struct Widths {
     callback: usize,
 }
 
-/// Adds the leaves of a lexer, and what the lexer costs. `text` is the text of its enum.
+/// Adds the leaves of the lexer of an enum, and what the lexer costs.
 pub(crate) fn push_table(
     alloc: Global,
     page: &mut Page,
-    part: Part<'_, '_>,
-    lines: &LineIndex<'_>,
-    text: &str,
+    one: EnumInFile<'_, '_>,
     made: &Generated<'_>,
 ) -> Result<(), Memory> {
-    let rows = rows_of(alloc, lines, part.offset, text, made.graph.leaves())?;
-    push_title(page, part, made);
+    let rows = rows_of(alloc, one, made.graph.leaves())?;
+    push_title(page, one.part, made);
     push_rows(page, &rows);
     push_costs(page, costs_of(&made.code));
     Ok(())
 }
 
-/// Returns the rows of the leaves of an enum, which begins at `offset` of its file.
+/// Returns the rows of the leaves of an enum.
 fn rows_of<'l>(
     alloc: Global,
-    lines: &LineIndex<'_>,
-    offset: usize,
-    text: &'l str,
+    one: EnumInFile<'_, 'l>,
     leaves: &'l [Leaf<'_>],
 ) -> Result<Vec<LeafRow<'l>>, Memory> {
     let mut rows = Vec::new(alloc);
     for leaf in leaves {
-        rows.push(row_of(alloc, lines, offset, text, leaf)?)?;
+        rows.push(row_of(alloc, one.lines, one.part.offset, one.text, leaf)?)?;
     }
     Ok(rows)
 }
 
-/// Adds the name of the enum and its place.
+/// Adds the name of the enum and its position.
 fn push_title(page: &mut Page, part: Part<'_, '_>, made: &Generated<'_>) {
     page.push("enum ");
     page.push(made.name.text);

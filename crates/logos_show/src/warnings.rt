@@ -1,5 +1,6 @@
-//! Warnings, with their places.
+//! Warnings, with the lines of the source that they are about.
 
+use crate::showing::EnumInFile;
 use logos_codegen::error::Memory;
 use logos_codegen::graph::Graph;
 use logos_codegen::item::{ItemEnum, ReadError, read_enum};
@@ -13,33 +14,30 @@ use std::alloc::{AllocError, Global};
 pub(crate) fn push_warnings(
     alloc: Global,
     page: &mut Page,
-    part: Part<'_, '_>,
-    text: &str,
-    derives: bool,
+    one: EnumInFile<'_, '_>,
 ) -> Result<(), Memory> {
-    let stream = match tokenize(alloc, text) {
+    let stream = match tokenize(alloc, one.text) {
         Ok(stream) => stream,
         Err(TokenError::Memory) => return Err(Memory),
         Err(_) => return Ok(()),
     };
     match read_enum(alloc, stream.run()) {
-        Ok(item) => push_item(alloc, page, part, &item, derives),
+        Ok(item) => push_item(alloc, page, one, &item),
         Err(ReadError::Memory) => Err(Memory),
         Err(_) => Ok(()),
     }
 }
 
-/// Adds the warnings of an enum.
+/// Adds the warnings of an enum, which is read as `item`.
 fn push_item(
     alloc: Global,
     page: &mut Page,
-    part: Part<'_, '_>,
+    one: EnumInFile<'_, '_>,
     item: &ItemEnum<'_, '_>,
-    derives: bool,
 ) -> Result<(), Memory> {
-    let warnings = warnings_of(alloc, item, derives)?;
+    let warnings = warnings_of(alloc, item, one.derives)?;
     for warning in &warnings {
-        push_warning(page, part, item.name.text, *warning);
+        push_warning(page, one.part, item.name.text, *warning);
     }
     Ok(())
 }
@@ -51,10 +49,13 @@ fn push_warning(page: &mut Page, part: Part<'_, '_>, name: &str, warning: Warnin
             name,
             intended,
             span,
-        } => push_misspelled(page, part, name, intended, span),
+        } => {
+            push_misspelled(page, name, intended);
+            push_span(page, part, span);
+        }
         Warning::Useless { span } => {
             push_message(page, "`logos` has no effect on a variant", "", "");
-            push_place(page, part, span);
+            push_span(page, part, span);
         }
         Warning::NoDerive { span } => {
             push_message(
@@ -63,13 +64,13 @@ fn push_warning(page: &mut Page, part: Part<'_, '_>, name: &str, warning: Warnin
                 name,
                 "` has attributes of a lexer and does not derive `Logos`",
             );
-            push_place(page, part, span);
+            push_span(page, part, span);
         }
     }
 }
 
-/// Adds the warning of an attribute whose name is near to that of a helper attribute.
-fn push_misspelled(page: &mut Page, part: Part<'_, '_>, name: &str, intended: Helper, span: Span) {
+/// Adds the message about an attribute whose name is near to that of a helper attribute.
+fn push_misspelled(page: &mut Page, name: &str, intended: Helper) {
     begin(page);
     page.push("`");
     page.push(name);
@@ -77,7 +78,6 @@ fn push_misspelled(page: &mut Page, part: Part<'_, '_>, name: &str, intended: He
     page.push(intended.name());
     page.push("`");
     end(page);
-    push_place(page, part, span);
 }
 
 /// Adds a warning for each leaf of a graph that the graph does not mark.
@@ -105,7 +105,7 @@ fn push_leaf(page: &mut Page, part: Part<'_, '_>, leaf: &Leaf<'_>) {
         variant_of(&leaf.kind),
         "` is never found: where it matches, others match more or have a higher priority",
     );
-    push_place(page, part, leaf.span);
+    push_span(page, part, leaf.span);
 }
 
 /// Returns the name of the variant of a leaf, or `skip`.
@@ -139,8 +139,8 @@ fn end(page: &mut Page) {
     page.push("\n");
 }
 
-/// Adds the place of a warning, and an empty line.
-fn push_place(page: &mut Page, part: Part<'_, '_>, span: Span) {
+/// Adds the lines of the source at the span of a warning, and an empty line.
+fn push_span(page: &mut Page, part: Part<'_, '_>, span: Span) {
     push_frame(page, part, span, Style::Warning);
     page.push("\n");
 }

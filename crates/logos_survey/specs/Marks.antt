@@ -26,7 +26,7 @@ IsMarked states leaf = IsMarkedBelow states (length states) leaf
 abbrev pub IsSet : List Bool → ℕ → Type 0
 IsSet flags leaf = IsTrue (slice_index_or flags leaf false)
 
--- Maximal munch finds no match of a leaf, at no place of any input.
+-- Maximal munch finds no match of a leaf, from no point of any input.
 abbrev pub IsNeverFound : List Rule → Bool → ℕ → Type 0
 IsNeverFound rules utf8 leaf = (bytes : List ℕ) (from to : ℕ) → IsInput utf8 bytes → ¬ Finds rules utf8 bytes from (matched leaf to)
 

@@ -101,7 +101,7 @@ pub record ForgetsDerive (item : EnumValue) (warnings : List WarningValue) : Typ
   pub of_names : NamesAdd item [] names
   pub are : warnings ≡ names ++ no_derive item.name.span ∷ []
 
--- The warnings of an enum that derives `Logos` or not. An enum without helper attributes that does not derive it is no lexer, and has none.
+-- The warnings of an enum that derives `Logos` or not. An enum without helper attributes that does not derive it has none.
 pub data AreWarnings (item : EnumValue) (derives : Bool) : List WarningValue → Type 0 where
   of_lexer : {warnings : List WarningValue} → derives ≡ true → NamesAdd item [] warnings → AreWarnings item derives warnings
   of_forgotten : {warnings : List WarningValue} → derives ≡ false → HasHelpers item → ForgetsDerive item warnings → AreWarnings item derives warnings

@@ -17,12 +17,12 @@ use std::alloc::Global;
 pub struct LeafRow<'l> {
     /// The name of its variant, or `None` for a skip.
     pub variant: Option<&'l str>,
-    /// It is a `token`, and no `regex` or `skip`.
+    /// Whether it is a `token`, not a `regex` or a `skip`.
     pub is_token: bool,
     /// Its literal as it is written, with the quotes.
     pub pattern: &'l str,
     pub priority: usize,
-    /// The priority is the one that the leaf has when none is given.
+    /// Whether the priority is the one that the leaf has when none is given.
     pub is_default: bool,
     /// Its callback as it is written, if it has one.
     pub callback: Option<&'l str>,
@@ -58,7 +58,7 @@ pub fn row_of<'l>(
     })
 }
 
-/// Returns the name of the variant of a leaf, if it is no skip.
+/// Returns the name of the variant of a leaf, unless it is a skip.
 fn variant_name<'l>(kind: &'l VariantKind<'_>) -> Option<&'l str>
     ensures { option_copied result ≡ variant_name kind.now }
 {

@@ -87,5 +87,5 @@ fn push_functions(
     push_make_error(alloc, text, parts.header.error_callback.as_ref(), names)?;
     push_get_action(alloc, text, &parts.leaves, names)?;
     push_leaf_names(text, parts.leaves.len())?;
-    push_opening(alloc, text, parts.states.len(), parts.root, names.shape)
+    push_opening(alloc, text, parts, names.shape)
 }

@@ -189,8 +189,7 @@ fn state_names(alloc: Global, count: usize) -> Result<Vec<String>, Memory> {
 pub(crate) fn push_opening(
     alloc: Global,
     text: &mut String,
-    count: usize,
-    root: usize,
+    parts: &CodeParts<'_>,
     shape: Config,
 ) -> Result<(), Memory>
     ensures { OnOk result (Grows (string_bytes text.old) (string_bytes text.new)) }
@@ -199,7 +198,8 @@ pub(crate) fn push_opening(
         return Ok(());
     }
     push(text, "# [ derive ( Clone , Copy ) ] enum LogosState { ")?;
-    push_state_names(alloc, text, count)?;
+    push_state_names(alloc, text, parts.states.len())?;
+    let root = parts.root;
     write!(
         text,
         "}} let mut state = LogosState :: State{root} ; let mut offset = lex . offset ( ) ; let mut context : _Option < LogosLeaf > = None ; loop {{ match state {{ "

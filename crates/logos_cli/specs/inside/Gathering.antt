@@ -44,7 +44,7 @@ pub record GathersOne (config : Config) (text : List ℕ) (one : FoundEnum) (old
 abbrev pub GathersAll : Config → List ℕ → List FoundEnum → Gathered → Type 0
 GathersAll config text found gathered = Gathers config text found gathered.parts.items gathered.refused.items
 
--- these are the faults of a refusal that is no want of memory
+-- these are the faults of a refusal other than for want of memory
 abbrev pub AreFaultsOf : Refusal → List Fault → Type 0
 AreFaultsOf (refusals.Errors faults) others = others ≡ faults
 AreFaultsOf refusals.Memory others = ⊥

@@ -64,8 +64,8 @@ pub(super) fn impl_fork(
     requires targets { All (λ edge. state_number edge.1 < 4294967295) edges.now }
     ensures tests { Extends tables.old.tests.keys tables.new.tests.keys }
     ensures jumps { Extends tables.old.jumps.keys tables.new.jumps.keys }
-    ensures is { IfOk result (λ fork.
-        IsForkOf tables.new.tests.keys state (map edge_of edges.now) (fork_of tables.new.jumps.keys fork)) }
+    ensures is { IfOk result (λ fork. IsForkOf tables.new.tests.keys state
+        (map edge_of edges.now) (fork_of tables.new.jumps.keys fork)) }
     ensures numbers { OnOk result (tables.new.tests.keys
         ≡ numbered tables.old.tests.keys (fork_uses state (map edge_of edges.now))) }
     ensures tables { OnOk result (tables.new.jumps.keys

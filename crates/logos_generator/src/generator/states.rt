@@ -127,8 +127,8 @@ fn state_made(
     requires { IsCodable (graph_state_of state.now) }
     ensures tests { OnOk result (Extends tables.old.tests.keys tables.new.tests.keys) }
     ensures jumps { OnOk result (Extends tables.old.jumps.keys tables.new.jumps.keys) }
-    ensures is { IfOk result (λ made.
-        IsStateOf tables.new.tests.keys s (graph_state_of state.now) (state_of tables.new.jumps.keys made)) }
+    ensures is { IfOk result (λ made. IsStateOf tables.new.tests.keys s
+        (graph_state_of state.now) (state_of tables.new.jumps.keys made)) }
     ensures numbers { OnOk result (tables.new.tests.keys
         ≡ numbered tables.old.tests.keys (state_uses s (graph_state_of state.now).normal)) }
     ensures tables { OnOk result (tables.new.jumps.keys

@@ -9,8 +9,8 @@ loop-leaf-preserved c =
     leaves_turn c.args.leaves.now c.loop-leaf.leaf-index c.leaf-item.result c.loop-leaf.made.items c.push.new.self.items c.in_ok-leaf_made.field-0 c.loop-leaf-test.true
     c.in_ok-push.ensures.items (rw c.leaf-item.is at c.in_ok-leaf_made.ensures) c.loop-leaf.invariant
 
-pub returns-clause-kept : goal.returns-clause-kept
-returns-clause-kept c =
+pub returns-clause-leaves : goal.returns-clause-leaves
+returns-clause-leaves c =
     let e : drop c.loop-leaf.leaf-index c.args.leaves.now ≡ [] = drop_all c.loop-leaf.leaf-index c.args.leaves.now (omega (arith, c.loop-leaf-test.false)) in
     sym (append-nil (map code_leaf_value c.loop-leaf.made.items)) ∙ rw e at c.loop-leaf.invariant
 
