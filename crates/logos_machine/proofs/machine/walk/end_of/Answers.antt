@@ -16,7 +16,7 @@ returns-then-entry-lt-CLOSES c =
     let ends = c.requires.ends in
     let f = ends_before c.args.code.now c.requires.sound c.args.input.now c.args.start c.requires.start c.args.last.0 c.args.last.1 c.args.last.2 c.requires.reaches
     (c.args.last.0 - 805306368) Emits (omega (arith, ends, c.if-entry-lt-HALTS.false)) (omega (arith, ends, c.if-entry-lt-HALTS.false, c.if-entry-lt-CLOSES.true)) in
-    rw (c.halted.ensures.leaf, c.halted.ensures.late) f
+    rw (c.halted-late.ensures.leaf, c.halted-late.ensures.late) f
 
 pub returns-then-entry-lt-SHUTS : goal.returns-then-entry-lt-SHUTS
 returns-then-entry-lt-SHUTS c =
@@ -37,7 +37,7 @@ returns-then-entry-lt-ASKS_AFTER c =
     let ends = c.requires.ends in
     let f = ends_before c.args.code.now c.requires.sound c.args.input.now c.args.start c.requires.start c.args.last.0 c.args.last.1 c.args.last.2 c.requires.reaches
     (c.args.last.0 - 1610612736) Asks (omega (arith, ends, c.if-entry-lt-HALTS.false, c.if-entry-lt-CLOSES.false, c.if-entry-lt-SHUTS.false, c.if-entry-lt-ASKS.false)) (omega (arith, ends, c.if-entry-lt-HALTS.false, c.if-entry-lt-CLOSES.false, c.if-entry-lt-SHUTS.false, c.if-entry-lt-ASKS.false, c.if-entry-lt-ASKS_AFTER.true)) in
-    rw (c.halted-2.ensures.leaf, c.halted-2.ensures.late) f.0
+    rw (c.halted-late-then-entry-lt-ASKS_AFTER.ensures.leaf, c.halted-late-then-entry-lt-ASKS_AFTER.ensures.late) f.0
 
 pub returns-then-entry-lt-STUCK : goal.returns-then-entry-lt-STUCK
 returns-then-entry-lt-STUCK c =
