@@ -67,9 +67,9 @@ sources-found table block from sources b preds found s k hs e = go (to table s k
     go (Some t) q e = found t s (edge_within table s k t q).1 (let same : block t ≡ b = cc in same) (preds.all s k t hs (edge_symbol table s k t q) q)
 
 -- sources of a block are sources of what is left of it
-pub sources-stays : (table : Table) (splits more : List Split) (old new : ℕ → ℕ) (sources : List ℕ) (b : ℕ) → b < length splits → IsExtension table splits more old new →
+pub sources-stay : (table : Table) (splits more : List Split) (old new : ℕ → ℕ) (sources : List ℕ) (b : ℕ) → b < length splits → IsExtension table splits more old new →
     AreSources (size table) (target_block table old) sources b → AreSources (size table) (target_block table new) sources b
-sources-stays table splits more old new sources b l x from s k hs e = go (to table s k) refl e
+sources-stay table splits more old new sources b l x from s k hs e = go (to table s k) refl e
   where
     go : (o : Option ℕ) → to table s k ≡ o → option_map new o ≡ Some b → has sources s ≡ true
     go None q e = absurd (cc)
