@@ -1,8 +1,8 @@
 -- The steps of one tree, and how they are added to those of the trees before it.
-use Rattle.std.proofs.Common.{◌≡◌, ℕ, ◌+◌, ◌-◌, ◌<◌, ◌≤◌, ◌↔◌, ◌⊎◌, Bool, true, false, IsTrue, List, [], ◌++◌, length, drop, slice_index, slice_range, length-append, refl, sym, ap, ◌∙◌, inl, inr, ⊎_elim, arith}
+use Rattle.std.proofs.Common.{◌≡◌, ℕ, ◌+◌, ◌-◌, ◌<◌, ◌≤◌, ◌↔◌, ◌⊎◌, Bool, false, IsTrue, List, [], ◌++◌, length, drop, slice_index, slice_range, length-append, refl, sym, ap, ◌∙◌, inl, inr, ⊎_elim, arith}
 use Rattle.std.proofs.lemmas.List.{get_or_append_left, get_or-take, get_or-drop, length-take, length-drop}
 use Rattle.std.proofs.Math.Seq.{get_or-append_right}
-use Rattle.logos_places.specs.Core.{Core, width, Steps}
+use Rattle.logos_places.specs.Core.{Core, width}
 use Rattle.logos_places.specs.Marks.{Has, IsFirstFrom, IsRising, IsSet}
 use Rattle.logos_places.specs.Several.{IsStepOf}
 use Rattle.logos_places.specs.inside.Stepped.{Stepped}

@@ -1,4 +1,4 @@
-use Rattle.std.proofs.Common.{◌≡◌, ◌+◌, ◌-◌, ◌*◌, inr, ⊎_elim, IsTrue, false, true≢false, sym, ap, ◌∙◌, arith, rules, max, ◌≤◌, ◌<◌, ◌^◌}
+use Rattle.std.proofs.Common.{◌≡◌, ◌+◌, ◌-◌, ◌*◌, inr, ⊎_elim, Bool, IsTrue, true, false, not, refl, true≢false, sym, ap, ◌∙◌, arith, rules, max, ◌≤◌, ◌<◌, ◌^◌}
 use Rattle.std.proofs.Math.Nat.{mul-le-mul_left}
 use Rattle.logos_places.specs.Core as core
 use Rattle.logos_places.specs.Core.{width}
@@ -12,9 +12,13 @@ use Rattle.logos_places.proofs.steps.SteppedLemmas.{at_least-some}
 use Rattle.logos_places.proofs.steps.JumpLemmas.{exits_nothing, front_step, front_skip, up_to_step, up_to_skip}
 use Rattle.logos_places.proofs.places.exits.+exits.Goals as goal
 
+off : (b : Bool) → not b ≡ true → b ≡ false
+off true e = absurd (true≢false (sym e))
+off false e = refl
+
 pub exits-returns-then-not-any_mark : goal.exits-returns-then-not-any_mark
 exits-returns-then-not-any_mark t c =
-    rw c.if-not-spot.true
+    rw (off c.args.spot.entered c.if-not-spot.true)
     (exits_nothing (core_of c.args.node.now) (test_at c.args.at) _
     (λ q lt has. true≢false (sym (c.any_mark.ensures.1 (q, omega (arith, lt, c.width.ensures), has)) ∙ c.if-not-any_mark.true)))
 

@@ -10,4 +10,4 @@ pub returns : goal.returns
 returns c = λ k test is.
     rw c.in_ok-push.ensures.items
     (stepped_byte test c.args.by.byte c.args.by.marks.now k c.args.next.now.items c.args.spot.base c.args.spot.entered c.has_mark-left.result c.requires.set
-    (from_not _ c.if-not-spot.false) (is ∙ from_not _ c.if-not-fits.false) c.has_mark-left.ensures)
+    (from_not _ c.if-not-spot.false) (is ∙ c.if-not-fits.false) c.has_mark-left.ensures)
