@@ -67,10 +67,11 @@ write_program() {
     printf '        _ => Ok(ExitCode::from(2)),\n    }\n}\n'
 }
 
-# Makes a crate of its own for an example: its name, what it has to print, and its words. Its program is read from standard input.
+# Makes a crate NAME_example of an example (a library of the toolchain may have the short name): its name, what it has to print, and its
+# words. Its program is read from standard input.
 add_crate() {
-    local at=$room/crates/$1 text
-    names+=("$1")
+    local at=$room/crates/$1_example text
+    names+=("$1_example")
     text=$(cat)
     [[ $text == *'#![tactic(auto)]'* ]] || text=$'#![tactic(auto)]\n\n'$text
     mkdir -p "$at/src"
@@ -82,7 +83,7 @@ add_crate() {
         cp "$root/examples/$1/$1.rs" "$root/examples/$1/data"/* "$at/data"
         rm "$at/data/expected"
     fi
-    echo "$1: $libraries" >> "$room/crates.txt"
+    echo "$1_example: $libraries" >> "$room/crates.txt"
     (cd "$at" && rt fmt) > /dev/null
 }
 

@@ -1,4 +1,4 @@
-//! Compares the parts of a sample with those that are written beside it, and the text of the page with the sample.
+//! Compares the parts of a sample with those that are written beside it, and the text of the page with the sample. Where a Chromium is found, so is what it shows.
 
 use std::fs;
 use std::process::Command;
@@ -42,6 +42,39 @@ fn the_page_has_all_of_the_source() {
     for path in ["data/sample.rs.txt", "src/paint.rs", "src/token.rs", "build.rs", "tests/output.rs"] {
         assert_eq!(plain(body(&highlight(&[path]))), fs::read_to_string(path).unwrap(), "{path}");
     }
+}
+
+/// Returns the name of a Chromium, if one is found.
+fn browser() -> Option<&'static str> {
+    ["chromium", "chromium-browser", "google-chrome"]
+        .into_iter()
+        .find(|name| Command::new(name).arg("--version").output().is_ok_and(|output| output.status.success()))
+}
+
+/// Returns a text as `encodeURIComponent` of a browser gives it.
+fn encoded(text: &str) -> String {
+    let plain = |byte: u8| byte.is_ascii_alphanumeric() || b"-_.!~*'()".contains(&byte);
+    text.bytes().map(|byte| if plain(byte) { char::from(byte).to_string() } else { format!("%{byte:02X}") }).collect()
+}
+
+#[test]
+fn a_browser_shows_all_of_the_source() {
+    let Some(browser) = browser() else {
+        eprintln!("there is no Chromium here, so no page was shown");
+        return;
+    };
+    let script = "<script>document.body.textContent = encodeURIComponent(document.querySelector('pre').textContent)</script></body>";
+    let page = concat!(env!("CARGO_TARGET_TMPDIR"), "/page.html");
+    fs::write(page, highlight(&["data/sample.rs.txt"]).replace("</body>", script)).unwrap();
+    let output = Command::new(browser)
+        .args(["--headless", "--no-sandbox", "--disable-gpu", "--dump-dom"])
+        .arg(format!("file://{page}"))
+        .output()
+        .expect("the browser runs");
+    let shown = String::from_utf8(output.stdout).expect("a page is text");
+    let wanted = encoded(&fs::read_to_string("data/sample.rs.txt").unwrap());
+    let text = shown.split_once("<body>").and_then(|(_, rest)| rest.split_once("</body>")).map(|(text, _)| text.trim());
+    assert_eq!(text, Some(wanted.as_str()), "{shown}");
 }
 
 #[test]
