@@ -21,8 +21,8 @@ GLOSSARY = "docs/GLOSSARY.md"
 LEAST = 60
 # The crates and pages that are not clean yet. An entry goes when none of these words is left in it.
 NOT_YET = """
-logos_automaton logos_calls logos_code logos_codegen logos_generator logos_graph
-logos_machine logos_places logos_reduce
+logos_calls logos_code logos_codegen logos_generator logos_graph
+logos_machine logos_reduce
 logos_text
 docs/DEFINITIONS.md docs/MAP.md
 """.split()

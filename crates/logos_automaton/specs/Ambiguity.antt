@@ -1,4 +1,4 @@
--- Rules that cannot be told apart by length and priority.
+-- Rules that are not distinguished by length and priority.
 use Rattle.std.specs.Prelude.{ℕ, ◌≤◌, ◌↔◌, List, length, Contains}
 use Rattle.std.specs.List.Sorted.{IsStrictlyIncreasing}
 use Rattle.logos_hir.specs.Text.{IsBytes}

@@ -15,7 +15,7 @@ module _ (dfa : Automaton) where
   abbrev pub dfa_next : Option ℕ → ℕ → Option ℕ
   dfa_next s b = option_and_then (λ t. option_and_then (λ row. slice_get row b) (slice_get dfa.by_byte t)) s
 
-  -- the state behind the bytes
+  -- the state after the bytes
   abbrev pub dfa_after : Option ℕ → List ℕ → Option ℕ
   dfa_after s [] = s
   dfa_after s (b ∷ bytes) = dfa_after (dfa_next s b) bytes
@@ -30,16 +30,16 @@ module _ (dfa : Automaton) where
     pub ascending : IsStrictlyIncreasing leaves
     pub exactly : (leaf : ℕ) → Contains leaves leaf ↔ IsListed leaf
 
--- Behind bytes and one more the automaton lists the leaves that match all of the bytes in front of that
--- one, and behind bytes and the end those that match the bytes at the end.
+-- After some bytes and one more, the automaton lists the leaves that match all of the bytes before the last one. After some bytes
+-- and the end, it lists the leaves that match all of the bytes.
 pub record ReadsOneByteLate (rules : List Rule) (dfa : Automaton) : Type 0 where
   pub by_byte : (bytes : List ℕ) (b : ℕ) → IsBytes (bytes ++ b ∷ []) →
       Lists dfa (dfa_after dfa (Some dfa.start) (bytes ++ b ∷ [])) (λ leaf. RuleMatches rules leaf (bytes ++ b ∷ []) 0 (length bytes))
   pub at_end : (bytes : List ℕ) → IsBytes bytes →
       Lists dfa (dfa_at_end dfa bytes) (λ leaf. RuleMatches rules leaf bytes 0 (length bytes))
 
--- Each state has a target by each byte and by the end, and is behind some bytes, or behind some bytes and the end. The start
--- lists nothing, and behind the end comes the dead state, which lists nothing and leads to itself alone.
+-- Each state has a target by each byte and by the end, and comes after some bytes, or after some bytes and the end. The start
+-- lists nothing. After the end comes the dead state, which lists nothing and leads to itself alone.
 pub record IsTotal (dfa : Automaton) : Type 0 where
   pub start_lists : slice_get dfa.matches dfa.start ≡ Some []
   pub rows : length dfa.by_byte ≡ length dfa.matches

@@ -11,7 +11,7 @@ pub data Fault : Type 0 where
   no_universal_start : Fault
   -- the leaf can match nothing
   empty_match : ℕ → Fault
-  -- these leaves can't be told apart
+  -- length and priority do not distinguish these leaves
   disambiguation : List ℕ → Fault
 
 -- the first list comes before the second, as lists of numbers are compared

@@ -1,4 +1,4 @@
--- States of the automaton, by what they keep of the bytes read.
+-- States of the automaton, by what they remember of the bytes read.
 use Rattle.std.specs.Prelude.{◌≡◌, ℕ, ◌+◌, ◌<◌, ◌≤◌, Bool, true, false, IsTrue, List, [], ◌∷◌, Some, None, length, map, slice_get, slice_index, slice_index_or}
 use Rattle.logos_automaton.specs.inside.Alike.{AreFirstBytes}
 use Rattle.logos_places.specs.Core.{Core}
@@ -36,18 +36,18 @@ start_state = record { places = []; kind = kind.Start; matches = [] }
 abbrev pub dead_state : State
 dead_state = record { places = []; kind = kind.Unseen; matches = [] }
 
--- what is kept of the byte x, by which these places are reached: something only if there are places and looks
-abbrev pub kept_of : Bool → List ℕ → ℕ → Kind
-kept_of looks [] x = kind.Unseen
-kept_of false (p ∷ places) x = kind.Unseen
-kept_of true (p ∷ places) x = kind_of_byte x
+-- what is remembered of the byte x, read at these places: its kind, if there are places and some tree has a look
+abbrev pub next_kind : Bool → List ℕ → ℕ → Kind
+next_kind looks [] x = kind.Unseen
+next_kind false (p ∷ places) x = kind.Unseen
+next_kind true (p ∷ places) x = kind_of_byte x
 
 module _ (ts : List Core) (looks : Bool) where
   -- the byte x leads from one state to the next
   pub record IsNext (s : State) (x : ℕ) (next : State) : Type 0 where
     pub places : ReadBy ts (test_at (record { before = s.kind; after = Some x })) x (Has s.places) (IsTrue (is_start s.kind)) next.places
     pub matches : LeftBy ts (test_at (record { before = s.kind; after = Some x })) (Has s.places) (IsTrue (is_start s.kind)) next.matches
-    pub kind : next.kind ≡ kept_of looks next.places x
+    pub kind : next.kind ≡ next_kind looks next.places x
 
 -- the end leads from one state to the next
 pub record IsLast (ts : List Core) (s next : State) : Type 0 where
@@ -100,7 +100,7 @@ pub record LeadsTo (ts : List Core) (looks : Bool) (ks : List Key) (i x j : ℕ)
   pub to_is : IsAt ks j to
   pub next : IsNext ts looks from x to
 
--- the bytes that the state i tells apart from the one before are marked
+-- each byte that the state i distinguishes from the byte before is marked
 pub record AreFirstIn (ts : List Core) (ks : List Key) (i : ℕ) (first : List Bool) : Type 0 where
   pub state : State
   pub at : IsAt ks i state

@@ -5,8 +5,8 @@ use Rattle.logos_automaton.specs.Automaton.{Automaton, dfa_next}
 -- a way from the start to the state: steps by bytes and by the end
 pub data Way (dfa : Automaton) : ℕ → Type 0 where
   at_the_start : Way dfa dfa.start
-  behind_byte : (s b t : ℕ) → b < 256 → Way dfa s → dfa_next dfa (Some s) b ≡ Some t → Way dfa t
-  behind_end : (s t : ℕ) → Way dfa s → slice_get dfa.at_end s ≡ Some t → Way dfa t
+  after_byte : (s b t : ℕ) → b < 256 → Way dfa s → dfa_next dfa (Some s) b ≡ Some t → Way dfa t
+  after_end : (s t : ℕ) → Way dfa s → slice_get dfa.at_end s ≡ Some t → Way dfa t
 
 -- there is a way to the state
 abbrev pub IsReachable : Automaton → ℕ → Type 0

@@ -1,14 +1,15 @@
-//! Bytes that no pattern tells apart.
-ghost use Rattle.std.specs.Prelude.{◌≡◌, ◌∷◌, ◌++◌, ◌<◌, ℕ, [], IsTrue, IsFalse, IfOk, OnOk, false, length, map, slice_index_or, if◌then◌else◌};
-ghost use Rattle.logos_automaton.specs.inside.Alike.{IsAlike, IsTold, AreTold, AreKindBytes, AreFirstBytes};
+//! Bytes that no pattern distinguishes.
+ghost use Rattle.std.specs.Prelude.{◌≡◌, ◌∷◌, ◌++◌, ◌<◌, ℕ, [], IsTrue, IsFalse, IfOk, OnOk, false, length, slice_index_or, if◌then◌else◌};
+ghost use Rattle.logos_automaton.specs.inside.Alike.{IsAlike, AreStartsOf, AreClassStarts, AreKindBytes, AreFirstBytes};
+ghost use Rattle.logos_automaton.specs.inside.Prepared.{IsPrepared, cores_of};
 ghost use Rattle.logos_places.specs.Core as core;
 ghost use Rattle.logos_places.specs.Kinds.{kind_of_byte};
 ghost use Rattle.logos_places.specs.Marks.{IsRising, Has};
 ghost use Rattle.logos_places.specs.Node.{core_of};
 ghost use Rattle.logos_places.specs.Repeat.{spelled};
-ghost use Rattle.logos_places.specs.Several.{AreStarts};
 ghost use Rattle.logos_places.specs.Table.{reader_of};
 
+use crate::trees::Trees;
 use logos_places::characters::reader::Table;
 use logos_places::node::Node;
 use logos_places::places::all::next_tree;
@@ -16,7 +17,7 @@ use logos_places::places::look::kind_of;
 use logos_places::places::step::has_byte;
 use std::alloc::{AllocError, Global};
 
-/// Whether the rows differ.
+/// Returns whether the rows differ.
 fn differ(row: Option<usize>, other: Option<usize>) -> bool
     ensures { IsFalse result → row ≡ other }
 {
@@ -27,8 +28,8 @@ fn differ(row: Option<usize>, other: Option<usize>) -> bool
     }
 }
 
-/// Whether the bytes can be told apart by the literal.
-fn literal_tells(text: &[u8], one: u8, other: u8) -> bool
+/// Returns whether a literal can distinguish the bytes.
+fn literal_distinguishes(text: &[u8], one: u8, other: u8) -> bool
     ensures { IsFalse result → IsAlike (spelled text.now) one other }
 {
     for byte in text {
@@ -39,8 +40,8 @@ fn literal_tells(text: &[u8], one: u8, other: u8) -> bool
     false
 }
 
-/// Whether the bytes can be told apart by the class of characters.
-fn table_tells(table: &Table, one: u8, other: u8) -> bool
+/// Returns whether a class of characters can distinguish the bytes.
+fn table_distinguishes(table: &Table, one: u8, other: u8) -> bool
     ensures { IsFalse result → IsAlike (core.character (reader_of table.now)) one other }
 {
     if differ(table.first(one), table.first(other)) {
@@ -54,38 +55,43 @@ fn table_tells(table: &Table, one: u8, other: u8) -> bool
     false
 }
 
-/// Whether the bytes can be told apart by the tree.
-#[cycle(tells)]
-fn tells(node: &Node, one: u8, other: u8) -> bool
+/// Returns whether a tree can distinguish the bytes.
+#[cycle(distinguishes)]
+fn distinguishes(node: &Node, one: u8, other: u8) -> bool
     ensures { IsFalse result → IsAlike (core_of node.now) one other }
 {
     match node {
         Node::Void | Node::Empty | Node::Look(_) => false,
-        Node::Literal(text) => literal_tells(text, one, other),
+        Node::Literal(text) => literal_distinguishes(text, one, other),
         Node::Bytes(ranges) => has_byte(ranges, one) != has_byte(ranges, other),
-        Node::Characters(table) => table_tells(table, one, other),
+        Node::Characters(table) => table_distinguishes(table, one, other),
         Node::Cat { first, second, .. } => {
-            let by_first = tells(first, one, other);
-            let by_second = tells(second, one, other);
+            let by_first = distinguishes(first, one, other);
+            let by_second = distinguishes(second, one, other);
             by_first | by_second
         }
         Node::Alt { first, second, .. } => {
-            let by_first = tells(first, one, other);
-            let by_second = tells(second, one, other);
+            let by_first = distinguishes(first, one, other);
+            let by_second = distinguishes(second, one, other);
             by_first | by_second
         }
-        Node::Repeat { body, .. } => tells(body, one, other),
+        Node::Repeat { body, .. } => distinguishes(body, one, other),
     }
 }
 
-/// The bytes that a tree tells apart from the one before.
+/// The bytes that a tree distinguishes from the byte before: the first bytes of its classes of bytes, but for byte 0.
 #[derive(Drop)]
-pub struct Told {
+pub struct ClassStarts {
+    /// The bytes, ascending.
     pub bytes: Vec<u8>,
 }
 
-/// Adds the byte if it is one of them.
-fn note(bytes: &mut Vec<u8>, byte: u8, is_one: bool) -> Result<(), AllocError>
+/// Adds the byte if `is_one` is true.
+///
+/// # Errors
+///
+/// Returns `AllocError` when memory runs out.
+pub fn note(bytes: &mut Vec<u8>, byte: u8, is_one: bool) -> Result<(), AllocError>
     ensures { OnOk result (bytes.new.items ≡
         (if is_one then bytes.old.items ++ byte ∷ [] else bytes.old.items)) }
 {
@@ -95,39 +101,47 @@ fn note(bytes: &mut Vec<u8>, byte: u8, is_one: bool) -> Result<(), AllocError>
     Ok(())
 }
 
-/// The bytes that the tree tells apart from the one before.
-fn told_by(alloc: Global, node: &Node) -> Result<Told, AllocError>
-    ensures { IfOk result (λ told. IsTold (core_of node.now) told.bytes.items 256) }
+/// Returns the bytes that a tree distinguishes from the byte before.
+///
+/// # Errors
+///
+/// Returns `AllocError` when memory runs out.
+fn class_starts_of(alloc: Global, node: &Node) -> Result<ClassStarts, AllocError>
+    ensures { IfOk result (λ starts. AreStartsOf (core_of node.now) starts.bytes.items 256) }
 {
     let mut bytes = Vec::new(alloc);
     for byte in 1..256usize {
-        let is_told = tells(node, (byte - 1) as u8, byte as u8);
-        note(&mut bytes, byte as u8, is_told)?;
+        let is_start = distinguishes(node, (byte - 1) as u8, byte as u8);
+        note(&mut bytes, byte as u8, is_start)?;
     }
-    Ok(Told { bytes })
+    Ok(ClassStarts { bytes })
 }
 
-/// The bytes that each tree tells apart from the one before.
-pub fn told_by_each(alloc: Global, nodes: &[Node]) -> Result<Vec<Told>, AllocError>
-    ensures { IfOk result (λ told. AreTold nodes.now told.items (length nodes.now)) }
+/// Returns, for each tree, the bytes that it distinguishes from the byte before.
+///
+/// # Errors
+///
+/// Returns `AllocError` when memory runs out.
+pub fn class_starts(alloc: Global, nodes: &[Node]) -> Result<Vec<ClassStarts>, AllocError>
+    ensures { IfOk result (λ lists. AreClassStarts nodes.now lists.items (length nodes.now)) }
 {
-    let mut told = Vec::new(alloc);
+    let mut lists = Vec::new(alloc);
     let mut number = 0;
     while number < nodes.len() {
-        told.push(told_by(alloc, &nodes[number])?)?;
+        lists.push(class_starts_of(alloc, &nodes[number])?)?;
         number += 1;
     }
-    Ok(told)
+    Ok(lists)
 }
 
-/// Whether looks can tell the bytes apart.
+/// Returns whether looks can distinguish the bytes.
 fn kinds_differ(one: u8, other: u8) -> bool
     ensures { IsFalse result → kind_of_byte one ≡ kind_of_byte other }
 {
     kind_of(one) != kind_of(other)
 }
 
-/// The bytes that looks can tell apart from the one before.
+/// Marks the bytes that looks can distinguish from the byte before.
 pub fn kind_bytes() -> [bool; 256]
     ensures { AreKindBytes result }
 {
@@ -139,7 +153,7 @@ pub fn kind_bytes() -> [bool; 256]
 }
 
 /// Marks the bytes.
-fn add_bytes(bytes: &[u8], first: &mut [bool; 256])
+pub fn add_bytes(bytes: &[u8], first: &mut [bool; 256])
     ensures { (byte : ℕ) → byte < 256 → slice_index_or first.new byte false ≡ false →
         (slice_index_or first.old byte false ≡ false) × ¬ (Has bytes.now byte) }
 {
@@ -148,25 +162,19 @@ fn add_bytes(bytes: &[u8], first: &mut [bool; 256])
     }
 }
 
-/// The bytes that the marks or looks can tell apart from the one before.
-pub fn first_bytes(
-    nodes: &[Node],
-    starts: &[usize],
-    told: &[Told],
-    kinds: &[bool; 256],
-    marks: &[usize],
-    entered: bool,
-) -> [bool; 256]
-    requires starts { AreStarts nodes.now starts.now }
-    requires told { AreTold nodes.now told.now (length nodes.now) }
-    requires kinds { AreKindBytes kinds.now }
+/// Marks the bytes that looks, or the trees that are entered or have a mark, can distinguish from the byte before.
+pub fn first_bytes(trees: &Trees<'_>, marks: &[usize], entered: bool) -> [bool; 256]
+    requires prepared { IsPrepared trees.now }
     requires rising { IsRising marks.now }
-    ensures { AreFirstBytes (map core_of nodes.now) (Has marks.now) (IsTrue entered) result }
+    ensures { AreFirstBytes (cores_of trees.now) (Has marks.now) (IsTrue entered) result }
 {
-    let mut first = *kinds;
+    let nodes = trees.nodes;
+    let starts = trees.starts;
+    let class_starts = trees.class_starts;
+    let mut first = *trees.kinds;
     let mut number = next_tree(starts, marks, entered, 0);
     while number < nodes.len() {
-        add_bytes(&told[number].bytes, &mut first);
+        add_bytes(&class_starts[number].bytes, &mut first);
         number = next_tree(starts, marks, entered, number + 1);
     }
     first

@@ -1,4 +1,4 @@
-//! Faults of rules, and why there is no automaton.
+//! Faults of rules, and the reasons for which an automaton is refused.
 
 use logos_hir::leaf::LeafId;
 use std::alloc::{AllocError, AllocFailed};
@@ -10,12 +10,11 @@ pub enum GraphError {
     NoUniversalStart,
     /// The leaf's pattern can match nothing.
     EmptyMatch(LeafId),
-    /// These leaves have the highest priority among all that match some text. They are in
-    /// ascending order, two or more.
+    /// These leaves have the highest priority among all that match some text. There are two or more, in ascending order.
     Disambiguation(Vec<LeafId>),
 }
 
-/// Why there is no graph.
+/// The reason for which a graph is refused.
 #[derive(Clone, Copy, Debug, PartialEq, Eq)]
 pub enum BuildError {
     /// The size of all trees passes 1,048,576.

@@ -17,7 +17,11 @@ use logos_hir::leaf::LeafId;
 use std::alloc::{AllocError, Global};
 use std::collections::BTreeSet;
 
-/// The leaves whose trees can be passed without a byte, ascending.
+/// Returns the leaves whose trees can be passed without a byte, ascending.
+///
+/// # Errors
+///
+/// Returns `AllocError` when memory runs out.
 pub fn passable_leaves(alloc: Global, rules: &[RuleView<'_>]) -> Result<Vec<LeafId>, AllocError>
     ensures { IfOk result (λ passed. ArePassable (rules_of rules.now) (numbers passed.items)) }
 {
@@ -30,7 +34,7 @@ pub fn passable_leaves(alloc: Global, rules: &[RuleView<'_>]) -> Result<Vec<Leaf
     Ok(passed)
 }
 
-/// The priority of a leaf, or 0 if there is no leaf with this number.
+/// Returns the priority of a leaf, or 0 if there is no leaf with this number.
 pub fn priority_at(rules: &[RuleView<'_>], leaf: usize) -> usize
     ensures { result ≡ priority_of (rules_of rules.now) leaf }
 {
@@ -40,7 +44,7 @@ pub fn priority_at(rules: &[RuleView<'_>], leaf: usize) -> usize
     }
 }
 
-/// The highest priority among the leaves listed, or 0 if there is none.
+/// Returns the highest priority among the leaves listed, or 0 if there are none.
 fn highest(rules: &[RuleView<'_>], listed: &[usize]) -> usize
     ensures { result ≡ highest_of (rules_of rules.now) listed.now }
 {
@@ -51,26 +55,34 @@ fn highest(rules: &[RuleView<'_>], listed: &[usize]) -> usize
     highest
 }
 
-/// Those of the leaves listed that have this priority.
+/// Returns those of the leaves listed that have this priority.
+///
+/// # Errors
+///
+/// Returns `AllocError` when memory runs out.
 fn with_priority(
     alloc: Global,
     rules: &[RuleView<'_>],
     listed: &[usize],
     priority: usize,
 ) -> Result<Vec<usize>, AllocError>
-    ensures { IfOk result (λ kept. kept.items ≡
+    ensures { IfOk result (λ chosen. chosen.items ≡
         with_priority (rules_of rules.now) priority listed.now) }
 {
-    let mut kept = Vec::new(alloc);
+    let mut chosen = Vec::new(alloc);
     for leaf in listed {
         if priority_at(rules, *leaf) == priority {
-            kept.push(*leaf)?;
+            chosen.push(*leaf)?;
         }
     }
-    Ok(kept)
+    Ok(chosen)
 }
 
-/// Adds the set of the leaves of highest priority among those listed, if there are two or more.
+/// Adds the set of the leaves of highest priority among those listed, if there are two or more of them.
+///
+/// # Errors
+///
+/// Returns `AllocError` when memory runs out.
 fn add_top_set(
     alloc: Global,
     rules: &[RuleView<'_>],
@@ -92,6 +104,10 @@ fn add_top_set(
 }
 
 /// Adds a set, if it is new.
+///
+/// # Errors
+///
+/// Returns `AllocError` when memory runs out.
 fn add_set(sets: &mut BTreeSet<Vec<usize>>, set: Vec<usize>) -> Result<(), AllocError>
     ensures { OnOk result ((other : List ℕ) → Contains (map (λ v. v.items) sets.new.keys) other
         ↔ (Contains (map (λ v. v.items) sets.old.keys) other ⊎ (other ≡ set.items))) }
@@ -100,7 +116,11 @@ fn add_set(sets: &mut BTreeSet<Vec<usize>>, set: Vec<usize>) -> Result<(), Alloc
     Ok(())
 }
 
-/// The sets of two or more leaves that have the highest priority among all leaves that a state lists.
+/// Returns the sets of two or more leaves that have the highest priority among all leaves that a state lists.
+///
+/// # Errors
+///
+/// Returns `AllocError` when memory runs out.
 fn top_sets(
     alloc: Global,
     rules: &[RuleView<'_>],
@@ -117,7 +137,11 @@ fn top_sets(
     Ok(sets)
 }
 
-/// The leaves with these numbers.
+/// Returns the leaves with these numbers.
+///
+/// # Errors
+///
+/// Returns `AllocError` when memory runs out.
 fn leaf_ids(alloc: Global, set: &[usize]) -> Result<Vec<LeafId>, AllocError>
     ensures { IfOk result (λ ids. numbers ids.items ≡ set.now) }
 {
@@ -128,7 +152,11 @@ fn leaf_ids(alloc: Global, set: &[usize]) -> Result<Vec<LeafId>, AllocError>
     Ok(ids)
 }
 
-/// The sets in order.
+/// Returns the sets in ascending order.
+///
+/// # Errors
+///
+/// Returns `AllocError` when memory runs out.
 fn in_order(alloc: Global, sets: &BTreeSet<Vec<usize>>) -> Result<Vec<Vec<LeafId>>, AllocError>
     ensures ascends { IfOk result (λ named. Ascends (map (λ set. numbers set.items) named.items)) }
     ensures same { IfOk result (λ named. map (λ set. numbers set.items) named.items ≡
@@ -142,7 +170,11 @@ fn in_order(alloc: Global, sets: &BTreeSet<Vec<usize>>) -> Result<Vec<Vec<LeafId
     Ok(named)
 }
 
-/// The sets of leaves that can't be told apart: each is once there, and they ascend.
+/// Returns the sets of leaves that length and priority do not distinguish, each once and in ascending order.
+///
+/// # Errors
+///
+/// Returns `AllocError` when memory runs out.
 pub fn ambiguous_sets(
     alloc: Global,
     rules: &[RuleView<'_>],
@@ -157,7 +189,11 @@ pub fn ambiguous_sets(
     in_order(alloc, &sets)
 }
 
-/// The faults of leaves that can match nothing.
+/// Returns a fault for each leaf that can match nothing.
+///
+/// # Errors
+///
+/// Returns `AllocError` when memory runs out.
 fn empty_matches(alloc: Global, passed: Vec<LeafId>) -> Result<Vec<GraphError>, AllocError>
     ensures { IfOk result (λ errors. map fault_of errors.items ≡
         map empty_match (numbers passed.items)) }
@@ -169,7 +205,11 @@ fn empty_matches(alloc: Global, passed: Vec<LeafId>) -> Result<Vec<GraphError>, 
     Ok(errors)
 }
 
-/// The faults of sets that can't be told apart.
+/// Returns a fault for each set of leaves that length and priority do not distinguish.
+///
+/// # Errors
+///
+/// Returns `AllocError` when memory runs out.
 fn disambiguations(alloc: Global, sets: Vec<Vec<LeafId>>) -> Result<Vec<GraphError>, AllocError>
     ensures { IfOk result (λ errors. map fault_of errors.items ≡
         map disambiguation (map (λ set. numbers set.items) sets.items)) }
@@ -181,7 +221,11 @@ fn disambiguations(alloc: Global, sets: Vec<Vec<LeafId>>) -> Result<Vec<GraphErr
     Ok(errors)
 }
 
-/// The faults of leaves and of their automaton.
+/// Returns the faults of rules and of their automaton.
+///
+/// # Errors
+///
+/// Returns `AllocError` when memory runs out.
 pub fn graph_errors(
     alloc: Global,
     rules: &[RuleView<'_>],

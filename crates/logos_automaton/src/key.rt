@@ -1,33 +1,31 @@
-//! States of the automaton, while it is built.
-ghost use Rattle.std.specs.Prelude.{◌≡◌, ◌^◌, ◌<◌, ◌≤◌, ◌+◌, Bool, List, IsTrue, IfOk, OnOk, length, map};
+//! The keys of states, by which a state is found while the automaton is built.
+ghost use Rattle.std.specs.Prelude.{◌≡◌, ◌<◌, ◌≤◌, ◌+◌, Bool, List, IfOk, OnOk, length};
 ghost use Rattle.logos_places.specs.Core.{Core};
 ghost use Rattle.logos_automaton.specs.Keys as keys;
 ghost use Rattle.logos_places.specs.Marks.{IsRising};
-ghost use Rattle.logos_places.specs.Node.{core_of, AreMeasured};
-ghost use Rattle.logos_places.specs.Run.{width_of};
-ghost use Rattle.logos_places.specs.Several.{AreStarts};
+ghost use Rattle.logos_automaton.specs.inside.Prepared.{IsPrepared, cores_of};
 
+use crate::trees::Trees;
 use indexmap::IndexSet;
-use logos_places::node::Node;
-use logos_places::places::all::{exits_all, step_all};
+use logos_places::places::all::{Forest, exits_all, step_all};
 use logos_places::places::look::{Context, Kind, kind_of};
 use logos_places::places::step::Reading;
 use std::alloc::{AllocError, Global};
 
-/// What an automaton keeps of the bytes read so far.
+/// What an automaton remembers of the bytes read so far: the key of a state.
 #[derive(PartialEq, Eq, Hash, Drop)]
 pub struct Key {
-    /// The places that can have read the last byte.
+    /// The places that can have read the last byte, ascending.
     pub places: Vec<usize>,
-    /// What is kept of that byte.
+    /// The kind of that byte, if it is remembered.
     pub kind: Kind,
-    /// The trees that match all bytes in front of that one, or all bytes where the end was read.
+    /// The numbers of the trees that match all bytes before that byte, or all bytes if the end was read, ascending.
     pub matches: Vec<usize>,
 }
 
-/// What is kept of a byte by which these places are reached.
-fn kept_of(looks: bool, places: &[usize], byte: u8) -> Kind
-    ensures { result ≡ keys.kept_of looks places.now byte }
+/// Returns what is remembered of a byte that is read at these places: its kind, if there are places and some tree has a look.
+pub fn next_kind(looks: bool, places: &[usize], byte: u8) -> Kind
+    ensures { result ≡ keys.next_kind looks places.now byte }
 {
     if looks && !places.is_empty() {
         kind_of(byte)
@@ -36,14 +34,14 @@ fn kept_of(looks: bool, places: &[usize], byte: u8) -> Kind
     }
 }
 
-/// Whether nothing was read.
+/// Returns whether nothing was read.
 pub fn is_start(kind: Kind) -> bool
     ensures { result ≡ keys.is_start kind }
 {
     matches!(kind, Kind::Start)
 }
 
-/// The state before the first byte.
+/// Returns the key of the state before the first byte.
 pub fn start_key(alloc: Global) -> Key
     ensures { keys.state_of result ≡ keys.start_state }
 {
@@ -54,21 +52,16 @@ pub fn start_key(alloc: Global) -> Key
     }
 }
 
-/// The state after one more byte.
-pub fn step_key(
-    alloc: Global,
-    nodes: &[Node],
-    starts: &[usize],
-    looks: bool,
-    key: &Key,
-    byte: u8,
-) -> Result<Key, AllocError>
-    requires fits { width_of (map core_of nodes.now) < 2 ^ 64 }
-    requires measured { AreMeasured nodes.now }
-    requires starts { AreStarts nodes.now starts.now }
+/// Returns the key of the state after one more byte.
+///
+/// # Errors
+///
+/// Returns `AllocError` when memory runs out.
+pub fn step_key(trees: &Trees<'_>, key: &Key, byte: u8) -> Result<Key, AllocError>
+    requires prepared { IsPrepared trees.now }
     requires rising { IsRising key.now.places.items }
-    ensures { IfOk result (λ made. keys.IsNext (map core_of nodes.now) looks (keys.state_of key.now)
-        byte (keys.state_of made)) }
+    ensures { IfOk result (λ made. keys.IsNext (cores_of trees.now) trees.now.looks
+        (keys.state_of key.now) byte (keys.state_of made)) }
 {
     let at = Context {
         before: key.kind,
@@ -79,41 +72,50 @@ pub fn step_key(
         marks: &key.places,
         at,
     };
-    let reached = step_all(alloc, nodes, starts, is_start(key.kind), by)?;
+    let forest = Forest {
+        nodes: trees.nodes,
+        starts: trees.starts,
+    };
+    let step = step_all(trees.alloc, forest, by, is_start(key.kind))?;
     Ok(Key {
-        kind: kept_of(looks, &reached.places, byte),
-        places: reached.places,
-        matches: reached.left,
+        kind: next_kind(trees.looks, &step.places, byte),
+        places: step.places,
+        matches: step.left,
     })
 }
 
-/// The state after the end.
-pub fn end_key(
-    alloc: Global,
-    nodes: &[Node],
-    starts: &[usize],
-    key: &Key,
-) -> Result<Key, AllocError>
-    requires fits { width_of (map core_of nodes.now) < 2 ^ 64 }
-    requires measured { AreMeasured nodes.now }
-    requires starts { AreStarts nodes.now starts.now }
+/// Returns the key of the state after the end.
+///
+/// # Errors
+///
+/// Returns `AllocError` when memory runs out.
+pub fn end_key(trees: &Trees<'_>, key: &Key) -> Result<Key, AllocError>
+    requires prepared { IsPrepared trees.now }
     requires rising { IsRising key.now.places.items }
-    ensures { IfOk result (λ made. keys.IsLast (map core_of nodes.now) (keys.state_of key.now)
+    ensures { IfOk result (λ made. keys.IsLast (cores_of trees.now) (keys.state_of key.now)
         (keys.state_of made)) }
 {
     let at = Context {
         before: key.kind,
         after: None,
     };
-    let matches = exits_all(alloc, nodes, starts, &key.places, is_start(key.kind), at)?;
+    let forest = Forest {
+        nodes: trees.nodes,
+        starts: trees.starts,
+    };
+    let matches = exits_all(trees.alloc, forest, &key.places, at, is_start(key.kind))?;
     Ok(Key {
-        places: Vec::new(alloc),
+        places: Vec::new(trees.alloc),
         kind: Kind::Unseen,
         matches,
     })
 }
 
-/// The number of a state, which is added if it is new.
+/// Returns the number of a state, which is added if it is new.
+///
+/// # Errors
+///
+/// Returns `AllocError` when memory runs out.
 pub fn number_of(states: &mut IndexSet<Key>, key: Key) -> Result<usize, AllocError>
     ensures grows { OnOk result (keys.Grows states.old.keys states.new.keys) }
     ensures rising { keys.AreRising states.old.keys → IsRising key.places.items →

@@ -1,4 +1,4 @@
-//! Measures of trees. None of them takes memory.
+//! Measures of trees. None of them allocates memory.
 ghost use Rattle.std.specs.Prelude.{◌≡◌, ℕ, ◌+◌, ◌*◌, ◌^◌, ◌≤◌, ◌↔◌, IsTrue, length, max, map};
 ghost use Rattle.logos_hir.specs.Hir.{class_tree, tree_of};
 ghost use Rattle.logos_hir.specs.Passable as tree;
@@ -9,10 +9,10 @@ ghost use Rattle.logos_places.specs.Size.{size, sizes};
 
 use logos_hir::hir::{Class, Hir};
 
-/// The greatest size that all trees may have.
+/// The greatest size that all trees together may have.
 const SIZE_LIMIT: usize = 1 << 20;
 
-/// Whether the tree can be passed without a byte.
+/// Returns whether a tree can be passed without a byte.
 #[cycle(passable)]
 pub fn passable(hir: &Hir) -> bool
     ensures { result ≡ tree.passable (tree_of hir.now) }
@@ -28,7 +28,7 @@ pub fn passable(hir: &Hir) -> bool
     }
 }
 
-/// Whether all of the trees can be passed.
+/// Returns whether all of the trees can be passed.
 #[cycle(passable)]
 fn all_passable(parts: &[Hir]) -> bool
     ensures { result ≡ tree.all_passable (trees (map tree_of parts.now)) }
@@ -41,7 +41,7 @@ fn all_passable(parts: &[Hir]) -> bool
     true
 }
 
-/// Whether one of the trees can be passed.
+/// Returns whether one of the trees can be passed.
 #[cycle(passable)]
 fn some_passable(branches: &[Hir]) -> bool
     ensures { result ≡ tree.some_passable (trees (map tree_of branches.now)) }
@@ -54,7 +54,7 @@ fn some_passable(branches: &[Hir]) -> bool
     false
 }
 
-/// Whether the tree can meet a look before its first byte.
+/// Returns whether a tree can meet a look before its first byte.
 #[cycle(leads)]
 pub fn leads(hir: &Hir) -> bool
     ensures { result ≡ tree.leads (tree_of hir.now) }
@@ -68,7 +68,7 @@ pub fn leads(hir: &Hir) -> bool
     }
 }
 
-/// Whether one of the trees leads, and all before it can be passed.
+/// Returns whether one of the trees can meet a look before its first byte, and all trees before it can be passed.
 #[cycle(leads)]
 fn leads_in_order(parts: &[Hir]) -> bool
     ensures { result ≡ tree.leads_in_order (trees (map tree_of parts.now)) }
@@ -84,7 +84,7 @@ fn leads_in_order(parts: &[Hir]) -> bool
     false
 }
 
-/// Whether one of the trees leads.
+/// Returns whether one of the trees can meet a look before its first byte.
 #[cycle(leads)]
 fn some_leads(branches: &[Hir]) -> bool
     ensures { result ≡ tree.some_leads (trees (map tree_of branches.now)) }
@@ -97,7 +97,7 @@ fn some_leads(branches: &[Hir]) -> bool
     false
 }
 
-/// Whether the tree has a look.
+/// Returns whether a tree has a look.
 #[cycle(has_look)]
 pub fn has_look(hir: &Hir) -> bool
     ensures { result ≡ places.has_look (tree_of hir.now) }
@@ -110,7 +110,7 @@ pub fn has_look(hir: &Hir) -> bool
     }
 }
 
-/// Whether one of the trees has a look.
+/// Returns whether one of the trees has a look.
 #[cycle(has_look)]
 fn some_has_look(hirs: &[Hir]) -> bool
     ensures { result ≡ places.some_has_look (trees (map tree_of hirs.now)) }
@@ -125,7 +125,7 @@ fn some_has_look(hirs: &[Hir]) -> bool
 
 // Below, `None` stands for a size beyond the limit.
 
-/// The size, if it is within the limit.
+/// Returns the size, if it is within the limit.
 fn limited(size: usize) -> Option<usize>
     ensures { IsWithinLimit size result }
 {
@@ -135,14 +135,14 @@ fn limited(size: usize) -> Option<usize>
     Some(size)
 }
 
-/// The sum of two sizes, if both and the sum are within the limit.
+/// Returns the sum of two sizes, if both and the sum are within the limit.
 pub fn plus(a: Option<usize>, b: Option<usize>) -> Option<usize>
     ensures { (m n : ℕ) → IsWithinLimit m a → IsWithinLimit n b → IsWithinLimit (m + n) result }
 {
     limited(a?.checked_add(b?)?)
 }
 
-/// How often the body of a repetition counts.
+/// Returns how often the body of a repetition counts.
 fn copies(min: u32, max: Option<u32>) -> usize
     ensures count { result ≡ places.copies min max }
     ensures some { 1 ≤ result }
@@ -154,14 +154,14 @@ fn copies(min: u32, max: Option<u32>) -> usize
     }
 }
 
-/// The size of a repetition of a body of this size, if both are within the limit.
+/// Returns the size of a repetition of a body of this size, if both are within the limit.
 fn times(body: Option<usize>, min: u32, max: Option<u32>) -> Option<usize>
     ensures { (n : ℕ) → IsWithinLimit n body → IsWithinLimit (n * places.copies min max) result }
 {
     limited(body?.checked_mul(copies(min, max))?)
 }
 
-/// The size of a class.
+/// Returns the size of a class, if it is within the limit.
 fn class_size(class: &Class) -> Option<usize>
     ensures { IsWithinLimit (size (class_tree class.now)) result }
 {
@@ -171,7 +171,7 @@ fn class_size(class: &Class) -> Option<usize>
     }
 }
 
-/// The size of a class of characters of so many ranges.
+/// Returns the size of a class of characters with so many ranges, if it is within the limit.
 fn ranges_size(ranges: usize) -> Option<usize>
     ensures { IsWithinLimit (max 1 (4 * ranges)) result }
 {
@@ -181,7 +181,7 @@ fn ranges_size(ranges: usize) -> Option<usize>
     limited((4 * ranges).max(1))
 }
 
-/// The size of the tree, if it is within the limit.
+/// Returns the size of a tree, if it is within the limit.
 #[cycle(size)]
 pub fn limited_size(hir: &Hir) -> Option<usize>
     ensures { IsWithinLimit (size (tree_of hir.now)) result }
@@ -197,7 +197,7 @@ pub fn limited_size(hir: &Hir) -> Option<usize>
     }
 }
 
-/// The sum of the sizes, if it is within the limit.
+/// Returns the sum of the sizes of trees, if it is within the limit.
 #[cycle(size)]
 fn limited_sizes(hirs: &[Hir]) -> Option<usize>
     ensures { IsWithinLimit (sizes (trees (map tree_of hirs.now))) result }

@@ -1,4 +1,4 @@
-//! The trees of rules, made ready for the automaton.
+//! The trees of rules, prepared for the automaton.
 ghost use Rattle.std.specs.Prelude.{◌^◌, ◌≤◌, IfOk, map};
 ghost use Rattle.logos_places.specs.Node.{core_of, AreMeasured};
 ghost use Rattle.logos_automaton.specs.Rules.{AreRuleCores};
@@ -10,7 +10,11 @@ use logos_places::node::Node;
 use logos_places::prepare::prepare;
 use std::alloc::{AllocError, Global};
 
-/// The trees of the rules, made ready. Their size has to be within the limit.
+/// Prepares the trees of rules. Their size must be within the limit.
+///
+/// # Errors
+///
+/// Returns `AllocError` when memory runs out.
 pub fn nodes_of(alloc: Global, rules: &[RuleView<'_>]) -> Result<Vec<Node>, AllocError>
     requires { size_of (rules_of rules.now) ≤ 2 ^ 20 }
     ensures cores { IfOk result (λ nodes.

@@ -1,4 +1,4 @@
-//! The targets of the states of an automaton, while it is built.
+//! The targets of states, while the automaton is built.
 ghost use Rattle.std.specs.Prelude.{Bool, ℕ, ◌≡◌, ◌^◌, ◌<◌, ◌+◌, IfOk, IfSome, OnOk, length, slice_index};
 ghost use Rattle.logos_automaton.specs.inside.Prepared.{IsPrepared, cores_of};
 ghost use Rattle.logos_automaton.specs.Keys.{AreRising, AreReached, AreFirstIn, Extends, LeadsTo, EndsIn, IsRow};
@@ -7,17 +7,20 @@ use crate::alike::first_bytes;
 use crate::key::{Key, end_key, is_start, number_of, step_key};
 use crate::trees::Trees;
 use indexmap::IndexSet;
-use std::alloc::{AllocError, Global};
+use std::alloc::AllocError;
 
 /// The targets of a state by bytes.
 pub type Row = [u16; 256];
 
-/// The same while the automaton is built, which may meet a few more states than it may have.
+/// The targets of a state by bytes while the automaton is built, which may then have a few more states than the limit.
 pub type DraftRow = [u32; 256];
 
-/// The target of a state by a byte.
+/// Returns the target of a state by a byte. The target is added if it is new.
+///
+/// # Errors
+///
+/// Returns `AllocError` when memory runs out.
 fn target_of(
-    alloc: Global,
     trees: &Trees<'_>,
     states: &mut IndexSet<Key>,
     state: usize,
@@ -34,16 +37,19 @@ fn target_of(
         LeadsTo (cores_of trees.now) trees.now.looks states.new.keys state byte target) }
 {
     let made = match states.get_index(state) {
-        Some(key) => step_key(alloc, trees.nodes, trees.starts, trees.looks, key, byte)?,
+        Some(key) => step_key(trees, key, byte)?,
         None => unreachable!(),
     };
     let target = number_of(states, made)?;
     Ok(target as u32)
 }
 
-/// The target of a state at the end.
+/// Returns the target of a state by the end. The target is added if it is new.
+///
+/// # Errors
+///
+/// Returns `AllocError` when memory runs out.
 pub fn end_of(
-    alloc: Global,
     trees: &Trees<'_>,
     states: &mut IndexSet<Key>,
     state: usize,
@@ -58,16 +64,19 @@ pub fn end_of(
         EndsIn (cores_of trees.now) states.new.keys state target) }
 {
     let made = match states.get_index(state) {
-        Some(key) => end_key(alloc, trees.nodes, trees.starts, key)?,
+        Some(key) => end_key(trees, key)?,
         None => unreachable!(),
     };
     let target = number_of(states, made)?;
     Ok(target as u32)
 }
 
-/// The target of a state by a byte, where it may be known by the byte before.
+/// Returns the target of a state by a byte: the one that is known, if there is one.
+///
+/// # Errors
+///
+/// Returns `AllocError` when memory runs out.
 fn next_target(
-    alloc: Global,
     trees: &Trees<'_>,
     states: &mut IndexSet<Key>,
     state: usize,
@@ -88,11 +97,11 @@ fn next_target(
 {
     match known {
         Some(target) => Ok(target),
-        None => target_of(alloc, trees, states, state, byte),
+        None => target_of(trees, states, state, byte),
     }
 }
 
-/// The bytes that a state tells apart from the one before.
+/// Marks the bytes that a state distinguishes from the byte before.
 fn first_in(trees: &Trees<'_>, states: &IndexSet<Key>, state: usize) -> [bool; 256]
     requires prepared { IsPrepared trees.now }
     requires within { state < length states.now.keys }
@@ -100,21 +109,17 @@ fn first_in(trees: &Trees<'_>, states: &IndexSet<Key>, state: usize) -> [bool; 2
     ensures { AreFirstIn (cores_of trees.now) states.now.keys state result }
 {
     match states.get_index(state) {
-        Some(key) => first_bytes(
-            trees.nodes,
-            trees.starts,
-            trees.told,
-            trees.kinds,
-            &key.places,
-            is_start(key.kind),
-        ),
+        Some(key) => first_bytes(trees, &key.places, is_start(key.kind)),
         None => unreachable!(),
     }
 }
 
-/// All targets of a state by bytes.
+/// Returns all targets of a state by bytes. Targets are added if they are new.
+///
+/// # Errors
+///
+/// Returns `AllocError` when memory runs out.
 pub fn row_of(
-    alloc: Global,
     trees: &Trees<'_>,
     states: &mut IndexSet<Key>,
     state: usize,
@@ -132,15 +137,15 @@ pub fn row_of(
 {
     let first = first_in(trees, states, state);
     let mut row = [0; 256];
-    row[0] = target_of(alloc, trees, states, state, 0)?;
+    row[0] = target_of(trees, states, state, 0)?;
     for byte in 1..256 {
         let known = (!first[byte]).then_some(row[byte - 1]);
-        row[byte] = next_target(alloc, trees, states, state, byte as u8, known)?;
+        row[byte] = next_target(trees, states, state, byte as u8, known)?;
     }
     Ok(row)
 }
 
-/// The row in half the room, where each target has a number below 65,536.
+/// Returns the row in half the memory. Each target must have a number below 65,536.
 pub fn narrowed(row: &DraftRow) -> Row
     requires { (byte : ℕ) → byte < 256 → slice_index row.now byte < 2 ^ 16 }
     ensures wide { length result ≡ 256 }

@@ -1,4 +1,4 @@
-//! What an automaton needs of a leaf.
+//! The parts of a leaf that an automaton needs.
 ghost use Rattle.std.specs.Prelude.{◌≡◌};
 ghost use Rattle.logos_automaton.specs.Faults as faults;
 ghost use Rattle.logos_automaton.specs.Rules as inner;
@@ -7,20 +7,20 @@ ghost use Rattle.logos_automaton.specs.View.{rules_of};
 use crate::measures::{has_look, leads, passable};
 use logos_hir::hir::Hir;
 
-/// The rule that a leaf stands for, with the leaf's tree.
+/// A leaf as a rule: its tree, its priority, and how its matches are used.
 #[derive(Clone, Copy)]
 pub struct RuleView<'h> {
     /// The tree of the leaf's pattern.
     pub tree: &'h Hir,
     /// The leaf's priority.
     pub priority: usize,
-    /// Whether matches are left out.
+    /// Whether its matches are skipped.
     pub skips: bool,
-    /// Whether a callback is asked for each match.
+    /// Whether a callback is called for each match.
     pub asks: bool,
 }
 
-/// Whether the tree of some rule can meet a look before its first byte.
+/// Returns whether the tree of some rule can meet a look before its first byte.
 pub fn some_leads(rules: &[RuleView<'_>]) -> bool
     ensures { result ≡ faults.some_leads (rules_of rules.now) }
 {
@@ -32,7 +32,7 @@ pub fn some_leads(rules: &[RuleView<'_>]) -> bool
     false
 }
 
-/// Whether the tree of some rule can be passed without a byte.
+/// Returns whether the tree of some rule can be passed without a byte.
 pub fn some_passable(rules: &[RuleView<'_>]) -> bool
     ensures { result ≡ faults.some_passable (rules_of rules.now) }
 {
@@ -44,7 +44,7 @@ pub fn some_passable(rules: &[RuleView<'_>]) -> bool
     false
 }
 
-/// Whether the tree of some rule has a look.
+/// Returns whether the tree of some rule has a look.
 pub fn some_look(rules: &[RuleView<'_>]) -> bool
     ensures { result ≡ inner.some_look (rules_of rules.now) }
 {

@@ -1,17 +1,21 @@
-//! What the states of an automaton are built from.
-use crate::alike::Told;
+//! The input of the building of states.
+use crate::alike::ClassStarts;
 use logos_places::node::Node;
+use std::alloc::Global;
 
-/// The trees of an automaton, and what was found of them before its first state.
+/// The trees of an automaton, and what is known of them before its first state is built.
 #[derive(Clone, Copy)]
 pub struct Trees<'n> {
+    /// The allocator of all that is built.
+    pub alloc: Global,
+    /// The trees.
     pub nodes: &'n [Node],
-    /// Where the places of each tree begin.
+    /// Where the places of each tree begin, and where those of the last tree end.
     pub starts: &'n [usize],
-    /// Whether something is kept of the last byte, since some tree has a look.
+    /// Whether some tree has a look, so that states remember the kind of the last byte.
     pub looks: bool,
-    /// The bytes that each tree tells apart from the one before.
-    pub told: &'n [Told],
-    /// The bytes that looks can tell apart from the one before.
+    /// The bytes that each tree distinguishes from the byte before.
+    pub class_starts: &'n [ClassStarts],
+    /// Marks the bytes that looks can distinguish from the byte before.
     pub kinds: &'n [bool; 256],
 }

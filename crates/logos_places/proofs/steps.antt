@@ -7,3 +7,4 @@ pub mod PlaceLemmas
 pub mod SeveralLemmas
 pub mod StepLemmas
 pub mod SteppedLemmas
+pub mod TreeLemmas

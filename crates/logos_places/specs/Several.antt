@@ -1,11 +1,18 @@
 -- Steps on several patterns, whose places stand one after another.
-use Rattle.std.specs.Prelude.{ℕ, ◌+◌, ◌-◌, ◌<◌, ◌≤◌, ◌≡◌, ◌⊎◌, ◌↔◌, Bool, List, length, map, drop, slice_index}
-use Rattle.logos_places.specs.Core.{Core}
+use Rattle.std.specs.Prelude.{ℕ, ◌+◌, ◌-◌, ◌<◌, ◌≤◌, ◌≡◌, ◌⊎◌, ◌↔◌, Bool, false, IsTrue, List, length, map, drop, slice_index}
+use Rattle.logos_places.specs.Core.{Core, width, Exits, Steps}
 use Rattle.logos_places.specs.Marks.{Has, IsSet}
 use Rattle.logos_places.specs.Node.{core_of}
 use Rattle.logos_places.specs.Run.{width_of, StepsIn, ExitsIn}
 use Rattle.logos_places.specs.declared.node.Node.{Node}
 use Rattle.logos_hir.specs.declared.hir.Look.{Look}
+
+-- Just these places, of those of the pattern t from `base` on, read the byte x, and `left` says whether t can be left here. The
+-- pattern is not entered here.
+pub record IsStepOf (t : Core) (test : Look → Bool) (x : ℕ) (marks : List ℕ) (base : ℕ) (places : List ℕ) (left : Bool) : Type 0 where
+  pub set : IsSet places (base + width t)
+  pub has : (q : ℕ) → Has places q ↔ ((base ≤ q) × Steps t test x (λ p. Has marks (base + p)) (IsTrue false) (q - base))
+  pub leaves : IsTrue left ↔ Exits t test (λ p. Has marks (base + p)) (IsTrue false)
 
 -- just these places read the byte x
 pub record ReadBy (ts : List Core) (test : Look → Bool) (x : ℕ) (M : ℕ → Type 0) (entered : Type 0) (places : List ℕ) : Type 0 where

@@ -1,4 +1,4 @@
-//! Trees made ready for the automaton.
+//! Trees, prepared for the automaton.
 ghost use Rattle.std.specs.Prelude.{◌≡◌, ◌^◌, ◌<◌, IsTrue};
 ghost use Rattle.logos_places.specs.Core as core;
 ghost use Rattle.logos_places.specs.Node.{core_of, is_measured};
@@ -7,12 +7,12 @@ ghost use Rattle.logos_places.specs.Repeat.{count_of};
 use crate::characters::reader::Table;
 use logos_hir::hir::{Look, Range};
 
-/// A tree whose parts and branches stand in pairs, with the numbers of their places beside them.
+/// A tree whose parts and branches are in pairs, with their numbers of places.
 #[derive(Drop)]
 pub enum Node {
-    /// What matches nothing at all.
+    /// Matches nothing.
     Void,
-    /// The empty text.
+    /// Matches the empty text.
     Empty,
     /// These bytes, in order.
     Literal(Vec<u8>),
@@ -20,35 +20,35 @@ pub enum Node {
     Bytes(Vec<Range>),
     /// One character of a class.
     Characters(Table),
-    /// A condition on the place.
+    /// A look: a condition on a position in the input.
     Look(Look),
-    /// The one after the other.
+    /// One tree after the other.
     Cat {
-        /// How many places the first has.
+        /// The number of places of the first.
         split: usize,
-        /// How many places both have.
+        /// The number of places of both.
         width: usize,
         first: Box<Node>,
         second: Box<Node>,
     },
-    /// One of the two.
+    /// One of two trees.
     Alt {
         split: usize,
         width: usize,
         first: Box<Node>,
         second: Box<Node>,
     },
-    /// At least `least` times the body, and at most `most` times if there is such a count.
+    /// The body, at least `least` times, and at most `most` times if there is such a bound.
     Repeat {
         least: usize,
         most: Option<usize>,
-        /// How many places the body has.
+        /// The number of places of the body.
         each: usize,
         body: Box<Node>,
     },
 }
 
-/// How many copies of a repetition's body are kept apart.
+/// Returns how many copies of its body a repetition has, each with places of its own.
 pub fn copy_count(least: usize, most: Option<usize>) -> usize
     ensures { result ≡ count_of least most }
 {
@@ -58,7 +58,7 @@ pub fn copy_count(least: usize, most: Option<usize>) -> usize
     }
 }
 
-/// How many places the tree has.
+/// Returns the number of places of a tree.
 pub fn width(node: &Node) -> usize
     requires fits { core.width (core_of node.now) < 2 ^ 64 }
     requires measured { IsTrue (is_measured node.now) }
@@ -80,23 +80,41 @@ pub fn width(node: &Node) -> usize
     }
 }
 
+/// Where a tree stands in a step: at which place its own begin, and whether it is entered.
+#[derive(Clone, Copy)]
+pub(crate) struct Spot {
+    /// The first place of the tree.
+    pub base: usize,
+    /// Whether a match of the tree begins at the position of the step.
+    pub entered: bool,
+}
+
 /// Copies of the body of a repetition, one after another.
 #[derive(Clone, Copy)]
 pub(crate) struct Copies {
-    /// The first place of the first one.
+    /// The first place of the first copy.
     pub base: usize,
-    /// How many places each has.
+    /// The number of places of each copy.
     pub each: usize,
+    /// The number of copies.
     pub count: usize,
+    /// Whether the first copy is entered.
+    pub entered: bool,
 }
 
 impl Copies {
-    /// This many copies of a body with `each` places, from `base` on.
-    pub fn new(base: usize, each: usize, count: usize) -> Copies
-        ensures base { result.base ≡ base }
+    /// Returns `count` copies of a body with `each` places, the first of which stands at `spot`.
+    pub fn new(spot: Spot, each: usize, count: usize) -> Copies
+        ensures base { result.base ≡ spot.base }
+        ensures entered { result.entered ≡ spot.entered }
         ensures each { result.each ≡ each }
         ensures count { result.count ≡ count }
     {
-        Copies { base, each, count }
+        Copies {
+            base: spot.base,
+            each,
+            count,
+            entered: spot.entered,
+        }
     }
 }

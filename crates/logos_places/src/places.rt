@@ -5,3 +5,4 @@ pub(crate) mod exits;
 pub mod look;
 pub(crate) mod set;
 pub mod step;
+pub mod tree;

@@ -1,4 +1,4 @@
-//! From a pattern's tree to the tree that the automaton steps on.
+//! Preparation of a pattern's tree: the tree that the automaton steps on.
 ghost use Rattle.std.specs.Prelude.{◌≡◌, ℕ, ◌+◌, ◌^◌, ◌<◌, ◌≤◌, IsTrue, IfOk, Bool, true, length, map, vec_len};
 ghost use Rattle.logos_hir.specs.Tree.{trees, repetition};
 ghost use Rattle.logos_hir.specs.Hir.{class_tree, tree_of};
@@ -14,7 +14,11 @@ use crate::node::{Node, width};
 use logos_hir::hir::{Class, Hir};
 use std::alloc::{AllocError, Global};
 
-/// The class, made ready.
+/// Prepares a class.
+///
+/// # Errors
+///
+/// Returns `AllocError` when memory runs out.
 fn prepare_class(alloc: Global, class: &Class) -> Result<Node, AllocError>
     ensures stands { IfOk result (λ node. IsCoreOf (class_tree class.now) (core_of node)) }
     ensures measured { IfOk result (λ node. IsTrue (is_measured node)) }
@@ -25,7 +29,11 @@ fn prepare_class(alloc: Global, class: &Class) -> Result<Node, AllocError>
     }
 }
 
-/// The one after the other, or one of the two.
+/// Returns one tree after the other, or the choice of the two.
+///
+/// # Errors
+///
+/// Returns `AllocError` when memory runs out.
 fn pair(alloc: Global, in_order: bool, first: Node, second: Node) -> Result<Node, AllocError>
     requires first { IsTrue (is_measured first) }
     requires second { IsTrue (is_measured second) }
@@ -54,7 +62,7 @@ fn pair(alloc: Global, in_order: bool, first: Node, second: Node) -> Result<Node
     })
 }
 
-/// No node at all.
+/// Returns the join of no trees.
 fn none_of(in_order: bool) -> Node
     ensures stands { core_of result ≡ of_none in_order }
     ensures measured { IsTrue (is_measured result) }
@@ -65,7 +73,7 @@ fn none_of(in_order: bool) -> Node
     Node::Void
 }
 
-/// The only node, if there is one.
+/// Returns the only tree, or the join of none.
 fn sole(in_order: bool, mut nodes: Vec<Node>) -> Node
     requires measured { AreMeasured nodes.items }
     requires few { vec_len nodes < 2 }
@@ -78,7 +86,11 @@ fn sole(in_order: bool, mut nodes: Vec<Node>) -> Node
     node
 }
 
-/// All of them in order, or one of them, in pairs of about the same length.
+/// Joins trees in pairs of about the same length: all of them in order, or the choice of one of them.
+///
+/// # Errors
+///
+/// Returns `AllocError` when memory runs out.
 fn join(alloc: Global, in_order: bool, mut nodes: Vec<Node>) -> Result<Node, AllocError>
     requires measured { AreMeasured nodes.items }
     requires fits { width_of (map core_of nodes.items) < 2 ^ 64 }
@@ -95,7 +107,7 @@ fn join(alloc: Global, in_order: bool, mut nodes: Vec<Node>) -> Result<Node, All
     pair(alloc, in_order, first, second)
 }
 
-/// A count as a number of copies.
+/// Returns a count as a `usize`.
 fn widen(count: Option<u32>) -> Option<usize>
     ensures { result ≡ count }
 {
@@ -105,7 +117,11 @@ fn widen(count: Option<u32>) -> Option<usize>
     }
 }
 
-/// The tree, made ready. It has to be of a size within the limit.
+/// Prepares a tree. Its size must be within the limit.
+///
+/// # Errors
+///
+/// Returns `AllocError` when memory runs out.
 #[cycle(prepare)]
 pub fn prepare(alloc: Global, hir: &Hir) -> Result<Node, AllocError>
     requires { size (tree_of hir.now) ≤ 2 ^ 20 }
@@ -130,7 +146,11 @@ pub fn prepare(alloc: Global, hir: &Hir) -> Result<Node, AllocError>
     }
 }
 
-/// A repetition, made ready. It has to be of a size within the limit.
+/// Prepares a repetition. Its size must be within the limit.
+///
+/// # Errors
+///
+/// Returns `AllocError` when memory runs out.
 #[cycle(prepare)]
 fn prepare_repetition(
     alloc: Global,
@@ -161,7 +181,11 @@ fn prepare_repetition(
     })
 }
 
-/// Each tree of a list, made ready. Their size has to be within the limit.
+/// Prepares each tree of a list. Their size must be within the limit.
+///
+/// # Errors
+///
+/// Returns `AllocError` when memory runs out.
 #[cycle(prepare)]
 fn prepare_all(alloc: Global, hirs: &[Hir]) -> Result<Vec<Node>, AllocError>
     requires { sizes (trees (map tree_of hirs.now)) ≤ 2 ^ 20 }

@@ -22,18 +22,18 @@ abbrev pub IsTopBelow : List Rule → ℕ → List (List ℕ) → List ℕ → T
 IsTopBelow rules n lists set = (s : ℕ) × (listed : List ℕ) × (s < n) × (slice_get lists s ≡ Some listed) × IsTopSet rules listed set
 
 -- what a filter keeps
-pub kept_only : (p : ℕ → Bool) (xs : List ℕ) (x : ℕ) → Has (filter p xs) x → Has xs x × (p x ≡ true)
-kept_only p [] x h = absurd h
-kept_only p (y ∷ xs) x h = go (p y) refl h (kept_only p xs x)
+pub filter_only : (p : ℕ → Bool) (xs : List ℕ) (x : ℕ) → Has (filter p xs) x → Has xs x × (p x ≡ true)
+filter_only p [] x h = absurd h
+filter_only p (y ∷ xs) x h = go (p y) refl h (filter_only p xs x)
   where
     go : (t : Bool) → p y ≡ t → Has (cond t (y ∷ filter p xs) (filter p xs)) x → (Has (filter p xs) x → Has xs x × (p x ≡ true)) → Has (y ∷ xs) x × (p x ≡ true)
     go true e (inl q) ih = (inl q, ap p (sym q) ∙ e)
     go true e (inr h) ih = let r = ih h in (inr r.0, r.1)
     go false e h ih = let r = ih h in (inr r.0, r.1)
 
-pub kept_all : (p : ℕ → Bool) (xs : List ℕ) (x : ℕ) → Has xs x → p x ≡ true → Has (filter p xs) x
-kept_all p [] x h t = absurd h
-kept_all p (y ∷ xs) x h t = go (p y) refl h (λ h. kept_all p xs x h t)
+pub filter_all : (p : ℕ → Bool) (xs : List ℕ) (x : ℕ) → Has xs x → p x ≡ true → Has (filter p xs) x
+filter_all p [] x h t = absurd h
+filter_all p (y ∷ xs) x h t = go (p y) refl h (λ h. filter_all p xs x h t)
   where
     go : (b : Bool) → p y ≡ b → (y ≡ x) ⊎ Has xs x → (Has xs x → Has (filter p xs) x) → Has (cond b (y ∷ filter p xs) (filter p xs)) x
     go true e (inl q) ih = inl q
@@ -69,7 +69,7 @@ module _ (rules : List Rule) where
 
       there : Has (top_of rules leaves) leaf → Has leaves leaf × ((other : ℕ) → Has leaves other → priority_of rules other ≤ priority_of rules leaf)
       there h =
-          let k = kept_only level leaves leaf h in
+          let k = filter_only level leaves leaf h in
           let e = eqb-true (priority_of rules leaf) (highest_of rules leaves) k.1 in
           (k.0, λ other o. let a = highest_above leaves other o in omega arith)
 
@@ -78,7 +78,7 @@ module _ (rules : List Rule) where
           let t = top_listed leaves leaf h.0 in
           let a = h.1 t.0 t.1 in
           let b = highest_above leaves leaf h.0 in
-          kept_all level leaves leaf h.0 (eq-eqb (priority_of rules leaf) (highest_of rules leaves) (omega (arith, t.2)))
+          filter_all level leaves leaf h.0 (eq-eqb (priority_of rules leaf) (highest_of rules leaves) (omega (arith, t.2)))
 
   module _ (bytes : List ℕ) (from to : ℕ) (leaves : List ℕ) (rising : IsStrictlyIncreasing leaves) (lists : (leaf : ℕ) → Contains leaves leaf ↔ RuleMatches rules leaf bytes from to) where
     pub top_highest : (leaf : ℕ) → Contains (top_of rules leaves) leaf ↔ IsHighest rules bytes from to leaf
@@ -114,8 +114,8 @@ few_filtered p (x ∷ xs) = go (p x) (few_filtered p xs)
     go true l = omega (arith, l)
     go false l = omega (arith, l)
 
-pub few_kept : (rules : List Rule) (listed : List ℕ) → length (top_of rules listed) ≤ length listed
-few_kept rules listed = few_filtered (λ leaf. nat_eq (priority_of rules leaf) (highest_of rules listed)) listed
+pub few_top : (rules : List Rule) (listed : List ℕ) → length (top_of rules listed) ≤ length listed
+few_top rules listed = few_filtered (λ leaf. nat_eq (priority_of rules leaf) (highest_of rules listed)) listed
 
 module _ (rules : List Rule) (lists : List (List ℕ)) where
   below_next : (n : ℕ) (listed set : List ℕ) → slice_get lists n ≡ Some listed → IsTopBelow rules (n + 1) lists set ↔ (IsTopBelow rules n lists set ⊎ IsTopSet rules listed set)
@@ -231,7 +231,7 @@ module _ (rules : List Rule) (dfa : Automaton) (reads : ReadsOneByteLate rules d
       back leaf h = record { matches = (same leaf).1 h.matches; highest = λ other m. h.highest other ((same other).0 m) }
 
   ambiguous_listed : AllStart rules → (set : List ℕ) → IsAmbiguous rules set → IsTopIn rules dfa.matches set
-  ambiguous_listed start set a = go (cases_lt k (length behind))
+  ambiguous_listed start set a = go (cases_lt k (length suffix))
     where
       one : (leaf : ℕ) × Contains set leaf
       one = first_member set a.several
@@ -242,25 +242,25 @@ module _ (rules : List Rule) (dfa : Automaton) (reads : ReadsOneByteLate rules d
       pre : List ℕ
       pre = take a.from a.bytes
 
-      behind : List ℕ
-      behind = drop a.from a.bytes
+      suffix : List ℕ
+      suffix = drop a.from a.bytes
 
       k : ℕ
       k = a.to - a.from
 
-      whole : a.bytes ≡ pre ++ behind
+      whole : a.bytes ≡ pre ++ suffix
       whole = sym (take-append-drop a.from a.bytes)
 
       length_pre : length pre ≡ a.from
       length_pre = let l = length-take a.from a.bytes in let i = inside in omega (arith, l, i.0, i.1)
 
-      length_behind : length behind ≡ length a.bytes - a.from
-      length_behind = length-drop a.from a.bytes
+      length_suffix : length suffix ≡ length a.bytes - a.from
+      length_suffix = length-drop a.from a.bytes
 
-      bytes_behind : IsBytes behind
-      bytes_behind = All-drop (λ (b : ℕ). b < 256) a.from a.bytes a.are_bytes
+      bytes_suffix : IsBytes suffix
+      bytes_suffix = All-drop (λ (b : ℕ). b < 256) a.from a.bytes a.are_bytes
 
-      span : (w post : List ℕ) → behind ≡ w ++ post → (k < length w) ⊎ ((k ≡ length w) × (post ≡ [])) → (leaf : ℕ) → RuleMatches rules leaf a.bytes a.from a.to ↔ RuleMatches rules leaf w 0 k
+      span : (w post : List ℕ) → suffix ≡ w ++ post → (k < length w) ⊎ ((k ≡ length w) × (post ≡ [])) → (leaf : ℕ) → RuleMatches rules leaf a.bytes a.from a.to ↔ RuleMatches rules leaf w 0 k
       span w post e f leaf =
           let r = rule_within_text rules leaf pre w post k start.0 f in
           let b : pre ++ (w ++ post) ≡ a.bytes = ap (λ (ys : List ℕ). pre ++ ys) (sym e) ∙ sym whole in
@@ -269,18 +269,18 @@ module _ (rules : List Rule) (dfa : Automaton) (reads : ReadsOneByteLate rules d
           (subst (λ (x : ℕ). RuleMatches rules leaf a.bytes x (length pre + k) ↔ RuleMatches rules leaf w 0 k) length_pre
           (subst (λ (ys : List ℕ). RuleMatches rules leaf ys (length pre) (length pre + k) ↔ RuleMatches rules leaf w 0 k) b r))
 
-      go : (k < length behind) ⊎ (length behind ≤ k) → IsTopIn rules dfa.matches set
+      go : (k < length suffix) ⊎ (length suffix ≤ k) → IsTopIn rules dfa.matches set
       go (inl l) =
-          let c = next_cut k behind l in
+          let c = next_cut k suffix l in
           let w = c.0 ++ c.1 ∷ [] in
           let n : length (c.0 ++ c.1 ∷ []) ≡ length c.0 + 1 = length-append c.0 (c.1 ∷ []) in
-          let ok : IsBytes (c.0 ++ c.1 ∷ []) = bytes_of_front (c.0 ++ c.1 ∷ []) c.2 (rw c.3 at bytes_behind) in
+          let ok : IsBytes (c.0 ++ c.1 ∷ []) = bytes_of_front (c.0 ++ c.1 ∷ []) c.2 (rw c.3 at bytes_suffix) in
           has_set set a.bytes w a.from a.to k (span w c.2 c.3 (inl (omega (arith, n, c.4)))) _
           (subst (λ (m : ℕ). ListsSpan (dfa_after dfa (Some dfa.start) (c.0 ++ c.1 ∷ [])) (c.0 ++ c.1 ∷ []) 0 m) c.4 (reads.by_byte c.0 c.1 ok)) a.several a.ascending a.exactly
       go (inr l) =
-          let e : k ≡ length behind = let i = inside in omega (arith, l, length_behind, i.0, i.1) in
-          has_set set a.bytes behind a.from a.to k (span behind [] (sym (append-nil behind)) (inr (e, refl))) _
-          (subst (λ (m : ℕ). ListsSpan (dfa_at_end dfa behind) behind 0 m) (sym e) (reads.at_end behind bytes_behind)) a.several a.ascending a.exactly
+          let e : k ≡ length suffix = let i = inside in omega (arith, l, length_suffix, i.0, i.1) in
+          has_set set a.bytes suffix a.from a.to k (span suffix [] (sym (append-nil suffix)) (inr (e, refl))) _
+          (subst (λ (m : ℕ). ListsSpan (dfa_at_end dfa suffix) suffix 0 m) (sym e) (reads.at_end suffix bytes_suffix)) a.several a.ascending a.exactly
 
   -- the sets that are listed are the ambiguous ones
   pub are_ambiguous : IsTotal dfa → AllStart rules → (sets : List (List ℕ)) → Ascends sets → ((set : List ℕ) → Contains sets set ↔ IsTopIn rules dfa.matches set) → AreAmbiguous rules sets

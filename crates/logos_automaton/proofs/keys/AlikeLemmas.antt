@@ -1,15 +1,15 @@
--- Bytes that a pattern does not tell apart.
+-- Bytes that a pattern does not distinguish.
 use Rattle.std.proofs.Common.{◌≡◌, ℕ, zero, suc, ◌+◌, ◌-◌, ◌<◌, ◌≤◌, ◌↔◌, ◌⊎◌, ◌==◌, Bool, true, false, IsTrue, IsFalse, if◌then◌else◌, List, [], ◌∷◌, ◌++◌, length, length-append, map, drop, get_or, slice_index, slice_index_or, drop-cons, add-one, Option, Some, None, refl, sym, ap, ◌∙◌, subst, inl, inr, ⊎_elim, true≢false, arith}
 use Rattle.std.proofs.lemmas.List.{get_or_append_left}
 use Rattle.std.proofs.Math.Seq.{get_or-append_seam}
-use Rattle.logos_automaton.specs.inside.Alike.{IsAlike, IsTold, AreTold, AreReadAlike}
+use Rattle.logos_automaton.specs.inside.Alike.{IsAlike, AreStartsOf, AreClassStarts, AreReadAlike}
 use Rattle.logos_places.specs.Core.{Core, void, empty, byte_in, character, look, cat, alt, plus, width, Exits, Steps}
 use Rattle.logos_places.specs.Marks.{Has}
 use Rattle.logos_places.specs.Node.{core_of}
 use Rattle.logos_places.specs.Repeat.{spelled, in_front, up_to, repeated}
 use Rattle.logos_places.specs.Run.{StepsIn}
 use Rattle.logos_places.specs.Several.{AreStarts}
-use Rattle.logos_automaton.specs.declared.alike.Told.{Told}
+use Rattle.logos_automaton.specs.declared.alike.ClassStarts.{ClassStarts}
 use Rattle.logos_places.specs.declared.node.Node.{Node}
 use Rattle.logos_hir.specs.declared.hir.Look.{Look}
 use Rattle.logos_places.proofs.steps.MarkLemmas.{Has-push}
@@ -65,13 +65,13 @@ Steps-alike (alt a b) test x y M d p h s =
     (λ u. inr (u.0, Steps-alike b test x y (λ q. M (width a + q)) d (p - width a) h.1 u.1)) s
 Steps-alike (plus a) test x y M d p h s = Steps-alike a test x y M (d ⊎ Exits a test M ⊥) p h s
 
-Steps-same : (t : Core) (test : Look → Bool) (x y : ℕ) (M : ℕ → Type 0) (d : Type 0) (p : ℕ) → IsAlike t x y → Steps t test x M d p ↔ Steps t test y M d p
+pub Steps-same : (t : Core) (test : Look → Bool) (x y : ℕ) (M : ℕ → Type 0) (d : Type 0) (p : ℕ) → IsAlike t x y → Steps t test x M d p ↔ Steps t test y M d p
 Steps-same t test x y M d p h = (Steps-alike t test x y M d p h, Steps-alike t test y x M d p (alike_back t x y h))
 
--- one more byte is told apart from the one before, or not
-pub told_note : (t : Core) (bytes new : List ℕ) (n : ℕ) (is : Bool) → 1 ≤ n → new ≡ (if is then bytes ++ n ∷ [] else bytes) → (IsFalse is → IsAlike t (n - 1) n) →
-    IsTold t bytes n → IsTold t new (n + 1)
-told_note t bytes new n is some made alike h byte lt = ⊎_elim (λ low. before is made (h byte low)) (λ here. last is made alike here) (low_or_last (byte + 1) n lt)
+-- one more byte is distinguished from the one before, or not
+pub more_starts_of : (t : Core) (bytes new : List ℕ) (n : ℕ) (is : Bool) → 1 ≤ n → new ≡ (if is then bytes ++ n ∷ [] else bytes) → (IsFalse is → IsAlike t (n - 1) n) →
+    AreStartsOf t bytes n → AreStartsOf t new (n + 1)
+more_starts_of t bytes new n is some made alike h byte lt = ⊎_elim (λ low. before is made (h byte low)) (λ here. last is made alike here) (low_or_last (byte + 1) n lt)
   where
     low_or_last : (a b : ℕ) → a < b + 1 → (a < b) ⊎ (a ≡ b)
     low_or_last a b lt = grind arith
@@ -91,24 +91,24 @@ same_at [] i d e lt = absurd (omega (arith, lt))
 same_at (x ∷ xs) zero d e lt = refl
 same_at (x ∷ xs) (suc i) d e lt = same_at xs i d e (omega (arith, lt))
 
-pub told_none : (nodes : List Node) → AreTold nodes [] 0
-told_none nodes = record { count = refl; told = λ i lt. absurd (omega (arith, lt)) }
+pub no_starts_of : (nodes : List Node) → AreClassStarts nodes [] 0
+no_starts_of nodes = record { count = refl; are = λ i lt. absurd (omega (arith, lt)) }
 
 -- one more tree has its list
-pub told_more : (nodes : List Node) (lists : List Told) (n : ℕ) (node : Node) (list : Told) → n < length nodes → node ≡ slice_index_or nodes n node → IsTold (core_of node) list.bytes.items 256 →
-    AreTold nodes lists n → AreTold nodes (lists ++ list ∷ []) (n + 1)
-told_more nodes lists n node list inside is told h = record {
+pub more_class_starts : (nodes : List Node) (lists : List ClassStarts) (n : ℕ) (node : Node) (list : ClassStarts) → n < length nodes → node ≡ slice_index_or nodes n node → AreStartsOf (core_of node) list.bytes.items 256 →
+    AreClassStarts nodes lists n → AreClassStarts nodes (lists ++ list ∷ []) (n + 1)
+more_class_starts nodes lists n node list inside is starts h = record {
   count = length-append lists (list ∷ []) ∙ ap (λ k. k + 1) h.count;
-  told = λ i lt other other_is this this_is.
+  are = λ i lt other other_is this this_is.
       ⊎_elim
       (λ (low : i < n).
       let e : slice_index_or (lists ++ list ∷ []) i this ≡ slice_index_or lists i this = get_or_append_left lists (list ∷ []) this i (omega (arith, h.count, low)) in
-      h.told i low other other_is this (this_is ∙ e))
+      h.are i low other other_is this (this_is ∙ e))
       (λ (last : i ≡ n).
       let here : i ≡ length lists = last ∙ sym h.count in
       let mine : other ≡ node = other_is ∙ ap (λ k. slice_index_or nodes k other) last ∙ same_at nodes n other node inside ∙ sym is in
       let yours : this ≡ list = this_is ∙ ap (λ k. slice_index_or (lists ++ list ∷ []) k this) here ∙ get_or-append_seam lists list [] this in
-      subst (λ (a : Node). IsTold (core_of a) this.bytes.items 256) (sym mine) (subst (λ (a : Told). IsTold (core_of node) a.bytes.items 256) (sym yours) told))
+      subst (λ (a : Node). AreStartsOf (core_of a) this.bytes.items 256) (sym mine) (subst (λ (a : ClassStarts). AreStartsOf (core_of node) a.bytes.items 256) (sym yours) starts))
       (low_or_last i n lt);
 }
   where
@@ -163,10 +163,10 @@ module _ (nodes : List Node) (starts : List ℕ) (are : AreStarts nodes starts) 
       same : (q : ℕ) → slice_index starts i + (width (core_of node) + q) ≡ slice_index starts (i + 1) + q
       same q = let next = next_start nodes starts are i node lt is in omega (arith, next)
 
-  -- a tree that does not tell them apart
-  pub suffices_told : (entered : Bool) (i : ℕ) (node : Node) → i < length nodes → node ≡ slice_index_or nodes i node → IsAlike (core_of node) x y →
+  -- a tree that does not distinguish them
+  pub suffices_alike : (entered : Bool) (i : ℕ) (node : Node) → i < length nodes → node ≡ slice_index_or nodes i node → IsAlike (core_of node) x y →
       Suffices entered i → Suffices entered (i + 1)
-  suffices_told entered i node lt is alike h =
+  suffices_alike entered i node lt is alike h =
       one_alike entered i node lt is (λ test q. Steps-same (core_of node) test x y (λ p. Has marks (slice_index starts i + p)) (IsTrue entered) q alike) h
 
   -- a tree that is neither entered nor marked

@@ -2,7 +2,7 @@
 use Rattle.std.proofs.Common.{◌≡◌, ℕ, zero, suc, ◌+◌, ◌-◌, ◌<◌, ◌≤◌, ◌↔◌, ◌⊎◌, ◌==◌, Bool, true, false, List, [], ◌∷◌, ◌++◌, length, length-append, append_assoc, append-nil, Some, None, IfSome, slice_get, slice_index_or, if◌then◌else◌, refl, sym, ap, ◌∙◌, subst, inl, inr, ⊎_elim, true≢false, ◌||◌, IsFalse, arith}
 use Rattle.logos_hir.specs.Text.{IsBytes, byte_after}
 use Rattle.logos_places.specs.Core.{Core, width}
-use Rattle.logos_automaton.specs.Keys.{State, state_of, start_state, dead_state, IsAt, AreDistinct, AreReached, IsReached, at_start, by_byte, by_end, IsNext, IsLast, is_start, kept_of}
+use Rattle.logos_automaton.specs.Keys.{State, state_of, start_state, dead_state, IsAt, AreDistinct, AreReached, IsReached, at_start, by_byte, by_end, IsNext, IsLast, is_start, next_kind}
 use Rattle.logos_places.specs.Kinds.{kind_of_byte, is_word_byte}
 use Rattle.logos_places.specs.Marks.{Has, IsRising}
 use Rattle.logos_automaton.specs.Munch.{Rule, RuleMatches}
@@ -66,7 +66,7 @@ module _ (ts : List Core) (looks : Bool) (s : State) (none : s.places ≡ []) (l
   pub dead_by_byte : (x : ℕ) (next : State) → IsNext ts looks s x next → next ≡ dead_state
   dead_by_byte x next h =
       let e : next.places ≡ [] = nothing_there next.places (λ q k. StepsIn-void ts _ x (Has s.places) (is_start s.kind ≡ true) q no_place not_begun ((h.places.has q).0 k)) in
-      same_state_as next dead_state e (h.kind ∙ ap (λ xs. kept_of looks xs x) e)
+      same_state_as next dead_state e (h.kind ∙ ap (λ xs. next_kind looks xs x) e)
       (nothing_there next.matches (λ k n. ExitsIn-void ts k _ (Has s.places) (is_start s.kind ≡ true) no_place not_begun ((h.matches.has k).0 n)))
 
   pub dead_by_end : (next : State) → IsLast ts s next → next ≡ dead_state
@@ -87,14 +87,14 @@ only_byte : (x : ℕ) → x < 256 → IsBytes (x ∷ [])
 only_byte x lt = one_byte_more [] x lt no_bytes
 
 module _ (rules : List Rule) (ts : List Core) (are : AreRuleCores rules ts) (looks : Bool) (looks_is : looks ≡ some_look rules) (free : looks ≡ false → AreFree ts) where
-  -- the state behind bytes and one more, whatever follows
+  -- the state after bytes and one more, whatever follows
   pub record IsUpTo (u : List ℕ) (b : ℕ) (s : State) : Type 0 where
     pub after : (post : List ℕ) → IsAfter ((u ++ b ∷ []) ++ post) ts (suc (length u)) s
     pub rising : IsRising s.matches
     pub lists : (k : ℕ) → Has s.matches k ↔ RuleMatches rules k (u ++ b ∷ []) 0 (length u)
-    pub kind : s.kind ≡ kept_of looks s.places b
+    pub kind : s.kind ≡ next_kind looks s.places b
 
-  -- the state behind bytes and the end
+  -- the state after bytes and the end
   pub record IsWhole (u : List ℕ) (s : State) : Type 0 where
     pub places : s.places ≡ []
     pub kind : s.kind ≡ kind.Unseen
@@ -186,13 +186,13 @@ same_marked (rule ∷ rules) (t ∷ ts) are u v b c q same h =
         (Marked-iff (v ++ c ∷ []) t (suc (length v)) q).1 ((are.0.reads (v ++ c ∷ []) 0 (length v) q).1 (place.0, same 0 place.0 place.1, place.2))
 
 module _ (rules : List Rule) (ts : List Core) (are : AreRuleCores rules ts) (looks : Bool) (looks_is : looks ≡ some_look rules) (free : looks ≡ false → AreFree ts) where
-  kept_alike : (xs : List ℕ) (b c : ℕ) → seen_kind rules b ≡ seen_kind rules c → kept_of looks xs b ≡ kept_of looks xs c
-  kept_alike xs b c e = go looks looks_is xs
+  kind_alike : (xs : List ℕ) (b c : ℕ) → seen_kind rules b ≡ seen_kind rules c → next_kind looks xs b ≡ next_kind looks xs c
+  kind_alike xs b c e = go looks looks_is xs
     where
       kinds : some_look rules ≡ true → reads.kind_of b ≡ reads.kind_of c
       kinds t = sym (ap (λ (z : Bool). if z then reads.kind_of b else reads.unseen) t) ∙ e ∙ ap (λ (z : Bool). if z then reads.kind_of c else reads.unseen) t
 
-      go : (z : Bool) → z ≡ some_look rules → (xs : List ℕ) → kept_of z xs b ≡ kept_of z xs c
+      go : (z : Bool) → z ≡ some_look rules → (xs : List ℕ) → next_kind z xs b ≡ next_kind z xs c
       go z is [] = refl
       go false is (x ∷ xs) = refl
       go true is (x ∷ xs) = sym (kind_is b) ∙ ap kind_as (kinds (sym is)) ∙ kind_is c
@@ -218,7 +218,7 @@ module _ (rules : List Rule) (ts : List Core) (are : AreRuleCores rules ts) (loo
         λ h. (before.has q).1 (same_marked rules ts are v u c b q (λ leaf place. (same.places leaf place).1) ((after.has q).0 h)),
       )) in
       same_state_as s r e
-      (f.kind ∙ ap (λ xs. kept_of looks xs b) e ∙ kept_alike r.places b c same.kind ∙ sym g.kind)
+      (f.kind ∙ ap (λ xs. next_kind looks xs b) e ∙ kind_alike r.places b c same.kind ∙ sym g.kind)
       (same_rising s.matches r.matches f.rising g.rising (λ k. iff_trans (f.lists k) (iff_trans (same.leaves k) (iff_sym (g.lists k)))))
     where
       at_hand : (u : List ℕ) (b : ℕ) (s : State) → IsUpTo rules ts are looks looks_is free u b s → IsAfter (u ++ b ∷ []) ts (suc (length u)) s

@@ -4,7 +4,7 @@ use Rattle.std.proofs.lemmas.List.{get_or-set_other}
 use Rattle.std.proofs.lemmas.Grind.{get_or-set_at}
 use Rattle.logos_automaton.specs.inside.Alike.{AreReadAlike}
 use Rattle.logos_places.specs.Core.{Core}
-use Rattle.logos_automaton.specs.Keys.{State, Grows, Extends, LeadsTo, EndsIn, IsAt, IsNext, IsRow, kept_of, is_start, state_of}
+use Rattle.logos_automaton.specs.Keys.{State, Grows, Extends, LeadsTo, EndsIn, IsAt, IsNext, IsRow, next_kind, is_start, state_of}
 use Rattle.logos_places.specs.Kinds.{kind_of_byte}
 use Rattle.logos_places.specs.Marks.{Has}
 use Rattle.logos_automaton.specs.declared.key.Key.{Key}
@@ -47,22 +47,22 @@ module _ (ts : List Core) (looks : Bool) where
   row_more a b i row n target g lt all new x below =
       ⊎_elim
       (λ (l : x < n).
-      let kept : slice_index (set row n target) x ≡ slice_index row x = get_or-set_other row n x target 0 (λ e. omega (arith, e, l)) in
-      rw kept (leads_grown a b i x (slice_index row x) g (all x l)))
+      let other : slice_index (set row n target) x ≡ slice_index row x = get_or-set_other row n x target 0 (λ e. omega (arith, e, l)) in
+      rw other (leads_grown a b i x (slice_index row x) g (all x l)))
       (λ (e : x ≡ n).
       let put : slice_index (set row n target) x ≡ target = get_or-set_at row n x target 0 e lt in
       rw put (subst (λ k. LeadsTo ts looks b i k target) (sym e) new))
       (below_or_same x n below)
 
-  same_kept : (places : List ℕ) (x y : ℕ) → kind_of_byte x ≡ kind_of_byte y → kept_of looks places x ≡ kept_of looks places y
-  same_kept places x y e = go looks places
+  same_kind : (places : List ℕ) (x y : ℕ) → kind_of_byte x ≡ kind_of_byte y → next_kind looks places x ≡ next_kind looks places y
+  same_kind places x y e = go looks places
     where
-      go : (b : Bool) (places : List ℕ) → kept_of b places x ≡ kept_of b places y
+      go : (b : Bool) (places : List ℕ) → next_kind b places x ≡ next_kind b places y
       go b [] = refl
       go false (p ∷ places) = refl
       go true (p ∷ places) = e
 
-  -- a byte that is not told apart leads to the same state
+  -- a byte that is not distinguished from another leads to the same state
   next_alike : (s next : State) (x y : ℕ) → AreReadAlike ts (Has s.places) (IsTrue (is_start s.kind)) x y → kind_of_byte x ≡ kind_of_byte y → IsNext ts looks s x next → IsNext ts looks s y next
   next_alike s next x y alike e h =
       let test = test_after x y e s.kind in
@@ -72,7 +72,7 @@ module _ (ts : List Core) (looks : Bool) where
           has = λ q. iff_trans (rw test at h.places.has q) (alike _ q);
         };
         matches = rw test at h.matches;
-        kind = h.kind ∙ same_kept next.places x y e;
+        kind = h.kind ∙ same_kind next.places x y e;
       }
 
   same_state : (ks : List Key) (i : ℕ) (s r : State) → IsAt ks i s → IsAt ks i r → s ≡ r

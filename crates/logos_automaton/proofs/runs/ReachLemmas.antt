@@ -7,7 +7,7 @@ use Rattle.std.proofs.lemmas.Option.{slice_get-get_or, get_or_from_slice_get}
 use Rattle.logos_places.specs.Core.{Core}
 use Rattle.logos_automaton.specs.Keys.{State, IsAt, AreDistinct, AreReached, IsReached, at_start, by_byte, by_end, IsBuilt, automaton_of}
 use Rattle.logos_automaton.specs.Automaton.{Automaton, dfa_next}
-use Rattle.logos_automaton.specs.Reach.{Way, IsReachable, at_the_start, behind_byte, behind_end, AreReachable}
+use Rattle.logos_automaton.specs.Reach.{Way, IsReachable, at_the_start, after_byte, after_end, AreReachable}
 use Rattle.logos_automaton.specs.Targets.{LeadWithin, EndWithin}
 use Rattle.logos_automaton.specs.declared.key.Key.{Key}
 use Rattle.logos_automaton.proofs.runs.DfaLemmas.{next_is, end_is}
@@ -37,7 +37,7 @@ module _ (ts : List Core) (looks : Bool) (ks : List Key) (rows : List (List ℕ)
           record {
             number = n.0;
             there = subst (IsAt ks n.0) (next_same ts looks s x n.1 next n.4 step) n.3;
-            way = behind_byte w.number x n.0 lt w.way n.2;
+            way = after_byte w.number x n.0 lt w.way n.2;
           }
   way_to _ (by_end s next h last) = go (way_to s h)
     where
@@ -47,7 +47,7 @@ module _ (ts : List Core) (looks : Bool) (ks : List Key) (rows : List (List ℕ)
           record {
             number = n.0;
             there = subst (IsAt ks n.0) (last_same ts s n.1 next n.4 last) n.3;
-            way = behind_end w.number n.0 w.way n.2;
+            way = after_end w.number n.0 w.way n.2;
           }
 
   pub all_reachable : AreReachable dfa
@@ -80,8 +80,8 @@ module _ (ks : List Key) (rows : List (List ℕ)) (ends : List ℕ) (start_there
 
   way_within : (s : ℕ) → Way made s → s < length ks
   way_within _ at_the_start = start_there
-  way_within _ (behind_byte s b t byte h e) = byte_within s b t (way_within s h) byte e
-  way_within _ (behind_end s t h e) = end_within s t (way_within s h) e
+  way_within _ (after_byte s b t byte h e) = byte_within s b t (way_within s h) byte e
+  way_within _ (after_end s t h e) = end_within s t (way_within s h) e
 
   no_way : (s : ℕ) → length ks ≤ s → Way made s → ⊥
   no_way s le w = let l = way_within s w in absurd (omega (arith, l, le))

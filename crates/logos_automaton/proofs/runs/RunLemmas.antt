@@ -4,7 +4,7 @@ use Rattle.std.proofs.lemmas.Option.{same_Some}
 use Rattle.logos_hir.specs.Text.{byte_before, byte_after}
 use Rattle.logos_hir.specs.declared.hir.Look.{Look}
 use Rattle.logos_places.specs.Core.{Core, void, empty, byte_in, character, look, cat, alt, plus, width, IsFree, holds_at, Exits, Steps}
-use Rattle.logos_automaton.specs.Keys.{State, start_state, IsNext, IsLast, is_start, kept_of}
+use Rattle.logos_automaton.specs.Keys.{State, start_state, IsNext, IsLast, is_start, next_kind}
 use Rattle.logos_places.specs.Kinds.{test_at, kind_of_byte, kind_before, is_word_byte}
 use Rattle.logos_places.specs.Marks.{Has, IsSet}
 use Rattle.logos_automaton.specs.Munch.{Rule, RuleMatches}
@@ -157,7 +157,7 @@ module _ (w : List ℕ) where
     no_marks : s.places ≡ [] → (q : ℕ) → MarkedIn ts w m q → ⊥
     no_marks e q h = none_there q (subst (λ xs. Has xs q) e ((after.has q).1 h))
 
-    -- the kind that is kept is as good as the byte
+    -- the kind that is remembered is as good as the byte
     same_test : s.kind ≡ kind_before (byte_before w m) → test_at (record { before = s.kind; after = byte_after w m }) ≡ holds_at w m
     same_test e = ap (λ k. test_at (record { before = k; after = byte_after w m })) e ∙ test_of_context w m
 
@@ -226,7 +226,7 @@ module _ (w : List ℕ) where
       set = step.places.set;
       has = λ q. iff_trans (step.places.has q) (right_steps x q is);
       start = (λ e. absurd (not_start looks next.places (subst (λ k. IsTrue (is_start k)) step.kind e)), λ e. absurd (omega (arith, e)));
-      seen = kept looks next.places refl step.kind free;
+      seen = remembered looks next.places refl step.kind free;
     }
       where
         never_start : IsTrue (is_start (kind_of_byte x)) → ⊥
@@ -238,16 +238,16 @@ module _ (w : List ℕ) where
             go false false true e = true≢false (sym e)
             go false false false e = true≢false (sym e)
 
-        not_start : (looks : Bool) (places : List ℕ) → IsTrue (is_start (kept_of looks places x)) → ⊥
+        not_start : (looks : Bool) (places : List ℕ) → IsTrue (is_start (next_kind looks places x)) → ⊥
         not_start looks [] e = true≢false (sym e)
         not_start false (p ∷ places) e = true≢false (sym e)
         not_start true (p ∷ places) e = never_start e
 
-        kept : (looks : Bool) (places : List ℕ) → next.places ≡ places → next.kind ≡ kept_of looks places x → (looks ≡ false → AreFree ts) →
+        remembered : (looks : Bool) (places : List ℕ) → next.places ≡ places → next.kind ≡ next_kind looks places x → (looks ≡ false → AreFree ts) →
             AreFree ts ⊎ ((suc m ≡ 0 → ⊥) × (next.places ≡ [])) ⊎ (next.kind ≡ kind_before (byte_before w (suc m)))
-        kept looks [] e k f = inr (inl (λ z. omega (arith, z), e))
-        kept false (p ∷ places) e k f = inl (f refl)
-        kept true (p ∷ places) e k f = inr (inr (k ∙ ap kind_before (sym (before_at w m ∙ is))))
+        remembered looks [] e k f = inr (inl (λ z. omega (arith, z), e))
+        remembered false (p ∷ places) e k f = inl (f refl)
+        remembered true (p ∷ places) e k f = inr (inr (k ∙ ap kind_before (sym (before_at w m ∙ is))))
 
     -- what a state reached by a byte lists
     pub lists_by_byte : (rules : List Rule) (looks : Bool) (x : ℕ) (next : State) → AreRuleCores rules ts → slice_get w m ≡ Some x → IsNext ts looks s x next →

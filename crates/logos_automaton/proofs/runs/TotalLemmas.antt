@@ -5,7 +5,7 @@ use Rattle.std.proofs.lemmas.Bool.{cases_lt}
 use Rattle.std.proofs.lemmas.Option.{same_Some, slice_get-get_or, slice_get_past}
 use Rattle.logos_hir.specs.Text.{IsBytes}
 use Rattle.logos_places.specs.Core.{Core}
-use Rattle.logos_automaton.specs.Keys.{State, start_state, dead_state, IsAt, AreDistinct, AreReached, IsReached, at_start, by_byte, by_end, IsNext, IsLast, is_start, kept_of, IsBuilt, automaton_of}
+use Rattle.logos_automaton.specs.Keys.{State, start_state, dead_state, IsAt, AreDistinct, AreReached, IsReached, at_start, by_byte, by_end, IsNext, IsLast, is_start, next_kind, IsBuilt, automaton_of}
 use Rattle.logos_automaton.specs.Automaton.{Automaton, dfa_next, dfa_after, dfa_at_end, IsTotal}
 use Rattle.logos_automaton.specs.declared.key.Key.{Key}
 use Rattle.logos_automaton.proofs.runs.DfaLemmas.{at_within, after_more, next_is, end_is, matches_at}
@@ -16,7 +16,7 @@ use Rattle.logos_places.proofs.steps.StepLemmas.{iff_trans, iff_sym}
 pub next_same : (ts : List Core) (looks : Bool) (s : State) (x : ℕ) (n m : State) → IsNext ts looks s x n → IsNext ts looks s x m → n ≡ m
 next_same ts looks s x n m f g =
     let e : n.places ≡ m.places = same_rising n.places m.places f.places.set.rising g.places.set.rising (λ q. iff_trans (f.places.has q) (iff_sym (g.places.has q))) in
-    same_state_as n m e (f.kind ∙ ap (λ xs. kept_of looks xs x) e ∙ sym g.kind)
+    same_state_as n m e (f.kind ∙ ap (λ xs. next_kind looks xs x) e ∙ sym g.kind)
     (same_rising n.matches m.matches f.matches.set.rising g.matches.set.rising (λ k. iff_trans (f.matches.has k) (iff_sym (g.matches.has k))))
 
 -- and so does the end
@@ -45,25 +45,25 @@ module _ (ts : List Core) (looks : Bool) (ks : List Key) (rows : List (List ℕ)
       let e = end_is ts looks 0 ks rows ends built 0 start_state built.start_is in
       (e.0, e.2, subst (IsAt ks e.0) (at_once_dead e.1 e.4) e.3)
 
-  -- the state is behind some bytes, or behind some bytes and the end; then nothing can be read
-  record IsBehind (s : State) : Type 0 where
+  -- the state comes after some bytes, or after some bytes and the end; then nothing can be read
+  record ComesAfter (s : State) : Type 0 where
     bytes : List ℕ
     are_bytes : IsBytes bytes
     number : ℕ
     there : IsAt ks number s
     way : (dfa_after dfa (Some 0) bytes ≡ Some number) ⊎ ((dfa_at_end dfa bytes ≡ Some number) × (s.places ≡ []) × (is_start s.kind ≡ false))
 
-  dead_behind : IsBehind dead_state
-  dead_behind = record { bytes = []; are_bytes = no_bytes; number = dead_is.0; there = dead_is.2; way = inr (dead_is.1, refl, refl) }
+  dead_comes_after : ComesAfter dead_state
+  dead_comes_after = record { bytes = []; are_bytes = no_bytes; number = dead_is.0; there = dead_is.2; way = inr (dead_is.1, refl, refl) }
 
-  behind : (s : State) → IsReached ts looks s → IsBehind s
-  behind _ at_start = record { bytes = []; are_bytes = no_bytes; number = 0; there = built.start_is; way = inl refl }
-  behind _ (by_byte s next x lt h step) = go (behind s h)
+  comes_after : (s : State) → IsReached ts looks s → ComesAfter s
+  comes_after _ at_start = record { bytes = []; are_bytes = no_bytes; number = 0; there = built.start_is; way = inl refl }
+  comes_after _ (by_byte s next x lt h step) = go (comes_after s h)
     where
-      go : IsBehind s → IsBehind next
+      go : ComesAfter s → ComesAfter next
       go b = by_way b.way
         where
-          by_way : (dfa_after dfa (Some 0) b.bytes ≡ Some b.number) ⊎ ((dfa_at_end dfa b.bytes ≡ Some b.number) × (s.places ≡ []) × (is_start s.kind ≡ false)) → IsBehind next
+          by_way : (dfa_after dfa (Some 0) b.bytes ≡ Some b.number) ⊎ ((dfa_at_end dfa b.bytes ≡ Some b.number) × (s.places ≡ []) × (is_start s.kind ≡ false)) → ComesAfter next
           by_way (inl e) =
               let n = next_is ts looks 0 ks rows ends built b.number s x b.there lt in
               let same = next_same ts looks s x n.1 next n.4 step in
@@ -74,13 +74,13 @@ module _ (ts : List Core) (looks : Bool) (ks : List Key) (rows : List (List ℕ)
                 there = subst (IsAt ks n.0) same n.3;
                 way = inl (after_more dfa (Some 0) b.bytes (x ∷ []) ∙ ap (λ o. dfa_next dfa o x) e ∙ n.2);
               }
-          by_way (inr (e, none, later)) = subst IsBehind (sym (dead_by_byte ts looks s none later x next step)) dead_behind
-  behind _ (by_end s next h last) = go (behind s h)
+          by_way (inr (e, none, later)) = subst ComesAfter (sym (dead_by_byte ts looks s none later x next step)) dead_comes_after
+  comes_after _ (by_end s next h last) = go (comes_after s h)
     where
-      go : IsBehind s → IsBehind next
+      go : ComesAfter s → ComesAfter next
       go b = by_way b.way
         where
-          by_way : (dfa_after dfa (Some 0) b.bytes ≡ Some b.number) ⊎ ((dfa_at_end dfa b.bytes ≡ Some b.number) × (s.places ≡ []) × (is_start s.kind ≡ false)) → IsBehind next
+          by_way : (dfa_after dfa (Some 0) b.bytes ≡ Some b.number) ⊎ ((dfa_at_end dfa b.bytes ≡ Some b.number) × (s.places ≡ []) × (is_start s.kind ≡ false)) → ComesAfter next
           by_way (inl e) =
               let n = end_is ts looks 0 ks rows ends built b.number s b.there in
               let same = last_same ts s n.1 next n.4 last in
@@ -91,7 +91,7 @@ module _ (ts : List Core) (looks : Bool) (ks : List Key) (rows : List (List ℕ)
                 there = subst (IsAt ks n.0) same n.3;
                 way = inr (ap (option_and_then (slice_get ends)) e ∙ n.2, last.places, ap is_start last.kind);
               }
-          by_way (inr (e, none, later)) = subst IsBehind (sym (dead_by_end ts looks s none later next last)) dead_behind
+          by_way (inr (e, none, later)) = subst ComesAfter (sym (dead_by_end ts looks s none later next last)) dead_comes_after
 
   count : length dfa.matches ≡ length ks
   count = length-map ks (λ k. k.matches.items)
@@ -99,7 +99,7 @@ module _ (ts : List Core) (looks : Bool) (ks : List Key) (rows : List (List ℕ)
   state_of_number : (s : ℕ) → s < length dfa.matches → (st : State) × IsAt ks s st
   state_of_number s lt = state_at ks s (omega (arith, lt, count))
 
-  -- behind the end comes the dead state
+  -- after the end comes the dead state
   dead_after : (t : ℕ) (s : State) (b : ℕ) → IsAt ks t s → s.places ≡ [] → is_start s.kind ≡ false → b < 256 → dfa_next dfa (Some t) b ≡ Some dead_is.0
   dead_after t s b at none later lt =
       let n = next_is ts looks 0 ks rows ends built t s b at lt in
@@ -148,7 +148,7 @@ module _ (ts : List Core) (looks : Bool) (ks : List Key) (rows : List (List ℕ)
         (n.0, n.2, omega (arith, l, count));
     reached = λ s lt.
         let st = state_of_number s lt in
-        found s st.0 st.1 (behind st.0 (reached.reached s st.0 st.1));
+        found s st.0 st.1 (comes_after st.0 (reached.reached s st.0 st.1));
     dead = dead_is.0;
     dead_lists = matches_at ts looks 0 ks rows ends built dead_is.0 dead_state dead_is.2;
     dead_next = λ b lt. dead_after dead_is.0 dead_state b dead_is.2 refl refl lt;
@@ -157,7 +157,7 @@ module _ (ts : List Core) (looks : Bool) (ks : List Key) (rows : List (List ℕ)
     end_after_end = λ s t e. let n = ended s t e in dead_after_end t n.0 n.1 n.2 n.3;
   }
     where
-      found : (s : ℕ) (st : State) → IsAt ks s st → IsBehind st → (bytes : List ℕ) × IsBytes bytes × ((dfa_after dfa (Some dfa.start) bytes ≡ Some s) ⊎ (dfa_at_end dfa bytes ≡ Some s))
+      found : (s : ℕ) (st : State) → IsAt ks s st → ComesAfter st → (bytes : List ℕ) × IsBytes bytes × ((dfa_after dfa (Some dfa.start) bytes ≡ Some s) ⊎ (dfa_at_end dfa bytes ≡ Some s))
       found s st at b = (b.bytes, b.are_bytes, by_way b.way)
         where
           one : Some b.number ≡ Some s

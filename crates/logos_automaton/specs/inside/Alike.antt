@@ -1,11 +1,11 @@
--- Bytes that a pattern does not tell apart.
+-- Bytes that a pattern does not distinguish.
 use Rattle.std.specs.Prelude.{◌≡◌, ℕ, ◌+◌, ◌<◌, ◌≤◌, ◌↔◌, ◌⊎◌, Bool, false, List, length, slice_index_or}
 use Rattle.logos_places.specs.Core.{Core, void, empty, byte_in, character, look, cat, alt, plus}
 use Rattle.logos_places.specs.Kinds.{kind_of_byte}
 use Rattle.logos_places.specs.Marks.{Has}
 use Rattle.logos_places.specs.Node.{core_of}
 use Rattle.logos_places.specs.Run.{StepsIn}
-use Rattle.logos_automaton.specs.declared.alike.Told.{Told}
+use Rattle.logos_automaton.specs.declared.alike.ClassStarts.{ClassStarts}
 use Rattle.logos_places.specs.declared.node.Node.{Node}
 use Rattle.logos_hir.specs.declared.hir.Look.{Look}
 
@@ -19,24 +19,24 @@ IsAlike (cat a b) x y = IsAlike a x y × IsAlike b x y
 IsAlike (alt a b) x y = IsAlike a x y × IsAlike b x y
 IsAlike (plus a) x y = IsAlike a x y
 
--- Each byte below n that the pattern tells apart from the one before is among these.
-abbrev pub IsTold : Core → List ℕ → ℕ → Type 0
-IsTold t bytes n = (byte : ℕ) → byte + 1 < n → Has bytes (byte + 1) ⊎ IsAlike t byte (byte + 1)
+-- each byte below n that the pattern distinguishes from the byte before is among these
+abbrev pub AreStartsOf : Core → List ℕ → ℕ → Type 0
+AreStartsOf t bytes n = (byte : ℕ) → byte + 1 < n → Has bytes (byte + 1) ⊎ IsAlike t byte (byte + 1)
 
 -- each tree has its list of such bytes
-pub record AreTold (nodes : List Node) (lists : List Told) (n : ℕ) : Type 0 where
+pub record AreClassStarts (nodes : List Node) (lists : List ClassStarts) (n : ℕ) : Type 0 where
   pub count : length lists ≡ n
-  pub told : (i : ℕ) → i < n → (node : Node) → node ≡ slice_index_or nodes i node → (list : Told) → list ≡ slice_index_or lists i list → IsTold (core_of node) list.bytes.items 256
+  pub are : (i : ℕ) → i < n → (node : Node) → node ≡ slice_index_or nodes i node → (list : ClassStarts) → list ≡ slice_index_or lists i list → AreStartsOf (core_of node) list.bytes.items 256
 
 -- from these marks the same places read either byte
 abbrev pub AreReadAlike : List Core → (ℕ → Type 0) → Type 0 → ℕ → ℕ → Type 0
 AreReadAlike ts M entered x y = (test : Look → Bool) (q : ℕ) → StepsIn ts test x M entered q ↔ StepsIn ts test y M entered q
 
--- each byte of another kind than the one before is marked
+-- each byte of another kind than the byte before is marked
 abbrev pub AreKindBytes : List Bool → Type 0
 AreKindBytes first = (byte : ℕ) → byte + 1 < 256 → slice_index_or first (byte + 1) false ≡ false → kind_of_byte byte ≡ kind_of_byte (byte + 1)
 
--- and each that these marks tell apart from the one before
+-- and so is each byte that the patterns, with these marks, distinguish from the byte before
 abbrev pub AreFirstBytes : List Core → (ℕ → Type 0) → Type 0 → List Bool → Type 0
 AreFirstBytes ts M entered first = (byte : ℕ) → byte + 1 < 256 → slice_index_or first (byte + 1) false ≡ false →
     AreReadAlike ts M entered byte (byte + 1) × (kind_of_byte byte ≡ kind_of_byte (byte + 1))

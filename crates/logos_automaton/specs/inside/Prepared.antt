@@ -1,6 +1,6 @@
--- What the building of states stands on.
+-- What is required of the trees before states are built.
 use Rattle.std.specs.Prelude.{◌<◌, ◌^◌, List, length, map}
-use Rattle.logos_automaton.specs.inside.Alike.{AreTold, AreKindBytes}
+use Rattle.logos_automaton.specs.inside.Alike.{AreClassStarts, AreKindBytes}
 use Rattle.logos_automaton.specs.declared.trees.Trees.{Trees}
 use Rattle.logos_places.specs.Core.{Core}
 use Rattle.logos_places.specs.Node.{core_of, AreMeasured}
@@ -11,10 +11,10 @@ use Rattle.logos_places.specs.Several.{AreStarts}
 abbrev pub cores_of : Trees → List Core
 cores_of trees = map core_of trees.nodes.now
 
--- the trees' places have numbers, and what was found of the trees holds of them
+-- the places of the trees have numbers, and what is known of the trees is right
 pub record IsPrepared (trees : Trees) : Type 0 where
   pub fits : width_of (cores_of trees) < 2 ^ 64
   pub measured : AreMeasured trees.nodes.now
   pub starts : AreStarts trees.nodes.now trees.starts.now
-  pub told : AreTold trees.nodes.now trees.told.now (length trees.nodes.now)
+  pub class_starts : AreClassStarts trees.nodes.now trees.class_starts.now (length trees.nodes.now)
   pub kinds : AreKindBytes trees.kinds.now

@@ -1,4 +1,4 @@
-//! The automaton of leaves: one loop over its states, from the start on, until each has its targets.
+//! Building the automaton of rules: one loop over its states, from the start on, until each has its targets.
 ghost use Rattle.std.specs.Prelude.{◌≡◌, ◌^◌, ◌<◌, ◌≤◌, ◌+◌, [], Bool, List, IfOk, IfErr, OnOk, length, map, vec_len};
 ghost use Rattle.logos_automaton.specs.inside.Prepared.{IsPrepared, cores_of};
 ghost use Rattle.logos_automaton.specs.Building.{IsUnderway, FailsOn, FailsFor};
@@ -13,7 +13,7 @@ ghost use Rattle.logos_automaton.specs.Automaton.{IsTotal, ReadsOneByteLate};
 ghost use Rattle.logos_automaton.specs.View.{rules_of};
 
 use super::Dfa;
-use crate::alike::{kind_bytes, told_by_each};
+use crate::alike::{class_starts, kind_bytes};
 use crate::errors::BuildError;
 use crate::key::{Key, number_of, start_key};
 use crate::nodes::nodes_of;
@@ -25,10 +25,14 @@ use logos_places::node::Node;
 use logos_places::places::all::starts_of;
 use std::alloc::{AllocError, Global};
 
-/// How many states an automaton may have.
+/// The greatest number of states that an automaton may have.
 pub const MAX_STATES: usize = 65_536;
 
-/// The list of the start alone.
+/// Returns the list of states with the start alone.
+///
+/// # Errors
+///
+/// Returns `AllocError` when memory runs out.
 fn only_start(alloc: Global) -> Result<IndexSet<Key>, AllocError>
     ensures { (looks : Bool) (ts : List Core) →
         IfOk result (λ states. IsUnderway ts looks states.keys [] []) }
@@ -39,8 +43,11 @@ fn only_start(alloc: Global) -> Result<IndexSet<Key>, AllocError>
 }
 
 /// Adds the targets of the first state that has none yet.
+///
+/// # Errors
+///
+/// Returns `LimitStates` when there are more states than an automaton may have, and `Memory` when memory runs out.
 fn fill_next(
-    alloc: Global,
     trees: &Trees<'_>,
     states: &mut IndexSet<Key>,
     rows: &mut Vec<Row>,
@@ -56,8 +63,8 @@ fn fill_next(
     ensures fails { IfErr result (FailsOn (cores_of trees.now) trees.now.looks) }
 {
     let state = rows.len();
-    let row = row_of(alloc, trees, states, state)?;
-    let end = end_of(alloc, trees, states, state)?;
+    let row = row_of(trees, states, state)?;
+    let end = end_of(trees, states, state)?;
     if states.len() > MAX_STATES {
         return Err(BuildError::LimitStates);
     }
@@ -66,7 +73,11 @@ fn fill_next(
     Ok(())
 }
 
-/// The automaton of these trees.
+/// Builds the automaton of prepared trees.
+///
+/// # Errors
+///
+/// Returns `LimitStates` when there are more states than an automaton may have, and `Memory` when memory runs out.
 fn build_nodes(alloc: Global, nodes: &[Node], looks: bool) -> Result<Dfa, BuildError>
     requires fits { width_of (map core_of nodes.now) < 2 ^ 64 }
     requires measured { AreMeasured nodes.now }
@@ -79,25 +90,30 @@ fn build_nodes(alloc: Global, nodes: &[Node], looks: bool) -> Result<Dfa, BuildE
     ensures fails { IfErr result (FailsOn (map core_of nodes.now) looks) }
 {
     let starts = starts_of(alloc, nodes)?;
-    let told = told_by_each(alloc, nodes)?;
+    let class_starts = class_starts(alloc, nodes)?;
     let kinds = kind_bytes();
     let trees = Trees {
+        alloc,
         nodes,
         starts: &starts,
         looks,
-        told: &told,
+        class_starts: &class_starts,
         kinds: &kinds,
     };
     let mut states = only_start(alloc)?;
     let mut rows = Vec::new(alloc);
     let mut ends = Vec::new(alloc);
     while rows.len() < states.len() {
-        fill_next(alloc, &trees, &mut states, &mut rows, &mut ends)?;
+        fill_next(&trees, &mut states, &mut rows, &mut ends)?;
     }
     Ok(Dfa { states, rows, ends })
 }
 
-/// The automaton of these rules. It fails where it would have more than 65,536 states, and where there is no memory.
+/// Builds the automaton of rules. The size of their trees must be within the limit.
+///
+/// # Errors
+///
+/// Returns `LimitStates` when the automaton would have more than 65,536 states, and `Memory` when memory runs out.
 pub fn build(alloc: Global, rules: &[RuleView<'_>]) -> Result<Dfa, BuildError>
     requires size { size_of (rules_of rules.now) ≤ 2 ^ 20 }
     requires start { AllStart (rules_of rules.now) }

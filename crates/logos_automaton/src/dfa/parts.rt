@@ -1,17 +1,17 @@
-//! What an automaton has of each state, by the state's number.
+//! The parts of an automaton, by the number of a state.
 ghost use Rattle.std.specs.Prelude.{◌≡◌, ◌<◌, Some, length, slice_get};
 ghost use Rattle.logos_automaton.specs.DfaView.{dfa_of};
 
 use super::{Dfa, Row};
 
-/// How many states the automaton has.
+/// Returns the number of states.
 pub fn state_count(dfa: &Dfa) -> usize
     ensures { result ≡ length (dfa_of dfa.now).matches }
 {
     dfa.rows.len()
 }
 
-/// The leaves that a state lists, ascending.
+/// Returns the leaves that a state lists, ascending.
 pub fn leaves_at(dfa: &Dfa, state: usize) -> &[usize]
     requires { state < length (dfa_of dfa.now).matches }
     ensures { slice_get (dfa_of dfa.now).matches state ≡ Some result.now }
@@ -22,7 +22,7 @@ pub fn leaves_at(dfa: &Dfa, state: usize) -> &[usize]
     }
 }
 
-/// The targets of a state by bytes.
+/// Returns the targets of a state by bytes.
 pub fn row_at(dfa: &Dfa, state: usize) -> &Row
     requires { state < length (dfa_of dfa.now).matches }
     ensures { slice_get (dfa_of dfa.now).by_byte state ≡ Some result.now }
@@ -30,7 +30,7 @@ pub fn row_at(dfa: &Dfa, state: usize) -> &Row
     &dfa.rows[state]
 }
 
-/// The target of a state by the end.
+/// Returns the target of a state by the end.
 pub fn end_at(dfa: &Dfa, state: usize) -> u32
     requires { state < length (dfa_of dfa.now).matches }
     ensures { slice_get (dfa_of dfa.now).at_end state ≡ Some result }

@@ -15,7 +15,7 @@ pub struct Matches<'d> {
     leaves: &'d [usize],
 }
 
-/// The targets of a state: by each byte from 0 to 255, and then by the end. Targets that are equal come more than once.
+/// The targets of a state: by each byte from 0 to 255, and then by the end. Equal targets come more than once.
 #[derive(Clone, Copy)]
 pub struct Children<'d> {
     row: &'d [u16],
@@ -33,7 +33,7 @@ pub struct States {
 impl StateId {
     ghost use Rattle.std.specs.Prelude.{◌≡◌};
 
-    /// The number of the state. The start's is 0.
+    /// Returns the number of the state. The start has the number 0.
     pub fn index(self) -> usize
         ensures { result ≡ self.0 }
     {
@@ -49,7 +49,7 @@ impl Dfa {
     ghost use Rattle.logos_automaton.specs.Reach.{IsReachable};
     ghost use Rattle.logos_automaton.specs.Walks.{matches_left, children_left, states_left};
 
-    /// The state before the first byte.
+    /// Returns the state before the first byte.
     pub fn start(&self) -> StateId
         ensures start { result.0 ≡ (dfa_of self.now).start }
         ensures within { result.0 < length (dfa_of self.now).matches }
@@ -57,14 +57,14 @@ impl Dfa {
         StateId(0)
     }
 
-    /// Whether the automaton has the state.
+    /// Returns whether the automaton has the state.
     pub fn contains(&self, state: StateId) -> bool
         ensures { IsTrue result ↔ (state.0 < length (dfa_of self.now).matches) }
     {
         state.0 < self.rows.len()
     }
 
-    /// The target of a state by a byte. The state is one of this automaton.
+    /// Returns the target of a state by a byte. The automaton must have the state.
     pub fn next_state(&self, state: StateId, byte: u8) -> StateId
         requires { state.0 < length (dfa_of self.now).matches }
         ensures next { dfa_next (dfa_of self.now) (Some state.0) byte ≡ Some result.0 }
@@ -73,7 +73,7 @@ impl Dfa {
         StateId(self.rows[state.0][byte as usize] as usize)
     }
 
-    /// The target of a state by the end of the input. The state is one of this automaton.
+    /// Returns the target of a state by the end of the input. The automaton must have the state.
     pub fn next_eoi_state(&self, state: StateId) -> StateId
         requires { state.0 < length (dfa_of self.now).matches }
         ensures next { slice_get (dfa_of self.now).at_end state.0 ≡ Some result.0 }
@@ -82,7 +82,7 @@ impl Dfa {
         StateId(self.ends[state.0] as usize)
     }
 
-    /// The leaves that a state lists, ascending. The state is one of this automaton.
+    /// Returns the leaves that a state lists, ascending. The automaton must have the state.
     pub fn iter_matches(&self, state: StateId) -> Matches<'_>
         requires { state.0 < length (dfa_of self.now).matches }
         ensures { slice_get (dfa_of self.now).matches state.0 ≡ Some (matches_left result) }
@@ -92,7 +92,7 @@ impl Dfa {
         }
     }
 
-    /// The targets of a state: by each byte from 0 to 255, and then by the end. The state is one of this automaton.
+    /// Returns the targets of a state: by each byte from 0 to 255, and then by the end. The automaton must have the state.
     pub fn iter_children(&self, state: StateId) -> Children<'_>
         requires { state.0 < length (dfa_of self.now).matches }
         ensures count { length (children_left result) ≡ 257 }
@@ -109,7 +109,7 @@ impl Dfa {
         }
     }
 
-    /// The start and all states that are reached from it in any number of steps, ascending: all states of the automaton.
+    /// Returns the start and all states that are reached from it in any number of steps, ascending: all states of the automaton.
     pub fn get_states(&self) -> States
         ensures all { states_left result ≡ range_with_len 0 (length (dfa_of self.now).matches) }
         ensures reached { (s : ℕ) → Contains (states_left result) s ↔

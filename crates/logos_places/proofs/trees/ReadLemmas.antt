@@ -1,4 +1,4 @@
--- The marked places are those that can have read the last byte, and tell a match one byte late.
+-- The marked places are those that can have read the last byte, and show a match one byte late.
 use Rattle.std.proofs.Common.{◌≡◌, ℕ, zero, suc, ◌-◌, ◌<◌, ◌↔◌, List, Some, inl, inr, ⊎_elim, slice_get, refl, sym, ap, ◌∙◌, subst, arith}
 use Rattle.logos_places.specs.Core.{Core, At, holds_at, void, character, Stands, empty, byte_in, look, cat, alt, plus, width, Many, Matches, Leaves, Begins, Reads, Exits, Steps}
 use Rattle.logos_places.specs.Run.{Marked}

@@ -1,4 +1,4 @@
-// The table of a reader that reads a character of a class.
+//! Building the table that reads a character of a class.
 ghost use Rattle.std.specs.Prelude.{zero, min, ◌≡◌, ℕ, ◌+◌, ◌-◌, ◌*◌, ◌/◌, ◌%◌, ◌^◌, ◌<◌, ◌≤◌, ◌||◌, OnOk, IfOk, IfSome, Bool, None, slice_index_or, length, vec_len};
 ghost use Rattle.logos_places.specs.inside.Characters.{size, lead, after_byte};
 ghost use Rattle.logos_places.specs.inside.Ranges.{in_ranges, AreParts, from_floor};
@@ -6,20 +6,34 @@ ghost use Rattle.logos_places.specs.Table as table;
 ghost use Rattle.logos_places.specs.inside.Reader.{is_char_in, IsReaderOf};
 ghost use Rattle.logos_hir.specs.Hir.{pairs};
 
-use crate::characters::ranges::{CharRange, clip, scalars};
+use crate::characters::ranges::{CharRange, Window, clip, scalars};
 use crate::characters::reader::Table;
 use indexmap::IndexSet;
 use logos_hir::hir::Range;
 use std::alloc::{AllocError, Global};
 
-/// What is left of a character that is begun: so many bytes, and the offsets in the block that they pick from.
+/// The rest of a character that is begun.
 #[derive(PartialEq, Eq, Hash, Drop)]
 pub struct Rest {
+    /// The number of bytes that are left.
     pub left: u8,
+    /// The characters that they can complete, as offsets in the block of numbers that they distinguish.
     pub offsets: Vec<CharRange>,
 }
 
-/// The number of a row, which is added if it is new.
+/// The characters that a first byte begins: those from `floor` on, in the block from `start` on that `left` bytes distinguish.
+#[derive(Clone, Copy)]
+struct Block {
+    left: u8,
+    floor: u32,
+    start: u32,
+}
+
+/// Returns the number of a row, which is added if it is new.
+///
+/// # Errors
+///
+/// Returns `AllocError` when memory runs out.
 fn number_of(rests: &mut IndexSet<Rest>, rest: Rest) -> Result<usize, AllocError>
     ensures grows { OnOk result (table.Grows rests.old.keys rests.new.keys) }
     ensures stored { IfOk result (λ i. table.IsAt rests.new.keys i (table.row_of rest)) }
@@ -34,7 +48,11 @@ fn number_of(rests: &mut IndexSet<Rest>, rest: Rest) -> Result<usize, AllocError
     Ok(i)
 }
 
-/// The row for these offsets, if there are any.
+/// Returns the row for these offsets, or `None` if there are no offsets.
+///
+/// # Errors
+///
+/// Returns `AllocError` when memory runs out.
 fn place(
     rests: &mut IndexSet<Rest>,
     left: u8,
@@ -60,31 +78,42 @@ fn place(
     Ok(Some(i))
 }
 
-/// The row for the members from `floor` on in a block from `start` on, if there is any.
+/// Returns the row for the characters of the ranges that a first byte begins, or `None` if there are none.
+///
+/// # Errors
+///
+/// Returns `AllocError` when memory runs out.
 fn row_for(
     alloc: Global,
     rests: &mut IndexSet<Rest>,
-    left: u8,
     ranges: &[CharRange],
-    floor: u32,
-    start: u32,
+    block: Block,
 ) -> Result<Option<usize>, AllocError>
-    requires small { left ≤ 3 }
-    requires fits { start + size left < 2 ^ 32 }
+    requires small { block.left ≤ 3 }
+    requires fits { block.start + size block.left < 2 ^ 32 }
     requires rests { table.AreRests rests.old.keys }
     ensures grows { OnOk result (table.Grows rests.old.keys rests.new.keys) }
     ensures longer { OnOk result (length rests.old.keys ≤ length rests.new.keys) }
     ensures rests { OnOk result (table.AreRests rests.new.keys) }
-    ensures finds { IfOk result (table.Finds rests.new.keys left (from_floor (in_ranges ranges.now)
-        floor start)) }
+    ensures finds { IfOk result (table.Finds rests.new.keys block.left
+        (from_floor (in_ranges ranges.now) block.floor block.start)) }
     ensures weight { (n : ℕ) → OnOk result
-        (table.weight n rests.new.keys ≤ table.weight n rests.old.keys + table.led_to left) }
+        (table.weight n rests.new.keys ≤ table.weight n rests.old.keys + table.led_to block.left) }
 {
-    let offsets = clip(alloc, ranges, floor, start, block_size(left))?;
-    place(rests, left, offsets)
+    let window = Window {
+        floor: block.floor,
+        start: block.start,
+        size: block_size(block.left),
+    };
+    let offsets = clip(alloc, ranges, window)?;
+    place(rests, block.left, offsets)
 }
 
-/// The row after a first byte, if there is any.
+/// Returns the row after a first byte, if there is one.
+///
+/// # Errors
+///
+/// Returns `AllocError` when memory runs out.
 fn first_for(
     alloc: Global,
     rests: &mut IndexSet<Rest>,
@@ -102,24 +131,48 @@ fn first_for(
 {
     let value = byte as u32;
     if value < 0x80 {
-        return row_for(alloc, rests, 0, ranges, 0, value);
+        let block = Block {
+            left: 0,
+            floor: 0,
+            start: value,
+        };
+        return row_for(alloc, rests, ranges, block);
     }
     if value < 0xC0 {
         return Ok(None);
     }
     if value < 0xE0 {
-        return row_for(alloc, rests, 1, ranges, 0x80, (value - 0xC0) * 64);
+        let block = Block {
+            left: 1,
+            floor: 0x80,
+            start: (value - 0xC0) * 64,
+        };
+        return row_for(alloc, rests, ranges, block);
     }
     if value < 0xF0 {
-        return row_for(alloc, rests, 2, ranges, 0x800, (value - 0xE0) * 4096);
+        let block = Block {
+            left: 2,
+            floor: 0x800,
+            start: (value - 0xE0) * 4096,
+        };
+        return row_for(alloc, rests, ranges, block);
     }
     if value < 0xF8 {
-        return row_for(alloc, rests, 3, ranges, 0x1_0000, (value - 0xF0) * 262144);
+        let block = Block {
+            left: 3,
+            floor: 0x1_0000,
+            start: (value - 0xF0) * 262144,
+        };
+        return row_for(alloc, rests, ranges, block);
     }
     Ok(None)
 }
 
-/// What is left after one more byte, the one at `part` of the 64.
+/// Returns the offsets that are left after the continuation byte with the number `part`, from 0 to 63.
+///
+/// # Errors
+///
+/// Returns `AllocError` when memory runs out.
 fn after(alloc: Global, rest: &Rest, left: u8, part: u32) -> Result<Vec<CharRange>, AllocError>
     requires small { left < 3 }
     requires part { part < 64 }
@@ -128,10 +181,19 @@ fn after(alloc: Global, rest: &Rest, left: u8, part: u32) -> Result<Vec<CharRang
         from_floor (in_ranges rest.now.offsets.items) 0 (part * size left) o) }
 {
     let size = block_size(left);
-    clip(alloc, &rest.offsets, 0, part * size, size)
+    let window = Window {
+        floor: 0,
+        start: part * size,
+        size,
+    };
+    clip(alloc, &rest.offsets, window)
 }
 
-/// The row after the byte at `part` of the 64, if there is any.
+/// Returns the row after a row and the continuation byte with the number `part`, if there is one.
+///
+/// # Errors
+///
+/// Returns `AllocError` when memory runs out.
 fn next_for(
     alloc: Global,
     rests: &mut IndexSet<Rest>,
@@ -161,7 +223,7 @@ fn next_for(
     place(rests, left, offsets)
 }
 
-/// How many numbers so many continuation bytes tell apart.
+/// Returns how many numbers `left` continuation bytes distinguish.
 fn block_size(left: u8) -> u32
     requires { left ≤ 3 }
     ensures size { result ≡ size left }
@@ -175,7 +237,11 @@ fn block_size(left: u8) -> u32
     }
 }
 
-/// The rows after all first bytes.
+/// Returns the rows after all first bytes.
+///
+/// # Errors
+///
+/// Returns `AllocError` when memory runs out.
 fn first_cells(
     alloc: Global,
     rests: &mut IndexSet<Rest>,
@@ -198,7 +264,11 @@ fn first_cells(
     Ok(cells)
 }
 
-/// Adds the rows after one row and each byte that goes on.
+/// Adds the rows after a row and each continuation byte.
+///
+/// # Errors
+///
+/// Returns `AllocError` when memory runs out.
 fn follow_row(
     alloc: Global,
     rests: &mut IndexSet<Rest>,
@@ -226,7 +296,11 @@ fn follow_row(
     Ok(())
 }
 
-/// The rows after each row and each byte that goes on.
+/// Returns the rows after each row and each continuation byte, with the rows that these lead to.
+///
+/// # Errors
+///
+/// Returns `AllocError` when memory runs out.
 fn follow_cells(alloc: Global, rests: &mut IndexSet<Rest>) -> Result<Vec<Option<usize>>, AllocError>
     requires rests { table.AreRests rests.old.keys }
     requires small { table.weight 0 rests.old.keys ≤ 34_361 }
@@ -246,7 +320,11 @@ fn follow_cells(alloc: Global, rests: &mut IndexSet<Rest>) -> Result<Vec<Option<
     Ok(cells)
 }
 
-/// The rows with the end alone.
+/// Returns the list of rows with row 0 alone, at which a whole character is read.
+///
+/// # Errors
+///
+/// Returns `AllocError` when memory runs out.
 fn start(alloc: Global) -> Result<IndexSet<Rest>, AllocError>
     ensures rests { IfOk result (λ rests. table.AreRests rests.keys) }
     ensures weight { IfOk result (λ rests. table.weight 0 rests.keys ≡ 1) }
@@ -258,7 +336,11 @@ fn start(alloc: Global) -> Result<IndexSet<Rest>, AllocError>
     Ok(rests)
 }
 
-/// The table of the characters of the ranges.
+/// Builds the table of the characters of the ranges.
+///
+/// # Errors
+///
+/// Returns `AllocError` when memory runs out.
 fn build(alloc: Global, ranges: &[CharRange]) -> Result<Table, AllocError>
     ensures { IfOk result (λ made. IsReaderOf (in_ranges ranges.now) (table.reader_of made)) }
 {
@@ -272,7 +354,11 @@ fn build(alloc: Global, ranges: &[CharRange]) -> Result<Table, AllocError>
     })
 }
 
-/// The table of the class of the characters of these ranges.
+/// Builds the table of the class of characters with these ranges.
+///
+/// # Errors
+///
+/// Returns `AllocError` when memory runs out.
 pub fn table_of(alloc: Global, ranges: &[Range]) -> Result<Table, AllocError>
     ensures { IfOk result (λ made. IsReaderOf (is_char_in (pairs ranges.now))
         (table.reader_of made)) }

@@ -1,4 +1,4 @@
-// Ranges of characters.
+//! Ranges of characters.
 ghost use Rattle.std.specs.Prelude.{◌&&◌, nat_le, ◌≡◌, ℕ, ◌+◌, ◌^◌, ◌<◌, ◌≤◌, ◌||◌, OnOk, IfOk};
 ghost use lib.Utf8.{scalar};
 ghost use Rattle.logos_hir.specs.Hir.{pairs};
@@ -16,38 +16,45 @@ pub struct CharRange {
     pub last: u32,
 }
 
-/// The offsets, in the block of `size` numbers from `start` on, of the numbers of the range from `floor` on.
-fn clip_range(range: CharRange, floor: u32, start: u32, size: u32) -> Option<CharRange>
-    requires fits { start + size < 2 ^ 32 }
-    requires some { 0 < size }
-    ensures clips { ClipsTo floor start size range result }
+/// The numbers from `floor` on, in a block of `size` numbers from `start` on.
+#[derive(Clone, Copy)]
+pub struct Window {
+    pub floor: u32,
+    pub start: u32,
+    pub size: u32,
+}
+
+/// Returns the offsets, in the block of a window, of the numbers that are in the range and in the window.
+fn clip_range(range: CharRange, window: Window) -> Option<CharRange>
+    requires fits { window.start + window.size < 2 ^ 32 }
+    requires some { 0 < window.size }
+    ensures clips { ClipsTo window.floor window.start window.size range result }
 {
-    let first = range.first.max(floor).max(start);
-    let last = range.last.min(start + size - 1);
+    let first = range.first.max(window.floor).max(window.start);
+    let last = range.last.min(window.start + window.size - 1);
     if first > last {
         return None;
     }
     Some(CharRange {
-        first: first - start,
-        last: last - start,
+        first: first - window.start,
+        last: last - window.start,
     })
 }
 
-/// Adds the offsets of one range.
-fn push_clip(
-    out: &mut Vec<CharRange>,
-    range: CharRange,
-    floor: u32,
-    start: u32,
-    size: u32,
-) -> Result<(), AllocError>
-    requires fits { start + size < 2 ^ 32 }
-    requires some { 0 < size }
-    ensures members { OnOk result ((o : ℕ) → o < size → in_ranges out.new.items o ≡
-        (in_ranges out.old.items o || from_floor (in_range range) floor start o)) }
-    ensures parts { AreParts size out.old.items → OnOk result (AreParts size out.new.items) }
+/// Adds the offsets of the numbers that are in the range and in the window.
+///
+/// # Errors
+///
+/// Returns `AllocError` when memory runs out.
+fn push_clip(out: &mut Vec<CharRange>, range: CharRange, window: Window) -> Result<(), AllocError>
+    requires fits { window.start + window.size < 2 ^ 32 }
+    requires some { 0 < window.size }
+    ensures members { OnOk result ((o : ℕ) → o < window.size → in_ranges out.new.items o ≡
+        (in_ranges out.old.items o || from_floor (in_range range) window.floor window.start o)) }
+    ensures parts { AreParts window.size out.old.items →
+        OnOk result (AreParts window.size out.new.items) }
 {
-    match clip_range(range, floor, start, size) {
+    match clip_range(range, window) {
         None => Ok(()),
         Some(part) => {
             out.push(part)?;
@@ -56,28 +63,34 @@ fn push_clip(
     }
 }
 
-/// The offsets of each range.
+/// Returns the offsets of the numbers that are in one of the ranges and in the window.
+///
+/// # Errors
+///
+/// Returns `AllocError` when memory runs out.
 pub fn clip(
     alloc: Global,
     ranges: &[CharRange],
-    floor: u32,
-    start: u32,
-    size: u32,
+    window: Window,
 ) -> Result<Vec<CharRange>, AllocError>
-    requires fits { start + size < 2 ^ 32 }
-    requires some { 0 < size }
-    ensures members { IfOk result (λ out. (o : ℕ) → o < size → in_ranges out.items o ≡
-        from_floor (in_ranges ranges.now) floor start o) }
-    ensures parts { IfOk result (λ out. AreParts size out.items) }
+    requires fits { window.start + window.size < 2 ^ 32 }
+    requires some { 0 < window.size }
+    ensures members { IfOk result (λ out. (o : ℕ) → o < window.size → in_ranges out.items o ≡
+        from_floor (in_ranges ranges.now) window.floor window.start o) }
+    ensures parts { IfOk result (λ out. AreParts window.size out.items) }
 {
     let mut out = Vec::new(alloc);
     for i in 0..ranges.len() {
-        push_clip(&mut out, ranges[i], floor, start, size)?;
+        push_clip(&mut out, ranges[i], window)?;
     }
     Ok(out)
 }
 
-/// Adds the range, unless it holds no number.
+/// Adds the range, unless it is empty.
+///
+/// # Errors
+///
+/// Returns `AllocError` when memory runs out.
 fn push_range(out: &mut Vec<CharRange>, first: u32, last: u32) -> Result<(), AllocError>
     ensures { OnOk result ((c : ℕ) → in_ranges out.new.items c ≡
         (in_ranges out.old.items c || (nat_le first c && nat_le c last))) }
@@ -88,7 +101,11 @@ fn push_range(out: &mut Vec<CharRange>, first: u32, last: u32) -> Result<(), All
     Ok(())
 }
 
-/// Adds the characters of one range.
+/// Adds the characters of a range.
+///
+/// # Errors
+///
+/// Returns `AllocError` when memory runs out.
 fn push_scalars(out: &mut Vec<CharRange>, range: Range) -> Result<(), AllocError>
     ensures { OnOk result ((c : ℕ) → in_ranges out.new.items c ≡
         (in_ranges out.old.items c ||
@@ -98,7 +115,11 @@ fn push_scalars(out: &mut Vec<CharRange>, range: Range) -> Result<(), AllocError
     push_range(out, range.first.max(0xE000), range.last.min(0x10_FFFF))
 }
 
-/// The characters of the ranges: no surrogate, and nothing past the last character.
+/// Returns the characters of the ranges, without surrogates and without numbers past the last character.
+///
+/// # Errors
+///
+/// Returns `AllocError` when memory runs out.
 pub fn scalars(alloc: Global, ranges: &[Range]) -> Result<Vec<CharRange>, AllocError>
     ensures { IfOk result (λ made. (c : ℕ) → in_ranges made.items c ≡
         is_char_in (pairs ranges.now) c) }

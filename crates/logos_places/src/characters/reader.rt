@@ -1,15 +1,15 @@
-//! The table that reads a character of a class, byte by byte.
+//! A table that reads a character of a class, byte by byte.
 ghost use Rattle.std.specs.Prelude.{◌<◌, ◌^◌};
 
-/// A class of characters as an automaton over the bytes of UTF-8. At row 0 a character is read whole; at each other row one is
-/// begun.
+/// A class of characters as an automaton over the bytes of UTF-8. At row 0 a whole character is read; at each other row a
+/// character is begun.
 #[derive(Drop)]
 pub struct Table {
-    /// How many rows there are.
+    /// The number of rows.
     pub rows: usize,
-    /// For each byte, the row after it.
+    /// The row after each first byte, by the byte.
     pub first: Vec<Option<usize>>,
-    /// For each row and each of the 64 bytes that go on, the row after it.
+    /// The row after each continuation byte: 64 entries for each row.
     pub follow: Vec<Option<usize>>,
     ghost some: { 0 < rows },
     ghost few: { rows < 2 ^ 16 },
@@ -19,7 +19,7 @@ impl Table {
     ghost use Rattle.std.specs.Prelude.{◌≡◌, ◌<◌};
     ghost use Rattle.logos_places.specs.Table as table;
 
-    /// The row after a first byte, if there is any.
+    /// Returns the row after a first byte, if there is one.
     pub fn first(&self, byte: u8) -> Option<usize>
         ensures { result ≡ (table.reader_of self.now).first byte }
     {
@@ -29,7 +29,7 @@ impl Table {
         }
     }
 
-    /// The row after another one and a byte, if there is any.
+    /// Returns the row after a row and a byte, if there is one.
     pub fn follow(&self, row: usize, byte: u8) -> Option<usize>
         requires { row < self.now.rows }
         ensures { result ≡ (table.reader_of self.now).follow row byte }

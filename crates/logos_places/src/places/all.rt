@@ -6,23 +6,36 @@ ghost use Rattle.logos_places.specs.Node.{core_of, AreMeasured};
 ghost use Rattle.logos_places.specs.Run.{width_of};
 ghost use Rattle.logos_places.specs.Several.{ReadBy, LeftBy, AreStarts};
 
-use crate::node::{Node, width};
+use crate::node::{Node, Spot, width};
 use crate::places::exits::exits;
 use crate::places::look::Context;
 use crate::places::set::first_from;
 use crate::places::step::{Reading, step};
 use std::alloc::{AllocError, Global};
 
-/// What a step gives.
+/// Several trees, whose places stand one after another.
+#[derive(Clone, Copy)]
+pub struct Forest<'n> {
+    /// The trees.
+    pub nodes: &'n [Node],
+    /// Where the places of each tree begin, and where those of the last tree end.
+    pub starts: &'n [usize],
+}
+
+/// The step of several trees by a byte.
 #[derive(Drop)]
-pub struct Reached {
-    /// The places that read the byte.
+pub struct JointStep {
+    /// The places that read the byte, ascending.
     pub places: Vec<usize>,
-    /// The numbers of the trees that can be left in front of it.
+    /// The numbers of the trees that can be left before the byte, ascending.
     pub left: Vec<usize>,
 }
 
-/// Where the places of each tree begin, and where those of the last one end.
+/// Returns where the places of each tree begin, and where those of the last tree end.
+///
+/// # Errors
+///
+/// Returns `AllocError` when memory runs out.
 pub fn starts_of(alloc: Global, nodes: &[Node]) -> Result<Vec<usize>, AllocError>
     requires fits { width_of (map core_of nodes.now) < 2 ^ 64 }
     requires measured { AreMeasured nodes.now }
@@ -40,7 +53,7 @@ pub fn starts_of(alloc: Global, nodes: &[Node]) -> Result<Vec<usize>, AllocError
     Ok(starts)
 }
 
-/// The tree from `from` on that has the place.
+/// Returns the number of the tree, from `from` on, that has the place.
 fn tree_at(starts: &[usize], from: usize, place: usize) -> usize
     requires some { from + 1 < length starts.now }
     requires low { slice_index starts.now from ≤ place }
@@ -63,7 +76,7 @@ fn tree_at(starts: &[usize], from: usize, place: usize) -> usize
     low
 }
 
-/// The first tree from `from` on that is entered or holds a mark; their count if there is none.
+/// Returns the number of the first tree from `from` on that is entered or has a mark, or the number of trees if there is none.
 pub fn next_tree(starts: &[usize], marks: &[usize], entered: bool, from: usize) -> usize
     requires rising { IsRising marks.now }
     requires within { from < length starts.now }
@@ -89,7 +102,11 @@ pub fn next_tree(starts: &[usize], marks: &[usize], entered: bool, from: usize) 
     tree_at(starts, from, marks[i])
 }
 
-/// Adds the number if it is one of them.
+/// Adds the number if `is_one` is true.
+///
+/// # Errors
+///
+/// Returns `AllocError` when memory runs out.
 fn note(numbers: &mut Vec<usize>, number: usize, is_one: bool) -> Result<(), AllocError>
     ensures { OnOk result (numbers.new.items ≡
         (if is_one then numbers.old.items ++ number ∷ [] else numbers.old.items)) }
@@ -100,57 +117,74 @@ fn note(numbers: &mut Vec<usize>, number: usize, is_one: bool) -> Result<(), All
     Ok(())
 }
 
-/// One more byte for each tree, where all are entered or none is.
+/// Makes the step of each tree by a byte, where all trees are entered or none is.
+///
+/// # Errors
+///
+/// Returns `AllocError` when memory runs out.
 pub fn step_all(
     alloc: Global,
-    nodes: &[Node],
-    starts: &[usize],
-    entered: bool,
+    forest: Forest<'_>,
     by: Reading<'_>,
-) -> Result<Reached, AllocError>
-    requires fits { width_of (map core_of nodes.now) < 2 ^ 64 }
-    requires measured { AreMeasured nodes.now }
-    requires starts { AreStarts nodes.now starts.now }
+    entered: bool,
+) -> Result<JointStep, AllocError>
+    requires fits { width_of (map core_of forest.nodes.now) < 2 ^ 64 }
+    requires measured { AreMeasured forest.nodes.now }
+    requires starts { AreStarts forest.nodes.now forest.starts.now }
     requires rising { IsRising by.marks.now }
-    ensures places { IfOk result (λ reached.
-        ReadBy (map core_of nodes.now) (test_at by.entry.at) by.entry.byte
-        (Has by.entry.marks.now) (IsTrue entered) reached.places.items) }
-    ensures left { IfOk result (λ reached.
-        LeftBy (map core_of nodes.now) (test_at by.entry.at) (Has by.entry.marks.now)
-        (IsTrue entered) reached.left.items) }
+    ensures places { IfOk result (λ step.
+        ReadBy (map core_of forest.entry.nodes.now) (test_at by.entry.at) by.entry.byte
+        (Has by.entry.marks.now) (IsTrue entered) step.places.items) }
+    ensures left { IfOk result (λ step.
+        LeftBy (map core_of forest.entry.nodes.now) (test_at by.entry.at) (Has by.entry.marks.now)
+        (IsTrue entered) step.left.items) }
 {
+    let nodes = forest.nodes;
+    let starts = forest.starts;
     let mut places = Vec::new(alloc);
     let mut left = Vec::new(alloc);
     let mut number = next_tree(starts, by.marks, entered, 0);
     while number < nodes.len() {
-        let base = starts[number];
-        let leaves = step(&nodes[number], by, base, entered, &mut places)?;
+        let spot = Spot {
+            base: starts[number],
+            entered,
+        };
+        let leaves = step(&nodes[number], by, spot, &mut places)?;
         note(&mut left, number, leaves)?;
         number = next_tree(starts, by.marks, entered, number + 1);
     }
-    Ok(Reached { places, left })
+    Ok(JointStep { places, left })
 }
 
-/// The numbers of the trees that can be left at this place.
+/// Returns the numbers of the trees that can be left at this place, ascending.
+///
+/// # Errors
+///
+/// Returns `AllocError` when memory runs out.
 pub fn exits_all(
     alloc: Global,
-    nodes: &[Node],
-    starts: &[usize],
+    forest: Forest<'_>,
     marks: &[usize],
-    entered: bool,
     at: Context,
+    entered: bool,
 ) -> Result<Vec<usize>, AllocError>
-    requires fits { width_of (map core_of nodes.now) < 2 ^ 64 }
-    requires measured { AreMeasured nodes.now }
-    requires starts { AreStarts nodes.now starts.now }
+    requires fits { width_of (map core_of forest.nodes.now) < 2 ^ 64 }
+    requires measured { AreMeasured forest.nodes.now }
+    requires starts { AreStarts forest.nodes.now forest.starts.now }
     requires rising { IsRising marks.now }
-    ensures { IfOk result (λ left. LeftBy (map core_of nodes.now) (test_at at) (Has marks.now)
-        (IsTrue entered) left.items) }
+    ensures { IfOk result (λ left. LeftBy (map core_of forest.entry.nodes.now) (test_at at)
+        (Has marks.now) (IsTrue entered) left.items) }
 {
+    let nodes = forest.nodes;
+    let starts = forest.starts;
     let mut left = Vec::new(alloc);
     let mut number = next_tree(starts, marks, entered, 0);
     while number < nodes.len() {
-        let leaves = exits(&nodes[number], marks, starts[number], entered, at);
+        let spot = Spot {
+            base: starts[number],
+            entered,
+        };
+        let leaves = exits(&nodes[number], marks, spot, at);
         note(&mut left, number, leaves)?;
         number = next_tree(starts, marks, entered, number + 1);
     }

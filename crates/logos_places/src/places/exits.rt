@@ -1,4 +1,4 @@
-//! Where a tree can be left.
+//! Whether a tree can be left.
 ghost use Rattle.std.specs.Prelude.{◌≡◌, ℕ, ◌+◌, ◌*◌, ◌-◌, ◌^◌, ◌<◌, ◌⊎◌, ◌↔◌, IsTrue, Bool, List, length};
 ghost use Rattle.logos_places.specs.Core as core;
 ghost use Rattle.logos_places.specs.Core.{Core, Exits};
@@ -8,37 +8,41 @@ ghost use Rattle.logos_places.specs.Node.{core_of, is_measured};
 ghost use Rattle.logos_places.specs.Repeat.{spelled, in_front, up_to, repeated, count_of, IsOrdered};
 ghost use Rattle.logos_hir.specs.declared.hir.Look.{Look};
 
-use crate::node::{Copies, Node, width};
+use crate::node::{Copies, Node, Spot, width};
 use crate::places::look::{Context, holds};
 use crate::places::set::{any_mark, has_mark, next_copy};
 
-/// Whether the tree can be left, where `marks` are the places from `base` on that read the last byte.
+/// Returns whether a tree can be left, where `marks` are the places that read the byte before.
 #[cycle(exits)]
-pub fn exits(node: &Node, marks: &[usize], base: usize, entered: bool, at: Context) -> bool
-    requires fits { base + core.width (core_of node.now) < 2 ^ 64 }
+pub(crate) fn exits(node: &Node, marks: &[usize], spot: Spot, at: Context) -> bool
+    requires fits { spot.base + core.width (core_of node.now) < 2 ^ 64 }
     requires measured { IsTrue (is_measured node.now) }
     requires rising { IsRising marks.now }
     ensures { IsTrue result ↔ Exits (core_of node.now) (test_at at) (λ q.
-        Has marks.now (base + q)) (IsTrue entered) }
+        Has marks.now (spot.base + q)) (IsTrue spot.entered) }
 {
-    if !entered && !any_mark(marks, base, width(node)) {
+    if !spot.entered && !any_mark(marks, spot.base, width(node)) {
         return false;
     }
     match node {
         Node::Void => false,
-        Node::Empty => entered,
-        Node::Literal(text) => exits_literal(text, marks, base, entered),
-        Node::Bytes(_) => has_mark(marks, base),
-        Node::Characters(_) => has_mark(marks, base),
-        Node::Look(look) => entered && holds(*look, at),
+        Node::Empty => spot.entered,
+        Node::Literal(text) => exits_literal(text, marks, spot),
+        Node::Bytes(_) => has_mark(marks, spot.base),
+        Node::Characters(_) => has_mark(marks, spot.base),
+        Node::Look(look) => spot.entered && holds(*look, at),
         Node::Cat {
             split,
             first,
             second,
             ..
         } => {
-            let left = exits(first, marks, base, entered, at);
-            exits(second, marks, base + *split, left, at)
+            let left = exits(first, marks, spot, at);
+            let after = Spot {
+                base: spot.base + *split,
+                entered: left,
+            };
+            exits(second, marks, after, at)
         }
         Node::Alt {
             split,
@@ -46,8 +50,12 @@ pub fn exits(node: &Node, marks: &[usize], base: usize, entered: bool, at: Conte
             second,
             ..
         } => {
-            let one = exits(first, marks, base, entered, at);
-            let other = exits(second, marks, base + *split, entered, at);
+            let one = exits(first, marks, spot, at);
+            let beside = Spot {
+                base: spot.base + *split,
+                entered: spot.entered,
+            };
+            let other = exits(second, marks, beside, at);
             one | other
         }
         Node::Repeat {
@@ -56,33 +64,32 @@ pub fn exits(node: &Node, marks: &[usize], base: usize, entered: bool, at: Conte
             each,
             body,
         } => {
-            let copies = Copies::new(base, *each, *least);
-            exits_repeat(body, copies, *most, marks, entered, at)
+            let copies = Copies::new(spot, *each, *least);
+            exits_repeat(body, copies, *most, marks, at)
         }
     }
 }
 
-/// Whether a literal can be left: whether its last place is marked.
-fn exits_literal(text: &[u8], marks: &[usize], base: usize, entered: bool) -> bool
-    requires fits { base + length text.now < 2 ^ 64 }
+/// Returns whether a literal can be left: whether its last place is marked.
+fn exits_literal(text: &[u8], marks: &[usize], spot: Spot) -> bool
+    requires fits { spot.base + length text.now < 2 ^ 64 }
     requires rising { IsRising marks.now }
     ensures { (test : Look → Bool) → IsTrue result ↔
-        Exits (spelled text.now) test (λ q. Has marks.now (base + q)) (IsTrue entered) }
+        Exits (spelled text.now) test (λ q. Has marks.now (spot.base + q)) (IsTrue spot.entered) }
 {
     if text.is_empty() {
-        return entered;
+        return spot.entered;
     }
-    has_mark(marks, base + text.len() - 1)
+    has_mark(marks, spot.base + text.len() - 1)
 }
 
-/// Whether a repetition can be left: at least these copies of its body, and at most `most` if there is such a count.
+/// Returns whether a repetition can be left: at least these copies of its body, and at most `most` if there is such a bound.
 #[cycle(exits)]
 fn exits_repeat(
     body: &Node,
     copies: Copies,
     most: Option<usize>,
     marks: &[usize],
-    entered: bool,
     at: Context,
 ) -> bool
     requires fits { copies.base + copies.each * count_of copies.count most < 2 ^ 64 }
@@ -91,45 +98,49 @@ fn exits_repeat(
     requires measured { IsTrue (is_measured body.now) }
     requires rising { IsRising marks.now }
     ensures { IsTrue result ↔ Exits (repeated copies.count most (core_of body.now)) (test_at at)
-        (λ q. Has marks.now (copies.base + q)) (IsTrue entered) }
+        (λ q. Has marks.now (copies.base + q)) (IsTrue copies.entered) }
 {
     let least = copies.count;
     match most {
         Some(most) => {
-            let front = exits_copies(body, copies, marks, entered, at);
+            let front = exits_copies(body, copies, marks, at);
             let rest = Copies {
                 base: copies.base + copies.each * least,
                 each: copies.each,
                 count: most - least,
+                entered: front,
             };
-            exits_up_to(body, rest, marks, front, at)
+            exits_up_to(body, rest, marks, at)
         }
         None => {
             if least == 0 {
-                let last = exits(body, marks, copies.base, entered, at);
-                last | entered
+                let spot = Spot {
+                    base: copies.base,
+                    entered: copies.entered,
+                };
+                let last = exits(body, marks, spot, at);
+                last | copies.entered
             } else {
                 let fronts = Copies {
                     base: copies.base,
                     each: copies.each,
                     count: least - 1,
+                    entered: copies.entered,
                 };
-                let front = exits_copies(body, fronts, marks, entered, at);
-                exits(
-                    body,
-                    marks,
-                    copies.base + copies.each * (least - 1),
-                    front,
-                    at,
-                )
+                let front = exits_copies(body, fronts, marks, at);
+                let last = Spot {
+                    base: copies.base + copies.each * (least - 1),
+                    entered: front,
+                };
+                exits(body, marks, last, at)
             }
         }
     }
 }
 
-/// Whether all of the copies can be left, before anything else.
+/// Returns whether all of the copies can be left, whatever comes after them.
 #[cycle(exits)]
-fn exits_copies(body: &Node, copies: Copies, marks: &[usize], entered: bool, at: Context) -> bool
+fn exits_copies(body: &Node, copies: Copies, marks: &[usize], at: Context) -> bool
     requires fits { copies.base + copies.each * copies.count < 2 ^ 64 }
     requires each { copies.each ≡ core.width (core_of body.now) }
     requires measured { IsTrue (is_measured body.now) }
@@ -138,48 +149,42 @@ fn exits_copies(body: &Node, copies: Copies, marks: &[usize], entered: bool, at:
         Exits b (test_at at) (λ q. Has marks.now (copies.base + copies.each * copies.count + q))
         (IsTrue result)
         ↔ Exits (in_front copies.count (core_of body.now) b) (test_at at)
-        (λ q. Has marks.now (copies.base + q)) (IsTrue entered) }
+        (λ q. Has marks.now (copies.base + q)) (IsTrue copies.entered) }
 {
-    let mut done = next_copy(entered, marks, copies.base, copies.each, 0, copies.count);
-    let mut left = entered;
+    let mut done = next_copy(marks, copies, 0, copies.entered);
+    let mut left = copies.entered;
     while done < copies.count {
-        left = exits(body, marks, copies.base + copies.each * done, left, at);
-        done = next_copy(
-            left,
-            marks,
-            copies.base,
-            copies.each,
-            done + 1,
-            copies.count,
-        );
+        let spot = Spot {
+            base: copies.base + copies.each * done,
+            entered: left,
+        };
+        left = exits(body, marks, spot, at);
+        done = next_copy(marks, copies, done + 1, left);
     }
     left
 }
 
-/// Whether at most as many copies can be left.
+/// Returns whether at most as many copies can be left.
 #[cycle(exits)]
-fn exits_up_to(body: &Node, copies: Copies, marks: &[usize], entered: bool, at: Context) -> bool
+fn exits_up_to(body: &Node, copies: Copies, marks: &[usize], at: Context) -> bool
     requires fits { copies.base + copies.each * copies.count < 2 ^ 64 }
     requires each { copies.each ≡ core.width (core_of body.now) }
     requires measured { IsTrue (is_measured body.now) }
     requires rising { IsRising marks.now }
     ensures { IsTrue result ↔ Exits (up_to copies.count (core_of body.now)) (test_at at)
-        (λ q. Has marks.now (copies.base + q)) (IsTrue entered) }
+        (λ q. Has marks.now (copies.base + q)) (IsTrue copies.entered) }
 {
-    let mut done = next_copy(entered, marks, copies.base, copies.each, 0, copies.count);
-    let mut left = entered;
+    let mut done = next_copy(marks, copies, 0, copies.entered);
+    let mut left = copies.entered;
     let mut any = false;
     while done < copies.count {
         any = any | left;
-        left = exits(body, marks, copies.base + copies.each * done, left, at);
-        done = next_copy(
-            left,
-            marks,
-            copies.base,
-            copies.each,
-            done + 1,
-            copies.count,
-        );
+        let spot = Spot {
+            base: copies.base + copies.each * done,
+            entered: left,
+        };
+        left = exits(body, marks, spot, at);
+        done = next_copy(marks, copies, done + 1, left);
     }
     any | left
 }

@@ -1,4 +1,4 @@
-//! Where a look holds, by what is kept of the byte before.
+//! Where a look holds, by the kind of the byte before.
 ghost use Rattle.std.specs.Prelude.{◌≡◌, Some, is_none};
 ghost use Rattle.logos_places.specs.Kinds.{side_before, kind_of_byte, test_at, is_word_byte};
 ghost use Rattle.logos_hir.specs.Looks as looks;
@@ -6,12 +6,12 @@ ghost use Rattle.logos_hir.specs.Looks.{is_byte};
 
 use logos_hir::hir::Look;
 
-/// What is kept of the byte before a place.
+/// What the steps remember of the byte before a position: what the looks after it can depend on.
 #[derive(Clone, Copy, PartialEq, Eq, Hash)]
 pub enum Kind {
-    /// There is no byte.
+    /// There is no byte: the position is the start of the input.
     Start,
-    /// A byte, of which nothing is kept.
+    /// A byte that no look can depend on.
     Unseen,
     /// One of `[0-9A-Za-z_]`.
     Word,
@@ -23,21 +23,23 @@ pub enum Kind {
     Other,
 }
 
-/// The two sides of a place.
+/// The bytes on both sides of a position.
 #[derive(Clone, Copy)]
 pub struct Context {
+    /// The kind of the byte before.
     pub before: Kind,
+    /// The byte after, or `None` at the end of the input.
     pub after: Option<u8>,
 }
 
-/// Whether the byte is one of `[0-9A-Za-z_]`.
+/// Returns whether the byte is one of `[0-9A-Za-z_]`.
 fn is_word(byte: u8) -> bool
     ensures { result ≡ is_word_byte byte }
 {
     byte.is_ascii_alphanumeric() || byte == b'_'
 }
 
-/// The kind of the byte.
+/// Returns the kind of a byte.
 pub fn kind_of(byte: u8) -> Kind
     ensures { result ≡ kind_of_byte byte }
 {
@@ -52,35 +54,35 @@ pub fn kind_of(byte: u8) -> Kind
     }
 }
 
-/// Whether there is no byte before.
+/// Returns whether there is no byte before.
 fn is_start(before: Kind) -> bool
     ensures { result ≡ is_none (side_before before) }
 {
     matches!(before, Kind::Start)
 }
 
-/// Whether the byte before is a carriage return.
+/// Returns whether the byte before is a carriage return.
 fn is_cr(before: Kind) -> bool
     ensures { result ≡ is_byte 13 (side_before before) }
 {
     matches!(before, Kind::Cr)
 }
 
-/// Whether the byte before is a line feed.
+/// Returns whether the byte before is a line feed.
 fn is_lf(before: Kind) -> bool
     ensures { result ≡ is_byte 10 (side_before before) }
 {
     matches!(before, Kind::Lf)
 }
 
-/// Whether the byte before is one of `[0-9A-Za-z_]`.
+/// Returns whether the byte before is one of `[0-9A-Za-z_]`.
 fn is_word_before(before: Kind) -> bool
     ensures { result ≡ looks.is_word (side_before before) }
 {
     matches!(before, Kind::Word)
 }
 
-/// Whether the byte is there, and this one.
+/// Returns whether there is a byte and it is this one.
 fn is_this(side: Option<u8>, byte: u8) -> bool
     ensures { result ≡ is_byte byte side }
 {
@@ -90,7 +92,7 @@ fn is_this(side: Option<u8>, byte: u8) -> bool
     }
 }
 
-/// Whether the byte is there, and one of `[0-9A-Za-z_]`.
+/// Returns whether there is a byte and it is one of `[0-9A-Za-z_]`.
 fn is_word_after(side: Option<u8>) -> bool
     ensures { result ≡ looks.is_word side }
 {
@@ -100,7 +102,7 @@ fn is_word_after(side: Option<u8>) -> bool
     }
 }
 
-/// Whether the look holds there.
+/// Returns whether the look holds at a position.
 pub fn holds(look: Look, at: Context) -> bool
     ensures { result ≡ test_at at look }
 {

@@ -1,10 +1,11 @@
-//! Sets of places, as rising lists.
+//! Sets of places, as ascending lists.
 ghost use Rattle.std.specs.Prelude.{◌⊎◌, OnOk, ◌^◌, ◌≡◌, ℕ, ◌+◌, ◌*◌, ◌<◌, ◌≤◌, ◌↔◌, IsTrue, IsFalse, length};
 ghost use Rattle.logos_places.specs.Marks.{IsRising, Has, HasBetween, IsFirstFrom};
 
+use crate::node::Copies;
 use std::alloc::AllocError;
 
-/// The index of the first place from `from` on.
+/// Returns the index of the first place from `from` on.
 pub fn first_from(marks: &[usize], from: usize) -> usize
     requires { IsRising marks.now }
     ensures { IsFirstFrom marks.now from result }
@@ -22,7 +23,7 @@ pub fn first_from(marks: &[usize], from: usize) -> usize
     low
 }
 
-/// Whether the place is marked.
+/// Returns whether the place is marked.
 pub fn has_mark(marks: &[usize], place: usize) -> bool
     requires { IsRising marks.now }
     ensures { IsTrue result ↔ Has marks.now place }
@@ -31,7 +32,7 @@ pub fn has_mark(marks: &[usize], place: usize) -> bool
     i < marks.len() && marks[i] == place
 }
 
-/// Whether one of the `width` places from `from` on is marked.
+/// Returns whether one of the `width` places from `from` on is marked.
 pub fn any_mark(marks: &[usize], from: usize, width: usize) -> bool
     requires { IsRising marks.now }
     ensures { IsTrue result ↔ ((q : ℕ) × (q < width) × Has marks.now (from + q)) }
@@ -40,54 +41,58 @@ pub fn any_mark(marks: &[usize], from: usize, width: usize) -> bool
     i < marks.len() && marks[i] - from < width
 }
 
-/// How many of the next `most` parts of `each` places hold no mark, up to the first that does. None is passed where the
-/// first is entered.
-fn empty_parts(entered: bool, marks: &[usize], start: usize, each: usize, most: usize) -> usize
+/// Returns how many of the copies have no mark, up to the first that has one. Returns 0 if the first copy is entered.
+fn empty_copies(marks: &[usize], copies: Copies) -> usize
     requires { IsRising marks.now }
-    ensures bound { result ≤ most }
-    ensures stays { IsTrue entered → result ≡ 0 }
-    ensures unmarked { (q : ℕ) → q < each * result → ¬ (Has marks.now (start + q)) }
-    ensures marked { result < most → IsFalse entered →
-        HasBetween marks.now (start + each * result) (start + each * (result + 1)) }
+    ensures bound { result ≤ copies.count }
+    ensures stays { IsTrue copies.entered → result ≡ 0 }
+    ensures unmarked { (q : ℕ) → q < copies.each * result → ¬ (Has marks.now (copies.base + q)) }
+    ensures marked { result < copies.count → IsFalse copies.entered →
+        HasBetween marks.now (copies.base + copies.each * result)
+        (copies.base + copies.each * (result + 1)) }
 {
-    if entered {
+    if copies.entered {
         return 0;
     }
-    if each == 0 {
-        return most;
+    if copies.each == 0 {
+        return copies.count;
     }
-    let i = first_from(marks, start);
+    let i = first_from(marks, copies.base);
     if i == marks.len() {
-        return most;
+        return copies.count;
     }
-    ((marks[i] - start) / each).min(most)
+    ((marks[i] - copies.base) / copies.each).min(copies.count)
 }
 
-/// The first of the copies from `done` on that is entered or holds a mark, of `count` copies of `each` places; `count` if there is
-/// none. The copies begin at `base`, and the one numbered `done` is entered or not.
-pub fn next_copy(
-    entered: bool,
-    marks: &[usize],
-    base: usize,
-    each: usize,
-    done: usize,
-    count: usize,
-) -> usize
+/// Returns the number of the first copy from `done` on that is entered or has a mark, or the number of copies if there is none.
+/// `entered` says whether the copy with the number `done` is entered.
+pub(crate) fn next_copy(marks: &[usize], copies: Copies, done: usize, entered: bool) -> usize
     requires rising { IsRising marks.now }
-    requires fits { base + each * count < 2 ^ 64 }
-    requires within { done ≤ count }
+    requires fits { copies.base + copies.each * copies.count < 2 ^ 64 }
+    requires within { done ≤ copies.count }
     ensures after { done ≤ result }
-    ensures bound { result ≤ count }
+    ensures bound { result ≤ copies.count }
     ensures stays { IsTrue entered → result ≡ done }
-    ensures unmarked { (q : ℕ) → each * done ≤ q → q < each * result →
-        ¬ (Has marks.now (base + q)) }
-    ensures marked { result < count → IsFalse entered →
-        HasBetween marks.now (base + each * result) (base + each * (result + 1)) }
+    ensures unmarked { (q : ℕ) → copies.each * done ≤ q → q < copies.each * result →
+        ¬ (Has marks.now (copies.base + q)) }
+    ensures marked { result < copies.count → IsFalse entered →
+        HasBetween marks.now (copies.base + copies.each * result)
+        (copies.base + copies.each * (result + 1)) }
 {
-    done + empty_parts(entered, marks, base + each * done, each, count - done)
+    let rest = Copies {
+        base: copies.base + copies.each * done,
+        each: copies.each,
+        count: copies.count - done,
+        entered,
+    };
+    done + empty_copies(marks, rest)
 }
 
-/// Adds the place, unless it is there.
+/// Adds the place, unless it is in the set.
+///
+/// # Errors
+///
+/// Returns `AllocError` when memory runs out.
 pub fn insert_mark(marks: &mut Vec<usize>, place: usize) -> Result<(), AllocError>
     requires { IsRising marks.old.items }
     ensures rising { OnOk result (IsRising marks.new.items) }

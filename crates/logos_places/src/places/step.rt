@@ -1,4 +1,4 @@
-//! The step from the places that read the last byte to those that read the next one.
+//! Steps from the places that read one byte to those that read the next byte.
 ghost use Rattle.std.specs.Prelude.{◌≡◌, ℕ, ◌+◌, ◌*◌, ◌^◌, ◌<◌, ◌≤◌, ◌⊎◌, IsTrue, IfOk, OnOk, IfSome, ◌↔◌, Bool, false, Option, length};
 ghost use Rattle.logos_places.specs.Core as core;
 ghost use Rattle.logos_places.specs.Core.{Core};
@@ -13,25 +13,25 @@ ghost use Rattle.logos_hir.specs.Hir.{pairs};
 ghost use Rattle.logos_hir.specs.declared.hir.Look.{Look};
 
 use crate::characters::reader::Table;
-use crate::node::{Copies, Node, width};
+use crate::node::{Copies, Node, Spot, width};
 use crate::places::exits::exits;
 use crate::places::look::{Context, holds};
 use crate::places::set::{any_mark, first_from, has_mark, insert_mark, next_copy};
 use logos_hir::hir::Range;
 use std::alloc::AllocError;
 
-/// What a step reads.
+/// A byte that a step reads, and what was read before it.
 #[derive(Clone, Copy)]
 pub struct Reading<'m> {
     /// The byte.
     pub byte: u8,
-    /// The places that read the byte before.
+    /// The places that read the byte before, ascending.
     pub marks: &'m [usize],
-    /// The place in front of the byte.
+    /// The position before the byte.
     pub at: Context,
 }
 
-/// Whether the byte lies in one of the ranges.
+/// Returns whether the byte is in one of the ranges.
 pub fn has_byte(ranges: &[Range], byte: u8) -> bool
     ensures { result ≡ is_in (pairs ranges.now) byte }
 {
@@ -44,74 +44,97 @@ pub fn has_byte(ranges: &[Range], byte: u8) -> bool
     false
 }
 
-/// The step on one place that reads one byte of a class, where `fits` says that the class has the byte that comes.
+/// Steps on the place of a class that has one byte. `fits` says whether the class has the byte that is read.
+///
+/// # Errors
+///
+/// Returns `AllocError` when memory runs out.
 fn step_byte(
     fits: bool,
-    byte: u8,
-    marks: &[usize],
-    base: usize,
-    entered: bool,
+    by: Reading<'_>,
+    spot: Spot,
     next: &mut Vec<usize>,
 ) -> Result<bool, AllocError>
-    requires rising { IsRising marks.now }
-    requires set { IsSet next.old.items base }
-    ensures { IfOk result (λ left. (c : ℕ → Bool) (test : Look → Bool) → c byte ≡ fits →
-        Stepped (core.byte_in c) test byte marks.now next.old.items next.new.items base entered
-        left) }
+    requires rising { IsRising by.marks.now }
+    requires set { IsSet next.old.items spot.base }
+    ensures { IfOk result (λ left. (c : ℕ → Bool) (test : Look → Bool) → c by.entry.byte ≡ fits →
+        Stepped (core.byte_in c) test by.entry.byte by.entry.marks.now
+        next.old.items next.new.items spot.base spot.entered left) }
 {
-    let left = has_mark(marks, base);
-    if !(entered & fits) {
+    let left = has_mark(by.marks, spot.base);
+    if !spot.entered {
         return Ok(left);
     }
-    next.push(base)?;
+    if !fits {
+        return Ok(left);
+    }
+    next.push(spot.base)?;
     Ok(left)
 }
 
-/// The step on one byte of these ranges.
+/// Steps on a class of bytes.
+///
+/// # Errors
+///
+/// Returns `AllocError` when memory runs out.
 fn step_bytes(
     ranges: &[Range],
-    byte: u8,
-    marks: &[usize],
-    base: usize,
-    entered: bool,
+    by: Reading<'_>,
+    spot: Spot,
     next: &mut Vec<usize>,
 ) -> Result<bool, AllocError>
-    requires rising { IsRising marks.now }
-    requires set { IsSet next.old.items base }
+    requires rising { IsRising by.marks.now }
+    requires set { IsSet next.old.items spot.base }
     ensures { IfOk result (λ left. (test : Look → Bool) →
-        Stepped (core.byte_in (is_in (pairs ranges.now)))
-        test byte marks.now next.old.items next.new.items base entered left) }
+        Stepped (core.byte_in (is_in (pairs ranges.now))) test by.entry.byte by.entry.marks.now
+        next.old.items next.new.items spot.base spot.entered left) }
 {
-    let fits = has_byte(ranges, byte);
-    step_byte(fits, byte, marks, base, entered, next)
+    let fits = has_byte(ranges, by.byte);
+    step_byte(fits, by, spot, next)
 }
 
-/// The step on a literal.
+/// Steps on a literal.
+///
+/// # Errors
+///
+/// Returns `AllocError` when memory runs out.
 fn step_literal(
     text: &[u8],
-    byte: u8,
-    marks: &[usize],
-    base: usize,
-    entered: bool,
+    by: Reading<'_>,
+    spot: Spot,
     next: &mut Vec<usize>,
 ) -> Result<bool, AllocError>
-    requires fits { base + length text.now < 2 ^ 64 }
-    requires rising { IsRising marks.now }
-    requires set { IsSet next.old.items base }
+    requires fits { spot.base + length text.now < 2 ^ 64 }
+    requires rising { IsRising by.marks.now }
+    requires set { IsSet next.old.items spot.base }
     ensures { IfOk result (λ left. (test : Look → Bool) →
-        Stepped (spelled text.now) test byte marks.now next.old.items next.new.items base entered
-        left) }
+        Stepped (spelled text.now) test by.entry.byte by.entry.marks.now
+        next.old.items next.new.items spot.base spot.entered left) }
 {
-    let mut done = next_copy(entered, marks, base, 1, 0, text.len());
-    let mut left = entered;
+    let bytes = Copies {
+        base: spot.base,
+        each: 1,
+        count: text.len(),
+        entered: spot.entered,
+    };
+    let mut done = next_copy(by.marks, bytes, 0, spot.entered);
+    let mut left = spot.entered;
     while done < text.len() {
-        left = step_byte(byte == text[done], byte, marks, base + done, left, next)?;
-        done = next_copy(left, marks, base, 1, done + 1, text.len());
+        let place = Spot {
+            base: spot.base + done,
+            entered: left,
+        };
+        left = step_byte(by.byte == text[done], by, place, next)?;
+        done = next_copy(by.marks, bytes, done + 1, left);
     }
     Ok(left)
 }
 
-/// Adds the place of the row, if there is one, of a class whose places begin at `base`.
+/// Adds the place of a row, if there is one, of a class whose places begin at `base`.
+///
+/// # Errors
+///
+/// Returns `AllocError` when memory runs out.
 fn insert_row(
     row: Option<usize>,
     rows: usize,
@@ -133,68 +156,88 @@ fn insert_row(
     insert_mark(next, base + row)
 }
 
-/// The step on a class of characters.
+/// Steps on a class of characters.
+///
+/// # Errors
+///
+/// Returns `AllocError` when memory runs out.
 fn step_characters(
     table: &Table,
-    byte: u8,
-    marks: &[usize],
-    base: usize,
-    entered: bool,
+    by: Reading<'_>,
+    spot: Spot,
     next: &mut Vec<usize>,
 ) -> Result<bool, AllocError>
-    requires fits { base + table.now.rows < 2 ^ 64 }
-    requires rising { IsRising marks.now }
-    requires set { IsSet next.old.items base }
+    requires fits { spot.base + table.now.rows < 2 ^ 64 }
+    requires rising { IsRising by.marks.now }
+    requires set { IsSet next.old.items spot.base }
     ensures { IfOk result (λ left. (test : Look → Bool) →
-        Stepped (core.character (reader_of table.now))
-        test byte marks.now next.old.items next.new.items base entered left) }
+        Stepped (core.character (reader_of table.now)) test by.entry.byte by.entry.marks.now
+        next.old.items next.new.items spot.base spot.entered left) }
 {
+    let marks = by.marks;
+    let base = spot.base;
     let left = has_mark(marks, base);
-    let first = if entered { table.first(byte) } else { None };
+    let first = if spot.entered {
+        table.first(by.byte)
+    } else {
+        None
+    };
     insert_row(first, table.rows, base, next)?;
     let mut i = first_from(marks, base);
     while i < marks.len() && marks[i] - base < table.rows {
-        insert_row(table.follow(marks[i] - base, byte), table.rows, base, next)?;
+        insert_row(
+            table.follow(marks[i] - base, by.byte),
+            table.rows,
+            base,
+            next,
+        )?;
         i += 1;
     }
     Ok(left)
 }
 
-/// Adds the places of the tree, from `base` on, that read the byte, and says whether the tree can be left before that byte.
+/// Adds the places of a tree that read the byte, and returns whether the tree can be left before the byte.
+///
+/// # Errors
+///
+/// Returns `AllocError` when memory runs out.
 #[cycle(step)]
 pub(crate) fn step(
     node: &Node,
     by: Reading<'_>,
-    base: usize,
-    entered: bool,
+    spot: Spot,
     next: &mut Vec<usize>,
 ) -> Result<bool, AllocError>
-    requires fits { base + core.width (core_of node.now) < 2 ^ 64 }
+    requires fits { spot.base + core.width (core_of node.now) < 2 ^ 64 }
     requires measured { IsTrue (is_measured node.now) }
     requires rising { IsRising by.marks.now }
-    requires set { IsSet next.old.items base }
+    requires set { IsSet next.old.items spot.base }
     ensures { IfOk result (λ left. Stepped (core_of node.now) (test_at by.entry.at)
         by.entry.byte by.entry.marks.now
-        next.old.items next.new.items base entered left) }
+        next.old.items next.new.items spot.base spot.entered left) }
 {
-    if !entered && !any_mark(by.marks, base, width(node)) {
+    if !spot.entered && !any_mark(by.marks, spot.base, width(node)) {
         return Ok(false);
     }
     match node {
         Node::Void => Ok(false),
-        Node::Empty => Ok(entered),
-        Node::Literal(text) => step_literal(text, by.byte, by.marks, base, entered, next),
-        Node::Bytes(ranges) => step_bytes(ranges, by.byte, by.marks, base, entered, next),
-        Node::Characters(table) => step_characters(table, by.byte, by.marks, base, entered, next),
-        Node::Look(look) => Ok(entered && holds(*look, by.at)),
+        Node::Empty => Ok(spot.entered),
+        Node::Literal(text) => step_literal(text, by, spot, next),
+        Node::Bytes(ranges) => step_bytes(ranges, by, spot, next),
+        Node::Characters(table) => step_characters(table, by, spot, next),
+        Node::Look(look) => Ok(spot.entered && holds(*look, by.at)),
         Node::Cat {
             split,
             first,
             second,
             ..
         } => {
-            let left = step(first, by, base, entered, next)?;
-            step(second, by, base + *split, left, next)
+            let left = step(first, by, spot, next)?;
+            let after = Spot {
+                base: spot.base + *split,
+                entered: left,
+            };
+            step(second, by, after, next)
         }
         Node::Alt {
             split,
@@ -202,8 +245,12 @@ pub(crate) fn step(
             second,
             ..
         } => {
-            let one = step(first, by, base, entered, next)?;
-            let other = step(second, by, base + *split, entered, next)?;
+            let one = step(first, by, spot, next)?;
+            let beside = Spot {
+                base: spot.base + *split,
+                entered: spot.entered,
+            };
+            let other = step(second, by, beside, next)?;
             Ok(one | other)
         }
         Node::Repeat {
@@ -212,20 +259,23 @@ pub(crate) fn step(
             each,
             body,
         } => {
-            let copies = Copies::new(base, *each, *least);
-            step_repeat(body, copies, *most, by, entered, next)
+            let copies = Copies::new(spot, *each, *least);
+            step_repeat(body, copies, *most, by, next)
         }
     }
 }
 
-/// The step on a repetition: at least these copies of its body, and at most `most` if there is such a count.
+/// Steps on a repetition: at least these copies of its body, and at most `most` if there is such a bound.
+///
+/// # Errors
+///
+/// Returns `AllocError` when memory runs out.
 #[cycle(step)]
 fn step_repeat(
     body: &Node,
     copies: Copies,
     most: Option<usize>,
     by: Reading<'_>,
-    entered: bool,
     next: &mut Vec<usize>,
 ) -> Result<bool, AllocError>
     requires fits { copies.base + copies.each * count_of copies.count most < 2 ^ 64 }
@@ -235,50 +285,57 @@ fn step_repeat(
     requires rising { IsRising by.marks.now }
     requires set { IsSet next.old.items copies.base }
     ensures { IfOk result (λ left. Stepped (repeated copies.count most (core_of body.now))
-        (test_at by.entry.at) by.entry.byte
-        by.entry.marks.now next.old.items next.new.items copies.base entered left) }
+        (test_at by.entry.at) by.entry.byte by.entry.marks.now
+        next.old.items next.new.items copies.base copies.entered left) }
 {
     let least = copies.count;
     match most {
         Some(most) => {
-            let front = step_copies(body, copies, by, entered, next)?;
+            let front = step_copies(body, copies, by, next)?;
             let rest = Copies {
                 base: copies.base + copies.each * least,
                 each: copies.each,
                 count: most - least,
+                entered: front,
             };
-            step_up_to(body, rest, by, front, next)
+            step_up_to(body, rest, by, next)
         }
         None => {
             if least == 0 {
-                let last = step_plus(body, by, copies.base, entered, next)?;
-                Ok(last | entered)
+                let spot = Spot {
+                    base: copies.base,
+                    entered: copies.entered,
+                };
+                let last = step_plus(body, by, spot, next)?;
+                Ok(last | copies.entered)
             } else {
                 let fronts = Copies {
                     base: copies.base,
                     each: copies.each,
                     count: least - 1,
+                    entered: copies.entered,
                 };
-                let front = step_copies(body, fronts, by, entered, next)?;
-                step_plus(
-                    body,
-                    by,
-                    copies.base + copies.each * (least - 1),
-                    front,
-                    next,
-                )
+                let front = step_copies(body, fronts, by, next)?;
+                let last = Spot {
+                    base: copies.base + copies.each * (least - 1),
+                    entered: front,
+                };
+                step_plus(body, by, last, next)
             }
         }
     }
 }
 
-/// The step on all of the copies, before anything else.
+/// Steps on all of the copies, whatever comes after them.
+///
+/// # Errors
+///
+/// Returns `AllocError` when memory runs out.
 #[cycle(step)]
 fn step_copies(
     body: &Node,
     copies: Copies,
     by: Reading<'_>,
-    entered: bool,
     next: &mut Vec<usize>,
 ) -> Result<bool, AllocError>
     requires fits { copies.base + copies.each * copies.count < 2 ^ 64 }
@@ -289,31 +346,31 @@ fn step_copies(
     ensures { IfOk result (λ left. (b : Core) →
         Owes (in_front copies.count (core_of body.now) b) b (test_at by.entry.at)
         by.entry.byte by.entry.marks.now next.old.items next.new.items
-        copies.base (copies.base + copies.each * copies.count) entered left false) }
+        copies.base (copies.base + copies.each * copies.count) copies.entered left false) }
 {
-    let mut done = next_copy(entered, by.marks, copies.base, copies.each, 0, copies.count);
-    let mut left = entered;
+    let mut done = next_copy(by.marks, copies, 0, copies.entered);
+    let mut left = copies.entered;
     while done < copies.count {
-        left = step(body, by, copies.base + copies.each * done, left, next)?;
-        done = next_copy(
-            left,
-            by.marks,
-            copies.base,
-            copies.each,
-            done + 1,
-            copies.count,
-        );
+        let spot = Spot {
+            base: copies.base + copies.each * done,
+            entered: left,
+        };
+        left = step(body, by, spot, next)?;
+        done = next_copy(by.marks, copies, done + 1, left);
     }
     Ok(left)
 }
 
-/// The step on at most as many copies.
+/// Steps on at most as many copies.
+///
+/// # Errors
+///
+/// Returns `AllocError` when memory runs out.
 #[cycle(step)]
 fn step_up_to(
     body: &Node,
     copies: Copies,
     by: Reading<'_>,
-    entered: bool,
     next: &mut Vec<usize>,
 ) -> Result<bool, AllocError>
     requires fits { copies.base + copies.each * copies.count < 2 ^ 64 }
@@ -323,44 +380,48 @@ fn step_up_to(
     requires set { IsSet next.old.items copies.base }
     ensures { IfOk result (λ left. Stepped (up_to copies.count (core_of body.now))
         (test_at by.entry.at) by.entry.byte by.entry.marks.now
-        next.old.items next.new.items copies.base entered left) }
+        next.old.items next.new.items copies.base copies.entered left) }
 {
-    let mut done = next_copy(entered, by.marks, copies.base, copies.each, 0, copies.count);
-    let mut left = entered;
+    let mut done = next_copy(by.marks, copies, 0, copies.entered);
+    let mut left = copies.entered;
     let mut any = false;
     while done < copies.count {
         any = any | left;
-        left = step(body, by, copies.base + copies.each * done, left, next)?;
-        done = next_copy(
-            left,
-            by.marks,
-            copies.base,
-            copies.each,
-            done + 1,
-            copies.count,
-        );
+        let spot = Spot {
+            base: copies.base + copies.each * done,
+            entered: left,
+        };
+        left = step(body, by, spot, next)?;
+        done = next_copy(by.marks, copies, done + 1, left);
     }
     Ok(any | left)
 }
 
-/// The step on one or more of the body.
+/// Steps on one or more times the body.
+///
+/// # Errors
+///
+/// Returns `AllocError` when memory runs out.
 #[cycle(step)]
 fn step_plus(
     body: &Node,
     by: Reading<'_>,
-    base: usize,
-    entered: bool,
+    spot: Spot,
     next: &mut Vec<usize>,
 ) -> Result<bool, AllocError>
-    requires fits { base + core.width (core_of body.now) < 2 ^ 64 }
+    requires fits { spot.base + core.width (core_of body.now) < 2 ^ 64 }
     requires measured { IsTrue (is_measured body.now) }
     requires rising { IsRising by.marks.now }
-    requires set { IsSet next.old.items base }
+    requires set { IsSet next.old.items spot.base }
     ensures { IfOk result (λ left. Stepped (core.plus (core_of body.now)) (test_at by.entry.at)
         by.entry.byte by.entry.marks.now
-        next.old.items next.new.items base entered left) }
+        next.old.items next.new.items spot.base spot.entered left) }
 {
-    let left = exits(body, by.marks, base, entered, by.at);
-    step(body, by, base, entered | left, next)?;
+    let left = exits(body, by.marks, spot, by.at);
+    let again = Spot {
+        base: spot.base,
+        entered: spot.entered | left,
+    };
+    step(body, by, again, next)?;
     Ok(left)
 }

@@ -17,10 +17,10 @@ loop-byte-preserved c =
     let i = c.loop-byte.invariant in
     record {
       size = length-set c.loop-byte.first c.loop-byte.byte c.kinds_differ.result ∙ i.size;
-      same = λ b lt told. ⊎_elim
-          (λ below. i.same b below (sym (get_or-set_other c.loop-byte.first c.loop-byte.byte (b + 1) c.kinds_differ.result false (λ e. omega (arith, e, below))) ∙ told))
+      same = λ b lt unmarked. ⊎_elim
+          (λ below. i.same b below (sym (get_or-set_other c.loop-byte.first c.loop-byte.byte (b + 1) c.kinds_differ.result false (λ e. omega (arith, e, below))) ∙ unmarked))
           (λ here.
-          let same : c.kinds_differ.result ≡ false = sym (get_or-set_at c.loop-byte.first c.loop-byte.byte (b + 1) c.kinds_differ.result false here (omega (arith, i.size))) ∙ told in
+          let same : c.kinds_differ.result ≡ false = sym (get_or-set_at c.loop-byte.first c.loop-byte.byte (b + 1) c.kinds_differ.result false here (omega (arith, i.size))) ∙ unmarked in
           from_one (λ k m. kind_of_byte k ≡ kind_of_byte m) c.loop-byte.byte b here (c.kinds_differ.ensures same))
           (below_or_same (b + 1) c.loop-byte.byte lt);
     }

@@ -3,7 +3,7 @@ use Rattle.std.proofs.lemmas.Result.{on_ok_weaker}
 use Rattle.logos_automaton.specs.inside.TopSets.{top_of, IsTopSet}
 use Rattle.logos_automaton.specs.Munch.{Rule}
 use Rattle.logos_automaton.specs.View.{rules_of}
-use Rattle.logos_automaton.proofs.ambiguity.TopLemmas.{few_kept}
+use Rattle.logos_automaton.proofs.ambiguity.TopLemmas.{few_top}
 use Rattle.logos_automaton.proofs.faults.add_top_set.Goals as goal
 
 -- no set is added
@@ -29,7 +29,7 @@ one_added old new rules listed top is several all set = (λ c. there ((all set).
 
 pub returns-then-listed-lt2 : goal.returns-then-listed-lt2
 returns-then-listed-lt2 c = none_added _ (rules_of c.args.rules.now) c.args.listed.now
-    (let l = few_kept (rules_of c.args.rules.now) c.args.listed.now in omega (arith, l, c.if-listed-lt2.true))
+    (let l = few_top (rules_of c.args.rules.now) c.args.listed.now in omega (arith, l, c.if-listed-lt2.true))
 
 abbrev items_of : Vec ℕ Global → List ℕ
 items_of v = v.items

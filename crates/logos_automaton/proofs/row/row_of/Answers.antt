@@ -12,9 +12,9 @@ same_target : (ts : List Core) (looks : Bool) (first : List Bool) (old ks : List
     AreFirstIn ts old i first → Grows old ks → IsRow ts looks ks i row byte → slice_index_or first byte false ≡ false → LeadsTo ts looks ks i byte (slice_index row (byte - 1))
 same_target ts looks first old ks i row byte some lt firsts grows all e =
     let back : byte - 1 + 1 ≡ byte = omega arith in
-    let told = firsts.are (byte - 1) (omega arith) (rw back e) in
+    let same = firsts.are (byte - 1) (omega arith) (rw back e) in
     subst (λ k. LeadsTo ts looks ks i k (slice_index row (byte - 1))) back
-    (leads_alike ts looks ks i (byte - 1) (byte - 1 + 1) (slice_index row (byte - 1)) firsts.state (grows.keeps i firsts.state firsts.at) told.0 told.1 (all (byte - 1) (omega arith)))
+    (leads_alike ts looks ks i (byte - 1) (byte - 1 + 1) (slice_index row (byte - 1)) firsts.state (grows.keeps i firsts.state firsts.at) same.0 same.1 (all (byte - 1) (omega arith)))
 
 known_target : (P : ℕ → Type 0) (is_first : Bool) (before : ℕ) → (is_first ≡ false → P before) → IfSome (then_some (not is_first) before) P
 known_target P true before same = tt

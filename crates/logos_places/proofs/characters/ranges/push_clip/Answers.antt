@@ -10,4 +10,4 @@ returns-in_ok-push-in-Some-clause-members c = λ o lt.
 
 pub returns-in_ok-push-in-Some-clause-parts : goal.returns-in_ok-push-in-Some-clause-parts
 returns-in_ok-push-in-Some-clause-parts c = λ h.
-    rw c.in_ok-push-in-Some.ensures.items (AreParts-push c.args.size c.args.out.now.items c.in-Some.part h c.in-Some.ensures.clips.0)
+    rw c.in_ok-push-in-Some.ensures.items (AreParts-push c.args.window.size c.args.out.now.items c.in-Some.part h c.in-Some.ensures.clips.0)

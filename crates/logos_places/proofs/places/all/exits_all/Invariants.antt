@@ -7,9 +7,9 @@ use Rattle.logos_places.proofs.places.all.exits_all.Given as goal
 
 abbrev pub invariant-loop-number : goal.invariant-loop-number
 invariant-loop-number l = record {
-  within : l.number ≤ length l.nodes;
-  numbers : OwesNumbers (map core_of l.nodes) (map core_of (drop l.number l.nodes)) (test_at l.at) (Has l.marks) (IsTrue l.entered) (slice_index l.starts l.number) l.number l.left.items;
+  within : l.number ≤ length l.fn.forest.nodes.now;
+  numbers : OwesNumbers (map core_of l.fn.forest.nodes.now) (map core_of (drop l.number l.fn.forest.nodes.now)) (test_at l.at) (Has l.marks) (IsTrue l.entered) (slice_index l.fn.forest.starts.now l.number) l.number l.left.items;
 }
 
 abbrev pub decreases-loop-number : goal.decreases-loop-number
-decreases-loop-number l = length l.nodes - l.number
+decreases-loop-number l = length l.fn.forest.nodes.now - l.number

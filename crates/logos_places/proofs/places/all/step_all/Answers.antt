@@ -5,13 +5,13 @@ use Rattle.logos_places.proofs.steps.SeveralLemmas.{next_measured, numbers_after
 use Rattle.logos_places.proofs.places.all.step_all.Goals as goal
 
 pub step-requires-clause-measured : goal.step-requires-clause-measured
-step-requires-clause-measured c = next_measured c.args.nodes.now c.loop-number.number c.index-nodes-number.result c.loop-number-test.true c.index-nodes-number.is c.requires.measured
+step-requires-clause-measured c = next_measured c.args.forest.nodes.now c.loop-number.number c.index-nodes-number.result c.loop-number-test.true c.index-nodes-number.is c.requires.measured
 
 pub loop-number-init : goal.loop-number-init
 loop-number-init c =
     let n = c.next_tree-number.ensures in
-    let nodes = c.args.nodes.now in
-    let starts = c.args.starts.now in
+    let nodes = c.args.forest.nodes.now in
+    let starts = c.args.forest.starts.now in
     let within : c.next_tree-number.result ≤ length nodes = omega (arith, n.bound, c.requires.starts.count) in
     record {
       within = within;
@@ -24,8 +24,8 @@ loop-number-init c =
 pub loop-number-preserved : goal.loop-number-preserved
 loop-number-preserved c =
     let n = c.next_tree-number-in-loop-number.ensures in
-    let nodes = c.args.nodes.now in
-    let starts = c.args.starts.now in
+    let nodes = c.args.forest.nodes.now in
+    let starts = c.args.forest.starts.now in
     let within : c.next_tree-number-in-loop-number.result ≤ length nodes = omega (arith, n.bound, c.requires.starts.count) in
     record {
       within = within;

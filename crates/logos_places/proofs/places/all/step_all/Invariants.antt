@@ -7,10 +7,10 @@ use Rattle.logos_places.proofs.places.all.step_all.Given as goal
 
 abbrev pub invariant-loop-number : goal.invariant-loop-number
 invariant-loop-number l = record {
-  within : l.number ≤ length l.nodes;
-  places : OwesPlaces (map core_of l.nodes) (map core_of (drop l.number l.nodes)) (test_at l.by.at) l.by.byte (Has l.by.marks.now) (IsTrue l.entered) (slice_index l.starts l.number) l.places.items;
-  numbers : OwesNumbers (map core_of l.nodes) (map core_of (drop l.number l.nodes)) (test_at l.by.at) (Has l.by.marks.now) (IsTrue l.entered) (slice_index l.starts l.number) l.number l.left.items;
+  within : l.number ≤ length l.fn.forest.nodes.now;
+  places : OwesPlaces (map core_of l.fn.forest.nodes.now) (map core_of (drop l.number l.fn.forest.nodes.now)) (test_at l.by.at) l.by.byte (Has l.by.marks.now) (IsTrue l.entered) (slice_index l.fn.forest.starts.now l.number) l.places.items;
+  numbers : OwesNumbers (map core_of l.fn.forest.nodes.now) (map core_of (drop l.number l.fn.forest.nodes.now)) (test_at l.by.at) (Has l.by.marks.now) (IsTrue l.entered) (slice_index l.fn.forest.starts.now l.number) l.number l.left.items;
 }
 
 abbrev pub decreases-loop-number : goal.decreases-loop-number
-decreases-loop-number l = length l.nodes - l.number
+decreases-loop-number l = length l.fn.forest.nodes.now - l.number

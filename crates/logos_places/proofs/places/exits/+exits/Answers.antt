@@ -1,4 +1,4 @@
-use Rattle.std.proofs.Common.{◌≡◌, ◌+◌, ◌-◌, ◌*◌, inr, ⊎_elim, IsTrue, false, true≢false, sym, ap, ◌∙◌, arith, rules, max, ◌≤◌, ◌<◌, ◌^◌}
+use Rattle.std.proofs.Common.{◌≡◌, ◌+◌, ◌-◌, ◌*◌, inr, ⊎_elim, Bool, IsTrue, true, false, not, refl, true≢false, sym, ap, ◌∙◌, arith, rules, max, ◌≤◌, ◌<◌, ◌^◌}
 use Rattle.std.proofs.Math.Nat.{mul-le-mul_left}
 use Rattle.logos_places.specs.Core as core
 use Rattle.logos_places.specs.Core.{width}
@@ -12,9 +12,13 @@ use Rattle.logos_places.proofs.steps.SteppedLemmas.{at_least-some}
 use Rattle.logos_places.proofs.steps.JumpLemmas.{exits_nothing, front_step, front_skip, up_to_step, up_to_skip}
 use Rattle.logos_places.proofs.places.exits.+exits.Goals as goal
 
+off : (b : Bool) → not b ≡ true → b ≡ false
+off true e = absurd (true≢false (sym e))
+off false e = refl
+
 pub exits-returns-then-not-any_mark : goal.exits-returns-then-not-any_mark
 exits-returns-then-not-any_mark t c =
-    rw c.if-not-entered.true
+    rw (off c.args.spot.entered c.if-not-spot.true)
     (exits_nothing (core_of c.args.node.now) (test_at c.args.at) _
     (λ q lt has. true≢false (sym (c.any_mark.ensures.1 (q, omega (arith, lt, c.width.ensures), has)) ∙ c.if-not-any_mark.true)))
 
@@ -50,7 +54,7 @@ exits-exits_repeat-requires t c =
     let fits = rw c.in-Repeat.is at c.requires.fits in
     let w = width-Repeat _ _ _ _ h in
     let n = c.new-copies.ensures in
-    let room : c.args.base + c.in-Repeat.each * count_of c.in-Repeat.least c.in-Repeat.most < 2 ^ 64 = omega (arith, fits, w) in (
+    let room : c.args.spot.base + c.in-Repeat.each * count_of c.in-Repeat.least c.in-Repeat.most < 2 ^ 64 = omega (arith, fits, w) in (
       search (rules, the_lemmas),
       (rw (← n.base, ← n.each, ← n.count) at room, (rw (← n.count) at p.ordered, (rw c.deref-in-Repeat.ensures (rw (← n.each) at p.each_is), (rw c.deref-in-Repeat.ensures p.body_is, c.requires.rising)))),
     )
@@ -64,7 +68,7 @@ exits-returns-in-Cat t c =
     let p = pair-Cat _ _ c.in-Cat.first c.in-Cat.second (rw c.in-Cat.is at c.requires.measured) in
     rw (ap core_of c.in-Cat.is ∙ core-Cat _ _ _ _)
     (exits_cat (test_at c.args.at) c.args.marks.now (core_of c.in-Cat.first.value) (core_of c.in-Cat.second.value)
-    c.args.base c.in-Cat.split (IsTrue c.args.entered) c.exits-left.result c.exits.result p.split_is
+    c.args.spot.base c.in-Cat.split (IsTrue c.args.spot.entered) c.exits-left.result c.exits.result p.split_is
     (rw c.deref-in-Cat.ensures at c.exits-left.ensures)
     (rw c.deref-in-Cat-2.ensures at c.exits.ensures))
 
@@ -73,13 +77,13 @@ exits-returns-in-Alt t c =
     let p = pair-Alt _ _ c.in-Alt.first c.in-Alt.second (rw c.in-Alt.is at c.requires.measured) in
     rw (ap core_of c.in-Alt.is ∙ core-Alt _ _ _ _)
     (exits_alt (test_at c.args.at) c.args.marks.now (core_of c.in-Alt.first.value) (core_of c.in-Alt.second.value)
-    c.args.base c.in-Alt.split (IsTrue c.args.entered) c.exits-one.result c.exits-other.result p.split_is
+    c.args.spot.base c.in-Alt.split (IsTrue c.args.spot.entered) c.exits-one.result c.exits-other.result p.split_is
     (rw c.deref-in-Alt.ensures at c.exits-one.ensures)
     (rw c.deref-in-Alt-2.ensures at c.exits-other.ensures))
 
 pub exits-returns-in-Repeat : goal.exits-returns-in-Repeat
 exits-returns-in-Repeat t c =
-    rw (ap core_of c.in-Repeat.is ∙ core-Repeat _ _ _ _) (rw (c.new-copies.ensures.base, c.new-copies.ensures.count) at (rw c.deref-in-Repeat.ensures at c.exits_repeat.ensures))
+    rw (ap core_of c.in-Repeat.is ∙ core-Repeat _ _ _ _) (rw (c.new-copies.ensures.base, c.new-copies.ensures.count, c.new-copies.ensures.entered) at (rw c.deref-in-Repeat.ensures at c.exits_repeat.ensures))
 
 pub exits_copies-loop-done-init : goal.exits_copies-loop-done-init
 exits_copies-loop-done-init t c =
@@ -90,7 +94,7 @@ exits_copies-loop-done-init t c =
     record {
       within = n.bound;
       same = λ b. rw (all, start) at
-          (front_skip (test_at c.args.at) c.args.marks.now a c.args.copies.each c.args.copies.base c.requires.each b 0 c.next_copy-done.result c.args.copies.count c.args.entered
+          (front_skip (test_at c.args.at) c.args.marks.now a c.args.copies.each c.args.copies.base c.requires.each b 0 c.next_copy-done.result c.args.copies.count c.args.copies.entered
           n.after n.bound n.stays n.unmarked);
     }
 
@@ -131,7 +135,7 @@ exits_up_to-loop-done-init t c =
     record {
       within = n.bound;
       same = iff_trans (rw (all, start) at
-          (up_to_skip (test_at c.args.at) c.args.marks.now a c.args.copies.each c.args.copies.base c.requires.each 0 c.next_copy-done.result c.args.copies.count false c.args.entered
+          (up_to_skip (test_at c.args.at) c.args.marks.now a c.args.copies.each c.args.copies.base c.requires.each 0 c.next_copy-done.result c.args.copies.count false c.args.copies.entered
           n.after n.bound n.stays n.unmarked))
           (λ h. ⊎_elim (λ e. absurd (true≢false (sym e))) (λ u. u) h, inr);
     }
@@ -162,8 +166,8 @@ exits-exits-left-requires t c =
       (rw c.deref-in-Cat.ensures (omega (arith, fits, w, p.split_is, p.whole_is)), (rw c.deref-in-Cat.ensures p.first, c.requires.rising)),
     )
 
-pub exits-overflow_add-base : goal.exits-overflow_add-base
-exits-overflow_add-base t c =
+pub exits-overflow_add-after : goal.exits-overflow_add-after
+exits-overflow_add-after t c =
     let h = rw c.in-Cat.is at c.requires.measured in
     let p = pair-Cat _ _ c.in-Cat.first c.in-Cat.second h in
     let fits = rw c.in-Cat.is at c.requires.fits in
@@ -180,8 +184,8 @@ exits-exits-one-requires t c =
       (rw c.deref-in-Alt.ensures (omega (arith, fits, w, p.split_is, p.whole_is)), (rw c.deref-in-Alt.ensures p.first, c.requires.rising)),
     )
 
-pub exits-overflow_add-base-in-Alt : goal.exits-overflow_add-base-in-Alt
-exits-overflow_add-base-in-Alt t c =
+pub exits-overflow_add-beside : goal.exits-overflow_add-beside
+exits-overflow_add-beside t c =
     let h = rw c.in-Alt.is at c.requires.measured in
     let p = pair-Alt _ _ c.in-Alt.first c.in-Alt.second h in
     let fits = rw c.in-Alt.is at c.requires.fits in
@@ -200,11 +204,11 @@ exits-returns-in-Bytes t c = rw (ap core_of c.in-Bytes.is ∙ core-Bytes _) (sea
 pub exits-returns-in-Characters : goal.exits-returns-in-Characters
 exits-returns-in-Characters t c = rw (ap core_of c.in-Characters.is ∙ core-Characters _) (search rules)
 
-pub exits-returns-then-entered : goal.exits-returns-then-entered
-exits-returns-then-entered t c = rw (ap core_of c.in-Look.is ∙ core-Look _) (search rules)
+pub exits-returns-then-spot : goal.exits-returns-then-spot
+exits-returns-then-spot t c = rw (ap core_of c.in-Look.is ∙ core-Look _) (search rules)
 
-pub exits-returns-else-entered : goal.exits-returns-else-entered
-exits-returns-else-entered t c = rw (ap core_of c.in-Look.is ∙ core-Look _) (search rules)
+pub exits-returns-else-spot : goal.exits-returns-else-spot
+exits-returns-else-spot t c = rw (ap core_of c.in-Look.is ∙ core-Look _) (search rules)
 
 pub exits_repeat-overflow_mul-rest : goal.exits_repeat-overflow_mul-rest
 exits_repeat-overflow_mul-rest t c =
@@ -218,14 +222,14 @@ exits_repeat-overflow_add-rest t c =
     let order = rw c.in-Some.is at c.requires.count in
     omega (arith, fits, mul-le-mul_left c.args.copies.each order.0)
 
-pub exits_repeat-overflow_mul-copies : goal.exits_repeat-overflow_mul-copies
-exits_repeat-overflow_mul-copies t c =
+pub exits_repeat-overflow_mul-last : goal.exits_repeat-overflow_mul-last
+exits_repeat-overflow_mul-last t c =
     let fits = rw c.in-None.is at c.requires.fits in
     let fewer : c.args.copies.count - 1 ≤ max c.args.copies.count 1 = omega arith in
     omega (arith, fits, mul-le-mul_left c.args.copies.each fewer)
 
-pub exits_repeat-overflow_add-copies : goal.exits_repeat-overflow_add-copies
-exits_repeat-overflow_add-copies t c =
+pub exits_repeat-overflow_add-last : goal.exits_repeat-overflow_add-last
+exits_repeat-overflow_add-last t c =
     let fits = rw c.in-None.is at c.requires.fits in
     let fewer : c.args.copies.count - 1 ≤ max c.args.copies.count 1 = omega arith in
     omega (arith, fits, mul-le-mul_left c.args.copies.each fewer)

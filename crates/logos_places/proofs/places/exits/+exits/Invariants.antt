@@ -10,14 +10,14 @@ abbrev pub invariant-exits_copies-loop-done : goal.invariant-exits_copies-loop-d
 invariant-exits_copies-loop-done l = record {
   within : l.done ≤ l.copies.count;
   same : (b : Core) → Exits (in_front (l.copies.count - l.done) (core_of l.body) b) (test_at l.at) (λ q. Has l.marks (l.copies.base + l.copies.each * l.done + q)) (IsTrue l.left)
-      ↔ Exits (in_front l.copies.count (core_of l.body) b) (test_at l.at) (λ q. Has l.marks (l.copies.base + q)) (IsTrue l.entered);
+      ↔ Exits (in_front l.copies.count (core_of l.body) b) (test_at l.at) (λ q. Has l.marks (l.copies.base + q)) (IsTrue l.copies.entered);
 }
 
 abbrev pub invariant-exits_up_to-loop-done : goal.invariant-exits_up_to-loop-done
 invariant-exits_up_to-loop-done l = record {
   within : l.done ≤ l.copies.count;
   same : (IsTrue l.any ⊎ Exits (up_to (l.copies.count - l.done) (core_of l.body)) (test_at l.at) (λ q. Has l.marks (l.copies.base + l.copies.each * l.done + q)) (IsTrue l.left))
-      ↔ Exits (up_to l.copies.count (core_of l.body)) (test_at l.at) (λ q. Has l.marks (l.copies.base + q)) (IsTrue l.entered);
+      ↔ Exits (up_to l.copies.count (core_of l.body)) (test_at l.at) (λ q. Has l.marks (l.copies.base + q)) (IsTrue l.copies.entered);
 }
 
 abbrev pub decreases-exits_copies-loop-done : goal.decreases-exits_copies-loop-done

@@ -20,8 +20,8 @@ use Rattle.logos_places.proofs.places.step.+step.Goals as goal
 
 pub step-returns-then-not-any_mark : goal.step-returns-then-not-any_mark
 step-returns-then-not-any_mark t c =
-    rw c.if-not-entered.true
-    (stepped_nothing (test_at c.args.by.at) c.args.by.byte c.args.by.marks.now (core_of c.args.node.now) _ c.args.base c.requires.set
+    rw c.if-not-spot.true
+    (stepped_nothing (test_at c.args.by.at) c.args.by.byte c.args.by.marks.now (core_of c.args.node.now) _ c.args.spot.base c.requires.set
     (λ q lt has. true≢false (sym (c.any_mark.ensures.1 (q, omega (arith, lt, c.width.ensures), has)) ∙ c.if-not-any_mark.true)))
 
 pub step-step_literal-requires-clause-fits : goal.step-step_literal-requires-clause-fits
@@ -36,7 +36,7 @@ step-step_repeat-requires t c =
     let fits = rw c.in-Repeat.is at c.requires.fits in
     let w = width-Repeat _ _ _ _ h in
     let n = c.new-copies.ensures in
-    let room : c.args.base + c.in-Repeat.each * count_of c.in-Repeat.least c.in-Repeat.most < 2 ^ 64 = omega (arith, fits, w) in (
+    let room : c.args.spot.base + c.in-Repeat.each * count_of c.in-Repeat.least c.in-Repeat.most < 2 ^ 64 = omega (arith, fits, w) in (
       search (rules, the_lemmas),
       (rw (← n.base, ← n.each, ← n.count) at room, (rw (← n.count) at p.ordered, (rw c.deref-in-Repeat.ensures (rw (← n.each) at p.each_is), (rw c.deref-in-Repeat.ensures p.body_is, (c.requires.rising, rw (← n.base) at c.requires.set))))),
     )
@@ -46,7 +46,7 @@ step-returns-in-Bytes t c =
     rw (ap core_of c.in-Bytes.is ∙ core-Bytes _)
     (IfOk-weaker _ _ _
     (λ left (s : (test : Look → Bool) → Stepped (core.byte_in (is_in (pairs c.in-Bytes.ranges.items))) test c.args.by.byte c.args.by.marks.now
-    c.args.next.now.items c.step_bytes.new.next.items c.args.base c.args.entered left). s (test_at c.args.by.at))
+    c.args.next.now.items c.step_bytes.new.next.items c.args.spot.base c.args.spot.entered left). s (test_at c.args.by.at))
     (rw c.deref-in-Bytes.ensures.value at c.step_bytes.ensures))
 
 pub step-returns-in-Characters : goal.step-returns-in-Characters
@@ -54,7 +54,7 @@ step-returns-in-Characters t c =
     rw (ap core_of c.in-Characters.is ∙ core-Characters _)
     (IfOk-weaker _ _ _
     (λ left (s : (test : Look → Bool) → Stepped (core.character (reader_of c.in-Characters.table)) test c.args.by.byte c.args.by.marks.now
-    c.args.next.now.items c.step_characters.new.next.items c.args.base c.args.entered left). s (test_at c.args.by.at))
+    c.args.next.now.items c.step_characters.new.next.items c.args.spot.base c.args.spot.entered left). s (test_at c.args.by.at))
     c.step_characters.ensures)
 
 pub step-returns-in_ok-left-in-Cat : goal.step-returns-in_ok-left-in-Cat
@@ -63,7 +63,7 @@ step-returns-in_ok-left-in-Cat t c =
     rw (ap core_of c.in-Cat.is ∙ core-Cat _ _ _ _)
     (IfOk-weaker _ _ _
     (λ last s. stepped_cat (test_at c.args.by.at) c.args.by.byte c.args.by.marks.now (core_of c.in-Cat.first.value) (core_of c.in-Cat.second.value)
-    _ c.step.new.next.items _ c.args.base c.in-Cat.split c.args.entered c.in_ok-left-in-Cat.left last p.split_is c.requires.set
+    _ c.step.new.next.items _ c.args.spot.base c.in-Cat.split c.args.spot.entered c.in_ok-left-in-Cat.left last p.split_is c.requires.set
     (rw c.deref-in-Cat.ensures at c.in_ok-left-in-Cat.ensures)
     (rw c.deref-in-Cat-2.ensures at s))
     c.step-in-Cat.ensures)
@@ -73,7 +73,7 @@ step-returns-in_ok-other-in-Alt t c =
     let p = pair-Alt _ _ c.in-Alt.first c.in-Alt.second (rw c.in-Alt.is at c.requires.measured) in
     rw (ap core_of c.in-Alt.is ∙ core-Alt _ _ _ _)
     (stepped_alt (test_at c.args.by.at) c.args.by.byte c.args.by.marks.now (core_of c.in-Alt.first.value) (core_of c.in-Alt.second.value)
-    _ c.step-in-Alt.new.next.items _ c.args.base c.in-Alt.split c.args.entered c.in_ok-one-in-Alt.one c.in_ok-other-in-Alt.other p.split_is
+    _ c.step-in-Alt.new.next.items _ c.args.spot.base c.in-Alt.split c.args.spot.entered c.in_ok-one-in-Alt.one c.in_ok-other-in-Alt.other p.split_is
     (rw c.deref-in-Alt.ensures at c.in_ok-one-in-Alt.ensures)
     (rw c.deref-in-Alt-2.ensures at c.in_ok-other-in-Alt.ensures))
 
@@ -93,9 +93,9 @@ step_copies-loop-done-init t c =
     let all : c.args.copies.count - 0 ≡ c.args.copies.count = omega arith in
     record {
       within = n.bound;
-      owes = λ b. owes_front_skip (test_at c.args.by.at) c.args.by.byte c.args.by.marks.now (in_front c.args.copies.count a b) c.args.next.now.items c.args.copies.base c.args.entered
-          a c.args.copies.each c.requires.each b 0 c.next_copy-done.result c.args.copies.count c.args.next.now.items c.args.entered false n.after n.bound n.stays n.unmarked
-          (rw (start, all) (owes_all (test_at c.args.by.at) c.args.by.byte c.args.by.marks.now (in_front c.args.copies.count a b) c.args.next.now.items c.args.copies.base c.args.entered c.requires.set));
+      owes = λ b. owes_front_skip (test_at c.args.by.at) c.args.by.byte c.args.by.marks.now (in_front c.args.copies.count a b) c.args.next.now.items c.args.copies.base c.args.copies.entered
+          a c.args.copies.each c.requires.each b 0 c.next_copy-done.result c.args.copies.count c.args.next.now.items c.args.copies.entered false n.after n.bound n.stays n.unmarked
+          (rw (start, all) (owes_all (test_at c.args.by.at) c.args.by.byte c.args.by.marks.now (in_front c.args.copies.count a b) c.args.next.now.items c.args.copies.base c.args.copies.entered c.requires.set));
     }
 
 pub step_copies-loop-done-preserved : goal.step_copies-loop-done-preserved
@@ -105,9 +105,9 @@ step_copies-loop-done-preserved t c =
     let test = test_at c.args.by.at in
     record {
       within = n.bound;
-      owes = λ b. owes_front_skip test c.args.by.byte c.args.by.marks.now (in_front c.args.copies.count a b) c.args.next.now.items c.args.copies.base c.args.entered
+      owes = λ b. owes_front_skip test c.args.by.byte c.args.by.marks.now (in_front c.args.copies.count a b) c.args.next.now.items c.args.copies.base c.args.copies.entered
           a c.args.copies.each c.requires.each b (c.loop-done.done + 1) c.next_copy-done-in-loop-done.result c.args.copies.count _ c.in_ok-left.left false n.after n.bound n.stays n.unmarked
-          (owes_front_step test c.args.by.byte c.args.by.marks.now (in_front c.args.copies.count a b) c.args.next.now.items c.args.copies.base c.args.entered
+          (owes_front_step test c.args.by.byte c.args.by.marks.now (in_front c.args.copies.count a b) c.args.next.now.items c.args.copies.base c.args.copies.entered
           a c.args.copies.each c.requires.each b c.loop-done.done c.args.copies.count c.loop-done.next.items _ c.loop-done.left c.in_ok-left.left false c.loop-done-test.true
           (c.loop-done.invariant.owes b) c.in_ok-left.ensures);
     }
@@ -121,8 +121,8 @@ step_copies-returns t c =
 pub step_plus-returns : goal.step_plus-returns
 step_plus-returns t c =
     let a = core_of c.args.body.now in
-    stepped_plus (test_at c.args.by.at) c.args.by.byte c.args.by.marks.now a _ _ c.args.base c.args.entered _ c.exits-left.result _
-    (again_iff (test_at c.args.by.at) c.args.by.marks.now a c.args.base c.args.entered c.exits-left.result c.exits-left.ensures)
+    stepped_plus (test_at c.args.by.at) c.args.by.byte c.args.by.marks.now a _ _ c.args.spot.base c.args.spot.entered _ c.exits-left.result _
+    (again_iff (test_at c.args.by.at) c.args.by.marks.now a c.args.spot.base c.args.spot.entered c.exits-left.result c.exits-left.ensures)
     c.in_ok-step.ensures c.exits-left.ensures
 
 pub step_up_to-loop-done-init : goal.step_up_to-loop-done-init
@@ -133,9 +133,9 @@ step_up_to-loop-done-init t c =
     let all : c.args.copies.count - 0 ≡ c.args.copies.count = omega arith in
     record {
       within = n.bound;
-      owes = owes_up_to_skip (test_at c.args.by.at) c.args.by.byte c.args.by.marks.now (up_to c.args.copies.count a) c.args.next.now.items c.args.copies.base c.args.entered
-          a c.args.copies.each c.requires.each 0 c.next_copy-done.result c.args.copies.count c.args.next.now.items c.args.entered false n.after n.bound n.stays n.unmarked
-          (rw (start, all) (owes_all (test_at c.args.by.at) c.args.by.byte c.args.by.marks.now (up_to c.args.copies.count a) c.args.next.now.items c.args.copies.base c.args.entered c.requires.set));
+      owes = owes_up_to_skip (test_at c.args.by.at) c.args.by.byte c.args.by.marks.now (up_to c.args.copies.count a) c.args.next.now.items c.args.copies.base c.args.copies.entered
+          a c.args.copies.each c.requires.each 0 c.next_copy-done.result c.args.copies.count c.args.next.now.items c.args.copies.entered false n.after n.bound n.stays n.unmarked
+          (rw (start, all) (owes_all (test_at c.args.by.at) c.args.by.byte c.args.by.marks.now (up_to c.args.copies.count a) c.args.next.now.items c.args.copies.base c.args.copies.entered c.requires.set));
     }
 
 pub step_up_to-loop-done-preserved : goal.step_up_to-loop-done-preserved
@@ -145,9 +145,9 @@ step_up_to-loop-done-preserved t c =
     let test = test_at c.args.by.at in
     record {
       within = n.bound;
-      owes = owes_up_to_skip test c.args.by.byte c.args.by.marks.now (up_to c.args.copies.count a) c.args.next.now.items c.args.copies.base c.args.entered
+      owes = owes_up_to_skip test c.args.by.byte c.args.by.marks.now (up_to c.args.copies.count a) c.args.next.now.items c.args.copies.base c.args.copies.entered
           a c.args.copies.each c.requires.each (c.loop-done.done + 1) c.next_copy-done-in-loop-done.result c.args.copies.count _ c.in_ok-left.left _ n.after n.bound n.stays n.unmarked
-          (owes_up_to_step test c.args.by.byte c.args.by.marks.now (up_to c.args.copies.count a) c.args.next.now.items c.args.copies.base c.args.entered
+          (owes_up_to_step test c.args.by.byte c.args.by.marks.now (up_to c.args.copies.count a) c.args.next.now.items c.args.copies.base c.args.copies.entered
           a c.args.copies.each c.requires.each c.loop-done.done c.args.copies.count c.loop-done.next.items _ c.loop-done.left c.in_ok-left.left c.loop-done.any c.loop-done-test.true
           c.loop-done.invariant.owes c.in_ok-left.ensures);
     }
@@ -158,7 +158,7 @@ step_repeat-returns-in_ok-front-in-Some t c =
     rw c.in-Some.is
     (IfOk-weaker _ _ _
     (λ last s. owes_done (test_at c.args.by.at) c.args.by.byte c.args.by.marks.now
-    (in_front c.args.copies.count a (up_to (c.in-Some.most - c.args.copies.count) a)) c.args.next.now.items c.args.copies.base c.args.entered
+    (in_front c.args.copies.count a (up_to (c.in-Some.most - c.args.copies.count) a)) c.args.next.now.items c.args.copies.base c.args.copies.entered
     (up_to (c.in-Some.most - c.args.copies.count) a) c.step_copies.new.next.items _ _ c.in_ok-front-in-Some.front last false
     (c.in_ok-front-in-Some.ensures (up_to (c.in-Some.most - c.args.copies.count) a)) s)
     c.step_up_to.ensures)
@@ -169,7 +169,7 @@ step_repeat-returns-in_ok-front-in-None t c =
     rw (c.in-None.is, at_least-some c.args.copies.count a c.if-least-eq0.false)
     (IfOk-weaker _ _ _
     (λ last s. owes_done (test_at c.args.by.at) c.args.by.byte c.args.by.marks.now
-    (in_front (c.args.copies.count - 1) a (core.plus a)) c.args.next.now.items c.args.copies.base c.args.entered
+    (in_front (c.args.copies.count - 1) a (core.plus a)) c.args.next.now.items c.args.copies.base c.args.copies.entered
     (core.plus a) c.step_copies-else-least-eq0.new.next.items _ _ c.in_ok-front-in-None.front last false
     (c.in_ok-front-in-None.ensures (core.plus a)) s)
     c.step_plus-else-least-eq0.ensures)
@@ -184,8 +184,8 @@ step-step-requires t c =
       (rw c.deref-in-Cat.ensures (omega (arith, fits, w, p.split_is, p.whole_is)), (rw c.deref-in-Cat.ensures p.first, (c.requires.rising, c.requires.set))),
     )
 
-pub step-overflow_add-base : goal.step-overflow_add-base
-step-overflow_add-base t c =
+pub step-overflow_add-after : goal.step-overflow_add-after
+step-overflow_add-after t c =
     let h = rw c.in-Cat.is at c.requires.measured in
     let p = pair-Cat _ _ c.in-Cat.first c.in-Cat.second h in
     let fits = rw c.in-Cat.is at c.requires.fits in
@@ -213,8 +213,8 @@ step-step-requires-in-Alt t c =
       (rw c.deref-in-Alt.ensures (omega (arith, fits, w, p.split_is, p.whole_is)), (rw c.deref-in-Alt.ensures p.first, (c.requires.rising, c.requires.set))),
     )
 
-pub step-overflow_add-base-in-Alt : goal.step-overflow_add-base-in-Alt
-step-overflow_add-base-in-Alt t c =
+pub step-overflow_add-beside : goal.step-overflow_add-beside
+step-overflow_add-beside t c =
     let h = rw c.in-Alt.is at c.requires.measured in
     let p = pair-Alt _ _ c.in-Alt.first c.in-Alt.second h in
     let fits = rw c.in-Alt.is at c.requires.fits in
@@ -243,23 +243,23 @@ step-returns-in-Void t c = rw (ap core_of c.in-Void.is ∙ core-Void) (search ru
 pub step-returns-in-Empty : goal.step-returns-in-Empty
 step-returns-in-Empty t c = rw (ap core_of c.in-Empty.is ∙ core-Empty) (search rules)
 
-pub step-returns-then-entered : goal.step-returns-then-entered
-step-returns-then-entered t c = rw (ap core_of c.in-Look.is ∙ core-Look _) (search rules)
+pub step-returns-then-spot : goal.step-returns-then-spot
+step-returns-then-spot t c = rw (ap core_of c.in-Look.is ∙ core-Look _) (search rules)
 
-pub step-returns-else-entered : goal.step-returns-else-entered
-step-returns-else-entered t c = rw (ap core_of c.in-Look.is ∙ core-Look _) (search rules)
+pub step-returns-else-spot : goal.step-returns-else-spot
+step-returns-else-spot t c = rw (ap core_of c.in-Look.is ∙ core-Look _) (search rules)
 
 pub step-returns-in-Literal : goal.step-returns-in-Literal
 step-returns-in-Literal t c =
     rw (ap core_of c.in-Literal.is ∙ core-Literal _)
     (IfOk-weaker _ _ _
     (λ left (s : (test : Look → Bool) → Stepped (spelled c.in-Literal.text.items) test c.args.by.byte c.args.by.marks.now
-    c.args.next.now.items c.step_literal.new.next.items c.args.base c.args.entered left). s (test_at c.args.by.at))
+    c.args.next.now.items c.step_literal.new.next.items c.args.spot.base c.args.spot.entered left). s (test_at c.args.by.at))
     (rw c.deref.ensures.value at c.step_literal.ensures))
 
 pub step-returns-in-Repeat : goal.step-returns-in-Repeat
 step-returns-in-Repeat t c =
-    rw (ap core_of c.in-Repeat.is ∙ core-Repeat _ _ _ _) (rw (c.new-copies.ensures.base, c.new-copies.ensures.count) at (rw c.deref-in-Repeat.ensures at c.step_repeat.ensures))
+    rw (ap core_of c.in-Repeat.is ∙ core-Repeat _ _ _ _) (rw (c.new-copies.ensures.base, c.new-copies.ensures.count, c.new-copies.ensures.entered) at (rw c.deref-in-Repeat.ensures at c.step_repeat.ensures))
 
 pub step_repeat-overflow_mul-rest : goal.step_repeat-overflow_mul-rest
 step_repeat-overflow_mul-rest t c =
@@ -273,14 +273,14 @@ step_repeat-overflow_add-rest t c =
     let order = rw c.in-Some.is at c.requires.count in
     omega (arith, fits, mul-le-mul_left c.args.copies.each order.0)
 
-pub step_repeat-overflow_mul-copies : goal.step_repeat-overflow_mul-copies
-step_repeat-overflow_mul-copies t c =
+pub step_repeat-overflow_mul-last : goal.step_repeat-overflow_mul-last
+step_repeat-overflow_mul-last t c =
     let fits = rw c.in-None.is at c.requires.fits in
     let fewer : c.args.copies.count - 1 ≤ max c.args.copies.count 1 = omega arith in
     omega (arith, fits, mul-le-mul_left c.args.copies.each fewer)
 
-pub step_repeat-overflow_add-copies : goal.step_repeat-overflow_add-copies
-step_repeat-overflow_add-copies t c =
+pub step_repeat-overflow_add-last : goal.step_repeat-overflow_add-last
+step_repeat-overflow_add-last t c =
     let fits = rw c.in-None.is at c.requires.fits in
     let fewer : c.args.copies.count - 1 ≤ max c.args.copies.count 1 = omega arith in
     omega (arith, fits, mul-le-mul_left c.args.copies.each fewer)

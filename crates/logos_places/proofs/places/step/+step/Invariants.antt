@@ -10,14 +10,14 @@ abbrev pub invariant-step_copies-loop-done : goal.invariant-step_copies-loop-don
 invariant-step_copies-loop-done l = record {
   within : l.done ≤ l.copies.count;
   owes : (b : Core) → Owes (in_front l.copies.count (core_of l.body) b) (in_front (l.copies.count - l.done) (core_of l.body) b)
-      (test_at l.by.at) l.by.byte l.by.marks.now l.initial.next.items l.next.items l.copies.base (l.copies.base + l.copies.each * l.done) l.entered l.left false;
+      (test_at l.by.at) l.by.byte l.by.marks.now l.initial.next.items l.next.items l.copies.base (l.copies.base + l.copies.each * l.done) l.copies.entered l.left false;
 }
 
 abbrev pub invariant-step_up_to-loop-done : goal.invariant-step_up_to-loop-done
 invariant-step_up_to-loop-done l = record {
   within : l.done ≤ l.copies.count;
   owes : Owes (up_to l.copies.count (core_of l.body)) (up_to (l.copies.count - l.done) (core_of l.body))
-      (test_at l.by.at) l.by.byte l.by.marks.now l.initial.next.items l.next.items l.copies.base (l.copies.base + l.copies.each * l.done) l.entered l.left l.any;
+      (test_at l.by.at) l.by.byte l.by.marks.now l.initial.next.items l.next.items l.copies.base (l.copies.base + l.copies.each * l.done) l.copies.entered l.left l.any;
 }
 
 abbrev pub decreases-step_copies-loop-done : goal.decreases-step_copies-loop-done

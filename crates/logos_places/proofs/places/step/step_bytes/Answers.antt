@@ -9,8 +9,8 @@ use Rattle.logos_places.proofs.places.step.step_bytes.Goals as goal
 
 pub returns : goal.returns
 returns c =
-    let tell : (left : Bool)
-    → ((k : ℕ → Bool) (test : Look → Bool) → k c.args.byte ≡ c.has_byte-fits.result → Stepped (core.byte_in k) test c.args.byte c.args.marks.now c.args.next.now.items c.step_byte.new.next.items c.args.base c.args.entered left)
-    → (test : Look → Bool) → Stepped (core.byte_in (is_in (pairs c.args.ranges.now))) test c.args.byte c.args.marks.now c.args.next.now.items c.step_byte.new.next.items c.args.base c.args.entered left =
+    let apply : (left : Bool)
+    → ((k : ℕ → Bool) (test : Look → Bool) → k c.args.by.byte ≡ c.has_byte-fits.result → Stepped (core.byte_in k) test c.args.by.byte c.args.by.marks.now c.args.next.now.items c.step_byte.new.next.items c.args.spot.base c.args.spot.entered left)
+    → (test : Look → Bool) → Stepped (core.byte_in (is_in (pairs c.args.ranges.now))) test c.args.by.byte c.args.by.marks.now c.args.next.now.items c.step_byte.new.next.items c.args.spot.base c.args.spot.entered left =
     λ left s test. s (is_in (pairs c.args.ranges.now)) test (sym c.has_byte-fits.ensures) in
-    IfOk-weaker _ _ _ tell c.step_byte.ensures
+    IfOk-weaker _ _ _ apply c.step_byte.ensures

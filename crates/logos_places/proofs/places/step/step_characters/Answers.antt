@@ -18,9 +18,9 @@ loop-i-preserved c =
     record {
       starts = record { from = s.from; first = s.first; reached = omega (arith, s.reached); within = omega arith };
       set = c.in_ok-insert_row-2.ensures.set;
-      followed = followed_more r c.args.byte c.args.marks.now c.args.next.now.items c.args.base c.args.entered
+      followed = followed_more r c.args.by.byte c.args.by.marks.now c.args.next.now.items c.args.spot.base c.args.spot.entered
           c.loop-i.next.items _ c.loop-i.i c.args.table.now.rows size c.loop-i-test.true
-          (above_base c.args.marks.now c.args.base c.loop-i.i s c.loop-i-test.true) c.if-marks-i.true i.followed
+          (above_base c.args.by.marks.now c.args.spot.base c.loop-i.i s c.loop-i-test.true) c.if-marks-i.true i.followed
           (rw c.follow.ensures at c.in_ok-insert_row-2.ensures.has);
     }
 
@@ -31,17 +31,17 @@ pub returns-else-marks-i : goal.returns-else-marks-i
 returns-else-marks-i c = λ test.
     let i = c.loop-i.invariant in
     let size = size_of c.args.table.now.rows c.args.table.now.some in
-    followed_all (reader_of c.args.table.now) c.args.byte c.args.marks.now c.args.next.now.items c.args.base c.args.entered test
+    followed_all (reader_of c.args.table.now) c.args.by.byte c.args.by.marks.now c.args.next.now.items c.args.spot.base c.args.spot.entered test
     c.loop-i.next.items c.loop-i.i c.has_mark-left.result (rw size at i.set)
-    (marks_past c.args.marks.now _ c.loop-i.i c.requires.rising
-    (λ lt. rw (← size) (high_of c.args.base _ c.args.table.now.rows (above_base c.args.marks.now c.args.base c.loop-i.i i.starts lt) c.if-marks-i.false)))
+    (marks_past c.args.by.marks.now _ c.loop-i.i c.requires.rising
+    (λ lt. rw (← size) (high_of c.args.spot.base _ c.args.table.now.rows (above_base c.args.by.marks.now c.args.spot.base c.loop-i.i i.starts lt) c.if-marks-i.false)))
     i.followed c.has_mark-left.ensures
 
 pub returns-after-loop-i : goal.returns-after-loop-i
 returns-after-loop-i c = λ test.
     let i = c.loop-i.invariant in
     let size = size_of c.args.table.now.rows c.args.table.now.some in
-    followed_all (reader_of c.args.table.now) c.args.byte c.args.marks.now c.args.next.now.items c.args.base c.args.entered test
+    followed_all (reader_of c.args.table.now) c.args.by.byte c.args.by.marks.now c.args.next.now.items c.args.spot.base c.args.spot.entered test
     c.loop-i.next.items c.loop-i.i c.has_mark-left.result (rw size at i.set)
-    (marks_past c.args.marks.now _ c.loop-i.i c.requires.rising (λ lt. absurd (omega (arith, lt, c.loop-i-test.false))))
+    (marks_past c.args.by.marks.now _ c.loop-i.i c.requires.rising (λ lt. absurd (omega (arith, lt, c.loop-i-test.false))))
     i.followed c.has_mark-left.ensures

@@ -10,12 +10,12 @@ use Rattle.logos_places.proofs.places.step.step_literal.Goals as goal
 pub loop-done-init : goal.loop-done-init
 loop-done-init c =
     let n = c.next_copy-done.ensures in
-    let e : c.args.base + 0 ≡ c.args.base = omega arith in
+    let e : c.args.spot.base + 0 ≡ c.args.spot.base = omega arith in
     record {
       within = n.bound;
-      owes = λ test. owes_spelled_skip test c.args.byte c.args.marks.now (spelled c.args.text.now) c.args.next.now.items c.args.base c.args.entered
-          c.args.text.now 0 c.next_copy-done.result c.args.next.now.items c.args.entered false n.after n.bound n.stays n.unmarked
-          (rw e (owes_all test c.args.byte c.args.marks.now (spelled c.args.text.now) c.args.next.now.items c.args.base c.args.entered c.requires.set));
+      owes = λ test. owes_spelled_skip test c.args.by.byte c.args.by.marks.now (spelled c.args.text.now) c.args.next.now.items c.args.spot.base c.args.spot.entered
+          c.args.text.now 0 c.next_copy-done.result c.args.next.now.items c.args.spot.entered false n.after n.bound n.stays n.unmarked
+          (rw e (owes_all test c.args.by.byte c.args.by.marks.now (spelled c.args.text.now) c.args.next.now.items c.args.spot.base c.args.spot.entered c.requires.set));
     }
 
 pub step_byte-requires-clause-set : goal.step_byte-requires-clause-set
@@ -26,9 +26,9 @@ loop-done-preserved c =
     let n = c.next_copy-done-in-loop-done.ensures in
     record {
       within = n.bound;
-      owes = λ test. owes_spelled_skip test c.args.byte c.args.marks.now (spelled c.args.text.now) c.args.next.now.items c.args.base c.args.entered
+      owes = λ test. owes_spelled_skip test c.args.by.byte c.args.by.marks.now (spelled c.args.text.now) c.args.next.now.items c.args.spot.base c.args.spot.entered
           c.args.text.now (c.loop-done.done + 1) c.next_copy-done-in-loop-done.result _ c.in_ok-left.left false n.after n.bound n.stays n.unmarked
-          (owes_spelled_step test c.args.byte c.args.marks.now (spelled c.args.text.now) c.args.next.now.items c.args.base c.args.entered
+          (owes_spelled_step test c.args.by.byte c.args.by.marks.now (spelled c.args.text.now) c.args.next.now.items c.args.spot.base c.args.spot.entered
           c.args.text.now c.loop-done.done c.loop-done.next.items _ c.loop-done.left c.in_ok-left.left false c.loop-done-test.true
           (c.loop-done.invariant.owes test)
           (c.in_ok-left.ensures (λ y. y == get_or c.args.text.now c.loop-done.done 0) test refl));
@@ -37,7 +37,7 @@ loop-done-preserved c =
 pub returns : goal.returns
 returns c = λ test.
     let past : drop c.loop-done.done c.args.text.now ≡ [] = drop_of_length-le c.args.text.now c.loop-done-test.false in
-    let o : Owes (spelled c.args.text.now) empty test c.args.byte c.args.marks.now c.args.next.now.items c.loop-done.next.items c.args.base (c.args.base + c.loop-done.done) c.args.entered c.loop-done.left false = rw past at c.loop-done.invariant.owes test in
-    owes_done test c.args.byte c.args.marks.now (spelled c.args.text.now) c.args.next.now.items c.args.base c.args.entered
-    empty c.loop-done.next.items c.loop-done.next.items (c.args.base + c.loop-done.done) c.loop-done.left c.loop-done.left false o
-    (stepped_empty test c.args.byte c.args.marks.now c.loop-done.next.items (c.args.base + c.loop-done.done) c.loop-done.left o.set)
+    let o : Owes (spelled c.args.text.now) empty test c.args.by.byte c.args.by.marks.now c.args.next.now.items c.loop-done.next.items c.args.spot.base (c.args.spot.base + c.loop-done.done) c.args.spot.entered c.loop-done.left false = rw past at c.loop-done.invariant.owes test in
+    owes_done test c.args.by.byte c.args.by.marks.now (spelled c.args.text.now) c.args.next.now.items c.args.spot.base c.args.spot.entered
+    empty c.loop-done.next.items c.loop-done.next.items (c.args.spot.base + c.loop-done.done) c.loop-done.left c.loop-done.left false o
+    (stepped_empty test c.args.by.byte c.args.by.marks.now c.loop-done.next.items (c.args.spot.base + c.loop-done.done) c.loop-done.left o.set)

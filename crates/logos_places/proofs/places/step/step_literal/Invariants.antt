@@ -7,7 +7,7 @@ use Rattle.logos_places.proofs.places.step.step_literal.Given as goal
 abbrev pub invariant-loop-done : goal.invariant-loop-done
 invariant-loop-done l = record {
   within : l.done ≤ length l.text;
-  owes : (test : Look → Bool) → Owes (spelled l.text) (spelled (drop l.done l.text)) test l.byte l.marks l.fn.next.items l.next.items l.base (l.base + l.done) l.entered l.left false;
+  owes : (test : Look → Bool) → Owes (spelled l.text) (spelled (drop l.done l.text)) test l.by.byte l.by.marks.now l.fn.next.items l.next.items l.spot.base (l.spot.base + l.done) l.spot.entered l.left false;
 }
 
 abbrev pub decreases-loop-done : goal.decreases-loop-done

@@ -1,0 +1,69 @@
+//! Steps on one tree of several, whose places stand one after another.
+ghost use Rattle.std.specs.Prelude.{◌≡◌, ◌^◌, ◌<◌, ◌≤◌, ◌↔◌, ◌+◌, ℕ, IsTrue, IfOk};
+ghost use Rattle.logos_places.specs.Core as core;
+ghost use Rattle.logos_places.specs.Kinds.{test_at};
+ghost use Rattle.logos_places.specs.Marks.{Has, IsRising};
+ghost use Rattle.logos_places.specs.Node.{core_of, is_measured};
+ghost use Rattle.logos_places.specs.Several.{IsStepOf};
+
+use crate::node::{Node, Spot};
+use crate::places::set::first_from;
+use crate::places::step::{Reading, step};
+use std::alloc::{AllocError, Global};
+
+/// The step of one tree by a byte.
+#[derive(PartialEq, Eq, Drop)]
+pub struct TreeStep {
+    /// The places of the tree that read the byte, ascending.
+    pub places: Vec<usize>,
+    /// Whether the tree can be left before the byte.
+    pub left: bool,
+}
+
+/// Makes the step of one tree, which is not entered here and whose places begin at `base`.
+///
+/// # Errors
+///
+/// Returns `AllocError` when memory runs out.
+pub fn step_tree(
+    alloc: Global,
+    node: &Node,
+    by: Reading<'_>,
+    base: usize,
+) -> Result<TreeStep, AllocError>
+    requires fits { base + core.width (core_of node.now) < 2 ^ 64 }
+    requires measured { IsTrue (is_measured node.now) }
+    requires rising { IsRising by.marks.now }
+    ensures { IfOk result (λ made. IsStepOf (core_of node.now) (test_at by.entry.at)
+        by.entry.byte by.entry.marks.now base made.places.items made.left) }
+{
+    let mut places = Vec::new(alloc);
+    let spot = Spot {
+        base,
+        entered: false,
+    };
+    let left = step(node, by, spot, &mut places)?;
+    Ok(TreeStep { places, left })
+}
+
+/// Returns the marks from `low` on and below `high`.
+///
+/// # Errors
+///
+/// Returns `AllocError` when memory runs out.
+pub fn marks_between(
+    alloc: Global,
+    marks: &[usize],
+    low: usize,
+    high: usize,
+) -> Result<Vec<usize>, AllocError>
+    requires rising { IsRising marks.now }
+    requires order { low ≤ high }
+    ensures rising { IfOk result (λ own. IsRising own.items) }
+    ensures has { IfOk result (λ own. (q : ℕ) → low ≤ q → q < high →
+        Has own.items q ↔ Has marks.now q) }
+{
+    let from = first_from(marks, low);
+    let to = first_from(marks, high);
+    Vec::from_slice(alloc, &marks[from..to])
+}
