@@ -1,0 +1,4 @@
+pub mod Steps
+pub mod Layout
+pub mod RowsView
+pub mod Texts

@@ -1,0 +1,56 @@
+//! Prints a lexer as tables with a loop over them.
+ghost use Rattle.std.specs.Prelude.{IfOk, OnOk, string_bytes};
+ghost use Rattle.logos_text.specs.Standing.{Adds};
+ghost use Rattle.logos_tables.specs.Texts.{AddsTables, HoldsTables, mark_texts};
+
+use crate::classes::classes_of;
+use crate::fixed::LOOP;
+use crate::marks::{marks_of, skips_of};
+use crate::parts::{push_entry_type, push_names, push_sizes, push_steps};
+use crate::printing::{push, push_table};
+use crate::rows::rows_of;
+use crate::runs::runs_of;
+use logos_code::code::Code;
+use logos_codegen::Generated;
+use logos_token::error::Memory;
+use std::alloc::Global;
+
+/// Returns the Rust text of an implementation of `Logos` for the enum, whose function that lexes is one loop over tables. The
+/// tables hold what each byte, and the end of the input, does in each state of the code, and the mark of each state.
+///
+/// # Errors
+/// Returns `Memory` when memory runs out.
+pub fn tables(alloc: Global, made: &Generated<'_>) -> Result<String, Memory>
+    ensures { IfOk result (λ text. HoldsTables made.now.code (string_bytes text)) }
+{
+    let mut text = made.front(alloc)?;
+    push(&mut text, "\n")?;
+    push_code(alloc, &mut text, &made.code)?;
+    push(&mut text, LOOP)?;
+    Ok(text)
+}
+
+/// Appends all tables of a code, the names of its leaves, and the type of entries.
+fn push_code(alloc: Global, text: &mut String, code: &Code<'_>) -> Result<(), Memory>
+    ensures { OnOk result (AddsTables code.now (string_bytes text.old) (string_bytes text.new)) }
+{
+    let rows = rows_of(alloc, code)?;
+    let classes = classes_of(alloc, rows.distinct.as_slice())?;
+    let runs = runs_of(alloc, rows.distinct.as_slice(), &classes.symbols)?;
+    let height = rows.distinct.len();
+    let width = classes.symbols.len();
+    let leaves = code.leaves().len();
+    push_steps(alloc, text, &classes.numbers, &runs, &rows.places)?;
+    push_marks(alloc, text, code)?;
+    push_sizes(text, code.root(), height, width)?;
+    push_names(text, leaves)?;
+    push_entry_type(text, height, width, leaves)
+}
+
+/// Appends the tables of marks: that of each state, and which leaves are left out.
+fn push_marks(alloc: Global, text: &mut String, code: &Code<'_>) -> Result<(), Memory>
+    ensures { OnOk result (Adds (mark_texts code.now) (string_bytes text.old) (string_bytes text.new)) }
+{
+    push_table(text, "_MARKS", &marks_of(alloc, &code.parts().states)?)?;
+    push_table(text, "_SKIPS", &skips_of(alloc, code.leaves())?)
+}
