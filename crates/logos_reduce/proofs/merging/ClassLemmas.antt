@@ -1,5 +1,5 @@
 -- States of one class are in one block.
-use Rattle.std.proofs.Common.{◌≡◌, ℕ, ◌+◌, ◌<◌, ◌≤◌, ◌⊎◌, inl, inr, Bool, true, false, if◌then◌else◌, List, [], ◌∷◌, ◌++◌, length, Option, Some, None, option_map, slice_get, slice_index, slice_index_or, nat_eq, refl, sym, ◌∙◌, ap, arith}
+use Rattle.std.proofs.Common.{◌≡◌, ◌≢◌, ℕ, ◌+◌, ◌<◌, ◌≤◌, ◌⊎◌, inl, inr, Bool, true, false, if◌then◌else◌, List, [], ◌∷◌, ◌++◌, length, Option, Some, None, option_map, slice_get, slice_index, slice_index_or, nat_eq, refl, sym, ◌∙◌, ap, arith}
 use Rattle.std.specs.List.{list_any}
 use Rattle.std.proofs.lemmas.Bool.{cases_lt}
 use Rattle.std.proofs.lemmas.List.{get_or_append_left, get_or_push, length-append}
@@ -9,6 +9,7 @@ use Rattle.logos_reduce.specs.Rows.{target_by}
 use Rattle.logos_reduce.specs.RowsView.{rows_of}
 use Rattle.logos_reduce.specs.Table.{size, to, mark}
 use Rattle.logos_reduce.specs.inside.Classes.{class_key, AreKeyed, AreClasses, IsClassTable}
+use Rattle.logos_reduce.specs.inside.Merge.{key_of}
 use Rattle.logos_reduce.specs.declared.merge.blocks.Split.{Split}
 use Rattle.logos_reduce.specs.declared.table.Table.{Table}
 use Rattle.logos_reduce.proofs.merging.KeyLemmas.{got_front, same_mark}

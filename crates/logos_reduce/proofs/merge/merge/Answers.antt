@@ -1,4 +1,4 @@
-use Rattle.std.proofs.Common.{arith, slice_index}
+use Rattle.std.proofs.Common.{◌∙◌, arith, slice_index}
 use Rattle.logos_reduce.proofs.merging.ClassLemmas.{merged_by_class}
 use Rattle.logos_reduce.proofs.merge.merge.Goals as goal
 

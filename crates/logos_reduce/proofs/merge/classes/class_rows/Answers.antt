@@ -1,4 +1,5 @@
-use Rattle.std.proofs.Common.{◌≡◌, ℕ, List, [], slice_index, option_map, ap, ◌∙◌}
+use Rattle.std.proofs.Common.{◌≡◌, ℕ, List, [], slice_index, option_map, arith, ap, ◌∙◌}
+use Rattle.std.proofs.lemmas.Grind.{common_steps}
 use Rattle.logos_reduce.specs.Merge.{target_block}
 use Rattle.logos_reduce.specs.Table.{to}
 use Rattle.logos_reduce.specs.Rows.{target_by}

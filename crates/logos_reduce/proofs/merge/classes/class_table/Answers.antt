@@ -1,4 +1,4 @@
-use Rattle.std.proofs.Common.{◌<◌, vec_len, slice_index, option_map, ap, sym, ◌∙◌, arith}
+use Rattle.std.proofs.Common.{◌<◌, ℕ, vec_len, slice_index, option_map, ap, sym, ◌∙◌, arith}
 use Rattle.logos_reduce.proofs.tables.EdgeLemmas.{led_target}
 use Rattle.logos_reduce.proofs.merge.classes.class_table.Goals as goal
 
@@ -16,14 +16,12 @@ class_rows-requires-clause-leaders c = λ i l.
     let p = c.in_ok-leaders.ensures.inside some i in
     omega (arith, p, c.requires.len)
 
-pub class_marks-requires : goal.class_marks-requires
-class_marks-requires c = record {
-  leaders = λ i l.
-      let f = c.args.classes.now.few in
-      let some : 0 < vec_len c.args.classes.now.of = omega (arith, l, f, c.in_ok-leaders.ensures.len) in
-      let p = c.in_ok-leaders.ensures.inside some i in
-      omega (arith, p, c.requires.len);
-}
+pub class_marks-requires-clause-leaders : goal.class_marks-requires-clause-leaders
+class_marks-requires-clause-leaders c = λ i l.
+    let f = c.args.classes.now.few in
+    let some : 0 < vec_len c.args.classes.now.of = omega (arith, l, f, c.in_ok-leaders.ensures.len) in
+    let p = c.in_ok-leaders.ensures.inside some i in
+    omega (arith, p, c.requires.len)
 
 pub invariant_of-result : goal.invariant_of-result
 invariant_of-result c =
