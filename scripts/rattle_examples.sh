@@ -76,9 +76,10 @@ add_crate() {
     [[ $text == *'#![tactic(auto)]'* ]] || text=$'#![tactic(auto)]\n\n'$text
     mkdir -p "$at/src"
     printf '%s\n' "$text" > "$at/src/main.rt"
-    cp "$2" "$at/stdout"
+    # `rt ci` runs a program in the folder of its data.
+    sed 's|^data/||' "$2" > "$at/stdout"
     if [ $# -gt 2 ]; then
-        printf '%s\n' "${@:3}" > "$at/args"
+        printf '%s\n' "${@:3}" | sed 's|^data/||' > "$at/args"
         mkdir "$at/data"
         cp "$root/examples/$1/$1.rs" "$root/examples/$1/data"/* "$at/data"
         rm "$at/data/expected"
