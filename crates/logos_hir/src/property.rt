@@ -85,45 +85,34 @@ impl AsciiKind {
         ensures { result ≡ ascii_named name.now }
     {
         if spells(name, b"alnum") {
-            return Some(AsciiKind::Alnum);
+            Some(AsciiKind::Alnum)
+        } else if spells(name, b"alpha") {
+            Some(AsciiKind::Alpha)
+        } else if spells(name, b"ascii") {
+            Some(AsciiKind::Ascii)
+        } else if spells(name, b"blank") {
+            Some(AsciiKind::Blank)
+        } else if spells(name, b"cntrl") {
+            Some(AsciiKind::Cntrl)
+        } else if spells(name, b"digit") {
+            Some(AsciiKind::Digit)
+        } else if spells(name, b"graph") {
+            Some(AsciiKind::Graph)
+        } else if spells(name, b"lower") {
+            Some(AsciiKind::Lower)
+        } else if spells(name, b"print") {
+            Some(AsciiKind::Print)
+        } else if spells(name, b"punct") {
+            Some(AsciiKind::Punct)
+        } else if spells(name, b"space") {
+            Some(AsciiKind::Space)
+        } else if spells(name, b"upper") {
+            Some(AsciiKind::Upper)
+        } else if spells(name, b"word") {
+            Some(AsciiKind::Word)
+        } else {
+            spells(name, b"xdigit").then_some(AsciiKind::Xdigit)
         }
-        if spells(name, b"alpha") {
-            return Some(AsciiKind::Alpha);
-        }
-        if spells(name, b"ascii") {
-            return Some(AsciiKind::Ascii);
-        }
-        if spells(name, b"blank") {
-            return Some(AsciiKind::Blank);
-        }
-        if spells(name, b"cntrl") {
-            return Some(AsciiKind::Cntrl);
-        }
-        if spells(name, b"digit") {
-            return Some(AsciiKind::Digit);
-        }
-        if spells(name, b"graph") {
-            return Some(AsciiKind::Graph);
-        }
-        if spells(name, b"lower") {
-            return Some(AsciiKind::Lower);
-        }
-        if spells(name, b"print") {
-            return Some(AsciiKind::Print);
-        }
-        if spells(name, b"punct") {
-            return Some(AsciiKind::Punct);
-        }
-        if spells(name, b"space") {
-            return Some(AsciiKind::Space);
-        }
-        if spells(name, b"upper") {
-            return Some(AsciiKind::Upper);
-        }
-        if spells(name, b"word") {
-            return Some(AsciiKind::Word);
-        }
-        spells(name, b"xdigit").then_some(AsciiKind::Xdigit)
     }
 }
 

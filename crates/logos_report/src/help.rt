@@ -26,6 +26,13 @@ pub fn help_for(code: FaultCode) -> Option<&'static str> {
         FaultCode::ErrorVariant => Some(
             "take the attribute away: an error is `Err`, and `#[logos(error = ..)]` sets its type",
         ),
+        _ => help_for_pattern(code),
+    }
+}
+
+/// Returns what to do about a fault in a pattern, for the codes that are met most.
+fn help_for_pattern(code: FaultCode) -> Option<&'static str> {
+    match code {
         FaultCode::TokenForm => Some("write `#[token(\"..\")]`"),
         FaultCode::RegexForm => Some("write `#[regex(\"..\")]`"),
         FaultCode::Regex => Some(

@@ -1,8 +1,9 @@
 //! The grammar of types, place by place: what can come next.
+ghost use Rattle.std.specs.Prelude.{IsTrue};
 ghost use Rattle.logos_token.specs.Views.{tokens_of};
 ghost use Rattle.logos_type_reader.specs.Table.{next_at};
 ghost use Rattle.logos_type_reader.specs.ReadingViews.{outside_of, spot_of, IsStep};
-ghost use Rattle.logos_type_reader.specs.inside.Actions.{IsAction};
+ghost use Rattle.logos_type_reader.specs.inside.Actions.{IsAction, is_in_bounds};
 
 mod acting;
 mod bounds;
@@ -70,6 +71,18 @@ fn action_at(at: &Spot<'_, '_>) -> Next
         Place::ElementEnd => element_end_step(at),
         Place::Length => length_step(at),
         Place::LengthEnd => Ok(Action::Close(Delimiter::Bracket, Place::End)),
+        _ => bound_action_at(at),
+    }
+}
+
+/// Returns what is to be done at a place in a bound, in `for<..>` or in the type of a function.
+#[tactic(auto, unfolding(crate::specs::Table::next_at))]
+fn bound_action_at(at: &Spot<'_, '_>) -> Next
+    requires { IsTrue (is_in_bounds at.now.place) }
+    ensures { IsAction result (spot_of at.now)
+        (next_at at.now.place (tokens_of at.now.run) (outside_of at.now.outside)) }
+{
+    match at.place {
         Place::Bound(plus) => bound_step(plus, at),
         Place::Question(plus) => question_step(BoundKind::Enclosed(plus), at),
         Place::Trait(kind) => trait_step(kind, at),
@@ -90,7 +103,7 @@ fn action_at(at: &Spot<'_, '_>) -> Next
         Place::TypedValue => taken_value_step(at),
         Place::OneTaken => one_taken_step(at),
         Place::Variadic => variadic_step(at),
-        Place::VariadicEnd => variadic_end_step(at),
+        _ => variadic_end_step(at),
     }
 }
 

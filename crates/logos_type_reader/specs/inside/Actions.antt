@@ -1,9 +1,10 @@
 -- The rows of the table in terms of the tokens that are left.
-use Rattle.std.specs.Prelude.{◌≡◌, ℕ, List, [], Bool, false, Option, Some, None, Result, Ok, Err}
+use Rattle.std.specs.Prelude.{◌≡◌, ℕ, List, [], Bool, true, false, Option, Some, None, Result, Ok, Err}
 use Rattle.std.specs.Str.{bytes_eq}
 use Rattle.logos_lexeme.specs.declared.lexeme.Span.{Span}
 use Rattle.logos_token.specs.Tokens.{TokenList, identifier, punctuation, literal, doc, group, none, also, rest_of}
 use Rattle.logos_type_reader.specs.declared.table.place.Place.{Place}
+use Rattle.logos_type_reader.specs.declared.table.place.Place.TheVariants as place
 use Rattle.logos_type_reader.specs.declared.table.place.Look.{Look}
 use Rattle.logos_type_reader.specs.declared.table.place.Look.TheVariants as look
 use Rattle.logos_type_reader.specs.declared.table.place.Lead.{Lead}
@@ -77,6 +78,31 @@ acts (action.Keep place) run outside = keeps run (to place none outside)
 acts (action.Nest l place next) run outside = nests (lead_sign l run) (to place (after_lead l run) None) next
 acts (action.Open place) run outside = opens_first place run outside
 acts (action.Close delimiter place) run outside = closes delimiter place outside
+
+-- whether the place is in a bound, in `for<..>` or in the type of a function
+abbrev pub is_in_bounds : Place → Bool
+is_in_bounds (place.Bound plus) = true
+is_in_bounds (place.Question plus) = true
+is_in_bounds (place.Trait kind) = true
+is_in_bounds (place.TraitPath kind) = true
+is_in_bounds (place.BoundEnd plus) = true
+is_in_bounds (place.EnclosedEnd plus) = true
+is_in_bounds (place.For binder) = true
+is_in_bounds (place.ForList binder) = true
+is_in_bounds (place.ForEnd binder) = true
+is_in_bounds place.Further = true
+is_in_bounds place.Qualified = true
+is_in_bounds place.Unsafe = true
+is_in_bounds place.Extern = true
+is_in_bounds place.Linked = true
+is_in_bounds place.Function = true
+is_in_bounds place.Taken = true
+is_in_bounds place.Typed = true
+is_in_bounds place.TypedValue = true
+is_in_bounds place.OneTaken = true
+is_in_bounds place.Variadic = true
+is_in_bounds place.VariadicEnd = true
+is_in_bounds other = false
 
 -- the action leads to this step
 abbrev pub IsAction : Result Action Stop → Spot → Move → Type 0
