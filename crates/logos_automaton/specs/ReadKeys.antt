@@ -1,5 +1,5 @@
 -- The keys of byte strings, which bound the states of the automaton.
-use Rattle.std.specs.Prelude.{◌≡◌, ℕ, ◌+◌, ◌<◌, ◌↔◌, List, [], ◌∷◌, ◌++◌, length, Some, if◌then◌else◌, ◌==◌, slice_get, IfSome, IsSomeAnd, AllPairs}
+use Rattle.std.specs.Prelude.{◌≡◌, ℕ, ◌<◌, ◌↔◌, List, [], ◌∷◌, ◌++◌, length, Some, if◌then◌else◌, ◌==◌, slice_get, IfSome, IsSomeAnd, AllPairs}
 use Rattle.std.specs.List.{list_any}
 use Rattle.logos_hir.specs.Text.{IsBytes}
 use Rattle.logos_hir.specs.Looks.{is_word}

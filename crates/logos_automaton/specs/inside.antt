@@ -1,3 +1,4 @@
 pub mod Alike
 pub mod Prepared
 pub mod TopSets
+pub mod Steps

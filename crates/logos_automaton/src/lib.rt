@@ -3,6 +3,7 @@
 #![tactic(auto)]
 
 mod alike;
+mod cache;
 pub mod dfa;
 pub mod errors;
 pub mod faults;
@@ -11,4 +12,5 @@ pub mod measures;
 mod nodes;
 mod row;
 pub mod rule;
+mod tree_steps;
 mod trees;

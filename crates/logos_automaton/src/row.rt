@@ -1,9 +1,13 @@
 //! The targets of states, while the automaton is built.
-ghost use Rattle.std.specs.Prelude.{Bool, ℕ, ◌≡◌, ◌^◌, ◌<◌, ◌+◌, IfOk, IfSome, OnOk, length, slice_index};
-ghost use Rattle.logos_automaton.specs.inside.Prepared.{IsPrepared, cores_of};
-ghost use Rattle.logos_automaton.specs.Keys.{AreRising, AreReached, AreFirstIn, Extends, LeadsTo, EndsIn, IsRow};
+ghost use Rattle.std.specs.Prelude.{Bool, List, ℕ, ◌≡◌, ◌^◌, ◌<◌, ◌≤◌, ◌+◌, IfOk, IfSome, IsFalse, OnOk, length, slice_index};
+ghost use Rattle.logos_automaton.specs.inside.Alike.{AreKindBytes};
+ghost use Rattle.logos_automaton.specs.inside.Prepared.{IsCacheOf, IsPrepared, cores_of};
+ghost use Rattle.logos_automaton.specs.inside.Steps.{Foresees, IsNotStart, state_after};
+ghost use Rattle.logos_automaton.specs.Keys.{AreRising, AreReached, AreFirstIn, Extends, Grows, IsAt, LeadsTo, EndsIn, IsRow};
+ghost use Rattle.logos_places.specs.Core.{Core};
 
 use crate::alike::first_bytes;
+use crate::cache::{LiveTree, StateSteps, StepCache};
 use crate::key::{Key, end_key, is_start, number_of, step_key};
 use crate::trees::Trees;
 use indexmap::IndexSet;
@@ -114,12 +118,12 @@ fn first_in(trees: &Trees<'_>, states: &IndexSet<Key>, state: usize) -> [bool; 2
     }
 }
 
-/// Returns all targets of a state by bytes. Targets are added if they are new.
+/// Returns all targets of a state by bytes, without the steps in the cache.
 ///
 /// # Errors
 ///
 /// Returns `AllocError` when memory runs out.
-pub fn row_of(
+fn plain_row(
     trees: &Trees<'_>,
     states: &mut IndexSet<Key>,
     state: usize,
@@ -143,6 +147,160 @@ pub fn row_of(
         row[byte] = next_target(trees, states, state, byte as u8, known)?;
     }
     Ok(row)
+}
+
+/// Returns the target of a state by a byte, by the steps of its live trees.
+///
+/// # Errors
+///
+/// Returns `AllocError` when memory runs out.
+fn target_by(steps: StateSteps<'_>, states: &mut IndexSet<Key>, byte: u8) -> Result<u32, AllocError>
+    requires few { length states.old.keys < 2 ^ 31 }
+    ensures extends { (ts : List Core) (i : ℕ) →
+        Foresees ts steps.entry.looks states.old.keys i steps.entry.steps.now steps.entry.lives.now →
+        OnOk result (Extends ts steps.entry.looks states.old.keys states.new.keys 1) }
+    ensures grows { OnOk result (Grows states.old.keys states.new.keys) }
+    ensures few { OnOk result (length states.new.keys ≤ length states.old.keys + 1) }
+    ensures at { IfOk result (λ target. IsAt states.new.keys target
+        (state_after steps.entry.looks steps.entry.steps.now steps.entry.lives.now byte)) }
+{
+    let made = steps.next_key(byte)?;
+    let target = number_of(states, made)?;
+    Ok(target as u32)
+}
+
+/// Returns the target of a state by a byte: the one that is known, if there is one.
+///
+/// # Errors
+///
+/// Returns `AllocError` when memory runs out.
+fn known_or_target_by(
+    steps: StateSteps<'_>,
+    states: &mut IndexSet<Key>,
+    byte: u8,
+    known: Option<u32>,
+) -> Result<u32, AllocError>
+    requires few { length states.old.keys < 2 ^ 31 }
+    requires known { IfSome known (λ target. IsAt states.old.keys target
+        (state_after steps.looks steps.steps.now steps.lives.now byte)) }
+    ensures extends { (ts : List Core) (i : ℕ) →
+        Foresees ts steps.entry.looks states.old.keys i steps.entry.steps.now steps.entry.lives.now →
+        OnOk result (Extends ts steps.entry.looks states.old.keys states.new.keys 1) }
+    ensures grows { OnOk result (Grows states.old.keys states.new.keys) }
+    ensures few { OnOk result (length states.new.keys ≤ length states.old.keys + 1) }
+    ensures at { IfOk result (λ target. IsAt states.new.keys target
+        (state_after steps.entry.looks steps.entry.steps.now steps.entry.lives.now byte)) }
+{
+    match known {
+        Some(target) => Ok(target),
+        None => target_by(steps, states, byte),
+    }
+}
+
+/// Returns all targets of a state by bytes, by the steps of its live trees.
+///
+/// # Errors
+///
+/// Returns `AllocError` when memory runs out.
+fn row_by(
+    steps: StateSteps<'_>,
+    kinds: &[bool; 256],
+    states: &mut IndexSet<Key>,
+) -> Result<DraftRow, AllocError>
+    requires few { length states.old.keys < 2 ^ 30 }
+    requires kinds { AreKindBytes kinds.now }
+    ensures extends { (ts : List Core) (i : ℕ) →
+        Foresees ts steps.entry.looks states.old.keys i steps.entry.steps.now steps.entry.lives.now →
+        OnOk result (Extends ts steps.entry.looks states.old.keys states.new.keys 257) }
+    ensures row { (ts : List Core) (i : ℕ) →
+        Foresees ts steps.entry.looks states.old.keys i steps.entry.steps.now steps.entry.lives.now →
+        IfOk result (λ row. IsRow ts steps.entry.looks states.new.keys i row 256) }
+    ensures wide { IfOk result (λ row. length row ≡ 256) }
+{
+    let first = steps.changes(kinds);
+    let mut row = [0; 256];
+    row[0] = target_by(steps, states, 0)?;
+    for byte in 1..256 {
+        let known = (!first[byte]).then_some(row[byte - 1]);
+        row[byte] = known_or_target_by(steps, states, byte as u8, known)?;
+    }
+    Ok(row)
+}
+
+/// Returns the live trees of a state that is not the start.
+///
+/// # Errors
+///
+/// Returns `AllocError` when memory runs out.
+fn live_in(
+    trees: &Trees<'_>,
+    cache: &mut StepCache,
+    states: &IndexSet<Key>,
+    state: usize,
+) -> Result<Vec<LiveTree>, AllocError>
+    requires prepared { IsPrepared trees.now }
+    requires cached { IsCacheOf trees.now cache.old }
+    requires within { state < length states.now.keys }
+    requires rising { AreRising states.now.keys }
+    requires entered { IsNotStart states.now.keys state }
+    ensures cached { OnOk result (IsCacheOf trees.now cache.new) }
+    ensures foresees { IfOk result (λ lives. Foresees (cores_of trees.now) trees.now.looks
+        states.now.keys state cache.new.steps.items lives.items) }
+{
+    match states.get_index(state) {
+        Some(key) => cache.live_trees(trees, key),
+        None => unreachable!(),
+    }
+}
+
+/// Returns whether a state is the start.
+fn is_start_at(states: &IndexSet<Key>, state: usize) -> bool
+    requires within { state < length states.now.keys }
+    ensures { IsFalse result → IsNotStart states.now.keys state }
+{
+    match states.get_index(state) {
+        Some(key) => is_start(key.kind),
+        None => unreachable!(),
+    }
+}
+
+/// Returns all targets of a state by bytes. The start enters each tree, and its steps serve no other state, so they are not
+/// stored.
+///
+/// # Errors
+///
+/// Returns `AllocError` when memory runs out.
+pub fn row_of(
+    trees: &Trees<'_>,
+    cache: &mut StepCache,
+    states: &mut IndexSet<Key>,
+    state: usize,
+) -> Result<DraftRow, AllocError>
+    requires prepared { IsPrepared trees.now }
+    requires cached { IsCacheOf trees.now cache.old }
+    requires within { state < length states.old.keys }
+    requires rising { AreRising states.old.keys }
+    requires reached { AreReached (cores_of trees.now) trees.now.looks states.old.keys }
+    requires few { length states.old.keys < 2 ^ 30 }
+    ensures cached { OnOk result (IsCacheOf trees.now cache.new) }
+    ensures extends { OnOk result (Extends (cores_of trees.now)
+        trees.now.looks states.old.keys states.new.keys 257) }
+    ensures row { IfOk result (λ row.
+        IsRow (cores_of trees.now) trees.now.looks states.new.keys state row 256) }
+    ensures wide { IfOk result (λ row. length row ≡ 256) }
+{
+    if is_start_at(states, state) {
+        return plain_row(trees, states, state);
+    }
+    cache.trim();
+    let lives = live_in(trees, cache, states, state)?;
+    let steps = StateSteps {
+        alloc: trees.alloc,
+        lives: &lives,
+        steps: &cache.steps,
+        looks: trees.looks,
+    };
+    row_by(steps, trees.kinds, states)
 }
 
 /// Returns the row in half the memory. Each target must have a number below 65,536.

@@ -1,5 +1,5 @@
 -- States are added, and rows of targets are filled.
-use Rattle.std.proofs.Common.{◌≡◌, ℕ, ◌+◌, ◌<◌, ◌⊎◌, Bool, true, false, IsTrue, Some, List, [], ◌∷◌, length, slice_index, set, refl, sym, ap, ◌∙◌, subst, ⊎_elim, arith}
+use Rattle.std.proofs.Common.{◌≡◌, ℕ, zero, suc, ◌+◌, ◌<◌, ◌⊎◌, Bool, true, false, IsTrue, Some, List, [], ◌∷◌, length, slice_index, set, refl, sym, ap, ◌∙◌, subst, ⊎_elim, arith}
 use Rattle.std.proofs.lemmas.List.{get_or-set_other}
 use Rattle.std.proofs.lemmas.Grind.{get_or-set_at}
 use Rattle.logos_automaton.specs.inside.Alike.{AreReadAlike}
@@ -92,3 +92,31 @@ module _ (ts : List Core) (looks : Bool) where
         to_is = h.to_is;
         next = next_alike h.from h.to x y (subst (λ (r : State). AreReadAlike ts (Has r.places) (IsTrue (is_start r.kind)) x y) same alike) e h.next;
       }
+
+-- a number stands for one state
+pub same_state_at : (ks : List Key) (i : ℕ) (s r : State) → IsAt ks i s → IsAt ks i r → s ≡ r
+same_state_at ks i s r a b = sym a.same ∙ ap state_of (some_same (sym a.is ∙ b.is)) ∙ b.same
+  where
+    some_same : {j k : Key} → Some j ≡ Some k → j ≡ k
+    some_same e = cc
+
+-- the first target, by the state that byte 0 leads to
+pub at_first : (ks : List Key) (row : List ℕ) (after : ℕ → State) (target : ℕ) → slice_index row 0 ≡ target → IsAt ks target (after 0) → (x : ℕ) → x < 1 → IsAt ks (slice_index row x) (after x)
+at_first ks row after target is new zero lt = subst (λ t. IsAt ks t (after 0)) (sym is) new
+at_first ks row after target is new (suc x) lt = absurd (omega (arith, lt))
+
+-- one more target, by the state that each byte leads to
+pub at_more : (a b : List Key) (row : List ℕ) (after : ℕ → State) (n target : ℕ) → Grows a b → n < length row → ((x : ℕ) → x < n → IsAt a (slice_index row x) (after x)) → IsAt b target (after n) →
+    (x : ℕ) → x < n + 1 → IsAt b (slice_index (set row n target) x) (after x)
+at_more a b row after n target g lt all new x below =
+    ⊎_elim
+    (λ (l : x < n).
+    let other : slice_index (set row n target) x ≡ slice_index row x = get_or-set_other row n x target 0 (λ e. omega (arith, e, l)) in
+    rw other (g.keeps (slice_index row x) (after x) (all x l)))
+    (λ (e : x ≡ n).
+    let put : slice_index (set row n target) x ≡ target = get_or-set_at row n x target 0 e lt in
+    rw put (subst (λ k. IsAt b target (after k)) (sym e) new))
+    (below_or_same_at x n below)
+  where
+    below_or_same_at : (a b : ℕ) → a < b + 1 → (a < b) ⊎ (a ≡ b)
+    below_or_same_at a b lt = grind arith

@@ -1,5 +1,5 @@
 -- Bytes that a pattern does not distinguish.
-use Rattle.std.specs.Prelude.{◌≡◌, ℕ, ◌+◌, ◌<◌, ◌≤◌, ◌↔◌, ◌⊎◌, Bool, false, List, length, slice_index_or}
+use Rattle.std.specs.Prelude.{◌≡◌, ℕ, ◌+◌, ◌<◌, ◌≤◌, ◌↔◌, ◌⊎◌, Bool, false, List, length, slice_index, slice_index_or}
 use Rattle.logos_places.specs.Core.{Core, void, empty, byte_in, character, look, cat, alt, plus}
 use Rattle.logos_places.specs.Kinds.{kind_of_byte}
 use Rattle.logos_places.specs.Marks.{Has}
@@ -40,3 +40,12 @@ AreKindBytes first = (byte : ℕ) → byte + 1 < 256 → slice_index_or first (b
 abbrev pub AreFirstBytes : List Core → (ℕ → Type 0) → Type 0 → List Bool → Type 0
 AreFirstBytes ts M entered first = (byte : ℕ) → byte + 1 < 256 → slice_index_or first (byte + 1) false ≡ false →
     AreReadAlike ts M entered byte (byte + 1) × (kind_of_byte byte ≡ kind_of_byte (byte + 1))
+
+-- each byte whose entry differs from that of the byte before is one of these
+abbrev pub AreChangesOf : List ℕ → List ℕ → Type 0
+AreChangesOf by_byte changes = (x : ℕ) → x + 1 < 256 → (Has changes (x + 1) → ⊥) → slice_index by_byte x ≡ slice_index by_byte (x + 1)
+
+-- each byte that is not marked is read by the tree, and by looks, as the byte before
+abbrev pub AreFirstOf : List Node → ℕ → List Bool → Type 0
+AreFirstOf nodes i first = (node : Node) → node ≡ slice_index_or nodes i node → (byte : ℕ) → byte + 1 < 256 → slice_index_or first (byte + 1) false ≡ false →
+    IsAlike (core_of node) byte (byte + 1) × (kind_of_byte byte ≡ kind_of_byte (byte + 1))

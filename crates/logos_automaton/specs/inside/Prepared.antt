@@ -1,6 +1,8 @@
 -- What is required of the trees before states are built.
 use Rattle.std.specs.Prelude.{◌<◌, ◌^◌, List, length, map}
 use Rattle.logos_automaton.specs.inside.Alike.{AreClassStarts, AreKindBytes}
+use Rattle.logos_automaton.specs.inside.Steps.{AreCached}
+use Rattle.logos_automaton.specs.declared.cache.StepCache.{StepCache}
 use Rattle.logos_automaton.specs.declared.trees.Trees.{Trees}
 use Rattle.logos_places.specs.Core.{Core}
 use Rattle.logos_places.specs.Node.{core_of, AreMeasured}
@@ -18,3 +20,7 @@ pub record IsPrepared (trees : Trees) : Type 0 where
   pub starts : AreStarts trees.nodes.now trees.starts.now
   pub class_starts : AreClassStarts trees.nodes.now trees.class_starts.now (length trees.nodes.now)
   pub kinds : AreKindBytes trees.kinds.now
+
+-- the steps in the cache are those of the trees
+abbrev pub IsCacheOf : Trees → StepCache → Type 0
+IsCacheOf trees cache = AreCached trees.nodes.now trees.starts.now cache.states.keys cache.steps.items

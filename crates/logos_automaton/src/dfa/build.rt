@@ -1,6 +1,6 @@
 //! Building the automaton of rules: one loop over its states, from the start on, until each has its targets.
 ghost use Rattle.std.specs.Prelude.{◌≡◌, ◌^◌, ◌<◌, ◌≤◌, ◌+◌, [], Bool, List, IfOk, IfErr, OnOk, length, map, vec_len};
-ghost use Rattle.logos_automaton.specs.inside.Prepared.{IsPrepared, cores_of};
+ghost use Rattle.logos_automaton.specs.inside.Prepared.{IsCacheOf, IsPrepared, cores_of};
 ghost use Rattle.logos_automaton.specs.Building.{IsUnderway, FailsOn, FailsFor};
 ghost use Rattle.logos_places.specs.Core.{Core};
 ghost use Rattle.logos_automaton.specs.DfaView.{dfa_of};
@@ -14,6 +14,7 @@ ghost use Rattle.logos_automaton.specs.View.{rules_of};
 
 use super::Dfa;
 use crate::alike::{class_starts, kind_bytes};
+use crate::cache::StepCache;
 use crate::errors::BuildError;
 use crate::key::{Key, number_of, start_key};
 use crate::nodes::nodes_of;
@@ -49,21 +50,24 @@ fn only_start(alloc: Global) -> Result<IndexSet<Key>, AllocError>
 /// Returns `LimitStates` when there are more states than an automaton may have, and `Memory` when memory runs out.
 fn fill_next(
     trees: &Trees<'_>,
+    cache: &mut StepCache,
     states: &mut IndexSet<Key>,
     rows: &mut Vec<Row>,
     ends: &mut Vec<u32>,
 ) -> Result<(), BuildError>
     requires prepared { IsPrepared trees.now }
+    requires cached { IsCacheOf trees.now cache.old }
     requires left { vec_len rows.old < length states.old.keys }
     requires underway { IsUnderway (cores_of trees.now)
         trees.now.looks states.old.keys rows.old.items ends.old.items }
+    ensures cached { OnOk result (IsCacheOf trees.now cache.new) }
     ensures underway { OnOk result (IsUnderway (cores_of trees.now)
         trees.now.looks states.new.keys rows.new.items ends.new.items) }
     ensures next { OnOk result (vec_len rows.new ≡ vec_len rows.old + 1) }
     ensures fails { IfErr result (FailsOn (cores_of trees.now) trees.now.looks) }
 {
     let state = rows.len();
-    let row = row_of(trees, states, state)?;
+    let row = row_of(trees, cache, states, state)?;
     let end = end_of(trees, states, state)?;
     if states.len() > MAX_STATES {
         return Err(BuildError::LimitStates);
@@ -100,11 +104,12 @@ fn build_nodes(alloc: Global, nodes: &[Node], looks: bool) -> Result<Dfa, BuildE
         class_starts: &class_starts,
         kinds: &kinds,
     };
+    let mut cache = StepCache::new(alloc);
     let mut states = only_start(alloc)?;
     let mut rows = Vec::new(alloc);
     let mut ends = Vec::new(alloc);
     while rows.len() < states.len() {
-        fill_next(&trees, &mut states, &mut rows, &mut ends)?;
+        fill_next(&trees, &mut cache, &mut states, &mut rows, &mut ends)?;
     }
     Ok(Dfa { states, rows, ends })
 }

@@ -17,12 +17,15 @@ built ts looks ks rows ends u full = record {
 }
 
 pub loop-trees-init : goal.loop-trees-init
-loop-trees-init c = rw (c.new-rows.ensures.items, c.new-ends.ensures.items) (c.in_ok-states.ensures c.args.looks (map core_of c.args.nodes.now))
+loop-trees-init c = record {
+  cached = c.new-cache.ensures _ _;
+  underway = rw (c.new-rows.ensures.items, c.new-ends.ensures.items) (c.in_ok-states.ensures c.args.looks (map core_of c.args.nodes.now));
+}
 
 pub invariant_of-result : goal.invariant_of-result
 invariant_of-result c =
     let ts = map core_of c.args.nodes.now in
-    let u = c.loop-trees.invariant in
+    let u = c.loop-trees.invariant.underway in
     let ks = c.loop-trees.states.keys in
     let rows = c.loop-trees.rows.items in
     let ends = c.loop-trees.ends.items in

@@ -1,0 +1,271 @@
+//! The steps of trees, which are made once for each state of a tree.
+ghost use Rattle.std.specs.Prelude.{◌≡◌, ◌∷◌, ◌++◌, ◌+◌, ◌<◌, ◌≤◌, ◌↔◌, List, ℕ, [], false, IfOk, IsTrue, OnOk, length, slice_index, slice_index_or, if◌then◌else◌};
+ghost use Rattle.logos_automaton.specs.Keys.{state_of};
+ghost use Rattle.logos_automaton.specs.declared.trees.Trees.{Trees};
+ghost use Rattle.logos_automaton.specs.inside.Alike.{AreKindBytes};
+ghost use Rattle.logos_automaton.specs.inside.Prepared.{IsPrepared, IsCacheOf};
+ghost use Rattle.logos_automaton.specs.inside.Steps.{AreAlmostCached, AreCached, AreLive, HasSteps, IsTreeState, Keeps, state_after, step_of, tree_view};
+ghost use Rattle.logos_places.specs.declared.node.Node.{Node};
+ghost use Rattle.logos_places.specs.Kinds.{kind_of_byte};
+ghost use Rattle.logos_places.specs.Marks.{Has, IsRising};
+
+use crate::alike::add_bytes;
+use crate::key::{Key, next_kind};
+use crate::tree_steps::making::steps_of;
+use crate::tree_steps::{TreeState, TreeSteps};
+use crate::trees::Trees;
+use indexmap::IndexSet;
+use logos_places::places::all::next_tree;
+use logos_places::places::tree::marks_between;
+use std::alloc::{AllocError, Global};
+
+/// How many states of trees are stored. Before more are added, all are removed, so that they take little memory.
+const MAX_TREE_STATES: usize = 32_768;
+
+/// The states of trees met so far, and the steps from each.
+#[derive(Drop)]
+pub struct StepCache {
+    /// The states.
+    pub states: IndexSet<TreeState>,
+    /// The steps from each state, by the index of the state.
+    pub steps: Vec<TreeSteps>,
+}
+
+/// A tree that has a place that read the last byte.
+#[derive(Clone, Copy)]
+pub struct LiveTree {
+    /// The number of the tree.
+    pub tree: usize,
+    /// The index of its steps in the cache.
+    pub steps: usize,
+}
+
+/// Returns the state of a tree in a state of all trees.
+///
+/// # Errors
+///
+/// Returns `AllocError` when memory runs out.
+fn tree_state(trees: &Trees<'_>, key: &Key, tree: usize) -> Result<TreeState, AllocError>
+    requires prepared { IsPrepared trees.now }
+    requires rising { IsRising key.now.places.items }
+    requires within { tree < length trees.now.nodes.now }
+    ensures there { IfOk result (λ state.
+        IsTreeState trees.now.nodes.now trees.now.starts.now (tree_view state)) }
+    ensures tree { IfOk result (λ state. state.tree ≡ tree) }
+    ensures kind { IfOk result (λ state. state.kind ≡ key.now.kind) }
+    ensures has { IfOk result (λ state. (q : ℕ) → slice_index trees.now.starts.now tree ≤ q →
+        q < slice_index trees.now.starts.now (tree + 1) →
+        Has state.places.items q ↔ Has key.now.places.items q) }
+{
+    let low = trees.starts[tree];
+    let high = trees.starts[tree + 1];
+    let places = marks_between(trees.alloc, &key.places, low, high)?;
+    Ok(TreeState {
+        tree,
+        places,
+        kind: key.kind,
+    })
+}
+
+impl StepCache {
+    /// Returns a cache without states.
+    pub fn new(alloc: Global) -> StepCache
+        ensures { (nodes : List Node) (starts : List ℕ) →
+            AreCached nodes starts result.states.keys result.steps.items }
+    {
+        StepCache {
+            states: IndexSet::new(alloc),
+            steps: Vec::new(alloc),
+        }
+    }
+
+    /// Removes all states and steps if there are too many.
+    pub fn trim(&mut self)
+        ensures { (trees : Trees) → IsCacheOf trees self.old → IsCacheOf trees self.new }
+    {
+        if self.steps.len() < MAX_TREE_STATES {
+            return;
+        }
+        self.states.clear();
+        self.steps.clear();
+    }
+
+    /// Adds the steps from the last state, if it has none yet.
+    ///
+    /// # Errors
+    ///
+    /// Returns `AllocError` when memory runs out.
+    fn add_missing(&mut self, trees: &Trees<'_>) -> Result<(), AllocError>
+        requires prepared { IsPrepared trees.now }
+        requires missing { AreAlmostCached trees.now.nodes.now trees.now.starts.now
+            self.old.states.keys self.old.steps.items }
+        ensures cached { OnOk result (IsCacheOf trees.now self.new) }
+        ensures keeps { OnOk result (Keeps self.old.steps.items self.new.steps.items) }
+        ensures same { self.new.states.keys ≡ self.old.states.keys }
+    {
+        match self.states.get_index(self.steps.len()) {
+            Some(state) => {
+                let steps = steps_of(trees, state)?;
+                self.steps.push(steps)?;
+                Ok(())
+            }
+            None => Ok(()),
+        }
+    }
+
+    /// Returns the index of the steps from a state, which are made if the state is new.
+    ///
+    /// # Errors
+    ///
+    /// Returns `AllocError` when memory runs out.
+    fn index_of(&mut self, trees: &Trees<'_>, state: TreeState) -> Result<usize, AllocError>
+        requires prepared { IsPrepared trees.now }
+        requires state { IsTreeState trees.now.nodes.now trees.now.starts.now (tree_view state) }
+        requires cached { IsCacheOf trees.now self.old }
+        ensures cached { OnOk result (IsCacheOf trees.now self.new) }
+        ensures keeps { OnOk result (Keeps self.old.steps.items self.new.steps.items) }
+        ensures has { IfOk result (λ i. HasSteps trees.now.nodes.now trees.now.starts.now
+            self.new.steps.items (tree_view state) i) }
+    {
+        let (index, _) = self.states.insert_full(state)?;
+        self.add_missing(trees)?;
+        Ok(index)
+    }
+
+    /// Returns the live trees of a state that is not the start.
+    ///
+    /// # Errors
+    ///
+    /// Returns `AllocError` when memory runs out.
+    pub fn live_trees(&mut self, trees: &Trees<'_>, key: &Key) -> Result<Vec<LiveTree>, AllocError>
+        requires prepared { IsPrepared trees.now }
+        requires rising { IsRising key.now.places.items }
+        requires cached { IsCacheOf trees.now self.old }
+        ensures cached { OnOk result (IsCacheOf trees.now self.new) }
+        ensures live { IfOk result (λ lives. AreLive trees.now.nodes.now trees.now.starts.now
+            key.now.places.items key.now.kind self.new.steps.items
+            0 lives.items (length trees.now.nodes.now)) }
+    {
+        let mut lives = Vec::new(trees.alloc);
+        let mut tree = next_tree(trees.starts, &key.places, false, 0);
+        while tree < trees.nodes.len() {
+            let state = tree_state(trees, key, tree)?;
+            let steps = self.index_of(trees, state)?;
+            lives.push(LiveTree { tree, steps })?;
+            tree = next_tree(trees.starts, &key.places, false, tree + 1);
+        }
+        Ok(lives)
+    }
+}
+
+/// The steps from a state by each byte: those of its live trees.
+#[derive(Clone, Copy)]
+pub struct StateSteps<'c> {
+    /// The allocator of the states after it.
+    pub alloc: Global,
+    /// The live trees of the state, ascending.
+    pub lives: &'c [LiveTree],
+    /// The steps to which these refer.
+    pub steps: &'c [TreeSteps],
+    /// Whether some tree has a look.
+    pub looks: bool,
+}
+
+/// Adds the places of a tree that read a byte, and returns whether the tree can be left before it.
+///
+/// # Errors
+///
+/// Returns `AllocError` when memory runs out.
+fn push_places(
+    steps: &[TreeSteps],
+    live: LiveTree,
+    byte: u8,
+    places: &mut Vec<usize>,
+) -> Result<bool, AllocError>
+    ensures places { OnOk result (places.new.items ≡
+        places.old.items ++ (step_of steps.now live byte).places) }
+    ensures left { IfOk result (λ left. left ≡ (step_of steps.now live byte).left) }
+{
+    let Some(of_tree) = steps.get(live.steps) else {
+        return Ok(false);
+    };
+    let index = of_tree.by_byte[byte as usize] as usize;
+    let Some(step) = of_tree.found.get(index) else {
+        return Ok(false);
+    };
+    places.extend_from_slice(&step.places)?;
+    Ok(step.left)
+}
+
+/// Adds the number if `is_one` is true.
+///
+/// # Errors
+///
+/// Returns `AllocError` when memory runs out.
+fn push_if(numbers: &mut Vec<usize>, number: usize, is_one: bool) -> Result<(), AllocError>
+    ensures { OnOk result (numbers.new.items ≡
+        (if is_one then numbers.old.items ++ number ∷ [] else numbers.old.items)) }
+{
+    if is_one {
+        numbers.push(number)?;
+    }
+    Ok(())
+}
+
+/// Marks the bytes that looks can distinguish from the byte before, if some tree has a look.
+fn first_by_kind(looks: bool, kinds: &[bool; 256]) -> [bool; 256]
+    requires kinds { AreKindBytes kinds.now }
+    ensures { (x : ℕ) → x + 1 < 256 → slice_index_or result (x + 1) false ≡ false →
+        IsTrue looks → kind_of_byte x ≡ kind_of_byte (x + 1) }
+{
+    if looks { *kinds } else { [false; 256] }
+}
+
+/// Marks the bytes whose step on a tree differs from that of the byte before.
+fn add_changes(steps: &[TreeSteps], live: LiveTree, first: &mut [bool; 256])
+    ensures { (x : ℕ) → x + 1 < 256 → slice_index_or first.new (x + 1) false ≡ false →
+        (slice_index_or first.old (x + 1) false ≡ false)
+        × (step_of steps.now live x ≡ step_of steps.now live (x + 1)) }
+{
+    if let Some(of_tree) = steps.get(live.steps) {
+        add_bytes(&of_tree.changes, first);
+    }
+}
+
+impl StateSteps<'_> {
+    /// Returns the key of the state after one more byte.
+    ///
+    /// # Errors
+    ///
+    /// Returns `AllocError` when memory runs out.
+    pub fn next_key(self, byte: u8) -> Result<Key, AllocError>
+        ensures { IfOk result (λ made. state_of made ≡
+            state_after self.entry.looks self.entry.steps.now self.entry.lives.now byte) }
+    {
+        let mut places = Vec::new(self.alloc);
+        let mut matches = Vec::new(self.alloc);
+        for live in self.lives {
+            let left = push_places(self.steps, *live, byte, &mut places)?;
+            push_if(&mut matches, live.tree, left)?;
+        }
+        Ok(Key {
+            kind: next_kind(self.looks, &places, byte),
+            places,
+            matches,
+        })
+    }
+
+    /// Marks the bytes that can lead to another state than the byte before.
+    pub fn changes(self, kinds: &[bool; 256]) -> [bool; 256]
+        requires kinds { AreKindBytes kinds.now }
+        ensures { (x : ℕ) → x + 1 < 256 → slice_index_or result (x + 1) false ≡ false →
+            state_after self.entry.looks self.entry.steps.now self.entry.lives.now x ≡
+            state_after self.entry.looks self.entry.steps.now self.entry.lives.now (x + 1) }
+    {
+        let mut first = first_by_kind(self.looks, kinds);
+        for live in self.lives {
+            add_changes(self.steps, *live, &mut first);
+        }
+        first
+    }
+}

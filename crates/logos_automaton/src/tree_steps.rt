@@ -1,0 +1,30 @@
+//! The steps of one tree by each byte.
+ghost use Rattle.logos_automaton.specs.inside.Alike.{AreChangesOf};
+
+pub mod making;
+
+use logos_places::places::look::Kind;
+use logos_places::places::tree::TreeStep;
+
+/// A state of one tree that is not entered: all that its steps depend on.
+#[derive(PartialEq, Eq, Hash, Drop)]
+pub struct TreeState {
+    /// The number of the tree.
+    pub tree: usize,
+    /// The places of the tree that read the last byte, ascending.
+    pub places: Vec<usize>,
+    /// The kind of that byte, if it is remembered.
+    pub kind: Kind,
+}
+
+/// The steps of one tree from one of its states, by each byte.
+#[derive(Drop)]
+pub struct TreeSteps {
+    /// The different steps.
+    pub found: Vec<TreeStep>,
+    /// The index of the step by each byte.
+    pub by_byte: [u8; 256],
+    /// The bytes whose step differs from that of the byte before, ascending.
+    pub changes: Vec<u8>,
+    ghost changed: { AreChangesOf by_byte changes.items },
+}
