@@ -1,0 +1,70 @@
+#!/usr/bin/env python3
+"""Counts the lines of code of each function and each file. Contracts, ghost lines, comments and blank lines are not code.
+
+  lengths.py           prints for each crate how many lines its longest function and its longest file have
+  lengths.py --names   prints the ten longest functions of each crate too
+
+A function has at most 40 lines, from its name to its last brace, and a file at most 400. Each bound counts once for each crate. The last line is
+`lengths: N passed, M failed`."""
+import glob
+import os
+import re
+import sys
+
+ROOT = os.path.dirname(os.path.dirname(os.path.realpath(__file__)))
+OF_A_FUNCTION = 40
+OF_A_FILE = 400
+GHOST = re.compile(r"\s*(ghost\b|ensures\b|requires\b|invariant\b|decreases\b|#!?\[tactic)")
+FUNCTION = re.compile(r"\s*(?:pub(?:\([a-z]+\))? )?(?:const )?(?:unsafe )?fn (\w+)")
+
+
+def lines_of_code(path):
+    """Yields the lines of a file that are code. Braces of contracts can stand on several lines."""
+    depth = 0
+    with open(path, encoding="utf-8") as lines:
+        for line in lines:
+            if depth > 0:
+                depth += line.count("{") - line.count("}")
+            elif GHOST.match(line):
+                depth = max(0, line.count("{") - line.count("}"))
+            elif line.strip() and not line.strip().startswith("//"):
+                yield line.rstrip("\n")
+
+
+def functions(lines):
+    """Yields the name and the number of lines of each function. As `rt fmt` lays files out, its last brace stands as far right as its first word."""
+    for at, line in enumerate(lines):
+        found = FUNCTION.match(line)
+        if not found:
+            continue
+        margin = line[: len(line) - len(line.lstrip())]
+        for end in range(at, len(lines)):
+            if lines[end].startswith(margin + "}") or (end == at and line.endswith(("}", ";"))):
+                yield found[1], end - at + 1
+                break
+
+
+def main():
+    names = sys.argv[1:] == ["--names"]
+    if sys.argv[1:] and not names:
+        sys.exit(__doc__)
+    passed, failed = 0, []
+    for folder in sorted(glob.glob(f"{ROOT}/crates/*/src")):
+        crate = folder.split("/")[-2]
+        files = {path: list(lines_of_code(path)) for path in sorted(glob.glob(f"{folder}/**/*.rt", recursive=True))}
+        found = sorted(((count, name, path) for path, lines in files.items() for name, count in functions(lines)), reverse=True)
+        longest = max((len(lines), path) for path, lines in files.items())
+        print(f"{crate:22} {len(found):5} functions, the longest {found[0][0] if found else 0:3}; the longest file {longest[0]:4}")
+        if names:
+            print("".join(f"    {count:3} {name} ({os.path.relpath(path, folder)})\n" for count, name, path in found[:10]), end="")
+        long = [f"{crate}: {name} in {os.path.relpath(path, folder)} has {count} lines" for count, name, path in found if count > OF_A_FUNCTION]
+        for faults in long, [f"{os.path.relpath(path, ROOT)} has {len(lines)} lines" for path, lines in files.items() if len(lines) > OF_A_FILE]:
+            passed += not faults
+            failed += faults
+    for line in failed:
+        print(f"lengths: {line}")
+    print(f"lengths: {passed} passed, {len(failed)} failed")
+    sys.exit(1 if failed or not passed else 0)
+
+
+main()
